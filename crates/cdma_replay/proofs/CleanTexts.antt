@@ -5,7 +5,7 @@ use Rattle.cdma_replay.proofs.Common.{named_receivable, KeptTap, run_text, event
 use Rattle.cdma_replay.proofs.Common.{IsCleanLink, cell_energy, IsNotDirected, IsOnPath, IsPlanFile, IsTunedTo, tuning_to, sync_sent}
 use Rattle.cdma_replay.proofs.Common.{FollowsSent, sent_events, marked_where_heard, messages_back, tuned_is, length-made, Traffic}
 use Rattle.cdma_replay.proofs.Common.{clean_end, clean_events, end_when, told, file_end_of, file_text, tuning_for, AnswersBehind}
-use Rattle.cdma_replay.proofs.Common.{IsFileReply, Reply, following, Receiver, Status, NoMemory}
+use Rattle.cdma_replay.proofs.Common.{IsFileReply, Reply, following, HandsetOptions, Status, NoMemory}
 use Rattle.cdma_replay.proofs.Replies.{whole_file}
 use Rattle.cdma_replay.proofs.TuningLaw.{on_plans_path}
 
@@ -24,23 +24,23 @@ plan_file width script plan span fingers header samples file = record {
 }
 
 -- a handset lies on the path of a cell whose file it hears
-pub on_path : (width : Width) (script : List ℕ) (plan : CellPlan) (span : ℕ) (receiver : Receiver)
+pub on_path : (width : Width) (script : List ℕ) (plan : CellPlan) (span : ℕ) (options : HandsetOptions)
     (header : Header) (samples : List Sample) →
-    IsCellFile width script plan span receiver.fingers header samples →
-    length samples ≡ header.count → IsOnPath plan (tuning_for header (take span samples) receiver)
-on_path width script plan span receiver header samples file counted =
-    on_plans_path width plan span receiver header samples
-    (plan_file width script plan span receiver.fingers header samples file) counted
+    IsCellFile width script plan span options.fingers header samples →
+    length samples ≡ header.count → IsOnPath plan (tuning_for header (take span samples) options)
+on_path width script plan span options header samples file counted =
+    on_plans_path width plan span options header samples
+    (plan_file width script plan span options.fingers header samples file) counted
 
 -- on a clean link it is tuned to the cell
-tuned : (width : Width) (script : List ℕ) (plan : CellPlan) (span : ℕ) (receiver : Receiver)
+tuned : (width : Width) (script : List ℕ) (plan : CellPlan) (span : ℕ) (options : HandsetOptions)
     (header : Header) (samples : List Sample) →
-    IsCleanLink width script plan span receiver.fingers receiver.paging
-    receiver.traffic header samples → IsFreeOf plan.traffic receiver.paging →
-    length samples ≡ header.count → IsPaging receiver.paging →
-    IsTunedTo plan (tuning_for header (take span samples) receiver)
-tuned width script plan span receiver header samples clean free counted paging = record {
-  path = on_path width script plan span receiver header samples clean.file counted;
+    IsCleanLink width script plan span options.fingers options.paging
+    options.traffic header samples → IsFreeOf plan.traffic options.paging →
+    length samples ≡ header.count → IsPaging options.paging →
+    IsTunedTo plan (tuning_for header (take span samples) options)
+tuned width script plan span options header samples clean free counted paging = record {
+  path = on_path width script plan span options header samples clean.file counted;
   first_channel = paging.0;
   last_channel = paging.1;
   free = free;
@@ -48,39 +48,39 @@ tuned width script plan span receiver header samples clean free counted paging =
 
 -- and so it is tuned as the definition of a clean link has it
 pub tuned_to_cell : (width : Width) (script : List ℕ) (plan : CellPlan) (span : ℕ)
-    (receiver : Receiver) (header : Header) (samples : List Sample) →
-    IsCellFile width script plan span receiver.fingers header samples →
+    (options : HandsetOptions) (header : Header) (samples : List Sample) →
+    IsCellFile width script plan span options.fingers header samples →
     length samples ≡ header.count →
-    tuning_for header (take span samples) receiver
-    ≡ tuning_to plan (cell_energy span plan) receiver.paging receiver.traffic
-tuned_to_cell width script plan span receiver header samples file counted =
-    let t = tuning_for header (take span samples) receiver in
+    tuning_for header (take span samples) options
+    ≡ tuning_to plan (cell_energy span plan) options.paging options.traffic
+tuned_to_cell width script plan span options header samples file counted =
+    let t = tuning_for header (take span samples) options in
     let phase = phase_at plan plan.link.start in
     let energy_is : t.energy ≡ cell_energy span plan =
     ap (energy (take span samples)) file.found
     ∙ ap (λ (s : List Sample). energy (take span s) phase) file.sent in
-    tuned_is plan t (on_path width script plan span receiver header samples file counted)
-    ∙ ap (λ (e : ℕ). tuning_to plan e receiver.paging receiver.traffic) energy_is
+    tuned_is plan t (on_path width script plan span options header samples file counted)
+    ∙ ap (λ (e : ℕ). tuning_to plan e options.paging options.traffic) energy_is
 
 -- and hears no direction
-undirected : (width : Width) (script : List ℕ) (plan : CellPlan) (span : ℕ) (receiver : Receiver)
+undirected : (width : Width) (script : List ℕ) (plan : CellPlan) (span : ℕ) (options : HandsetOptions)
     (header : Header) (samples : List Sample) →
-    IsCleanLink width script plan span receiver.fingers receiver.paging
-    receiver.traffic header samples →
+    IsCleanLink width script plan span options.fingers options.paging
+    options.traffic header samples →
     length samples ≡ header.count →
     All IsNotDirected
-    (events (tuning_for header (take span samples) receiver) (made_samples plan))
-undirected width script plan span receiver header samples clean counted =
-    let t = tuning_for header (take span samples) receiver in
+    (events (tuning_for header (take span samples) options) (made_samples plan))
+undirected width script plan span options header samples clean counted =
+    let t = tuning_for header (take span samples) options in
     subst (λ (s : List Sample). All IsNotDirected (events t s)) clean.file.sent
     (subst (λ (k : Tuning). All IsNotDirected (events k samples))
-    (sym (tuned_to_cell width script plan span receiver header samples clean.file counted))
+    (sym (tuned_to_cell width script plan span options header samples clean.file counted))
     clean.undirected)
 
 -- the events of a file: the pilot of the first samples, and what a handset hears in all
-abbrev file_events : ℕ → Receiver → Header → List Sample → List Event
-file_events span receiver header samples =
-    events (tuning_for header (take span samples) receiver) samples
+abbrev file_events : ℕ → HandsetOptions → Header → List Sample → List Event
+file_events span options header samples =
+    events (tuning_for header (take span samples) options) samples
 
 -- those of a clean link are the cell's
 clean_events-are : (width : Width) (script : List ℕ) (plan : CellPlan)
@@ -95,16 +95,16 @@ clean_events-are : (width : Width) (script : List ℕ) (plan : CellPlan)
 unfolding clean_events
 clean_events-are width script plan span fingers paging traffic header samples clean free follows
     counted one =
-    let receiver : Receiver =
+    let options : HandsetOptions =
     record { fingers = fingers; paging = paging; traffic = traffic } in
-    let t = tuning_for header (take span samples) receiver in
+    let t = tuning_for header (take span samples) options in
     let tuned_to : IsTunedTo plan t =
-    tuned width script plan span receiver header samples clean free counted one in
+    tuned width script plan span options header samples clean free counted one in
     ap (events t) clean.file.sent
     ∙ messages_back width plan t (named_receivable width script plan clean.file.named) tuned_to follows
-    (undirected width script plan span receiver header samples clean counted)
+    (undirected width script plan span options header samples clean counted)
     ∙ ap (λ (k : Tuning). sent_events plan k.energy paging traffic)
-    (tuned_to_cell width script plan span receiver header samples clean.file counted)
+    (tuned_to_cell width script plan span options header samples clean.file counted)
 
 -- and how the run ends
 pub clean_end-is : (width : Width) (script : List ℕ) (plan : CellPlan)
@@ -116,15 +116,15 @@ pub clean_end-is : (width : Width) (script : List ℕ) (plan : CellPlan)
     file_end_of (following span workers fingers paging traffic) header samples ≡ clean_end plan
 unfolding file_end_of
 clean_end-is width script plan span workers fingers paging traffic header samples clean counted =
-    let receiver : Receiver =
+    let options : HandsetOptions =
     record { fingers = fingers; paging = paging; traffic = traffic } in
-    let t = tuning_for header (take span samples) receiver in
+    let t = tuning_for header (take span samples) options in
     let size : length samples ≡ plan.link.samples = ap length clean.file.sent ∙ length-made plan in
     let told : is_some (mark t samples (length samples)) ≡ nat_lt 0 (length (sync_sent plan)) =
     ap (λ (n : ℕ). is_some (mark t samples n)) size
     ∙ ap (λ (s : List Sample). is_some (mark t s plan.link.samples)) clean.file.sent
     ∙ marked_where_heard width plan t (named_receivable width script plan clean.file.named)
-    (on_path width script plan span receiver header samples clean.file counted) in
+    (on_path width script plan span options header samples clean.file counted) in
     ap end_when told
 
 -- so what is written of the file is written of the cell

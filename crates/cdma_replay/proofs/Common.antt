@@ -33,8 +33,8 @@ pub use Rattle.cdma_io.specs.SampleFile.{most_samples, next_place, opening, samp
 pub use Rattle.cdma_io.specs.declared.file_fault.FileFault.{FileFault}
 pub use Rattle.cdma_io.specs.declared.file_fault.FileFault.TheVariants.{Extra, ReadFault, Short, TooFew}
 pub use Rattle.cdma_io.specs.declared.header.Header.{Header}
-pub use Rattle.cdma_words.specs.Words.{IsFingers, IsLawfulJob, IsLawfulTraffic, IsPaging}
-pub use Rattle.cdma_words.specs.declared.job.Job.{Job}
+pub use Rattle.command_line.specs.Args.{IsFingers, IsLawfulJob, IsLawfulTraffic, IsPaging}
+pub use Rattle.command_line.specs.declared.job.Job.{Job}
 pub use Rattle.cell_plan.proofs.Amplitudes.{chip_fits, signal_of_carriers}
 pub use Rattle.cell_plan.proofs.Pieces.{no_sample}
 pub use Rattle.cell_plan.specs.Plan.{IsFreeOf, IsLawfulPlan, loudness, most_part}
@@ -72,14 +72,14 @@ pub use Rattle.clean_link.proofs.messages.MessagesBack.{messages_back, tuned_is}
 pub use Rattle.clean_link.proofs.messages.NoDirections.{no_event_directed}
 pub use Rattle.clean_link.proofs.signal.Samples.{length-made, made_at}
 pub use Rattle.clean_link.proofs.traffic.Back.{one_near, untold}
-pub use Rattle.clean_link.proofs.traffic.Commands.{power_pairs}
+pub use Rattle.clean_link.proofs.traffic.PowerBits.{power_pairs}
 pub use Rattle.clean_link.proofs.traffic.Frames.{one_taken, one_there}
 pub use Rattle.clean_link.proofs.traffic.Received.{frames_behind_mark, set_two_behind_mark}
 pub use Rattle.clean_link.proofs.traffic.Signs.{lawful_traffic, set_one_sends}
 pub use Rattle.clean_link.specs.CleanLink.{IsNotDirected, IsOnPath, IsPlanFile, IsTunedTo, soft_strength, sync_sent, tuning_to}
 pub use Rattle.clean_link.specs.HeardEach.{HearsEach}
 pub use Rattle.clean_link.specs.HeardFrames.{IsAssigned, SendsSetOne, SendsSetTwo, SendsSymbols, frame_ends, received_frames, replaced_of}
-pub use Rattle.clean_link.specs.HeardFrames.{sent_bits, sent_commands, word_symbols}
+pub use Rattle.clean_link.specs.HeardFrames.{sent_bits, sent_power_bits, codeword_symbols}
 pub use Rattle.clean_link.specs.ReceivedFrames.{AreReceived, IsReceivedAs, IsSentFrame2, cycled_frame2}
 pub use Rattle.clean_link.specs.SentEvents.{FollowsSent, sent_events, signaling_sent, told_with_sync}
 pub use Rattle.event_tap.proofs.Runs.{run_taps-append, run_taps-more, run_text-append, run_text-more, run_text-none}
@@ -89,7 +89,7 @@ pub use Rattle.event_tap.specs.SlotLines.{lines_of_slots}
 pub use Rattle.event_tap.specs.Taps.{IsKept, KeptTap, heard_text, kept_by, taps_behind}
 unfoldable pub use Rattle.event_tap.specs.Taps.{run_taps, run_text}
 pub use Rattle.frame_decoder.specs.declared.traffic.Decoded.{Decoded}
-pub use Rattle.listed_frame.proofs.Choice.{decoded_by_one_word}
+pub use Rattle.listed_frame.proofs.Choice.{decoded_by_one_codeword}
 pub use Rattle.listed_frame.proofs.SentFrames.{sent_frame_listed}
 pub use Rattle.long_code.specs.LongCode.{traffic_mask}
 pub use Rattle.heard_events.proofs.EventsGrown.{events_at_by, events_sooner}
@@ -113,7 +113,7 @@ pub use Rattle.mobile_core.specs.Standing.{IsStep, StandsFor, Steps, events_left
 pub use Rattle.heard_events.specs.Streams.{is_in_file, known_at, known_by}
 pub use Rattle.heard_events.specs.SyncEvents.{sync_events_at}
 pub use Rattle.heard_events.specs.Timing.{IsTimed}
-pub use Rattle.heard_events.specs.TrafficEvents.{commands_at, decoded_at, frame_event}
+pub use Rattle.heard_events.specs.TrafficEvents.{power_bits_at, decoded_at, frame_event}
 pub use Rattle.mobile_core.specs.BehindMark.{IsSoundAssignment}
 pub use Rattle.heard_events.specs.TrafficStreams.{replaced_in}
 pub use Rattle.heard_events.specs.Tuning.{Tuning, fingers_of, sync_stream, tuning_by}
@@ -167,7 +167,7 @@ pub use Rattle.cdma_replay.specs.Hearing.{end_when, first_text, is_told, listeni
 unfoldable pub use Rattle.cdma_replay.specs.Hearing.{best_pilot, clean_events, file_end_of, file_text, told}
 pub use Rattle.cdma_replay.specs.Make.{WritesMadeFile, WritesNoMoreMade, piece_bytes}
 unfoldable pub use Rattle.cdma_replay.specs.Make.{made_file}
-pub use Rattle.cdma_replay.specs.OneWord.{OneWordFollows, OneWordFollowsFrame, followed_line}
+pub use Rattle.cdma_replay.specs.OneCodeword.{OneCodewordFollows, OneCodewordFollowsFrame, followed_line}
 pub use Rattle.cdma_replay.specs.Openings.{IsBest, Shows, listening_in, pilot_event, shown_text}
 pub use Rattle.cdma_replay.specs.Ranks.{rank_line}
 unfoldable pub use Rattle.cdma_replay.specs.Ranks.{ranks_text, survey_text}
@@ -190,7 +190,7 @@ pub use Rattle.cdma_replay.specs.Trials.{LeavesRoom, count_of, counts_with, is_f
 pub use Rattle.cdma_replay.specs.Trials.{trial_samples, trial_span, trial_tuning}
 unfoldable pub use Rattle.cdma_replay.specs.Trials.{counts_of, trial_line}
 pub use Rattle.cdma_replay.specs.TuningLaw.{HandsetsAreTuned, HandsetsLieOnThePath}
-pub use Rattle.cdma_replay.specs.declared.handset.Receiver.{Receiver}
+pub use Rattle.cdma_replay.specs.declared.handset.HandsetOptions.{HandsetOptions}
 pub use Rattle.cdma_replay.specs.declared.listener.Listener.{Listener}
 pub use Rattle.cdma_replay.specs.declared.opening.Shown.{Shown}
 pub use Rattle.cdma_replay.specs.declared.opening.Shown.TheVariants.{Followed, Found, Ranks}

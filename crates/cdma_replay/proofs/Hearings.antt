@@ -9,7 +9,7 @@ use Rattle.cdma_replay.proofs.Common.{Steps, events_left, has_room, parts, IsTim
 use Rattle.cdma_replay.proofs.Common.{Mobile, Step, KeptTap, heard_text, run_taps, run_text, taps_behind, run_taps-append, run_taps-more}
 use Rattle.cdma_replay.proofs.Common.{run_text-append, run_text-more, run_text-none, begins_more, front_begins, prefix_before}
 use Rattle.cdma_replay.proofs.Common.{prefix_behind, taken_begins, ListensTuned, TellsTuned, TellsTunedPart, tuned_room, none_marked}
-use Rattle.cdma_replay.proofs.Common.{stands_near, text_of_nothing, TunedListener, TunedText, Receiver, sync_events_at, events_at_by}
+use Rattle.cdma_replay.proofs.Common.{stands_near, text_of_nothing, TunedListener, TunedText, HandsetOptions, sync_events_at, events_at_by}
 use Rattle.cdma_replay.proofs.Common.{events_sooner, known_between, timed_of, told_unset, KnownFrom, left_all, left_none, Header, IsBestIn}
 use Rattle.cdma_replay.proofs.Common.{near_deltas, Near, Best, best_energy-only, best_phase-only, Settings, AreNearTo, AreReady}
 use Rattle.cdma_replay.proofs.Common.{BeginsBehind, ByFrames, ByTaps, HasRoom, HasRoomFor, HasTold, IsFresh, Listening, Listens, Nobody}
@@ -476,41 +476,41 @@ near_taken first fingers best near found counted most long deltas =
     first_near near.deltas (near_deltas first best.phase fingers) fingers long most deltas
     ∙ ap (λ (p : ℕ). near_deltas first p fingers) (best_phase-only first best.phase best.energy found)
 
-tuned_alike : (header : Header) (first : List Sample) (receiver : Receiver) (settings : Settings)
+tuned_alike : (header : Header) (first : List Sample) (options : HandsetOptions) (settings : Settings)
     (best : Best) (near : Near) → IsBestIn first 0 32768 best.phase best.energy →
     settings.count ≡ header.count → settings.check30 ≡ header.check30 →
-    settings.check16 ≡ header.check16 → settings.paging ≡ receiver.paging →
-    settings.traffic ≡ receiver.traffic →
-    near.count ≡ receiver.fingers → receiver.fingers ≤ 3 → length near.deltas ≡ 3 →
+    settings.check16 ≡ header.check16 → settings.paging ≡ options.paging →
+    settings.traffic ≡ options.traffic →
+    near.count ≡ options.fingers → options.fingers ≤ 3 → length near.deltas ≡ 3 →
     near.deltas
-    ≡ near_deltas first best.phase receiver.fingers ++ replicate (3 - receiver.fingers) (pos 0) →
-    tuning_by settings best near ≡ tuning_for header first receiver
-tuned_alike header first receiver settings best near found count check30 check16 paging traffic
+    ≡ near_deltas first best.phase options.fingers ++ replicate (3 - options.fingers) (pos 0) →
+    tuning_by settings best near ≡ tuning_for header first options
+tuned_alike header first options settings best near found count check30 check16 paging traffic
     counted most long deltas =
     let phase : best.phase ≡ best_phase first =
     best_phase-only first best.phase best.energy found in
     let energy : best.energy ≡ energy_at first (best_phase first) =
     best_energy-only first best.phase best.energy found in
-    let near_is = near_taken first receiver.fingers best near found counted most long deltas in
+    let near_is = near_taken first options.fingers best near found counted most long deltas in
     rw (count, check30, check16, paging, traffic, phase, energy, near_is) refl
 
 pub fresh_given : (settings : Settings) (header : Header) (first : List Sample)
-    (receiver : Receiver)
+    (options : HandsetOptions)
     (best : Best) (near : Near) (mobile : Mobile) → IsBestIn first 0 32768 best.phase best.energy →
     settings.count ≡ header.count → settings.check30 ≡ header.check30 →
-    settings.check16 ≡ header.check16 → settings.paging ≡ receiver.paging →
-    settings.traffic ≡ receiver.traffic →
-    length near.deltas ≡ 3 → AreNearTo first best.phase receiver near → AreReady near →
+    settings.check16 ≡ header.check16 → settings.paging ≡ options.paging →
+    settings.traffic ≡ options.traffic →
+    length near.deltas ≡ 3 → AreNearTo first best.phase options near → AreReady near →
     StandsFor (tuning_by settings best near) mobile [] [] →
-    StandsFor (tuning_for header first receiver) mobile [] []
-fresh_given settings header first receiver best near mobile found count check30 check16 paging
+    StandsFor (tuning_for header first options) mobile [] []
+fresh_given settings header first options best near mobile found count check30 check16 paging
     traffic long near_is ready stands =
-    let most : receiver.fingers ≤ 3 = omega (arith, near_is.0, ready.1) in
+    let most : options.fingers ≤ 3 = omega (arith, near_is.0, ready.1) in
     subst (λ (t : Tuning). StandsFor t mobile [] [])
-    (tuned_alike header first receiver settings best near found count check30 check16 paging traffic
+    (tuned_alike header first options settings best near found count check30 check16 paging traffic
     near_is.0 most long near_is.1) stands
 
--- the traffic channel of lawful words is one that a base station may assign
+-- the traffic channel of lawful arguments is one that a base station may assign
 pub sound_assignment : (paging : ℕ) (traffic : Option Traffic) → IsLawfulTraffic paging traffic →
     ForSome traffic IsSoundAssignment
 sound_assignment paging None lawful = λ (t : Traffic) (is : None ≡ Some t). absurd (cc)

@@ -13,7 +13,7 @@ pub mod Lines
 pub mod MadeFiles
 pub mod MadeLinks
 pub mod NearPaths
-pub mod OneWord
+pub mod OneCodeword
 pub mod Owed
 pub mod RankLines
 pub mod Replies

@@ -4,11 +4,11 @@ use Rattle.cdma_replay.proofs.Common.{on_ok, on_err, OnOk, OnErr, Result, append
 use Rattle.cdma_replay.proofs.Common.{take_at, flat_map-append, All-append, flat_map, StartsWith, Appends, Consumes, IsAtEnd, Appends-trans}
 use Rattle.cdma_replay.proofs.Common.{Consumes-nil, Consumes-trans, Sample, Header, Width, AppendsPrefix, HasBits, IsLawfulHeader}
 use Rattle.cdma_replay.proofs.Common.{header_spelling, sample_spelling, width_of, IsBestIn, best_phase, best_phase-only, best_energy-only}
-use Rattle.cdma_replay.proofs.Common.{Pilot, event_line, KeptTap, Rank, begins_more, prefix_of, taken_begins, Receiver, Listener, Shown}
-use Rattle.cdma_replay.proofs.Common.{Followed, Found, Ranks, Purpose, Find, Follow, Survey, Reception, Status, TakesSpan, WritesNoMore}
-use Rattle.cdma_replay.proofs.Common.{WritesText, BeginsBehind, HearsPart, HearsRest, IsFresh, Listening, Listens, Nobody, Tells, TellsMore}
-use Rattle.cdma_replay.proofs.Common.{TellsPart, best_pilot, end_when, file_end_of, file_text, first_text, is_told, listening, told, IsBest}
-use Rattle.cdma_replay.proofs.Common.{Shows, listening_in, shown_text, Best, ranking, ranks_text, survey_text}
+use Rattle.cdma_replay.proofs.Common.{Pilot, event_line, KeptTap, Rank, begins_more, prefix_of, taken_begins, HandsetOptions, Listener}
+use Rattle.cdma_replay.proofs.Common.{Shown, Followed, Found, Ranks, Purpose, Find, Follow, Survey, Reception, Status, TakesSpan}
+use Rattle.cdma_replay.proofs.Common.{WritesNoMore, WritesText, BeginsBehind, HearsPart, HearsRest, IsFresh, Listening, Listens, Nobody}
+use Rattle.cdma_replay.proofs.Common.{Tells, TellsMore, TellsPart, best_pilot, end_when, file_end_of, file_text, first_text, is_told}
+use Rattle.cdma_replay.proofs.Common.{listening, told, IsBest, Shows, listening_in, shown_text, Best, ranking, ranks_text, survey_text}
 use Rattle.cdma_replay.proofs.Hearings.{more_behind, part_behind}
 use Rattle.cdma_replay.specs.declared.listener.Listener.TheVariants as by
 
@@ -32,9 +32,9 @@ found_shows {first} {best} is = record {
   hears = λ (taps : List KeptTap) (header : Header). refl;
 }
 
-pub followed_shows : {first : List Sample} {best : Best} (receiver : Receiver) →
-    Shows (Follow receiver) first (Followed best receiver)
-followed_shows receiver = record {
+pub followed_shows : {first : List Sample} {best : Best} (options : HandsetOptions) →
+    Shows (Follow options) first (Followed best options)
+followed_shows options = record {
   text = refl;
   hears = λ (taps : List KeptTap) (header : Header). refl;
 }

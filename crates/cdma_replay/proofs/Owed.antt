@@ -12,7 +12,7 @@ use Rattle.cdma_replay.proofs.Common.{SurveyOwesTheRanks, TrialOwesItsLine, Work
 use Rattle.cdma_replay.proofs.Common.{Status, Task, Make, Receive, Trial}
 use Rattle.cdma_replay.proofs.Lines.{none_within}
 use Rattle.cdma_replay.proofs.Replies.{whole_file}
-use Rattle.cdma_words.specs.declared.job.Job.TheVariants as jobs
+use Rattle.command_line.specs.declared.job.Job.TheVariants as jobs
 
 -- ---- bytes are those of samples
 
@@ -184,7 +184,7 @@ find_owes forms span workers bytes header samples file enough =
 
 pub follow_owes : FollowOwesTheEvents
 unfolding file_text file_end_of told
-follow_owes forms span workers receiver limits bytes header samples file enough = whole_file file enough
+follow_owes forms span workers options limits bytes header samples file enough = whole_file file enough
 
 frames_owed : (span workers fingers : ℕ) (channel : Channel) (text : TunedText) (bytes : List ℕ)
     (header : Header) (samples : List Sample) → IsSampleFile bytes header samples →

@@ -76,7 +76,7 @@ search_end status end alone = tt
 -- for a purpose
 pub purpose_end : (purpose : Purpose) (status : Status) → IsFileEnd status →
     (IsUnheard purpose → status ≢ Status.NoSync) → IsPurposeEnd purpose status
-purpose_end (purposes.Follow receiver) status end alone = end
+purpose_end (purposes.Follow options) status end alone = end
 purpose_end (purposes.Tuned fingers channel text) status end alone = end
 purpose_end purpose status end alone = search_end status end (alone tt)
 

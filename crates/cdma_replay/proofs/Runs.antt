@@ -57,7 +57,7 @@ part_kept begins old mid new wrote kept = record {
 
 each_purpose : (purpose : Purpose) (status : Status) → IsSearchEnd status → IsFileEnd status →
     IsPurposeEnd purpose status
-each_purpose (purposes.Follow receiver) status search file = file
+each_purpose (purposes.Follow options) status search file = file
 each_purpose (purposes.Tuned fingers channel text) status search file = file
 each_purpose purpose status search file = search
 
@@ -202,9 +202,9 @@ pub failed_before : {T E : Type 0} (r : Result T E) (old mid new : ℕ) → old 
 failed_before (Ok done) old mid new later failed = tt
 failed_before (Err fault) old mid new later failed = rose_before old mid new later failed
 
--- ---- words that name a job
+-- ---- arguments that name a job
 
--- an end that other words don't have
+-- an end that other arguments don't have
 of_job : {P : Type 0} (named : Option Job) (status : Status) →
     ((status ≡ Status.BadWords) ↔ (named ≡ None)) → ¬ (status ≡ Status.BadWords) →
     ((job : Job) → named ≡ Some job → P) → P
@@ -229,7 +229,7 @@ pub of_wanting_job : {P : Type 0} (named : Option Job) (status : Status) →
 of_wanting_job named status bad is some =
     of_job named status bad (memory_otherwise status is) some
 
--- words that name none that reads
+-- arguments that name none that reads
 pub unread_by : {Same Kept : Type 0} (named : Option Job) (status : Status) →
     ((status ≡ Status.BadWords) ↔ (named ≡ None)) → (status ≡ Status.BadWords → Same × Kept) →
     ((job : Job) → named ≡ Some job → ¬ (ReadsInput job) → Same) → IsNotReading named → Same

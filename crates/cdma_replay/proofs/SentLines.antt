@@ -4,8 +4,8 @@ use Rattle.cdma_replay.proofs.Common.{None, Some, Contains, flat_map, flat_map-m
 use Rattle.cdma_replay.proofs.Common.{sent_frame_listed, decoded2, made_samples, frames_of, cycled_frame, frame_state, set_one}
 use Rattle.cdma_replay.proofs.Common.{IsTrafficFrame, CellPlan, TrafficPlan, TrafficFrame, TrafficFrame2, event_line, frame2_line}
 use Rattle.cdma_replay.proofs.Common.{traffic_channel, mark, soft_frames, frame_event, Tuning, Mark, Traffic, SoftFrame, soft_strength}
-use Rattle.cdma_replay.proofs.Common.{IsOnPath, IsReceivable, frame_ends, received_frames, replaced_of, sent_bits, sent_commands}
-use Rattle.cdma_replay.proofs.Common.{word_symbols, IsAssigned, SendsSetOne, SendsSetTwo, SendsSymbols, cycled_frame2, AreReceived}
+use Rattle.cdma_replay.proofs.Common.{IsOnPath, IsReceivable, frame_ends, received_frames, replaced_of, sent_bits, sent_power_bits}
+use Rattle.cdma_replay.proofs.Common.{codeword_symbols, IsAssigned, SendsSetOne, SendsSetTwo, SendsSymbols, cycled_frame2, AreReceived}
 use Rattle.cdma_replay.proofs.Common.{IsReceivedAs, IsSentFrame2, told_with_sync, length-made, untold, power_pairs, one_taken, one_there}
 use Rattle.cdma_replay.proofs.Common.{frames_behind_mark, set_two_behind_mark, lawful_traffic, set_one_sends, listed_texts, rate2_texts}
 use Rattle.cdma_replay.proofs.Common.{decoded_line, frames_text, listed_text, rate2_text, text_behind, tuned_text, TunedText, Listed}
@@ -76,11 +76,11 @@ file_back : (form : TunedText) (line : SoftFrame → List ℕ) → IsLineByLine 
     IsReceivable width plan → Contains plan.traffic p → Sends p → Says plan p frame soft →
     Is plan p frame (line soft)) →
     LinesComeBack form Sends Is
-file_back form line lines Sends Is Says behind back width script plan p span receiver traffic header
+file_back form line lines Sends Is Says behind back width script plan p span options traffic header
     samples file counted has assigned some =
-    let t = tuning_for header (take span samples) receiver in
+    let t = tuning_for header (take span samples) options in
     let is = named_receivable width script plan file.named in
-    let on = on_path width script plan span receiver header samples file counted in
+    let on = on_path width script plan span options header samples file counted in
     subst
     (λ (heard : List Sample). IsSentText plan p (Is plan p) (told_with_sync plan plan.sync)
     (tuned_text form t (traffic_channel traffic) heard))
@@ -106,23 +106,23 @@ frame_there width plan p frame is has some =
 
 -- what it shows is shown of whatever is sent
 abbrev ShowsSent : CellPlan → TrafficPlan → ℕ → SoftFrame → Type 0
-ShowsSent plan p frame soft = (symbols commands : List Bool) →
-    SendsSymbols plan p frame symbols commands → IsReceivedAs plan p frame symbols commands soft
+ShowsSent plan p frame soft = (symbols power_bits : List Bool) →
+    SendsSymbols plan p frame symbols power_bits → IsReceivedAs plan p frame symbols power_bits soft
 
 -- the line of what is decoded is that of its event
-pub line_of_event : (n : ℕ) (decoded : Decoded) (commands : List Bool) →
-    decoded_line n decoded commands ≡ event_line (frame_event n decoded commands)
+pub line_of_event : (n : ℕ) (decoded : Decoded) (power_bits : List Bool) →
+    decoded_line n decoded power_bits ≡ event_line (frame_event n decoded power_bits)
 unfolding event_line
-line_of_event n decoded commands = refl
+line_of_event n decoded power_bits = refl
 
 -- what is listed of a frame
 abbrev pub listed_of : ℕ → SoftFrame → List ℕ
-listed_of k soft = listed_text k soft.end soft.turned soft.power
+listed_of k soft = listed_text k soft.end soft.descrambled soft.power
 
 -- the line of one that comes back
 listed_back : (k : ℕ) → 1 ≤ k → (plan : CellPlan) (p : TrafficPlan) (frame : ℕ) (f : TrafficFrame)
     (soft : SoftFrame) → IsTrafficFrame f →
-    IsReceivedAs plan p frame (word_symbols f) f.commands soft →
+    IsReceivedAs plan p frame (codeword_symbols f) f.power_bits soft →
     IsSentLine plan p frame f (listed_of k soft)
 listed_back k most plan p frame f soft sized received =
     let few = (power_pairs (frame_state (frames_of plan p) frame) (traffic_mask p.esn)).long in
@@ -130,19 +130,19 @@ listed_back k most plan p frame f soft sized received =
     let replaced = replaced_of plan p frame in
     let ends = frame_ends plan p frame in
     let spelled : listed_of k soft ≡
-    event_line (frame_event ends (listed k replaced soft.turned) (sent_commands f)) =
-    ap (listed_text k soft.end soft.turned) received.powered
-    ∙ ap (λ (n : ℕ). decoded_line n (listed k replaced soft.turned) (sent_bits f.commands))
+    event_line (frame_event ends (listed k replaced soft.descrambled) (sent_power_bits f)) =
+    ap (listed_text k soft.end soft.descrambled) received.powered
+    ∙ ap (λ (n : ℕ). decoded_line n (listed k replaced soft.descrambled) (sent_bits f.power_bits))
     received.ends
-    ∙ line_of_event ends (listed k replaced soft.turned) (sent_bits f.commands) in
+    ∙ line_of_event ends (listed k replaced soft.descrambled) (sent_bits f.power_bits) in
     record {
-      decoded = listed k replaced soft.turned;
+      decoded = listed k replaced soft.descrambled;
       spelled = spelled;
       back = λ distinct.
           spelled
-          ∙ ap (λ (d : Decoded). event_line (frame_event ends d (sent_commands f)))
+          ∙ ap (λ (d : Decoded). event_line (frame_event ends d (sent_power_bits f)))
           (sent_frame_listed k (soft_strength plan Data p.gain) replaced f.rate f.information
-          soft.turned most shown.strong (omega (arith, few)) shown.long sized shown.shows
+          soft.descrambled most shown.strong (omega (arith, few)) shown.long sized shown.shows
           distinct);
     }
 
@@ -154,7 +154,7 @@ listed_line k most width plan p frame soft is has some shows =
       f,
       here,
       listed_back k most plan p frame f soft sized
-          (shows (word_symbols f) f.commands (set_one_sends plan p frame f here)),
+          (shows (codeword_symbols f) f.power_bits (set_one_sends plan p frame f here)),
     )
 
 -- ---- frames of rate set 2
@@ -166,19 +166,19 @@ IsSent2 plan p frame soft = (f : TrafficFrame2)
 
 -- what is written of a frame
 abbrev rate2_of : SoftFrame → List ℕ
-rate2_of soft = rate2_text soft.end soft.turned soft.power
+rate2_of soft = rate2_text soft.end soft.descrambled soft.power
 
 -- the line of one that comes back
 line_back : (plan : CellPlan) (p : TrafficPlan) (frame : ℕ) (f : TrafficFrame2)
     (soft : SoftFrame) → IsSentFrame2 plan p frame f soft →
     IsSentLine2 plan p frame f (rate2_of soft)
 line_back plan p frame f soft sent =
-    let decoded = decoded2 (replaced_of plan p frame) soft.turned in
+    let decoded = decoded2 (replaced_of plan p frame) soft.descrambled in
     record {
       decoded = decoded;
       spelled =
-          ap (rate2_text soft.end soft.turned) sent.received.powered
-          ∙ ap (λ (n : ℕ). frame2_line n decoded (sent_bits f.commands)) sent.received.ends;
+          ap (rate2_text soft.end soft.descrambled) sent.received.powered
+          ∙ ap (λ (n : ℕ). frame2_line n decoded (sent_bits f.power_bits)) sent.received.ends;
       back = sent.decoded;
     }
 

@@ -4,29 +4,29 @@ use Rattle.cdma_replay.proofs.Common.{CellPlan, TrafficPlan, mark, Traffic, sync
 use Rattle.cdma_replay.proofs.Common.{marked_where_heard, length-made, TunedText, Listed, RateSetTwo, IsCellFile, clean_end, end_when}
 use Rattle.cdma_replay.proofs.Common.{file_end_of, file_text, tuning_for, waiting, IsFileReply, Reply, IsLineOfSetOne, IsLineOfSetTwo}
 use Rattle.cdma_replay.proofs.Common.{IsSentText, LinesComeBack, IsHeardFrom, IsSentReply, ListRepliesComeBack, Rate2RepliesComeBack}
-use Rattle.cdma_replay.proofs.Common.{hearing, Receiver, Reception, named_receivable}
+use Rattle.cdma_replay.proofs.Common.{hearing, HandsetOptions, Reception, named_receivable}
 use Rattle.cdma_replay.proofs.CleanTexts.{on_path}
 use Rattle.cdma_replay.proofs.Replies.{one_file_reply, whole_file}
 use Rattle.cdma_replay.proofs.SentLines.{listed_lines, set_two_lines}
 use Rattle.cdma_replay.proofs.SleepLaw.{end_heard, text_heard}
 use Rattle.heard_events.specs.declared.channel.Channel.TheVariants as channels
 
--- each whole sending tells the time
-pub cell_end : (width : Width) (script : List ℕ) (plan : CellPlan) (span : ℕ) (receiver : Receiver)
+-- each whole transmission tells the time
+pub cell_end : (width : Width) (script : List ℕ) (plan : CellPlan) (span : ℕ) (options : HandsetOptions)
     (header : Header) (samples : List Sample) →
-    IsCellFile width script plan span receiver.fingers header samples →
+    IsCellFile width script plan span options.fingers header samples →
     length samples ≡ header.count →
     end_when
-    (is_some (mark (tuning_for header (take span samples) receiver) samples (length samples)))
+    (is_some (mark (tuning_for header (take span samples) options) samples (length samples)))
     ≡ clean_end plan
-cell_end width script plan span receiver header samples cell counted =
-    let t = tuning_for header (take span samples) receiver in
+cell_end width script plan span options header samples cell counted =
+    let t = tuning_for header (take span samples) options in
     let size : length samples ≡ plan.link.samples = ap length cell.sent ∙ length-made plan in
     let told : is_some (mark t samples (length samples)) ≡ nat_lt 0 (length (sync_sent plan)) =
     ap (λ (n : ℕ). is_some (mark t samples n)) size
     ∙ ap (λ (s : List Sample). is_some (mark t s plan.link.samples)) cell.sent
     ∙ marked_where_heard width plan t (named_receivable width script plan cell.named)
-    (on_path width script plan span receiver header samples cell counted) in
+    (on_path width script plan span options header samples cell counted) in
     ap end_when told
 
 module _ (form : TunedText) (Sends : TrafficPlan → Type 0)
@@ -39,8 +39,8 @@ module _ (form : TunedText) (Sends : TrafficPlan → Type 0)
   abbrev r : Reception
   r = hearing span workers fingers (channels.Traffic traffic) form
 
-  abbrev receiver : Receiver
-  receiver = waiting fingers
+  abbrev options : HandsetOptions
+  options = waiting fingers
 
   -- the text has the sent lines
   text_is : IsSentText plan p (Is plan p) (told_with_sync plan plan.sync)
@@ -48,14 +48,14 @@ module _ (form : TunedText) (Sends : TrafficPlan → Type 0)
   text_is =
       subst (IsSentText plan p (Is plan p) (told_with_sync plan plan.sync))
       (sym (text_heard r fingers (channels.Traffic traffic) form header samples refl))
-      (lines width script plan p span receiver traffic header samples heard.cell
+      (lines width script plan p span options traffic header samples heard.cell
       heard.file.counted heard.sent heard.assigned sends)
 
-  -- and the end is that of the whole sendings
+  -- and the end is that of the whole transmissions
   end_is : file_end_of r header samples ≡ clean_end plan
   end_is =
       end_heard r fingers (channels.Traffic traffic) form header samples refl
-      ∙ cell_end width script plan span receiver header samples heard.cell heard.file.counted
+      ∙ cell_end width script plan span options header samples heard.cell heard.file.counted
 
   -- so it is of each reply that is owed
   pub reply_back : (reply : Reply) → IsFileReply [] r bytes reply →

@@ -6,12 +6,12 @@ use Rattle.cdma_replay.proofs.Owed.{idle_owes}
 use Rattle.cdma_replay.proofs.Replies.{one_reply}
 use Rattle.cdma_replay.proofs.SentReplies.{cell_end}
 use Rattle.cdma_replay.proofs.TuningLaw.{on_plans_path}
-use Rattle.cdma_words.specs.declared.job.Job.TheVariants as jobs
+use Rattle.command_line.specs.declared.job.Job.TheVariants as jobs
 
 pub file_slots : FileSlotsComeBack
-file_slots width plan p span receiver header samples key cycle file counted has =
-    let t = tuning_for header (take span samples) receiver in
-    let on = on_plans_path width plan span receiver header samples file counted in
+file_slots width plan p span options header samples key cycle file counted has =
+    let t = tuning_for header (take span samples) options in
+    let on = on_plans_path width plan span options header samples file counted in
     written_of_slots key cycle t p.number samples (one_near t plan on)
     ∙ ap (lines_of_slots key cycle t p.number) file.sent
     ∙ slot_texts_back width plan p t key cycle file.receivable on has

@@ -138,7 +138,7 @@ module _ {rest left : Option (List ℕ)} {misread misread_now : ℕ} {SameSource
   exact_answer forms task status run bytes held reply is was owed reads writes =
       inr (owed_answer forms task status bytes held reply rest old new (run.verdict tt) is was owed)
 
-  -- what is promised of a job's task is promised of the job that the words name
+  -- what is promised of a job's task is promised of the job that the arguments name
   pub run_of : {forms : List ℕ} {task : Task} {status : Status} {named : Option Job} {one : Job}
       (job : Job) → task ≡ task_of one → named ≡ Some one → named ≡ Some job →
       RunsTask forms task status rest left misread misread_now SameSource old new miswritten

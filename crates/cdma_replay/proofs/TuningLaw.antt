@@ -3,7 +3,7 @@ use Rattle.cdma_replay.proofs.Common.{◌≡◌, List, [], ◌∷◌, length, po
 use Rattle.cdma_replay.proofs.Common.{best_phase-is, one_delta, length-made, HandsetsAreTuned, HandsetsLieOnThePath}
 
 pub handsets_tuned : HandsetsAreTuned
-handsets_tuned span header samples receiver = (refl, refl, refl, refl, refl)
+handsets_tuned span header samples options = (refl, refl, refl, refl, refl)
 
 -- one finger is on the best phase
 own_delta : (samples : List Sample) →
@@ -13,7 +13,7 @@ own_delta samples =
     (best_phase-is samples)
 
 pub on_plans_path : HandsetsLieOnThePath
-on_plans_path width plan span receiver header samples file counted =
+on_plans_path width plan span options header samples file counted =
     let first = take span samples in
     record {
       count = sym counted ∙ ap length file.sent ∙ length-made plan;

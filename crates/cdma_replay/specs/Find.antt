@@ -153,7 +153,7 @@ IsFault ends.ReadFault = Unit {0}
 IsFault WriteFault = Unit {0}
 IsFault _ = ⊥
 
--- an end of a run over a sample file: no words and no script were at fault
+-- an end of a run over a sample file: no arguments and no script were at fault
 abbrev pub IsOfFiles : Status → Type 0
 IsOfFiles BadWords = ⊥
 IsOfFiles (BadScript fault) = ⊥

@@ -22,7 +22,7 @@ use Rattle.heard_events.specs.declared.event.Event.{Event}
 use Rattle.heard_events.specs.declared.event.Event.TheVariants.{Pilot}
 use Rattle.mobile_core.specs.declared.mobile.Mobile.{Mobile}
 use Rattle.chip_core.specs.declared.assignment.Traffic.{Traffic}
-use Rattle.cdma_words.specs.Words.{IsFingers, IsLawfulTraffic, IsPaging}
+use Rattle.command_line.specs.Args.{IsFingers, IsLawfulTraffic, IsPaging}
 use Rattle.event_tap.specs.EventLines.{event_line}
 use Rattle.event_tap.specs.Taps.{KeptTap, run_taps, run_text}
 use Rattle.clean_link.specs.CleanLink.{sync_sent}
@@ -32,7 +32,7 @@ use Rattle.tuned_listener.specs.TunedTexts.{tuned_text}
 use Rattle.tuned_listener.specs.declared.tuned_text.TunedText.{TunedText}
 use Rattle.cdma_replay.specs.CleanFiles.{cell_energy}
 use Rattle.cdma_replay.specs.Ranks.{survey_text}
-use Rattle.cdma_replay.specs.declared.handset.Receiver.{Receiver}
+use Rattle.cdma_replay.specs.declared.handset.HandsetOptions.{HandsetOptions}
 use Rattle.cdma_replay.specs.declared.listener.Listener.{Listener}
 use Rattle.cdma_replay.specs.declared.listener.Listener.TheVariants as by
 use Rattle.cdma_replay.specs.declared.purpose.Purpose.{Purpose}
@@ -51,26 +51,26 @@ best_pilot samples = Pilot (best_phase samples) (energy samples (best_phase samp
 -- where the file is heard
 abbrev pub first_text : Purpose → List Sample → List ℕ
 first_text Find first = event_line (best_pilot first)
-first_text (Follow receiver) first = []
+first_text (Follow options) first = []
 first_text (Tuned fingers channel text) first = []
 first_text (Survey base width top) first = survey_text base width top first
 
 -- a handset that follows a file of this header, where the pilot was searched in its first samples
-abbrev pub tuning_for : Header → List Sample → Receiver → Tuning
-tuning_for header first receiver =
+abbrev pub tuning_for : Header → List Sample → HandsetOptions → Tuning
+tuning_for header first options =
     record {
       count = header.count;
       phase = best_phase first;
       energy = energy first (best_phase first);
-      deltas = near_deltas first (best_phase first) receiver.fingers;
+      deltas = near_deltas first (best_phase first) options.fingers;
       check30 = header.check30;
       check16 = header.check16;
-      paging = receiver.paging;
-      traffic = receiver.traffic;
+      paging = options.paging;
+      traffic = options.traffic;
     }
 
 -- one that waits for the mark: which paging channel it would follow from there on doesn't matter
-abbrev pub waiting : ℕ → Receiver
+abbrev pub waiting : ℕ → HandsetOptions
 waiting fingers = record { fingers = fingers; paging = 1; traffic = None }
 
 -- who hears a file: nobody, or a handset whose events these taps hear, or a handset for the mark
@@ -83,8 +83,8 @@ pub data Listening : Type 0 where
 -- who hears one of this header with these first samples: these taps, where a handset follows it
 abbrev pub listening : List KeptTap → Purpose → Header → List Sample → Listening
 listening taps Find header first = Nobody
-listening taps (Follow receiver) header first =
-    ByTaps (tuning_for header first receiver) taps
+listening taps (Follow options) header first =
+    ByTaps (tuning_for header first options) taps
 listening taps (Tuned fingers channel text) header first =
     ByFrames (tuning_for header first (waiting fingers)) channel text
 listening taps (Survey base width top) header first = Nobody
@@ -122,31 +122,31 @@ IsUnheard Find = Unit {0}
 IsUnheard (Survey base width top) = Unit {0}
 IsUnheard purpose = ⊥
 
--- what is told of a clean link: the pilot at the cell's phase, all whole sendings, the whole pages
--- of the paging channel that is followed, and the frames of the traffic channel that is, with the
--- messages that their signaling spells and the pilot sets
+-- what is told of a clean link: the pilot at the cell's phase, all whole transmissions, the whole
+-- pages of the paging channel that is followed, and the frames of the traffic channel that is, with
+-- the messages that their signaling spells and the pilot sets
 unfoldable pub clean_events : ℕ → CellPlan → ℕ → Option Traffic → List Event
 clean_events span plan paging traffic =
     sent_events plan (cell_energy span plan) paging traffic
 
--- how a run over a clean link ends: each whole sending tells the time
+-- how a run over a clean link ends: each whole transmission tells the time
 abbrev pub clean_end : CellPlan → Status
 clean_end plan = end_when (nat_lt 0 (length (sync_sent plan)))
 
 -- ---- what the search hands on
 
 -- the paths near the best phase of samples, as many as the receiver has fingers
-abbrev pub AreNearTo : List Sample → ℕ → Receiver → Near → Type 0
-AreNearTo samples phase receiver near =
-    (near.count ≡ receiver.fingers) ×
+abbrev pub AreNearTo : List Sample → ℕ → HandsetOptions → Near → Type 0
+AreNearTo samples phase options near =
+    (near.count ≡ options.fingers) ×
     (near.deltas ≡
-    near_deltas samples phase receiver.fingers ++ replicate (3 - receiver.fingers) (pos 0))
+    near_deltas samples phase options.fingers ++ replicate (3 - options.fingers) (pos 0))
 
 -- one to three fingers, one of the seven paging channels, and a traffic channel beside it, or none
-abbrev pub IsLawfulReceiver : Receiver → Type 0
-IsLawfulReceiver receiver =
-    IsFingers receiver.fingers × IsPaging receiver.paging
-    × IsLawfulTraffic receiver.paging receiver.traffic
+abbrev pub IsLawfulHandset : HandsetOptions → Type 0
+IsLawfulHandset options =
+    IsFingers options.fingers × IsPaging options.paging
+    × IsLawfulTraffic options.paging options.traffic
 
 -- from one to three of them, the best phase first
 abbrev pub AreReady : Near → Type 0

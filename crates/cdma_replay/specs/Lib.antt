@@ -4,7 +4,7 @@ pub mod Find
 pub mod Hearing
 pub mod MadeLaws
 pub mod Make
-pub mod OneWord
+pub mod OneCodeword
 pub mod Openings
 pub mod Ranks
 pub mod Replies

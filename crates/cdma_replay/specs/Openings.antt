@@ -2,7 +2,7 @@
 use Rattle.std.specs.Prelude.{◌≡◌, ℕ, ◌≤◌, List, [], take}
 use Rattle.chip_core.specs.declared.sample.Sample.{Sample}
 use Rattle.cdma_io.specs.declared.header.Header.{Header}
-use Rattle.cdma_words.specs.Words.{IsBase, IsFingers, IsTop, IsWidth}
+use Rattle.command_line.specs.Args.{IsBase, IsFingers, IsTop, IsWidth}
 use Rattle.pilot_search.specs.BestIn.{IsBestIn}
 use Rattle.pilot_search.specs.declared.sweeping.Best.{Best}
 use Rattle.heard_events.specs.declared.event.Event.{Event}
@@ -10,7 +10,7 @@ use Rattle.heard_events.specs.declared.event.Event.TheVariants as told
 use Rattle.event_tap.specs.EventLines.{event_line}
 use Rattle.event_tap.specs.Taps.{KeptTap}
 use Rattle.tuned_listener.specs.TunedTexts.{IsLawfulTuned}
-use Rattle.cdma_replay.specs.Hearing.{ByFrames, ByTaps, IsLawfulReceiver, Listening, Nobody}
+use Rattle.cdma_replay.specs.Hearing.{ByFrames, ByTaps, IsLawfulHandset, Listening, Nobody}
 use Rattle.cdma_replay.specs.Hearing.{first_text, listening, tuning_for, waiting}
 use Rattle.cdma_replay.specs.Ranks.{ranks_text}
 use Rattle.cdma_replay.specs.declared.opening.Shown.{Shown}
@@ -18,10 +18,10 @@ use Rattle.cdma_replay.specs.declared.opening.Shown.TheVariants.{Followed, Found
 use Rattle.cdma_replay.specs.declared.purpose.Purpose.{Purpose}
 use Rattle.cdma_replay.specs.declared.purpose.Purpose.TheVariants.{Find, Follow, Survey, Tuned}
 
--- a receiver, a channel or the numbers of a survey, as words name them
+-- a receiver, a channel or the numbers of a survey, as arguments name them
 abbrev pub IsLawfulPurpose : Purpose → Type 0
 IsLawfulPurpose Find = Unit {0}
-IsLawfulPurpose (Follow receiver) = IsLawfulReceiver receiver
+IsLawfulPurpose (Follow options) = IsLawfulHandset options
 IsLawfulPurpose (Tuned fingers channel text) = IsFingers fingers × IsLawfulTuned channel text
 IsLawfulPurpose (Survey base width top) = IsBase base × IsWidth width × IsTop top
 
@@ -31,15 +31,15 @@ IsBest first best = IsBestIn first 0 32768 best.phase best.energy
 
 -- who hears the file: these taps, where a handset follows the pilot that was found
 abbrev pub listening_in : List KeptTap → Shown → Header → List Sample → Listening
-listening_in taps (Followed best receiver) header first =
-    ByTaps (tuning_for header first receiver) taps
+listening_in taps (Followed best options) header first =
+    ByTaps (tuning_for header first options) taps
 listening_in taps (TunedTo best fingers channel text) header first =
     ByFrames (tuning_for header first (waiting fingers)) channel text
 listening_in taps shown header first = Nobody
 
 -- a handset can follow it, where one does
 abbrev pub IsFollowable : List Sample → Shown → Type 0
-IsFollowable first (Followed best receiver) = IsBest first best × IsLawfulReceiver receiver
+IsFollowable first (Followed best options) = IsBest first best × IsLawfulHandset options
 IsFollowable first (TunedTo best fingers channel text) =
     IsBest first best × IsFingers fingers × IsLawfulTuned channel text
 IsFollowable first shown = Unit {0}
@@ -55,7 +55,7 @@ pilot_event best = told.Pilot best.phase best.energy
 -- the text that tells of it, where nobody hears the file
 abbrev pub shown_text : Shown → List ℕ
 shown_text (Found best) = event_line (pilot_event best)
-shown_text (Followed best receiver) = []
+shown_text (Followed best options) = []
 shown_text (TunedTo best fingers channel text) = []
 shown_text (Ranks ranks top) = ranks_text (take top ranks)
 

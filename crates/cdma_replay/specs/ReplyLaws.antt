@@ -19,15 +19,15 @@ use Rattle.tuned_listener.specs.TunedTexts.{tuned_text}
 use Rattle.tuned_listener.specs.declared.tuned_text.TunedText.{TunedText}
 use Rattle.tuned_listener.specs.declared.tuned_text.TunedText.TheVariants.{Listed, RateSetTwo}
 use Rattle.tuned_listener.specs.declared.tuned_text.TunedText.TheVariants.{Slots}
-use Rattle.cdma_words.specs.declared.job.Job.{Job}
-use Rattle.cdma_words.specs.declared.job.Job.TheVariants as jobs
+use Rattle.command_line.specs.declared.job.Job.{Job}
+use Rattle.command_line.specs.declared.job.Job.TheVariants as jobs
 use Rattle.cdma_replay.specs.Hearing.{end_when, tuning_for, waiting}
 use Rattle.cdma_replay.specs.Tasks.{traffic_with}
 use Rattle.cdma_replay.specs.Make.{made_file}
 use Rattle.cdma_replay.specs.Ranks.{survey_text}
 use Rattle.cdma_replay.specs.Replies.{IsReply, Reply}
 use Rattle.cdma_replay.specs.Trials.{trial_line}
-use Rattle.cdma_replay.specs.declared.handset.Receiver.{Receiver}
+use Rattle.cdma_replay.specs.declared.handset.HandsetOptions.{HandsetOptions}
 use Rattle.cdma_replay.specs.declared.status.Status.TheVariants.{Done}
 
 -- for each job and each list of bytes there is a reply that is owed
@@ -70,12 +70,12 @@ FindOwesThePilot =
 -- what the taps make of all events of a handset, the pilot first
 abbrev pub FollowOwesTheEvents : Type 0
 FollowOwesTheEvents =
-    (forms : List ℕ) (span workers : ℕ) (receiver : Receiver) (limits bytes : List ℕ)
+    (forms : List ℕ) (span workers : ℕ) (options : HandsetOptions) (limits bytes : List ℕ)
     (header : Header) (samples : List Sample) →
     IsSampleFile bytes header samples → span ≤ length samples →
-    let t = tuning_for header (take span samples) receiver in
+    let t = tuning_for header (take span samples) options in
     IsReply forms
-    (jobs.Follow span workers receiver.fingers receiver.paging receiver.traffic limits) bytes
+    (jobs.Follow span workers options.fingers options.paging options.traffic limits) bytes
     (Ok (
       run_text (kept_by limits forms) (events t samples),
       end_when (is_some (mark t samples (length samples))),
@@ -90,7 +90,7 @@ OwesTheFrames job span fingers channel text =
     IsReply forms job bytes
     (Ok (tuned_text text t channel samples, end_when (is_some (mark t samples (length samples)))))
 
--- for `rate2` of rate set 2, for `list` of rate set 1 by lists of words, for `idle` in slots
+-- for `rate2` of rate set 2, for `list` of rate set 1 by lists of codewords, for `idle` in slots
 abbrev pub Rate2OwesTheFrames : Type 0
 Rate2OwesTheFrames =
     (span workers fingers offset esn row : ℕ) →

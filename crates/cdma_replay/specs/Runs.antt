@@ -1,8 +1,8 @@
--- What a run of the program owes its streams: that of its words, with a tap of each form, and what
--- is written passed on.
+-- What a run of the program owes its streams: that of its arguments, with a tap of each form, and
+-- what is written passed on.
 use Rattle.std.specs.Prelude.{◌≡◌, ◌⊎◌, ℕ, List, [], ◌∷◌, Option, None, Some, IfSome}
 use Rattle.std.specs.Io.KnownBytes.{IsAtEnd, Keeps}
-use Rattle.cdma_words.specs.declared.job.Job.{Job}
+use Rattle.command_line.specs.declared.job.Job.{Job}
 use Rattle.cdma_replay.specs.declared.status.Status.{Status}
 use Rattle.cdma_replay.specs.declared.status.Status.TheVariants as ends
 use Rattle.cdma_replay.specs.Find.{IsEnd}
@@ -14,9 +14,9 @@ use Rattle.cdma_replay.specs.Status.{code_of}
 abbrev pub each_form : List ℕ
 each_form = 0 ∷ 1 ∷ 2 ∷ 3 ∷ []
 
--- A run ended so whose words name this job, or none, with taps of these forms, over a source that
--- told these bytes and then tells those that are left, and a sink that told these and then those;
--- where a read failed, or a write, is a type.
+-- A run ended so whose arguments name this job, or none, with taps of these forms, over a source
+-- that told these bytes and then tells those that are left, and a sink that told these and then
+-- those; where a read failed, or a write, is a type.
 pub record IsRun (forms : List ℕ) (named : Option Job) (rest left old new : Option (List ℕ))
     (Misread Miswritten : Type 0) (status : Status) : Type 0 where
   pub bad_words : status ≡ ends.BadWords → named ≡ None
@@ -37,7 +37,7 @@ pub record IsRun (forms : List ℕ) (named : Option Job) (rest left old new : Op
       WritesPart (Begins forms job rest left) old new
   pub bound : (job : Job) → named ≡ Some job → BoundsInput job rest left
 
--- the words name no job that reads its input
+-- the arguments name no job that reads its input
 abbrev pub IsNotReading : Option Job → Type 0
 IsNotReading named = (job : Job) → named ≡ Some job → ¬ (ReadsInput job)
 

@@ -20,7 +20,7 @@ use Rattle.heard_events.specs.TrafficEvents.{frame_event}
 use Rattle.chip_core.specs.declared.assignment.Traffic.{Traffic}
 use Rattle.cdma_replay.specs.CleanFiles.{IsCellFile}
 use Rattle.clean_link.specs.HeardFrames.{frame_ends, is_received, received_frames, replaced_of}
-use Rattle.clean_link.specs.HeardFrames.{sent_bits, sent_commands, sent_frame_event, IsAssigned}
+use Rattle.clean_link.specs.HeardFrames.{sent_bits, sent_power_bits, sent_frame_event, IsAssigned}
 use Rattle.clean_link.specs.HeardFrames.{IsDistinctFrame, SendsSetOne, SendsSetTwo}
 use Rattle.clean_link.specs.ReceivedFrames.{cycled_frame2, sent_decoded2, IsDistinctFrame2}
 use Rattle.clean_link.specs.SentEvents.{told_with_sync}
@@ -28,7 +28,7 @@ use Rattle.tuned_listener.specs.TunedTexts.{tuned_text}
 use Rattle.tuned_listener.specs.declared.tuned_text.TunedText.{TunedText}
 use Rattle.tuned_listener.specs.declared.tuned_text.TunedText.TheVariants.{Listed, RateSetTwo}
 use Rattle.cdma_replay.specs.Hearing.{tuning_for}
-use Rattle.cdma_replay.specs.declared.handset.Receiver.{Receiver}
+use Rattle.cdma_replay.specs.declared.handset.HandsetOptions.{HandsetOptions}
 
 -- ---- any frames
 
@@ -47,16 +47,16 @@ IsSentText plan p Is None text = text ≡ []
 IsSentText plan p Is (Some superframes) text = AreSentLines plan p Is superframes text
 
 -- What is written so of a channel that the cell sends, of which something else is true, is this
--- text, behind the mark that the first whole sending of the sync channel tells.
+-- text, behind the mark that the first whole transmission of the sync channel tells.
 abbrev pub LinesComeBack : TunedText → (TrafficPlan → Type 0) →
     (CellPlan → TrafficPlan → ℕ → List ℕ → Type 0) → Type 0
 LinesComeBack form Sends Is = (width : Width) (script : List ℕ) (plan : CellPlan)
-    (p : TrafficPlan) (span : ℕ) (receiver : Receiver) (traffic : Traffic) (header : Header)
+    (p : TrafficPlan) (span : ℕ) (options : HandsetOptions) (traffic : Traffic) (header : Header)
     (samples : List Sample) →
-    IsCellFile width script plan span receiver.fingers header samples →
+    IsCellFile width script plan span options.fingers header samples →
     length samples ≡ header.count → Contains plan.traffic p → IsAssigned p traffic → Sends p →
     IsSentText plan p (Is plan p) (told_with_sync plan plan.sync)
-    (tuned_text form (tuning_for header (take span samples) receiver) (traffic_channel traffic)
+    (tuned_text form (tuning_for header (take span samples) options) (traffic_channel traffic)
     samples)
 
 -- ---- frames of rate set 1
@@ -67,7 +67,8 @@ LinesComeBack form Sends Is = (width : Width) (script : List ℕ) (plan : CellPl
 pub record IsSentLine (plan : CellPlan) (p : TrafficPlan) (frame : ℕ) (f : TrafficFrame)
     (line : List ℕ) : Type 0 where
   pub decoded : Decoded
-  pub spelled : line ≡ event_line (frame_event (frame_ends plan p frame) decoded (sent_commands f))
+  pub spelled : line ≡ event_line (frame_event (frame_ends plan p frame) decoded
+      (sent_power_bits f))
   pub back : IsDistinctFrame (replaced_of plan p frame) f →
       line ≡ event_line (sent_frame_event (frame_ends plan p frame) f)
 
@@ -76,7 +77,7 @@ abbrev pub IsLineOfSetOne : CellPlan → TrafficPlan → ℕ → List ℕ → Ty
 IsLineOfSetOne plan p frame line = (f : TrafficFrame)
     × (cycled_frame (frames_of plan p) frame ≡ f ∷ []) × IsSentLine plan p frame f line
 
--- What is listed of a channel of rate set 1 has these lines, however many words of a rate are
+-- What is listed of a channel of rate set 1 has these lines, however many codewords of a rate are
 -- looked at.
 abbrev pub ListedLinesComeBack : Type 0
 ListedLinesComeBack = (k : ℕ) → 1 ≤ k → LinesComeBack (Listed k) SendsSetOne IsLineOfSetOne
@@ -88,7 +89,7 @@ ListedLinesComeBack = (k : ℕ) → 1 ≤ k → LinesComeBack (Listed k) SendsSe
 pub record IsSentLine2 (plan : CellPlan) (p : TrafficPlan) (frame : ℕ) (f : TrafficFrame2)
     (line : List ℕ) : Type 0 where
   pub decoded : Decoded2
-  pub spelled : line ≡ frame2_line (frame_ends plan p frame) decoded (sent_bits f.commands)
+  pub spelled : line ≡ frame2_line (frame_ends plan p frame) decoded (sent_bits f.power_bits)
   pub back : IsDistinctFrame2 (replaced_of plan p frame) f → decoded ≡ sent_decoded2 plan p frame f
 
 -- the one that is sent at a number has this line

@@ -8,8 +8,8 @@ use Rattle.cdma_io.specs.SampleFile.{IsSampleFile}
 use Rattle.cdma_io.specs.declared.header.Header.{Header}
 use Rattle.cell_plan.specs.declared.plan.CellPlan.{CellPlan}
 use Rattle.cell_plan.specs.declared.plan.TrafficPlan.{TrafficPlan}
-use Rattle.cdma_words.specs.declared.job.Job.{Job}
-use Rattle.cdma_words.specs.declared.job.Job.TheVariants as jobs
+use Rattle.command_line.specs.declared.job.Job.{Job}
+use Rattle.command_line.specs.declared.job.Job.TheVariants as jobs
 use Rattle.chip_core.specs.declared.assignment.Traffic.{Traffic}
 use Rattle.cdma_replay.specs.CleanFiles.{IsCellFile}
 use Rattle.clean_link.specs.HeardFrames.{IsAssigned, SendsSetOne, SendsSetTwo}
@@ -18,14 +18,15 @@ use Rattle.cdma_replay.specs.Hearing.{clean_end}
 use Rattle.cdma_replay.specs.Replies.{IsReply, Reply}
 use Rattle.cdma_replay.specs.SentLines.{IsLineOfSetOne, IsLineOfSetTwo, IsSentText}
 
--- a whole text that has one line for each frame, and the end that the first whole sending tells
+-- a whole text that has one line for each frame, and the end that the first whole transmission
+-- tells
 abbrev pub IsSentReply : CellPlan → TrafficPlan → (ℕ → List ℕ → Type 0) → Reply → Type 0
 IsSentReply plan p Is (Ok whole) =
     IsSentText plan p Is (told_with_sync plan plan.sync) whole.0 × (whole.1 ≡ clean_end plan)
 IsSentReply plan p Is (Err end) = ⊥
 
 -- A sample file of as many samples as the span is or more, which holds what a script's cell sends,
--- and words that name a traffic channel that the cell sends.
+-- and arguments that name a traffic channel that the cell sends.
 pub record IsHeardFrom (script bytes : List ℕ) (width : Width) (plan : CellPlan) (p : TrafficPlan)
     (span fingers : ℕ) (traffic : Traffic) (header : Header) (samples : List Sample) :
     Type 0 where
@@ -52,7 +53,7 @@ Rate2RepliesComeBack = RepliesComeBack
     jobs.Rate2 span workers fingers traffic.offset traffic.esn traffic.row) SendsSetTwo
     IsLineOfSetTwo
 
--- and `list` of a channel of rate set 1, with any number of words of a rate from 1 on
+-- and `list` of a channel of rate set 1, with any number of codewords of a rate from 1 on
 abbrev pub ListRepliesComeBack : Type 0
 ListRepliesComeBack = (k : ℕ) → 1 ≤ k → RepliesComeBack
     (λ span workers fingers traffic.

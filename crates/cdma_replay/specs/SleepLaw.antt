@@ -10,7 +10,7 @@ use Rattle.heard_events.specs.declared.channel.Channel.TheVariants.{Paging}
 use Rattle.heard_events.specs.declared.mark.Mark.{Mark}
 use Rattle.tuned_listener.specs.SlotLaws.{AgreeWhereHeard}
 use Rattle.tuned_listener.specs.declared.tuned_text.TunedText.TheVariants.{Slots}
-use Rattle.cdma_words.specs.Words.{IsFingers}
+use Rattle.command_line.specs.Args.{IsFingers}
 use Rattle.cdma_replay.specs.Hearing.{tuning_for, waiting}
 use Rattle.cdma_replay.specs.Replies.{IsFileReply, Reply}
 use Rattle.cdma_replay.specs.declared.purpose.Purpose.TheVariants.{Tuned}

@@ -13,28 +13,28 @@ use Rattle.clean_link.specs.CleanLink.{IsPlanFile}
 use Rattle.slot_link.specs.SentSlots.{slots_sent}
 use Rattle.tuned_listener.specs.TunedTexts.{tuned_text}
 use Rattle.tuned_listener.specs.declared.tuned_text.TunedText.TheVariants.{Slots}
-use Rattle.cdma_words.specs.declared.job.Job.TheVariants as jobs
+use Rattle.command_line.specs.declared.job.Job.TheVariants as jobs
 use Rattle.cdma_replay.specs.CleanFiles.{IsCellFile}
 use Rattle.cdma_replay.specs.Hearing.{clean_end, tuning_for}
 use Rattle.cdma_replay.specs.Replies.{IsReply, Reply}
-use Rattle.cdma_replay.specs.declared.handset.Receiver.{Receiver}
+use Rattle.cdma_replay.specs.declared.handset.HandsetOptions.{HandsetOptions}
 
 -- What is written of a paging channel that a lawful cell sends, for a handset that sleeps through
 -- all slots but those of a key and a cycle, is slot by slot the slot's line and the lines of its
 -- pages.
 abbrev pub FileSlotsComeBack : Type 0
 FileSlotsComeBack =
-    (width : Width) (plan : CellPlan) (p : PagingPlan) (span : ℕ) (receiver : Receiver)
+    (width : Width) (plan : CellPlan) (p : PagingPlan) (span : ℕ) (options : HandsetOptions)
     (header : Header) (samples : List Sample) (key cycle : ℕ) →
-    IsPlanFile width plan span receiver.fingers header samples → length samples ≡ header.count →
+    IsPlanFile width plan span options.fingers header samples → length samples ≡ header.count →
     Contains plan.paging p →
-    tuned_text (Slots key cycle) (tuning_for header (take span samples) receiver) (Paging p.number)
+    tuned_text (Slots key cycle) (tuning_for header (take span samples) options) (Paging p.number)
     samples
     ≡ slots_sent key cycle plan p
 
 -- So each reply that `idle` is owed of a sample file with as many samples as the span is, or more,
--- which holds what a script's cell sends, where its words name a paging channel that the cell
--- sends, is a whole text of just these lines, with the end that the whole sendings tell.
+-- which holds what a script's cell sends, where its arguments name a paging channel that the cell
+-- sends, is a whole text of just these lines, with the end that the whole transmissions tell.
 abbrev pub IdleRepliesComeBack : Type 0
 IdleRepliesComeBack =
     (forms script bytes : List ℕ) (width : Width) (plan : CellPlan) (p : PagingPlan)

@@ -5,9 +5,9 @@ use Rattle.heard_events.specs.declared.channel.Channel.TheVariants as channels
 use Rattle.tuned_listener.specs.declared.tuned_text.TunedText.{TunedText}
 use Rattle.tuned_listener.specs.declared.tuned_text.TunedText.TheVariants.{Listed, RateSetTwo}
 use Rattle.tuned_listener.specs.declared.tuned_text.TunedText.TheVariants.{Slots}
-use Rattle.cdma_words.specs.Words.{IsWorkers}
-use Rattle.cdma_words.specs.declared.job.Job.{Job}
-use Rattle.cdma_words.specs.declared.job.Job.TheVariants as jobs
+use Rattle.command_line.specs.Args.{IsWorkers}
+use Rattle.command_line.specs.declared.job.Job.{Job}
+use Rattle.command_line.specs.declared.job.Job.TheVariants as jobs
 use Rattle.chip_core.specs.declared.assignment.Traffic.{Traffic}
 use Rattle.cdma_replay.specs.declared.purpose.Purpose.TheVariants as purposes
 use Rattle.cdma_replay.specs.declared.receiving.Reception.{Reception}
@@ -70,7 +70,7 @@ task_of (jobs.Survey span workers base width top) =
 task_of (jobs.Make width) = Make width
 task_of (jobs.Trial number workers) = Trial number workers
 
--- its numbers are those that words may name
+-- its numbers are those that arguments may name
 abbrev pub IsLawfulTask : Task → Type 0
 IsLawfulTask (Receive r limits) =
     (r.span ≤ 32768) × IsWorkers r.workers × IsLawfulPurpose r.purpose

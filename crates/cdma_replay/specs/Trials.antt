@@ -12,7 +12,7 @@ use Rattle.heard_events.specs.Tuning.{Tuning}
 use Rattle.heard_events.specs.declared.event.Event.{Event}
 use Rattle.heard_events.specs.declared.event.Event.TheVariants.{Sync, Paging, Frame}
 use Rattle.cdma_replay.specs.Hearing.{tuning_for}
-use Rattle.cdma_replay.specs.declared.handset.Receiver.{Receiver}
+use Rattle.cdma_replay.specs.declared.handset.HandsetOptions.{HandsetOptions}
 use Rattle.cdma_replay.specs.declared.trial.Counts.{Counts}
 
 -- ---- kinds of events
@@ -26,11 +26,11 @@ is_paging (Paging n capsule message) = true
 is_paging event = false
 
 abbrev pub is_frame : Event → Bool
-is_frame (Frame n rate good bits commands) = true
+is_frame (Frame n rate good bits power_bits) = true
 is_frame event = false
 
 abbrev pub is_good : Event → Bool
-is_good (Frame n rate good bits commands) = good
+is_good (Frame n rate good bits power_bits) = good
 is_good event = false
 
 -- ---- counts
@@ -69,8 +69,8 @@ pub record LeavesRoom (counts : Counts) (more : ℕ) : Type 0 where
 -- ---- the summary
 
 -- one finger, paging channel 1, and the traffic channel with the hundred frames
-abbrev pub trial_receiver : ℕ → Receiver
-trial_receiver number = record {
+abbrev pub trial_options : ℕ → HandsetOptions
+trial_options number = record {
   fingers = 1;
   paging = 1;
   traffic = Some (record { esn = trial_serial_number number; row = 8; offset = 0 });
@@ -86,7 +86,7 @@ trial_span number = take 2048 (trial_samples number)
 
 abbrev pub trial_tuning : ℕ → Tuning
 trial_tuning number =
-    tuning_for (header_of Sixteen (trial_plan number)) (trial_span number) (trial_receiver number)
+    tuning_for (header_of Sixteen (trial_plan number)) (trial_span number) (trial_options number)
 
 -- `trial number=N samples=S phase=P syncs=A pagings=B frames=C good=D` and LF
 unfoldable pub summary : ℕ → ℕ → ℕ → Counts → List ℕ

@@ -8,24 +8,24 @@ use Rattle.pilot_search.specs.Search.{best_phase}
 use Rattle.cell_plan.specs.declared.plan.CellPlan.{CellPlan}
 use Rattle.clean_link.specs.CleanLink.{IsOnPath, IsPlanFile}
 use Rattle.cdma_replay.specs.Hearing.{tuning_for}
-use Rattle.cdma_replay.specs.declared.handset.Receiver.{Receiver}
+use Rattle.cdma_replay.specs.declared.handset.HandsetOptions.{HandsetOptions}
 
 -- Each handset of a run is tuned by the file's header and by the pilot in its first samples, as
 -- many as the span is, over the receiver's fingers.
 abbrev pub HandsetsAreTuned : Type 0
 HandsetsAreTuned =
-    (span : ℕ) (header : Header) (samples : List Sample) (receiver : Receiver) →
+    (span : ℕ) (header : Header) (samples : List Sample) (options : HandsetOptions) →
     let first = take span samples in
-    let t = tuning_for header first receiver in
+    let t = tuning_for header first options in
     (t.count ≡ header.count) × (t.phase ≡ best_phase first)
-    × (t.deltas ≡ near_deltas first (best_phase first) receiver.fingers)
+    × (t.deltas ≡ near_deltas first (best_phase first) options.fingers)
     × (t.check30 ≡ header.check30) × (t.check16 ≡ header.check16)
 
 -- So where the file holds what a lawful cell sends, the search finds the cell's path and there is
 -- one finger, it lies on that path.
 abbrev pub HandsetsLieOnThePath : Type 0
 HandsetsLieOnThePath =
-    (width : Width) (plan : CellPlan) (span : ℕ) (receiver : Receiver) (header : Header)
+    (width : Width) (plan : CellPlan) (span : ℕ) (options : HandsetOptions) (header : Header)
     (samples : List Sample) →
-    IsPlanFile width plan span receiver.fingers header samples → length samples ≡ header.count →
-    IsOnPath plan (tuning_for header (take span samples) receiver)
+    IsPlanFile width plan span options.fingers header samples → length samples ≡ header.count →
+    IsOnPath plan (tuning_for header (take span samples) options)

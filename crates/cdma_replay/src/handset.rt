@@ -6,7 +6,7 @@ ghost use Rattle.cdma_io.specs.SampleFile.{IsLawfulHeader};
 ghost use Rattle.pilot_search.specs.BestIn.{IsBestIn};
 ghost use Rattle.mobile_core.specs.Standing.{StandsFor, has_room};
 ghost use Rattle.tuned_listener.specs.Marking.{IsUntold};
-ghost use Rattle.cdma_replay.specs.Hearing.{AreNearTo, AreReady, IsLawfulReceiver, tuning_for};
+ghost use Rattle.cdma_replay.specs.Hearing.{AreNearTo, AreReady, IsLawfulHandset, tuning_for};
 
 use cdma_io::Header;
 use chip_core::OutOfMemory;
@@ -17,7 +17,7 @@ use std::alloc::Global;
 
 /// How a handset receives a file.
 #[derive(Clone, Copy, PartialEq, Eq, Debug)]
-pub struct Receiver {
+pub struct HandsetOptions {
     /// Over how many fingers it follows the signal, 1 to 3.
     pub fingers: u8,
     /// The number of the paging channel that it follows, 1 to 7.
@@ -32,24 +32,24 @@ pub struct Receiver {
 pub fn handset(
     alloc: Global,
     header: Header,
-    receiver: Receiver,
+    options: HandsetOptions,
     best: Best,
     near: Near,
 ) -> Result<Mobile, OutOfMemory>
     requires header { IsLawfulHeader header }
-    requires receiver { IsLawfulReceiver receiver }
+    requires options { IsLawfulHandset options }
     requires near { AreReady near }
     ensures given { (first : List TheSample) →
         IsBestIn first 0 32768 best.phase best.energy →
-        AreNearTo first best.phase receiver near →
-        IfOk result (λ mobile. StandsFor (tuning_for header first receiver) mobile [] []) }
+        AreNearTo first best.phase options near →
+        IfOk result (λ mobile. StandsFor (tuning_for header first options) mobile [] []) }
     ensures untold { IfOk result IsUntold }
     ensures room { IfOk result (λ mobile. has_room mobile ≡ header.count) }
 {
     let settings = Settings {
         fingers: near.count,
-        paging: receiver.paging,
-        traffic: receiver.traffic,
+        paging: options.paging,
+        traffic: options.traffic,
         check30: header.check30,
         check16: header.check16,
         count: header.count,

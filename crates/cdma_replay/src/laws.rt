@@ -1,9 +1,9 @@
 //! Laws of the definitions: each function does nothing, and its contract is the law.
 
 ghost use Rattle.std.specs.Prelude.{◌≡◌, ℕ, List};
-ghost use Rattle.cdma_words.specs.declared.job.Job.{Job as TheJob};
+ghost use Rattle.command_line.specs.declared.job.Job.{Job as TheJob};
 ghost use Rattle.cdma_replay.specs.MadeLaws.{IsCleanWhenMade, IsCleanWhenSent, IsReadableWhenMade};
-ghost use Rattle.cdma_replay.specs.OneWord.{OneWordFollows, OneWordFollowsFrame};
+ghost use Rattle.cdma_replay.specs.OneCodeword.{OneCodewordFollows, OneCodewordFollowsFrame};
 ghost use Rattle.cdma_replay.specs.Replies.{IsReply, Reply};
 ghost use Rattle.cdma_replay.specs.ReplyLaws.{EachInputIsOwed, FindOwesThePilot};
 ghost use Rattle.cdma_replay.specs.ReplyLaws.{FollowOwesTheEvents, IdleOwesTheSlots};
@@ -48,7 +48,8 @@ pub fn rate2_owes_the_frames()
     ensures { Rate2OwesTheFrames }
 {}
 
-/// `list` owes of it the lines of a traffic channel's frames by lists of words, from the mark on.
+/// `list` owes of it the lines of a traffic channel's frames by lists of codewords, from the mark
+/// on.
 pub fn list_owes_the_frames()
     ensures { ListOwesTheFrames }
 {}
@@ -86,26 +87,26 @@ pub fn made_files_are_clean_links()
 /// In a file that holds what a script's cell sends, where the search finds the cell's path and
 /// there is one finger, a traffic channel of rate set 2 that the cell sends has one line for each
 /// of its frames that begins at the mark or behind it and lies in the file, in order, at the
-/// frame's own end. Each has the power control bits that were sent, and, where no other word of any
-/// rate of the set has the frame's symbols at the places that they leave, its rate and its
+/// frame's own end. Each has the power control bits that were sent, and, where no other codeword of
+/// any rate of the set has the frame's symbols at the places that they leave, its rate and its
 /// information bits, as a good frame.
 pub fn lines_of_rate_set_two_come_back()
     ensures { SetTwoLinesComeBack }
 {}
 
-/// What is listed of a traffic channel with one word of a rate is, frame by frame, the line of the
-/// frame that a handset hears as long as the reference's pilot is active alone; so is all that is
-/// written of the channel behind the mark.
-pub fn listing_one_word_is_following()
-    ensures frame { OneWordFollowsFrame }
-    ensures text { OneWordFollows }
+/// What is listed of a traffic channel with one codeword of a rate is, frame by frame, the line of
+/// the frame that a handset hears as long as the reference's pilot is active alone; so is all that
+/// is written of the channel behind the mark.
+pub fn listing_one_codeword_is_following()
+    ensures frame { OneCodewordFollowsFrame }
+    ensures text { OneCodewordFollows }
 {}
 
-/// In such a file a traffic channel of rate set 1 that the cell sends has, however many words of a
-/// rate are listed, one line for each of its frames that begins at the mark or behind it and lies
-/// in the file, in order, at the frame's own end. Each has the power control bits that were sent,
-/// and, where no other word of any rate of the set has the frame's symbols at the places that they
-/// leave, it is the line of the frame that was sent, as a good frame.
+/// In such a file a traffic channel of rate set 1 that the cell sends has, however many codewords
+/// of a rate are listed, one line for each of its frames that begins at the mark or behind it and
+/// lies in the file, in order, at the frame's own end. Each has the power control bits that were
+/// sent, and, where no other codeword of any rate of the set has the frame's symbols at the places
+/// that they leave, it is the line of the frame that was sent, as a good frame.
 pub fn listed_lines_come_back()
     ensures { ListedLinesComeBack }
 {}
@@ -122,7 +123,7 @@ pub fn slots_of_a_file_come_back()
 /// Each reply that `rate2` owes of such a file, of a traffic channel of rate set 2 that the cell
 /// sends, is a whole text of just these lines, and so is that which `list` owes, of one of rate set
 /// 1, and that which `idle` owes, of a paging channel that the cell sends; the run ends well where
-/// a sending of the sync channel lies in the file whole, and else with `NoSync`.
+/// a transmission of the sync channel lies in the file whole, and else with `NoSync`.
 pub fn replies_come_back()
     ensures rate2 { Rate2RepliesComeBack }
     ensures list { ListRepliesComeBack }
@@ -138,10 +139,10 @@ pub fn handsets_are_tuned_by_the_file()
     ensures path { HandsetsLieOnThePath }
 {}
 
-/// What `idle` owes, with words that are lawful, doesn't hang on what its handset sleeps through:
-/// two sample files of one header, of which the first tells the handset a mark, and that agree
-/// before the mark and, path by path, in the samples of the slots that it hears, are owed the same
-/// bytes and the same end.
+/// What `idle` owes, with arguments that are lawful, doesn't hang on what its handset sleeps
+/// through: two sample files of one header, of which the first tells the handset a mark, and that
+/// agree before the mark and, path by path, in the samples of the slots that it hears, are owed the
+/// same bytes and the same end.
 pub fn what_is_slept_through_changes_no_reply()
     ensures { SleepChangesNoReply }
 {}

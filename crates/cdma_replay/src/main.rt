@@ -1,6 +1,6 @@
 //! `cdma_replay` reads a file of received samples and writes what a handset finds in it.
 //!
-//! All that the program does is [`replay`], over the words of its command line, a source and a
+//! All that the program does is [`replay`], over the arguments of its command line, a source and a
 //! sink; [`program::run`] says what the process does with what it owes. What is here makes these of
 //! the process: its arguments, standard input and standard output.
 #![tactic(auto)]
@@ -31,22 +31,22 @@ mod worker_tests;
 mod workspace;
 
 use cdma_io::{ReaderSource, WriterSink};
-pub use cdma_words::{Job, WordFault, words_of};
-use program::{run, without_words};
+pub use command_line::{Job, WordFault, words_of};
+use program::{run, without_args};
 pub use replaying::replay;
 pub use status::Status;
 use std::process::ExitCode;
 use std::rt::Env;
 use std::{env, io};
 
-/// The words that the process was given, its own name the first.
-fn words_of_process<R: Env + AllocGlobal>(rt: &R) -> Result<Vec<String>, Status> {
-    let words = env::args(rt).map_err(without_words)?;
-    words.collect(rt.alloc()).map_err(|_| Status::NoMemory)
+/// The arguments that the process was given, its own name the first.
+fn args_of_process<R: Env + AllocGlobal>(rt: &R) -> Result<Vec<String>, Status> {
+    let args = env::args(rt).map_err(without_args)?;
+    args.collect(rt.alloc()).map_err(|_| Status::NoMemory)
 }
 
 fn main(rt: HostRuntime) -> ExitCode {
     let mut source = ReaderSource::new(rt.reader());
     let mut sink = WriterSink::new(io::writer(&rt));
-    run(&rt, words_of_process(&rt), &mut source, &mut sink)
+    run(&rt, args_of_process(&rt), &mut source, &mut sink)
 }

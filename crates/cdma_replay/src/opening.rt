@@ -5,7 +5,7 @@ ghost use Rattle.std.specs.Prelude.{◌≡◌, ◌≤◌, ◌++◌, ℕ, List, [
 ghost use Rattle.cdma_io.specs.Outside.{AppendsPrefix, HasCause};
 ghost use Rattle.cdma_io.specs.SampleFile.{IsLawfulHeader};
 ghost use Rattle.cdma_io.specs.declared.header.Header.{Header as TheHeader};
-ghost use Rattle.cdma_words.specs.Words.{IsFingers, IsWorkers};
+ghost use Rattle.command_line.specs.Args.{IsFingers, IsWorkers};
 ghost use Rattle.event_tap.specs.Taps.{IsKept, KeptTap};
 ghost use Rattle.tuned_listener.specs.TunedListening.{ListensTuned, tuned_room};
 ghost use Rattle.tuned_listener.specs.TunedTexts.{IsLawfulTuned};
@@ -14,7 +14,7 @@ ghost use Rattle.cdma_replay.specs.Hearing.{told, tuning_for, waiting};
 ghost use Rattle.cdma_replay.specs.Openings.{IsBest, IsFollowable, IsLawfulPurpose, IsTellable};
 ghost use Rattle.cdma_replay.specs.Openings.{Shows, listening_in, pilot_event, shown_text};
 
-use crate::handset::{Receiver, handset};
+use crate::handset::{HandsetOptions, handset};
 use crate::listener::Listener;
 use crate::purpose::Purpose;
 use crate::ranks::write_ranks;
@@ -39,7 +39,7 @@ pub enum Shown {
         /// Its phase, with the energy there.
         best: Best,
         /// How the handset receives.
-        receiver: Receiver,
+        options: HandsetOptions,
     },
     /// The pilot of the base station one of whose channels is heard.
     TunedTo {
@@ -83,9 +83,9 @@ pub fn find_first<R: Threads + Sync, G: Gate + Sync>(
             let best = search(rt, alloc, first, codes, workers, gate)?;
             Ok(Shown::Found(best))
         }
-        Purpose::Follow(receiver) => {
+        Purpose::Follow(options) => {
             let best = search(rt, alloc, first, codes, workers, gate)?;
-            Ok(Shown::Followed { best, receiver })
+            Ok(Shown::Followed { best, options })
         }
         Purpose::Tuned {
             fingers,
@@ -129,12 +129,12 @@ fn tuned_listener(
     ensures room { IfOk result (λ tuned. tuned_room tuned ≡ header.count) }
 {
     let Best { phase, .. } = best;
-    let receiver = Receiver {
+    let options = HandsetOptions {
         fingers,
         paging: 1,
         traffic: None,
     };
-    let mobile = handset(alloc, header, receiver, best, near)?;
+    let mobile = handset(alloc, header, options, best, near)?;
     TunedListener::open(alloc, mobile, channel, text, header.check30, phase, near)
 }
 
@@ -154,9 +154,9 @@ pub fn listener_for(
     ensures room { IfOk result (λ listener. HasRoom listener header.count) }
 {
     match shown {
-        Shown::Followed { best, receiver } => {
-            let paths = near(first, codes, *best, receiver.fingers);
-            let mobile = handset(alloc, header, *receiver, *best, paths)?;
+        Shown::Followed { best, options } => {
+            let paths = near(first, codes, *best, options.fingers);
+            let mobile = handset(alloc, header, *options, *best, paths)?;
             Ok(Listener::Handset(mobile))
         }
         Shown::TunedTo {

@@ -59,7 +59,7 @@ fn ends_where_a_read_fails(rt: HostRuntime) -> Result<(), Fail> {
         (FIND, FILE, 5, 70, 57, LINE),
         ("make", SCRIPT, 7, 15, 16, MADE),
     ];
-    for (words, input, source_piece, calls, silent, text) in rows {
+    for (args, input, source_piece, calls, silent, text) in rows {
         let input = input.bytes(rt.alloc())?;
         for source_fails in 1..calls + 2 {
             let outside = Outside {
@@ -77,13 +77,13 @@ fn ends_where_a_read_fails(rt: HostRuntime) -> Result<(), Fail> {
             } else {
                 text
             };
-            expect(&rt, words, input.as_slice(), outside, end, written)?;
+            expect(&rt, args, input.as_slice(), outside, end, written)?;
         }
     }
     Ok(())
 }
 
-/// Words, an input, how many octets a sink takes at once, which call fails, and what it took
+/// Arguments, an input, how many octets a sink takes at once, which call fails, and what it took
 /// before.
 type Broken = (&'static str, Input, usize, u64, &'static [u8]);
 
@@ -114,7 +114,7 @@ static BROKEN: [Broken; 9] = [
 
 #[test]
 fn ends_where_a_write_fails(rt: HostRuntime) -> Result<(), Fail> {
-    for (words, input, sink_piece, sink_fails, written) in &BROKEN {
+    for (args, input, sink_piece, sink_fails, written) in &BROKEN {
         let input = input.bytes(rt.alloc())?;
         let outside = Outside {
             sink_piece: *sink_piece,
@@ -123,7 +123,7 @@ fn ends_where_a_write_fails(rt: HostRuntime) -> Result<(), Fail> {
         };
         expect(
             &rt,
-            words,
+            args,
             input.as_slice(),
             outside,
             Status::WriteFault,

@@ -1,4 +1,4 @@
-//! What the process does with its words and its streams.
+//! What the process does with its arguments and its streams.
 
 ghost use Rattle.std.specs.Prelude.{◌≡◌, ◌≢◌, Bool, IfErr, IfOk, IsTrue, OnErr, OnOk, drop, map};
 ghost use Rattle.std.specs.Prelude.{true};
@@ -6,7 +6,7 @@ ghost use Rattle.std.specs.Io.KnownBytes.{Keeps};
 ghost use Rattle.std.specs.IoError.{error_kind};
 ghost use Rattle.std.specs.Process.{exit_status};
 ghost use Rattle.cdma_io.specs.Outside.{HasCause, Rose};
-ghost use Rattle.cdma_words.specs.Words.{job_named};
+ghost use Rattle.command_line.specs.Args.{job_named};
 ghost use Rattle.cdma_replay.specs.Find.{IsEnd};
 ghost use Rattle.cdma_replay.specs.Runs.{ExitsBy, IsNotReading, IsRun, each_form};
 ghost use Rattle.cdma_replay.specs.Status.{code_of};
@@ -45,8 +45,8 @@ impl<W: Write> Output for WriterSink<W> {
     }
 }
 
-/// How a run ends that isn't given its words.
-pub fn without_words(refused: io::Error) -> Status
+/// How a run ends that isn't given its arguments.
+pub fn without_args(refused: io::Error) -> Status
     ensures memory { error_kind refused ≡ ErrorKind.OutOfMemory → result ≡ Status.NoMemory }
     ensures others { error_kind refused ≢ ErrorKind.OutOfMemory → result ≡ Status.BadWords }
 {
@@ -69,41 +69,41 @@ fn flushed(status: Status, flush: Result<(), Failed>) -> Status
     }
 }
 
-/// Runs the command that the words name, with these taps, and flushes the sink.
+/// Runs the command that the arguments name, with these taps, and flushes the sink.
 fn run_tapped<R: Threads + Sync, S: Source, K: Output>(
     rt: &R,
     alloc: Global,
-    words: &[String],
+    args: &[String],
     source: &mut S,
     sink: &mut K,
     taps: Vec<Box<dyn Tap>>,
 ) -> Status
-    ensures ran { IsRun (map (λ b. shape b) taps.items) (job_named words.now)
+    ensures ran { IsRun (map (λ b. shape b) taps.items) (job_named args.now)
         (S.rest source.old) (S.rest source.new) (K.written sink.old) (K.written sink.new)
         (Rose (S.faults source.old) (S.faults source.new))
         (Rose (K.faults sink.old) (K.faults sink.new)) result }
     ensures flushed { IsEnd result → IsTrue (K.is_flushed sink.new) }
-    ensures unread { IsNotReading (job_named words.now) → source.new ≡ source.old }
+    ensures unread { IsNotReading (job_named args.now) → source.new ≡ source.old }
 {
-    let status = replay(rt, alloc, words, source, sink, taps, &Open);
+    let status = replay(rt, alloc, args, source, sink, taps, &Open);
     let flush = sink.flush();
     flushed(status, flush)
 }
 
-/// Runs the command that the words name, with a tap of each form, and flushes the sink. It fails
-/// where there is no memory for the taps.
-fn run_words<R: AllocGlobal + Threads + Sync, S: Source, K: Output>(
+/// Runs the command that the arguments name, with a tap of each form, and flushes the sink. It
+/// fails where there is no memory for the taps.
+fn run_args<R: AllocGlobal + Threads + Sync, S: Source, K: Output>(
     rt: &R,
-    words: &[String],
+    args: &[String],
     source: &mut S,
     sink: &mut K,
 ) -> Result<Status, AllocError>
-    ensures ran { IfOk result (IsRun each_form (job_named words.now)
+    ensures ran { IfOk result (IsRun each_form (job_named args.now)
         (S.rest source.old) (S.rest source.new) (K.written sink.old) (K.written sink.new)
         (Rose (S.faults source.old) (S.faults source.new))
         (Rose (K.faults sink.old) (K.faults sink.new))) }
     ensures flushed { IfOk result (λ status. IsEnd status → IsTrue (K.is_flushed sink.new)) }
-    ensures unread { IsNotReading (job_named words.now) → source.new ≡ source.old }
+    ensures unread { IsNotReading (job_named args.now) → source.new ≡ source.old }
     ensures err { OnErr result ((source.new ≡ source.old) × (sink.new ≡ sink.old)) }
 {
     let alloc = rt.alloc();
@@ -112,41 +112,41 @@ fn run_words<R: AllocGlobal + Threads + Sync, S: Source, K: Output>(
     taps.push(Box::new(alloc, MessageTap::new())?)?;
     taps.push(Box::new(alloc, FrameTap::new())?)?;
     taps.push(Box::new(alloc, RawTap::new())?)?;
-    Ok(run_tapped(rt, alloc, words, source, sink, taps))
+    Ok(run_tapped(rt, alloc, args, source, sink, taps))
 }
 
-/// The words behind the first, which is the program's own name.
-fn words_behind_name(words: &[String]) -> &[String]
-    ensures { result.now ≡ drop 1 words.now }
+/// The arguments behind the first, which is the program's own name.
+fn args_behind_name(args: &[String]) -> &[String]
+    ensures { result.now ≡ drop 1 args.now }
 {
-    match words.split_first() {
+    match args.split_first() {
         Some((_name, behind)) => behind,
-        None => words,
+        None => args,
     }
 }
 
-/// Runs the command that the process was given, or ends as the want of its words says.
+/// Runs the command that the process was given, or ends as the want of its arguments says.
 #[tactic(auto, using(crate::proofs::Runs::starved_run))]
 fn run_given<R: AllocGlobal + Threads + Sync, S: Source, K: Output>(
     rt: &R,
-    words: Result<Vec<String>, Status>,
+    args: Result<Vec<String>, Status>,
     source: &mut S,
     sink: &mut K,
 ) -> Status
-    ensures refused { IfErr words (λ status.
+    ensures refused { IfErr args (λ status.
         (result ≡ status) × (source.new ≡ source.old) × (sink.new ≡ sink.old)) }
-    ensures ran { IfOk words (λ given. IsRun each_form (job_named (drop 1 given.items))
+    ensures ran { IfOk args (λ given. IsRun each_form (job_named (drop 1 given.items))
         (S.rest source.old) (S.rest source.new) (K.written sink.old) (K.written sink.new)
         (Rose (S.faults source.old) (S.faults source.new))
         (Rose (K.faults sink.old) (K.faults sink.new)) result) }
-    ensures flushed { IfOk words (λ given. IsEnd result → IsTrue (K.is_flushed sink.new)) }
-    ensures unread { IfOk words (λ given. IsNotReading (job_named (drop 1 given.items)) →
+    ensures flushed { IfOk args (λ given. IsEnd result → IsTrue (K.is_flushed sink.new)) }
+    ensures unread { IfOk args (λ given. IsNotReading (job_named (drop 1 given.items)) →
         source.new ≡ source.old) }
 {
-    match words {
-        Ok(words) => {
-            let behind = words_behind_name(words.as_slice());
-            match run_words(rt, behind, source, sink) {
+    match args {
+        Ok(args) => {
+            let behind = args_behind_name(args.as_slice());
+            match run_args(rt, behind, source, sink) {
                 Ok(status) => status,
                 Err(_) => Status::NoMemory,
             }
@@ -163,32 +163,32 @@ fn report<R: Eprint>(rt: &R, status: Status) {
     }
 }
 
-/// All that the process does with its words, of which the first is its own name, and with its input
-/// and its output, and what it exits with: the status of the command that the words behind the name
-/// tell, with a tap of each form, or that of a process which wasn't given its words. The text of
-/// any end but [`Status::Done`] is written on standard error.
+/// All that the process does with its arguments, of which the first is its own name, and with its
+/// input and its output, and what it exits with: the status of the command that the arguments
+/// behind the name tell, with a tap of each form, or that of a process which wasn't given its
+/// arguments. The text of any end but [`Status::Done`] is written on standard error.
 pub fn run<R: Eprint + AllocGlobal + Threads + Sync, S: Source, K: Output>(
     rt: &R,
-    words: Result<Vec<String>, Status>,
+    args: Result<Vec<String>, Status>,
     source: &mut S,
     sink: &mut K,
 ) -> ExitCode
-    // Words that weren't given move nothing.
-    ensures refused { IfErr words (λ status. (exit_status result ≡ code_of status) ×
+    // Arguments that weren't given move nothing.
+    ensures refused { IfErr args (λ status. (exit_status result ≡ code_of status) ×
         (source.new ≡ source.old) × (sink.new ≡ sink.old)) }
-    // The exit status is that of what `replay` owes of the words behind the first, with a tap of
-    // each form; behind a good end all that was written was passed on.
-    ensures ran { IfOk words (λ given. ExitsBy
+    // The exit status is that of what `replay` owes of the arguments behind the first, with a tap
+    // of each form; behind a good end all that was written was passed on.
+    ensures ran { IfOk args (λ given. ExitsBy
         (IsRun each_form (job_named (drop 1 given.items))
         (S.rest source.old) (S.rest source.new) (K.written sink.old) (K.written sink.new)
         (Rose (S.faults source.old) (S.faults source.new))
         (Rose (K.faults sink.old) (K.faults sink.new)))
         (IsTrue (K.is_flushed sink.new)) (exit_status result)) }
-    // Words that name no job, or one that needs no input, leave the source.
-    ensures unread { IfOk words (λ given. IsNotReading (job_named (drop 1 given.items)) →
+    // Arguments that name no job, or one that needs no input, leave the source.
+    ensures unread { IfOk args (λ given. IsNotReading (job_named (drop 1 given.items)) →
         source.new ≡ source.old) }
 {
-    let status = run_given(rt, words, source, sink);
+    let status = run_given(rt, args, source, sink);
     report(rt, status);
     ExitCode::from(status.code())
 }

@@ -1,6 +1,6 @@
 //! What a sample file is received for.
 
-use crate::handset::Receiver;
+use crate::handset::HandsetOptions;
 use mobile_core::Channel;
 use tuned_listener::TunedText;
 
@@ -10,7 +10,7 @@ pub enum Purpose {
     /// The pilot alone.
     Find,
     /// The pilot, and what a handset hears.
-    Follow(Receiver),
+    Follow(HandsetOptions),
     /// The frames of one channel of the base station, from the mark on.
     Tuned {
         /// Over how many fingers the signal is followed, 1 to 3.

@@ -18,7 +18,7 @@ fn line_of(rank: Rank) -> Text
     line.append_named("survey pn=", rank.pilot);
     line.append_named(" delta=", rank.delta);
     line.append_named(" energy=", rank.energy);
-    line.append_word("\n");
+    line.append_str("\n");
     line
 }
 

@@ -7,7 +7,7 @@ ghost use Rattle.cdma_io.specs.declared.file_fault.FileFault.{FileFault};
 ghost use Rattle.cdma_io.specs.Outside.{ConsumesAtMost, Rose};
 ghost use Rattle.cdma_io.specs.SampleFile.{sample_len, width_of};
 ghost use Rattle.event_tap.specs.Taps.{IsKept};
-ghost use Rattle.cdma_words.specs.Words.{IsWorkers};
+ghost use Rattle.command_line.specs.Args.{IsWorkers};
 ghost use Rattle.chip_core.specs.declared.sample.Sample.{Sample};
 ghost use Rattle.cdma_replay.specs.Hearing.{HasRoom, HearsPart, HearsRest, Listening, Listens};
 ghost use Rattle.cdma_replay.specs.Hearing.{end_when};

@@ -26,7 +26,7 @@ pub enum Status {
     Done,
     /// The input was read to its end, and no sync message is in it.
     NoSync,
-    /// The words of the command line aren't a command.
+    /// The arguments of the command line aren't a command.
     BadWords,
     /// The input isn't a sample file, or it has too few samples.
     BadFile(FileFault),

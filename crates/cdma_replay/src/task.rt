@@ -1,14 +1,15 @@
 //! What a run does for a job.
 
 ghost use Rattle.std.specs.Prelude.{◌≡◌};
-ghost use Rattle.cdma_words.specs.Words.{IsLawfulJob};
+ghost use Rattle.command_line.specs.Args.{IsLawfulJob};
 ghost use Rattle.cdma_replay.specs.Tasks.{IsLawfulTask, hearing, task_of, untapped};
 
-use crate::handset::Receiver;
+use crate::handset::HandsetOptions;
 use crate::purpose::Purpose;
 use crate::receiving::Reception;
 use cdma_io::Width;
-use cdma_words::Job;
+use chip_core::EventLimits;
+use command_line::Job;
 use mobile_core::{Channel, Traffic};
 use tuned_listener::TunedText;
 
@@ -21,7 +22,7 @@ pub enum Task {
         reception: Reception,
         /// How many events taps are told in each form: pilots, messages, frames, and raw capsules;
         /// `None` where they hear nothing.
-        limits: Option<[u32; 4]>,
+        limits: Option<EventLimits>,
     },
     /// The samples of a script's cell are made.
     Make {
@@ -85,7 +86,7 @@ pub fn task_of(job: Job) -> Task
             reception: Reception {
                 span,
                 workers,
-                purpose: Purpose::Follow(Receiver {
+                purpose: Purpose::Follow(HandsetOptions {
                     fingers,
                     paging,
                     traffic,

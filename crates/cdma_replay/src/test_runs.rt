@@ -34,13 +34,13 @@ pub const SMALL: Outside = Outside {
     ..STEADY
 };
 
-/// The words of a command line, each parted from the next by a blank.
+/// The arguments of a command line, each parted from the next by a blank.
 fn words_of(alloc: Global, line: &str) -> Result<Vec<String>, Fail> {
-    let mut words = Vec::new(alloc);
-    for word in line.split_whitespace() {
-        words.push(String::from_str(alloc, word)?)?;
+    let mut args = Vec::new(alloc);
+    for arg in line.split_whitespace() {
+        args.push(String::from_str(alloc, arg)?)?;
     }
-    Ok(words)
+    Ok(args)
 }
 
 /// The calls that fail: one, or none for 0.
@@ -89,7 +89,7 @@ pub fn run_tapped<R: AllocGlobal + Threads + Sync, G: Gate + Sync>(
     gate: &G,
 ) -> Result<(Status, Vec<u8>), Fail> {
     let alloc = rt.alloc();
-    let words = words_of(alloc, line)?;
+    let args = words_of(alloc, line)?;
     let mut source = MemorySource::new(
         Vec::from_slice(alloc, input)?,
         outside.source_piece.max(1),
@@ -104,7 +104,7 @@ pub fn run_tapped<R: AllocGlobal + Threads + Sync, G: Gate + Sync>(
     let status = replay(
         rt,
         alloc,
-        words.as_slice(),
+        args.as_slice(),
         &mut source,
         &mut sink,
         taps,

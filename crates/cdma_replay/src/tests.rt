@@ -223,9 +223,9 @@ static SCRIPTS: [Row; 8] = [
 
 /// Sees that each row's run ends so, and writes just that.
 fn expect_all<R: AllocGlobal + Threads + Sync>(rt: &R, rows: &[Row]) -> Result<(), Fail> {
-    for (words, input, written, status) in rows {
+    for (args, input, written, status) in rows {
         let input = input.bytes(rt.alloc())?;
-        expect(rt, words, input.as_slice(), SMALL, *status, written)?;
+        expect(rt, args, input.as_slice(), SMALL, *status, written)?;
     }
     Ok(())
 }
@@ -240,7 +240,7 @@ fn scripts_are_made_and_links_tried(rt: HostRuntime) -> Result<(), Fail> {
     expect_all(&rt, &SCRIPTS)
 }
 
-/// Words over a second of a cell, and how many of its first lines they write.
+/// Arguments over a second of a cell, and how many of its first lines they write.
 static LIMITS: [(&str, usize); 10] = [
     ("follow --paging 1", 49),
     ("follow --messages 0", 1),
@@ -254,7 +254,7 @@ static LIMITS: [(&str, usize); 10] = [
     ("follow --pilots 2 --messages 0", 1),
 ];
 
-/// Other words over it, and what they write.
+/// Other arguments over it, and what they write.
 static OTHERS: [(&str, &str); 3] = [
     ("follow --pilots 0 --messages 0 --raw 1", RAW_LINE),
     ("idle --key 00000000", SLOT_LINES),
@@ -271,13 +271,13 @@ fn second<R: AllocGlobal + Threads + Sync>(rt: &R) -> Result<Vec<u8>, Fail> {
 #[test]
 fn a_second_of_a_cell_is_followed(rt: HostRuntime) -> Result<(), Fail> {
     let file = second(&rt)?;
-    for (words, lines) in &LIMITS {
+    for (args, lines) in &LIMITS {
         let written = first_lines(SECOND_LINES, *lines);
-        expect(&rt, words, file.as_slice(), STEADY, Status::Done, written)?;
+        expect(&rt, args, file.as_slice(), STEADY, Status::Done, written)?;
     }
-    for (words, written) in &OTHERS {
+    for (args, written) in &OTHERS {
         let written = written.as_bytes();
-        expect(&rt, words, file.as_slice(), STEADY, Status::Done, written)?;
+        expect(&rt, args, file.as_slice(), STEADY, Status::Done, written)?;
     }
     Ok(())
 }
@@ -323,14 +323,14 @@ fn each_tap_handed_in_tells(rt: HostRuntime) -> Result<(), Fail> {
 fn no_tap_tells_nothing(rt: HostRuntime) -> Result<(), Fail> {
     let alloc = rt.alloc();
     let file = ZEROS.bytes(alloc)?;
-    for (words, end, written) in [
+    for (args, end, written) in [
         ("follow", Status::NoSync, b"".as_slice()),
         ("find", Status::Done, ZERO_LINE),
     ] {
         let taps = Vec::new(alloc);
-        let (status, text) = run_tapped(&rt, words, file.as_slice(), SMALL, taps, &Open)?;
-        assert_eq!(rt; status, end, "{words}");
-        assert_eq!(rt; text.as_slice(), written, "{words}");
+        let (status, text) = run_tapped(&rt, args, file.as_slice(), SMALL, taps, &Open)?;
+        assert_eq!(rt; status, end, "{args}");
+        assert_eq!(rt; text.as_slice(), written, "{args}");
     }
     Ok(())
 }

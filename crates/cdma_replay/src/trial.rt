@@ -7,7 +7,7 @@ ghost use Rattle.std.specs.Io.KnownBytes.{Appends};
 ghost use Rattle.chip_core.specs.declared.sample.Sample.{Sample as TheSample};
 ghost use Rattle.cdma_io.specs.Outside.{AppendsPrefix, Rose};
 ghost use Rattle.chip_core.specs.declared.width.Width.TheVariants.{Sixteen};
-ghost use Rattle.cdma_words.specs.Words.{IsWorkers};
+ghost use Rattle.command_line.specs.Args.{IsWorkers};
 ghost use Rattle.cell_plan.specs.Sampled.{made_samples};
 ghost use Rattle.trial_link.specs.Trial.{trial_plan};
 ghost use Rattle.heard_events.specs.Events.{events};
@@ -15,9 +15,9 @@ ghost use Rattle.mobile_core.specs.Standing.{StandsFor, has_room, steps_left};
 ghost use Rattle.heard_events.specs.Tuning.{Tuning};
 ghost use Rattle.heard_events.specs.declared.event.Event.{Event as TheEvent};
 ghost use Rattle.cdma_replay.specs.Trials.{LeavesRoom, counts_of, counts_with, summary, trial_line};
-ghost use Rattle.cdma_replay.specs.Trials.{trial_receiver};
+ghost use Rattle.cdma_replay.specs.Trials.{trial_options};
 
-use crate::handset::{Receiver, handset};
+use crate::handset::{HandsetOptions, handset};
 use crate::status::Status;
 use crate::workspace::Workspace;
 use base_modulator::{Cell, trial_script, trial_serial_number};
@@ -81,10 +81,10 @@ impl Counts {
 
 /// How the link is received: over one finger, with paging channel 1 and the traffic channel whose
 /// frames are drawn from the number.
-fn receiver_for(number: u64) -> Receiver
-    ensures { result ≡ trial_receiver number }
+fn options_for(number: u64) -> HandsetOptions
+    ensures { result ≡ trial_options number }
 {
-    Receiver {
+    HandsetOptions {
         fingers: 1,
         paging: 1,
         traffic: Some(Traffic {
@@ -178,7 +178,7 @@ fn summary_of(number: u64, samples: u64, phase: u16, counts: &Counts) -> Text
     line.append_named(" pagings=", counts.pagings);
     line.append_named(" frames=", counts.frames);
     line.append_named(" good=", counts.good);
-    line.append_word("\n");
+    line.append_str("\n");
     line
 }
 
@@ -204,9 +204,9 @@ fn follow_cell<R: Threads + Sync, G: Gate + Sync>(
     let header = cell.header();
     cell.fill(span);
     let best = search(rt, alloc, span, codes, workers, gate)?;
-    let receiver = receiver_for(number);
-    let paths = near(span, codes, best, receiver.fingers);
-    let mut mobile = handset(alloc, header, receiver, best, paths)?;
+    let options = options_for(number);
+    let paths = near(span, codes, best, options.fingers);
+    let mut mobile = handset(alloc, header, options, best, paths)?;
     let mut counts = Counts::none();
     count(&mut mobile, span, &mut counts);
     count_rest(&mut mobile, cell, piece, &mut counts);

@@ -52,7 +52,7 @@ impl Gate for Meeting {
     fn leave(&self, _worker: u8, _unfinished: u16) {}
 }
 
-/// Words, an input, what is written, and how the run ends.
+/// Arguments, an input, what is written, and how the run ends.
 type Row = (&'static str, Input, &'static [u8], Status);
 
 /// 2,048 samples of zeros.
@@ -92,14 +92,14 @@ const TRIAL_LINE: &[u8] =
 
 #[test]
 fn two_workers_meet(rt: HostRuntime) -> Result<(), Fail> {
-    for (words, input, written, end) in &ROWS {
+    for (args, input, written, end) in &ROWS {
         let input = input.bytes(rt.alloc())?;
         let gate = Meeting::new();
-        let (status, text) = run_through(&rt, words, input.as_slice(), SMALL, &gate)?;
+        let (status, text) = run_through(&rt, args, input.as_slice(), SMALL, &gate)?;
         if status != *end || text.as_slice() != *written {
             return Err(Fail::from("another end or another text"));
         }
-        assert!(rt; gate.are_met(), "{words}");
+        assert!(rt; gate.are_met(), "{args}");
     }
     Ok(())
 }

@@ -35,15 +35,15 @@ pub use Rattle.paging_message.proofs.Carried.{laid_is_carried, rate_large}
 pub use Rattle.paging_message.proofs.Layings.{flat-more, flat-none, padded_framed}
 pub use Rattle.paging_message.specs.Admitted.{HasMessage}
 pub use Rattle.paging_message.specs.HalfFrames.{bits_left, half_frame_body}
-pub use Rattle.quality_bits.proofs.TrafficWords.{checked_most, repeated_most, word_fills}
+pub use Rattle.quality_bits.proofs.TrafficCodewords.{checked_most, repeated_most, codeword_fills}
 pub use Rattle.quality_bits.proofs.Wholes.{length-capsule, whole-capsule}
 pub use Rattle.quality_bits.specs.Capsules.{capsule}
 pub use Rattle.quality_bits.specs.Kinds.{quality_indicator}
-pub use Rattle.quality_bits.specs.TrafficWords.{quality_of, repeats_of, traffic_word}
+pub use Rattle.quality_bits.specs.TrafficCodewords.{quality_of, repeats_of, traffic_codeword}
 pub use Rattle.quality_bits.specs.declared.kind.Kind.TheVariants.{M30}
 pub use Rattle.quality_bits.specs.declared.rate.Rate.{Rate}
 pub use Rattle.short_code.specs.Despread.{code_point}
-pub use Rattle.symbol_path.specs.Scrambling.{scrambling, with_commands}
+pub use Rattle.symbol_path.specs.Scrambling.{scrambling, with_power_bits}
 pub use Rattle.symbol_path.specs.SentOrder.{data_shape, sent}
 pub use Rattle.sync_message.proofs.Bodies.{admitted, fixed_fit, length-body, tail_of}
 pub use Rattle.sync_message.specs.Framing.{superframes_of}

@@ -1,4 +1,4 @@
--- The messages of sendings, and the frames that they fill.
+-- The messages of transmissions, and the frames that they fill.
 use Rattle.cell_plan.proofs.Common.{◌≡◌, ℕ, ◌+◌, ◌*◌, ◌/◌, ◌%◌, ◌^◌, ◌<◌, ◌≤◌, ◌==◌, zero, suc, Bool, false, List, [], ◌∷◌, ◌++◌, length}
 use Rattle.cell_plan.proofs.Common.{get_or, take, drop, replicate, refl, sym, ap, ◌∙◌, arith, length-append, mod-lt, mul-le-mul_left}
 use Rattle.cell_plan.proofs.Common.{take_more, get_or-drop, get_or-replicate, length-replicate, FieldsFit, CheckForm, M30, length-capsule}
@@ -92,7 +92,7 @@ piece_more capsule bits place k som bit room few before read =
     ∙ ap (λ (r : List Bool). som ∷ r)
     (sym (take_more rest k false within ∙ ap (λ (b : Bool). take k rest ++ b ∷ []) here))
 
--- a frame lies within its sending
+-- a frame lies within its transmission
 pub piece_within : (cell : CellIdentity) (m : SyncFields) (frame superframes sending : ℕ)
     (capsule : List Bool) → superframes ≡ superframes_a_sending cell m → 1 ≤ superframes →
     capsule ≡ sync_capsule cell.check30 (message_of cell m sending) →

@@ -1,26 +1,26 @@
 -- The frames of traffic channels.
 use Rattle.cell_plan.proofs.Common.{◌≡◌, ℕ, zero, suc, ◌*◌, ◌%◌, ◌<◌, ◌≤◌, Bool, false, List, [], ◌∷◌, ◌++◌, length, take, drop, get_or}
 use Rattle.cell_plan.proofs.Common.{replicate, refl, sym, ap, ◌∙◌, arith, flat_map, append-nil, binary, code_symbols, length-code_symbols}
-use Rattle.cell_plan.proofs.Common.{quality_indicator, repeats_of, quality_of, traffic_word, Rate, cycled}
+use Rattle.cell_plan.proofs.Common.{quality_indicator, repeats_of, quality_of, traffic_codeword, Rate, cycled}
 
 -- the tail, and the state before a frame
 zeros : binary 8 0 ≡ replicate 8 false
 unfolding binary
 zeros = refl
 
--- the tail makes the word
+-- the tail makes the codeword
 pub tailed : (rate : Rate) (information bits : List Bool) →
     bits ≡ information ++ quality_indicator (quality_of rate) information →
-    bits ++ binary 8 0 ≡ traffic_word rate information
+    bits ++ binary 8 0 ≡ traffic_codeword rate information
 tailed rate information bits is =
     ap (λ (r : List Bool). r ++ binary 8 0) is
     ∙ ap (λ (r : List Bool). (information ++ quality_indicator (quality_of rate) information) ++ r)
     zeros
 
 -- the encoder starts in state zero
-pub coded_from_zero : (bits word code : List Bool) → bits ≡ word →
-    code ≡ code_symbols (binary 8 0) bits → code ≡ code_symbols (replicate 8 false) word
-coded_from_zero bits word code is coded =
+pub coded_from_zero : (bits codeword code : List Bool) → bits ≡ codeword →
+    code ≡ code_symbols (binary 8 0) bits → code ≡ code_symbols (replicate 8 false) codeword
+coded_from_zero bits codeword code is coded =
     coded
     ∙ ap (λ (start : List Bool). code_symbols start bits) zeros
     ∙ ap (code_symbols (replicate 8 false)) is

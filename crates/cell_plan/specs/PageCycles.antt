@@ -7,7 +7,7 @@ use Rattle.long_code.specs.LongCode.{after, IsState}
 use Rattle.paging_message.specs.HalfFrames.{half_frame_body}
 use Rattle.symbol_path.specs.Scrambling.{scrambling}
 use Rattle.symbol_path.specs.SentOrder.{data_shape, sent}
-use Rattle.quality_bits.specs.TrafficWords.{repeats_of}
+use Rattle.quality_bits.specs.TrafficCodewords.{repeats_of}
 use Rattle.quality_bits.specs.declared.rate.Rate.{Rate}
 use Rattle.cell_plan.specs.declared.plan.CellIdentity.{CellIdentity}
 use Rattle.cell_plan.specs.Sendings.{continued_symbols}

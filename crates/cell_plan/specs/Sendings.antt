@@ -1,5 +1,5 @@
 -- What the sync channel sends (TIA/EIA-95-B, 7.7.1.2 and 7.7.1.3): one message again and again,
--- with the time and the long code's state of each sending filled in.
+-- with the time and the long code's state of each transmission filled in.
 use Rattle.std.specs.Prelude.{ℕ, zero, suc, ◌+◌, ◌-◌, ◌*◌, ◌/◌, ◌%◌, Bool, false, ◌==◌, List, ◌∷◌}
 use Rattle.std.specs.Prelude.{◌++◌, length, take, drop, replicate}
 use Rattle.long_code.specs.LongCode.{after}
@@ -10,8 +10,9 @@ use Rattle.sync_message.specs.SyncMessage.{sync_capsule}
 use Rattle.sync_message.specs.declared.fields.SyncFields.{SyncFields}
 use Rattle.cell_plan.specs.declared.plan.CellIdentity.{CellIdentity}
 
--- The message of a sending tells the time and the state four superframes behind its last one, less
--- the pilot's offset. How many superframes a sending has doesn't depend on what is filled in.
+-- The message of a transmission tells the time and the state four superframes behind its last one,
+-- less the pilot's offset. How many superframes a transmission has doesn't depend on what is filled
+-- in.
 abbrev pub superframes_a_sending : CellIdentity → SyncFields → ℕ
 superframes_a_sending cell m = superframes_of (sync_capsule cell.check30 m)
 
@@ -27,12 +28,12 @@ message_of cell m sending =
       lc = after cell.lc (98304 * told_superframes cell m sending);
     }
 
--- the capsule of a sending, and zeros behind it
+-- the capsule of a transmission, and zeros behind it
 abbrev pub padded_sending : CellIdentity → SyncFields → ℕ → List Bool
 padded_sending cell m sending =
     sync_capsule cell.check30 (message_of cell m sending) ++ replicate 93 false
 
--- the 32 bits of a frame: the SOM bit, and 31 bits of the sending to which it belongs
+-- the 32 bits of a frame: the SOM bit, and 31 bits of the transmission to which it belongs
 unfoldable pub sync_frame_bits : CellIdentity → SyncFields → ℕ → List Bool
 sync_frame_bits cell m frame =
     let frames = 3 * superframes_a_sending cell m in

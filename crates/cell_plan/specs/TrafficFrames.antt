@@ -4,9 +4,9 @@ use Rattle.std.specs.Prelude.{◌++◌, length, replicate, take, drop, All}
 use Rattle.std.specs.List.{flat_map}
 use Rattle.long_code.specs.LongCode.{after, IsState}
 use Rattle.conv_code.specs.ConvCode.{code_symbols}
-use Rattle.symbol_path.specs.Scrambling.{scrambling, with_commands}
+use Rattle.symbol_path.specs.Scrambling.{scrambling, with_power_bits}
 use Rattle.symbol_path.specs.SentOrder.{data_shape, sent}
-use Rattle.quality_bits.specs.TrafficWords.{repeats_of, information_of, traffic_word}
+use Rattle.quality_bits.specs.TrafficCodewords.{repeats_of, information_of, traffic_codeword}
 use Rattle.symbol_path.specs.RatesTwo as second
 use Rattle.symbol_path.specs.FramesTwo.{sent_frame2}
 use Rattle.cell_plan.specs.declared.plan.CellIdentity.{CellIdentity}
@@ -28,20 +28,20 @@ IsTrafficFrame2 f = length f.information ≡ second.information_of f.rate
 -- the 384 symbols of a frame as they are sent, where these are those before scrambling: the power
 -- control bits stand in place of symbols that are scrambled
 abbrev pub sent_with : ℕ → ℕ → List Bool → List Bool → List Bool
-sent_with state mask commands symbols =
-    with_commands state mask commands (scrambled (scrambling state mask) symbols)
+sent_with state mask power_bits symbols =
+    with_power_bits state mask power_bits (scrambled (scrambling state mask) symbols)
 
 -- The 384 symbols of a frame that begins at a state of the long code, under a mask. The encoder
 -- starts in state zero.
 unfoldable pub traffic_symbols : ℕ → ℕ → TrafficFrame → List Bool
 traffic_symbols state mask f =
-    let code = code_symbols (replicate 8 false) (traffic_word f.rate f.information) in
-    sent_with state mask f.commands (sent data_shape (repeats_of f.rate) code)
+    let code = code_symbols (replicate 8 false) (traffic_codeword f.rate f.information) in
+    sent_with state mask f.power_bits (sent data_shape (repeats_of f.rate) code)
 
 -- and those of a frame of rate set 2
 unfoldable pub traffic_symbols2 : ℕ → ℕ → TrafficFrame2 → List Bool
 traffic_symbols2 state mask f =
-    sent_with state mask f.commands
+    sent_with state mask f.power_bits
     (sent_frame2 f.rate f.information)
 
 -- ---- a channel's frames

@@ -32,12 +32,12 @@ header_of width plan =
       count = plan.link.samples;
     }
 
--- the sendings of a message by a cell
+-- the transmissions of a message by a cell
 pub record Sent : Type 0 where
   pub cell : CellIdentity
   pub message : SyncFields
 
--- a cell that can send a message: what each sending fills in fits its field
+-- a cell that can send a message: what each transmission fills in fits its field
 pub record IsSendable (cell : CellIdentity) (m : SyncFields) : Type 0 where
   pub pn : cell.pn < 512
   pub time : cell.time ≤ 34359738368

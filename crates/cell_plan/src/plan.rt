@@ -64,8 +64,8 @@ pub struct PilotPlan {
 pub struct SyncPlan {
     /// The gain of the channel.
     pub gain: u16,
-    /// The message. Each sending has its own PILOT_PN, SYS_TIME and LC_STATE in place of those that
-    /// stand here.
+    /// The message. Each transmission has its own PILOT_PN, SYS_TIME and LC_STATE in place of those
+    /// that stand here.
     pub message: SyncFields,
 }
 

@@ -7,10 +7,10 @@ ghost use Rattle.cell_plan.specs.PageCycles.{scrambled};
 use chip_core::Bits;
 use chip_core::air::DATA_SYMBOLS;
 use long_code::State;
-use symbol_path::scramble_bits;
+use symbol_path::{ScramblingBits, scramble_bits};
 
 /// Symbols, each added modulo 2 to its chip.
-fn mixed(symbols: &Bits, chips: &[bool; DATA_SYMBOLS]) -> Bits
+fn mixed(symbols: &Bits, chips: &ScramblingBits) -> Bits
     requires { length symbols.now ≡ 384 }
     ensures value { result ≡ scrambled chips.now symbols.now }
     ensures count { length result ≡ 384 }

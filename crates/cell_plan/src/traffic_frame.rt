@@ -3,15 +3,15 @@
 ghost use Rattle.std.specs.Prelude.{◌≡◌, ◌<◌, ◌*◌, ◌^◌, ◌++◌, false, length, replicate};
 ghost use Rattle.conv_code.specs.ConvCode.{code_symbols};
 ghost use Rattle.quality_bits.specs.Kinds.{quality_indicator};
-ghost use Rattle.quality_bits.specs.TrafficWords.{repeats_of, information_of, quality_of};
-ghost use Rattle.quality_bits.specs.TrafficWords.{traffic_word};
+ghost use Rattle.quality_bits.specs.TrafficCodewords.{repeats_of, information_of, quality_of};
+ghost use Rattle.quality_bits.specs.TrafficCodewords.{traffic_codeword};
 
 use crate::scrambling::scrambled;
-use chip_core::{Bits, CheckForm};
+use chip_core::{Bits, CheckForm, PowerBits};
 use conv_code::encode_into;
 use long_code::State;
 use quality_bits::append_check;
-use symbol_path::{Kind, Rate, place_into, with_commands};
+use symbol_path::{Kind, Rate, place_into, with_power_bits};
 
 /// How many tail bits a frame has, all 0, which leave the encoder in state zero.
 const TAIL_BITS: u8 = 8;
@@ -25,7 +25,7 @@ pub struct TrafficFrame {
     pub information: Bits,
     /// The power control bit of each of its 16 groups of 24 symbols: a 1 tells the handset to lower
     /// its power (7.1.3.1.7).
-    pub commands: [bool; 16],
+    pub power_bits: PowerBits,
 }
 
 /// Information bits, and behind them the quality indicator, where frames of the rate have one.
@@ -43,9 +43,9 @@ fn with_quality(rate: Rate, information: &Bits) -> Bits
 
 /// The bits of a frame with this information, 192, 96, 48 or 24 by the rate: the quality indicator
 /// stands behind the information, and the tail behind both.
-fn word(rate: Rate, information: &Bits) -> Bits
+fn codeword(rate: Rate, information: &Bits) -> Bits
     requires { length information.now ≡ information_of rate }
-    ensures value { result ≡ traffic_word rate information.now }
+    ensures value { result ≡ traffic_codeword rate information.now }
     ensures count { length result * repeats_of rate ≡ 192 }
 {
     let mut bits = with_quality(rate, information);
@@ -57,11 +57,12 @@ fn word(rate: Rate, information: &Bits) -> Bits
 /// (7.1.3.1.3).
 fn code(rate: Rate, information: &Bits) -> Bits
     requires { length information.now ≡ information_of rate }
-    ensures value { result ≡ code_symbols (replicate 8 false) (traffic_word rate information.now) }
+    ensures value { result ≡ code_symbols (replicate 8 false)
+        (traffic_codeword rate information.now) }
     ensures count { length result * repeats_of rate ≡ 384 }
 {
     let mut code = Bits::empty();
-    encode_into(0, &word(rate, information), &mut code);
+    encode_into(0, &codeword(rate, information), &mut code);
     code
 }
 
@@ -81,6 +82,6 @@ impl TrafficFrame {
         let mut placed = Bits::empty();
         place_into(Kind::Data, self.rate.repeats(), &code, &mut placed);
         let mixed = scrambled(state, mask, &placed);
-        with_commands(state, mask, &self.commands, &mixed)
+        with_power_bits(state, mask, &self.power_bits, &mixed)
     }
 }

@@ -3,9 +3,9 @@
 ghost use Rattle.std.specs.Prelude.{◌≡◌, ◌<◌, ◌^◌, length};
 
 use crate::scrambling::scrambled;
-use chip_core::Bits;
+use chip_core::{Bits, PowerBits};
 use long_code::State;
-use symbol_path::{Rate2, encode2_into, with_commands};
+use symbol_path::{Rate2, encode2_into, with_power_bits};
 
 /// A frame of a traffic channel of rate set 2, whose rates, quality indicators and dropped symbols
 /// are this project's profile.
@@ -17,7 +17,7 @@ pub struct TrafficFrame2 {
     pub information: Bits,
     /// The power control bit of each of its 16 groups of 24 symbols, as on rate set 1: a 1 tells
     /// the handset to lower its power (TIA/EIA-95-B, 7.1.3.1.7).
-    pub commands: [bool; 16],
+    pub power_bits: PowerBits,
 }
 
 impl TrafficFrame2 {
@@ -36,6 +36,6 @@ impl TrafficFrame2 {
         let mut placed = Bits::empty();
         encode2_into(self.rate, &self.information, &mut placed);
         let mixed = scrambled(state, mask, &placed);
-        with_commands(state, mask, &self.commands, &mixed)
+        with_power_bits(state, mask, &self.power_bits, &mixed)
     }
 }

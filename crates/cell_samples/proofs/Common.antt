@@ -43,7 +43,7 @@ pub use Rattle.long_code.specs.LongCode.{after}
 pub use Rattle.paging_message.specs.HalfFrames.{half_frame_body}
 unfoldable pub use Rattle.paging_message.specs.Laying.{fill}
 pub use Rattle.quality_bits.proofs.Wholes.{length-capsule}
-pub use Rattle.quality_bits.specs.TrafficWords.{repeats_of}
+pub use Rattle.quality_bits.specs.TrafficCodewords.{repeats_of}
 pub use Rattle.quality_bits.specs.declared.kind.Kind.TheVariants.{M30}
 pub use Rattle.quality_bits.specs.declared.rate.Rate.{Rate}
 pub use Rattle.short_code.proofs.Signs.{get_or-pilot_signs, length-pilot_signs}

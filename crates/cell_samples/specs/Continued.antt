@@ -5,7 +5,7 @@ use Rattle.symbol_path.specs.declared.kinds.Kind as kinds
 use Rattle.cell_plan.specs.declared.form.ChannelForm.{ChannelForm}
 use Rattle.cell_samples.specs.declared.frame_source.FrameSource.{FrameSource}
 use Rattle.cell_samples.specs.declared.frame_source.FrameSource.TheVariants.{Sync, Paging}
-use Rattle.quality_bits.specs.TrafficWords.{repeats_of}
+use Rattle.quality_bits.specs.TrafficCodewords.{repeats_of}
 use Rattle.cell_plan.specs.PageCycles.{cycle_frame_bits, cycle_symbols, frame_scrambling}
 use Rattle.cell_plan.specs.PageCycles.{paging_frame_size, scrambled}
 use Rattle.cell_plan.specs.Sendings.{bits_before, sync_frame_bits, sync_symbols}

@@ -1,4 +1,4 @@
--- The capsule of the sending that is kept.
+-- The capsule of the transmission that is kept.
 use Rattle.std.specs.Prelude.{◌≡◌, ℕ, ◌≤◌, Bool, List}
 use Rattle.sync_message.specs.SyncMessage.{sync_capsule}
 use Rattle.sync_message.specs.declared.fields.SyncFields.{SyncFields}

@@ -14,7 +14,7 @@ use symbol_path::Kind;
 /// The bits of the frames of a channel whose encoder goes on from frame to frame.
 #[derive(Drop)]
 pub enum FrameSource {
-    /// The sendings of a sync channel's message (TIA/EIA-95-B, 7.7.1.2).
+    /// The transmissions of a sync channel's message (TIA/EIA-95-B, 7.7.1.2).
     Sync(Sendings),
     /// The half-frames of a paging channel's pages (7.7.2.1).
     Paging(PageCycle),

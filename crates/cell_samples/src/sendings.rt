@@ -1,4 +1,4 @@
-//! The sendings of the sync channel's message.
+//! The transmissions of the sync channel's message.
 
 ghost use Rattle.std.specs.Prelude.{◌≡◌, ◌<◌, ◌≤◌, ◌+◌, ◌*◌, ◌/◌, ◌^◌, ◌==◌, Bool, false, ◌∷◌};
 ghost use Rattle.std.specs.Prelude.{◌++◌, length, take, drop, replicate, get_or};
@@ -14,8 +14,8 @@ use long_code::State;
 use std::marker::Model;
 use sync_message::{SyncFields, SyncMessage};
 
-/// The sendings of a cell's message, of which one is kept as its capsule. Contracts see the cell
-/// and the message.
+/// The transmissions of a cell's message, of which one is kept as its capsule. Contracts see the
+/// cell and the message.
 ///
 /// TIA/EIA-95-B, 7.7.1.2: a superframe of 80 ms has three frames, and a message takes as many
 /// superframes as it needs.
@@ -47,8 +47,8 @@ fn superframes_for(capsule: &Bits) -> u64
     u64::from((capsule.len() + SUPERFRAME_BITS - 1) / SUPERFRAME_BITS)
 }
 
-/// The message of a sending: it tells the time and the long code's state four superframes behind
-/// its last one, less the pilot's offset.
+/// The message of a transmission: it tells the time and the long code's state four superframes
+/// behind its last one, less the pilot's offset.
 fn message_for(
     cell: &CellIdentity,
     message: &SyncFields,
@@ -88,8 +88,8 @@ fn bit_or_zero(bits: &Bits, i: u16) -> bool
     i < bits.len() && bits.get(i)
 }
 
-/// The bits of a frame of a sending: the SOM bit, 1 in the first frame, and 31 bits of the capsule,
-/// with zeros behind it.
+/// The bits of a frame of a transmission: the SOM bit, 1 in the first frame, and 31 bits of the
+/// capsule, with zeros behind it.
 fn piece_of(capsule: &Bits, place: u16) -> Bits
     requires { 31 * place ≤ length capsule.now + 62 }
     ensures value { result ≡
@@ -106,7 +106,7 @@ fn piece_of(capsule: &Bits, place: u16) -> Bits
 }
 
 impl Sendings {
-    /// The sendings of a message, with the first one kept.
+    /// The transmissions of a message, with the first one kept.
     pub fn new(cell: &CellIdentity, message: &SyncFields) -> Sendings
         requires { IsSendable cell.now message.now }
         ensures { result ≡ record { cell = cell.now; message = message.now } }
@@ -122,7 +122,7 @@ impl Sendings {
         }
     }
 
-    /// The capsule of a sending.
+    /// The capsule of a transmission.
     fn capsule_of(&mut self, sending: u64) -> Bits
         requires { sending < 2 ^ 20 }
         ensures value { result ≡ sync_capsule self.old.cell.check30

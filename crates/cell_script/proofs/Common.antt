@@ -67,7 +67,7 @@ pub use Rattle.paging_message.specs.Reading.{message_at, number_at}
 unfoldable pub use Rattle.paging_message.specs.Reading.{body_reading, is_body}
 pub use Rattle.paging_message.specs.declared.message.PagingMessage.{PagingMessage}
 pub use Rattle.quality_bits.specs.Capsules.{FillsCapsule}
-pub use Rattle.quality_bits.specs.TrafficWords.{information_of}
+pub use Rattle.quality_bits.specs.TrafficCodewords.{information_of}
 pub use Rattle.quality_bits.specs.declared.kind.Kind.TheVariants.{M30}
 pub use Rattle.quality_bits.specs.declared.rate.Rate.{Rate}
 pub use Rattle.quality_bits.specs.declared.rate.Rate.TheVariants.{R4800, R9600}
@@ -100,7 +100,7 @@ pub use Rattle.cell_script.specs.ScriptStages.{next_stage}
 unfoldable pub use Rattle.cell_script.specs.ScriptStages.{pages_behind}
 pub use Rattle.cell_script.specs.ScriptValues.{all_clear, as_state, begins_with, behind, binary_digit, hex_digit, is_plain, negative}
 pub use Rattle.cell_script.specs.ScriptValues.{number_in, positive, serial_number_in, signed_behind, up_to}
-unfoldable pub use Rattle.cell_script.specs.ScriptValues.{bits_in, commands_in, digits_behind, hex_bits, hex_from, length_before}
+unfoldable pub use Rattle.cell_script.specs.ScriptValues.{bits_in, power_bits_in, digits_behind, hex_bits, hex_from, length_before}
 unfoldable pub use Rattle.cell_script.specs.ScriptValues.{number_up_to, signed_in, state_in}
 pub use Rattle.cell_script.specs.declared.judge.ChannelRows.{ChannelRows}
 pub use Rattle.cell_script.specs.declared.judge.Judge.{Judge}

@@ -10,7 +10,7 @@ use Rattle.cell_script.proofs.Common.{frame2_key, frame2_rate, lawful_frame, tra
 use Rattle.cell_script.proofs.Common.{page_key, page_with, paging_in, paging_line, pilot_in, statement_in, sync_table, Page, PagingLine}
 use Rattle.cell_script.proofs.Common.{TrafficLine, TrafficFrame, TrafficFrame2, Rate2, IsTrafficFrame, IsTrafficFrame2, information_of}
 use Rattle.cell_script.proofs.Common.{Rate, Statement, HasMessage, is_body, FillsCapsule, M30, IsLawful, IsStatedCell, IsStatedLink}
-use Rattle.cell_script.proofs.Common.{as_state, begins_with, bits_in, hex_from, number_in, commands_in, number_up_to, serial_number_in}
+use Rattle.cell_script.proofs.Common.{as_state, begins_with, bits_in, hex_from, number_in, power_bits_in, number_up_to, serial_number_in}
 use Rattle.cell_script.proofs.Common.{signed_in, state_in, up_to}
 use Rattle.cell_script.proofs.ScriptMessages.{is_tail}
 use Rattle.cell_script.proofs.ScriptPages.{body_fills, body_message}
@@ -328,15 +328,15 @@ traffic_bounds text =
 -- what is true of what is made of as many information bits as there are to be
 frame_by_bounds : {A : Type 0} (P : A → Type 0) (key : List ℕ) (size : ℕ)
     (made : List Bool → List Bool → A) →
-    ((information commands : List Bool) → length information ≡ size → P (made information commands)) →
+    ((information power_bits : List Bool) → length information ≡ size → P (made information power_bits)) →
     (text : List ℕ) (frame : A) → frame_by key size made text ≡ Some frame → P frame
 frame_by_bounds P key size made each text =
     both_steps (field key bits_in _) _ λ information information_is.
-    both_steps (field (codes " ") commands_in _) _ λ commands commands_is.
-    both_steps (lawful_frame size information (made information commands)) _ λ frame frame_is all e.
-    let told = cond_some (length information == size) (made information commands) frame frame_is in
+    both_steps (field (codes " ") power_bits_in _) _ λ power_bits power_bits_is.
+    both_steps (lawful_frame size information (made information power_bits)) _ λ frame frame_is all e.
+    let told = cond_some (length information == size) (made information power_bits) frame frame_is in
     subst P (ended _ frame all e)
-    (subst P told.1 (each information commands (eqb-true (length information) size told.0)))
+    (subst P told.1 (each information power_bits (eqb-true (length information) size told.0)))
 
 pub frame_bounds : (text : List ℕ) (frame : TrafficFrame) → frame_in text ≡ Some frame →
     IsTrafficFrame frame
@@ -344,9 +344,9 @@ unfolding frame_in
 frame_bounds text =
     both_steps (frame_rate text) _ λ rate rate_is.
     frame_by_bounds IsTrafficFrame (frame_key rate) (information_of rate)
-    (λ information commands.
-    record { rate = rate; information = information; commands = commands })
-    (λ information commands long. long) text
+    (λ information power_bits.
+    record { rate = rate; information = information; power_bits = power_bits })
+    (λ information power_bits long. long) text
 
 pub frame2_bounds : (text : List ℕ) (frame : TrafficFrame2) → frame2_in text ≡ Some frame →
     IsTrafficFrame2 frame
@@ -354,9 +354,9 @@ unfolding frame2_in
 frame2_bounds text =
     both_steps (frame2_rate text) _ λ rate rate_is.
     frame_by_bounds IsTrafficFrame2 (frame2_key rate) (second.information_of rate)
-    (λ information commands.
-    record { rate = rate; information = information; commands = commands })
-    (λ information commands long. long) text
+    (λ information power_bits.
+    record { rate = rate; information = information; power_bits = power_bits })
+    (λ information power_bits long. long) text
 
 -- ---- any line
 

@@ -5,7 +5,7 @@ use Rattle.cell_script.proofs.Common.{take, refl, sym, ap, ◌∙◌, arith, app
 use Rattle.cell_script.proofs.Common.{codes, nat_lt, ok_or, option_map, ◌↔◌, take_at, length-take-le, binary, digits_from, decode_pairs}
 use Rattle.cell_script.proofs.Common.{admits, bits_left, fill, is_body, Rate, R9600, CellPlan, SyncPlan, Stage, Cell, Link, Pilot}
 use Rattle.cell_script.proofs.Common.{FirstPage, FirstFrame, ScriptFault, Line, Walsh, Gain, TooLoud, TooLong, TooBig, bits_in, hex_bits}
-use Rattle.cell_script.proofs.Common.{hex_from, length_before, commands_in, digits_behind, number_up_to, signed_in, state_in, field, past}
+use Rattle.cell_script.proofs.Common.{hex_from, length_before, power_bits_in, digits_behind, number_up_to, signed_in, state_in, field, past}
 use Rattle.cell_script.proofs.Common.{cell_in, frame_in, link_in, page_in, pilot_in, statement_in, pages_behind, Draft, empty_draft}
 use Rattle.cell_script.proofs.Common.{plan_at, with_line, with_next, draft_after, is_line, lines, named, plan_fault, plan_named, stated}
 use Rattle.cell_script.proofs.Common.{stated_plan, sync_gain_fault, unless, Width, cond-true, cond-false, le-ltb, ltb-false}
@@ -50,7 +50,7 @@ first_page_completed rate plan n = refl
 first_frame_completed : (plan : CellPlan) (n : ℕ) →
     IsOk (stated (record { stage = FirstFrame; plan = plan }) n (lines frame_text))
 unfolding stated draft_after lines is_line with_line with_next statement_in frame_in field past
-    length_before number_up_to digits_from bits_in hex_bits decode_pairs binary commands_in
+    length_before number_up_to digits_from bits_in hex_bits decode_pairs binary power_bits_in
     digits_behind
 first_frame_completed plan n = refl
 

@@ -3,7 +3,7 @@ use Rattle.cell_script.proofs.Common.{◌≡◌, ◌≢◌, ℕ, suc, ◌+◌, �
 use Rattle.cell_script.proofs.Common.{get_or, drop, take, refl, sym, ap, ◌∙◌, arith, append_assoc, length-append, None, Some, flat_map}
 use Rattle.cell_script.proofs.Common.{option_and_then, set, cond-true, cond-false, eq-eqb, eqb-false, eqb-true, ne_eqb, at_drop_more}
 use Rattle.cell_script.proofs.Common.{drop_all, take_all, take_more_set, pow-le-pow_right, pow-suc, binary, length-binary, all_clear}
-use Rattle.cell_script.proofs.Common.{binary_digit, commands_in, digits_behind, hex_digit, hex_from, length_before}
+use Rattle.cell_script.proofs.Common.{binary_digit, power_bits_in, digits_behind, hex_digit, hex_from, length_before}
 
 -- ---- before a mark
 
@@ -206,10 +206,10 @@ digits_read text bits k past all before =
     ∙ ap Some (take_all k bits all)
 
 -- a text of sixteen digits, and another one
-pub sixteen : (text : List ℕ) → length text ≡ 16 → commands_in text ≡ digits_behind [] text
-unfolding commands_in
+pub sixteen : (text : List ℕ) → length text ≡ 16 → power_bits_in text ≡ digits_behind [] text
+unfolding power_bits_in
 sixteen text long = cond-true _ _ _ (eq-eqb (length text) 16 long)
 
-pub not_sixteen : (text : List ℕ) → length text ≢ 16 → commands_in text ≡ None
-unfolding commands_in
+pub not_sixteen : (text : List ℕ) → length text ≢ 16 → power_bits_in text ≡ None
+unfolding power_bits_in
 not_sixteen text other = cond-false _ _ _ (ne_eqb (length text) 16 other)

@@ -21,13 +21,13 @@ use Rattle.cell_script.specs.declared.tables.FieldForm.TheVariants as forms
 use Rattle.cell_script.specs.ScriptFields.{NumberRow, ◌>>=◌, at_end, field, numbers_in, past}
 use Rattle.cell_script.specs.ScriptFields.{past_numbers, row, StatementRow, formed, past_at}
 use Rattle.cell_script.specs.ScriptFields.{signed_at, unsigned_at}
-use Rattle.cell_script.specs.ScriptValues.{begins_with, bits_in, commands_in, number_up_to}
+use Rattle.cell_script.specs.ScriptValues.{begins_with, bits_in, power_bits_in, number_up_to}
 use Rattle.cell_plan.specs.declared.traffic_frame.TrafficFrame.{TrafficFrame}
 use Rattle.cell_plan.specs.declared.traffic_frame2.TrafficFrame2.{TrafficFrame2}
 use Rattle.symbol_path.specs.RatesTwo as second
 use Rattle.symbol_path.specs.declared.rate_two.Rate2.{Rate2}
 use Rattle.symbol_path.specs.declared.rate_two.Rate2.TheVariants.{R14400, R7200, R3600, R1800}
-use Rattle.quality_bits.specs.TrafficWords.{information_of}
+use Rattle.quality_bits.specs.TrafficCodewords.{information_of}
 use Rattle.quality_bits.specs.declared.rate.Rate.{Rate}
 use Rattle.quality_bits.specs.declared.rate.Rate.TheVariants.{R9600, R4800, R2400, R1200}
 
@@ -284,14 +284,14 @@ frame_by key size made text0 =
     let text2 = past (codes " ") text1 in
     do
       information ← field key bits_in text0
-      commands ← field (codes " ") commands_in text1
-      frame ← lawful_frame size information (made information commands)
+      power_bits ← field (codes " ") power_bits_in text1
+      frame ← lawful_frame size information (made information power_bits)
       at_end text2 frame
 
 abbrev pub frame_with : Rate → List ℕ → Option TrafficFrame
 frame_with rate = frame_by (frame_key rate) (information_of rate)
-    (λ information commands.
-    record { rate = rate; information = information; commands = commands })
+    (λ information power_bits.
+    record { rate = rate; information = information; power_bits = power_bits })
 
 unfoldable pub frame_in : List ℕ → Option TrafficFrame
 frame_in text = do
@@ -318,8 +318,8 @@ frame2_rate text =
 
 abbrev pub frame2_with : Rate2 → List ℕ → Option TrafficFrame2
 frame2_with rate = frame_by (frame2_key rate) (second.information_of rate)
-    (λ information commands.
-    record { rate = rate; information = information; commands = commands })
+    (λ information power_bits.
+    record { rate = rate; information = information; power_bits = power_bits })
 
 unfoldable pub frame2_in : List ℕ → Option TrafficFrame2
 frame2_in text = do

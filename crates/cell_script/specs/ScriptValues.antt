@@ -126,5 +126,5 @@ digits_behind bits (digit ∷ digits) =
     option_and_then (λ bit. digits_behind (bits ++ bit ∷ []) digits) (binary_digit digit)
 
 -- the bits of sixteen digits
-unfoldable pub commands_in : List ℕ → Option (List Bool)
-commands_in text = if length text == 16 then digits_behind [] text else None
+unfoldable pub power_bits_in : List ℕ → Option (List Bool)
+power_bits_in text = if length text == 16 then digits_behind [] text else None

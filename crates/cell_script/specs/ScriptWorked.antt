@@ -18,9 +18,9 @@ use Rattle.cell_plan.specs.declared.plan.SyncPlan.{SyncPlan}
 use Rattle.cell_plan.specs.declared.plan.TrafficPlan.{TrafficPlan}
 use Rattle.cell_script.specs.declared.script_fault.ScriptFault.TheVariants.{Line, TooLoud, TooLong}
 use Rattle.chip_core.specs.Decimals.{digits_from}
-use Rattle.cell_script.specs.ScriptValues.{bits_in, commands_in, digits_behind, hex_bits, hex_from}
-use Rattle.cell_script.specs.ScriptValues.{length_before, number_up_to, serial_number_in, signed_in}
-use Rattle.cell_script.specs.ScriptValues.{state_in}
+use Rattle.cell_script.specs.ScriptValues.{bits_in, power_bits_in, digits_behind, hex_bits}
+use Rattle.cell_script.specs.ScriptValues.{hex_from, length_before, number_up_to, serial_number_in}
+use Rattle.cell_script.specs.ScriptValues.{signed_in, state_in}
 use Rattle.cell_script.specs.ScriptFields.{field, numbers_in, past, past_numbers}
 use Rattle.cell_script.specs.ScriptDrafts.{with_line, with_next}
 use Rattle.cell_script.specs.ScriptLines.{cell_in, freq_in, link_in, page_in, paging_in, past_freq}
@@ -95,7 +95,7 @@ traffic_plan = record {
   frames = SetTwo (record {
     rate = R1800;
     information = take 22 (binary 24 0x5a5a58);
-    commands = binary 16 0x5555;
+    power_bits = binary 16 0x5555;
   } ∷ []);
 }
 
@@ -172,7 +172,7 @@ unfolding traffic_script script plan sync_plan traffic_plan plan_named stated_pl
     draft_after lines is_line with_line with_next statement_in cell_in link_in pilot_in sync_in
     sync_behind freq_in past_freq traffic_in frame2_in numbers_in past_numbers field past
     length_before number_up_to digits_from signed_in state_in serial_number_in hex_from bits_in
-    hex_bits decode_pairs commands_in digits_behind binary
+    hex_bits decode_pairs power_bits_in digits_behind binary
 of_rate_set_two = refl
 
 -- a frame of rate set 1 behind one of rate set 2
@@ -181,6 +181,6 @@ of_both : plan_named Sixteen
 unfolding traffic_script script plan_named stated_plan stated draft_after lines is_line with_line
     with_next statement_in cell_in link_in pilot_in sync_in sync_behind freq_in past_freq traffic_in
     frame_in frame2_in numbers_in past_numbers field past length_before number_up_to digits_from
-    signed_in state_in serial_number_in hex_from bits_in hex_bits decode_pairs commands_in
+    signed_in state_in serial_number_in hex_from bits_in hex_bits decode_pairs power_bits_in
     digits_behind binary
 of_both = refl

@@ -2,17 +2,17 @@
 
 ghost use Rattle.std.specs.Prelude.{◌≡◌, ◌≤◌, ℕ, Bool, List, true, false, length, IfSome, OnSome};
 ghost use Rattle.std.specs.Prelude.{MatchOption, IsTrue, ◌↔◌, unsigned_abs, [], None, Some};
-ghost use Rattle.cell_script.specs.ScriptValues.{begins_with, bits_in, commands_in, number_up_to};
+ghost use Rattle.cell_script.specs.ScriptValues.{begins_with, bits_in, power_bits_in, number_up_to};
 ghost use Rattle.cell_script.specs.ScriptFields.{AreUpTo, field, numbers_in, past, past_numbers};
 ghost use Rattle.cell_script.specs.ScriptFields.{rows_of, value_of, IsOfForm, signed_of};
 ghost use Rattle.cell_script.specs.ScriptFields.{unsigned_of};
 
 use crate::tables::{FieldForm, NumberField, StatementField};
 use crate::values::{
-    begins_with, bits_in, commands_in, length_before, number_up_to, serial_number_in, signed_in,
+    begins_with, bits_in, length_before, number_up_to, power_bits_in, serial_number_in, signed_in,
     state_in,
 };
-use chip_core::Bits;
+use chip_core::{Bits, PowerBits};
 use std::marker::Model;
 
 /// Reads the fields of a line in order. A key is what stands before a value: ` name=`, with the
@@ -121,11 +121,11 @@ impl<'a> Fields<'a> {
 
     /// The power control bits of a frame.
     #[tactic(auto, unfolding(crate::specs::ScriptFields::field))]
-    pub(crate) fn commands(&mut self, key: &[u8]) -> Option<[bool; 16]>
-        ensures value { result ≡ field key.now commands_in self.old }
+    pub(crate) fn power_bits(&mut self, key: &[u8]) -> Option<PowerBits>
+        ensures value { result ≡ field key.now power_bits_in self.old }
         ensures rest { OnSome result (self.new ≡ past key.now self.old) }
     {
-        commands_in(self.value(key)?)
+        power_bits_in(self.value(key)?)
     }
 }
 

@@ -361,14 +361,14 @@ fn frame_with(rate: Rate, mut fields: Fields<'_>) -> Option<TrafficFrame>
     ensures { result ≡ frame_with rate fields.entry }
 {
     let information = fields.bits(frame_key(rate))?;
-    let commands = fields.commands(b" ")?;
+    let power_bits = fields.power_bits(b" ")?;
     if information.len() != rate.information_bits() || !fields.at_end() {
         return None;
     }
     Some(TrafficFrame {
         rate,
         information,
-        commands,
+        power_bits,
     })
 }
 
@@ -419,14 +419,14 @@ fn frame2_with(rate: Rate2, mut fields: Fields<'_>) -> Option<TrafficFrame2>
     ensures { result ≡ frame2_with rate fields.entry }
 {
     let information = fields.bits(frame2_key(rate))?;
-    let commands = fields.commands(b" ")?;
+    let power_bits = fields.power_bits(b" ")?;
     if information.len() != rate.information_bits() || !fields.at_end() {
         return None;
     }
     Some(TrafficFrame2 {
         rate,
         information,
-        commands,
+        power_bits,
     })
 }
 

@@ -112,8 +112,8 @@ pub const TRAFFIC_FIELDS: [StatementField; 4] = [
 ];
 
 /// The numbers of a `sync` line that it always has, in their order: the channel's gain, and then
-/// the fields of the message with the ranges of their widths, but for those that each sending fills
-/// in (TIA/EIA-95-B, 7.7.1.3). Their keys are ` name=` by the message's table.
+/// the fields of the message with the ranges of their widths, but for those that each transmission
+/// fills in (TIA/EIA-95-B, 7.7.1.3). Their keys are ` name=` by the message's table.
 pub const SYNC_NUMBERS: [NumberField; 9] = [
     NumberField {
         key: b"sync gain=",

@@ -6,12 +6,12 @@ ghost use Rattle.std.specs.Char.{is_ascii_digit};
 ghost use Rattle.chip_core.specs.Bits.{binary};
 ghost use Rattle.long_code.specs.LongCode.{IsState};
 ghost use Rattle.cell_script.specs.ScriptValues.{all_clear, begins_with, behind, binary_digit};
-ghost use Rattle.cell_script.specs.ScriptValues.{bits_in, commands_in, serial_number_in, hex_bits};
-ghost use Rattle.cell_script.specs.ScriptValues.{hex_digit, hex_from, is_plain, length_before};
-ghost use Rattle.cell_script.specs.ScriptValues.{negative, number_in, number_up_to, signed_in};
-ghost use Rattle.cell_script.specs.ScriptValues.{state_in, unpadded};
+ghost use Rattle.cell_script.specs.ScriptValues.{bits_in, power_bits_in, serial_number_in};
+ghost use Rattle.cell_script.specs.ScriptValues.{hex_bits, hex_digit, hex_from, is_plain};
+ghost use Rattle.cell_script.specs.ScriptValues.{length_before, negative, number_in, number_up_to};
+ghost use Rattle.cell_script.specs.ScriptValues.{signed_in, state_in, unpadded};
 
-use chip_core::{Bits, digits_in};
+use chip_core::{Bits, PowerBits, digits_in};
 use long_code::State;
 
 /// How many octets hold the bits of the longest list.
@@ -169,17 +169,17 @@ fn binary_digit(byte: u8) -> Option<bool>
 }
 
 /// The bits of sixteen digits 0 or 1.
-pub(crate) fn commands_in(text: &[u8]) -> Option<[bool; 16]>
-    ensures { result ≡ commands_in text.now }
+pub(crate) fn power_bits_in(text: &[u8]) -> Option<PowerBits>
+    ensures { result ≡ power_bits_in text.now }
 {
     if text.len() != 16 {
         return None;
     }
-    let mut commands = [false; 16];
+    let mut power_bits = [false; 16];
     for (k, &digit) in text.iter().enumerate() {
-        commands[k] = binary_digit(digit)?;
+        power_bits[k] = binary_digit(digit)?;
     }
-    Some(commands)
+    Some(power_bits)
 }
 
 /// The bits of a text `N:HEX`: N of them, at most 1,184, in two hex digits of either case for each

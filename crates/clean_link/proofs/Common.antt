@@ -88,19 +88,19 @@ pub use Rattle.conv_code.proofs.Continued.{state_after-append, state_after-none}
 pub use Rattle.conv_code.proofs.Distinct.{distinct}
 pub use Rattle.conv_code.proofs.Pairs.{symbols_at}
 pub use Rattle.conv_code.specs.ConvCode.{code_symbols, g0, g1, state_after, symbol}
-pub use Rattle.frame_decoder.proofs.BestWords.{best_word-same, own_is}
+pub use Rattle.frame_decoder.proofs.BestCodewords.{best_codeword-same, own_is}
 pub use Rattle.frame_decoder.proofs.Gathered.{length-gathered_span}
 pub use Rattle.frame_decoder.proofs.MaskedScores.{alone, get_or-masked, length-masked, masked, own_score, weight}
 pub use Rattle.frame_decoder.proofs.Parts.{frames-more, frames-none, length-frames, take-frames, within}
 pub use Rattle.frame_decoder.proofs.Scores.{score_is}
 pub use Rattle.frame_decoder.proofs.SentFrames.{sent_frame}
 pub use Rattle.frame_decoder.proofs.Unreplaced.{get_or-unreplaced, length-unreplaced}
-pub use Rattle.frame_decoder.specs.Laws.{AgreeElsewhere, IsUnshared, ShowSymbols, frame_word, kept_count}
+pub use Rattle.frame_decoder.specs.Laws.{AgreeElsewhere, IsUnshared, ShowSymbols, frame_codeword, kept_count}
 pub use Rattle.frame_decoder.specs.Spans.{Channel, channel_for, gathered_span, own_bits, score, sending, sent_symbols}
-pub use Rattle.frame_decoder.specs.TrafficFrames.{command, decoded, frame_bits, frame_symbols, group_sum, group_sums, is_replaced}
+pub use Rattle.frame_decoder.specs.TrafficFrames.{power_bit, decoded, frame_bits, frame_symbols, group_sum, group_sums, is_replaced}
 pub use Rattle.frame_decoder.specs.TrafficFrames.{unreplaced}
-pub use Rattle.frame_decoder.specs.declared.layout.FrameKind.{FrameKind}
-pub use Rattle.frame_decoder.specs.declared.layout.FrameKind.TheVariants.{Paging}
+pub use Rattle.frame_decoder.specs.declared.span_format.FrameKind.{FrameKind}
+pub use Rattle.frame_decoder.specs.declared.span_format.FrameKind.TheVariants.{Paging}
 pub use Rattle.frame_decoder.specs.declared.traffic.Decoded.{Decoded}
 pub use Rattle.long_code.proofs.After.{after-after, after_lt, after_none, after_one, stepped}
 pub use Rattle.long_code.proofs.Before.{after-before, before_lt}
@@ -133,10 +133,10 @@ pub use Rattle.heard_events.specs.Noted.{all_noted, body_noted, in_traffic_thres
 pub use Rattle.heard_events.specs.PagingEvents.{page_event, page_in, pages_behind, with_page}
 unfoldable pub use Rattle.heard_events.specs.PagingEvents.{bits_up_to, page_at, pages_at, pages_from}
 pub use Rattle.heard_events.specs.PagingStreams.{paging_bound, paging_stream}
-pub use Rattle.heard_events.specs.Scrambled.{Scrambles, turned, unscrambled}
+pub use Rattle.heard_events.specs.Scrambled.{Scrambles, descrambled, unscrambled}
 pub use Rattle.heard_events.specs.Signaling.{capsule_with, message_events, message_heard, signal_in, signal_of}
 unfoldable pub use Rattle.heard_events.specs.Signaling.{message_at, messages_by, signal_at, signals_before}
-pub use Rattle.heard_events.specs.SoftFrames.{soft_frame, soft_frames, unturned_at}
+pub use Rattle.heard_events.specs.SoftFrames.{soft_frame, soft_frames, raw_at}
 unfoldable pub use Rattle.heard_events.specs.SoftFrames.{frames_within}
 pub use Rattle.heard_events.specs.Streams.{Stream, frame_end, frame_softs, frame_start, is_in_file, is_within, known_at, known_by}
 pub use Rattle.heard_events.specs.Streams.{known_now, span_first, span_frames}
@@ -144,9 +144,9 @@ unfoldable pub use Rattle.heard_events.specs.Streams.{frame_own_bits}
 pub use Rattle.heard_events.specs.SyncEvents.{events_of, heard_in, with_message}
 unfoldable pub use Rattle.heard_events.specs.SyncEvents.{frames_before, heard_at, sync_capsule_at, sync_events_at}
 pub use Rattle.heard_events.specs.Timing.{IsTimed}
-pub use Rattle.heard_events.specs.TrafficEvents.{all_sums, frame_event, frame_heard, if_followed, subchannel_sums, unturned_by}
-pub use Rattle.heard_events.specs.TrafficEvents.{unturned_softs}
-unfoldable pub use Rattle.heard_events.specs.TrafficEvents.{commands_at, decoded_at, frames_by}
+pub use Rattle.heard_events.specs.TrafficEvents.{all_sums, frame_event, frame_heard, if_followed, subchannel_sums, raw_by}
+pub use Rattle.heard_events.specs.TrafficEvents.{raw_softs}
+unfoldable pub use Rattle.heard_events.specs.TrafficEvents.{power_bits_at, decoded_at, frames_by}
 pub use Rattle.heard_events.specs.TrafficStreams.{ends_now, frame_state, frames_bound, frames_now, has_frame, replaced_in, stream_of}
 pub use Rattle.heard_events.specs.TrafficStreams.{traffic_start, traffic_stream}
 pub use Rattle.heard_events.specs.Tuning.{Tuning, fingers_of, modulo_code, sync_bound, sync_stream}
@@ -179,7 +179,7 @@ pub use Rattle.pilot_sets.specs.declared.standing.ActivePilot.{ActivePilot}
 pub use Rattle.pilot_sets.specs.declared.strengths.Strength.{Strength}
 pub use Rattle.pilot_sets.specs.declared.thresholds.Thresholds.{Thresholds}
 pub use Rattle.quality_bits.proofs.Opened.{stated_bounds, stated_from}
-pub use Rattle.quality_bits.proofs.TrafficWords.{word_fills}
+pub use Rattle.quality_bits.proofs.TrafficCodewords.{codeword_fills}
 pub use Rattle.quality_bits.proofs.Wholes.{length-capsule, whole-capsule}
 pub use Rattle.quality_bits.specs.Capsules.{FillsCapsule, IsWhole, octets, stated_bits}
 unfoldable pub use Rattle.quality_bits.specs.Capsules.{capsule, front_capsule, is_stated}
@@ -187,7 +187,7 @@ pub use Rattle.quality_bits.specs.Kinds.{quality_indicator}
 pub use Rattle.quality_bits.specs.Pieces.{Piece, bodies, but_last, from_last_start, piece}
 unfoldable pub use Rattle.quality_bits.specs.Pieces.{capsule_ending}
 unfoldable pub use Rattle.quality_bits.specs.Quality.{check_bits}
-pub use Rattle.quality_bits.specs.TrafficWords.{information_of, quality_of, repeats_of, traffic_word}
+pub use Rattle.quality_bits.specs.TrafficCodewords.{information_of, quality_of, repeats_of, traffic_codeword}
 pub use Rattle.quality_bits.specs.declared.kind.Kind.TheVariants.{M30}
 pub use Rattle.quality_bits.specs.declared.rate.Rate.{Rate}
 pub use Rattle.quality_bits.specs.declared.rate.Rate.TheVariants.{R1200, R2400, R4800, R9600}
@@ -208,10 +208,10 @@ pub use Rattle.symbol_path.proofs.PowerPlaces.{ArePairs, pairs_below, pairs_in_g
 pub use Rattle.symbol_path.proofs.SentOnceTwo.{kept_once}
 pub use Rattle.symbol_path.proofs.SentTwo.{get_or-sent2, length-sent2}
 pub use Rattle.symbol_path.proofs.SymbolChips.{on_again}
-pub use Rattle.symbol_path.proofs.WordsTwo.{length-word_bits}
-pub use Rattle.symbol_path.specs.FramesTwo.{word_bits}
-pub use Rattle.symbol_path.specs.Scrambling.{group_scrambling, power_place, power_start, scrambling, symbol_or_command}
-unfoldable pub use Rattle.symbol_path.specs.Scrambling.{power_places, with_commands}
+pub use Rattle.symbol_path.proofs.CodewordsTwo.{length-codeword_bits}
+pub use Rattle.symbol_path.specs.FramesTwo.{codeword_bits}
+pub use Rattle.symbol_path.specs.Scrambling.{group_scrambling, power_place, power_start, scrambling, symbol_or_power_bit}
+unfoldable pub use Rattle.symbol_path.specs.Scrambling.{power_places, with_power_bits}
 pub use Rattle.symbol_path.specs.SentOrder.{Shape, address, data_shape, place, shape_of, size, sync_shape}
 unfoldable pub use Rattle.symbol_path.specs.SentOrder.{sent}
 pub use Rattle.symbol_path.specs.SentOrderTwo.{is_dropped, repeated_symbol, sent2}
@@ -226,18 +226,18 @@ pub use Rattle.sync_message.specs.declared.fields.SyncFields.{SyncFields}
 unfoldable pub use Rattle.traffic_message.specs.Multiplex.{split_9600}
 pub use Rattle.traffic_message.specs.declared.body.TrafficBody.{TrafficBody}
 pub use Rattle.viterbi.proofs.Agreement.{agrees_alone}
-pub use Rattle.viterbi.proofs.Choices.{words_same}
-pub use Rattle.viterbi.proofs.Sent.{zero_word_best}
+pub use Rattle.viterbi.proofs.Choices.{codewords_same}
+pub use Rattle.viterbi.proofs.Sent.{zero_codeword_best}
 pub use Rattle.viterbi.proofs.Unique.{by_definition}
-pub use Rattle.viterbi.specs.Best.{IsAllowed, IsBestWord}
+pub use Rattle.viterbi.specs.Best.{IsAllowed, IsBestCodeword}
 pub use Rattle.viterbi.specs.Laws.{signed}
-pub use Rattle.viterbi.specs.Words.{Word, best_word, correlation, score_of}
-pub use Rattle.viterbi.specs.declared.word.Ends.TheVariants.{Free, Zero}
+pub use Rattle.viterbi.specs.Codewords.{Codeword, best_codeword, correlation, score_of}
+pub use Rattle.viterbi.specs.declared.codeword.Ends.TheVariants.{Free, Zero}
 pub use Rattle.walsh.proofs.RowTable.{orthogonal}
 pub use Rattle.walsh.specs.Walsh.{walsh}
 unfoldable pub use Rattle.walsh.specs.Walsh.{row_sum}
 pub use Rattle.clean_link.specs.CleanLaws.{AreZeroWithoutSync, FramesAreZeros, FramesComeBack, HaveSentSigns, IsMarkedWhereHeard}
-pub use Rattle.clean_link.specs.CleanLaws.{MarksAreTrue, SentWordsAreTheOnlyBest, WholeSendingsComeBack}
+pub use Rattle.clean_link.specs.CleanLaws.{MarksAreTrue, SentCodewordsAreTheOnlyBest, WholeSendingsComeBack}
 pub use Rattle.clean_link.specs.CleanLink.{IsNoDirection, IsNotDirected, IsOnPath, IsTrueMark, IsTunedTo, events_of_channel}
 pub use Rattle.clean_link.specs.CleanLink.{first_sync_frame, heard_behind, is_whole, sending_begins, sending_ends, sending_event}
 pub use Rattle.clean_link.specs.CleanLink.{soft_strength, tuning_to, whole_sendings}
@@ -252,8 +252,8 @@ pub use Rattle.clean_link.specs.DistinctWorked.{AFullRateFrameIsDistinct, ZerosA
 pub use Rattle.clean_link.specs.HeardEach.{AreEventsOf, AreFramesBehind, AreMessagesBehind, EachChannelComesBack, FollowsOne, IsEventOf}
 pub use Rattle.clean_link.specs.HeardEach.{is_frame, is_message, is_page, is_sync}
 pub use Rattle.clean_link.specs.HeardFrames.{AreDistinct, IsAssigned, IsDistinctFrame, IsOnePilot, SendsSetOne, SendsSetTwo, SendsSymbols}
-pub use Rattle.clean_link.specs.HeardFrames.{ShowCommands, ShowFrame, frame_chip, frame_ends, frame_told, frames_of_channel, is_received}
-pub use Rattle.clean_link.specs.HeardFrames.{received_frames, replaced_of, sent_commands, sent_frame_event, told_on, word_symbols}
+pub use Rattle.clean_link.specs.HeardFrames.{ShowPowerBits, ShowFrame, frame_chip, frame_ends, frame_told, frames_of_channel, is_received}
+pub use Rattle.clean_link.specs.HeardFrames.{received_frames, replaced_of, sent_power_bits, sent_frame_event, told_on, codeword_symbols}
 unfoldable pub use Rattle.clean_link.specs.HeardFrames.{frames_sent, sent_bits}
 pub use Rattle.clean_link.specs.HeardPages.{KnownPage, PagesComeBack, ReadPage, end_chip, known_page, message_in, page_told, pages_numbered}
 pub use Rattle.clean_link.specs.HeardPages.{pages_of_channel, pages_within, placed_pages, round_sent, type_within}
@@ -263,22 +263,22 @@ unfoldable pub use Rattle.clean_link.specs.HeardSignals.{messages_sent}
 pub use Rattle.clean_link.specs.OnlyBestFrames.{HeardAreTheOnlyBest, IsOnlyBestFrame, IsOnlyBestFrame2, ReceivedAreTheOnlyBest}
 pub use Rattle.clean_link.specs.OnlyBestFrames.{SetTwoAreTheOnlyBest}
 pub use Rattle.clean_link.specs.PageLaws.{PageSendingsComeBack, WholePagesComeBack}
-pub use Rattle.clean_link.specs.PagingLaws.{MarksTellTheRate, PagingFramesComeBack, PagingHaveSentSigns, PagingWordsAreTheOnlyBest}
+pub use Rattle.clean_link.specs.PagingLaws.{MarksTellTheRate, PagingFramesComeBack, PagingHaveSentSigns, PagingCodewordsAreTheOnlyBest}
 pub use Rattle.clean_link.specs.PagingLaws.{SilentPagingFramesAreZeros, SilentPagingIsZero, UnmarkedWithoutSync, ordered_symbols}
-pub use Rattle.clean_link.specs.ReceivedFrames.{AreReceived, IsDistinctFrame2, IsReceivedAs, IsSentFrame2, cycled_frame2, word_symbols2}
+pub use Rattle.clean_link.specs.ReceivedFrames.{AreReceived, IsDistinctFrame2, IsReceivedAs, IsSentFrame2, cycled_frame2, codeword_symbols2}
 pub use Rattle.clean_link.specs.ReceivedLaws.{EachFrameIsReceived, FramesBehindMark, FramesShowSymbols, SetOneSends, SetTwoBehindMark}
 pub use Rattle.clean_link.specs.ReceivedLaws.{SetTwoFramesComeBack, SetTwoSends}
 pub use Rattle.clean_link.specs.SentEvents.{FollowsSent, NoEventIsDirected, WholeMessagesComeBack, by_places, is_at, known_event}
 pub use Rattle.clean_link.specs.SentEvents.{pages_behind_mark, pages_with_sync, told_by_first, told_followed, told_with_sync}
 unfoldable pub use Rattle.clean_link.specs.SentEvents.{paging_sent, sent_events, sets_heard, signaling_sent, traffic_sent}
-pub use Rattle.clean_link.specs.SentWords.{AreReadBy, IsOnlyBest, IsWholeChannel, scrambled, span_softs, span_word}
-pub use Rattle.clean_link.specs.SharedWords.{AreDistinctBySharing, AreDistinctBySharing2, SharesNone, SharesNone2, gives, is_known2}
-pub use Rattle.clean_link.specs.SharedWords.{lost_symbols2, sharing, sharing2, shown_of}
-unfoldable pub use Rattle.clean_link.specs.SharedWords.{words_giving}
+pub use Rattle.clean_link.specs.SentCodewords.{AreReadBy, IsOnlyBest, IsWholeChannel, scrambled, span_softs, span_codeword}
+pub use Rattle.clean_link.specs.SharedCodewords.{AreDistinctBySharing, AreDistinctBySharing2, SharesNone, SharesNone2, gives, is_known2}
+pub use Rattle.clean_link.specs.SharedCodewords.{lost_symbols2, sharing, sharing2, shown_of}
+unfoldable pub use Rattle.clean_link.specs.SharedCodewords.{codewords_giving}
 pub use Rattle.clean_link.specs.Signals.{AreApart, HaveOwnRows, IsAligned, IsFrameAt, IsFrameOf, IsHeardBy, level_at, path_finger}
 pub use Rattle.clean_link.specs.Signals.{reference_finger, row_level}
-pub use Rattle.clean_link.specs.TrafficLaws.{CommandsComeBack, EachFrameIsHeard, HearsTraffic, IsHeardAs, IsUndirected, NoneIsDirected}
-pub use Rattle.clean_link.specs.TrafficLaws.{OnePilotIsHeard, SentFramesComeBack, SentMessagesComeBack, SixteenCommandsAreSent}
+pub use Rattle.clean_link.specs.TrafficLaws.{PowerBitsComeBack, EachFrameIsHeard, HearsTraffic, IsHeardAs, IsUndirected, NoneIsDirected}
+pub use Rattle.clean_link.specs.TrafficLaws.{OnePilotIsHeard, SentFramesComeBack, SentMessagesComeBack, SixteenPowerBitsAreSent}
 pub use Rattle.clean_link.specs.TrafficLaws.{TrafficFramesComeBack, TrafficHaveSentSigns}
 pub use Rattle.clean_link.specs.WholePages.{AreWholePages, Placed, capsules_with_frames, cycle_half_frames, frame_capsules, is_between}
 pub use Rattle.clean_link.specs.WholePages.{is_whole_page, placed, sending_of}

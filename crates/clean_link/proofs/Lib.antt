@@ -1,9 +1,9 @@
 -- of any channel that is sent: what a finger on the path finds of it, and the plan's channels
 pub mod Common
 pub mod signal
--- of any stream: when its frames end, how they lie in spans, and the words that they are
+-- of any stream: when its frames end, how they lie in spans, and the codewords that they are
 pub mod frames
--- the sync channel, the first case: its pieces, its sendings and what is heard of them
+-- the sync channel, the first case: its pieces, its transmissions and what is heard of them
 pub mod sendings
 -- the mark that a sync message sets
 pub mod marks

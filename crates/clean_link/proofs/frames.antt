@@ -1,7 +1,7 @@
 -- The frames of a stream.
 pub mod Times
 pub mod Spans
-pub mod Words
+pub mod Codewords
 pub mod Scores
 pub mod Heard
 -- those of the sync channel

@@ -1,4 +1,4 @@
--- The sendings of a sync channel.
+-- The transmissions of a sync channel.
 pub mod Pieces
 pub mod Capsules
 pub mod Events

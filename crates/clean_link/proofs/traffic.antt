@@ -5,7 +5,7 @@ pub mod Steady
 pub mod Undirected
 pub mod Times
 pub mod Signs
-pub mod Commands
+pub mod PowerBits
 pub mod Frames
 pub mod OnlyBest
 pub mod Signaling
@@ -13,10 +13,10 @@ pub mod NoneSent
 pub mod Back
 pub mod Received
 pub mod KeptSymbols
-pub mod HiddenWords
+pub mod HiddenCodewords
 pub mod FullRate
 pub mod WorkedFrames
-pub mod SharedWords
+pub mod SharedCodewords
 pub mod SharedFrames
 pub mod PowerPlaces
 pub mod DistinctPlan

@@ -15,7 +15,7 @@ use Rattle.heard_events.specs.Streams.{Stream, frame_own_bits, frame_softs, is_i
 use Rattle.heard_events.specs.Streams.{span_frames}
 use Rattle.cell_plan.specs.Stated.{IsReceivable}
 use Rattle.clean_link.specs.CleanLink.{soft_strength}
-use Rattle.clean_link.specs.SentWords.{AreReadBy, IsOnlyBest, span_word}
+use Rattle.clean_link.specs.SentCodewords.{AreReadBy, IsOnlyBest, span_codeword}
 use Rattle.clean_link.specs.Signals.{IsFrameAt, IsFrameOf, IsHeardBy, path_finger}
 
 -- The soft values of a frame, not turned by scrambling, are one number times the signs of the
@@ -44,8 +44,8 @@ EarlyFramesAreZero = (width : Width) (plan : CellPlan) (c : Carrier) (form : For
     softs (made_samples plan) (path_finger plan c.row ∷ []) form u ≡
     replicate (symbols form) (pos 0)
 
--- The soft values of a stream's frames, turned by its scrambling, are one number times the signs of
--- the symbols before scrambling.
+-- The soft values of a stream's frames, descrambled by its scrambling, are one number times the
+-- signs of the symbols before scrambling.
 abbrev pub StreamsShowSymbols : Type 0
 StreamsShowSymbols = (width : Width) (plan : CellPlan) (c : Carrier) (s : Stream)
     (bits_of : ℕ → List Bool) (base k : ℕ) →
@@ -68,12 +68,13 @@ ChannelFramesComeBack = (width : Width) (plan : CellPlan) (c : Carrier) (s : Str
     AreReadBy c s bits_of base → is_in_file plan.link.samples s k ≡ true →
     frame_own_bits plan.link.samples (made_samples plan) s k ≡ bits_of (base + k)
 
--- Of all words of a frame's span, with any start bits, the sent one alone has the greatest score.
-abbrev pub ChannelWordsAreTheOnlyBest : Type 0
-ChannelWordsAreTheOnlyBest = (width : Width) (plan : CellPlan) (c : Carrier) (s : Stream)
+-- Of all codewords of a frame's span, with any start bits, the sent one alone has the greatest
+-- score.
+abbrev pub ChannelCodewordsAreTheOnlyBest : Type 0
+ChannelCodewordsAreTheOnlyBest = (width : Width) (plan : CellPlan) (c : Carrier) (s : Stream)
     (bits_of : ℕ → List Bool) (base k : ℕ) →
     IsReceivable width plan → Contains (carriers plan) c → 0 < c.gain → IsHeardBy plan c s base →
     AreReadBy c s bits_of base → is_in_file plan.link.samples s k ≡ true →
     IsOnlyBest plan.link.samples (made_samples plan) s k
-    (span_word bits_of (base + span_first plan.link.samples s k)
+    (span_codeword bits_of (base + span_first plan.link.samples s k)
     (span_frames plan.link.samples s k))

@@ -16,7 +16,7 @@ use Rattle.heard_events.specs.Streams.{span_frames}
 use Rattle.heard_events.specs.SyncEvents.{sync_events_at}
 use Rattle.heard_events.specs.Tuning.{Tuning, sync_stream}
 use Rattle.heard_events.specs.declared.mark.Mark.{Mark}
-use Rattle.clean_link.specs.SentWords.{IsOnlyBest, span_word}
+use Rattle.clean_link.specs.SentCodewords.{IsOnlyBest, span_codeword}
 use Rattle.clean_link.specs.CleanLink.{IsOnPath, IsTrueMark, first_sync_frame, soft_strength}
 use Rattle.clean_link.specs.CleanLink.{sync_sent}
 use Rattle.cell_plan.specs.Stated.{IsReceivable}
@@ -47,14 +47,15 @@ FramesComeBack = (width : Width) (plan : CellPlan) (sync : SyncPlan) (t : Tuning
     frame_own_bits t.count (made_samples plan) (sync_stream t) k ≡
     sync_frame_bits plan.cell sync.message (first_sync_frame plan + k)
 
--- And the word that was sent in the frame's span, with the bits before it, is the only one of
+-- And the codeword that was sent in the frame's span, with the bits before it, is the only one of
 -- greatest score.
-abbrev pub SentWordsAreTheOnlyBest : Type 0
-SentWordsAreTheOnlyBest = (width : Width) (plan : CellPlan) (sync : SyncPlan) (t : Tuning) (k : ℕ) →
+abbrev pub SentCodewordsAreTheOnlyBest : Type 0
+SentCodewordsAreTheOnlyBest =
+    (width : Width) (plan : CellPlan) (sync : SyncPlan) (t : Tuning) (k : ℕ) →
     IsReceivable width plan → plan.sync ≡ Some sync → IsOnPath plan t →
     is_in_file t.count (sync_stream t) k ≡ true →
     IsOnlyBest t.count (made_samples plan) (sync_stream t) k
-    (span_word (sync_frame_bits plan.cell sync.message)
+    (span_codeword (sync_frame_bits plan.cell sync.message)
     (first_sync_frame plan + span_first t.count (sync_stream t) k)
     (span_frames t.count (sync_stream t) k))
 
@@ -65,7 +66,7 @@ FramesAreZeros = (width : Width) (plan : CellPlan) (t : Tuning) (k : ℕ) →
     is_in_file t.count (sync_stream t) k ≡ true →
     frame_own_bits t.count (made_samples plan) (sync_stream t) k ≡ replicate 32 false
 
--- on the sync channel a handset hears the whole sendings, each with its message, in order, and
+-- on the sync channel a handset hears the whole transmissions, each with its message, in order, and
 -- nothing else
 abbrev pub WholeSendingsComeBack : Type 0
 WholeSendingsComeBack = (width : Width) (plan : CellPlan) (t : Tuning) →
@@ -79,7 +80,7 @@ MarksAreTrue = (width : Width) (plan : CellPlan) (t : Tuning) (n : ℕ) (m : Mar
     IsReceivable width plan → IsOnPath plan t → mark t (made_samples plan) n ≡ Some m →
     (superframes : ℕ) × IsTrueMark plan m superframes
 
--- there is one in the file just where a sending is whole
+-- there is one in the file just where a transmission is whole
 abbrev pub IsMarkedWhereHeard : Type 0
 IsMarkedWhereHeard = (width : Width) (plan : CellPlan) (t : Tuning) →
     IsReceivable width plan → IsOnPath plan t →

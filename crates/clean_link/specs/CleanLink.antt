@@ -45,7 +45,7 @@ abbrev pub IsNotDirected : Event → Type 0
 IsNotDirected (Pilot phase energy) = Unit {0}
 IsNotDirected (Sync n capsule message) = Unit {0}
 IsNotDirected (Paging n capsule message) = Unit {0}
-IsNotDirected (Frame n rate good bits commands) = Unit {0}
+IsNotDirected (Frame n rate good bits power_bits) = Unit {0}
 IsNotDirected (OnTraffic n capsule message) = IsNoDirection message.body
 IsNotDirected (Sets n time active candidate report) = Unit {0}
 
@@ -110,10 +110,10 @@ abbrev pub first_sync_frame : CellPlan → ℕ
 first_sync_frame plan =
     (plan.link.start + (32768 - phase_at plan plan.link.start) % 32768 - 64 * plan.cell.pn) / 32768
 
--- ---- whole sendings
+-- ---- whole transmissions
 
--- the local chips of a sending: the first chip of its first frame, and the end of the frame that
--- holds its capsule's last bit
+-- the local chips of a transmission: the first chip of its first frame, and the end of the frame
+-- that holds its capsule's last bit
 abbrev pub sending_begins : CellPlan → SyncFields → ℕ → ℕ
 sending_begins plan m sending =
     64 * plan.cell.pn + 98304 * (sending * superframes_a_sending plan.cell m)
@@ -132,7 +132,7 @@ abbrev pub whole_sendings : CellPlan → SyncFields → List ℕ
 whole_sendings plan m =
     filter (is_whole plan m) (places ((plan.link.start + plan.link.samples) / 98304 + 1))
 
--- what a handset tells of a sending, when it knows the last of its frames
+-- what a handset tells of a transmission, when it knows the last of its frames
 abbrev pub sending_event : CellPlan → SyncFields → ℕ → Event
 sending_event plan m sending =
     Sync
@@ -140,7 +140,7 @@ sending_event plan m sending =
     (sync_capsule plan.cell.check30 (message_of plan.cell m sending))
     (message_of plan.cell m sending)
 
--- what it tells of all whole sendings, in order
+-- what it tells of all whole transmissions, in order
 abbrev pub events_of_channel : CellPlan → Option SyncPlan → List Event
 events_of_channel plan None = []
 events_of_channel plan (Some sync) =

@@ -28,7 +28,7 @@ use Rattle.clean_link.specs.SentEvents.{signaling_sent, told_with_sync, IsFollow
 
 -- ---- the cell
 
--- a sync message of 25 octets, whose first sending tells the time of superframe 7
+-- a sync message of 25 octets, whose first transmission tells the time of superframe 7
 abbrev pub told_message : SyncFields
 told_message = record {
   prev = 3;
@@ -51,14 +51,14 @@ abbrev pub frame_at : Rate → List Bool → TrafficFrame
 frame_at rate information = record {
   rate = rate;
   information = information;
-  commands = replicate 16 true;
+  power_bits = replicate 16 true;
 }
 
 abbrev pub frame2_at : Rate2 → List Bool → TrafficFrame2
 frame2_at rate information = record {
   rate = rate;
   information = information;
-  commands = replicate 16 true;
+  power_bits = replicate 16 true;
 }
 
 -- information bits of each rate; those at 9,600 bits a second are primary traffic alone
@@ -127,7 +127,7 @@ on_row row = record { esn = 0x9f1c0a37; row = row; offset = 0 }
 
 -- ---- the laws
 
--- The cell is lawful, and its first whole sending tells the mark of superframe 7.
+-- The cell is lawful, and its first whole transmission tells the mark of superframe 7.
 abbrev pub HasMark : Type 0
 HasMark = IsReceivable Sixteen distinct_plan
     × (told_with_sync distinct_plan distinct_plan.sync ≡ Some 7)

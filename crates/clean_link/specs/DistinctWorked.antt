@@ -1,4 +1,5 @@
--- A frame of a traffic channel that no other word shares, and two that have one another's symbols.
+-- A frame of a traffic channel that no other codeword shares, and two that have one another's
+-- symbols.
 use Rattle.std.specs.Prelude.{ℕ, Bool, true, false, List, [], ◌∷◌, ◌++◌, replicate}
 use Rattle.chip_core.specs.Bits.{binary}
 use Rattle.quality_bits.specs.declared.rate.Rate.{Rate}
@@ -25,7 +26,7 @@ abbrev pub frame_with : Rate → List Bool → TrafficFrame
 frame_with rate information = record {
   rate = rate;
   information = information;
-  commands = replicate 16 true;
+  power_bits = replicate 16 true;
 }
 
 -- at 9,600 bits a second that frame is distinct

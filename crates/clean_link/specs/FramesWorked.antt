@@ -9,7 +9,7 @@ use Rattle.heard_events.specs.Given.{at_of}
 use Rattle.heard_events.specs.declared.event.Event.{Event}
 use Rattle.heard_events.specs.declared.event.Event.TheVariants.{Frame, Paging, Pilot, Sets, Sync}
 use Rattle.heard_events.specs.declared.event.Event.TheVariants.{Traffic}
-use Rattle.clean_link.specs.HeardFrames.{frames_sent, sent_bits, sent_commands}
+use Rattle.clean_link.specs.HeardFrames.{frames_sent, sent_bits, sent_power_bits}
 use Rattle.clean_link.specs.WorkedCells.{cell_of_frames}
 
 -- two frames, whose power control bits tell a handset to raise its power, and to lower it
@@ -17,14 +17,14 @@ slow : TrafficFrame
 slow = record {
   rate = R1200;
   information = replicate 16 true;
-  commands = replicate 16 false;
+  power_bits = replicate 16 false;
 }
 
 faster : TrafficFrame
 faster = record {
   rate = R2400;
   information = replicate 40 true;
-  commands = replicate 16 true;
+  power_bits = replicate 16 true;
 }
 
 -- so much of a cell, from a local chip on, with a traffic channel that sends the two in turn
@@ -36,7 +36,7 @@ abbrev bits_in : Event → ℕ
 bits_in (Pilot phase energy) = 0
 bits_in (Sync n capsule message) = 0
 bits_in (Paging n capsule message) = 0
-bits_in (Frame n rate good bits commands) = length bits
+bits_in (Frame n rate good bits power_bits) = length bits
 bits_in (Traffic n capsule message) = 0
 bits_in (Sets n time active candidate report) = 0
 
@@ -65,6 +65,6 @@ unfolding heard cell frames_sent
 no_such_channel = refl
 
 -- power control bits as they are sent
-lowering : sent_commands faster ≡ replicate 16 true
+lowering : sent_power_bits faster ≡ replicate 16 true
 unfolding faster sent_bits places
 lowering = refl

@@ -22,7 +22,7 @@ use Rattle.chip_core.specs.declared.assignment.Traffic.{Traffic}
 use Rattle.clean_link.specs.CleanLink.{IsNotDirected, IsOnPath, sync_sent}
 use Rattle.cell_plan.specs.Stated.{IsReceivable}
 use Rattle.clean_link.specs.HeardFrames.{frame_ends, is_received, received_frames, replaced_of}
-use Rattle.clean_link.specs.HeardFrames.{sent_commands, sent_frame_event, AreDistinct, IsAssigned}
+use Rattle.clean_link.specs.HeardFrames.{sent_power_bits, sent_frame_event, AreDistinct, IsAssigned}
 use Rattle.clean_link.specs.HeardFrames.{IsDistinctFrame, SendsSetOne}
 use Rattle.clean_link.specs.HeardSignals.{messages_of_channel}
 use Rattle.clean_link.specs.SentEvents.{paging_sent, told_with_sync}
@@ -38,7 +38,7 @@ is_page (Paging n capsule message) = true
 is_page event = false
 
 abbrev pub is_frame : Event → Bool
-is_frame (Frame n rate good bits commands) = true
+is_frame (Frame n rate good bits power_bits) = true
 is_frame event = false
 
 abbrev pub is_message : Event → Bool
@@ -53,7 +53,7 @@ is_message event = false
 pub record IsSentFrame (plan : CellPlan) (p : TrafficPlan) (frame : ℕ) (f : TrafficFrame)
     (event : Event) : Type 0 where
   pub decoded : Decoded
-  pub powered : event ≡ frame_event (frame_ends plan p frame) decoded (sent_commands f)
+  pub powered : event ≡ frame_event (frame_ends plan p frame) decoded (sent_power_bits f)
   pub back : IsDistinctFrame (replaced_of plan p frame) f →
       event ≡ sent_frame_event (frame_ends plan p frame) f
 
@@ -98,8 +98,8 @@ pub record FollowsOne (plan : CellPlan) (followed : Option Traffic) (p : Traffic
   pub one : SendsSetOne p
 
 -- What a handset hears of a cell that follows a paging channel, and a traffic channel or none: of
--- the sync channel just the whole sendings; where the cell sends the paging channel, or no traffic
--- channel has its row, just the channel's whole pages; and where the cell sends the traffic
+-- the sync channel just the whole transmissions; where the cell sends the paging channel, or no
+-- traffic channel has its row, just the channel's whole pages; and where the cell sends the traffic
 -- channel, with frames of rate set 1, one event for each of them from the mark on, and the messages
 -- in them.
 pub record HearsEach (plan : CellPlan) (paging : ℕ) (followed : Option Traffic)

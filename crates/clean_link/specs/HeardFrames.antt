@@ -7,7 +7,7 @@ use Rattle.std.specs.List.{flat_map}
 use Rattle.chip_core.specs.Bits.{places, sign}
 use Rattle.long_code.specs.LongCode.{traffic_mask}
 use Rattle.symbol_path.specs.Scrambling.{power_places}
-use Rattle.frame_decoder.specs.Laws.{frame_word, IsUnshared, ShowSymbols}
+use Rattle.frame_decoder.specs.Laws.{frame_codeword, IsUnshared, ShowSymbols}
 use Rattle.frame_decoder.specs.TrafficFrames.{frame_symbols, is_replaced}
 use Rattle.cell_plan.specs.Signal.{frames_of}
 use Rattle.cell_plan.specs.TrafficFrames.{cycled_frame, frame_state, sent_with, set_one, set_two}
@@ -47,45 +47,45 @@ pub record IsOnePilot (traffic : Traffic) (legs : List Leg) : Type 0 where
 -- ---- what a frame sends
 
 -- the 384 symbols of a frame before scrambling, in the order in which they are sent
-abbrev pub word_symbols : TrafficFrame → List Bool
-word_symbols f = frame_symbols f.rate (frame_word f.rate f.information)
+abbrev pub codeword_symbols : TrafficFrame → List Bool
+codeword_symbols f = frame_symbols f.rate (frame_codeword f.rate f.information)
 
 -- the power control bit of each of its 16 groups, of a list of them
 unfoldable pub sent_bits : List Bool → List Bool
-sent_bits commands = map (λ g. get_or commands g false) (places 16)
+sent_bits power_bits = map (λ g. get_or power_bits g false) (places 16)
 
-abbrev pub sent_commands : TrafficFrame → List Bool
-sent_commands f = sent_bits f.commands
+abbrev pub sent_power_bits : TrafficFrame → List Bool
+sent_power_bits f = sent_bits f.power_bits
 
 -- At the places that power control bits replace, the soft values, which no scrambling turns, are a
 -- number times the sign of the group's bit.
-abbrev pub ShowCommands : List ℕ → ℕ → List Bool → List ℤ → Type 0
-ShowCommands replaced strength commands softs =
+abbrev pub ShowPowerBits : List ℕ → ℕ → List Bool → List ℤ → Type 0
+ShowPowerBits replaced strength power_bits softs =
     (i : ℕ) → i < 384 → is_replaced replaced i ≡ true →
-    get_or softs i (pos 0) ≡ pos strength *ℤ sign (get_or commands (i / 24) false)
+    get_or softs i (pos 0) ≡ pos strength *ℤ sign (get_or power_bits (i / 24) false)
 
 -- A frame whose symbols at the places that no power control bit replaces are those of no other
--- word, at none of the four rates, whether that word's quality bits are right or not.
+-- codeword, at none of the four rates, whether that codeword's quality bits are right or not.
 abbrev pub IsDistinctFrame : List ℕ → TrafficFrame → Type 0
-IsDistinctFrame replaced f = IsUnshared replaced f.rate (frame_word f.rate f.information)
+IsDistinctFrame replaced f = IsUnshared replaced f.rate (frame_codeword f.rate f.information)
 
 -- What frame `frame` of a channel of any rate set sends: these 384 symbols before scrambling, in
 -- the order in which they are sent, some of which these power control bits replace.
 pub record SendsSymbols (plan : CellPlan) (p : TrafficPlan) (frame : ℕ)
-    (symbols commands : List Bool) : Type 0 where
+    (symbols power_bits : List Bool) : Type 0 where
   pub all : length symbols ≡ 384
   pub given : traffic_frame_symbols (frames_of plan p) frame
-      ≡ sent_with (frame_state (frames_of plan p) frame) (traffic_mask p.esn) commands symbols
+      ≡ sent_with (frame_state (frames_of plan p) frame) (traffic_mask p.esn) power_bits symbols
 
--- Soft values of a frame that show what it sends: turned by its scrambling they are, at the places
--- that no power control bit replaces, one positive number times the signs of its symbols, and
--- unturned, at the others, that number times the signs of the power control bits.
-pub record ShowFrame (replaced : List ℕ) (strength : ℕ) (symbols commands : List Bool)
-    (turned unturned : List ℤ) : Type 0 where
+-- Soft values of a frame that show what it sends: descrambled by its scrambling they are, at the
+-- places that no power control bit replaces, one positive number times the signs of its symbols,
+-- and raw, at the others, that number times the signs of the power control bits.
+pub record ShowFrame (replaced : List ℕ) (strength : ℕ) (symbols power_bits : List Bool)
+    (descrambled raw : List ℤ) : Type 0 where
   pub strong : 0 < strength
-  pub long : length turned ≡ 384
-  pub shows : ShowSymbols replaced strength symbols turned
-  pub powered : ShowCommands replaced strength commands unturned
+  pub long : length descrambled ≡ 384
+  pub shows : ShowSymbols replaced strength symbols descrambled
+  pub powered : ShowPowerBits replaced strength power_bits raw
 
 -- ---- the frames of a channel
 
@@ -120,7 +120,7 @@ frame_ends plan p frame = frame_chip p (frame + 1) - plan.link.start
 
 -- what a handset tells of a frame that ends at so many samples
 abbrev pub sent_frame_event : ℕ → TrafficFrame → Event
-sent_frame_event n f = Frame n f.rate true f.information (sent_commands f)
+sent_frame_event n f = Frame n f.rate true f.information (sent_power_bits f)
 
 -- what it tells of the one that is sent as frame `frame`
 abbrev pub frame_told : CellPlan → TrafficPlan → ℕ → List Event

@@ -56,8 +56,8 @@ pages_within t channel m samples n =
 abbrev pub message_in : List Bool → PagingMessage
 message_in body = message_at (number_at 0 8 body) (drop 8 body)
 
--- what a handset tells of a sending of a page, so many half-frames behind the first one, when it
--- knows the frame of its last bit
+-- what a handset tells of a transmission of a page, so many half-frames behind the first one, when
+-- it knows the frame of its last bit
 abbrev pub page_told : CellPlan → ℕ → Placed → KnownPage
 page_told plan half_frames p = record {
   at = heard_behind 24576 plan.link.samples

@@ -14,8 +14,8 @@ pub mod PagingLaws
 pub mod ReceivedFrames
 pub mod ReceivedLaws
 pub mod SentEvents
-pub mod SentWords
-pub mod SharedWords
+pub mod SentCodewords
+pub mod SharedCodewords
 pub mod Signals
 pub mod TrafficLaws
 pub mod WholePages

@@ -19,7 +19,7 @@ PageSendingsComeBack = (rate : Rate) (form : CheckForm) (pages : List Page) (fir
     ≡ sendings_between rate form pages first n rounds
 
 -- So the frames from a mark to a file's end, of which the last chip is known, end the capsules of
--- the sendings that are whole.
+-- the transmissions that are whole.
 abbrev pub WholePagesComeBack : Type 0
 WholePagesComeBack = (rate : Rate) (form : CheckForm) (pages : List Page) (first end_chip : ℕ) →
     AreWholePages rate pages →

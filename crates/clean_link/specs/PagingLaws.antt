@@ -5,7 +5,7 @@ use Rattle.std.specs.Prelude.{replicate, pos, None, Some}
 use Rattle.std.specs.List.{Contains}
 use Rattle.rake_finger.specs.declared.form.Form.TheVariants.{Data}
 use Rattle.symbol_path.specs.SentOrder.{data_shape, sent}
-use Rattle.quality_bits.specs.TrafficWords.{repeats_of}
+use Rattle.quality_bits.specs.TrafficCodewords.{repeats_of}
 use Rattle.viterbi.specs.Laws.{signed}
 use Rattle.chip_core.specs.declared.width.Width.{Width}
 use Rattle.cell_plan.specs.PageCycles.{Cycle, cycle_frame_bits}
@@ -24,7 +24,7 @@ use Rattle.heard_events.specs.Tuning.{Tuning}
 use Rattle.heard_events.specs.declared.mark.Mark.{Mark}
 use Rattle.clean_link.specs.CleanLink.{IsOnPath, IsTrueMark, soft_strength}
 use Rattle.cell_plan.specs.Stated.{IsReceivable}
-use Rattle.clean_link.specs.SentWords.{IsOnlyBest, span_word}
+use Rattle.clean_link.specs.SentCodewords.{IsOnlyBest, span_codeword}
 
 -- ---- channels that are sent
 
@@ -57,16 +57,16 @@ PagingFramesComeBack = (width : Width) (plan : CellPlan) (sync : SyncPlan) (p : 
     frame_own_bits t.count (made_samples plan) (paging_stream t p.number m) k ≡
     cycle_frame_bits (cycle_of plan p) (4 * superframes + k)
 
--- And the word that was sent in the frame's span, with the bits before it, is the only one of
+-- And the codeword that was sent in the frame's span, with the bits before it, is the only one of
 -- greatest score.
-abbrev pub PagingWordsAreTheOnlyBest : Type 0
-PagingWordsAreTheOnlyBest = (width : Width) (plan : CellPlan) (sync : SyncPlan) (p : PagingPlan)
+abbrev pub PagingCodewordsAreTheOnlyBest : Type 0
+PagingCodewordsAreTheOnlyBest = (width : Width) (plan : CellPlan) (sync : SyncPlan) (p : PagingPlan)
     (t : Tuning) (m : Mark) (superframes k : ℕ) →
     IsReceivable width plan → plan.sync ≡ Some sync → Contains plan.paging p → IsOnPath plan t →
     IsTrueMark plan m superframes → m.prat ≡ sync.message.prat →
     is_in_file t.count (paging_stream t p.number m) k ≡ true →
     IsOnlyBest t.count (made_samples plan) (paging_stream t p.number m) k
-    (span_word (cycle_frame_bits (cycle_of plan p))
+    (span_codeword (cycle_frame_bits (cycle_of plan p))
     (4 * superframes + span_first t.count (paging_stream t p.number m) k)
     (span_frames t.count (paging_stream t p.number m) k))
 

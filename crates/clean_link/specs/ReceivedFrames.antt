@@ -4,7 +4,7 @@ use Rattle.std.specs.Prelude.{ℕ, ◌*◌, ◌≡◌, true, Bool, List, map, po
 use Rattle.frame_decoder.specs.Laws.{kept_count}
 use Rattle.rake_finger.specs.declared.form.Form.TheVariants.{Data}
 use Rattle.rate_set_two.specs.Laws.{IsUnshared}
-use Rattle.rate_set_two.specs.TrafficFrames.{decoded2, frame_symbols, frame_word}
+use Rattle.rate_set_two.specs.TrafficFrames.{decoded2, frame_symbols, frame_codeword}
 use Rattle.rate_set_two.specs.declared.traffic.Decoded2.{Decoded2}
 use Rattle.cell_plan.specs.TrafficFrames.{cycled, set_two, FrameCycle}
 use Rattle.cell_plan.specs.declared.plan.CellPlan.{CellPlan}
@@ -22,14 +22,15 @@ use Rattle.clean_link.specs.SentEvents.{told_with_sync}
 -- control bits: it ends at its own end, its power control bits are the sent ones, and its soft
 -- values show what is sent.
 pub record IsReceivedAs (plan : CellPlan) (p : TrafficPlan) (frame : ℕ)
-    (symbols commands : List Bool) (soft : SoftFrame) : Type 0 where
+    (symbols power_bits : List Bool) (soft : SoftFrame) : Type 0 where
   pub ends : soft.end ≡ frame_ends plan p frame
   pub powered : soft.power ≡ Some (record {
     replaced = replaced_of plan p frame;
-    commands = sent_bits commands;
+    power_bits = sent_bits power_bits;
   })
-  pub shown : ShowFrame (replaced_of plan p frame) (soft_strength plan Data p.gain) symbols commands
-      soft.turned soft.unturned
+  pub shown : ShowFrame (replaced_of plan p frame) (soft_strength plan Data p.gain) symbols
+      power_bits
+      soft.descrambled soft.raw
 
 -- ---- frames of rate set 2
 
@@ -38,13 +39,13 @@ abbrev pub cycled_frame2 : FrameCycle → ℕ → List TrafficFrame2
 cycled_frame2 c k = cycled (set_two c.frames) k
 
 -- the 384 symbols of a frame before scrambling, in the order in which they are sent
-abbrev pub word_symbols2 : TrafficFrame2 → List Bool
-word_symbols2 f = frame_symbols f.rate (frame_word f.rate f.information)
+abbrev pub codeword_symbols2 : TrafficFrame2 → List Bool
+codeword_symbols2 f = frame_symbols f.rate (frame_codeword f.rate f.information)
 
 -- A frame whose symbols at the places that no power control bit replaces are those of no other
--- word, at none of the four rates, whether that word's quality bits are right or not.
+-- codeword, at none of the four rates, whether that codeword's quality bits are right or not.
 abbrev pub IsDistinctFrame2 : List ℕ → TrafficFrame2 → Type 0
-IsDistinctFrame2 replaced f = IsUnshared replaced f.rate (frame_word f.rate f.information)
+IsDistinctFrame2 replaced f = IsUnshared replaced f.rate (frame_codeword f.rate f.information)
 
 -- what is decoded of a frame that comes back, which is sent as frame `frame`
 abbrev pub sent_decoded2 : CellPlan → TrafficPlan → ℕ → TrafficFrame2 → Decoded2
@@ -59,15 +60,15 @@ sent_decoded2 plan p frame f = record {
 -- information bits are decoded of it, as a good frame.
 pub record IsSentFrame2 (plan : CellPlan) (p : TrafficPlan) (frame : ℕ) (f : TrafficFrame2)
     (soft : SoftFrame) : Type 0 where
-  pub received : IsReceivedAs plan p frame (word_symbols2 f) f.commands soft
+  pub received : IsReceivedAs plan p frame (codeword_symbols2 f) f.power_bits soft
   pub decoded : IsDistinctFrame2 (replaced_of plan p frame) f →
-      decoded2 (replaced_of plan p frame) soft.turned ≡ sent_decoded2 plan p frame f
+      decoded2 (replaced_of plan p frame) soft.descrambled ≡ sent_decoded2 plan p frame f
 
 -- ---- behind a mark
 
 -- Soft frames that are just a channel's frames that begin at the mark or behind it and lie in the
--- file, in order, one for each of them, of which something is true; the first whole sending tells
--- how many superframes the mark is behind local chip 0.
+-- file, in order, one for each of them, of which something is true; the first whole transmission
+-- tells how many superframes the mark is behind local chip 0.
 pub record AreReceived (plan : CellPlan) (p : TrafficPlan) (Is : ℕ → SoftFrame → Type 0)
     (frames : List SoftFrame) : Type 0 where
   pub superframes : ℕ

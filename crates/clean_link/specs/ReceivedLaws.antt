@@ -19,24 +19,24 @@ use Rattle.chip_core.specs.declared.assignment.Traffic.{Traffic}
 use Rattle.heard_events.specs.declared.soft_frame.SoftFrame.{SoftFrame}
 use Rattle.clean_link.specs.CleanLink.{IsOnPath}
 use Rattle.cell_plan.specs.Stated.{IsReceivable}
-use Rattle.clean_link.specs.HeardFrames.{is_received, received_frames, word_symbols, IsAssigned}
+use Rattle.clean_link.specs.HeardFrames.{is_received, received_frames, codeword_symbols, IsAssigned}
 use Rattle.clean_link.specs.HeardFrames.{SendsSetTwo, SendsSymbols}
-use Rattle.clean_link.specs.ReceivedFrames.{cycled_frame2, word_symbols2, AreReceived, IsReceivedAs}
-use Rattle.clean_link.specs.ReceivedFrames.{IsSentFrame2}
+use Rattle.clean_link.specs.ReceivedFrames.{cycled_frame2, codeword_symbols2, AreReceived}
+use Rattle.clean_link.specs.ReceivedFrames.{IsReceivedAs, IsSentFrame2}
 use Rattle.clean_link.specs.TrafficLaws.{HearsTraffic}
 
 -- ---- what is sent
 
--- a frame of rate set 1 sends the symbols of its word, and so does one of rate set 2
+-- a frame of rate set 1 sends the symbols of its codeword, and so does one of rate set 2
 abbrev pub SetOneSends : Type 0
 SetOneSends = (plan : CellPlan) (p : TrafficPlan) (frame : ℕ) (f : TrafficFrame) →
     cycled_frame (frames_of plan p) frame ≡ f ∷ [] →
-    SendsSymbols plan p frame (word_symbols f) f.commands
+    SendsSymbols plan p frame (codeword_symbols f) f.power_bits
 
 abbrev pub SetTwoSends : Type 0
 SetTwoSends = (plan : CellPlan) (p : TrafficPlan) (frame : ℕ) (f : TrafficFrame2) →
     cycled_frame2 (frames_of plan p) frame ≡ f ∷ [] →
-    SendsSymbols plan p frame (word_symbols2 f) f.commands
+    SendsSymbols plan p frame (codeword_symbols2 f) f.power_bits
 
 -- ---- what is received
 
@@ -54,18 +54,18 @@ EachFrameIsReceived = (width : Width) (plan : CellPlan) (p : TrafficPlan) (t : T
 -- Each of them shows what it sends, whatever that is.
 abbrev pub FramesShowSymbols : Type 0
 FramesShowSymbols = (width : Width) (plan : CellPlan) (p : TrafficPlan) (t : Tuning)
-    (traffic : Traffic) (m : Mark) (superframes frame : ℕ) (symbols commands : List Bool) →
+    (traffic : Traffic) (m : Mark) (superframes frame : ℕ) (symbols power_bits : List Bool) →
     HearsTraffic width plan p t traffic m superframes →
     is_received plan p (plan.link.start + m.sample) frame ≡ true →
-    SendsSymbols plan p frame symbols commands →
-    IsReceivedAs plan p frame symbols commands
+    SendsSymbols plan p frame symbols power_bits →
+    IsReceivedAs plan p frame symbols power_bits
     (soft_frame t (traffic_channel traffic) m (made_samples plan) (frame - 4 * superframes))
 
 -- So a distinct frame of rate set 2 is decoded with its rate and its information bits, and is good.
 abbrev pub SetTwoFramesComeBack : Type 0
 SetTwoFramesComeBack = (plan : CellPlan) (p : TrafficPlan) (frame : ℕ) (f : TrafficFrame2)
     (soft : SoftFrame) → IsTrafficFrame2 f →
-    IsReceivedAs plan p frame (word_symbols2 f) f.commands soft →
+    IsReceivedAs plan p frame (codeword_symbols2 f) f.power_bits soft →
     IsSentFrame2 plan p frame f soft
 
 -- ---- in a file
@@ -78,8 +78,8 @@ FramesBehindMark = (width : Width) (plan : CellPlan) (p : TrafficPlan) (t : Tuni
     IsReceivable width plan → IsOnPath plan t → Contains plan.traffic p → IsAssigned p traffic →
     mark t (made_samples plan) (length (made_samples plan)) ≡ Some m →
     AreReceived plan p
-    (λ frame soft. (symbols commands : List Bool) → SendsSymbols plan p frame symbols commands →
-    IsReceivedAs plan p frame symbols commands soft)
+    (λ frame soft. (symbols power_bits : List Bool) → SendsSymbols plan p frame symbols power_bits →
+    IsReceivedAs plan p frame symbols power_bits soft)
     (soft_frames t (traffic_channel traffic) m (made_samples plan))
 
 -- Where the channel's frames are of rate set 2, each of them is one that was sent, with its power

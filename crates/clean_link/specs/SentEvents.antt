@@ -30,7 +30,8 @@ use Rattle.clean_link.specs.HeardSignals.{messages_sent}
 abbrev pub known_event : KnownPage → Event
 known_event page = Paging page.at page.capsule page.message
 
--- the superframes from local chip 0 up to the mark, which the first of the whole sendings tells
+-- the superframes from local chip 0 up to the mark, which the first of the whole transmissions
+-- tells
 abbrev pub told_by_first : CellPlan → SyncFields → List ℕ → Option ℕ
 told_by_first plan m [] = None
 told_by_first plan m (sending ∷ sendings) = Some (told_superframes plan.cell m sending)
@@ -112,8 +113,8 @@ abbrev pub by_places : ℕ → List Event → List Event → List Event
 by_places count one other =
     flat_map (λ n. filter (is_at n) one ++ filter (is_at n) other) (places (count + 1))
 
--- The pilot at the cell's phase, where the search found this energy; then the whole sendings, the
--- whole pages of a paging channel, the frames of the traffic channel that is followed with the
+-- The pilot at the cell's phase, where the search found this energy; then the whole transmissions,
+-- the whole pages of a paging channel, the frames of the traffic channel that is followed with the
 -- messages that they complete, and the events of its pilot sets.
 unfoldable pub sent_events : CellPlan → ℕ → ℕ → Option Traffic → List Event
 sent_events plan energy channel followed =

@@ -34,12 +34,12 @@ signaling : Bool → List Bool → TrafficFrame
 signaling starts part = record {
   rate = R9600;
   information = true ∷ replicate 83 false ++ starts ∷ part;
-  commands = [];
+  power_bits = [];
 }
 
 -- a frame without any
 slow : TrafficFrame
-slow = record { rate = R1200; information = replicate 16 true; commands = [] }
+slow = record { rate = R1200; information = replicate 16 true; power_bits = [] }
 
 -- the frames of a channel: the last part of the message comes with frame 32, the first one with 33
 frames : List TrafficFrame

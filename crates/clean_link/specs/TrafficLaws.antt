@@ -15,7 +15,7 @@ use Rattle.cell_plan.specs.declared.plan.TrafficPlan.{TrafficPlan}
 use Rattle.cell_plan.specs.declared.traffic_frame.TrafficFrame.{TrafficFrame}
 use Rattle.heard_events.specs.Moments.{frames_at, legs_at, messages_at}
 use Rattle.heard_events.specs.Streams.{frame_softs}
-use Rattle.heard_events.specs.TrafficEvents.{commands_at, decoded_at, frame_heard, unturned_softs}
+use Rattle.heard_events.specs.TrafficEvents.{power_bits_at, decoded_at, frame_heard, raw_softs}
 use Rattle.heard_events.specs.TrafficStreams.{has_frame, replaced_in, stream_of}
 use Rattle.heard_events.specs.Tuning.{Tuning}
 use Rattle.heard_events.specs.declared.leg.Leg.{Leg}
@@ -24,8 +24,8 @@ use Rattle.chip_core.specs.declared.assignment.Traffic.{Traffic}
 use Rattle.clean_link.specs.CleanLink.{IsNotDirected, IsOnPath, IsTrueMark, soft_strength}
 use Rattle.cell_plan.specs.Stated.{IsReceivable}
 use Rattle.clean_link.specs.HeardFrames.{frame_ends, frames_of_channel, received_frames}
-use Rattle.clean_link.specs.HeardFrames.{sent_commands, word_symbols, AreDistinct, IsAssigned}
-use Rattle.clean_link.specs.HeardFrames.{IsDistinctFrame, IsOnePilot, SendsSetOne, ShowCommands}
+use Rattle.clean_link.specs.HeardFrames.{sent_power_bits, codeword_symbols, AreDistinct, IsAssigned}
+use Rattle.clean_link.specs.HeardFrames.{IsDistinctFrame, IsOnePilot, SendsSetOne, ShowPowerBits}
 use Rattle.clean_link.specs.HeardSignals.{messages_of_channel}
 
 -- A handset behind a true mark, which was assigned a traffic channel that the cell sends.
@@ -63,30 +63,30 @@ OnePilotIsHeard = (t : Tuning) (traffic : Traffic) (m : Mark) (samples : List Sa
 
 -- At the places that no power control bit replaces, the soft values of a frame, turned by its
 -- scrambling, are one positive number times the signs of its symbols before scrambling. At the
--- others, unturned, they are that number times the signs of the power control bits.
+-- others, raw, they are that number times the signs of the power control bits.
 abbrev pub TrafficHaveSentSigns : Type 0
 TrafficHaveSentSigns = (width : Width) (plan : CellPlan) (p : TrafficPlan) (t : Tuning)
     (traffic : Traffic) (m : Mark) (legs : ℕ → List Leg) (superframes k : ℕ) (f : TrafficFrame) →
     HearsTraffic width plan p t traffic m superframes →
     IsHeardAs plan p t traffic m legs superframes k f →
     (0 < soft_strength plan Data p.gain)
-    × ShowSymbols (replaced_in traffic m k) (soft_strength plan Data p.gain) (word_symbols f)
+    × ShowSymbols (replaced_in traffic m k) (soft_strength plan Data p.gain) (codeword_symbols f)
     (frame_softs (made_samples plan) (stream_of t traffic m legs k) k)
-    × ShowCommands (replaced_in traffic m k) (soft_strength plan Data p.gain) f.commands
-    (unturned_softs t traffic m legs (made_samples plan) k)
+    × ShowPowerBits (replaced_in traffic m k) (soft_strength plan Data p.gain) f.power_bits
+    (raw_softs t traffic m legs (made_samples plan) k)
 
 -- ---- frames
 
 -- So its power control bits are the ones that were sent,
-abbrev pub CommandsComeBack : Type 0
-CommandsComeBack = (width : Width) (plan : CellPlan) (p : TrafficPlan) (t : Tuning)
+abbrev pub PowerBitsComeBack : Type 0
+PowerBitsComeBack = (width : Width) (plan : CellPlan) (p : TrafficPlan) (t : Tuning)
     (traffic : Traffic) (m : Mark) (legs : ℕ → List Leg) (superframes k : ℕ) (f : TrafficFrame) →
     HearsTraffic width plan p t traffic m superframes →
     IsHeardAs plan p t traffic m legs superframes k f →
-    commands_at t traffic m legs (made_samples plan) k ≡ sent_commands f
+    power_bits_at t traffic m legs (made_samples plan) k ≡ sent_power_bits f
 
--- and where no other word shares its symbols, it is decoded with its rate and its information bits,
--- and is good.
+-- and where no other codeword shares its symbols, it is decoded with its rate and its information
+-- bits, and is good.
 abbrev pub TrafficFramesComeBack : Type 0
 TrafficFramesComeBack = (width : Width) (plan : CellPlan) (p : TrafficPlan) (t : Tuning)
     (traffic : Traffic) (m : Mark) (legs : ℕ → List Leg) (superframes k : ℕ) (f : TrafficFrame) →
@@ -101,8 +101,9 @@ TrafficFramesComeBack = (width : Width) (plan : CellPlan) (p : TrafficPlan) (t :
     }
 
 -- a list of 16 power control bits is sent as it is
-abbrev pub SixteenCommandsAreSent : Type 0
-SixteenCommandsAreSent = (f : TrafficFrame) → length f.commands ≡ 16 → sent_commands f ≡ f.commands
+abbrev pub SixteenPowerBitsAreSent : Type 0
+SixteenPowerBitsAreSent =
+    (f : TrafficFrame) → length f.power_bits ≡ 16 → sent_power_bits f ≡ f.power_bits
 
 -- ---- in a file
 

@@ -1,5 +1,5 @@
--- Which sendings of its pages a paging channel's frames hold whole, and in which frame each ends
--- (TIA/EIA-95-B, 7.1.3.4 and 7.7.2.1).
+-- Which transmissions of its pages a paging channel's frames hold whole, and in which frame each
+-- ends (TIA/EIA-95-B, 7.1.3.4 and 7.7.2.1).
 use Rattle.std.specs.Prelude.{ℕ, ◌+◌, ◌-◌, ◌*◌, ◌/◌, ◌≤◌, ◌&&◌, if◌then◌else◌, Bool, List, [], ◌∷◌}
 use Rattle.std.specs.Prelude.{◌++◌, length, map, filter, take, nat_le, nat_lt}
 use Rattle.std.specs.List.{flat_map}
@@ -58,19 +58,19 @@ placed size form at run (page ∷ pages) =
 abbrev pub cycle_half_frames : Rate → CheckForm → List Page → ℕ
 cycle_half_frames rate form pages = length (page_cycle rate form pages) / (half_frame_body rate + 1)
 
--- whether a sending of a page, so many half-frames behind the first one, begins its run in
+-- whether a transmission of a page, so many half-frames behind the first one, begins its run in
 -- half-frame `low` or later and ends before half-frame `high`
 abbrev pub is_between : ℕ → ℕ → ℕ → Placed → Bool
 is_between low high half_frames p =
     nat_le low (half_frames + p.run) && nat_lt (half_frames + p.last) high
 
--- a sending of a page: the frame in which it ends, counted from frame `first`, and its capsule
+-- a transmission of a page: the frame in which it ends, counted from frame `first`, and its capsule
 abbrev pub sending_of : CheckForm → ℕ → ℕ → Placed → ℕ × List Bool
 sending_of form first half_frames p =
     ((half_frames + p.last) / 2 - first, capsule M30 form p.page.body)
 
--- The sendings of the pages, in so many rounds of the cycle, whose runs lie in n frames from frame
--- `first` on, up to the page's last bit.
+-- The transmissions of the pages, in so many rounds of the cycle, whose runs lie in n frames from
+-- frame `first` on, up to the page's last bit.
 abbrev pub sendings_between : Rate → CheckForm → List Page → ℕ → ℕ → ℕ → List (ℕ × List Bool)
 sendings_between rate form pages first n rounds =
     let cycle = cycle_half_frames rate form pages in
@@ -82,14 +82,14 @@ sendings_between rate form pages first n rounds =
 
 -- ---- in a file
 
--- whether a sending of a page, so many half-frames behind the first one, begins its run at a mark
--- or behind it, and ends in a frame that the file holds whole; both are local chips
+-- whether a transmission of a page, so many half-frames behind the first one, begins its run at a
+-- mark or behind it, and ends in a frame that the file holds whole; both are local chips
 abbrev pub is_whole_page : ℕ → ℕ → ℕ → Placed → Bool
 is_whole_page mark_chip end_chip half_frames p =
     nat_le mark_chip (12288 * (half_frames + p.run)) &&
     nat_le (24576 * ((half_frames + p.last) / 2 + 1)) end_chip
 
--- the sendings of the pages that are whole, where the mark is the first chip of frame `first`
+-- the transmissions of the pages that are whole, where the mark is the first chip of frame `first`
 abbrev pub whole_page_sendings : Rate → CheckForm → List Page → ℕ → ℕ → List (ℕ × List Bool)
 whole_page_sendings rate form pages first end_chip =
     let cycle = cycle_half_frames rate form pages in

@@ -18,7 +18,7 @@ cell : ℕ → ℕ → CellPlan
 cell start samples =
     cell_with start samples Plain (Some (record { gain = 30; message = told_message })) [] []
 
--- when the whole sendings have been heard
+-- when the whole transmissions have been heard
 heard : CellPlan → List ℕ
 heard plan =
     map (λ q. heard_behind 32768 plan.link.samples
@@ -29,12 +29,12 @@ from_the_first_chip : heard (cell 0 1228800) ≡ 294848 ∷ 589760 ∷ 884672 �
 unfolding heard cell sync_capsule sync_body capsule check_bits places binary
 from_the_first_chip = refl
 
--- a sending under way at the file's start isn't whole
+-- a transmission under way at the file's start isn't whole
 from_a_later_chip : whole_sendings (cell 102400 1228800) told_message ≡ 1 ∷ 2 ∷ 3 ∷ []
 unfolding cell sync_capsule sync_body capsule check_bits places binary
 from_a_later_chip = refl
 
--- the file ends with the first sending's last frame, or one sample before it
+-- the file ends with the first transmission's last frame, or one sample before it
 just_whole : heard (cell 0 262080) ≡ 262080 ∷ []
 unfolding heard cell sync_capsule sync_body capsule check_bits places binary
 just_whole = refl

@@ -5,13 +5,14 @@
 //! mark their second. Soft values of a traffic channel behind a mark are a third. Those of a cycle
 //! of pages speak of bits alone.
 
-ghost use Rattle.clean_link.specs.ChannelLaws.{ChannelFramesComeBack, ChannelWordsAreTheOnlyBest};
+ghost use Rattle.clean_link.specs.ChannelLaws.{ChannelFramesComeBack};
+ghost use Rattle.clean_link.specs.ChannelLaws.{ChannelCodewordsAreTheOnlyBest};
 ghost use Rattle.clean_link.specs.ChannelLaws.{ChannelsHaveSentSigns, EarlyFramesAreZero};
 ghost use Rattle.clean_link.specs.ChannelLaws.{SilentRowsAreZero, StreamsShowSymbols};
 ghost use Rattle.clean_link.specs.ChannelLaws.{StrengthsArePositive};
 ghost use Rattle.clean_link.specs.CleanLaws.{AreZeroWithoutSync, FramesAreZeros, FramesComeBack};
 ghost use Rattle.clean_link.specs.CleanLaws.{HaveSentSigns, IsMarkedWhereHeard, MarksAreTrue};
-ghost use Rattle.clean_link.specs.CleanLaws.{SentWordsAreTheOnlyBest, WholeSendingsComeBack};
+ghost use Rattle.clean_link.specs.CleanLaws.{SentCodewordsAreTheOnlyBest, WholeSendingsComeBack};
 ghost use Rattle.clean_link.specs.DistinctFrames.{FullRateFramesAreDistinct};
 ghost use Rattle.clean_link.specs.DistinctPlan.{HasMark, HasSetOne, HasSetTwo};
 ghost use Rattle.clean_link.specs.DistinctWorked.{AFullRateFrameIsDistinct, ZerosAreShared};
@@ -21,30 +22,30 @@ ghost use Rattle.clean_link.specs.OnlyBestFrames.{HeardAreTheOnlyBest, ReceivedA
 ghost use Rattle.clean_link.specs.OnlyBestFrames.{SetTwoAreTheOnlyBest};
 ghost use Rattle.clean_link.specs.PageLaws.{PageSendingsComeBack, WholePagesComeBack};
 ghost use Rattle.clean_link.specs.PagingLaws.{MarksTellTheRate, PagingFramesComeBack};
-ghost use Rattle.clean_link.specs.PagingLaws.{PagingHaveSentSigns, PagingWordsAreTheOnlyBest};
+ghost use Rattle.clean_link.specs.PagingLaws.{PagingHaveSentSigns, PagingCodewordsAreTheOnlyBest};
 ghost use Rattle.clean_link.specs.PagingLaws.{SilentPagingFramesAreZeros, SilentPagingIsZero};
 ghost use Rattle.clean_link.specs.PagingLaws.{UnmarkedWithoutSync};
 ghost use Rattle.clean_link.specs.ReceivedLaws.{EachFrameIsReceived, FramesBehindMark};
 ghost use Rattle.clean_link.specs.ReceivedLaws.{FramesShowSymbols, SetOneSends, SetTwoBehindMark};
 ghost use Rattle.clean_link.specs.ReceivedLaws.{SetTwoFramesComeBack, SetTwoSends};
 ghost use Rattle.clean_link.specs.SentEvents.{NoEventIsDirected, WholeMessagesComeBack};
-ghost use Rattle.clean_link.specs.SharedWords.{AreDistinctBySharing, AreDistinctBySharing2};
-ghost use Rattle.clean_link.specs.TrafficLaws.{CommandsComeBack, EachFrameIsHeard, NoneIsDirected};
+ghost use Rattle.clean_link.specs.SharedCodewords.{AreDistinctBySharing, AreDistinctBySharing2};
+ghost use Rattle.clean_link.specs.TrafficLaws.{PowerBitsComeBack, EachFrameIsHeard, NoneIsDirected};
 ghost use Rattle.clean_link.specs.TrafficLaws.{OnePilotIsHeard, SentFramesComeBack};
-ghost use Rattle.clean_link.specs.TrafficLaws.{SentMessagesComeBack, SixteenCommandsAreSent};
+ghost use Rattle.clean_link.specs.TrafficLaws.{SentMessagesComeBack, SixteenPowerBitsAreSent};
 ghost use Rattle.clean_link.specs.TrafficLaws.{TrafficFramesComeBack, TrafficHaveSentSigns};
 
 /// On a clean link the soft values of each frame in the file are `4 |h|^2 g0 g V C` times the signs
 /// of the symbols that the channel sends in it, where h is the link, g0 and g are the gains of the
 /// pilot and of the channel, and V and C the chips of a window and of a symbol: 1,024 and 256 on
 /// the sync channel, 1,536 and 64 on the others. They are 0 on a row that no channel has, and
-/// before the channel's first frame. Turned by a stream's scrambling, they show the symbols before
-/// it.
+/// before the channel's first frame. Descrambled by a stream's scrambling, they show the symbols
+/// before it.
 pub fn soft_values_have_the_sent_signs()
     ensures channel { ChannelsHaveSentSigns }
     ensures silent { SilentRowsAreZero }
     ensures early { EarlyFramesAreZero }
-    ensures turned { StreamsShowSymbols }
+    ensures descrambled { StreamsShowSymbols }
     ensures positive { StrengthsArePositive }
     ensures sent { HaveSentSigns }
     ensures none { AreZeroWithoutSync }
@@ -61,32 +62,32 @@ pub fn frames_come_back()
     ensures silent_paging { SilentPagingFramesAreZeros }
 {}
 
-/// The frames of a span are one word, whose start bits are the last eight of the frame before it.
-/// Of all words of its length, with any start bits, it alone has the greatest score.
-pub fn sent_words_are_the_only_best()
-    ensures channel { ChannelWordsAreTheOnlyBest }
-    ensures sent { SentWordsAreTheOnlyBest }
-    ensures paging { PagingWordsAreTheOnlyBest }
+/// The frames of a span are one codeword, whose start bits are the last eight of the frame before
+/// it. Of all codewords of its length, with any start bits, it alone has the greatest score.
+pub fn sent_codewords_are_the_only_best()
+    ensures channel { ChannelCodewordsAreTheOnlyBest }
+    ensures sent { SentCodewordsAreTheOnlyBest }
+    ensures paging { PagingCodewordsAreTheOnlyBest }
 {}
 
-/// The frames of a traffic channel are encoded one by one. Of all words of every rate of its rate
-/// set, their quality indicators right or not, the word of a distinct frame alone has the greatest
-/// score under the frame's soft values, at the places that power control bits leave.
+/// The frames of a traffic channel are encoded one by one. Of all codewords of every rate of its
+/// rate set, their quality indicators right or not, the codeword of a distinct frame alone has the
+/// greatest score under the frame's soft values, at the places that power control bits leave.
 pub fn sent_frames_are_the_only_best()
     ensures heard { HeardAreTheOnlyBest }
     ensures received { ReceivedAreTheOnlyBest }
     ensures set_two { SetTwoAreTheOnlyBest }
 {}
 
-/// On the sync channel a handset hears the sendings that lie in the file whole, each with its
+/// On the sync channel a handset hears the transmissions that lie in the file whole, each with its
 /// message, in order, and nothing else.
 pub fn whole_sendings_come_back()
     ensures { WholeSendingsComeBack }
 {}
 
 /// The mark has the system time and the long code's state that the cell has at its sample, and the
-/// sync message's PRAT. There is one in the file just where a sending is whole, and none without a
-/// sync channel.
+/// sync message's PRAT. There is one in the file just where a transmission is whole, and none
+/// without a sync channel.
 pub fn marks_are_true()
     ensures true_mark { MarksAreTrue }
     ensures set { IsMarkedWhereHeard }
@@ -110,7 +111,7 @@ pub fn whole_pages_come_back()
 ///
 /// On a clean link the soft values of each frame that is heard so are `4 |h|^2 g0 g V C` times the
 /// signs of its symbols and of its power control bits, where V is 1,536 and C 64. So its power
-/// control bits come back, and where no other word of any rate shares its symbols at the places
+/// control bits come back, and where no other codeword of any rate shares its symbols at the places
 /// that they leave, its rate and its information bits, as a good frame. In a file without a
 /// direction there is one event behind a mark for each frame that begins there or later and lies in
 /// the file, at the frame's own end. Where each of these is distinct, the messages are those that
@@ -119,8 +120,8 @@ pub fn whole_pages_come_back()
 pub fn traffic_frames_come_back()
     ensures pilot { OnePilotIsHeard }
     ensures signs { TrafficHaveSentSigns }
-    ensures commands { CommandsComeBack }
-    ensures sixteen { SixteenCommandsAreSent }
+    ensures power_bits { PowerBitsComeBack }
+    ensures sixteen { SixteenPowerBitsAreSent }
     ensures frames { TrafficFramesComeBack }
     ensures each { EachFrameIsHeard }
     ensures sent { SentFramesComeBack }
@@ -131,10 +132,10 @@ pub fn traffic_frames_come_back()
 /// Of the reference base station alone the frames of a traffic channel are received that begin at
 /// the mark or behind it and lie in the file, in order, each at its own end, whatever messages are
 /// heard. Each shows what it sends, of whichever rate set, so its power control bits come back; and
-/// where no other word of any rate of rate set 2 shares the symbols of a frame of that set at the
-/// places that they leave, its rate and its information bits, as a good frame. Behind the mark that
-/// the first whole sending of the sync channel tells that is so of any file that holds what the
-/// cell sends.
+/// where no other codeword of any rate of rate set 2 shares the symbols of a frame of that set at
+/// the places that they leave, its rate and its information bits, as a good frame. Behind the mark
+/// that the first whole transmission of the sync channel tells that is so of any file that holds
+/// what the cell sends.
 pub fn frames_are_received_of_the_reference()
     ensures one { SetOneSends }
     ensures two { SetTwoSends }
@@ -145,32 +146,32 @@ pub fn frames_are_received_of_the_reference()
     ensures file { SetTwoBehindMark }
 {}
 
-/// Where no handoff is directed, a handset hears the whole sendings, the whole pages of the paging
-/// channel that it follows, and the frames of the traffic channel that it follows with the messages
-/// in their signaling, where it follows one and each of these frames is distinct, and the events of
-/// its pilot sets, in the order in which they are known, and nothing else. Of what is known at one
-/// number of samples, sendings come first, then pages, the frame, the message that it completes,
-/// and the event of the pilot sets last. No handoff is directed where no message that the followed
-/// channel is sent directs one, or none is followed.
+/// Where no handoff is directed, a handset hears the whole transmissions, the whole pages of the
+/// paging channel that it follows, and the frames of the traffic channel that it follows with the
+/// messages in their signaling, where it follows one and each of these frames is distinct, and the
+/// events of its pilot sets, in the order in which they are known, and nothing else. Of what is
+/// known at one number of samples, transmissions come first, then pages, the frame, the message
+/// that it completes, and the event of the pilot sets last. No handoff is directed where no message
+/// that the followed channel is sent directs one, or none is followed.
 pub fn whole_messages_come_back()
     ensures undirected { NoEventIsDirected }
     ensures heard { WholeMessagesComeBack }
 {}
 
-/// Where no handoff is directed, a handset hears of the sync channel just the whole sendings; of
-/// the paging channel that it follows just the whole pages, where the cell sends the channel or no
-/// traffic channel has its row; and of a traffic channel that it follows, where the cell sends the
-/// channel with frames of rate set 1, one frame for each that begins at the mark or behind it and
-/// lies in the file, with its power control bits, and with its rate and its information bits, as a
-/// good frame, where it is distinct; and where each of them is, just the messages that the
+/// Where no handoff is directed, a handset hears of the sync channel just the whole transmissions;
+/// of the paging channel that it follows just the whole pages, where the cell sends the channel or
+/// no traffic channel has its row; and of a traffic channel that it follows, where the cell sends
+/// the channel with frames of rate set 1, one frame for each that begins at the mark or behind it
+/// and lies in the file, with its power control bits, and with its rate and its information bits,
+/// as a good frame, where it is distinct; and where each of them is, just the messages that the
 /// signaling in them spells.
 pub fn each_channel_comes_back()
     ensures { EachChannelComesBack }
 {}
 
 /// A frame of 9,600 bits a second is distinct where the code symbols that power control bits leave
-/// tell all words of 192 bits apart, and some bit keeps both of its code symbols, which differ: at
-/// a lower rate they would be one. One such frame is worked out. Frames of zeros at 2,400 and at
+/// tell all codewords of 192 bits apart, and some bit keeps both of its code symbols, which differ:
+/// at a lower rate they would be one. One such frame is worked out. Frames of zeros at 2,400 and at
 /// 1,200 bits a second have one another's symbols, so neither is distinct.
 pub fn some_frames_are_distinct()
     ensures full_rate { FullRateFramesAreDistinct }
@@ -178,11 +179,11 @@ pub fn some_frames_are_distinct()
     ensures zeros { ZerosAreShared }
 {}
 
-/// A frame of any rate is distinct where a search bit by bit, of the words of every rate of its
+/// A frame of any rate is distinct where a search bit by bit, of the codewords of every rate of its
 /// rate set that share its symbols at the places that power control bits leave, finds just its own.
-/// Of one lawful cell with a mark, which follows from its first whole sending, the frames of two
-/// channels that begin there or later and lie in the file are distinct, and there is one of each
-/// rate of both rate sets.
+/// Of one lawful cell with a mark, which follows from its first whole transmission, the frames of
+/// two channels that begin there or later and lie in the file are distinct, and there is one of
+/// each rate of both rate sets.
 pub fn frames_of_each_rate_are_distinct()
     ensures shared { AreDistinctBySharing }
     ensures shared_two { AreDistinctBySharing2 }

@@ -3,11 +3,11 @@
 //!
 //! A clean link is a sample file that holds what one cell sends over one path, without noise, and
 //! in which no handoff is directed. On it the frames of each channel come back from a stream that
-//! hears it, the word that was sent in a span of them alone has the greatest score, and each whole
-//! sending of the sync channel comes back with its message, in order. So do the whole pages of a
-//! paging channel, those frames of a traffic channel that share their symbols with no other word,
-//! and the messages that such frames carry: the reference's pilot stays the only active one. The
-//! events of the pilot sets are those of the handset's definition.
+//! hears it, the codeword that was sent in a span of them alone has the greatest score, and each
+//! whole transmission of the sync channel comes back with its message, in order. So do the whole
+//! pages of a paging channel, those frames of a traffic channel that share their symbols with no
+//! other codeword, and the messages that such frames carry: the reference's pilot stays the only
+//! active one. The events of the pilot sets are those of the handset's definition.
 //!
 //! The steps up to a frame's bits are stated over any channel of a plan and any stream with one
 //! finger on the path (`ChannelLaws`), and the sync channel is their first case (`CleanLaws`). The

@@ -67,23 +67,23 @@ bit_for state of_zero first eight zero_is bit is = absurd (omega (arith, eight))
 same_heads : (a b c d : Bool) → a ∷ b ∷ [] ≡ c ∷ d ∷ [] → (a ≡ c) × (b ≡ d)
 same_heads a b c d h = (cc, cc)
 
--- the symbols at a place of a word, from the state before and the word's bit there
-pub word_at : (start register i : ℕ) (bits symbols word : List Bool) →
-    code_symbols (binary 8 start) word ≡ symbols → i < length word →
-    binary 8 register ≡ state_after (binary 8 start) bits → bits ≡ take i word →
-    AreAt symbols i (symbol g0 (binary 8 register ++ get_or word i false ∷ []) 0)
-    (symbol g1 (binary 8 register ++ get_or word i false ∷ []) 0)
-word_at start register i bits symbols word gives lt state read =
+-- the symbols at a place of a codeword, from the state before and the codeword's bit there
+pub codeword_at : (start register i : ℕ) (bits symbols codeword : List Bool) →
+    code_symbols (binary 8 start) codeword ≡ symbols → i < length codeword →
+    binary 8 register ≡ state_after (binary 8 start) bits → bits ≡ take i codeword →
+    AreAt symbols i (symbol g0 (binary 8 register ++ get_or codeword i false ∷ []) 0)
+    (symbol g1 (binary 8 register ++ get_or codeword i false ∷ []) 0)
+codeword_at start register i bits symbols codeword gives lt state read =
     let s = binary 8 start in
-    let bit = get_or word i false in
-    let at_i : AreAt (code_symbols s word) i (symbol g0 (s ++ word) i) (symbol g1 (s ++ word) i) =
-    symbols_at s word i lt in
-    let here : binary 8 register ≡ state_after s (take i word) = state ∙ ap (state_after s) read in
-    let both : pair (s ++ word) i ≡ pair (binary 8 register ++ bit ∷ []) 0 =
-    pair_from_state s word i (length-binary 8 start) lt ∙
+    let bit = get_or codeword i false in
+    let at_i : AreAt (code_symbols s codeword) i (symbol g0 (s ++ codeword) i) (symbol g1 (s ++ codeword) i) =
+    symbols_at s codeword i lt in
+    let here : binary 8 register ≡ state_after s (take i codeword) = state ∙ ap (state_after s) read in
+    let both : pair (s ++ codeword) i ≡ pair (binary 8 register ++ bit ∷ []) 0 =
+    pair_from_state s codeword i (length-binary 8 start) lt ∙
     ap (λ (r : List Bool). pair (r ++ bit ∷ []) 0) (sym here) in
     let heads =
-    same_heads (symbol g0 (s ++ word) i) (symbol g1 (s ++ word) i)
+    same_heads (symbol g0 (s ++ codeword) i) (symbol g1 (s ++ codeword) i)
     (symbol g0 (binary 8 register ++ bit ∷ []) 0) (symbol g1 (binary 8 register ++ bit ∷ []) 0)
     both in
     record {
@@ -106,8 +106,8 @@ not_both false true false true h p q = cc
 not_both false false false false h p q = cc
 not_both a b c d h p q = cc
 
--- where some word gives the symbols, a place below half their number is one of its bits
-pub within_word : (start i : ℕ) (symbols word : List Bool) →
-    code_symbols (binary 8 start) word ≡ symbols → i < length symbols / 2 → i < length word
-within_word start i symbols word gives lt =
-    omega (arith, lt, length-code_symbols (binary 8 start) word, ap length gives)
+-- where some codeword gives the symbols, a place below half their number is one of its bits
+pub within_codeword : (start i : ℕ) (symbols codeword : List Bool) →
+    code_symbols (binary 8 start) codeword ≡ symbols → i < length symbols / 2 → i < length codeword
+within_codeword start i symbols codeword gives lt =
+    omega (arith, lt, length-code_symbols (binary 8 start) codeword, ap length gives)

@@ -41,18 +41,18 @@ symbols_at start bits j lt =
     pairs_at (symbol g0 (start ++ bits)) (symbol g1 (start ++ bits)) (length bits) j lt
 
 -- a place's pair comes from the state before and the bit
-pub pair_from_state : (start word : List Bool) (j : ℕ) → length start ≡ 8 → j < length word →
-    pair (start ++ word) j ≡ pair (state_after start (take j word) ++ get_or word j false ∷ []) 0
-pair_from_state start word j eight lt =
-    let xs = take j word in
-    let bit = get_or word j false in
-    let rest = drop (j + 1) word in
+pub pair_from_state : (start codeword : List Bool) (j : ℕ) → length start ≡ 8 → j < length codeword →
+    pair (start ++ codeword) j ≡ pair (state_after start (take j codeword) ++ get_or codeword j false ∷ []) 0
+pair_from_state start codeword j eight lt =
+    let xs = take j codeword in
+    let bit = get_or codeword j false in
+    let rest = drop (j + 1) codeword in
     let state = state_after start xs in
-    let long : length xs ≡ j = length-take-le j word (omega (arith, lt)) in
+    let long : length xs ≡ j = length-take-le j codeword (omega (arith, lt)) in
     let place : length xs + 0 ≡ j = omega (arith, long) in
-    let parts : xs ++ (bit ∷ rest) ≡ word =
-    ap (λ (r : List Bool). xs ++ r) (sym (drop_more word j false lt)) ∙
-    take-append-drop j word in
+    let parts : xs ++ (bit ∷ rest) ≡ codeword =
+    ap (λ (r : List Bool). xs ++ r) (sym (drop_more codeword j false lt)) ∙
+    take-append-drop j codeword in
     let moved : pair (start ++ (xs ++ (bit ∷ rest))) (length xs + 0) ≡
     pair (state ++ (bit ∷ rest)) 0 = behind start xs (bit ∷ rest) 0 eight in
     ap (λ (r : List Bool). pair (start ++ r) j) (sym parts)

@@ -27,14 +27,14 @@ abbrev pub state_after : List Bool → List Bool → List Bool
 state_after start bits = drop (length bits) (start ++ bits)
 
 -- no bits give these symbols from a start
-abbrev pub IsNoWordFrom : List Bool → List Bool → Type 0
-IsNoWordFrom start symbols = (bits : List Bool) → code_symbols start bits ≢ symbols
+abbrev pub IsNoCodewordFrom : List Bool → List Bool → Type 0
+IsNoCodewordFrom start symbols = (bits : List Bool) → code_symbols start bits ≢ symbols
 
 -- no start and bits give these symbols
-abbrev pub IsNoWord : List Bool → Type 0
-IsNoWord symbols = (start : ℕ) → IsNoWordFrom (binary 8 start) symbols
+abbrev pub IsNoCodeword : List Bool → Type 0
+IsNoCodeword symbols = (start : ℕ) → IsNoCodewordFrom (binary 8 start) symbols
 
--- every word that gives the symbols begins at this start
+-- every codeword that gives the symbols begins at this start
 abbrev pub IsOnlyStart : List Bool → List Bool → Type 0
 IsOnlyStart symbols only =
     (start bits : List Bool) → length start ≡ 8 → code_symbols start bits ≡ symbols → start ≡ only

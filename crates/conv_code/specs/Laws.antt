@@ -2,7 +2,7 @@
 use Rattle.std.specs.Prelude.{◌≡◌, ◌≤◌, Bool, List, ◌++◌, length}
 use Rattle.conv_code.specs.ConvCode.{code_symbols, state_after}
 
-pub record AreSameWords (start start' bits bits' : List Bool) : Type 0 where
+pub record AreSameCodewords (start start' bits bits' : List Bool) : Type 0 where
   pub starts : start ≡ start'
   pub all : bits ≡ bits'
 
@@ -11,7 +11,7 @@ abbrev pub IsDistinctCode : Type 0
 IsDistinctCode = (start start' bits bits' : List Bool) → length start ≡ 8 → length start' ≡ 8 →
     8 ≤ length bits → length bits ≡ length bits' →
     code_symbols start bits ≡ code_symbols start' bits' →
-    AreSameWords start start' bits bits'
+    AreSameCodewords start start' bits bits'
 
 -- bits behind others are encoded from the state that those leave
 abbrev pub IsContinuedCode : Type 0

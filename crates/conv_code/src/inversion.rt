@@ -3,8 +3,8 @@
 ghost use Rattle.std.specs.Prelude.{◌≡◌, ◌<◌, ◌≤◌, ◌+◌, ◌*◌, ◌%◌, ℕ, Bool, false, List, [], ◌∷◌};
 ghost use Rattle.std.specs.Prelude.{◌++◌, length, map, get_or, All, IfSome, IfNone};
 ghost use Rattle.chip_core.specs.Bits.{binary, parity};
-ghost use Rattle.conv_code.specs.ConvCode.{code_symbols, IsBitFor, IsOnlyStart, IsNoWordFrom};
-ghost use Rattle.conv_code.specs.ConvCode.{IsNoWord};
+ghost use Rattle.conv_code.specs.ConvCode.{code_symbols, IsBitFor, IsOnlyStart, IsNoCodewordFrom};
+ghost use Rattle.conv_code.specs.ConvCode.{IsNoCodeword};
 
 use crate::encoding::Register;
 use chip_core::Bits;
@@ -17,13 +17,14 @@ use chip_core::Bits;
 /// and its second symbol has to agree. Bit 0 of the start is its newest bit.
 ///
 /// For tools that have symbols and no soft values, as a test bench that looks at what a transmitter
-/// sends; a handset finds the best word instead.
+/// sends; a handset finds the best codeword instead.
 pub fn invert(symbols: &Bits) -> Option<(u8, Bits)>
     requires even { length symbols.now % 2 ≡ 0 }
     requires enough { 16 ≤ length symbols.now }
-    ensures found { IfSome result (λ word. code_symbols (binary 8 word.0) word.1 ≡ symbols.now) }
-    ensures half { IfSome result (λ word. 2 * length word.1 ≡ length symbols.now) }
-    ensures none { IfNone result (IsNoWord symbols.now) }
+    ensures found { IfSome result (λ codeword. code_symbols (binary 8 codeword.0) codeword.1
+        ≡ symbols.now) }
+    ensures half { IfSome result (λ codeword. 2 * length codeword.1 ≡ length symbols.now) }
+    ensures none { IfNone result (IsNoCodeword symbols.now) }
 {
     let start = start_of(symbols);
     let bits = bits_from(start, symbols)?;
@@ -35,7 +36,7 @@ fn bits_from(start: u8, symbols: &Bits) -> Option<Bits>
     requires { length symbols.now % 2 ≡ 0 }
     ensures found { IfSome result (λ bits. code_symbols (binary 8 start) bits ≡ symbols.now) }
     ensures half { IfSome result (λ bits. 2 * length bits ≡ length symbols.now) }
-    ensures none { IfNone result (IsNoWordFrom (binary 8 start) symbols.now) }
+    ensures none { IfNone result (IsNoCodewordFrom (binary 8 start) symbols.now) }
 {
     let mut register = Register::new(start);
     let mut bits = Bits::empty();

@@ -19,7 +19,7 @@ unfolding form_line event_line
 plain_line form (Pilot phase energy) below = refl
 plain_line form (Sync place capsule message) below = plain_message form _ _ below
 plain_line form (Paging place capsule message) below = plain_message form _ _ below
-plain_line form (Frame place rate good bits commands) below = refl
+plain_line form (Frame place rate good bits power_bits) below = refl
 plain_line form (Traffic place capsule message) below = plain_message form _ _ below
 plain_line form (Sets place time active candidate report) below = refl
 

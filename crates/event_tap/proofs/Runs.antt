@@ -156,8 +156,8 @@ plain_heard pilots messages frames (Sync place capsule message) =
     append-nil (event_line (Sync place capsule message))
 plain_heard pilots messages frames (Paging place capsule message) =
     append-nil (event_line (Paging place capsule message))
-plain_heard pilots messages frames (Frame place rate good bits commands) =
-    append-nil (event_line (Frame place rate good bits commands))
+plain_heard pilots messages frames (Frame place rate good bits power_bits) =
+    append-nil (event_line (Frame place rate good bits power_bits))
 plain_heard pilots messages frames (Traffic place capsule message) =
     append-nil (event_line (Traffic place capsule message))
 plain_heard pilots messages frames (Sets place time active candidate report) =

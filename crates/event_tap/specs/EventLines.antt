@@ -15,7 +15,7 @@ unfoldable pub event_line : Event → List ℕ
 event_line (Pilot phase energy) = pilot_line phase energy
 event_line (Sync place capsule message) = sync_line place message
 event_line (Paging place capsule message) = paging_line place message
-event_line (Frame place rate good bits commands) = frame_line place rate good bits commands
+event_line (Frame place rate good bits power_bits) = frame_line place rate good bits power_bits
 event_line (Traffic place capsule message) = traffic_line place message
 event_line (Sets place time active candidate report) = sets_line place time active candidate report
 

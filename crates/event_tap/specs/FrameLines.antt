@@ -3,7 +3,7 @@ use Rattle.std.specs.Prelude.{ℕ, ◌/◌, Bool, List, ◌++◌, codes, decimal
 use Rattle.symbol_path.specs.declared.rate_two.Rate2.{Rate2}
 use Rattle.rate_set_two.specs.declared.traffic.Decoded2.{Decoded2}
 use Rattle.symbol_path.specs.RatesTwo as set_two
-use Rattle.quality_bits.specs.TrafficWords.{repeats_of}
+use Rattle.quality_bits.specs.TrafficCodewords.{repeats_of}
 use Rattle.quality_bits.specs.declared.rate.Rate.{Rate}
 use Rattle.line_text.specs.Texts.{bit_text, digit_of, digits_of}
 
@@ -17,18 +17,18 @@ bits_in_a_second2 rate = 14400 / set_two.repeats_of rate
 
 -- ` rate=R good=B bits=BITS commands=CCCCCCCCCCCCCCCC` and LF, the end of a frame's line
 abbrev pub received_text : ℕ → Bool → List Bool → List Bool → List ℕ
-received_text rate good bits commands =
+received_text rate good bits power_bits =
     codes " rate=" ++ decimal rate ++ codes " good=" ++ digit_of good ++ codes " bits="
-    ++ bit_text bits ++ codes " commands=" ++ digits_of commands ++ codes "\n"
+    ++ bit_text bits ++ codes " commands=" ++ digits_of power_bits ++ codes "\n"
 
 -- the line of a frame that ends behind so many samples
 unfoldable pub frame_line : ℕ → Rate → Bool → List Bool → List Bool → List ℕ
-frame_line place rate good bits commands =
+frame_line place rate good bits power_bits =
     codes "frame at=" ++ decimal place
-    ++ received_text (bits_in_a_second rate) good bits commands
+    ++ received_text (bits_in_a_second rate) good bits power_bits
 
 -- the line of a frame of rate set 2, with its power control bits
 unfoldable pub frame2_line : ℕ → Decoded2 → List Bool → List ℕ
-frame2_line place frame commands =
+frame2_line place frame power_bits =
     codes "frame2 at=" ++ decimal place
-    ++ received_text (bits_in_a_second2 frame.rate) frame.good frame.bits commands
+    ++ received_text (bits_in_a_second2 frame.rate) frame.good frame.bits power_bits

@@ -51,8 +51,8 @@ form_line form (Sync place capsule message) =
     message_line form (sync_line place message) (raw_line place capsule)
 form_line form (Paging place capsule message) =
     message_line form (paging_line place message) (raw_paging_line place capsule)
-form_line form (Frame place rate good bits commands) =
-    if nat_eq form 2 then Some (frame_line place rate good bits commands) else None
+form_line form (Frame place rate good bits power_bits) =
+    if nat_eq form 2 then Some (frame_line place rate good bits power_bits) else None
 form_line form (Traffic place capsule message) =
     message_line form (traffic_line place message) (raw_traffic_line place capsule)
 form_line form (Sets place time active candidate report) =
@@ -63,7 +63,7 @@ abbrev pub plain_form : Event → ℕ
 plain_form (Pilot phase energy) = 0
 plain_form (Sync place capsule message) = 1
 plain_form (Paging place capsule message) = 1
-plain_form (Frame place rate good bits commands) = 2
+plain_form (Frame place rate good bits power_bits) = 2
 plain_form (Traffic place capsule message) = 1
 plain_form (Sets place time active candidate report) = 0
 

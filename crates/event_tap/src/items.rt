@@ -64,7 +64,7 @@ fn append_comma(text: &mut Text, i: u8)
     ensures len { length text.new ≤ length text.old + 1 }
 {
     if i > 0 {
-        text.append_word(",");
+        text.append_str(",");
     }
 }
 
@@ -187,7 +187,7 @@ fn append_triple(text: &mut Text, first: u32, second: u32, third: u32)
         0 < l → third < 10 ^ l → length text.new ≤ length text.old + j + k + l + 2 }
 {
     append_pair(text, first, second);
-    text.append_word("/");
+    text.append_str("/");
     text.append_short(u64::from(third));
 }
 
@@ -199,6 +199,6 @@ fn append_pair(text: &mut Text, first: u32, second: u32)
         length text.new ≤ length text.old + j + k + 1 }
 {
     text.append_short(u64::from(first));
-    text.append_word("/");
+    text.append_str("/");
     text.append_short(u64::from(second));
 }

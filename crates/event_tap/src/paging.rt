@@ -38,7 +38,7 @@ fn append_system(text: &mut Text, at: u64, message: &SystemParameters)
 {
     let fields = message.fields();
     text.append_named("paging at=", at);
-    text.append_word(" system");
+    text.append_str(" system");
     append_values(text, &SYSTEM_FIELDS, &message.values());
     append_rest(text, &fields.rest);
 }
@@ -52,9 +52,9 @@ fn append_neighbors(text: &mut Text, at: u64, message: &NeighborList)
 {
     let fields = message.fields();
     text.append_named("paging at=", at);
-    text.append_word(" neighbors");
+    text.append_str(" neighbors");
     append_values(text, &NEIGHBOR_FIELDS, &message.values());
-    text.append_word(" pilots=");
+    text.append_str(" pilots=");
     append_items(text, &fields);
     append_rest(text, &fields.rest);
 }
@@ -68,9 +68,9 @@ fn append_channels(text: &mut Text, at: u64, message: &ChannelList)
 {
     let fields = message.fields();
     text.append_named("paging at=", at);
-    text.append_word(" channels");
+    text.append_str(" channels");
     append_values(text, &CHANNEL_FIELDS, &message.values());
-    text.append_word(" freqs=");
+    text.append_str(" freqs=");
     append_items(text, &fields.freqs);
     append_rest(text, &fields.rest);
 }
@@ -84,9 +84,9 @@ fn append_other(text: &mut Text, at: u64, fields: &OtherFields)
 {
     text.append_named("paging at=", at);
     text.append_named(" other type=", fields.kind);
-    text.append_word(" bits=");
+    text.append_str(" bits=");
     text.append_bits(&fields.bits);
-    text.append_word("\n");
+    text.append_str("\n");
 }
 
 /// Adds the line with which the lines of a slot begin to the empty text, LF at its end.
@@ -102,5 +102,5 @@ pub(crate) fn append_slot(text: &mut Text, at: u64, time: u64, messages: u16)
     text.append_named("slot at=", at);
     text.append_named(" time=", time);
     text.append_named(" messages=", messages);
-    text.append_word("\n");
+    text.append_str("\n");
 }

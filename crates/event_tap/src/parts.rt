@@ -45,9 +45,9 @@ pub(crate) fn append_rest(text: &mut Text, rest: &Bits)
     ensures value { text.new ≡ text.old ++ rest_text rest.now }
     ensures len { length text.new ≤ length text.old + 309 }
 {
-    text.append_word(" rest=");
+    text.append_str(" rest=");
     text.append_bits(rest);
-    text.append_word("\n");
+    text.append_str("\n");
 }
 
 /// Adds at most seven bits that are left behind a message's fields, and the end of the line.
@@ -57,9 +57,9 @@ pub(crate) fn append_few_rest(text: &mut Text, rest: &Bits)
     ensures value { text.new ≡ text.old ++ rest_text rest.now }
     ensures len { length text.new ≤ length text.old + 24 }
 {
-    text.append_word(" rest=");
+    text.append_str(" rest=");
     append_few_bits(text, rest);
-    text.append_word("\n");
+    text.append_str("\n");
 }
 
 /// Adds the text of at most 56 bits, where the text is known to have room for that of 56.
@@ -84,7 +84,7 @@ pub(crate) fn append_raw(text: &mut Text, channel: &str, at: u64, capsule: &Bits
     ensures most { length text.new ≤ 1024 }
 {
     text.append_named("raw at=", at);
-    text.append_word(channel);
+    text.append_str(channel);
     text.append_bits(capsule);
-    text.append_word("\n");
+    text.append_str("\n");
 }

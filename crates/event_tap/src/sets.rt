@@ -26,11 +26,11 @@ pub(crate) fn append_sets(
     let _most = (active.len(), candidate.len());
     text.append_named("sets at=", at);
     text.append_named(" time=", time);
-    text.append_word(" active=");
+    text.append_str(" active=");
     append_items(text, active);
-    text.append_word(" candidate=");
+    text.append_str(" candidate=");
     append_items(text, candidate);
-    text.append_word(" report=");
+    text.append_str(" report=");
     text.append_digit(report);
-    text.append_word("\n");
+    text.append_str("\n");
 }

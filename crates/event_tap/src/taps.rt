@@ -7,6 +7,7 @@ ghost use Rattle.event_tap.specs.Taps.{IsKept, KeptTap, heard_text, kept_by, kep
 
 use crate::tap::{Heard, Tap};
 use cdma_io::{Failed, Sink, write_all};
+use chip_core::EventLimits;
 use heard_events::Event;
 use line_text::Text;
 
@@ -63,7 +64,7 @@ impl KeepsTaps for Taps {
 
 impl Taps {
     /// Gives each tap the limit of its form, and keeps those whose limit isn't 0, in order.
-    pub fn new(taps: Vec<Box<dyn Tap>>, limits: [u32; 4]) -> Taps
+    pub fn new(taps: Vec<Box<dyn Tap>>, limits: EventLimits) -> Taps
         ensures value { ⟦<Taps as KeepsTaps>⟧.kept result ≡
             kept_by limits (map (λ b. shape b) taps.items) }
         ensures kept { All IsKept (⟦<Taps as KeepsTaps>⟧.kept result) }
@@ -96,7 +97,7 @@ impl Taps {
 }
 
 /// Gives each tap the limit of its form, and drops those whose limit is 0.
-fn limit_all<T: Tap>(taps: &mut Vec<T>, limits: &[u32; 4])
+fn limit_all<T: Tap>(taps: &mut Vec<T>, limits: &EventLimits)
     ensures value { kept_of T.shape T.left taps.new.items ≡
         kept_by limits.now (map T.shape taps.old.items) }
     ensures kept { All IsKept (kept_of T.shape T.left taps.new.items) }
@@ -112,7 +113,7 @@ fn limit_all<T: Tap>(taps: &mut Vec<T>, limits: &[u32; 4])
 }
 
 /// Gives a tap the limit of its form, and says whether that is above 0.
-fn has_limit<T: Tap>(tap: &mut T, limits: &[u32; 4]) -> bool
+fn has_limit<T: Tap>(tap: &mut T, limits: &EventLimits) -> bool
     ensures form { T.shape tap.new ≡ T.shape tap.old }
     ensures range { T.shape tap.old ≤ 3 }
     ensures left { T.left tap.new ≡ slice_index limits.now (T.shape tap.old) }

@@ -55,7 +55,7 @@ fn append_in_traffic(text: &mut Text, message: &InTraffic)
     ensures most { length text.new ≤ 1024 }
 {
     let fields = message.fields();
-    text.append_word(" system");
+    text.append_str(" system");
     append_values(text, &IN_TRAFFIC_FIELDS, &message.values());
     append_rest(text, &fields.rest);
 }
@@ -70,7 +70,7 @@ fn append_update(text: &mut Text, fields: &UpdateFields)
 {
     let _most = fields.pns.len();
     text.append_named(" neighbors inc=", fields.inc);
-    text.append_word(" pilots=");
+    text.append_str(" pilots=");
     append_items(text, &fields.pns);
     append_few_rest(text, &fields.rest);
 }
@@ -84,12 +84,12 @@ fn append_direction(text: &mut Text, message: &HandoffDirection)
     ensures most { length text.new ≤ 1024 }
 {
     let fields = message.fields();
-    text.append_word(" handoff");
+    text.append_str(" handoff");
     append_values(text, &TIME_FIELDS, &message.times());
     append_search(text, &fields.search);
-    text.append_word(" extra=");
+    text.append_str(" extra=");
     append_few_bits(text, &fields.extra);
-    text.append_word(" records=");
+    text.append_str(" records=");
     append_items(text, &fields);
     append_few_rest(text, &fields.rest);
 }
@@ -115,7 +115,7 @@ fn append_other(text: &mut Text, kind: u8, bits: &Bits)
     ensures most { length text.new ≤ 1024 }
 {
     text.append_named(" other type=", kind);
-    text.append_word(" bits=");
+    text.append_str(" bits=");
     text.append_bits(bits);
-    text.append_word("\n");
+    text.append_str("\n");
 }

@@ -50,22 +50,22 @@ pub use Rattle.symbol_path.specs.SentOrderTwo.{repeated_symbol}
 pub use Rattle.symbol_path.specs.declared.kinds.Kind.{Kind}
 pub use Rattle.symbol_path.specs.declared.kinds.Kind.TheVariants.{Data}
 pub use Rattle.viterbi.proofs.Agreement.{symbol_part}
-pub use Rattle.viterbi.proofs.Sent.{zero_word_best}
-pub use Rattle.viterbi.proofs.Unique.{allowed_at, by_definition, word_at_allowed}
-pub use Rattle.viterbi.specs.Best.{IsAllowed, IsBestWord, spelled}
-pub use Rattle.viterbi.specs.Words.{Word, correlation, score_of, word_at, word_count}
-unfoldable pub use Rattle.viterbi.specs.Words.{best_word}
-pub use Rattle.viterbi.specs.declared.word.Ends.TheVariants.{Free, Zero}
+pub use Rattle.viterbi.proofs.Sent.{zero_codeword_best}
+pub use Rattle.viterbi.proofs.Unique.{allowed_at, by_definition, codeword_at_allowed}
+pub use Rattle.viterbi.specs.Best.{IsAllowed, IsBestCodeword, spelled}
+pub use Rattle.viterbi.specs.Codewords.{Codeword, correlation, score_of, codeword_at, codeword_count}
+unfoldable pub use Rattle.viterbi.specs.Codewords.{best_codeword}
+pub use Rattle.viterbi.specs.declared.codeword.Ends.TheVariants.{Free, Zero}
 pub use borrow.Rule.Slice.PartMut.{put_mid}
-pub use Rattle.frame_decoder.specs.Laws.{AgreeElsewhere, IsNothingGood, IsOneFrame, IsSentFrameDecoded, IsUnshared, ShowSymbols, frame_word}
-pub use Rattle.frame_decoder.specs.Laws.{kept_count}
-pub use Rattle.frame_decoder.specs.Rows.{IsRow, better, bits_in, candidate_in, candidate_of, frame_in, good_or, is_right, not_good}
-pub use Rattle.frame_decoder.specs.Rows.{place_in, preferred, repeated_in, rising, row_of, score_in, shown_of}
-unfoldable pub use Rattle.frame_decoder.specs.Rows.{frame_of, gathered_in, symbols_in, word_in}
+pub use Rattle.frame_decoder.specs.Laws.{AgreeElsewhere, IsNothingGood, IsOneFrame, IsSentFrameDecoded, IsUnshared, ShowSymbols}
+pub use Rattle.frame_decoder.specs.Laws.{frame_codeword, kept_count}
+pub use Rattle.frame_decoder.specs.Formats.{IsFormat, better, bits_in, candidate_in, candidate_of, frame_in, good_or, is_right, not_good}
+pub use Rattle.frame_decoder.specs.Formats.{place_in, preferred, repeated_in, rising, format_of, score_in, shown_of}
+unfoldable pub use Rattle.frame_decoder.specs.Formats.{frame_of, gathered_in, symbols_in, codeword_in}
 pub use Rattle.frame_decoder.specs.Spans.{Channel, channel_of, gathered_span, own_bits, score, sending, sent_frames}
-pub use Rattle.frame_decoder.specs.TrafficFrames.{best_candidate, command, frame_bits, frame_score, group_sum, has_quality, is_replaced}
+pub use Rattle.frame_decoder.specs.TrafficFrames.{best_candidate, power_bit, frame_bits, frame_score, group_sum, has_quality, is_replaced}
 pub use Rattle.frame_decoder.specs.TrafficFrames.{is_up, rate_frame, shown, subchannels}
-unfoldable pub use Rattle.frame_decoder.specs.TrafficFrames.{decoded, rate_word, unreplaced}
-pub use Rattle.frame_decoder.specs.declared.rows.Row.{Row}
-pub use Rattle.frame_decoder.specs.declared.rows.RowFrame.{RowFrame}
+unfoldable pub use Rattle.frame_decoder.specs.TrafficFrames.{decoded, rate_codeword, unreplaced}
+pub use Rattle.frame_decoder.specs.declared.formats.FrameFormat.{FrameFormat}
+pub use Rattle.frame_decoder.specs.declared.formats.DecodedFrame.{DecodedFrame}
 pub use Rattle.frame_decoder.specs.declared.traffic.Decoded.{Decoded}

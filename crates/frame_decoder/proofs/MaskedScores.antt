@@ -177,7 +177,7 @@ weight_least (q ∷ qs) xs =
     let rest = weight_least qs xs in
     omega (arith, one, rest)
 
--- where all soft values are 0 every word has the same score
+-- where all soft values are 0 every codeword has the same score
 pub zeros_score : (n : ℕ) (ys : List Bool) → correlation (replicate n (pos 0)) ys ≡ pos 0
 zeros_score zero ys = refl
 zeros_score (suc n) [] = refl

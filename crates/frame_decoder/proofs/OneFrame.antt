@@ -1,10 +1,10 @@
 -- A span of one frame.
 use Rattle.frame_decoder.proofs.Common.{◌≡◌, ℕ, ◌*◌, Bool, List, ◌++◌, length, take, drop, ap, ◌∙◌, arith, take_all, code_symbols}
-use Rattle.frame_decoder.proofs.Common.{length-code_symbols, sent, Word, correlation, best_word, Free, Channel, sending, sent_frames, score}
-use Rattle.frame_decoder.proofs.Common.{IsOneFrame}
+use Rattle.frame_decoder.proofs.Common.{length-code_symbols, sent, Codeword, correlation, best_codeword, Free, Channel, sending}
+use Rattle.frame_decoder.proofs.Common.{sent_frames, score, IsOneFrame}
 use Rattle.frame_decoder.specs.Laws.{frame_score}
 use Rattle.frame_decoder.proofs.Parts.{frames-none, frames-more}
-use Rattle.frame_decoder.proofs.BestWords.{length-best_word, best_word-same}
+use Rattle.frame_decoder.proofs.BestCodewords.{length-best_codeword, best_codeword-same}
 
 sent_one : (c : Channel) (symbols : List Bool) → length symbols ≡ 2 * c.bits →
     sent_frames (sending c 1) symbols ≡ sent c.shape c.repeats symbols
@@ -20,16 +20,16 @@ pub one_frame : IsOneFrame
 one_frame c softs =
     let none : c.bits * 0 ≡ 0 = omega arith in
     let one : c.bits * 1 ≡ c.bits = omega arith in
-    let best = best_word (frame_score c softs) Free c.bits in
-    let span : ℕ → Word = λ n. best_word (score softs (sending c 1)) Free n in
-    let twice : (w : Word) → length w.bits ≡ c.bits →
+    let best = best_codeword (frame_score c softs) Free c.bits in
+    let span : ℕ → Codeword = λ n. best_codeword (score softs (sending c 1)) Free n in
+    let twice : (w : Codeword) → length w.bits ≡ c.bits →
     length (code_symbols w.start w.bits) ≡ 2 * c.bits = λ w long.
     length-code_symbols w.start w.bits ∙ ap (λ (k : ℕ). 2 * k) long in
     let same : span c.bits ≡ best =
-    best_word-same (score softs (sending c 1)) (frame_score c softs) c.bits
+    best_codeword-same (score softs (sending c 1)) (frame_score c softs) c.bits
     (λ w long. ap (correlation softs) (sent_one c (code_symbols w.start w.bits) (twice w long))) in
-    let long = length-best_word (frame_score c softs) c.bits in
+    let long = length-best_codeword (frame_score c softs) c.bits in
     ap (λ (n : ℕ). take c.bits (drop n (span (c.bits * 1)).bits)) none
     ∙ ap (λ (n : ℕ). take c.bits (span n).bits) one
-    ∙ ap (λ (w : Word). take c.bits w.bits) same
+    ∙ ap (λ (w : Codeword). take c.bits w.bits) same
     ∙ take_all c.bits best.bits (omega (arith, long))

@@ -1,8 +1,8 @@
--- A word's score under a span's soft values is its score under the gathered ones.
+-- A codeword's score under a span's soft values is its score under the gathered ones.
 use Rattle.frame_decoder.proofs.Common.{◌≡◌, ℕ, zero, suc, ◌+◌, ◌*◌, ◌≤◌, Bool, List, [], ◌∷◌, ◌++◌, length, take, drop, refl, sym, ap, ◌∙◌}
 use Rattle.frame_decoder.proofs.Common.{arith, ℤ, ◌+ℤ◌, length-drop, length-take-le, take_all, ints, code_symbols, length-code_symbols}
-use Rattle.frame_decoder.proofs.Common.{shape_of, size, sent, gathered, Kind, length-sent, agreement-gathered, Word, correlation, score_of}
-use Rattle.frame_decoder.proofs.Common.{sending, sent_frames, score, gathered_span}
+use Rattle.frame_decoder.proofs.Common.{shape_of, size, sent, gathered, Kind, length-sent, agreement-gathered, Codeword, correlation}
+use Rattle.frame_decoder.proofs.Common.{score_of, sending, sent_frames, score, gathered_span}
 use Rattle.frame_decoder.proofs.Parts.{frames-none, frames-more, length-frames, take-frames}
 use Rattle.frame_decoder.proofs.Gathered.{channel, frame_of, length-gathered_span}
 
@@ -89,8 +89,8 @@ frames_agree kind bits repeats (suc n) softs symbols e room room' =
     ∙ ap (λ (xs : List ℤ). correlation xs (front' ++ here')) (sym (frames-more gathered_frame n))
     ∙ ap (correlation (gathered_span c (suc n) softs)) (sym (take-frames symbols (2 * bits) n))
 
--- and so for a word of the span's length
-pub score_is : (kind : Kind) (bits repeats n : ℕ) (softs : List ℤ) (w : Word) →
+-- and so for a codeword of the span's length
+pub score_is : (kind : Kind) (bits repeats n : ℕ) (softs : List ℤ) (w : Codeword) →
     2 * bits * repeats ≡ size (shape_of kind) →
     length softs ≡ size (shape_of kind) * n → length w.bits ≡ bits * n →
     score_of (gathered_span (channel kind bits repeats) n softs) w

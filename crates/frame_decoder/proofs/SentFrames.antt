@@ -1,11 +1,11 @@
 -- A sent frame of a traffic channel is decoded.
-use Rattle.frame_decoder.proofs.Common.{ℕ, List, [], ◌∷◌, refl, sym, ap, subst, ◌∙◌, Option, Rate, R9600, R4800, R2400, R1200, sent, Word}
-use Rattle.frame_decoder.proofs.Common.{IsAllowed, Zero, RowFrame, row_of, symbols_in, word_in, score_in, good_or, frame_of, unreplaced}
-use Rattle.frame_decoder.proofs.Common.{frame_word, IsUnshared, IsSentFrameDecoded}
+use Rattle.frame_decoder.proofs.Common.{ℕ, List, [], ◌∷◌, refl, sym, ap, subst, ◌∙◌, Option, Rate, R9600, R4800, R2400, R1200, sent}
+use Rattle.frame_decoder.proofs.Common.{Codeword, IsAllowed, Zero, DecodedFrame, format_of, symbols_in, codeword_in, score_in, good_or}
+use Rattle.frame_decoder.proofs.Common.{frame_of, unreplaced, frame_codeword, IsUnshared, IsSentFrameDecoded}
 use Rattle.frame_decoder.proofs.Chosen.{as_decoded, decoded_is}
-use Rattle.frame_decoder.proofs.RateWords.{bits_are}
-use Rattle.frame_decoder.proofs.RowChoice.{IsAmong}
-use Rattle.frame_decoder.proofs.SentRows.{IsUnsharedIn, best_words, sent_chosen}
+use Rattle.frame_decoder.proofs.RateCodewords.{bits_are}
+use Rattle.frame_decoder.proofs.FormatChoice.{IsAmong}
+use Rattle.frame_decoder.proofs.SentFormats.{IsUnsharedIn, best_codewords, sent_chosen}
 
 -- the rates, the lowest first
 abbrev pub rates : List Rate
@@ -17,9 +17,9 @@ among R4800 = record { before = R1200 ∷ R2400 ∷ []; after = R9600 ∷ []; pa
 among R2400 = record { before = R1200 ∷ []; after = R4800 ∷ R9600 ∷ []; parted = refl }
 among R1200 = record { before = []; after = R2400 ∷ R4800 ∷ R9600 ∷ []; parted = refl }
 
--- the rows' words are the rates'
-pub unshared_in : (replaced : List ℕ) (rate : Rate) (w : Word) → IsUnshared replaced rate w →
-    IsUnsharedIn row_of replaced rate w
+-- the formats' codewords are the rates'
+pub unshared_in : (replaced : List ℕ) (rate : Rate) (w : Codeword) → IsUnshared replaced rate w →
+    IsUnsharedIn format_of replaced rate w
 unfolding symbols_in sent
 unshared_in replaced rate w unshared r v allowed agree =
     unshared r v (subst (λ (n : ℕ). IsAllowed Zero n v) (bits_are r) allowed) agree
@@ -28,10 +28,10 @@ pub sent_frame : IsSentFrameDecoded
 unfolding frame_of symbols_in sent
 sent_frame n replaced rate information softs some few long long' shows unshared =
     let kept = unreplaced replaced softs in
-    let word = word_in kept (row_of R9600) in
+    let codeword = codeword_in kept (format_of R9600) in
     sym (decoded_is replaced softs)
-    ∙ ap (λ (best : Option (RowFrame Rate)).
-    as_decoded (good_or (row_of R9600) word.bits (score_in kept (row_of R9600) word) best))
-    (sent_chosen row_of rates n replaced rate information softs
-    (λ ks r. word_in ks (row_of r) ∷ []) (λ r. refl) among (best_words row_of) some few long long'
-    shows (unshared_in replaced rate (frame_word rate information) unshared))
+    ∙ ap (λ (best : Option (DecodedFrame Rate)).
+    as_decoded (good_or (format_of R9600) codeword.bits (score_in kept (format_of R9600) codeword) best))
+    (sent_chosen format_of rates n replaced rate information softs
+    (λ ks r. codeword_in ks (format_of r) ∷ []) (λ r. refl) among (best_codewords format_of) some few long long'
+    shows (unshared_in replaced rate (frame_codeword rate information) unshared))

@@ -1,5 +1,5 @@
 pub mod Laws
-pub mod Rows
+pub mod Formats
 pub mod Spans
 pub mod TrafficFrames
 mod Worked

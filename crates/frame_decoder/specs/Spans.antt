@@ -1,18 +1,18 @@
--- The best word of a span of frames, and the bits of one of its frames (TIA/EIA-95-B, 7.1.3.1 and
--- 7.7.1.2).
+-- The best codeword of a span of frames, and the bits of one of its frames (TIA/EIA-95-B, 7.1.3.1
+-- and 7.7.1.2).
 use Rattle.std.specs.Prelude.{ℕ, ◌*◌, ◌/◌, Bool, List, take, drop, ℤ}
 use Rattle.std.specs.List.{flat_map}
 use Rattle.chip_core.specs.Bits.{places}
 use Rattle.conv_code.specs.ConvCode.{code_symbols}
 use Rattle.symbol_path.specs.SentOrder.{Shape, sync_shape, data_shape, shape_of, size, sent}
 use Rattle.symbol_path.specs.SentOrder.{gathered}
-use Rattle.quality_bits.specs.TrafficWords.{repeats_of}
+use Rattle.quality_bits.specs.TrafficCodewords.{repeats_of}
 use Rattle.quality_bits.specs.declared.rate.Rate.{Rate}
-use Rattle.viterbi.specs.Words.{Word, correlation, best_word}
-use Rattle.viterbi.specs.declared.word.Ends.TheVariants.{Free}
-use Rattle.frame_decoder.specs.declared.layout.FrameKind.{FrameKind}
-use Rattle.frame_decoder.specs.declared.layout.FrameKind.TheVariants.{Sync, Paging}
-use Rattle.frame_decoder.specs.declared.layout.Layout.{Layout}
+use Rattle.viterbi.specs.Codewords.{Codeword, correlation, best_codeword}
+use Rattle.viterbi.specs.declared.codeword.Ends.TheVariants.{Free}
+use Rattle.frame_decoder.specs.declared.span_format.FrameKind.{FrameKind}
+use Rattle.frame_decoder.specs.declared.span_format.FrameKind.TheVariants.{Sync, Paging}
+use Rattle.frame_decoder.specs.declared.span_format.SpanFormat.{SpanFormat}
 
 -- how a channel's frames are sent: the order, the bits, and how often each code symbol is sent
 pub record Channel : Type 0 where
@@ -34,10 +34,10 @@ abbrev pub channel_for : FrameKind → Channel
 channel_for Sync = sync_channel
 channel_for (Paging rate) = paging_channel rate
 
-abbrev pub channel_of : Layout → Channel
+abbrev pub channel_of : SpanFormat → Channel
 channel_of l = record { shape = shape_of l.kind; bits = l.bits; repeats = l.repeats }
 
--- how words turn into symbols as they are sent: so many frames of so many code symbols
+-- how codewords turn into symbols as they are sent: so many frames of so many code symbols
 pub record Sending : Type 0 where
   pub frames : ℕ
   pub shape : Shape
@@ -54,18 +54,18 @@ sent_frames s symbols =
     flat_map (λ k. sent s.shape s.repeats (take s.code_symbols (drop (s.code_symbols * k) symbols)))
     (places s.frames)
 
--- a word's symbols as they are sent
-abbrev pub sent_symbols : Sending → Word → List Bool
+-- a codeword's symbols as they are sent
+abbrev pub sent_symbols : Sending → Codeword → List Bool
 sent_symbols s w = sent_frames s (code_symbols w.start w.bits)
 
--- how well a word's symbols agree with the soft values as they are sent
-abbrev pub score : List ℤ → Sending → Word → ℤ
+-- how well a codeword's symbols agree with the soft values as they are sent
+abbrev pub score : List ℤ → Sending → Codeword → ℤ
 score softs s w = correlation softs (sent_symbols s w)
 
 -- the bits of frame number `own` of a span of frames, whose soft values follow one another
 abbrev pub own_bits : Channel → ℕ → ℕ → List ℤ → List Bool
 own_bits c frames own softs =
-    let best = best_word (score softs (sending c frames)) Free (c.bits * frames) in
+    let best = best_codeword (score softs (sending c frames)) Free (c.bits * frames) in
     take c.bits (drop (c.bits * own) best.bits)
 
 -- for each code symbol of each frame the sum of the soft values that are sent for it

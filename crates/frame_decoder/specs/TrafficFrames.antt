@@ -9,11 +9,11 @@ use Rattle.chip_core.specs.Bits.{places}
 use Rattle.conv_code.specs.ConvCode.{code_symbols}
 use Rattle.quality_bits.specs.Kinds.{quality_indicator, quality_length}
 use Rattle.symbol_path.specs.SentOrder.{data_shape, sent}
-use Rattle.quality_bits.specs.TrafficWords.{repeats_of, information_of, quality_of}
+use Rattle.quality_bits.specs.TrafficCodewords.{repeats_of, information_of, quality_of}
 use Rattle.quality_bits.specs.declared.rate.Rate.{Rate}
 use Rattle.quality_bits.specs.declared.rate.Rate.TheVariants.{R9600, R4800, R2400, R1200}
-use Rattle.viterbi.specs.Words.{Word, correlation, best_word}
-use Rattle.viterbi.specs.declared.word.Ends.TheVariants.{Zero}
+use Rattle.viterbi.specs.Codewords.{Codeword, correlation, best_codeword}
+use Rattle.viterbi.specs.declared.codeword.Ends.TheVariants.{Zero}
 use Rattle.frame_decoder.specs.declared.traffic.Decoded.{Decoded}
 use Rattle.frame_decoder.specs.declared.power.PowerSofts.{PowerSofts}
 
@@ -31,17 +31,17 @@ unreplaced replaced softs =
     map (λ i. if is_replaced replaced i then pos 0 else get_or softs i (pos 0))
     (places (length softs))
 
--- a word's symbols as a frame of its rate sends them
-abbrev pub frame_symbols : Rate → Word → List Bool
+-- a codeword's symbols as a frame of its rate sends them
+abbrev pub frame_symbols : Rate → Codeword → List Bool
 frame_symbols rate w = sent data_shape (repeats_of rate) (code_symbols w.start w.bits)
 
 -- how well they agree with the soft values
-abbrev pub frame_score : List ℤ → Rate → Word → ℤ
+abbrev pub frame_score : List ℤ → Rate → Codeword → ℤ
 frame_score softs rate w = correlation softs (frame_symbols rate w)
 
--- the best word of a rate: of all that start from eight zeros and end with eight zeros
-unfoldable pub rate_word : List ℤ → Rate → Word
-rate_word softs rate = best_word (frame_score softs rate) Zero (frame_bits rate)
+-- the best codeword of a rate: of all that start from eight zeros and end with eight zeros
+unfoldable pub rate_codeword : List ℤ → Rate → Codeword
+rate_codeword softs rate = best_codeword (frame_score softs rate) Zero (frame_bits rate)
 
 -- whether the quality indicator is that of the information bits; so always where a rate has none
 abbrev pub has_quality : Rate → List Bool → Bool
@@ -50,7 +50,7 @@ has_quality rate bits =
     (take (quality_length (quality_of rate)) (drop (information_of rate) bits))
     (quality_indicator (quality_of rate) (take (information_of rate) bits))
 
--- a word of a rate as a decoded frame: good exactly where its score is above 0
+-- a codeword of a rate as a decoded frame: good exactly where its score is above 0
 abbrev pub shown : Rate → List Bool → ℤ → Decoded
 shown rate bits score = record {
   rate = rate;
@@ -59,10 +59,11 @@ shown rate bits score = record {
   score = score;
 }
 
--- the best word of a rate as a decoded frame
+-- the best codeword of a rate as a decoded frame
 abbrev pub rate_frame : List ℤ → Rate → Decoded
 rate_frame softs rate =
-    let word = rate_word softs rate in shown rate word.bits (frame_score softs rate word)
+    let codeword = rate_codeword softs rate in shown rate codeword.bits
+    (frame_score softs rate codeword)
 
 -- the frame of greater score, the first where both are equal
 abbrev pub better : Decoded → Decoded → Decoded
@@ -74,14 +75,14 @@ abbrev pub preferred : Bool → Decoded → Decoded → Decoded
 preferred candidate higher lower = if candidate then better higher lower else lower
 
 -- the best of the candidates of these rates, the highest first, and of 1,200 bits a second, whose
--- best word is always a candidate
+-- best codeword is always a candidate
 abbrev pub best_candidate : List ℤ → List Rate → Decoded
 best_candidate softs [] = rate_frame softs R1200
 best_candidate softs (rate ∷ rates) =
-    preferred (has_quality rate (rate_word softs rate).bits) (rate_frame softs rate)
+    preferred (has_quality rate (rate_codeword softs rate).bits) (rate_frame softs rate)
     (best_candidate softs rates)
 
--- a frame that isn't good: the information bits of the best word at 9,600 bits a second
+-- a frame that isn't good: the information bits of the best codeword at 9,600 bits a second
 abbrev pub not_good : List Bool → ℤ → Decoded
 not_good bits score = record {
   rate = R9600;
@@ -99,7 +100,7 @@ good_or bits best = if best.good then best else not_good bits best.score
 unfoldable pub decoded : List ℕ → List ℤ → Decoded
 decoded replaced softs =
     let kept = unreplaced replaced softs in
-    good_or (rate_word kept R9600).bits (best_candidate kept (R9600 ∷ R4800 ∷ R2400 ∷ []))
+    good_or (rate_codeword kept R9600).bits (best_candidate kept (R9600 ∷ R4800 ∷ R2400 ∷ []))
 
 -- the sum of the soft values of the two symbols that the power control bit of a group replaces,
 -- which are at the places 2 g and 2 g + 1 of the list
@@ -122,5 +123,5 @@ is_up g sums = list_all (λ sum. int_lt (pos 0) (get_or sum g (pos 0))) sums
 
 -- The power control bit of a group: 0, which tells the handset to raise its power, only where each
 -- subchannel says so.
-abbrev pub command : List (List ℤ) → ℕ → Bool
-command sums g = not (is_up g sums)
+abbrev pub power_bit : List (List ℤ) → ℕ → Bool
+power_bit sums g = not (is_up g sums)

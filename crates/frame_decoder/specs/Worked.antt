@@ -6,7 +6,7 @@ use Rattle.symbol_path.specs.SentOrder.{data_shape, sent, gathered}
 use Rattle.quality_bits.specs.declared.rate.Rate.TheVariants.{R9600, R4800, R2400, R1200}
 use Rattle.frame_decoder.specs.Spans.{Channel, paging_channel, sending, sent_frames, gathered_span}
 use Rattle.frame_decoder.specs.TrafficFrames.{unreplaced, has_quality, shown, preferred, good_or}
-use Rattle.frame_decoder.specs.TrafficFrames.{group_sum, command}
+use Rattle.frame_decoder.specs.TrafficFrames.{group_sum, power_bit}
 use Rattle.frame_decoder.specs.declared.traffic.Decoded.{Decoded}
 
 paging_9600 : paging_channel R9600 ≡ record { shape = data_shape; bits = 192; repeats = 1 }
@@ -95,10 +95,10 @@ two_groups : map (group_sum (0 ∷ 1 ∷ 4 ∷ 5 ∷ [])
     ≡ pos 1 ∷ pos 0 ∷ []
 two_groups = refl
 
-one_subchannel : map (command ((pos 1 ∷ pos 0 ∷ []) ∷ [])) (0 ∷ 1 ∷ []) ≡ false ∷ true ∷ []
+one_subchannel : map (power_bit ((pos 1 ∷ pos 0 ∷ []) ∷ [])) (0 ∷ 1 ∷ []) ≡ false ∷ true ∷ []
 one_subchannel = refl
 
 -- a second subchannel says 1 where the first says 0
-two_subchannels : map (command ((pos 1 ∷ pos 0 ∷ []) ∷ (negsuc 4 ∷ pos 7 ∷ []) ∷ [])) (0 ∷ 1 ∷ [])
+two_subchannels : map (power_bit ((pos 1 ∷ pos 0 ∷ []) ∷ (negsuc 4 ∷ pos 7 ∷ []) ∷ [])) (0 ∷ 1 ∷ [])
     ≡ true ∷ true ∷ []
 two_subchannels = refl

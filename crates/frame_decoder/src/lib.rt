@@ -3,7 +3,7 @@
 //! The encoders of the sync channel and of a paging channel go on from frame to frame, and no frame
 //! of theirs has a tail (TIA/EIA-95-B, 7.7.1.2 and 7.1.3.1.3). So the bits near a frame's edges are
 //! told by the frames beside it too, and a frame is decoded as a part of a span: one, two or three
-//! frames that follow one another, as one word of the code.
+//! frames that follow one another, as one codeword.
 //!
 //! A frame of a traffic channel ends with tail bits (7.1.3.5), so it is decoded by itself, and at
 //! each of the four rates, since nothing says at which it was sent. The power control bits in it
@@ -11,18 +11,20 @@
 #![tactic(auto)]
 
 mod choice;
+mod formats;
+mod frame_softs;
 pub mod laws;
-mod layout;
 mod power;
 mod replaced;
-mod rows;
 mod span;
+mod span_format;
 mod traffic;
 
 pub use choice::{frame_of, good_or, preferred};
-pub use layout::FrameKind;
-pub use power::{PowerSofts, commands};
-pub use replaced::without_commands;
-pub use rows::{Row, RowFrame, RowWord};
+pub use formats::{DecodedFrame, FrameFormat, ScoredCodeword};
+pub use frame_softs::FrameSofts;
+pub use power::{GroupSums, PowerSofts, commands};
+pub use replaced::without_power_bits;
 pub use span::{paging_span, span_bits, sync_span};
-pub use traffic::{Decoded, row_of, traffic_frame};
+pub use span_format::FrameKind;
+pub use traffic::{Decoded, format_of, traffic_frame};

@@ -4,7 +4,15 @@ ghost use Rattle.std.specs.Prelude.{◌≡◌, ◌<◌, ◌≤◌, ◌+◌, ◌*
 ghost use Rattle.std.specs.Prelude.{unsigned_abs, All, get_or, pos, int_lt};
 ghost use Rattle.std.specs.List.Sorted.{IsStrictlyIncreasing};
 ghost use Rattle.chip_core.specs.Bits.{places};
-ghost use Rattle.frame_decoder.specs.TrafficFrames.{group_sums, subchannels, is_up, command};
+ghost use Rattle.frame_decoder.specs.TrafficFrames.{group_sums, subchannels, is_up, power_bit};
+
+use crate::frame_softs::FrameSofts;
+use chip_core::PowerBits;
+use symbol_path::PowerPlaces;
+
+/// For each of the 16 power control bits of a frame the sum of the two soft values of the symbols
+/// that it replaces (TIA/EIA-95-B, 7.1.3.1.7).
+pub type GroupSums = [i64; 16];
 
 /// What a handset hears of a frame's power control bits, on up to six subchannels.
 ///
@@ -16,7 +24,7 @@ pub struct PowerSofts {
     pub count: u8,
     /// For each of them the sums of the two soft values of each power control bit. What stands
     /// behind the first `count` means nothing.
-    pub sums: [[i64; 16]; 6],
+    pub sums: [GroupSums; 6],
 }
 
 impl PowerSofts {
@@ -34,7 +42,7 @@ impl PowerSofts {
     /// Adds a subchannel, where there is room: `softs` has the soft values of a frame's symbols as
     /// its fingers hear them together, which no scrambling turns, and `replaced` the places of the
     /// power control bits, as `symbol_path::power_places` gives them.
-    pub fn push(&mut self, softs: &[i64; 384], replaced: &[u16; 32])
+    pub fn push(&mut self, softs: &FrameSofts, replaced: &PowerPlaces)
         requires room { self.old.count < 6 }
         requires below { All (λ place. place < 384) replaced.now }
         requires rising { IsStrictlyIncreasing replaced.now }
@@ -49,7 +57,7 @@ impl PowerSofts {
 }
 
 /// For each of a frame's 16 power control bits the sum of its two soft values.
-fn group_sums(softs: &[i64; 384], replaced: &[u16; 32]) -> [i64; 16]
+fn group_sums(softs: &FrameSofts, replaced: &PowerPlaces) -> GroupSums
     requires below { All (λ place. place < 384) replaced.now }
     requires rising { IsStrictlyIncreasing replaced.now }
     requires bound { sum_by unsigned_abs softs.now ≤ 2 ^ 62 }
@@ -65,7 +73,7 @@ fn group_sums(softs: &[i64; 384], replaced: &[u16; 32]) -> [i64; 16]
 }
 
 /// Whether the sum of a group, below 16, is above 0.
-fn is_above_zero(sums: &[i64; 16], group: usize) -> bool
+fn is_above_zero(sums: &GroupSums, group: usize) -> bool
     requires { group < 16 }
     ensures { result ≡ int_lt (pos 0) (get_or sums.now group (pos 0)) }
 {
@@ -73,7 +81,7 @@ fn is_above_zero(sums: &[i64; 16], group: usize) -> bool
 }
 
 /// Whether the power control bit of a group, below 16, is heard as 0 on each of these subchannels.
-fn is_up(heard: &[[i64; 16]], group: usize) -> bool
+fn is_up(heard: &[GroupSums], group: usize) -> bool
     requires { group < 16 }
     ensures { result ≡ is_up group heard.now }
 {
@@ -89,9 +97,9 @@ fn is_up(heard: &[[i64; 16]], group: usize) -> bool
 /// it to lower it.
 ///
 /// TIA/EIA-95-B, 7.1.3.1.7: a 0 raises the power and a 1 lowers it.
-pub fn commands(softs: &PowerSofts) -> [bool; 16]
+pub fn commands(softs: &PowerSofts) -> PowerBits
     requires { softs.now.count ≤ 6 }
-    ensures { result ≡ map (command (subchannels softs.now)) (places 16) }
+    ensures { result ≡ map (power_bit (subchannels softs.now)) (places 16) }
 {
     let heard = &softs.sums[..usize::from(softs.count)];
     let mut bits = [false; 16];

@@ -3,8 +3,11 @@
 ghost use Rattle.std.specs.Prelude.{◌≡◌, ◌≤◌, pos, slice_set, sum_by, unsigned_abs};
 ghost use Rattle.frame_decoder.specs.TrafficFrames.{unreplaced};
 
+use crate::frame_softs::FrameSofts;
+use symbol_path::PowerPlaces;
+
 /// Sets the value at a place to 0, where there is one.
-fn clear_at(values: &mut [i64; 384], place: u16)
+fn clear_at(values: &mut FrameSofts, place: u16)
     ensures { values.new ≡ slice_set values.old place (pos 0) }
 {
     let at = usize::from(place);
@@ -17,7 +20,7 @@ fn clear_at(values: &mut [i64; 384], place: u16)
 /// `places` has their places, as `symbol_path::power_places` gives them. No absolute value grows.
 ///
 /// TIA/EIA-95-B, 7.1.3.1.7: a power control bit is sent in place of two symbols.
-pub fn without_commands(softs: &[i64; 384], places: &[u16; 32]) -> [i64; 384]
+pub fn without_power_bits(softs: &FrameSofts, places: &PowerPlaces) -> FrameSofts
     ensures value { result ≡ unreplaced places.now softs.now }
     ensures bound { sum_by unsigned_abs result ≤ sum_by unsigned_abs softs.now }
 {

@@ -1,95 +1,103 @@
-//! The best word of a span of frames.
+//! The best codeword of a span of frames.
 
 ghost use Rattle.std.specs.Prelude.{◌≡◌, ◌<◌, ◌≤◌, ◌*◌, ◌/◌, ◌%◌, ◌^◌, length, sum_by};
 ghost use Rattle.std.specs.Prelude.{unsigned_abs};
 ghost use Rattle.symbol_path.specs.SentOrder.{shape_of, size};
-ghost use Rattle.quality_bits.specs.TrafficWords.{repeats_of};
-ghost use Rattle.viterbi.specs.Best.{IsBestWord, spelled};
-ghost use Rattle.viterbi.specs.declared.word.Ends.TheVariants.{Free};
+ghost use Rattle.quality_bits.specs.TrafficCodewords.{repeats_of};
+ghost use Rattle.viterbi.specs.Best.{IsBestCodeword, spelled};
+ghost use Rattle.viterbi.specs.declared.codeword.Ends.TheVariants.{Free};
 ghost use Rattle.frame_decoder.specs.Spans.{sync_channel, paging_channel, channel_of, channel_for};
 ghost use Rattle.frame_decoder.specs.Spans.{gathered_span, own_bits};
 
-use crate::layout::{FrameKind, Layout};
+use crate::span_format::{FrameKind, SpanFormat};
 use chip_core::Bits;
 use chip_core::air::{DATA_SYMBOLS, SYNC_SYMBOLS};
 use symbol_path::{Rate, gather_into};
-use viterbi::{Decoder, Ends, Word};
+use viterbi::{Codeword, Decoder, Ends};
 
 /// The most code symbols that a span has: three frames of 192 bits, two a bit.
 const MOST_SYMBOLS: usize = 3 * DATA_SYMBOLS;
 
 /// For each code symbol of each frame, one frame after another, the sum of the soft values that
 /// were sent for it.
-fn gather_span(layout: Layout, frames: u8, softs: &[i64], out: &mut [i64])
-    requires sent { 2 * layout.bits * layout.repeats ≡ size (shape_of layout.kind) }
-    requires most { layout.bits ≤ 192 }
-    requires softs { length softs.now ≡ size (shape_of layout.kind) * frames }
-    requires out { length out.old ≡ 2 * layout.bits * frames }
+fn gather_span(span_format: SpanFormat, frames: u8, softs: &[i64], out: &mut [i64])
+    requires sent { 2 * span_format.bits * span_format.repeats ≡ size (shape_of span_format.kind) }
+    requires most { span_format.bits ≤ 192 }
+    requires softs { length softs.now ≡ size (shape_of span_format.kind) * frames }
+    requires out { length out.old ≡ 2 * span_format.bits * frames }
     requires bounded { sum_by unsigned_abs softs.now ≤ 2 ^ 62 }
-    ensures value { out.new ≡ gathered_span (channel_of layout) frames softs.now }
+    ensures value { out.new ≡ gathered_span (channel_of span_format) frames softs.now }
     ensures bounded { sum_by unsigned_abs out.new ≤ sum_by unsigned_abs softs.now }
 {
-    let symbols = layout.symbols();
-    let code = layout.code_symbols();
+    let symbols = span_format.symbols();
+    let code = span_format.code_symbols();
     for frame in 0..usize::from(frames) {
         let first = symbols * frame;
         let to = code * frame;
         gather_into(
-            layout.kind,
-            layout.repeats,
+            span_format.kind,
+            span_format.repeats,
             &softs[first..first + symbols],
             &mut out[to..to + code],
         );
     }
 }
 
-/// The best of all words, with any start and any end, for soft values in the order of the code
+/// The best of all codewords, with any start and any end, for soft values in the order of the code
 /// symbols.
-fn best_word(decoder: &mut Decoder, softs: &[i64]) -> Word
+fn best_codeword(decoder: &mut Decoder, softs: &[i64]) -> Codeword
     requires even { length softs.now % 2 ≡ 0 }
     requires least { 16 ≤ length softs.now }
     requires most { length softs.now ≤ 2 * decoder.old }
     requires bound { sum_by unsigned_abs softs.now ≤ 2 ^ 62 }
-    ensures best { IsBestWord softs.now Free (spelled result) }
+    ensures best { IsBestCodeword softs.now Free (spelled result) }
     ensures kept { decoder.new ≡ decoder.old }
 {
-    let mut word = Word {
+    let mut codeword = Codeword {
         start: 0,
         bits: Bits::empty(),
     };
-    decoder.best_into(softs, Ends::Free, &mut word);
-    word
+    decoder.best_into(softs, Ends::Free, &mut codeword);
+    codeword
 }
 
-/// The bits of frame `own` of the best word of a span of so many frames.
-fn bits_of(decoder: &mut Decoder, layout: Layout, frames: u8, softs: &[i64], own: u8) -> Bits
-    requires sent { 2 * layout.bits * layout.repeats ≡ size (shape_of layout.kind) }
-    requires least { 8 ≤ layout.bits }
-    requires most { layout.bits ≤ 192 }
+/// The bits of frame `own` of the best codeword of a span of so many frames.
+fn bits_of(
+    decoder: &mut Decoder,
+    span_format: SpanFormat,
+    frames: u8,
+    softs: &[i64],
+    own: u8,
+) -> Bits
+    requires sent { 2 * span_format.bits * span_format.repeats ≡ size (shape_of span_format.kind) }
+    requires least { 8 ≤ span_format.bits }
+    requires most { span_format.bits ≤ 192 }
     requires frames { frames ≤ 3 }
     requires own { own < frames }
-    requires softs { length softs.now ≡ size (shape_of layout.kind) * frames }
-    requires room { layout.bits * frames ≤ decoder.old }
+    requires softs { length softs.now ≡ size (shape_of span_format.kind) * frames }
+    requires room { span_format.bits * frames ≤ decoder.old }
     requires bound { sum_by unsigned_abs softs.now ≤ 2 ^ 62 }
-    ensures value { result ≡ own_bits (channel_of layout) frames own softs.now }
-    ensures count { length result ≡ layout.bits }
+    ensures value { result ≡ own_bits (channel_of span_format) frames own softs.now }
+    ensures count { length result ≡ span_format.bits }
     ensures kept { decoder.new ≡ decoder.old }
 {
-    let count = layout.code_symbols() * usize::from(frames);
+    let count = span_format.code_symbols() * usize::from(frames);
     let mut gathered = [0; MOST_SYMBOLS];
     let span = &mut gathered[..count];
-    gather_span(layout, frames, softs, span);
-    let word = best_word(decoder, span);
-    word.bits.part(layout.bits * u16::from(own), layout.bits)
+    gather_span(span_format, frames, softs, span);
+    let codeword = best_codeword(decoder, span);
+    codeword
+        .bits
+        .part(span_format.bits * u16::from(own), span_format.bits)
 }
 
 /// The bits of frame `own`, counted from 0, of a span of one to three frames of a kind.
 ///
 /// `softs` has the soft values of so many frames in the sent order, one frame after another, turned
 /// by the scrambling where there is one; a soft value is positive where its symbol is more likely a
-/// 0. The bits are those of the span's best word: of all words of so many bits a frame, with any
-/// start and any end, the one whose sent symbols agree best with the soft values of all frames
-/// together, and the first in the decoder's order where several do.
+/// 0. The bits are those of the span's best codeword: of all codewords of so many bits a frame,
+/// with any start and any end, the one whose sent symbols agree best with the soft values of all
+/// frames together, and the first in the decoder's order where several do.
 ///
 /// TIA/EIA-95-B, 7.1.3.1: the bits are encoded from frame to frame, each code symbol is sent so
 /// often, and the symbols of each frame are interleaved by themselves.
@@ -103,7 +111,7 @@ pub fn span_bits(decoder: &mut Decoder, kind: FrameKind, frames: u8, softs: &[i6
     ensures count { length result ≡ (channel_for kind).bits }
     ensures kept { decoder.new ≡ decoder.old }
 {
-    bits_of(decoder, kind.layout(), frames, softs, own)
+    bits_of(decoder, kind.span_format(), frames, softs, own)
 }
 
 /// The 32 bits of frame `own`, counted from 0, of a span of one to three sync frames: `span_bits`

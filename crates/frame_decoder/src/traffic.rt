@@ -1,13 +1,14 @@
 //! The frames of traffic channels of rate set 1.
 
 ghost use Rattle.std.specs.Prelude.{◌≡◌, ◌≤◌, ◌^◌, sum_by, unsigned_abs};
-ghost use Rattle.frame_decoder.specs.Rows.{IsRow, row_of};
+ghost use Rattle.frame_decoder.specs.Formats.{IsFormat, format_of};
 ghost use Rattle.frame_decoder.specs.TrafficFrames.{decoded};
 
 use crate::choice::frame_of;
-use crate::rows::Row;
+use crate::formats::FrameFormat;
+use crate::frame_softs::FrameSofts;
 use chip_core::Bits;
-use symbol_path::Rate;
+use symbol_path::{PowerPlaces, Rate};
 use viterbi::Decoder;
 
 /// What is decoded of a traffic frame.
@@ -24,11 +25,11 @@ pub struct Decoded {
 }
 
 /// What the frames of a rate of rate set 1 are made of (TIA/EIA-95-B, 7.1.3.1.4 and 7.1.3.5).
-pub fn row_of(rate: Rate) -> Row<Rate>
-    ensures value { result ≡ row_of rate }
-    ensures row { IsRow result }
+pub fn format_of(rate: Rate) -> FrameFormat<Rate>
+    ensures value { result ≡ format_of rate }
+    ensures format { IsFormat result }
 {
-    Row {
+    FrameFormat {
         rate,
         information: rate.information_bits(),
         quality: rate.quality(),
@@ -41,26 +42,26 @@ pub fn row_of(rate: Rate) -> Row<Rate>
 ///
 /// `softs` has the soft values of a frame's 384 symbols in the sent order, turned by the
 /// scrambling, and `places` the places of the power control bits, whose soft values count as 0. Of
-/// each rate the best word is found, of those that start from eight zeros and end with eight zeros.
-/// Those of 9,600 and 4,800 bits a second are candidates where their quality indicator is right,
-/// and the others always. The candidate of the greatest score is taken, the higher rate on a tie,
-/// and is good exactly where that score is above 0. Where it isn't, the rate is 9,600, with the
-/// information bits of the best word at that rate.
+/// each rate the best codeword is found, of those that start from eight zeros and end with eight
+/// zeros. Those of 9,600 and 4,800 bits a second are candidates where their quality indicator is
+/// right, and the others always. The candidate of the greatest score is taken, the higher rate on a
+/// tie, and is good exactly where that score is above 0. Where it isn't, the rate is 9,600, with
+/// the information bits of the best codeword at that rate.
 ///
 /// TIA/EIA-95-B, 7.1.3.5: the bits of a frame at each rate; 7.1.3.1: they are encoded, each code
 /// symbol is sent 1, 2, 4 or 8 times, and the symbols are interleaved.
-pub fn traffic_frame(decoder: &mut Decoder, softs: &[i64; 384], places: &[u16; 32]) -> Decoded
+pub fn traffic_frame(decoder: &mut Decoder, softs: &FrameSofts, places: &PowerPlaces) -> Decoded
     requires room { 192 ≤ decoder.old }
     requires bound { sum_by unsigned_abs softs.now ≤ 2 ^ 62 }
     ensures value { result ≡ decoded places.now softs.now }
     ensures kept { decoder.new ≡ decoder.old }
 {
     let lower = [
-        row_of(Rate::R1200),
-        row_of(Rate::R2400),
-        row_of(Rate::R4800),
+        format_of(Rate::R1200),
+        format_of(Rate::R2400),
+        format_of(Rate::R4800),
     ];
-    let frame = frame_of(decoder, &row_of(Rate::R9600), &lower, softs, places);
+    let frame = frame_of(decoder, &format_of(Rate::R9600), &lower, softs, places);
     Decoded {
         rate: frame.rate,
         good: frame.good,

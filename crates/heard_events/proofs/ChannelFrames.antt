@@ -1,7 +1,7 @@
 -- The frames of a channel behind the mark, before they are decoded.
 use Rattle.heard_events.proofs.Common.{◌≡◌, ℕ, ◌+◌, ◌*◌, ◌<◌, ◌≤◌, Bool, true, false, List, [], ◌∷◌, ◌++◌, map, filter, length, refl, sym}
 use Rattle.heard_events.proofs.Common.{ap, ◌∙◌, arith, ℤ, Option, Some, None, take, drop, subst, length-take-le, take-append-drop, places}
-use Rattle.heard_events.proofs.Common.{Sample, frame_chips, Form, Data, command, group_sums, power_places, scrambling, channel_stream}
+use Rattle.heard_events.proofs.Common.{Sample, frame_chips, Form, Data, power_bit, group_sums, power_places, scrambling, channel_stream}
 use Rattle.heard_events.proofs.Common.{has_power_control, mask_of, offset_of, row_of, state_at, paging_bound, unscrambled, frames_within}
 use Rattle.heard_events.proofs.Common.{power_of, soft_frame, Stream, frame_end, frame_start, is_in_file, known_at, known_by, IsTimed}
 use Rattle.heard_events.proofs.Common.{stream_end, Tuning, fingers_of, Channel, Paging, Mark, PowerControl, SoftFrame, ◌-◌, AgreeIn}
@@ -68,29 +68,29 @@ no_power (Traffic traffic) m k softs' none = absurd (cc)
 
 -- a traffic channel's are those of one subchannel
 pub some_power : (channel : Channel) (m : Mark) (k : ℕ) (softs' : List ℤ) (replaced : List ℕ)
-    (commands : List Bool) → has_power_control channel ≡ true →
+    (power_bits : List Bool) → has_power_control channel ≡ true →
     replaced ≡ power_places (state_at channel m k) (mask_of channel m) →
-    commands ≡ map (command (group_sums replaced softs' ∷ [])) (places 16) →
-    Some (record { replaced = replaced; commands = commands }) ≡ power_of channel m k softs'
-some_power (Paging number) m k softs' replaced commands some replaced_is commands_are = absurd (cc)
-some_power (Traffic traffic) m k softs' replaced commands some replaced_is commands_are =
+    power_bits ≡ map (power_bit (group_sums replaced softs' ∷ [])) (places 16) →
+    Some (record { replaced = replaced; power_bits = power_bits }) ≡ power_of channel m k softs'
+some_power (Paging number) m k softs' replaced power_bits some replaced_is power_bits_are = absurd (cc)
+some_power (Traffic traffic) m k softs' replaced power_bits some replaced_is power_bits_are =
     let of : List ℕ → List Bool → Option PowerControl =
-    λ ps cs. Some (record { replaced = ps; commands = cs }) in
-    ap (of replaced) commands_are
-    ∙ ap (λ (ps : List ℕ). of ps (map (command (group_sums ps softs' ∷ [])) (places 16)))
+    λ ps cs. Some (record { replaced = ps; power_bits = cs }) in
+    ap (of replaced) power_bits_are
+    ∙ ap (λ (ps : List ℕ). of ps (map (power_bit (group_sums ps softs' ∷ [])) (places 16)))
     replaced_is
 
 -- WHAT IS RECEIVED OF A FRAME
 module _ (t : Tuning) (channel : Channel) (m : Mark) where
   abbrev pub frame_of : ℕ → List ℤ → SoftFrame
-  frame_of k unturned =
+  frame_of k raw =
       let s = channel_stream t channel m in
       record {
         number = k;
         end = frame_end s.fingers s.form (frame_start s k);
-        unturned = unturned;
-        turned = unscrambled (s.scrambling k) unturned;
-        power = power_of channel m k unturned;
+        raw = raw;
+        descrambled = unscrambled (s.scrambling k) raw;
+        power = power_of channel m k raw;
       }
 
   -- it stays where more samples follow

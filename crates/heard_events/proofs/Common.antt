@@ -27,10 +27,10 @@ pub use Rattle.chip_core.specs.Sums.{total}
 pub use Rattle.chip_core.specs.declared.assignment.Traffic.{Traffic}
 pub use Rattle.chip_core.specs.declared.check_form.CheckForm.{CheckForm}
 pub use Rattle.chip_core.specs.declared.sample.Sample.{Sample}
-pub use Rattle.frame_decoder.proofs.BestWords.{length-best_word}
+pub use Rattle.frame_decoder.proofs.BestCodewords.{length-best_codeword}
 pub use Rattle.frame_decoder.proofs.Parts.{within}
 pub use Rattle.frame_decoder.specs.Spans.{own_bits, score, sending}
-pub use Rattle.frame_decoder.specs.TrafficFrames.{command, group_sums}
+pub use Rattle.frame_decoder.specs.TrafficFrames.{power_bit, group_sums}
 unfoldable pub use Rattle.frame_decoder.specs.TrafficFrames.{decoded}
 pub use Rattle.frame_decoder.specs.declared.traffic.Decoded.{Decoded}
 pub use Rattle.paging_message.specs.HalfFrames.{half_frame_body, half_frame_capsule_ending}
@@ -54,8 +54,8 @@ pub use Rattle.sync_message.proofs.Readings.{reading_is_message}
 pub use Rattle.sync_message.specs.Reading.{sync_reading}
 pub use Rattle.sync_message.specs.SyncMessage.{fixed_fields}
 pub use Rattle.sync_message.specs.declared.fields.SyncFields.{SyncFields}
-pub use Rattle.viterbi.specs.Words.{Word, best_word}
-pub use Rattle.viterbi.specs.declared.word.Ends.TheVariants.{Free}
+pub use Rattle.viterbi.specs.Codewords.{Codeword, best_codeword}
+pub use Rattle.viterbi.specs.declared.codeword.Ends.TheVariants.{Free}
 pub use Rattle.heard_events.specs.Channels.{channel_stream, has_power_control, mask_of, offset_of, row_of, state_at}
 pub use Rattle.heard_events.specs.Close.{AreClose, all_close, is_close}
 pub use Rattle.heard_events.specs.Events.{events_within}
@@ -79,7 +79,7 @@ pub use Rattle.heard_events.specs.PagingStreams.{paging_bound, paging_rate, pagi
 pub use Rattle.heard_events.specs.Scrambled.{unscrambled}
 pub use Rattle.heard_events.specs.Signaling.{capsule_with, message_events, message_heard, signal_in, signal_of}
 unfoldable pub use Rattle.heard_events.specs.Signaling.{message_at, messages_by, signal_at, signals_before}
-pub use Rattle.heard_events.specs.SoftFrames.{power_of, soft_frame, unturned_at}
+pub use Rattle.heard_events.specs.SoftFrames.{power_of, soft_frame, raw_at}
 unfoldable pub use Rattle.heard_events.specs.SoftFrames.{frames_within}
 pub use Rattle.heard_events.specs.SpelledMessages.{SpelledMessage, SpelledPage, SpelledSignal}
 pub use Rattle.heard_events.specs.Streams.{Stream, frame_end, frame_softs, frame_start, is_in_file, is_within, known_at, known_by}
@@ -90,7 +90,7 @@ unfoldable pub use Rattle.heard_events.specs.SyncEvents.{frames_before, heard_at
 pub use Rattle.heard_events.specs.Timing.{IsTimed}
 unfoldable pub use Rattle.heard_events.specs.Timing.{stream_end}
 pub use Rattle.heard_events.specs.TrafficEvents.{all_sums, frame_event, if_followed, subchannel_sums}
-unfoldable pub use Rattle.heard_events.specs.TrafficEvents.{commands_at, decoded_at, frames_by}
+unfoldable pub use Rattle.heard_events.specs.TrafficEvents.{power_bits_at, decoded_at, frames_by}
 pub use Rattle.heard_events.specs.TrafficStreams.{ends_now, frame_known, frames_bound, frames_now, has_frame, replaced_in, stream_of}
 pub use Rattle.heard_events.specs.TrafficStreams.{traffic_start, traffic_stream}
 pub use Rattle.heard_events.specs.Tuning.{Tuning, fingers_of, sync_bound, sync_stream}

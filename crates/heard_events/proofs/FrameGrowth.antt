@@ -1,7 +1,7 @@
 -- What is heard of a traffic channel's frame that has ended stays where more samples follow, and so does what it completes.
-use Rattle.heard_events.proofs.Common.{◌≡◌, ℕ, ◌+◌, ◌<◌, ◌≤◌, true, List, ◌++◌, length, map, ℤ, ap, ◌∙◌, arith, places, Sample, command}
+use Rattle.heard_events.proofs.Common.{◌≡◌, ℕ, ◌+◌, ◌<◌, ◌≤◌, true, List, ◌++◌, length, map, ℤ, ap, ◌∙◌, arith, places, Sample, power_bit}
 use Rattle.heard_events.proofs.Common.{decoded, group_sums, Decoded, softs, Data, all_fingers, on_subchannel, subchannels, unscrambled}
-use Rattle.heard_events.proofs.Common.{all_sums, commands_at, decoded_at, frame_event, subchannel_sums, frame_known, frames_bound}
+use Rattle.heard_events.proofs.Common.{all_sums, power_bits_at, decoded_at, frame_event, subchannel_sums, frame_known, frames_bound}
 use Rattle.heard_events.proofs.Common.{has_frame, replaced_in, stream_of, traffic_start, Tuning, Leg, Mark, Traffic, Bool, Option}
 use Rattle.heard_events.proofs.Common.{option_to_list, capsule_with, message_at, signal_at, signal_in, signal_of, signals_before}
 use Rattle.heard_events.proofs.Common.{flat_map_ext_filter_places}
@@ -54,17 +54,17 @@ module _ (t : Tuning) (traffic : Traffic) (m : Mark) (legs : ℕ → List Leg) w
         (traffic_start traffic m k)
         (fit_on (length xs) Data (traffic_start traffic m k) t.phase t.deltas c (legs k) fits)))
 
-    commands_sooner : commands_at t traffic m legs (xs ++ ys) k
-        ≡ commands_at t traffic m legs xs k
-    unfolding commands_at
-    commands_sooner = ap (λ (sums : List (List ℤ)). map (command sums) (places 16)) sums_sooner
+    power_bits_sooner : power_bits_at t traffic m legs (xs ++ ys) k
+        ≡ power_bits_at t traffic m legs xs k
+    unfolding power_bits_at
+    power_bits_sooner = ap (λ (sums : List (List ℤ)). map (power_bit sums) (places 16)) sums_sooner
 
     pub heard_sooner : (n : ℕ) → frame_heard t traffic m legs (xs ++ ys) n k
         ≡ frame_heard t traffic m legs xs n k
     heard_sooner n =
-        ap (λ (d : Decoded). frame_event n d (commands_at t traffic m legs (xs ++ ys) k))
+        ap (λ (d : Decoded). frame_event n d (power_bits_at t traffic m legs (xs ++ ys) k))
         decoded_sooner
-        ∙ ap (frame_event n (decoded_at t traffic m legs xs k)) commands_sooner
+        ∙ ap (frame_event n (decoded_at t traffic m legs xs k)) power_bits_sooner
 
   -- WHAT A FRAME COMPLETES
   -- the signaling of one frame more

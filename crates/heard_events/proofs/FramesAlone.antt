@@ -1,10 +1,10 @@
 -- What is received of a traffic channel's frame is heard where the reference's pilot is active
 -- alone.
 use Rattle.heard_events.proofs.Common.{◌≡◌, ℕ, ◌==◌, Bool, List, [], ◌∷◌, map, refl, ap, ◌∙◌, pos, get_or, append-nil, Option, Some, eq-eqb}
-use Rattle.heard_events.proofs.Common.{places, Sample, command, decoded, group_sums, new_standing, softs, Finger, Data, channel_stream}
-use Rattle.heard_events.proofs.Common.{reference_alone, traffic_channel, all_fingers, pilot_finger, soft_frame, unturned_at, Stream}
-use Rattle.heard_events.proofs.Common.{frame_softs, commands_at, decoded_at, replaced_in, stream_of, traffic_start, traffic_stream, Tuning}
-use Rattle.heard_events.proofs.Common.{fingers_of, Mark, Traffic, PowerControl}
+use Rattle.heard_events.proofs.Common.{places, Sample, power_bit, decoded, group_sums, new_standing, softs, Finger, Data, channel_stream}
+use Rattle.heard_events.proofs.Common.{reference_alone, traffic_channel, all_fingers, pilot_finger, soft_frame, raw_at, Stream, frame_softs}
+use Rattle.heard_events.proofs.Common.{power_bits_at, decoded_at, replaced_in, stream_of, traffic_start, traffic_stream, Tuning, fingers_of}
+use Rattle.heard_events.proofs.Common.{Mark, Traffic, PowerControl}
 use Rattle.heard_events.proofs.MarkStays.{pilot_alone}
 
 module _ (t : Tuning) (traffic : Traffic) (m : Mark) where
@@ -24,30 +24,30 @@ module _ (t : Tuning) (traffic : Traffic) (m : Mark) where
   pub decoded_alone : (samples : List Sample) (k : ℕ) →
       decoded_at t traffic m (reference_alone traffic m) samples k
       ≡ decoded (replaced_in traffic m k)
-      (soft_frame t (traffic_channel traffic) m samples k).turned
+      (soft_frame t (traffic_channel traffic) m samples k).descrambled
   unfolding decoded_at
   decoded_alone samples k =
       ap (λ (s : Stream). decoded (replaced_in traffic m k) (frame_softs samples s k))
       (stream_alone k)
 
-  pub commands_alone : (samples : List Sample) (k : ℕ) →
-      commands_at t traffic m (reference_alone traffic m) samples k
+  pub power_bits_alone : (samples : List Sample) (k : ℕ) →
+      power_bits_at t traffic m (reference_alone traffic m) samples k
       ≡ map
-      (command (group_sums (replaced_in traffic m k)
-      (unturned_at t (traffic_channel traffic) m samples k) ∷ [])) (places 16)
-  unfolding commands_at places
-  commands_alone samples k =
+      (power_bit (group_sums (replaced_in traffic m k)
+      (raw_at t (traffic_channel traffic) m samples k) ∷ [])) (places 16)
+  unfolding power_bits_at places
+  power_bits_alone samples k =
       ap (λ (fs : List Finger). map
-      (command (group_sums (replaced_in traffic m k)
+      (power_bit (group_sums (replaced_in traffic m k)
       (softs samples fs Data (traffic_start traffic m k)) ∷ [])) (places 16))
       (fingers_alone k)
 
   pub power_alone : (samples : List Sample) (k : ℕ) →
       Some (record {
         replaced = replaced_in traffic m k;
-        commands = commands_at t traffic m (reference_alone traffic m) samples k;
+        power_bits = power_bits_at t traffic m (reference_alone traffic m) samples k;
       }) ≡ (soft_frame t (traffic_channel traffic) m samples k).power
   power_alone samples k =
       let of : List Bool → Option PowerControl =
-      λ cs. Some (record { replaced = replaced_in traffic m k; commands = cs }) in
-      ap of (commands_alone samples k)
+      λ cs. Some (record { replaced = replaced_in traffic m k; power_bits = cs }) in
+      ap of (power_bits_alone samples k)

@@ -3,12 +3,12 @@
 use Rattle.heard_events.proofs.Common.{◌≡◌, ℕ, zero, suc, ◌+◌, ◌-◌, ◌*◌, ◌/◌, ◌<◌, ◌≤◌, ◌==◌, ◌&&◌, Bool, true, false, cond, List, [], ◌∷◌}
 use Rattle.heard_events.proofs.Common.{length, length-append, map, take, drop, length-take, length-drop, refl, sym, ap, ◌∙◌, subst, arith}
 use Rattle.heard_events.proofs.Common.{inl, inr, nat_le, nat_lt, Option, Some, None, ℤ, if◌then◌else◌, flat_map, and_parts, cases_Bool}
-use Rattle.heard_events.proofs.Common.{leb-true, leb-false, places, CheckForm, Sample, own_bits, score, sending, length-best_word, within}
-use Rattle.heard_events.proofs.Common.{front_capsule, is_stated, stated_bits, Piece, piece, bodies, but_last, capsule_ending}
-use Rattle.heard_events.proofs.Common.{from_last_start, Sync, SyncFields, Word, best_word, Free, first_of, frames_open, marks_at, marks_of}
-use Rattle.heard_events.proofs.Common.{mark_at, AreNear, Stream, frame_own_bits, frame_softs, frame_start, is_in_file, known_at, span_first}
-use Rattle.heard_events.proofs.Common.{span_frames, frames_before, heard_at, heard_in, sync_capsule_at, with_message, IsTimed, stream_end}
-use Rattle.heard_events.proofs.Common.{Tuning, sync_stream, Mark, SpelledMessage}
+use Rattle.heard_events.proofs.Common.{leb-true, leb-false, places, CheckForm, Sample, own_bits, score, sending, length-best_codeword}
+use Rattle.heard_events.proofs.Common.{within, front_capsule, is_stated, stated_bits, Piece, piece, bodies, but_last, capsule_ending}
+use Rattle.heard_events.proofs.Common.{from_last_start, Sync, SyncFields, Codeword, best_codeword, Free, first_of, frames_open, marks_at}
+use Rattle.heard_events.proofs.Common.{marks_of, mark_at, AreNear, Stream, frame_own_bits, frame_softs, frame_start, is_in_file, known_at}
+use Rattle.heard_events.proofs.Common.{span_first, span_frames, frames_before, heard_at, heard_in, sync_capsule_at, with_message, IsTimed}
+use Rattle.heard_events.proofs.Common.{stream_end, Tuning, sync_stream, Mark, SpelledMessage}
 use Rattle.std.specs.List.{filter}
 use Rattle.frame_decoder.specs.Spans.{Channel}
 use Rattle.heard_events.proofs.FingerTimes.{ends_bounds}
@@ -36,13 +36,13 @@ own_below count s k =
 length-own_bits : (c : Channel) (frames own : ℕ) (softs : List ℤ) → own < frames →
     length (own_bits c frames own softs) ≡ c.bits
 length-own_bits c frames own softs below =
-    let f : Word → ℤ = score softs (sending c frames) in
-    let word = (best_word f Free (c.bits * frames)).bits in
+    let f : Codeword → ℤ = score softs (sending c frames) in
+    let codeword = (best_codeword f Free (c.bits * frames)).bits in
     omega (
       arith,
-      length-take c.bits (drop (c.bits * own) word),
-      length-drop (c.bits * own) word,
-      length-best_word f (c.bits * frames),
+      length-take c.bits (drop (c.bits * own) codeword),
+      length-drop (c.bits * own) codeword,
+      length-best_codeword f (c.bits * frames),
       within c.bits frames own below,
     )
 

@@ -15,6 +15,6 @@ abbrev pub at_of : Event → ℕ
 at_of (Pilot phase energy) = 0
 at_of (Sync at' capsule message) = at'
 at_of (Paging at' capsule message) = at'
-at_of (Frame at' rate good bits commands) = at'
+at_of (Frame at' rate good bits power_bits) = at'
 at_of (Traffic at' capsule message) = at'
 at_of (Sets at' time active candidate report) = at'

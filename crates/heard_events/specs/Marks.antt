@@ -56,7 +56,7 @@ abbrev pub sets_mark : Event → Bool
 sets_mark (Pilot phase energy) = false
 sets_mark (Sync n capsule message) = not (message.lc == 0)
 sets_mark (Paging n capsule message) = false
-sets_mark (Frame n rate good bits commands) = false
+sets_mark (Frame n rate good bits power_bits) = false
 sets_mark (Traffic n capsule message) = false
 sets_mark (Sets n time active candidate report) = false
 

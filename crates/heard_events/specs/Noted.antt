@@ -61,7 +61,7 @@ abbrev pub noted_with : ℕ → ℕ → Event → Standing → Standing
 noted_with pn first (Pilot phase energy) s = s
 noted_with pn first (Sync n capsule message) s = s
 noted_with pn first (Paging n capsule message) s = page_noted pn message s
-noted_with pn first (Frame n rate good bits commands) s = s
+noted_with pn first (Frame n rate good bits power_bits) s = s
 noted_with pn first (Traffic n capsule message) s = body_noted first message.body s
 noted_with pn first (Sets n time active candidate report) s = s
 

@@ -1,15 +1,15 @@
--- Soft values turned by the scrambling bits of a frame (TIA/EIA-95-B, 7.1.3.1.6).
+-- Soft values descrambled by the scrambling bits of a frame (TIA/EIA-95-B, 7.1.3.1.6).
 use Rattle.std.specs.Prelude.{◌≡◌, ℕ, Bool, List, [], ◌∷◌, length, ℤ, ◌*ℤ◌, ◌⊎◌}
 use Rattle.chip_core.specs.Bits.{sign, zip_with}
 
 -- turned in sign where the scrambling bit is 1
-abbrev pub turned : List Bool → List ℤ → List ℤ
-turned scrambling values = zip_with (λ b v. sign b *ℤ v) scrambling values
+abbrev pub descrambled : List Bool → List ℤ → List ℤ
+descrambled scrambling values = zip_with (λ b v. sign b *ℤ v) scrambling values
 
--- turned by a frame's scrambling bits, where there are any
+-- descrambled by a frame's scrambling bits, where there are any
 abbrev pub unscrambled : List Bool → List ℤ → List ℤ
 unscrambled [] values = values
-unscrambled (b ∷ bits) values = turned (b ∷ bits) values
+unscrambled (b ∷ bits) values = descrambled (b ∷ bits) values
 
 -- there are none, or as many as the frame has symbols
 abbrev pub Scrambles : List Bool → ℕ → Type 0

@@ -2,7 +2,7 @@
 use Rattle.std.specs.Prelude.{ℕ, [], ◌∷◌, List, map, ℤ, Option, Some, None, length}
 use Rattle.chip_core.specs.Bits.{places}
 use Rattle.chip_core.specs.declared.sample.Sample.{Sample}
-use Rattle.frame_decoder.specs.TrafficFrames.{command, group_sums}
+use Rattle.frame_decoder.specs.TrafficFrames.{power_bit, group_sums}
 use Rattle.rake_finger.specs.Soft.{softs}
 use Rattle.heard_events.specs.Channels.{channel_stream}
 use Rattle.heard_events.specs.PagingStreams.{paging_bound}
@@ -17,15 +17,15 @@ use Rattle.heard_events.specs.declared.soft_frame.SoftFrame.{SoftFrame}
 
 -- the power control bits of frame k of a traffic channel, from its soft values, which nothing turns
 abbrev pub power_of : Channel → Mark → ℕ → List ℤ → Option PowerControl
-power_of (Paging number) m k unturned = None
-power_of (Traffic traffic) m k unturned = Some (record {
+power_of (Paging number) m k raw = None
+power_of (Traffic traffic) m k raw = Some (record {
   replaced = replaced_in traffic m k;
-  commands = map (command (group_sums (replaced_in traffic m k) unturned ∷ [])) (places 16);
+  power_bits = map (power_bit (group_sums (replaced_in traffic m k) raw ∷ [])) (places 16);
 })
 
 -- frame k's soft values as the paths of the reference base station are heard
-abbrev pub unturned_at : Tuning → Channel → Mark → List Sample → ℕ → List ℤ
-unturned_at t channel m samples k =
+abbrev pub raw_at : Tuning → Channel → Mark → List Sample → ℕ → List ℤ
+raw_at t channel m samples k =
     let s = channel_stream t channel m in
     softs samples s.fingers s.form (frame_start s k)
 
@@ -36,9 +36,9 @@ soft_frame t channel m samples k =
     record {
       number = k;
       end = frame_end s.fingers s.form (frame_start s k);
-      unturned = unturned_at t channel m samples k;
-      turned = frame_softs samples s k;
-      power = power_of channel m k (unturned_at t channel m samples k);
+      raw = raw_at t channel m samples k;
+      descrambled = frame_softs samples s k;
+      power = power_of channel m k (raw_at t channel m samples k);
     }
 
 -- the frames in the file that end within the first n samples, in order

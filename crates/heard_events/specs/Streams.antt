@@ -66,7 +66,7 @@ abbrev pub frame_softs : List Sample → Stream → ℕ → List ℤ
 frame_softs samples s k =
     unscrambled (s.scrambling k) (softs samples s.fingers s.form (frame_start s k))
 
--- frame k's own bits of its span's best word
+-- frame k's own bits of its span's best codeword
 unfoldable pub frame_own_bits : ℕ → List Sample → Stream → ℕ → List Bool
 frame_own_bits count samples s k =
     let first = span_first count s k in

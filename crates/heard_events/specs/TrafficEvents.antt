@@ -2,7 +2,7 @@
 use Rattle.std.specs.Prelude.{ℕ, Bool, List, [], map, ℤ, Option, Some, None}
 use Rattle.chip_core.specs.Bits.{places}
 use Rattle.chip_core.specs.declared.sample.Sample.{Sample}
-use Rattle.frame_decoder.specs.TrafficFrames.{command, decoded, group_sums}
+use Rattle.frame_decoder.specs.TrafficFrames.{power_bit, decoded, group_sums}
 use Rattle.frame_decoder.specs.declared.traffic.Decoded.{Decoded}
 use Rattle.rake_finger.specs.Soft.{softs}
 use Rattle.rake_finger.specs.declared.form.Form.TheVariants.{Data}
@@ -22,18 +22,18 @@ decoded_at t traffic m legs samples k =
     decoded (replaced_in traffic m k) (frame_softs samples (stream_of t traffic m legs k) k)
 
 -- frame k's soft values as the fingers of some of its pilots hear them, which no scrambling turns
-abbrev pub unturned_by : Tuning → Traffic → Mark → List Sample → ℕ → List Leg → List ℤ
-unturned_by t traffic m samples k some =
+abbrev pub raw_by : Tuning → Traffic → Mark → List Sample → ℕ → List Leg → List ℤ
+raw_by t traffic m samples k some =
     softs samples (all_fingers t.phase t.deltas some) Data (traffic_start traffic m k)
 
-abbrev pub unturned_softs : Tuning → Traffic → Mark → (ℕ → List Leg) → List Sample → ℕ → List ℤ
-unturned_softs t traffic m legs samples k = unturned_by t traffic m samples k (legs k)
+abbrev pub raw_softs : Tuning → Traffic → Mark → (ℕ → List Leg) → List Sample → ℕ → List ℤ
+raw_softs t traffic m legs samples k = raw_by t traffic m samples k (legs k)
 
 -- the sums of its power control bits on a subchannel, whose symbols aren't scrambled
 abbrev pub subchannel_sums : Tuning → Traffic → Mark → List Sample → ℕ → List Leg → ℕ → List ℤ
 subchannel_sums t traffic m samples k pilots c =
     group_sums (replaced_in traffic m k)
-    (unturned_by t traffic m samples k (on_subchannel c pilots))
+    (raw_by t traffic m samples k (on_subchannel c pilots))
 
 -- those of every subchannel
 abbrev pub all_sums : Tuning → Traffic → Mark → (ℕ → List Leg) → List Sample → ℕ → List (List ℤ)
@@ -41,17 +41,18 @@ all_sums t traffic m legs samples k =
     map (subchannel_sums t traffic m samples k (legs k)) (subchannels (legs k))
 
 -- its 16 power control bits
-unfoldable pub commands_at : Tuning → Traffic → Mark → (ℕ → List Leg) → List Sample → ℕ → List Bool
-commands_at t traffic m legs samples k =
-    map (command (all_sums t traffic m legs samples k)) (places 16)
+unfoldable pub power_bits_at : Tuning → Traffic → Mark → (ℕ → List Leg) → List Sample → ℕ →
+    List Bool
+power_bits_at t traffic m legs samples k =
+    map (power_bit (all_sums t traffic m legs samples k)) (places 16)
 
 -- the event of a frame that ends at n samples
 abbrev pub frame_event : ℕ → Decoded → List Bool → Event
-frame_event n frame commands = Frame n frame.rate frame.good frame.bits commands
+frame_event n frame power_bits = Frame n frame.rate frame.good frame.bits power_bits
 
 abbrev pub frame_heard : Tuning → Traffic → Mark → (ℕ → List Leg) → List Sample → ℕ → ℕ → Event
 frame_heard t traffic m legs samples n k =
-    frame_event n (decoded_at t traffic m legs samples k) (commands_at t traffic m legs samples k)
+    frame_event n (decoded_at t traffic m legs samples k) (power_bits_at t traffic m legs samples k)
 
 -- those of the frames that end when just n samples have been taken
 unfoldable pub frames_by : Tuning → Traffic → Mark → (ℕ → List Leg) → List Sample → ℕ → List Event

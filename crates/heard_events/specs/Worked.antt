@@ -115,11 +115,11 @@ begins_again : frames_with true 3 ≡ 1
 begins_again = refl
 
 -- a soft value is turned where its scrambling bit is 1, and none where there are no bits
-turned_by_bits : unscrambled (true ∷ false ∷ []) (pos 3 ∷ pos 4 ∷ []) ≡ negsuc 2 ∷ pos 4 ∷ []
-turned_by_bits = refl
+descrambled_by_bits : unscrambled (true ∷ false ∷ []) (pos 3 ∷ pos 4 ∷ []) ≡ negsuc 2 ∷ pos 4 ∷ []
+descrambled_by_bits = refl
 
-turned_by_none : unscrambled [] (pos 3 ∷ pos 4 ∷ []) ≡ pos 3 ∷ pos 4 ∷ []
-turned_by_none = refl
+descrambled_by_none : unscrambled [] (pos 3 ∷ pos 4 ∷ []) ≡ pos 3 ∷ pos 4 ∷ []
+descrambled_by_none = refl
 
 -- a mark of that file, at 28 frames of 20 ms
 paged : ℕ → Mark

@@ -1,6 +1,6 @@
 //! What a handset hears.
 
-use chip_core::{Bits, Phase};
+use chip_core::{Bits, Phase, PowerBits};
 use paging_message::PagingMessage;
 use pilot_sets::{ActiveList, PilotList};
 use symbol_path::Rate;
@@ -46,7 +46,7 @@ pub enum Event {
         /// The information bits.
         bits: Bits,
         /// Its 16 power control bits: 1 where one tells the handset to lower its power.
-        commands: [bool; 16],
+        commands: PowerBits,
     },
     /// A message of the traffic channel was heard (TIA/EIA-95-B, 7.7.3).
     Traffic {
@@ -59,11 +59,11 @@ pub enum Event {
     },
     /// The pilot sets changed, or a report of them is due (after TIA/EIA-95-B, 6.6.6.2).
     Sets {
-        /// The sample at which the moment lies: how many samples had been taken then.
+        /// The sample at which the pilot sets were evaluated: how many samples had been taken then.
         at: u64,
-        /// The moment's time, in units of 80 ms.
+        /// The time of this evaluation, in units of 80 ms.
         time: u64,
-        /// The active set behind the moment.
+        /// The active set behind the evaluation.
         active: ActiveList,
         /// The candidate set behind it.
         candidate: PilotList,

@@ -11,7 +11,7 @@ ghost use Rattle.heard_events.specs.Marks.{mark};
 ghost use Rattle.heard_events.specs.Near.{IsTuned};
 ghost use Rattle.heard_events.specs.SoftFrames.{frames_within, soft_frame};
 ghost use Rattle.heard_events.specs.Streams.{frame_start};
-ghost use Rattle.heard_events.specs.TrafficEvents.{commands_at, decoded_at};
+ghost use Rattle.heard_events.specs.TrafficEvents.{power_bits_at, decoded_at};
 ghost use Rattle.heard_events.specs.TrafficStreams.{replaced_in};
 ghost use Rattle.heard_events.specs.Tuning.{Tuning};
 ghost use Rattle.heard_events.specs.declared.channel.Channel.{Channel};
@@ -49,16 +49,16 @@ pub fn a_frame_hangs_on_its_samples()
 {}
 
 /// What is received of a frame of a traffic channel is what a handset hears of it as long as the
-/// reference's pilot is active alone: it is decoded of the turned soft values, and its power
+/// reference's pilot is active alone: it is decoded of the descrambled soft values, and its power
 /// control bits are those of the ones that nothing turns.
 pub fn a_frame_is_heard_of_the_reference_alone()
     ensures decoded { (t : Tuning) (traffic : Traffic) (m : Mark) (samples : List Sample)
         (k : ℕ) → decoded_at t traffic m (reference_alone traffic m) samples k
         ≡ decoded (replaced_in traffic m k)
-        (soft_frame t (traffic_channel traffic) m samples k).turned }
-    ensures commands { (t : Tuning) (traffic : Traffic) (m : Mark) (samples : List Sample)
+        (soft_frame t (traffic_channel traffic) m samples k).descrambled }
+    ensures power_bits { (t : Tuning) (traffic : Traffic) (m : Mark) (samples : List Sample)
         (k : ℕ) → Some (record {
           replaced = replaced_in traffic m k;
-          commands = commands_at t traffic m (reference_alone traffic m) samples k;
+          power_bits = power_bits_at t traffic m (reference_alone traffic m) samples k;
         }) ≡ (soft_frame t (traffic_channel traffic) m samples k).power }
 {}

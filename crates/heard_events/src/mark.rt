@@ -1,10 +1,10 @@
-//! Where the time lies that a sync message tells.
+//! The time reference: where the time lies that a sync message tells.
 
 use long_code::State;
 use symbol_path::Rate;
 
-/// The sample at which a sync message's time lies, and what else it says of the channels that begin
-/// there (TIA/EIA-95-B, 7.7.1.3).
+/// The time reference of a handset: the sample at which a sync message's time lies, and what else
+/// it says of the channels that begin there (TIA/EIA-95-B, 7.7.1.3).
 #[derive(Clone, Copy, PartialEq, Eq, Debug)]
 pub struct Mark {
     /// The reference sample at which the time lies.

@@ -35,9 +35,9 @@ pub use Rattle.chip_core.specs.Sums.{greatest_unless}
 unfoldable pub use Rattle.chip_core.specs.Sums.{first_places}
 pub use Rattle.conv_code.proofs.Continued.{state_after-none}
 pub use Rattle.conv_code.specs.ConvCode.{state_after}
-pub use Rattle.viterbi.proofs.BlockSteps.{gain_fits, gains_read, kind_small, lane_small}
+pub use Rattle.viterbi.proofs.BlockSteps.{gain_fits, gains_read, pattern_small, lane_small}
 pub use Rattle.viterbi.proofs.Blocks.{kept, passed}
-pub use Rattle.viterbi.proofs.Choices.{Either, IsPushed, leads_both, leads_trans, rank_of-pushed, stays_first, words_same}
+pub use Rattle.viterbi.proofs.Choices.{Either, IsPushed, leads_both, leads_trans, rank_of-pushed, stays_first, codewords_same}
 pub use Rattle.viterbi.proofs.Codes.{code_gains}
 pub use Rattle.viterbi.proofs.Finish.{IntoBelow, allowed_into, below_first, below_or_last, into_allowed, more_below, no_bits, score-none}
 pub use Rattle.viterbi.proofs.Finish.{zero_start}
@@ -50,34 +50,34 @@ pub use Rattle.viterbi.proofs.StateBits.{binary-turned}
 pub use Rattle.viterbi.proofs.Steps.{From, Into, before_below, first_soft, from_states, joined_long, newest_bit, pushed_score, second_soft}
 pub use Rattle.viterbi.proofs.Steps.{seven_bits, state_parts, to_state, zero_first}
 pub use Rattle.viterbi.proofs.Tracing.{less_none}
-pub use Rattle.viterbi.proofs.Unique.{allowed_at, rank-word_at, step_of, word_at_allowed}
+pub use Rattle.viterbi.proofs.Unique.{allowed_at, rank-codeword_at, step_of, codeword_at_allowed}
 pub use Rattle.viterbi.specs.Best.{HasStart, IsAllowed}
 pub use Rattle.viterbi.specs.Lanes.{Fit, code_of}
-unfoldable pub use Rattle.viterbi.specs.Lanes.{gain_by, kinds, lane_codes}
-pub use Rattle.viterbi.specs.Rows.{taken_of}
+unfoldable pub use Rattle.viterbi.specs.Lanes.{gain_by, patterns, lane_codes}
+pub use Rattle.viterbi.specs.Columns.{taken_of}
 pub use Rattle.viterbi.specs.States.{low_bits}
 pub use Rattle.viterbi.specs.Survivors.{end_count, gain_of}
-pub use Rattle.viterbi.specs.Words.{IsBetter, Word, rank, score_of, word_at, word_count}
-pub use Rattle.viterbi.specs.declared.word.Ends.{Ends}
-pub use Rattle.viterbi.specs.declared.word.Ends.TheVariants.{Free, Zero}
+pub use Rattle.viterbi.specs.Codewords.{IsBetter, Codeword, rank, score_of, codeword_at, codeword_count}
+pub use Rattle.viterbi.specs.declared.codeword.Ends.{Ends}
+pub use Rattle.viterbi.specs.declared.codeword.Ends.TheVariants.{Free, Zero}
 pub use lib.Dec.{T}
 pub use lib.Lanes.{Each1, Each2, put_chunk, sel_l, zip2}
 pub use mir.Val.{SFits, bool_byte}
-pub use Rattle.list_viterbi.specs.First.{AreFirst, HaveScores, first_words, word_of}
-pub use Rattle.list_viterbi.specs.Heads.{AreWeights, HeadsFit, HeadsLong, IsWeight, LoweredFit, PairPicked, RaisedFit, RowValue, even_after}
-pub use Rattle.list_viterbi.specs.Heads.{even_after_two, even_heads, four_of, heads_from, lane_of, lane_sum, less_heads, lowered_heads}
-pub use Rattle.list_viterbi.specs.Heads.{odd_after, odd_after_two, odd_heads, put_choices, put_heads, raised_heads, taken_scores}
-pub use Rattle.list_viterbi.specs.Heads.{taken_weights, two_from}
-unfoldable pub use Rattle.list_viterbi.specs.Heads.{four_choices, four_scores, row_of}
+pub use Rattle.list_viterbi.specs.First.{AreFirst, HaveScores, first_codewords, codeword_of}
+pub use Rattle.list_viterbi.specs.Heads.{AreWeights, HeadsFit, HeadsLong, IsWeight, LoweredFit, PairPicked, RaisedFit, ColumnValue}
+pub use Rattle.list_viterbi.specs.Heads.{even_after, even_after_two, even_heads, four_of, heads_from, lane_of, lane_sum, less_heads}
+pub use Rattle.list_viterbi.specs.Heads.{lowered_heads, odd_after, odd_after_two, odd_heads, put_choices, put_heads, raised_heads}
+pub use Rattle.list_viterbi.specs.Heads.{taken_scores, taken_weights, two_from}
+unfoldable pub use Rattle.list_viterbi.specs.Heads.{four_choices, four_scores, column_of}
 pub use Rattle.list_viterbi.specs.Laws.{HaveBestFirst, HaveFirstPassing, NamesOneList}
 pub use Rattle.list_viterbi.specs.Merging.{HasRoom, Start, extended_by, score_in, second_is_next}
 unfoldable pub use Rattle.list_viterbi.specs.Merging.{first_lists, list_from, list_into, merge}
 pub use Rattle.list_viterbi.specs.Picks.{HasChoices, HasPicks, LeavesRoom, Pick, pick_score, picks_from, picks_into, pointer_of}
 unfoldable pub use Rattle.list_viterbi.specs.Picks.{ones_below, picks_by}
-pub use Rattle.list_viterbi.specs.Rows.{back_of, entry_at, find_score, finds_from, place_before, start_scores, starts_at, state_before}
-unfoldable pub use Rattle.list_viterbi.specs.Rows.{first_finds, origin, path}
+pub use Rattle.list_viterbi.specs.Columns.{back_of, entry_at, find_score, finds_from, place_before, start_scores, starts_at, state_before}
+unfoldable pub use Rattle.list_viterbi.specs.Columns.{first_finds, origin, path}
 pub use Rattle.list_viterbi.specs.Turns.{choose, even_left, greater_head, odd_first, odd_left}
 unfoldable pub use Rattle.list_viterbi.specs.Turns.{turned_choices, turned_scores}
 pub use Rattle.list_viterbi.specs.declared.finds.Find.{Find}
 pub use Rattle.list_viterbi.specs.declared.lanes.Heads.{Heads}
-pub use Rattle.list_viterbi.specs.declared.words.Entry.{Entry}
+pub use Rattle.list_viterbi.specs.declared.codewords.Entry.{Entry}

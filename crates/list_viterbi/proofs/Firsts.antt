@@ -1,16 +1,16 @@
--- The first words of a kind, one after another, and that there is one such list.
+-- The first codewords of a kind, one after another, and that there is one such list.
 use Rattle.list_viterbi.proofs.Common.{◌≡◌, ℕ, zero, suc, ◌<◌, List, [], ◌∷◌, length, refl, sym, ap, subst, ◌∙◌, arith, get_or, ℤ, ◌⊎◌}
 use Rattle.list_viterbi.proofs.Common.{⊎_elim, inl, inr, All, AllPairs, Contains, ints, All-nil, All-cons, All-head, All-tail, All-contains}
-use Rattle.list_viterbi.proofs.Common.{AllPairs-cons, Word, rank, IsBetter, leads_trans, AreFirst}
+use Rattle.list_viterbi.proofs.Common.{AllPairs-cons, Codeword, rank, IsBetter, leads_trans, AreFirst}
 
 -- THE ORDER
-pub better_trans : (score : Word → ℤ) (a b c : Word) → IsBetter score a b → IsBetter score b c →
+pub better_trans : (score : Codeword → ℤ) (a b c : Codeword) → IsBetter score a b → IsBetter score b c →
     IsBetter score a c
 better_trans score a b c p q =
     let ranks : rank a < rank b → rank b < rank c → rank a < rank c = λ r r'. omega (arith, r, r') in
     leads_trans (score a) (score b) (score c) ranks p q
 
-pub not_both : (score : Word → ℤ) (a b : Word) → IsBetter score a b → IsBetter score b a → ⊥
+pub not_both : (score : Codeword → ℤ) (a b : Codeword) → IsBetter score a b → IsBetter score b a → ⊥
 not_both score a b p q = ⊎_elim
     (λ less. ⊎_elim
     (λ less'. omega (arith, ints, less, less'))
@@ -22,29 +22,29 @@ not_both score a b p q = ⊎_elim
     q)
     p
 
-pub not_self : (score : Word → ℤ) (a : Word) → IsBetter score a a → ⊥
+pub not_self : (score : Codeword → ℤ) (a : Codeword) → IsBetter score a a → ⊥
 not_self score a p = not_both score a a p p
 
 -- ONE AFTER ANOTHER
--- the words of a kind that come after one
-abbrev pub After : (Word → ℤ) → Word → (Word → Type 0) → Word → Type 0
+-- the codewords of a kind that come after one
+abbrev pub After : (Codeword → ℤ) → Codeword → (Codeword → Type 0) → Codeword → Type 0
 After score w Kind v = Kind v × IsBetter score w v
 
--- the first word of a kind
-pub record IsHead (score : Word → ℤ) (Kind : Word → Type 0) (w : Word) : Type 0 where
+-- the first codeword of a kind
+pub record IsHead (score : Codeword → ℤ) (Kind : Codeword → Type 0) (w : Codeword) : Type 0 where
   pub kind : Kind w
-  pub first : (v : Word) → Kind v → (v ≡ w) ⊎ IsBetter score w v
+  pub first : (v : Codeword) → Kind v → (v ≡ w) ⊎ IsBetter score w v
 
--- the first k words of a kind: the first one, and the first of those that come after it
-abbrev pub Firsts : (Word → ℤ) → (Word → Type 0) → ℕ → List Word → Type 0
+-- the first k codewords of a kind: the first one, and the first of those that come after it
+abbrev pub Firsts : (Codeword → ℤ) → (Codeword → Type 0) → ℕ → List Codeword → Type 0
 Firsts score Kind zero [] = Unit {0}
-Firsts score Kind (suc k) [] = (w : Word) → Kind w → ⊥
+Firsts score Kind (suc k) [] = (w : Codeword) → Kind w → ⊥
 Firsts score Kind zero (w ∷ ws) = ⊥
 Firsts score Kind (suc k) (w ∷ ws) = IsHead score Kind w × Firsts score (After score w Kind) k ws
 
--- the same words under another name
-pub same_firsts : (score : Word → ℤ) (Kind Kind' : Word → Type 0) (k : ℕ) (ws : List Word) →
-    ((w : Word) → Kind w → Kind' w) → ((w : Word) → Kind' w → Kind w) → Firsts score Kind k ws →
+-- the same codewords under another name
+pub same_firsts : (score : Codeword → ℤ) (Kind Kind' : Codeword → Type 0) (k : ℕ) (ws : List Codeword) →
+    ((w : Codeword) → Kind w → Kind' w) → ((w : Codeword) → Kind' w → Kind w) → Firsts score Kind k ws →
     Firsts score Kind' k ws
 same_firsts score Kind Kind' zero [] to back h = tt
 same_firsts score Kind Kind' (suc k) [] to back h = λ w is. h w (back w is)
@@ -56,7 +56,7 @@ same_firsts score Kind Kind' (suc k) (w ∷ ws) to back h = (
 )
 
 -- no more than one list
-pub only : (score : Word → ℤ) (Kind : Word → Type 0) (k : ℕ) (ws vs : List Word) →
+pub only : (score : Codeword → ℤ) (Kind : Codeword → Type 0) (k : ℕ) (ws vs : List Codeword) →
     Firsts score Kind k ws → Firsts score Kind k vs → ws ≡ vs
 only score Kind zero [] [] p q = refl
 only score Kind zero [] (v ∷ vs) p q = absurd q
@@ -71,33 +71,33 @@ only score Kind (suc k) (w ∷ ws) (v ∷ vs) p q =
     (q.0.first w p.0.kind))
     (p.0.first v q.0.kind) in
     let rest : Firsts score (After score w Kind) k vs =
-    subst (λ (u : Word). Firsts score (After score u Kind) k vs) same q.1 in
-    ap (λ (us : List Word). w ∷ us) (only score (After score w Kind) k ws vs p.1 rest)
-    ∙ ap (λ (u : Word). u ∷ vs) (sym same)
+    subst (λ (u : Codeword). Firsts score (After score u Kind) k vs) same q.1 in
+    ap (λ (us : List Codeword). w ∷ us) (only score (After score w Kind) k ws vs p.1 rest)
+    ∙ ap (λ (u : Codeword). u ∷ vs) (sym same)
 
 -- AS ONE FACT ON THE WHOLE LIST
-contains_head : (w : Word) (ws : List Word) → Contains (w ∷ ws) w
+contains_head : (w : Codeword) (ws : List Codeword) → Contains (w ∷ ws) w
 contains_head w ws = (0, omega arith, refl)
 
-contains_more : (w v : Word) (ws : List Word) → Contains ws v → Contains (w ∷ ws) v
+contains_more : (w v : Codeword) (ws : List Codeword) → Contains ws v → Contains (w ∷ ws) v
 contains_more w v ws h = (suc h.0, let b = h.1 in omega (arith, b), h.2)
 
-contains_parts : (w v : Word) (ws : List Word) → Contains (w ∷ ws) v → (v ≡ w) ⊎ Contains ws v
+contains_parts : (w v : Codeword) (ws : List Codeword) → Contains (w ∷ ws) v → (v ≡ w) ⊎ Contains ws v
 contains_parts w v ws h = at_place h.0 h.1 h.2 where
   at_place : (k : ℕ) → k < length (w ∷ ws) → get_or (w ∷ ws) k v ≡ v → (v ≡ w) ⊎ Contains ws v
   at_place zero b e = inl (sym e)
   at_place (suc k) b e = inr (k, omega (arith, b), e)
 
-pairs_head : (score : Word → ℤ) (w : Word) (ws : List Word) → AllPairs (IsBetter score) (w ∷ ws) →
+pairs_head : (score : Codeword → ℤ) (w : Codeword) (ws : List Codeword) → AllPairs (IsBetter score) (w ∷ ws) →
     All (IsBetter score w) ws
 pairs_head score w ws h = λ k d b. h 0 (suc k) d (omega arith) (omega (arith, b))
 
-pairs_tail : (score : Word → ℤ) (w : Word) (ws : List Word) → AllPairs (IsBetter score) (w ∷ ws) →
+pairs_tail : (score : Codeword → ℤ) (w : Codeword) (ws : List Codeword) → AllPairs (IsBetter score) (w ∷ ws) →
     AllPairs (IsBetter score) ws
 pairs_tail score w ws h = λ i j d less b. h (suc i) (suc j) d (omega (arith, less))
     (omega (arith, b))
 
-pub are_first : (score : Word → ℤ) (Kind : Word → Type 0) (k : ℕ) (ws : List Word) →
+pub are_first : (score : Codeword → ℤ) (Kind : Codeword → Type 0) (k : ℕ) (ws : List Codeword) →
     Firsts score Kind k ws → AreFirst score Kind k ws
 are_first score Kind zero [] h = record {
   most = omega arith;
@@ -131,7 +131,7 @@ are_first score Kind (suc k) (w ∷ ws) h =
           (h.0.first v is);
     }
 
-pub firsts_of : (score : Word → ℤ) (Kind : Word → Type 0) (k : ℕ) (ws : List Word) →
+pub firsts_of : (score : Codeword → ℤ) (Kind : Codeword → Type 0) (k : ℕ) (ws : List Codeword) →
     AreFirst score Kind k ws → Firsts score Kind k ws
 firsts_of score Kind zero [] h = tt
 firsts_of score Kind (suc k) [] h = λ w is. ⊎_elim (λ c. let b = c.1 in omega (arith, b))
@@ -164,7 +164,7 @@ firsts_of score Kind (suc k) (w ∷ ws) h =
     )
 
 -- THE STATEMENT NAMES ONE LIST
-pub one_list : (score : Word → ℤ) (Kind : Word → Type 0) (k : ℕ) (ws vs : List Word) →
+pub one_list : (score : Codeword → ℤ) (Kind : Codeword → Type 0) (k : ℕ) (ws vs : List Codeword) →
     AreFirst score Kind k ws → AreFirst score Kind k vs → ws ≡ vs
 one_list score Kind k ws vs p q = only score Kind k ws vs (firsts_of score Kind k ws p)
     (firsts_of score Kind k vs q)

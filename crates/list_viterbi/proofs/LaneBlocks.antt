@@ -2,7 +2,8 @@
 use Rattle.list_viterbi.proofs.Common.{◌≡◌, ℕ, ◌+◌, ◌*◌, ◌/◌, ◌%◌, ◌^◌, ◌<◌, ◌≤◌, ◌⊎◌, inl, inr, ⊎_elim, List, [], ◌∷◌, length, get_or}
 use Rattle.list_viterbi.proofs.Common.{refl, sym, subst, ◌∙◌, arith, ℤ, pos, ◌+ℤ◌, ◌-ℤ◌, unsigned_abs, FitsSigned, w64, ints}
 use Rattle.list_viterbi.proofs.Common.{fits_signed_from_abs, cases_lt, length-set, Each1, Each2, zip2, Fit, Heads, Pick, picks_by, HasPicks}
-use Rattle.list_viterbi.proofs.Common.{HeadsLong, four_scores, four_choices, two_from, heads_from, put_heads, put_choices, four_of, row_of}
+use Rattle.list_viterbi.proofs.Common.{HeadsLong, four_scores, four_choices, two_from, heads_from, put_heads, put_choices, four_of}
+use Rattle.list_viterbi.proofs.Common.{column_of}
 use Rattle.list_viterbi.proofs.LaneMerges.{scores_long}
 use Rattle.list_viterbi.proofs.LanePuts.{heads_put, put_read, put_others, choices_read, choices_others}
 use Rattle.list_viterbi.proofs.LanePicks.{made_heads, block_picks}
@@ -68,7 +69,7 @@ upper_even ranks gain block = made_heads (λ x y. x -ℤ y) (heads_from ranks (4
 abbrev pub upper_odd : List ℤ → List ℤ → ℕ → Heads
 upper_odd ranks gain block = made_heads (λ x y. x +ℤ y) (heads_from ranks (4 * block + 1)) gain
 
--- the numbers of a row after the first block, and after both
+-- the numbers of a column after the first block, and after both
 abbrev pub with_lower : List ℤ → List ℤ → ℕ → List ℤ → List ℤ
 with_lower ranks gain block next =
     put_heads (2 * block) next
@@ -100,7 +101,7 @@ pub pair_lower : (ranks gain next : List ℤ) (choices : List ℕ) (block : ℕ)
     length choices ≡ 256 → length gain ≡ 2 → block < 64 → (l : ℕ) → l < 2 →
     HasPicks (four_of (with_both ranks gain block next) (2 * block + l))
     (get_or (chosen_both ranks gain block choices) (2 * block + l) 0)
-    (picks_by (row_of ranks) (get_or gain l (pos 0)) 4 (2 * block + l))
+    (picks_by (column_of ranks) (get_or gain l (pos 0)) 4 (2 * block + l))
 pair_lower ranks gain next choices block whole long two below l b =
     let e = lower_even ranks gain block in
     let o = lower_odd ranks gain block in
@@ -125,7 +126,7 @@ pub pair_upper : (ranks gain next : List ℤ) (choices : List ℕ) (block : ℕ)
     length choices ≡ 256 → length gain ≡ 2 → block < 64 → (l : ℕ) → l < 2 →
     HasPicks (four_of (with_both ranks gain block next) (128 + 2 * block + l))
     (get_or (chosen_both ranks gain block choices) (128 + 2 * block + l) 0)
-    (picks_by (row_of ranks) (pos 0 -ℤ get_or gain l (pos 0)) 4 (128 + 2 * block + l))
+    (picks_by (column_of ranks) (pos 0 -ℤ get_or gain l (pos 0)) 4 (128 + 2 * block + l))
 pair_upper ranks gain next choices block whole long two below l b =
     let e = upper_even ranks gain block in
     let o = upper_odd ranks gain block in

@@ -1,7 +1,7 @@
 -- What the calls for four states make together.
 use Rattle.list_viterbi.proofs.Common.{◌≡◌, ℕ, ◌+◌, ◌*◌, ◌/◌, ◌%◌, ◌^◌, ◌<◌, ◌≤◌, List, [], ◌∷◌, length, get_or, sym, ap, subst, ◌∙◌, arith}
 use Rattle.list_viterbi.proofs.Common.{ℤ, pos, ◌+ℤ◌, ◌-ℤ◌, unsigned_abs, FitsSigned, to_z, of_z, w64, fits_signed_from_abs, SFits, gain_by}
-use Rattle.list_viterbi.proofs.Common.{code_of, lane_codes, kinds, kept, passed, kind_small, gain_fits, Heads, HeadsFit, RaisedFit}
+use Rattle.list_viterbi.proofs.Common.{code_of, lane_codes, patterns, kept, passed, pattern_small, gain_fits, Heads, HeadsFit, RaisedFit}
 use Rattle.list_viterbi.proofs.Common.{LoweredFit, raised_heads, lowered_heads, two_from, heads_from}
 use Rattle.list_viterbi.proofs.StateCodes.{gain_by_size, gain_passed}
 use Rattle.list_viterbi.proofs.LanePicks.{made_heads}
@@ -89,18 +89,18 @@ made_heads_fit made ranks gain at h two below room size is = subst HeadsFit (sym
       (two_fit made ranks gain (768 + at) two (omega (arith, below)) size room);
 })
 
--- a row after both blocks, where `put` is what a block puts into it from a state on
+-- a column after both blocks, where `put` is what a block puts into it from a state on
 pub both_put : {A : Type 0} (put : ℕ → List A → Heads → Heads → List A) (ranks gain : List ℤ)
-    (block : ℕ) (row new last : List A) (le lo ue uo : Heads) →
+    (block : ℕ) (column new last : List A) (le lo ue uo : Heads) →
     le ≡ lower_even ranks gain block → lo ≡ lower_odd ranks gain block →
     ue ≡ upper_even ranks gain block → uo ≡ upper_odd ranks gain block →
-    new ≡ put (2 * block) row le lo → last ≡ put (128 + 2 * block) new ue uo →
+    new ≡ put (2 * block) column le lo → last ≡ put (128 + 2 * block) new ue uo →
     last ≡ put (128 + 2 * block)
-    (put (2 * block) row (lower_even ranks gain block) (lower_odd ranks gain block))
+    (put (2 * block) column (lower_even ranks gain block) (lower_odd ranks gain block))
     (upper_even ranks gain block) (upper_odd ranks gain block)
-both_put put ranks gain block row new last le lo ue uo a b c d p q =
+both_put put ranks gain block column new last le lo ue uo a b c d p q =
     q ∙ ap (λ xs. put (128 + 2 * block) xs ue uo) p
-    ∙ (λ i. put (128 + 2 * block) (put (2 * block) row (a i) (b i)) (c i) (d i))
+    ∙ (λ i. put (128 + 2 * block) (put (2 * block) column (a i) (b i)) (c i) (d i))
 
 -- WHAT A BIT ADDS FOR TWO STATES
 pub two_gains : (gains lanes : List ℤ) (f s : ℤ) (block : ℕ) → SFits w64 f → SFits w64 s →
@@ -108,11 +108,11 @@ pub two_gains : (gains lanes : List ℤ) (f s : ℤ) (block : ℕ) → SFits w64
     ((j : ℕ) → j < 32 → get_or gains j (pos 0)
     ≡ gain_by (to_z w64 (of_z w64 f)) (to_z w64 (of_z w64 s)) (get_or lane_codes j 0)) →
     ((l : ℕ) → l < 2 → get_or lanes l (pos 0)
-    ≡ get_or gains (8 * get_or kinds (block / 4) 0 + (2 * (block % 4) + l)) (pos 0)) →
+    ≡ get_or gains (8 * get_or patterns (block / 4) 0 + (2 * (block % 4) + l)) (pos 0)) →
     (l : ℕ) → l < 2 → get_or lanes l (pos 0) ≡ gain_by f s (code_of (2 * block + l))
 two_gains gains lanes f s block p q few made read l b =
-    let small = kind_small (block / 4) (omega (arith, few)) in
-    let place = 8 * get_or kinds (block / 4) 0 + (2 * (block % 4) + l) in
+    let small = pattern_small (block / 4) (omega (arith, few)) in
+    let place = 8 * get_or patterns (block / 4) 0 + (2 * (block % 4) + l) in
     read l b ∙ gain_passed f s _ _ p q (made place (omega (arith, small, b)))
     ∙ ap (gain_by f s) (sym (code_two block l b))
 

@@ -2,14 +2,14 @@
 use Rattle.list_viterbi.proofs.Common.{◌≡◌, ℕ, zero, suc, ◌+◌, ◌*◌, ◌%◌, ◌<◌, List, [], ◌∷◌, length, get_or, refl, sym, ap, subst, ◌∙◌}
 use Rattle.list_viterbi.proofs.Common.{arith, ℤ, pos, ◌+ℤ◌, ◌-ℤ◌, unsigned_abs, get_or-map-range_with_len, zip2, Heads, merge, pick_score}
 use Rattle.list_viterbi.proofs.Common.{picks_from, picks_by, HasPicks, turned_scores, turned_choices, HeadsLong, lane_of, lane_sum}
-use Rattle.list_viterbi.proofs.Common.{four_scores, four_choices, heads_from, four_of, row_of}
+use Rattle.list_viterbi.proofs.Common.{four_scores, four_choices, heads_from, four_of, column_of}
 use Rattle.list_viterbi.proofs.LaneChoices.{heads_of}
 use Rattle.list_viterbi.proofs.LaneTurns.{lane_scores, lane_choices}
 use Rattle.list_viterbi.proofs.Turns.{AreSums, sum_at, all_turns}
 
-pub row_read : (ranks : List ℤ) (t : ℕ) → t < 256 → get_or (row_of ranks) t [] ≡ four_of ranks t
-unfolding row_of
-row_read ranks t b = get_or-map-range_with_len (four_of ranks) 0 256 t t [] b (omega arith)
+pub column_read : (ranks : List ℤ) (t : ℕ) → t < 256 → get_or (column_of ranks) t [] ≡ four_of ranks t
+unfolding column_of
+column_read ranks t b = get_or-map-range_with_len (four_of ranks) 0 256 t t [] b (omega arith)
 
 -- heads with what is made of each score and a gain
 abbrev pub made_heads : (ℤ → ℤ → ℤ) → Heads → List ℤ → Heads
@@ -48,18 +48,18 @@ lane_sums made ranks at (suc (suc l)) (x ∷ y ∷ []) g b long is r c = absurd 
 pub lane_picks : (ranks xs ys : List ℤ) (t : ℕ) (g : ℤ) → length xs ≡ 4 → length ys ≡ 4 →
     AreSums (four_of ranks (2 * (t % 128) + 0)) g 0 xs →
     AreSums (four_of ranks (2 * (t % 128) + 1)) (pos 0 -ℤ g) 0 ys →
-    HasPicks (turned_scores 4 xs ys) (turned_choices 4 1 xs ys) (picks_by (row_of ranks) g 4 t)
+    HasPicks (turned_scores 4 xs ys) (turned_choices 4 1 xs ys) (picks_by (column_of ranks) g 4 t)
 unfolding picks_by
 lane_picks ranks xs ys t g m n p q =
     let a = 2 * (t % 128) + 0 in
     let b = 2 * (t % 128) + 1 in
     subst (λ (es : List ℤ). HasPicks (turned_scores 4 xs ys) (turned_choices 4 1 xs ys)
     (merge pick_score 4 (picks_from 0 g 0 es)
-    (picks_from 1 (pos 0 -ℤ g) 0 (get_or (row_of ranks) b []))))
-    (sym (row_read ranks a (omega arith)))
+    (picks_from 1 (pos 0 -ℤ g) 0 (get_or (column_of ranks) b []))))
+    (sym (column_read ranks a (omega arith)))
     (subst (λ (os : List ℤ). HasPicks (turned_scores 4 xs ys) (turned_choices 4 1 xs ys)
     (merge pick_score 4 (picks_from 0 g 0 (four_of ranks a)) (picks_from 1 (pos 0 -ℤ g) 0 os)))
-    (sym (row_read ranks b (omega arith)))
+    (sym (column_read ranks b (omega arith)))
     (all_turns 4 (four_of ranks a) (four_of ranks b) g (pos 0 -ℤ g) xs ys (omega arith)
     (omega arith) m n p q))
 
@@ -73,7 +73,7 @@ pub block_picks : (made made' : ℤ → ℤ → ℤ) (ranks gain : List ℤ) (at
     (lane_of l (four_scores (made_heads made (heads_from ranks at) gain)
     (made_heads made' (heads_from ranks (at + 1)) gain)))
     (unsigned_abs (lane_sum l (four_choices (made_heads made (heads_from ranks at) gain)
-    (made_heads made' (heads_from ranks (at + 1)) gain)))) (picks_by (row_of ranks) g 4 t)
+    (made_heads made' (heads_from ranks (at + 1)) gain)))) (picks_by (column_of ranks) g 4 t)
 block_picks made made' ranks gain at l t g b long is is' place p q =
     let e = made_heads made (heads_from ranks at) gain in
     let o = made_heads made' (heads_from ranks (at + 1)) gain in
@@ -87,7 +87,7 @@ block_picks made made' ranks gain at l t g b long is is' place p q =
     subst (λ (n : ℕ). AreSums (four_of ranks n) (pos 0 -ℤ g) 0 ys) next
     (lane_sums made' ranks (at + 1) l gain (pos 0 -ℤ g) b long is') in
     subst (λ (ss : List ℤ). HasPicks ss (unsigned_abs (lane_sum l (four_choices e o)))
-    (picks_by (row_of ranks) g 4 t)) (sym (lane_scores e o l b p q))
-    (subst (λ (c : ℕ). HasPicks (turned_scores 4 xs ys) c (picks_by (row_of ranks) g 4 t))
+    (picks_by (column_of ranks) g 4 t)) (sym (lane_scores e o l b p q))
+    (subst (λ (c : ℕ). HasPicks (turned_scores 4 xs ys) c (picks_by (column_of ranks) g 4 t))
     (sym (ap unsigned_abs (lane_choices e o l b p q)))
     (lane_picks ranks xs ys t g refl refl even odd))

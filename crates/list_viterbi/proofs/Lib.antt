@@ -28,4 +28,4 @@ pub mod LanePicks
 pub mod LaneBlocks
 pub mod LaneGains
 pub mod LanePairs
-pub mod RowLayouts
+pub mod ColumnLayouts

@@ -4,9 +4,9 @@ use Rattle.list_viterbi.proofs.Common.{refl, sym, ap, subst, ◌∙◌, arith, �
 use Rattle.list_viterbi.proofs.Common.{nat_lt, if◌then◌else◌, All, AllPairs, Contains, list_any, IsDistinct, ints, by_lt_z, cases_order}
 use Rattle.list_viterbi.proofs.Common.{cases_lt, nat_tests, All-nil, All-push, All-map, All-tail, All-head, All-contains, all_pairs_push}
 use Rattle.list_viterbi.proofs.Common.{AllPairs-cons, length-le_from_distinct_below, IsDistinct-from_apart, Contains-from_any, get_or-map}
-use Rattle.list_viterbi.proofs.Common.{length-map, first_places, greatest_unless, Word, score_of, IsBetter, word_at, word_count, IsAllowed}
-use Rattle.list_viterbi.proofs.Common.{Ends, Zero, Free, AreFirst, first_words, word_at_allowed, step_of, rank-word_at, allowed_at}
-use Rattle.list_viterbi.proofs.Common.{IsGreatestUnless, AllTaken, scanned, nat_lt-true}
+use Rattle.list_viterbi.proofs.Common.{length-map, first_places, greatest_unless, Codeword, score_of, IsBetter, codeword_at, codeword_count}
+use Rattle.list_viterbi.proofs.Common.{IsAllowed, Ends, Zero, Free, AreFirst, first_codewords, codeword_at_allowed, step_of}
+use Rattle.list_viterbi.proofs.Common.{rank-codeword_at, allowed_at, IsGreatestUnless, AllTaken, scanned, nat_lt-true}
 use Rattle.list_viterbi.proofs.Firsts.{one_list}
 
 -- a greater value, or the same and a lesser place
@@ -171,14 +171,14 @@ are_places f (suc k) n =
     (cases_lt (length before) n)
 
 -- FROM PLACES TO WORDS
-index_better : (softs : List ℤ) (ends : Ends) (n i j : ℕ) → i < word_count ends n →
-    j < word_count ends n → IsBefore (λ r. score_of softs (word_at ends n r)) i j →
-    IsBetter (score_of softs) (word_at ends n i) (word_at ends n j)
+index_better : (softs : List ℤ) (ends : Ends) (n i j : ℕ) → i < codeword_count ends n →
+    j < codeword_count ends n → IsBefore (λ r. score_of softs (codeword_at ends n r)) i j →
+    IsBetter (score_of softs) (codeword_at ends n i) (codeword_at ends n j)
 index_better softs ends n i j p q h = ⊎_elim
     (λ less. inl less)
     (λ tie. inr (
       tie.0,
-      rw (rank-word_at ends n i p, rank-word_at ends n j q)
+      rw (rank-codeword_at ends n i p, rank-codeword_at ends n j q)
           (grows ends i j tie.1),
     ))
     h where
@@ -186,7 +186,7 @@ index_better softs ends n i j p q h = ⊎_elim
       grows Zero i j h = omega (arith, h)
       grows Free i j h = omega (arith, h)
 
-pairs_map : (g : ℕ → Word) (R : ℕ → ℕ → Type 0) (S : Word → Word → Type 0) (P : ℕ → Type 0)
+pairs_map : (g : ℕ → Codeword) (R : ℕ → ℕ → Type 0) (S : Codeword → Codeword → Type 0) (P : ℕ → Type 0)
     (ps : List ℕ) →
     ((i j : ℕ) → P i → P j → R i j → S (g i) (g j)) → All P ps → AllPairs R ps →
     AllPairs S (map g ps)
@@ -198,7 +198,7 @@ pairs_map g R S P (p ∷ ps) to all h =
     (pairs_map g R S P ps to (All-tail P p ps all)
     (λ i j d less b. h (suc i) (suc j) d (omega (arith, less)) (omega (arith, b))))
 
-contains_map : (g : ℕ → Word) (ps : List ℕ) (i : ℕ) → Contains ps i → Contains (map g ps) (g i)
+contains_map : (g : ℕ → Codeword) (ps : List ℕ) (i : ℕ) → Contains ps i → Contains (map g ps) (g i)
 contains_map g ps i h = (
   h.0,
   let b = h.1 in let size = length-map ps g in omega (arith, b, size),
@@ -206,62 +206,62 @@ contains_map g ps i h = (
 )
 
 pub places_first : (softs : List ℤ) (ends : Ends) (n k : ℕ) (ps : List ℕ) → 8 ≤ n →
-    ArePlaces (λ r. score_of softs (word_at ends n r)) (word_count ends n) k ps →
-    AreFirst (score_of softs) (IsAllowed ends n) k (map (word_at ends n) ps)
+    ArePlaces (λ r. score_of softs (codeword_at ends n r)) (codeword_count ends n) k ps →
+    AreFirst (score_of softs) (IsAllowed ends n) k (map (codeword_at ends n) ps)
 places_first softs ends n k ps long h =
-    let g : ℕ → Word = word_at ends n in
-    let f : ℕ → ℤ = λ r. score_of softs (word_at ends n r) in
+    let g : ℕ → Codeword = codeword_at ends n in
+    let f : ℕ → ℤ = λ r. score_of softs (codeword_at ends n r) in
     let size = length-map ps g in
     let many = h.long in
     record {
       most = omega (arith, size, many);
-      kind = All-map (IsAllowed ends n) g ps (λ i d b. word_at_allowed ends n (get_or ps i d) long);
-      order = pairs_map g (IsBefore f) (IsBetter (score_of softs)) (λ i. i < word_count ends n) ps
+      kind = All-map (IsAllowed ends n) g ps (λ i d b. codeword_at_allowed ends n (get_or ps i d) long);
+      order = pairs_map g (IsBefore f) (IsBetter (score_of softs)) (λ i. i < codeword_count ends n) ps
           (λ i j p q b. index_better softs ends n i j p q b) h.below h.order;
       rest = λ w is.
           let here = allowed_at ends n w long is in
           let r = here.number in
           by_test w r here.below here.is (list_any (nat_eq r) ps) refl;
     } where
-      by_test : (w : Word) (r : ℕ) → r < word_count ends n → word_at ends n r ≡ w → (t : Bool) →
+      by_test : (w : Codeword) (r : ℕ) → r < codeword_count ends n → codeword_at ends n r ≡ w → (t : Bool) →
           list_any (nat_eq r) ps ≡ t →
-          Contains (map (word_at ends n) ps) w ⊎ ((length (map (word_at ends n) ps) ≡ k) × All
-          (λ v. IsBetter (score_of softs) v w) (map (word_at ends n) ps))
+          Contains (map (codeword_at ends n) ps) w ⊎ ((length (map (codeword_at ends n) ps) ≡ k) × All
+          (λ v. IsBetter (score_of softs) v w) (map (codeword_at ends n) ps))
       by_test w r below is true e =
-          inl (subst (Contains (map (word_at ends n) ps)) is
-          (contains_map (word_at ends n) ps r
+          inl (subst (Contains (map (codeword_at ends n) ps)) is
+          (contains_map (codeword_at ends n) ps r
           (Contains-from_any {eq = nat_eq} (λ x y t. grind (arith, nat_tests, t)) r ps e)))
       by_test w r below is false e =
           inr (
             ⊎_elim
-                (λ few. let size = length-map ps (word_at ends n) in let many = h.long in
+                (λ few. let size = length-map ps (codeword_at ends n) in let many = h.long in
                 omega (arith, size, many, few))
-                (λ full. absurd (none_free (λ r. score_of softs (word_at ends n r))
-                (word_count ends n) k ps h full r below e))
-                (cases_lt (length ps) (word_count ends n)),
-            subst (λ (w : Word). All (λ v. IsBetter (score_of softs) v w) (map (word_at ends n) ps))
+                (λ full. absurd (none_free (λ r. score_of softs (codeword_at ends n r))
+                (codeword_count ends n) k ps h full r below e))
+                (cases_lt (length ps) (codeword_count ends n)),
+            subst (λ (w : Codeword). All (λ v. IsBetter (score_of softs) v w) (map (codeword_at ends n) ps))
                 is
-                (All-map (λ v. IsBetter (score_of softs) v (word_at ends n r)) (word_at ends n) ps
+                (All-map (λ v. IsBetter (score_of softs) v (codeword_at ends n r)) (codeword_at ends n) ps
                 (λ i d b. index_better softs ends n (get_or ps i d) r (h.below i d b) below
                 (h.rest r below e i d b))),
           )
 
-pub first_words_first : (softs : List ℤ) (ends : Ends) (n k : ℕ) → 8 ≤ n →
-    AreFirst (score_of softs) (IsAllowed ends n) k (first_words k (score_of softs) ends n)
-first_words_first softs ends n k long =
-    places_first softs ends n k _ long (are_places (λ r. score_of softs (word_at ends n r)) k
-    (word_count ends n))
+pub first_codewords_first : (softs : List ℤ) (ends : Ends) (n k : ℕ) → 8 ≤ n →
+    AreFirst (score_of softs) (IsAllowed ends n) k (first_codewords k (score_of softs) ends n)
+first_codewords_first softs ends n k long =
+    places_first softs ends n k _ long (are_places (λ r. score_of softs (codeword_at ends n r)) k
+    (codeword_count ends n))
 
-pub by_definition : (softs : List ℤ) (ends : Ends) (n k : ℕ) (words : List Word) → 8 ≤ n →
-    AreFirst (score_of softs) (IsAllowed ends n) k words →
-    words ≡ first_words k (score_of softs) ends n
-by_definition softs ends n k words long h = one_list (score_of softs) (IsAllowed ends n) k words
-    (first_words k (score_of softs) ends n) h (first_words_first softs ends n k long)
+pub by_definition : (softs : List ℤ) (ends : Ends) (n k : ℕ) (codewords : List Codeword) → 8 ≤ n →
+    AreFirst (score_of softs) (IsAllowed ends n) k codewords →
+    codewords ≡ first_codewords k (score_of softs) ends n
+by_definition softs ends n k codewords long h = one_list (score_of softs) (IsAllowed ends n) k codewords
+    (first_codewords k (score_of softs) ends n) h (first_codewords_first softs ends n k long)
 
-pub how_many : (softs : List ℤ) (ends : Ends) (n k : ℕ) (words : List Word) → 8 ≤ n →
-    AreFirst (score_of softs) (IsAllowed ends n) k words → length words ≡ min k (word_count ends n)
-how_many softs ends n k words long h =
-    let f : ℕ → ℤ = λ r. score_of softs (word_at ends n r) in
-    ap length (by_definition softs ends n k words long h)
-    ∙ length-map (first_places k f (word_count ends n)) (word_at ends n)
-    ∙ (are_places f k (word_count ends n)).long
+pub how_many : (softs : List ℤ) (ends : Ends) (n k : ℕ) (codewords : List Codeword) → 8 ≤ n →
+    AreFirst (score_of softs) (IsAllowed ends n) k codewords → length codewords ≡ min k (codeword_count ends n)
+how_many softs ends n k codewords long h =
+    let f : ℕ → ℤ = λ r. score_of softs (codeword_at ends n r) in
+    ap length (by_definition softs ends n k codewords long h)
+    ∙ length-map (first_places k f (codeword_count ends n)) (codeword_at ends n)
+    ∙ (are_places f k (codeword_count ends n)).long

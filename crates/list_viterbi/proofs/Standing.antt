@@ -1,4 +1,4 @@
--- Scores and rows of choices stand for the lists of the first words into each state.
+-- Scores and columns of choices stand for the lists of the first codewords into each state.
 use Rattle.list_viterbi.proofs.Common.{◌≡◌, ℕ, suc, ◌+◌, ◌*◌, ◌^◌, ◌<◌, ◌≤◌, Bool, true, false, List, [], ◌∷◌, length, get_or, map, set}
 use Rattle.list_viterbi.proofs.Common.{take, refl, sym, subst, ◌∙◌, arith, ℤ, pos, unsigned_abs, nat_eq, if◌then◌else◌, All}
 use Rattle.list_viterbi.proofs.Common.{reverse_bits_onto, range_with_len, sum_by, get_or-set_same, get_or-set_other, get_or-take}
@@ -9,12 +9,12 @@ use Rattle.list_viterbi.proofs.Steps.{Listed, listed_start, list_into_lists}
 use Rattle.list_viterbi.proofs.Rooms.{rooms}
 use Rattle.list_viterbi.proofs.Agreements.{Agrees, Same, same_agrees, step_agrees, agrees_all}
 
--- there are lists of the first k words into each state that the scores and the first n rows give
+-- there are lists of the first k codewords into each state that the scores and the first n columns give
 pub record Stands (softs : List ℤ) (ends : Ends) (k n : ℕ) (scores : List (List ℤ))
-    (rows : List (List ℕ)) : Type 0 where
-  pub row : List (List Entry)
-  pub listed : Listed softs ends k n row
-  pub agree : (t : ℕ) → t < 256 → Agrees rows n t 0 (get_or scores t []) (get_or row t [])
+    (columns : List (List ℕ)) : Type 0 where
+  pub column : List (List Entry)
+  pub listed : Listed softs ends k n column
+  pub agree : (t : ℕ) → t < 256 → Agrees columns n t 0 (get_or scores t []) (get_or column t [])
 
 -- BEFORE THE FIRST BIT
 abbrev begun : ℕ → Entry
@@ -44,24 +44,24 @@ list_starts ends t below = by_test (starts_at ends t) refl where
   )
   by_test false is = may_not ends t below is
 
-start_agrees : (rows : List (List ℕ)) (ends : Ends) (t : ℕ) →
-    Agrees rows 0 t 0 (start_scores ends t) (start_list ends t)
+start_agrees : (columns : List (List ℕ)) (ends : Ends) (t : ℕ) →
+    Agrees columns 0 t 0 (start_scores ends t) (start_list ends t)
 unfolding path origin
-start_agrees rows ends t = by_test (starts_at ends t) where
+start_agrees columns ends t = by_test (starts_at ends t) where
   by_test : (b : Bool) →
-      Agrees rows 0 t 0 (if b then pos 0 ∷ [] else []) (if b then begun t ∷ [] else [])
+      Agrees columns 0 t 0 (if b then pos 0 ∷ [] else []) (if b then begun t ∷ [] else [])
   by_test true = ((refl, (refl, binary-turned t)), tt)
   by_test false = tt
 
 pub stands_first : (softs : List ℤ) (ends : Ends) (k : ℕ) (scores : List (List ℤ))
-    (rows : List (List ℕ)) → 0 < k →
+    (columns : List (List ℕ)) → 0 < k →
     ((t : ℕ) → t < 256 → get_or scores t [] ≡ start_scores ends t) →
-    Stands softs ends k 0 scores rows
-stands_first softs ends k scores rows some starts = record {
-  row = map (start_list ends) (range_with_len 0 256);
+    Stands softs ends k 0 scores columns
+stands_first softs ends k scores columns some starts = record {
+  column = map (start_list ends) (range_with_len 0 256);
   listed = listed_start softs ends k (map (start_list ends) (range_with_len 0 256)) some
       (λ t b. subst (Start ends t) (sym (reads t b)) (list_starts ends t b));
-  agree = λ t b. rw (reads t b, starts t b) (start_agrees rows ends t);
+  agree = λ t b. rw (reads t b, starts t b) (start_agrees columns ends t);
 } where
   reads : (t : ℕ) → t < 256 → get_or (map (start_list ends) (range_with_len 0 256)) t []
       ≡ start_list ends t
@@ -69,21 +69,21 @@ stands_first softs ends k scores rows some starts = record {
 
 -- ONE BIT MORE
 pub step_stands : (softs : List ℤ) (ends : Ends) (k n : ℕ) (scores next : List (List ℤ))
-    (rows rows' : List (List ℕ)) → 2 * n + 2 ≤ length softs → k ≤ 16 →
-    Stands softs ends k n scores rows → Same n rows rows' →
+    (columns columns' : List (List ℕ)) → 2 * n + 2 ≤ length softs → k ≤ 16 →
+    Stands softs ends k n scores columns → Same n columns columns' →
     ((t : ℕ) → t < 256 →
-    HasPicks (get_or next t []) (get_or (get_or rows' n []) t 0)
+    HasPicks (get_or next t []) (get_or (get_or columns' n []) t 0)
     (picks_into scores (get_or softs (2 * n) (pos 0)) (get_or softs (2 * n + 1) (pos 0)) k t)) →
-    Stands softs ends k (suc n) next rows'
-step_stands softs ends k n scores next rows rows' room few h same each = record {
-  row = map (list_into h.row first second k) (range_with_len 0 256);
+    Stands softs ends k (suc n) next columns'
+step_stands softs ends k n scores next columns columns' room few h same each = record {
+  column = map (list_into h.column first second k) (range_with_len 0 256);
   listed = λ t b.
       subst (Lists softs (Into ends (suc n) (low_bits 8 t)) k) (sym (reads t b))
-      (list_into_lists softs ends k n h.row room h.listed t b);
+      (list_into_lists softs ends k n h.column room h.listed t b);
   agree = λ t b.
       rw (reads t b)
-      (step_agrees rows' n k t first second scores h.row (get_or next t []) b few
-      (λ u c. same_agrees n rows rows' u 0 (get_or scores u []) (get_or h.row u []) same
+      (step_agrees columns' n k t first second scores h.column (get_or next t []) b few
+      (λ u c. same_agrees n columns columns' u 0 (get_or scores u []) (get_or h.column u []) same
       (h.agree u c))
       (each t b));
 } where
@@ -94,50 +94,50 @@ step_stands softs ends k n scores next rows rows' room few h same each = record 
   second = get_or softs (2 * n + 1) (pos 0)
 
   reads : (t : ℕ) → t < 256 →
-      get_or (map (list_into h.row first second k) (range_with_len 0 256)) t []
-      ≡ list_into h.row first second k t
+      get_or (map (list_into h.column first second k) (range_with_len 0 256)) t []
+      ≡ list_into h.column first second k t
   reads t b =
-      get_or-map-range_with_len (list_into h.row first second k) 0 256 t t [] b (omega arith)
+      get_or-map-range_with_len (list_into h.column first second k) 0 256 t t [] b (omega arith)
 
-pub row_stands : (softs : List ℤ) (ends : Ends) (k n : ℕ) (scores next : List (List ℤ))
-    (rows : List (List ℕ)) (choices : List ℕ) → 2 * n + 2 ≤ length softs → k ≤ 16 →
-    n < length rows → Stands softs ends k n scores rows →
+pub column_stands : (softs : List ℤ) (ends : Ends) (k n : ℕ) (scores next : List (List ℤ))
+    (columns : List (List ℕ)) (choices : List ℕ) → 2 * n + 2 ≤ length softs → k ≤ 16 →
+    n < length columns → Stands softs ends k n scores columns →
     ((t : ℕ) → t < 256 →
     HasPicks (get_or next t []) (get_or choices t 0)
     (picks_into scores (get_or softs (2 * n) (pos 0)) (get_or softs (2 * n + 1) (pos 0)) k t)) →
-    Stands softs ends k (suc n) next (set rows n choices)
-row_stands softs ends k n scores next rows choices room few within h each =
-    step_stands softs ends k n scores next rows (set rows n choices) room few h
-    (λ j b. get_or-set_other rows n j choices [] (λ e. apart j b e))
-    (λ t b. rw (get_or-set_same rows n choices [] within) (each t b))
+    Stands softs ends k (suc n) next (set columns n choices)
+column_stands softs ends k n scores next columns choices room few within h each =
+    step_stands softs ends k n scores next columns (set columns n choices) room few h
+    (λ j b. get_or-set_other columns n j choices [] (λ e. apart j b e))
+    (λ t b. rw (get_or-set_same columns n choices [] within) (each t b))
   where
     apart : (j : ℕ) → j < n → ¬ (j ≡ n)
     apart j b e = omega (arith, b, e)
 
 -- scores grow by no more than the two soft values
 pub score_rooms : (softs : List ℤ) (ends : Ends) (k n : ℕ) (scores : List (List ℤ))
-    (rows : List (List ℕ)) → 2 * n + 2 ≤ length softs →
-    sum_by unsigned_abs softs ≤ 2 ^ 62 → n ≤ 576 → Stands softs ends k n scores rows →
+    (columns : List (List ℕ)) → 2 * n + 2 ≤ length softs →
+    sum_by unsigned_abs softs ≤ 2 ^ 62 → n ≤ 576 → Stands softs ends k n scores columns →
     (t : ℕ) → t < 256 →
     All (λ s. unsigned_abs s + (unsigned_abs (get_or softs (2 * n) (pos 0))
     + unsigned_abs (get_or softs (2 * n + 1) (pos 0))) ≤ 2 ^ 62) (get_or scores t [])
-score_rooms softs ends k n scores rows room bound few h t b =
-    agrees_all rows n t 0 (get_or scores t []) (get_or h.row t [])
+score_rooms softs ends k n scores columns room bound few h t b =
+    agrees_all columns n t 0 (get_or scores t []) (get_or h.column t [])
     (λ s. unsigned_abs s + (unsigned_abs (get_or softs (2 * n) (pos 0))
     + unsigned_abs (get_or softs (2 * n + 1) (pos 0))) ≤ 2 ^ 62)
     (h.agree t b)
-    (λ i d c. (rooms softs ends k n h.row room bound few h.listed t b i d c).0)
+    (λ i d c. (rooms softs ends k n h.column room bound few h.listed t b i d c).0)
 
--- of other rows only the first n matter
-pub first_rows : (softs : List ℤ) (ends : Ends) (k m n : ℕ) (scores : List (List ℤ))
-    (rows : List (List ℕ)) → m ≡ n → Stands softs ends k m scores rows →
-    Stands softs ends k n scores (take n rows)
-first_rows softs ends k m n scores rows is stands =
-    let h : Stands softs ends k n scores rows =
-    subst (λ (j : ℕ). Stands softs ends k j scores rows) is stands in
+-- of other columns only the first n matter
+pub first_columns : (softs : List ℤ) (ends : Ends) (k m n : ℕ) (scores : List (List ℤ))
+    (columns : List (List ℕ)) → m ≡ n → Stands softs ends k m scores columns →
+    Stands softs ends k n scores (take n columns)
+first_columns softs ends k m n scores columns is stands =
+    let h : Stands softs ends k n scores columns =
+    subst (λ (j : ℕ). Stands softs ends k j scores columns) is stands in
     record {
-      row = h.row;
+      column = h.column;
       listed = h.listed;
-      agree = λ t b. same_agrees n rows (take n rows) t 0 (get_or scores t []) (get_or h.row t [])
-          (λ j c. get_or-take n rows j [] c) (h.agree t b);
+      agree = λ t b. same_agrees n columns (take n columns) t 0 (get_or scores t []) (get_or h.column t [])
+          (λ j c. get_or-take n columns j [] c) (h.agree t b);
     }

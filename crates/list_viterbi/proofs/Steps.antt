@@ -1,47 +1,47 @@
 -- From the lists after some bits to those after one bit more.
 use Rattle.list_viterbi.proofs.Common.{◌≡◌, ℕ, zero, suc, ◌+◌, ◌*◌, ◌%◌, ◌<◌, ◌≤◌, Bool, true, false, List, [], ◌∷◌, ◌++◌, length, get_or}
 use Rattle.list_viterbi.proofs.Common.{refl, sym, ap, subst, ◌∙◌, arith, ℤ, inl, digit, binary, length-binary, state_after}
-use Rattle.list_viterbi.proofs.Common.{state_after-none, Word, score_of, IsBetter, HasStart, IsAllowed, low_bits, gain_of, end_count, Ends}
-use Rattle.list_viterbi.proofs.Common.{words_same, From, Into, before_below, first_soft, from_states, joined_long, newest_bit, pushed_score}
-use Rattle.list_viterbi.proofs.Common.{second_soft, seven_bits, state_parts, to_state, zero_first, IntoBelow, allowed_into, below_first}
-use Rattle.list_viterbi.proofs.Common.{below_or_last, into_allowed, more_below, no_bits, score-none, Entry, word_of, list_from, list_into}
-use Rattle.list_viterbi.proofs.Common.{first_lists, Start}
+use Rattle.list_viterbi.proofs.Common.{state_after-none, Codeword, score_of, IsBetter, HasStart, IsAllowed, low_bits, gain_of, end_count}
+use Rattle.list_viterbi.proofs.Common.{Ends, codewords_same, From, Into, before_below, first_soft, from_states, joined_long, newest_bit}
+use Rattle.list_viterbi.proofs.Common.{pushed_score, second_soft, seven_bits, state_parts, to_state, zero_first, IntoBelow, allowed_into}
+use Rattle.list_viterbi.proofs.Common.{below_first, below_or_last, into_allowed, more_below, no_bits, score-none, Entry, codeword_of}
+use Rattle.list_viterbi.proofs.Common.{list_from, list_into, first_lists, Start}
 use Rattle.viterbi.proofs.Steps.{state_before}
 use Rattle.list_viterbi.proofs.Firsts.{After, not_self}
 use Rattle.list_viterbi.proofs.Merges.{Lists, same_lists, merge_lists, extended_lists}
 
--- each state's list has the first words into it
+-- each state's list has the first codewords into it
 abbrev pub Listed : List ℤ → Ends → ℕ → ℕ → List (List Entry) → Type 0
-Listed softs ends k n row = (t : ℕ) → t < 256 →
-    Lists softs (Into ends n (low_bits 8 t)) k (get_or row t [])
+Listed softs ends k n column = (t : ℕ) → t < 256 →
+    Lists softs (Into ends n (low_bits 8 t)) k (get_or column t [])
 
--- the first words that come from a state before
-from_list : (softs : List ℤ) (ends : Ends) (k n : ℕ) (row : List (List Entry)) →
-    2 * n + 2 ≤ length softs → Listed softs ends k n row → (t : ℕ) → t < 256 → (oldest : Bool) →
+-- the first codewords that come from a state before
+from_list : (softs : List ℤ) (ends : Ends) (k n : ℕ) (column : List (List Entry)) →
+    2 * n + 2 ≤ length softs → Listed softs ends k n column → (t : ℕ) → t < 256 → (oldest : Bool) →
     Lists softs (From ends n t oldest) k
-    (list_from row (first_soft softs n) (second_soft softs n) t (digit oldest))
+    (list_from column (first_soft softs n) (second_soft softs n) t (digit oldest))
 unfolding list_from
-from_list softs ends k n row room listed t below oldest =
+from_list softs ends k n column room listed t below oldest =
     let place = 2 * (t % 128) + digit oldest in
-    let here : Lists softs (Into ends n (oldest ∷ seven_bits t)) k (get_or row place []) =
+    let here : Lists softs (Into ends n (oldest ∷ seven_bits t)) k (get_or column place []) =
     rw (state_before t oldest) at (listed place (before_below t oldest)) in
     extended_lists softs (Into ends n (oldest ∷ seven_bits t)) (newest_bit t)
     (gain_of (first_soft softs n) (second_soft softs n) (low_bits 9 (2 * t + digit oldest))) (8 + n)
-    k (get_or row place []) (pushed_score softs ends n t oldest room below)
+    k (get_or column place []) (pushed_score softs ends n t oldest room below)
     (joined_long ends n (oldest ∷ seven_bits t)) here
 
-pub list_into_lists : (softs : List ℤ) (ends : Ends) (k n : ℕ) (row : List (List Entry)) →
-    2 * n + 2 ≤ length softs → Listed softs ends k n row → (t : ℕ) → t < 256 →
+pub list_into_lists : (softs : List ℤ) (ends : Ends) (k n : ℕ) (column : List (List Entry)) →
+    2 * n + 2 ≤ length softs → Listed softs ends k n column → (t : ℕ) → t < 256 →
     Lists softs (Into ends (suc n) (low_bits 8 t)) k
-    (list_into row (first_soft softs n) (second_soft softs n) k t)
+    (list_into column (first_soft softs n) (second_soft softs n) k t)
 unfolding list_into
-list_into_lists softs ends k n row room listed t below =
+list_into_lists softs ends k n column room listed t below =
     rw (state_parts t below)
     (same_lists softs _ (Into ends (suc n) (seven_bits t ++ newest_bit t ∷ [])) k _
     (to_state ends n t) (from_states ends n t)
     (merge_lists softs (From ends n t false) (From ends n t true) k k k _ _ (omega arith)
-    (omega arith) (zero_first ends n t) (from_list softs ends k n row room listed t below false)
-    (from_list softs ends k n row room listed t below true)))
+    (omega arith) (zero_first ends n t) (from_list softs ends k n column room listed t below false)
+    (from_list softs ends k n column room listed t below true)))
 
 -- BEFORE THE FIRST BIT
 pub start_lists : (softs : List ℤ) (ends : Ends) (k t : ℕ) (es : List Entry) → Start ends t es →
@@ -50,9 +50,9 @@ start_lists softs ends k t [] h =
     (λ w is. h (subst (HasStart ends) (no_bits ends (low_bits 8 t) w is).0 is.begins), tt)
 start_lists softs ends k t (e ∷ f ∷ es) h = absurd h
 start_lists softs ends k t (e ∷ []) h =
-    let same : (w : Word) → Into ends 0 (low_bits 8 t) w → w ≡ word_of e = λ w is.
+    let same : (w : Codeword) → Into ends 0 (low_bits 8 t) w → w ≡ codeword_of e = λ w is.
     let parts = no_bits ends (low_bits 8 t) w is in
-    words_same w (word_of e) (parts.0 ∙ sym h.1.start) (parts.1 ∙ sym h.1.none) in (
+    codewords_same w (codeword_of e) (parts.0 ∙ sym h.1.start) (parts.1 ∙ sym h.1.none) in (
       (
         record {
           kind = record {
@@ -66,35 +66,35 @@ start_lists softs ends k t (e ∷ []) h =
         },
         (none_left k same).0,
       ),
-      (h.1.nothing ∙ sym (score-none softs (word_of e).start (word_of e) refl h.1.none), tt),
+      (h.1.nothing ∙ sym (score-none softs (codeword_of e).start (codeword_of e) refl h.1.none), tt),
     ) where
-      none_left : (k : ℕ) → ((w : Word) → Into ends 0 (low_bits 8 t) w → w ≡ word_of e) →
-          Lists softs (After (score_of softs) (word_of e) (Into ends 0 (low_bits 8 t))) k []
+      none_left : (k : ℕ) → ((w : Codeword) → Into ends 0 (low_bits 8 t) w → w ≡ codeword_of e) →
+          Lists softs (After (score_of softs) (codeword_of e) (Into ends 0 (low_bits 8 t))) k []
       none_left zero same = (tt, tt)
       none_left (suc k) same = (
-        λ w a. not_self (score_of softs) (word_of e)
-            (subst (λ (v : Word). IsBetter (score_of softs) (word_of e) v) (same w a.0) a.1),
+        λ w a. not_self (score_of softs) (codeword_of e)
+            (subst (λ (v : Codeword). IsBetter (score_of softs) (codeword_of e) v) (same w a.0) a.1),
         tt,
       )
 
-pub listed_start : (softs : List ℤ) (ends : Ends) (k : ℕ) (row : List (List Entry)) → 0 < k →
-    ((t : ℕ) → t < 256 → Start ends t (get_or row t [])) → Listed softs ends k 0 row
-listed_start softs ends zero row some each t h = absurd (omega (arith, some))
-listed_start softs ends (suc k) row some each t h =
-    start_lists softs ends k t (get_or row t []) (each t h)
+pub listed_start : (softs : List ℤ) (ends : Ends) (k : ℕ) (column : List (List Entry)) → 0 < k →
+    ((t : ℕ) → t < 256 → Start ends t (get_or column t [])) → Listed softs ends k 0 column
+listed_start softs ends zero column some each t h = absurd (omega (arith, some))
+listed_start softs ends (suc k) column some each t h =
+    start_lists softs ends k t (get_or column t []) (each t h)
 
 -- AFTER THE LAST BIT
 none_below : (softs : List ℤ) (ends : Ends) (n k : ℕ) → Lists softs (IntoBelow ends n 0) k []
 none_below softs ends n zero = (tt, tt)
 none_below softs ends n (suc k) = (λ w p. let b = p.below in omega (arith, b), tt)
 
-pub first_lists_lists : (softs : List ℤ) (ends : Ends) (k n : ℕ) (row : List (List Entry))
-    (count : ℕ) → count ≤ 256 → Listed softs ends k n row →
-    Lists softs (IntoBelow ends n count) k (first_lists row k count)
+pub first_lists_lists : (softs : List ℤ) (ends : Ends) (k n : ℕ) (column : List (List Entry))
+    (count : ℕ) → count ≤ 256 → Listed softs ends k n column →
+    Lists softs (IntoBelow ends n count) k (first_lists column k count)
 unfolding first_lists
-first_lists_lists softs ends k n row zero most listed = none_below softs ends n k
-first_lists_lists softs ends k n row (suc count) most listed =
-    let before = first_lists_lists softs ends k n row count (omega (arith, most)) listed in
+first_lists_lists softs ends k n column zero most listed = none_below softs ends n k
+first_lists_lists softs ends k n column (suc count) most listed =
+    let before = first_lists_lists softs ends k n column count (omega (arith, most)) listed in
     let here = listed count (omega (arith, most)) in
     same_lists softs _ (IntoBelow ends n (suc count)) k _ (more_below ends n count)
     (below_or_last ends n count)

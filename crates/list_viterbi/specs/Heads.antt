@@ -172,23 +172,23 @@ four_of ranks t =
     ∷ get_or ranks (768 + t) (pos 0) ∷ []
 
 -- those of all states
-unfoldable pub row_of : List ℤ → List (List ℤ)
-row_of ranks = map (four_of ranks) (range_with_len 0 256)
+unfoldable pub column_of : List ℤ → List (List ℤ)
+column_of ranks = map (four_of ranks) (range_with_len 0 256)
 
 -- the first four scores and the choices of two states of a block, and of the two states 128 on,
--- stand in rows that are otherwise as they were
+-- stand in columns that are otherwise as they were
 pub record PairPicked (ranks gain : List ℤ) (block : ℕ) (old next : List ℤ)
     (before choices : List ℕ) : Type 0 where
   pub lower : (l : ℕ) → l < 2 → HasPicks (four_of next (2 * block + l))
       (get_or choices (2 * block + l) 0)
-      (picks_by (row_of ranks) (get_or gain l (pos 0)) 4 (2 * block + l))
+      (picks_by (column_of ranks) (get_or gain l (pos 0)) 4 (2 * block + l))
   pub upper : (l : ℕ) → l < 2 → HasPicks (four_of next (128 + 2 * block + l))
       (get_or choices (128 + 2 * block + l) 0)
-      (picks_by (row_of ranks) (pos 0 -ℤ get_or gain l (pos 0)) 4 (128 + 2 * block + l))
+      (picks_by (column_of ranks) (pos 0 -ℤ get_or gain l (pos 0)) 4 (128 + 2 * block + l))
   pub others : (t : ℕ) → t < 256 → ¬ (t / 2 % 64 ≡ block) →
       (four_of next t ≡ four_of old t) × (get_or choices t 0 ≡ get_or before t 0)
 
--- the scores of the first words into all states, of so many at most for each
-pub record RowValue : Type 0 where
+-- the scores of the first codewords into all states, of so many at most for each
+pub record ColumnValue : Type 0 where
   pub k : ℕ
   pub scores : List (List ℤ)

@@ -2,6 +2,6 @@ pub mod First
 pub mod Laws
 pub mod Merging
 pub mod Picks
-pub mod Rows
+pub mod Columns
 pub mod Turns
 pub mod Heads

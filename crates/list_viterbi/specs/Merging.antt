@@ -6,8 +6,8 @@ use Rattle.chip_core.specs.Bits.{binary}
 use Rattle.viterbi.specs.States.{low_bits}
 use Rattle.viterbi.specs.Survivors.{gain_of}
 use Rattle.viterbi.specs.Best.{HasStart}
-use Rattle.viterbi.specs.declared.word.Ends.{Ends}
-use Rattle.list_viterbi.specs.declared.words.Entry.{Entry}
+use Rattle.viterbi.specs.declared.codeword.Ends.{Ends}
+use Rattle.list_viterbi.specs.declared.codewords.Entry.{Entry}
 
 -- an entry's score
 abbrev pub score_in : Entry → ℤ
@@ -40,14 +40,14 @@ merge score (suc k) (x ∷ xs) (y ∷ ys) =
 
 -- from the state before with this oldest bit, 0 or 1
 unfoldable pub list_from : List (List Entry) → ℤ → ℤ → ℕ → ℕ → List Entry
-list_from row first second state oldest =
+list_from column first second state oldest =
     map (extended_by (nat_le 128 state) (gain_of first second (low_bits 9 (2 * state + oldest))))
-    (get_or row (2 * (state % 128) + oldest) [])
+    (get_or column (2 * (state % 128) + oldest) [])
 
 -- the first k of both
 unfoldable pub list_into : List (List Entry) → ℤ → ℤ → ℕ → ℕ → List Entry
-list_into row first second k state =
-    merge score_in k (list_from row first second state 0) (list_from row first second state 1)
+list_into column first second k state =
+    merge score_in k (list_from column first second state 0) (list_from column first second state 1)
 
 -- one bit more can be added
 abbrev pub HasRoom : ℤ → ℤ → Entry → Type 0
@@ -55,13 +55,13 @@ HasRoom first second e =
     (unsigned_abs e.score + (unsigned_abs first + unsigned_abs second) ≤ 2 ^ 62) ×
     (length e.word.bits < 1184)
 
--- the word of no bits into a state
+-- the codeword of no bits into a state
 pub record IsStart (state : ℕ) (e : Entry) : Type 0 where
   pub start : binary 8 e.word.start ≡ low_bits 8 state
   pub none : e.word.bits ≡ []
   pub nothing : e.score ≡ pos 0
 
--- that word alone, or none where a word may not start from the state
+-- that codeword alone, or none where a codeword may not start from the state
 abbrev pub Start : Ends → ℕ → List Entry → Type 0
 Start ends state [] = ¬ (HasStart ends (low_bits 8 state))
 Start ends state (e ∷ []) = HasStart ends (low_bits 8 state) × IsStart state e
@@ -69,5 +69,5 @@ Start ends state (e ∷ f ∷ es) = ⊥
 
 -- the first k of the lists of the first so many states
 unfoldable pub first_lists : List (List Entry) → ℕ → ℕ → List Entry
-first_lists row k zero = []
-first_lists row k (suc n) = merge score_in k (first_lists row k n) (get_or row n [])
+first_lists column k zero = []
+first_lists column k (suc n) = merge score_in k (first_lists column k n) (get_or column n [])

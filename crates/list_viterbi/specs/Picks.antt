@@ -1,11 +1,11 @@
--- The first words of one bit more, by their scores and where they come from alone.
+-- The first codewords of one bit more, by their scores and where they come from alone.
 use Rattle.std.specs.Prelude.{ℕ, zero, suc, ◌+◌, ◌-◌, ◌*◌, ◌%◌, ◌^◌, ◌≤◌, ◌≡◌, List, [], ◌∷◌}
 use Rattle.std.specs.Prelude.{get_or, map, ℤ, pos, ◌+ℤ◌, ◌-ℤ◌, unsigned_abs, if◌then◌else◌}
 use Rattle.chip_core.specs.Bits.{bit_of, digit}
 use Rattle.viterbi.specs.Lanes.{gain_by, code_of}
 use Rattle.list_viterbi.specs.Merging.{merge}
 
--- a word's score, and its pointer: twice its place in the list of the state before plus that
+-- a codeword's score, and its pointer: twice its place in the list of the state before plus that
 -- state's oldest bit
 pub record Pick : Type 0 where
   pub score : ℤ
@@ -14,32 +14,32 @@ pub record Pick : Type 0 where
 abbrev pub pick_score : Pick → ℤ
 pick_score p = p.score
 
--- the words of a state's list with one bit more, the first of which has this place
+-- the codewords of a state's list with one bit more, the first of which has this place
 abbrev pub picks_from : ℕ → ℤ → ℕ → List ℤ → List Pick
 picks_from oldest gain place [] = []
 picks_from oldest gain place (s ∷ ss) =
     record { score = s +ℤ gain; back = 2 * place + oldest }
     ∷ picks_from oldest gain (suc place) ss
 
--- the first k words into a state, where the bit adds so much behind oldest bit 0
+-- the first k codewords into a state, where the bit adds so much behind oldest bit 0
 unfoldable pub picks_by : List (List ℤ) → ℤ → ℕ → ℕ → List Pick
-picks_by row gain k t =
-    merge pick_score k (picks_from 0 gain 0 (get_or row (2 * (t % 128) + 0) []))
-    (picks_from 1 (pos 0 -ℤ gain) 0 (get_or row (2 * (t % 128) + 1) []))
+picks_by column gain k t =
+    merge pick_score k (picks_from 0 gain 0 (get_or column (2 * (t % 128) + 0) []))
+    (picks_from 1 (pos 0 -ℤ gain) 0 (get_or column (2 * (t % 128) + 1) []))
 
 -- and by its two soft values
 abbrev pub picks_into : List (List ℤ) → ℤ → ℤ → ℕ → ℕ → List Pick
-picks_into row first second k t = picks_by row (gain_by first second (code_of t)) k t
+picks_into column first second k t = picks_by column (gain_by first second (code_of t)) k t
 
--- Choices are a number, bit r of which is the oldest bit of the state that word r comes from.
+-- Choices are a number, bit r of which is the oldest bit of the state that codeword r comes from.
 
--- how many of the first so many words come from the state with oldest bit 1
+-- how many of the first so many codewords come from the state with oldest bit 1
 unfoldable pub ones_below : ℕ → ℕ → ℕ
 ones_below choices zero = 0
 ones_below choices (suc n) = ones_below choices n + digit (bit_of choices n)
 
--- a word's pointer: words from one state keep their order, so its place in that state's list is how
--- many before it come from there
+-- a codeword's pointer: codewords from one state keep their order, so its place in that state's
+-- list is how many before it come from there
 abbrev pub pointer_of : ℕ → ℕ → ℕ
 pointer_of choices place =
     if bit_of choices place

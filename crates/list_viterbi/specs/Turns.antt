@@ -5,7 +5,7 @@ use Rattle.std.specs.Prelude.{int_lt}
 use Rattle.std.specs.Int.{w64}
 use mir.Val.{of_z, to_z}
 use Rattle.chip_core.specs.Bits.{digit}
-use Rattle.viterbi.specs.Rows.{taken_of}
+use Rattle.viterbi.specs.Columns.{taken_of}
 
 -- what is left of the list of oldest bit 0, where the head of the other was taken or not
 abbrev pub even_left : Bool → List ℤ → List ℤ

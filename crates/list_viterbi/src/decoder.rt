@@ -2,30 +2,31 @@
 
 ghost use Rattle.std.specs.Prelude.{◌≡◌, ◌<◌, ◌≤◌, ◌*◌, ◌/◌, ◌%◌, ◌^◌, ℕ, [], min, length, get_or};
 ghost use Rattle.std.specs.Prelude.{map, vec_len, sum_by, unsigned_abs, IfOk};
-ghost use Rattle.viterbi.specs.Words.{score_of, word_count};
+ghost use Rattle.viterbi.specs.Codewords.{score_of, codeword_count};
 ghost use Rattle.viterbi.specs.Best.{IsAllowed};
-ghost use Rattle.list_viterbi.specs.First.{AreFirst, HaveScores, word_of};
+ghost use Rattle.list_viterbi.specs.First.{AreFirst, HaveScores, codeword_of};
 
+use crate::codewords::Codewords;
+use crate::column::Column;
 use crate::picking::Choices;
-use crate::row::Row;
 use crate::tracing::all_traced;
-use crate::words::Words;
 use chip_core::OutOfMemory;
 use std::alloc::Global;
 use std::marker::Model;
 use viterbi::Ends;
 
-/// Finds the first words for a list of soft values, in memory that `new` takes: two rows of scores
-/// by states, two by places, and a row of choices for each of 576 bits, less than 700 KiB.
+/// Finds the first codewords for a list of soft values, in memory that `new` takes: two columns of
+/// scores by states, two by places, and a column of choices for each of 576 bits, less than 700
+/// KiB.
 ///
-/// Contracts see the greatest number of bits of a word.
+/// Contracts see the greatest number of bits of a codeword.
 #[derive(Drop)]
 pub struct ListDecoder {
     max_bits: u16,
-    /// The scores of the first words into each state after the bits so far.
-    row: Row,
+    /// The scores of the first codewords into each state after the bits so far.
+    column: Column,
     /// The choices of each bit.
-    rows: Vec<Choices>,
+    columns: Vec<Choices>,
 }
 
 impl Model for ListDecoder {
@@ -35,35 +36,35 @@ impl Model for ListDecoder {
 
     ghost view = { λ d. d.max_bits };
 
-    ghost invariant = { λ d. (d.max_bits ≤ 576) × (vec_len d.rows ≡ 576) };
+    ghost invariant = { λ d. (d.max_bits ≤ 576) × (vec_len d.columns ≡ 576) };
 }
 
 impl ListDecoder {
-    /// A decoder for words of at most `max_bits` bits, from 8 to 576, with all the memory that it
-    /// needs; `OutOfMemory` where the allocator has none.
+    /// A decoder for codewords of at most `max_bits` bits, from 8 to 576, with all the memory that
+    /// it needs; `OutOfMemory` where the allocator has none.
     pub fn new(alloc: Global, max_bits: u16) -> Result<ListDecoder, OutOfMemory>
         requires least { 8 ≤ max_bits }
         requires most { max_bits ≤ 576 }
         ensures { IfOk result (λ decoder. decoder ≡ max_bits) }
     {
-        let row = Row::new(alloc)?;
-        let rows = vec![in alloc; [0u32; 256]; 576]?;
+        let column = Column::new(alloc)?;
+        let columns = vec![in alloc; [0u32; 256]; 576]?;
         Ok(ListDecoder {
             max_bits,
-            row,
-            rows,
+            column,
+            columns,
         })
     }
 
-    /// Finds the first `k` of all allowed words for these soft values, or all where there are
+    /// Finds the first `k` of all allowed codewords for these soft values, or all where there are
     /// fewer: `out` becomes their list, with their scores, whatever it held, and the answer is its
     /// length.
     ///
     /// There are two soft values a bit, that of the symbol of 753 octal first and then that of 561
-    /// octal (TIA/EIA-95-B, 7.1.3.1.3.1). Soft values, scores and the order of words are those of
-    /// `viterbi::Decoder::best_into`. Between zeros there are 2^(bits - 8) words, and else
+    /// octal (TIA/EIA-95-B, 7.1.3.1.3.1). Soft values, scores and the order of codewords are those
+    /// of `viterbi::Decoder::best_into`. Between zeros there are 2^(bits - 8) codewords, and else
     /// 2^(bits + 8), which is never fewer than 16.
-    pub fn list_into(&mut self, softs: &[i64], ends: Ends, k: u8, out: &mut Words) -> u8
+    pub fn list_into(&mut self, softs: &[i64], ends: Ends, k: u8, out: &mut Codewords) -> u8
         requires some { 1 ≤ k }
         requires few { k ≤ 16 }
         requires even { length softs.now % 2 ≡ 0 }
@@ -72,20 +73,20 @@ impl ListDecoder {
         requires bound { sum_by unsigned_abs softs.now ≤ 2 ^ 62 }
 
         ensures first { AreFirst (score_of softs.now) (IsAllowed ends (length softs.now / 2)) k
-            (map word_of out.new) }
+            (map codeword_of out.new) }
         ensures scores { HaveScores softs.now out.new }
         ensures count { result ≡ length out.new }
-        ensures number { result ≡ min k (word_count ends (length softs.now / 2)) }
+        ensures number { result ≡ min k (codeword_count ends (length softs.now / 2)) }
         ensures kept { self.new ≡ self.old }
     {
         let count = softs.len() / 2;
-        self.row.start(ends, k);
+        self.column.start(ends, k);
         for bit in 0..count {
-            self.row
-                .step(softs[2 * bit], softs[2 * bit + 1], &mut self.rows[bit]);
+            self.column
+                .step(softs[2 * bit], softs[2 * bit + 1], &mut self.columns[bit]);
         }
-        let finds = self.row.first_ends(ends);
-        *out = all_traced(&self.rows[..count], &finds);
+        let finds = self.column.first_ends(ends);
+        *out = all_traced(&self.columns[..count], &finds);
         out.len()
     }
 }

@@ -1,15 +1,15 @@
-//! The first words of all end states, by their scores and where they stand.
+//! The first codewords of all end states, by their scores and where they stand.
 
 ghost use Rattle.std.specs.Prelude.{◌≡◌, ◌<◌, ◌≤◌, [], ◌∷◌, ◌++◌, length, drop, slice_get, Some};
 ghost use Rattle.viterbi.specs.Survivors.{end_count};
 ghost use Rattle.list_viterbi.specs.Merging.{second_is_next, merge};
-ghost use Rattle.list_viterbi.specs.Rows.{find_score, finds_from, first_finds};
+ghost use Rattle.list_viterbi.specs.Columns.{find_score, finds_from, first_finds};
 
 use crate::scores::Scores;
 use std::marker::Model;
 use viterbi::{Ends, end_states};
 
-/// A word that leads into a state: its score, the state, and its place in the state's list.
+/// A codeword that leads into a state: its score, the state, and its place in the state's list.
 #[derive(Clone, Copy)]
 pub struct Find {
     /// The score.
@@ -20,7 +20,7 @@ pub struct Find {
     pub rank: u8,
 }
 
-/// A list of at most 16 words that lead into states.
+/// A list of at most 16 codewords that lead into states.
 ///
 /// Contracts see the list.
 #[derive(Drop)]
@@ -41,7 +41,7 @@ impl Model for Finds {
 }
 
 impl Finds {
-    /// The list of no words.
+    /// The list of no codewords.
     fn empty() -> Finds
         ensures { result ≡ [] }
     {
@@ -56,7 +56,7 @@ impl Finds {
         }
     }
 
-    /// How many words the list has.
+    /// How many codewords the list has.
     pub fn len(&self) -> u8
         ensures value { result ≡ length self.now }
         ensures most { result ≤ 16 }
@@ -64,7 +64,7 @@ impl Finds {
         self.count
     }
 
-    /// Word `i`, counted from 0.
+    /// Codeword `i`, counted from 0.
     pub fn get(&self, i: u8) -> &Find
         requires { i < length self.now }
         ensures value { slice_get self.now i ≡ Some result.now }
@@ -73,7 +73,7 @@ impl Finds {
         &self.finds[i as usize]
     }
 
-    /// Adds a word at the end.
+    /// Adds a codeword at the end.
     fn push(&mut self, find: Find)
         requires { length self.old < 16 }
         ensures { self.new ≡ self.old ++ find ∷ [] }
@@ -83,7 +83,7 @@ impl Finds {
     }
 }
 
-/// The words of a state's list.
+/// The codewords of a state's list.
 fn finds_of(scores: &Scores, state: u8) -> Finds
     ensures { result ≡ finds_from state 0 scores.now }
 {
@@ -98,8 +98,8 @@ fn finds_of(scores: &Scores, state: u8) -> Finds
     finds
 }
 
-/// Whether the second list, from place `j` on, has a word that comes before those of the first from
-/// place `i` on.
+/// Whether the second list, from place `j` on, has a codeword that comes before those of the first
+/// from place `i` on.
 fn takes_second(first: &Finds, i: u8, second: &Finds, j: u8) -> bool
     requires first_place { i ≤ length first.now }
     requires second_place { j ≤ length second.now }
@@ -114,7 +114,8 @@ fn takes_second(first: &Finds, i: u8, second: &Finds, j: u8) -> bool
     first.get(i).score < second.get(j).score
 }
 
-/// The first `k` words of two lists, by falling score; on a tie those of the first list come first.
+/// The first `k` codewords of two lists, by falling score; on a tie those of the first list come
+/// first.
 fn merged(first: &Finds, second: &Finds, k: u8) -> Finds
     requires { k ≤ 16 }
     ensures { result ≡ merge find_score k first.now second.now }
@@ -134,15 +135,15 @@ fn merged(first: &Finds, second: &Finds, k: u8) -> Finds
     finds
 }
 
-/// The first words of the states in which a word may end.
-pub fn first_ends(row: &[Scores], ends: Ends, k: u8) -> Finds
-    requires whole { length row.now ≡ 256 }
+/// The first codewords of the states in which a codeword may end.
+pub fn first_ends(column: &[Scores], ends: Ends, k: u8) -> Finds
+    requires whole { length column.now ≡ 256 }
     requires few { k ≤ 16 }
-    ensures { result ≡ first_finds row.now k (end_count ends) }
+    ensures { result ≡ first_finds column.now k (end_count ends) }
 {
     let mut finds = Finds::empty();
     for state in 0..end_states(ends) {
-        finds = merged(&finds, &finds_of(&row[state], state as u8), k);
+        finds = merged(&finds, &finds_of(&column[state], state as u8), k);
     }
     finds
 }

@@ -1,6 +1,6 @@
-//! The first four words of one bit more, on lanes of two states.
+//! The first four codewords of one bit more, on lanes of two states.
 //!
-//! Scores stand by their places: those of the first words into all states, then those of the
+//! Scores stand by their places: those of the first codewords into all states, then those of the
 //! second, and so on. States `2 * b` and `2 * b + 1` are reached from the four states from `4 * b`
 //! on, and so are those 128 on.
 
@@ -14,7 +14,7 @@ ghost use Rattle.list_viterbi.specs.Heads.{HeadsFit, less_heads, even_heads, odd
 ghost use Rattle.list_viterbi.specs.Heads.{raised_heads, LoweredFit, lowered_heads, four_scores};
 ghost use Rattle.list_viterbi.specs.Heads.{four_choices, two_from, heads_from, HeadsLong};
 ghost use Rattle.list_viterbi.specs.Heads.{AreWeights, lane_sum, put_heads, put_choices, four_of};
-ghost use Rattle.list_viterbi.specs.Heads.{row_of, PairPicked};
+ghost use Rattle.list_viterbi.specs.Heads.{column_of, PairPicked};
 ghost use Rattle.list_viterbi.specs.Picks.{HasPicks, picks_into};
 
 use crate::gains::gains_of;
@@ -244,7 +244,7 @@ pub fn step_four(ranks: &[i64], first: i64, second: i64, next: &mut [i64], choic
         + (unsigned_abs first + unsigned_abs second) ≤ 2 ^ 62 }
     ensures whole { length next.new ≡ 1024 }
     ensures each { (t : ℕ) → t < 256 → HasPicks (four_of next.new t) (get_or choices.new t 0)
-        (picks_into (row_of ranks.now) first second 4 t) }
+        (picks_into (column_of ranks.now) first second 4 t) }
 {
     let gains = lane_gains(first, second);
     for block in 0..64usize {
@@ -267,24 +267,24 @@ fn scores_at(ranks: &[i64], state: usize) -> Scores
 }
 
 /// The scores by their states.
-pub fn scores_of(ranks: &[i64], row: &mut [Scores])
+pub fn scores_of(ranks: &[i64], column: &mut [Scores])
     requires whole { length ranks.now ≡ 1024 }
-    requires whole_row { length row.old ≡ 256 }
-    ensures whole { length row.new ≡ 256 }
-    ensures each { (t : ℕ) → t < 256 → get_or row.new t [] ≡ four_of ranks.now t }
+    requires whole_column { length column.old ≡ 256 }
+    ensures whole { length column.new ≡ 256 }
+    ensures each { (t : ℕ) → t < 256 → get_or column.new t [] ≡ four_of ranks.now t }
 {
     for state in 0..256usize {
-        row[state] = scores_at(ranks, state);
+        column[state] = scores_at(ranks, state);
     }
 }
 
 /// Whether each state has four scores.
-pub fn has_four(row: &[Scores]) -> bool
-    requires { length row.now ≡ 256 }
-    ensures { result ≡ true → (t : ℕ) → t < 256 → length (get_or row.now t []) ≡ 4 }
+pub fn has_four(column: &[Scores]) -> bool
+    requires { length column.now ≡ 256 }
+    ensures { result ≡ true → (t : ℕ) → t < 256 → length (get_or column.now t []) ≡ 4 }
 {
     for state in 0..256usize {
-        if row[state].len() != 4 {
+        if column[state].len() != 4 {
             return false;
         }
     }
@@ -307,14 +307,14 @@ fn put_scores(scores: &Scores, state: usize, ranks: &mut [i64])
 }
 
 /// The scores by their places.
-pub fn ranks_of(row: &[Scores], ranks: &mut [i64])
-    requires whole { length row.now ≡ 256 }
+pub fn ranks_of(column: &[Scores], ranks: &mut [i64])
+    requires whole { length column.now ≡ 256 }
     requires whole_ranks { length ranks.old ≡ 1024 }
-    requires four { (t : ℕ) → t < 256 → length (get_or row.now t []) ≡ 4 }
+    requires four { (t : ℕ) → t < 256 → length (get_or column.now t []) ≡ 4 }
     ensures whole { length ranks.new ≡ 1024 }
-    ensures each { (t : ℕ) → t < 256 → four_of ranks.new t ≡ get_or row.now t [] }
+    ensures each { (t : ℕ) → t < 256 → four_of ranks.new t ≡ get_or column.now t [] }
 {
     for state in 0..256usize {
-        put_scores(&row[state], state, ranks);
+        put_scores(&column[state], state, ranks);
     }
 }

@@ -1,9 +1,9 @@
-//! The first words of one bit more, from the scores of the two states before.
+//! The first codewords of one bit more, from the scores of the two states before.
 
 ghost use Rattle.std.specs.Prelude.{◌≡◌, ◌<◌, ◌≤◌, ◌+◌, ◌*◌, ◌^◌, ◌+ℤ◌, ℕ, [], length, get_or};
 ghost use Rattle.std.specs.Prelude.{drop, pos, unsigned_abs, int_lt, All};
 ghost use Rattle.chip_core.specs.Bits.{digit};
-ghost use Rattle.viterbi.specs.Rows.{taken_of};
+ghost use Rattle.viterbi.specs.Columns.{taken_of};
 ghost use Rattle.list_viterbi.specs.Merging.{second_is_next, merge};
 ghost use Rattle.list_viterbi.specs.Picks.{pick_score, picks_from, picks_by, picks_into, HasPicks};
 ghost use Rattle.list_viterbi.specs.Picks.{LeavesRoom};
@@ -13,11 +13,11 @@ use crate::scores::Scores;
 use viterbi::symbol_gains::gains;
 
 /// A number for each state after some bit. Bit `r` of it is the oldest bit of the state that the
-/// word at place `r` of the state's list comes from. Words from one state keep their order, so that
-/// with the lower bits it tells the word's place in that state's list too.
+/// codeword at place `r` of the state's list comes from. Codewords from one state keep their order,
+/// so that with the lower bits it tells the codeword's place in that state's list too.
 pub type Choices = [u32; 256];
 
-/// A word's score with what a bit adds to it.
+/// A codeword's score with what a bit adds to it.
 fn sum_at(scores: &Scores, i: u8, gain: i64) -> i64
     requires place { i < length scores.now }
     requires room { All (LeavesRoom gain) scores.now }
@@ -27,9 +27,9 @@ fn sum_at(scores: &Scores, i: u8, gain: i64) -> i64
     scores.get(i) + gain
 }
 
-/// Whether the words of the state before with oldest bit 1, from place `j` on, have one that comes
-/// before those of the state with oldest bit 0 from place `i` on, where the bit adds so much to the
-/// scores of both.
+/// Whether the codewords of the state before with oldest bit 1, from place `j` on, have one that
+/// comes before those of the state with oldest bit 0 from place `i` on, where the bit adds so much
+/// to the scores of both.
 fn takes_odd(even: &Scores, i: u8, even_gain: i64, odd: &Scores, j: u8, odd_gain: i64) -> bool
     requires even_place { i ≤ length even.now }
     requires odd_place { j ≤ length odd.now }
@@ -47,7 +47,7 @@ fn takes_odd(even: &Scores, i: u8, even_gain: i64, odd: &Scores, j: u8, odd_gain
     sum_at(even, i, even_gain) < sum_at(odd, j, odd_gain)
 }
 
-/// The scores of the first `k` words of one bit more go into `scores`, from those of the states
+/// The scores of the first `k` codewords of one bit more go into `scores`, from those of the states
 /// before with oldest bit 0 and 1, to which the bit adds so much; on a tie those of the first come
 /// first. The answer is their choices.
 fn picked(
@@ -104,7 +104,7 @@ fn weight_of(choice: bool, weight: u32) -> u32
     if choice { weight } else { 0 }
 }
 
-/// As `picked`, where both lists have `k` words, so that neither comes to its end.
+/// As `picked`, where both lists have `k` codewords, so that neither comes to its end.
 fn picked_of_full(
     even: &Scores,
     even_gain: i64,
@@ -135,45 +135,45 @@ fn picked_of_full(
     choices
 }
 
-/// The scores of the first `k` words into a state go into `scores`, where the bit adds `gain`
+/// The scores of the first `k` codewords into a state go into `scores`, where the bit adds `gain`
 /// behind oldest bit 0; the answer is their choices. Both generators, 753 and 561 octal
 /// (TIA/EIA-95-B, 7.1.3.1.3.1), tap the oldest bit, so behind oldest bit 1 the bit takes as much
 /// off.
-fn picked_into(row: &[Scores], state: u8, gain: i64, k: u8, scores: &mut Scores) -> u32
-    requires whole { length row.now ≡ 256 }
+fn picked_into(column: &[Scores], state: u8, gain: i64, k: u8, scores: &mut Scores) -> u32
+    requires whole { length column.now ≡ 256 }
     requires few { k ≤ 16 }
     requires small { unsigned_abs gain ≤ 2 ^ 62 }
-    requires room { (t : ℕ) → t < 256 → All (LeavesRoom gain) (get_or row.now t []) }
-    ensures { HasPicks scores.new result (picks_by row.now gain k state) }
+    requires room { (t : ℕ) → t < 256 → All (LeavesRoom gain) (get_or column.now t []) }
+    ensures { HasPicks scores.new result (picks_by column.now gain k state) }
 {
     let before = 2 * (state % 128) as usize;
-    picked(&row[before], gain, &row[before + 1], -gain, k, scores)
+    picked(&column[before], gain, &column[before + 1], -gain, k, scores)
 }
 
-/// The scores and the choices of the first `k` words into all states, one bit further, by the soft
-/// values of its two symbols.
+/// The scores and the choices of the first `k` codewords into all states, one bit further, by the
+/// soft values of its two symbols.
 pub fn step(
-    row: &[Scores],
+    column: &[Scores],
     first: i64,
     second: i64,
     k: u8,
     next: &mut [Scores],
     choices: &mut Choices,
 )
-    requires whole { length row.now ≡ 256 }
+    requires whole { length column.now ≡ 256 }
     requires whole_next { length next.old ≡ 256 }
     requires few { k ≤ 16 }
     requires fits { unsigned_abs first + unsigned_abs second ≤ 2 ^ 62 }
     requires room { (t : ℕ) → t < 256 →
         All (λ s. unsigned_abs s + (unsigned_abs first + unsigned_abs second) ≤ 2 ^ 62)
-        (get_or row.now t []) }
+        (get_or column.now t []) }
     ensures whole { length next.new ≡ 256 }
     ensures each { (t : ℕ) → t < 256 → HasPicks (get_or next.new t []) (get_or choices.new t 0)
-        (picks_into row.now first second k t) }
+        (picks_into column.now first second k t) }
 {
     let gains = gains(first, second);
     for state in 0..256usize {
         let gain = gain_at(&gains, state as u8);
-        choices[state] = picked_into(row, state as u8, gain, k, &mut next[state]);
+        choices[state] = picked_into(column, state as u8, gain, k, &mut next[state]);
     }
 }

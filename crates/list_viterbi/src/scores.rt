@@ -1,10 +1,10 @@
-//! The scores of the first words into a state.
+//! The scores of the first codewords into a state.
 
 ghost use Rattle.std.specs.Prelude.{◌≡◌, ◌<◌, ◌≤◌, [], ◌∷◌, ◌++◌, length, slice_get, Some};
 
 use std::marker::Model;
 
-/// The scores of at most 16 words, in the order of the words.
+/// The scores of at most 16 codewords, in the order of the codewords.
 ///
 /// Contracts see the list.
 #[derive(Drop)]
@@ -24,7 +24,7 @@ impl Model for Scores {
 }
 
 impl Scores {
-    /// The scores of no words.
+    /// The scores of no codewords.
     pub fn empty() -> Scores
         ensures { result ≡ [] }
     {
@@ -34,14 +34,14 @@ impl Scores {
         }
     }
 
-    /// Leaves no words.
+    /// Leaves no codewords.
     pub fn clear(&mut self)
         ensures { self.new ≡ [] }
     {
         self.count = 0;
     }
 
-    /// How many words there are.
+    /// How many codewords there are.
     pub fn len(&self) -> u8
         ensures value { result ≡ length self.now }
         ensures most { result ≤ 16 }
@@ -49,7 +49,7 @@ impl Scores {
         self.count
     }
 
-    /// The score of word `i`, counted from 0.
+    /// The score of codeword `i`, counted from 0.
     pub fn get(&self, i: u8) -> i64
         requires { i < length self.now }
         ensures value { slice_get self.now i ≡ Some result }

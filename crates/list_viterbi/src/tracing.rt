@@ -1,14 +1,14 @@
-//! Rows of choices, and the words that they lead back to.
+//! Columns of choices, and the codewords that they lead back to.
 
 ghost use Rattle.std.specs.Prelude.{◌≡◌, ◌<◌, ◌≤◌, ◌%◌, length, get_or, map};
 ghost use Rattle.chip_core.specs.Bits.{bit_of};
 ghost use Rattle.list_viterbi.specs.Picks.{ones_below, pointer_of};
-ghost use Rattle.list_viterbi.specs.Rows.{path, origin, entry_at};
+ghost use Rattle.list_viterbi.specs.Columns.{path, origin, entry_at};
 
+use crate::codewords::{Codewords, Entry};
 use crate::finds::{Find, Finds};
 use crate::picking::Choices;
-use crate::words::{Entry, Words};
-use viterbi::{Word, bits_of};
+use viterbi::{Codeword, bits_of};
 
 /// Bit `place` of a state's choices.
 fn is_odd(choices: u32, place: u8) -> bool
@@ -18,7 +18,7 @@ fn is_odd(choices: u32, place: u8) -> bool
     choices >> place & 1 == 1
 }
 
-/// How many of the words below a place come from the state with oldest bit 1.
+/// How many of the codewords below a place come from the state with oldest bit 1.
 fn ones_below(choices: u32, place: u8) -> u8
     requires { place ≤ 32 }
     ensures value { result ≡ ones_below choices place }
@@ -31,8 +31,8 @@ fn ones_below(choices: u32, place: u8) -> u8
     ones
 }
 
-/// Where the word at a place of a state's list comes from: twice the place in the list of the state
-/// before, plus that state's oldest bit.
+/// Where the codeword at a place of a state's list comes from: twice the place in the list of the
+/// state before, plus that state's oldest bit.
 fn pointer_at(choices: &Choices, state: u8, place: u8) -> u8
     ensures { result ≡ pointer_of (get_or choices.now state 0) (place % 16) }
 {
@@ -46,51 +46,51 @@ fn pointer_at(choices: &Choices, state: u8, place: u8) -> u8
     }
 }
 
-/// The bits that the rows lead back to from a place in a state's list go into `bits`; the answer is
-/// the state before them.
-fn trace_back(rows: &[Choices], end: u8, place: u8, bits: &mut [bool]) -> u8
-    requires { length bits.old ≡ length rows.now }
-    ensures start { result ≡ origin rows.now (length rows.now) end place }
-    ensures bits { bits.new ≡ path rows.now (length rows.now) end place }
+/// The bits that the columns lead back to from a place in a state's list go into `bits`; the answer
+/// is the state before them.
+fn trace_back(columns: &[Choices], end: u8, place: u8, bits: &mut [bool]) -> u8
+    requires { length bits.old ≡ length columns.now }
+    ensures start { result ≡ origin columns.now (length columns.now) end place }
+    ensures bits { bits.new ≡ path columns.now (length columns.now) end place }
 {
     let mut state = end;
     let mut rank = place;
-    for back in 0..rows.len() {
-        let at = rows.len() - 1 - back;
+    for back in 0..columns.len() {
+        let at = columns.len() - 1 - back;
         bits[at] = state >= 128;
-        let pointer = pointer_at(&rows[at], state, rank);
+        let pointer = pointer_at(&columns[at], state, rank);
         state = 2 * (state % 128) + pointer % 2;
         rank = pointer / 2;
     }
     state
 }
 
-/// The word that the rows, one for each bit, lead back to from a place in a state's list, with its
-/// score.
-fn traced(rows: &[Choices], find: &Find) -> Entry
-    requires { length rows.now ≤ 576 }
-    ensures { result ≡ entry_at rows.now find.now }
+/// The codeword that the columns, one for each bit, lead back to from a place in a state's list,
+/// with its score.
+fn traced(columns: &[Choices], find: &Find) -> Entry
+    requires { length columns.now ≤ 576 }
+    ensures { result ≡ entry_at columns.now find.now }
 {
     let mut path = [false; 576];
-    let start = trace_back(rows, find.state, find.rank, &mut path[..rows.len()]);
-    let word = Word {
+    let start = trace_back(columns, find.state, find.rank, &mut path[..columns.len()]);
+    let codeword = Codeword {
         start: start.reverse_bits(),
-        bits: bits_of(&path[..rows.len()]),
+        bits: bits_of(&path[..columns.len()]),
     };
     Entry {
-        word,
+        word: codeword,
         score: find.score,
     }
 }
 
-/// The words that the rows lead back to, with their scores.
-pub fn all_traced(rows: &[Choices], finds: &Finds) -> Words
-    requires { length rows.now ≤ 576 }
-    ensures { result ≡ map (entry_at rows.now) finds.now }
+/// The codewords that the columns lead back to, with their scores.
+pub fn all_traced(columns: &[Choices], finds: &Finds) -> Codewords
+    requires { length columns.now ≤ 576 }
+    ensures { result ≡ map (entry_at columns.now) finds.now }
 {
-    let mut words = Words::empty();
+    let mut codewords = Codewords::empty();
     for i in 0..finds.len() {
-        words.push(traced(rows, finds.get(i)));
+        codewords.push(traced(columns, finds.get(i)));
     }
-    words
+    codewords
 }

@@ -1,4 +1,4 @@
-pub mod FirstWords
+pub mod FirstCodewords
 pub mod Candidates
 pub mod Choice
 pub mod SentFrames

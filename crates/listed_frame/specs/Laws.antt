@@ -1,23 +1,23 @@
 -- The laws of listed frames.
 use Rattle.std.specs.Prelude.{◌≡◌, ℕ, ◌*◌, ◌<◌, Bool, true, List, length, ℤ, pos}
-use Rattle.quality_bits.specs.TrafficWords.{information_of}
+use Rattle.quality_bits.specs.TrafficCodewords.{information_of}
 use Rattle.quality_bits.specs.declared.rate.Rate.{Rate}
 use Rattle.frame_decoder.specs.TrafficFrames.{frame_symbols, decoded}
-use Rattle.frame_decoder.specs.Laws.{frame_word, ShowSymbols, IsUnshared, kept_count}
+use Rattle.frame_decoder.specs.Laws.{frame_codeword, ShowSymbols, IsUnshared, kept_count}
 use Rattle.listed_frame.specs.ListedFrames.{listed}
 
--- with one word of each rate the frame is that of the best words
-abbrev pub IsDecodedByOneWord : Type 0
-IsDecodedByOneWord =
+-- with one codeword of each rate the frame is that of the best codewords
+abbrev pub IsDecodedByOneCodeword : Type 0
+IsDecodedByOneCodeword =
     (replaced : List ℕ) (softs : List ℤ) → listed 1 replaced softs ≡ decoded replaced softs
 
--- soft values that show the symbols of a frame which no other word shares give that frame, however
--- many words are listed
+-- soft values that show the symbols of a frame which no other codeword shares give that frame,
+-- however many codewords are listed
 abbrev pub IsSentFrameListed : Type 0
 IsSentFrameListed =
     (k strength : ℕ) (replaced : List ℕ) (rate : Rate) (information : List Bool)
     (softs : List ℤ) →
-    let w = frame_word rate information in
+    let w = frame_codeword rate information in
     0 < k → 0 < strength → length replaced < 384 → length softs ≡ 384 →
     length information ≡ information_of rate →
     ShowSymbols replaced strength (frame_symbols rate w) softs → IsUnshared replaced rate w →

@@ -27,10 +27,10 @@ pub use Rattle.chip_core.specs.Fields.{FieldsFit}
 pub use Rattle.chip_core.specs.declared.assignment.Traffic.{Traffic}
 pub use Rattle.chip_core.specs.declared.check_form.CheckForm.{CheckForm}
 pub use Rattle.chip_core.specs.declared.sample.Sample.{Sample}
-pub use Rattle.frame_decoder.proofs.RateWords.{length-rate_word}
+pub use Rattle.frame_decoder.proofs.RateCodewords.{length-rate_codeword}
 pub use Rattle.frame_decoder.specs.Spans.{own_bits, paging_channel}
-pub use Rattle.frame_decoder.specs.TrafficFrames.{best_candidate, better, command, frame_bits, group_sums, has_quality, not_good, preferred}
-pub use Rattle.frame_decoder.specs.TrafficFrames.{rate_frame, rate_word, unreplaced}
+pub use Rattle.frame_decoder.specs.TrafficFrames.{best_candidate, better, power_bit, frame_bits, group_sums, has_quality, not_good}
+pub use Rattle.frame_decoder.specs.TrafficFrames.{preferred, rate_frame, rate_codeword, unreplaced}
 unfoldable pub use Rattle.frame_decoder.specs.TrafficFrames.{decoded}
 pub use Rattle.frame_decoder.specs.declared.power.PowerSofts.{PowerSofts}
 pub use Rattle.frame_decoder.specs.declared.traffic.Decoded.{Decoded}
@@ -54,10 +54,10 @@ pub use Rattle.heard_events.specs.Noted.{all_noted, body_noted, moment_from, not
 pub use Rattle.heard_events.specs.PagingEvents.{page_event, page_in, pages_behind}
 unfoldable pub use Rattle.heard_events.specs.PagingEvents.{bits_before, bits_up_to, page_at, pages_from}
 pub use Rattle.heard_events.specs.PagingStreams.{paging_rate, paging_stream}
-pub use Rattle.heard_events.specs.Scrambled.{turned, unscrambled}
+pub use Rattle.heard_events.specs.Scrambled.{descrambled, unscrambled}
 pub use Rattle.heard_events.specs.Signaling.{capsule_with, message_events, signal_in, signal_of}
 unfoldable pub use Rattle.heard_events.specs.Signaling.{message_at, signal_at, signals_before}
-pub use Rattle.heard_events.specs.SoftFrames.{power_of, soft_frame, soft_frames, unturned_at}
+pub use Rattle.heard_events.specs.SoftFrames.{power_of, soft_frame, soft_frames, raw_at}
 unfoldable pub use Rattle.heard_events.specs.SoftFrames.{frames_within}
 pub use Rattle.heard_events.specs.SpelledMessages.{SpelledMessage, SpelledPage, SpelledSignal}
 pub use Rattle.heard_events.specs.Streams.{Stream, finger_end, frame_end, frame_softs, frame_start, is_in_file, known_at, span_first}
@@ -67,8 +67,8 @@ pub use Rattle.heard_events.specs.SyncEvents.{events_of, heard_in}
 unfoldable pub use Rattle.heard_events.specs.SyncEvents.{frames_before, heard_at, sync_capsule_at, sync_events_at}
 pub use Rattle.heard_events.specs.Timing.{IsTimed}
 unfoldable pub use Rattle.heard_events.specs.Timing.{stream_end}
-pub use Rattle.heard_events.specs.TrafficEvents.{all_sums, frame_event, if_followed, unturned_softs}
-unfoldable pub use Rattle.heard_events.specs.TrafficEvents.{commands_at, decoded_at}
+pub use Rattle.heard_events.specs.TrafficEvents.{all_sums, frame_event, if_followed, raw_softs}
+unfoldable pub use Rattle.heard_events.specs.TrafficEvents.{power_bits_at, decoded_at}
 pub use Rattle.heard_events.specs.TrafficStreams.{chips_behind, frame_known, frame_state, has_frame, replaced_in, traffic_start}
 pub use Rattle.heard_events.specs.Tuning.{Tuning, finger_of, fingers_of, sync_stream, tuning_by}
 pub use Rattle.heard_events.specs.declared.channel.Channel.{Channel}
@@ -102,7 +102,7 @@ pub use Rattle.pilot_sets.specs.declared.standing.PilotSets.{PilotSets}
 pub use Rattle.pilot_sets.specs.declared.strengths.Strength.{Strength}
 pub use Rattle.quality_bits.specs.Pieces.{StandsFor, piece}
 unfoldable pub use Rattle.quality_bits.specs.Pieces.{capsule_ending}
-pub use Rattle.quality_bits.specs.TrafficWords.{information_of}
+pub use Rattle.quality_bits.specs.TrafficCodewords.{information_of}
 pub use Rattle.quality_bits.specs.declared.rate.Rate.{Rate}
 pub use Rattle.quality_bits.specs.declared.rate.Rate.TheVariants.{R1200, R2400, R4800, R9600}
 pub use Rattle.rake_finger.specs.Held.{Held, HoldsLast}

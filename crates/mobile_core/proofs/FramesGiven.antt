@@ -3,7 +3,7 @@ use Rattle.mobile_core.proofs.Common.{◌≡◌, ℕ, ◌+◌, ◌*◌, ◌<◌,
 use Rattle.mobile_core.proofs.Common.{ap, ◌∙◌, arith, ℤ, Option, length-append, map-append, places, Sample, after, frame_chips, scrambling}
 use Rattle.mobile_core.proofs.Common.{channel_stream, has_power_control, mask_of, state_at, IsAt, IsDueAt, clock_from, first_frame}
 use Rattle.mobile_core.proofs.Common.{frame_come, frame_heard, HasGiven, AreNear, unscrambled, frames_within, power_of, soft_frame}
-use Rattle.mobile_core.proofs.Common.{soft_frames, unturned_at, is_in_file, stream_end, Tuning, Channel, FrameReceiver, Mark, PowerControl}
+use Rattle.mobile_core.proofs.Common.{soft_frames, raw_at, is_in_file, stream_end, Tuning, Channel, FrameReceiver, Mark, PowerControl}
 use Rattle.mobile_core.proofs.Common.{SoftFrame}
 use Rattle.mobile_core.proofs.ClockSteps.{before_next, clock_come, clock_heard, clock_more, clock_new, due_inside, from_next}
 use Rattle.heard_events.proofs.FrameTimes.{known_between, outside_low}
@@ -12,30 +12,30 @@ use Rattle.chip_core.proofs.Ranges as ranges
 
 -- WHAT IS RECEIVED OF A FRAME
 abbrev frame_by : ℕ → ℕ → List ℤ → List ℤ → Option PowerControl → SoftFrame
-frame_by number end unturned turned' power = record {
+frame_by number end raw descrambled' power = record {
   number = number;
   end = end;
-  unturned = unturned;
-  turned = turned';
+  raw = raw;
+  descrambled = descrambled';
   power = power;
 }
 
 module _ (t : Tuning) (channel : Channel) (m : Mark) where
   -- it is made of these parts
   module _ {r : FrameReceiver} {n : ℕ} (has : HasGiven t channel m r n) where
-    pub frame_is : (samples : List Sample) (number end : ℕ) (unturned turned' : List ℤ)
+    pub frame_is : (samples : List Sample) (number end : ℕ) (raw descrambled' : List ℤ)
         (power : Option PowerControl) → number ≡ r.clock.have → end ≡ r.clock.end →
-        unturned ≡ unturned_at t channel m samples r.clock.have →
-        turned'
+        raw ≡ raw_at t channel m samples r.clock.have →
+        descrambled'
         ≡ unscrambled
-        (scrambling (after r.scrambling.state (24576 * number)) r.scrambling.mask) unturned →
-        power ≡ power_of channel m number unturned →
-        frame_by number end unturned turned' power ≡ soft_frame t channel m samples r.clock.have
+        (scrambling (after r.scrambling.state (24576 * number)) r.scrambling.mask) raw →
+        power ≡ power_of channel m number raw →
+        frame_by number end raw descrambled' power ≡ soft_frame t channel m samples r.clock.have
     unfolding stream_end
-    frame_is samples number end unturned turned' power number_is end_is soft turned_is power_is =
+    frame_is samples number end raw descrambled' power number_is end_is soft descrambled_is power_is =
         let s = channel_stream t channel m in
         let k : ℕ = r.clock.have in
-        let heard : List ℤ = unturned_at t channel m samples k in
+        let heard : List ℤ = raw_at t channel m samples k in
         let bits : scrambling (after r.scrambling.state (24576 * number)) r.scrambling.mask
         ≡ s.scrambling k =
         ap (λ (i : ℕ). scrambling (after r.scrambling.state (24576 * i)) r.scrambling.mask)
@@ -43,16 +43,16 @@ module _ (t : Tuning) (channel : Channel) (m : Mark) where
         ∙ ap (λ (state : ℕ). scrambling state r.scrambling.mask) (has.state_is k)
         ∙ ap (scrambling (state_at channel m k)) has.mask_is
         ∙ scrambled_by t channel m k in
-        let turn = turned_is
-        ∙ ap (λ (b : List Bool). unscrambled b unturned) bits
+        let turn = descrambled_is
+        ∙ ap (λ (b : List Bool). unscrambled b raw) bits
         ∙ ap (unscrambled (s.scrambling k)) soft in
         let powered = power_is
-        ∙ ap (λ (i : ℕ). power_of channel m i unturned) number_is
+        ∙ ap (λ (i : ℕ). power_of channel m i raw) number_is
         ∙ ap (power_of channel m k) soft in
         let ends = end_is ∙ has.clocked.end_is in
-        ap (λ (i : ℕ). frame_by i end unturned turned' power) number_is
-        ∙ ap (λ (e : ℕ). frame_by k e unturned turned' power) ends
-        ∙ ap (λ (u : List ℤ). frame_by k (stream_end s k) u turned' power) soft
+        ap (λ (i : ℕ). frame_by i end raw descrambled' power) number_is
+        ∙ ap (λ (e : ℕ). frame_by k e raw descrambled' power) ends
+        ∙ ap (λ (u : List ℤ). frame_by k (stream_end s k) u descrambled' power) soft
         ∙ ap (λ (v : List ℤ). frame_by k (stream_end s k) heard v power) turn
         ∙ ap (frame_by k (stream_end s k) heard (unscrambled (s.scrambling k) heard)) powered
 

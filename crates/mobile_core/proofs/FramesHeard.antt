@@ -1,11 +1,11 @@
 -- What the receiver of a traffic channel stands for, step by step.
 use Rattle.mobile_core.proofs.Common.{◌≡◌, ℕ, ◌+◌, ◌-◌, ◌*◌, ◌/◌, ◌^◌, ◌<◌, ◌≤◌, List, [], ◌++◌, Bool, ℤ, length, map, take, refl, sym}
 use Rattle.mobile_core.proofs.Common.{length-append, ap, ◌∙◌, arith, inl, inr, subst, true, Option, None, Some, IsTrue, is_some, cases_lt}
-use Rattle.mobile_core.proofs.Common.{cases_order, take_all, places, Sample, command, decoded, PowerSofts, Decoded, after, traffic_mask}
+use Rattle.mobile_core.proofs.Common.{cases_order, take_all, places, Sample, power_bit, decoded, PowerSofts, Decoded, after, traffic_mask}
 use Rattle.mobile_core.proofs.Common.{after-after, Standing, StandsFor, softs, Finger, Data, power_places, scrambling, sums_on, all_fingers}
 use Rattle.mobile_core.proofs.Common.{legs_of, subchannels, heard_from, legs_by, moment_of, moment_place, told_by, all_noted, page_event}
-use Rattle.mobile_core.proofs.Common.{pages_behind, unscrambled, message_events, frame_end, all_sums, commands_at, decoded_at}
-use Rattle.mobile_core.proofs.Common.{unturned_softs, HasTold, HearsWith, IsSoundTraffic, IsTrafficDue, kept_by, told_left_with}
+use Rattle.mobile_core.proofs.Common.{pages_behind, unscrambled, message_events, frame_end, all_sums, power_bits_at, decoded_at}
+use Rattle.mobile_core.proofs.Common.{raw_softs, HasTold, HearsWith, IsSoundTraffic, IsTrafficDue, kept_by, told_left_with}
 use Rattle.mobile_core.proofs.Common.{chips_behind, frame_known, frame_state, has_frame, replaced_in, traffic_start, Tuning, Event, Leg}
 use Rattle.mobile_core.proofs.Common.{Mark, SetsKeeper, Traffic, SpelledSignal, TrafficReceiver}
 use Rattle.mobile_core.specs.TrafficReceiving.{fingers_in}
@@ -311,7 +311,7 @@ module _ {t : Tuning} {traffic : Traffic} {m : Mark} {r : TrafficReceiver} {hear
   -- what is heard of the frame that has just come
   pub softs_here : moment_of traffic r.have ≤ r.sets.passed →
       softs heard (fingers_in r) Data r.start
-      ≡ unturned_softs t traffic m (legs_by traffic m kept) heard r.have
+      ≡ raw_softs t traffic m (legs_by traffic m kept) heard r.have
   softs_here told =
       ap (λ (fs : List Finger). softs heard fs Data r.start) (fingers_are told)
       ∙ ap (softs heard (all_fingers t.phase t.deltas (legs_by traffic m kept r.have)) Data)
@@ -346,7 +346,7 @@ module _ {t : Tuning} {traffic : Traffic} {m : Mark} {r : TrafficReceiver} {hear
   -- the one behind it.
   pub hears_come : (fresh : List ℤ) (power : PowerSofts) (start end : ℕ) (legs : List Leg) →
       r.have ≡ r.next → r.end ≡ length heard → start ≡ r.start + 24576 →
-      fresh ≡ unturned_softs t traffic m (legs_by traffic m kept) heard r.have →
+      fresh ≡ raw_softs t traffic m (legs_by traffic m kept) heard r.have →
       frames.subchannels power ≡ all_sums t traffic m (legs_by traffic m kept) heard r.have →
       (moment_of traffic (r.have + 1) ≡ r.sets.passed →
       legs ≡ legs_of r.sets.mark r.sets.sets) →
@@ -393,7 +393,7 @@ module _ {t : Tuning} {traffic : Traffic} {m : Mark} {r : TrafficReceiver} {hear
         ended = st.ended;
         known = λ come. omega (arith, here, known, ended);
         softs_are = λ come. softs_is
-            ∙ ap (unturned_softs t traffic m (legs_by traffic m kept) heard) idle;
+            ∙ ap (raw_softs t traffic m (legs_by traffic m kept) heard) idle;
         power_is = λ come. power_is
             ∙ ap (all_sums t traffic m (legs_by traffic m kept) heard) idle;
         framed = st.framed;
@@ -409,7 +409,7 @@ module _ {t : Tuning} {traffic : Traffic} {m : Mark} {r : TrafficReceiver} {hear
         end = r1.end + 24576;
       }) { legs = r2.legs; end = r2.end } →
       r.have ≡ r.next → r.end ≡ length heard →
-      r1.softs ≡ unturned_softs t traffic m (legs_by traffic m kept) heard r.have →
+      r1.softs ≡ raw_softs t traffic m (legs_by traffic m kept) heard r.have →
       frames.subchannels r1.power ≡ all_sums t traffic m (legs_by traffic m kept) heard r.have →
       ((r1.start + 24576 - r1.sets.mark.sample) / 98304 ≡ r1.sets.passed →
       r2.legs ≡ legs_of r1.sets.mark r1.sets.sets) →
@@ -486,28 +486,28 @@ module _ {t : Tuning} {traffic : Traffic} {m : Mark} {r : TrafficReceiver} {hear
 
   module _ (come : r.next < r.have) where
     -- what is decoded of the frame that is due
-    pub frame_here : (replaced : List ℕ) (bits : List Bool) (turned : List ℤ) (frame : Decoded) →
+    pub frame_here : (replaced : List ℕ) (bits : List Bool) (descrambled : List ℤ) (frame : Decoded) →
         replaced
         ≡ power_places (after r.scrambling.state (24576 * r.next)) r.scrambling.mask →
         bits ≡ scrambling (after r.scrambling.state (24576 * r.next)) r.scrambling.mask →
-        turned ≡ unscrambled bits r.softs → frame ≡ decoded replaced turned →
+        descrambled ≡ unscrambled bits r.softs → frame ≡ decoded replaced descrambled →
         frame ≡ decoded_at t traffic m (legs_by traffic m kept) heard r.next
     unfolding decoded_at
-    frame_here replaced bits turned frame replaced_is bits_is turned_is frame_is =
+    frame_here replaced bits descrambled frame replaced_is bits_is descrambled_is frame_is =
         let k : ℕ = r.next in
         frame_is
-        ∙ ap (λ (ps : List ℕ). decoded ps turned) (replaced_is ∙ places_are)
+        ∙ ap (λ (ps : List ℕ). decoded ps descrambled) (replaced_is ∙ places_are)
         ∙ ap (decoded (replaced_in traffic m k))
-        (turned_is
+        (descrambled_is
         ∙ ap (λ (b : List Bool). unscrambled b r.softs) (bits_is ∙ bits_are)
         ∙ ap (unscrambled (scrambling (frame_state traffic m k) (traffic_mask traffic.esn)))
         (st.softs_are come))
 
     -- and its power control bits
-    pub commands_here : (told : List Bool) →
-        told ≡ map (command (frames.subchannels r.power)) (places 16) →
-        told ≡ commands_at t traffic m (legs_by traffic m kept) heard r.next
-    unfolding commands_at
-    commands_here told told_is =
+    pub power_bits_here : (told : List Bool) →
+        told ≡ map (power_bit (frames.subchannels r.power)) (places 16) →
+        told ≡ power_bits_at t traffic m (legs_by traffic m kept) heard r.next
+    unfolding power_bits_at
+    power_bits_here told told_is =
         told_is
-        ∙ ap (λ (sums : List (List ℤ)). map (command sums) (places 16)) (st.power_is come)
+        ∙ ap (λ (sums : List (List ℤ)). map (power_bit sums) (places 16)) (st.power_is come)

@@ -10,7 +10,7 @@ use Rattle.mobile_core.proofs.Common.{Event, Mark, Traffic, SpelledSignal, Traff
 use Rattle.heard_events.proofs.FrameGrowth.{signals_more}
 use Rattle.mobile_core.proofs.FramesHeard.{closes, due_inside}
 use Rattle.heard_events.proofs.TrafficGrowth.{told_left, told_next}
-use Rattle.heard_events.specs.TrafficEvents.{commands_at, decoded_at, frame_event, frame_heard as heard_frame}
+use Rattle.heard_events.specs.TrafficEvents.{power_bits_at, decoded_at, frame_event, frame_heard as heard_frame}
 use Rattle.paging_message.specs.declared.message.PagingMessage.TheVariants as pages
 use Rattle.traffic_message.specs.declared.body.TrafficBody.TheVariants as bodies
 use Rattle.heard_events.specs.declared.event.Event.TheVariants as events
@@ -59,7 +59,7 @@ pub noted_legs : (m : Mark) (pn first : ℕ) (event : Event) (s : Standing) →
 noted_legs m pn first (events.Pilot phase energy) s = refl
 noted_legs m pn first (events.Sync n capsule message) s = refl
 noted_legs m pn first (events.Paging n capsule message) s = page_legs m pn message s
-noted_legs m pn first (events.Frame n rate good bits commands) s = refl
+noted_legs m pn first (events.Frame n rate good bits power_bits) s = refl
 noted_legs m pn first (events.Traffic n capsule message) s = body_legs m first message.body s
 noted_legs m pn first (events.Sets n time active candidate report) s = refl
 
@@ -185,7 +185,7 @@ module _ {t : Tuning} {traffic : Traffic} {m : Mark} {heard : List Sample} {kept
       -- the frame's event is the first of those left, and what it completes follows
       pub told_here : (event : Event) (told : List Bool) (message : Option SpelledSignal)
           (check : CheckForm) → event ≡ frame_event (length heard) frame told →
-          told ≡ commands_at t traffic m (legs_by traffic m kept) heard r.next →
+          told ≡ power_bits_at t traffic m (legs_by traffic m kept) heard r.next →
           check ≡ t.check16 →
           ((signals : List (List Bool)) → StandsFor r.framer signals →
           message ≡ signal_in check (capsule_with signals (signal_of frame))) → r.kept ≡ None →
@@ -217,7 +217,7 @@ module _ {t : Tuning} {traffic : Traffic} {m : Mark} {heard : List Sample} {kept
           ((signals : List (List Bool)) → StandsFor r.framer signals →
           StandsFor framer (signals ++ option_to_list (signal_of frame))) →
           event ≡ frame_event (length heard) frame told →
-          told ≡ commands_at t traffic m (legs_by traffic m kept) heard r.next →
+          told ≡ power_bits_at t traffic m (legs_by traffic m kept) heard r.next →
           check ≡ t.check16 →
           ((signals : List (List Bool)) → StandsFor r.framer signals →
           message ≡ signal_in check (capsule_with signals (signal_of frame))) → r.kept ≡ None →

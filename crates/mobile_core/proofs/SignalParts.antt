@@ -1,9 +1,9 @@
 -- The signaling of a decoded frame.
 use Rattle.mobile_core.proofs.Common.{◌≡◌, ℕ, ◌≤◌, Bool, true, false, List, length, take, drop, ℤ, arith, Option, Some, None, length-drop}
 use Rattle.mobile_core.proofs.Common.{[], ◌∷◌, cond, get_or, if◌then◌else◌, int_lt, IfSome, length-take-le, best_candidate, better, decoded}
-use Rattle.mobile_core.proofs.Common.{frame_bits, has_quality, not_good, preferred, rate_frame, rate_word, unreplaced, Decoded}
-use Rattle.mobile_core.proofs.Common.{length-rate_word, information_of, Rate, R9600, R4800, R2400, R1200, primary_bits, split, split_9600}
-use Rattle.mobile_core.proofs.Common.{Mux}
+use Rattle.mobile_core.proofs.Common.{frame_bits, has_quality, not_good, preferred, rate_frame, rate_codeword, unreplaced, Decoded}
+use Rattle.mobile_core.proofs.Common.{length-rate_codeword, information_of, Rate, R9600, R4800, R2400, R1200, primary_bits, split}
+use Rattle.mobile_core.proofs.Common.{split_9600, Mux}
 
 -- A DECODED FRAME HAS THE INFORMATION BITS OF ITS RATE
 abbrev IsLong : Decoded → Type 0
@@ -20,20 +20,20 @@ within R4800 = omega arith
 within R2400 = omega arith
 within R1200 = omega arith
 
--- the information bits of a rate's best word
+-- the information bits of a rate's best codeword
 information_long : (softs : List ℤ) (rate : Rate) →
-    length (take (information_of rate) (rate_word softs rate).bits) ≡ information_of rate
+    length (take (information_of rate) (rate_codeword softs rate).bits) ≡ information_of rate
 information_long softs rate =
-    let long = length-rate_word softs rate in
-    length-take-le (information_of rate) (rate_word softs rate).bits
+    let long = length-rate_codeword softs rate in
+    length-take-le (information_of rate) (rate_codeword softs rate).bits
     (omega (arith, long, within rate))
 
 -- a rate's frame against the best of the lower rates
 preferred_long : (softs : List ℤ) (rate : Rate) (lower : Decoded) → IsLong lower →
-    IsLong (preferred (has_quality rate (rate_word softs rate).bits) (rate_frame softs rate) lower)
+    IsLong (preferred (has_quality rate (rate_codeword softs rate).bits) (rate_frame softs rate) lower)
 preferred_long softs rate lower long =
     let higher = rate_frame softs rate in
-    either_long (has_quality rate (rate_word softs rate).bits) (better higher lower) lower
+    either_long (has_quality rate (rate_codeword softs rate).bits) (better higher lower) lower
     (either_long (int_lt higher.score lower.score) lower higher long (information_long softs rate))
     long
 
@@ -48,7 +48,7 @@ decoded_long replaced softs =
     let quarter_long : IsLong quarter =
     preferred_long kept R2400 (rate_frame kept R1200) (information_long kept R1200) in
     let half_long : IsLong half = preferred_long kept R4800 quarter quarter_long in
-    either_long best.good best (not_good (rate_word kept R9600).bits best.score)
+    either_long best.good best (not_good (rate_codeword kept R9600).bits best.score)
     (preferred_long kept R9600 half half_long) (information_long kept R9600)
 
 -- ITS SIGNALING IS SOME BITS LONG

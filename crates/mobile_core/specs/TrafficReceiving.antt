@@ -19,7 +19,7 @@ use Rattle.heard_events.specs.Noted.{all_noted, noted_with}
 use Rattle.mobile_core.specs.SetsKeeping.{IsSoundKeeper, coming_place}
 use Rattle.heard_events.specs.Signaling.{message_events, signals_before}
 use Rattle.heard_events.specs.Streams.{frame_end}
-use Rattle.heard_events.specs.TrafficEvents.{all_sums, unturned_softs}
+use Rattle.heard_events.specs.TrafficEvents.{all_sums, raw_softs}
 use Rattle.heard_events.specs.TrafficStreams.{frame_known, frame_state, traffic_start}
 use Rattle.heard_events.specs.Tuning.{Tuning}
 use Rattle.heard_events.specs.declared.event.Event.{Event}
@@ -102,7 +102,7 @@ pub record HearsWith (t : Tuning) (traffic : Traffic) (m : Mark) (r : TrafficRec
   pub known : r.next < r.have →
       frame_known t traffic m (legs_by traffic m kept) r.next ≡ length heard
   pub softs_are : r.next < r.have →
-      r.softs ≡ unturned_softs t traffic m (legs_by traffic m kept) heard r.next
+      r.softs ≡ raw_softs t traffic m (legs_by traffic m kept) heard r.next
   pub power_is : r.next < r.have → frames.subchannels r.power
       ≡ all_sums t traffic m (legs_by traffic m kept) heard r.next
   pub framed : StandsFor r.framer

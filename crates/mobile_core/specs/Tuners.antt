@@ -43,7 +43,7 @@ pub record IsTunerStep (before after : Tuner) (samples : List Sample) (step : Tu
   pub left : samples_left after + step.taken ≡ samples_left before
   pub ends : IfSome step.frame (λ (frame : SoftFrame). frame.end ≡ before.ring.taken + step.taken)
   pub small : IfSome step.frame
-      (λ (frame : SoftFrame). sum_by unsigned_abs frame.turned ≤ frame_most)
+      (λ (frame : SoftFrame). sum_by unsigned_abs frame.descrambled ≤ frame_most)
   pub stands : (t : Tuning) (channel : Channel) (m : Mark) (heard : List Sample) →
       IsTunedTo t channel m before heard →
       IsTunedTo t channel m after (heard ++ take step.taken samples)

@@ -6,7 +6,7 @@ use crate::scrambling::Scrambling;
 use crate::softs::unscramble;
 use chip_core::Phase;
 use chip_core::air::DATA_SYMBOLS;
-use frame_decoder::{PowerSofts, commands};
+use frame_decoder::{FrameSofts, PowerSofts, commands};
 use heard_events::{Channel, Mark, PowerControl, SoftFrame};
 use pilot_search::Near;
 use rake_finger::{Fingers, Form, SampleRing, combine_into};
@@ -31,7 +31,7 @@ impl FrameReceiver {
     ghost use Rattle.heard_events.specs.Channels.{IsLawful};
     ghost use Rattle.mobile_core.specs.Clocks.{frame_come, frame_heard};
     ghost use Rattle.mobile_core.specs.FrameReceiving.{HasGiven, IsSoundReceiver};
-    ghost use Rattle.heard_events.specs.SoftFrames.{power_of, soft_frame, unturned_at};
+    ghost use Rattle.heard_events.specs.SoftFrames.{power_of, soft_frame, raw_at};
     ghost use Rattle.mobile_core.specs.Softs.{frame_most};
     ghost use Rattle.mobile_core.specs.Sound.{IsSoundMark};
     ghost use Rattle.heard_events.specs.Tuning.{Tuning};
@@ -72,13 +72,13 @@ impl FrameReceiver {
     }
 
     /// The soft values of the frame whose last sample has just come, as the fingers hear them.
-    fn unturned(&self, ring: &SampleRing, codes: &Codes) -> [i64; DATA_SYMBOLS]
+    fn raw(&self, ring: &SampleRing, codes: &Codes) -> FrameSofts
         requires sound { IsSoundReceiver self.now }
         requires room { ring.now.room ≡ 65536 }
         requires ended { ring.now.taken ≡ self.now.clock.end }
         ensures value { (t : Tuning) (channel : TheChannel) (m : TheMark) (heard : List Sample)
             (taken : ℕ) → HoldsLast ring.now heard → HasGiven t channel m self.now taken →
-            result ≡ unturned_at t channel m heard self.now.clock.have }
+            result ≡ raw_at t channel m heard self.now.clock.have }
         ensures small { sum_by unsigned_abs result ≤ frame_most }
     {
         let mut softs = [0; DATA_SYMBOLS];
@@ -88,23 +88,23 @@ impl FrameReceiver {
     }
 
     /// The power control bits of a frame, from its soft values as the fingers hear them.
-    fn power_in(&self, frame: u64, unturned: &[i64; DATA_SYMBOLS]) -> Option<PowerControl>
+    fn power_in(&self, frame: u64, raw: &FrameSofts) -> Option<PowerControl>
         requires mask { self.now.scrambling.mask < 2 ^ 42 }
         requires frame { frame < 2 ^ 32 }
-        requires small { sum_by unsigned_abs unturned.now ≤ 2 ^ 62 }
+        requires small { sum_by unsigned_abs raw.now ≤ 2 ^ 62 }
         ensures { (t : Tuning) (channel : TheChannel) (m : TheMark) (taken : ℕ) →
             HasGiven t channel m self.now taken →
-            result ≡ power_of channel m frame unturned.now }
+            result ≡ power_of channel m frame raw.now }
     {
         if !self.power {
             return None;
         }
         let replaced = power_places(&self.scrambling.state_at(frame), self.scrambling.mask);
         let mut sums = PowerSofts::empty();
-        sums.push(unturned, &replaced);
+        sums.push(raw, &replaced);
         Some(PowerControl {
             replaced,
-            commands: commands(&sums),
+            power_bits: commands(&sums),
         })
     }
 
@@ -117,18 +117,18 @@ impl FrameReceiver {
             (taken : ℕ) → HoldsLast ring.now heard → HasGiven t channel m self.now taken →
             result ≡ soft_frame t channel m heard self.now.clock.have }
         ensures ends { result.end ≡ ring.now.taken }
-        ensures small { sum_by unsigned_abs result.turned ≤ frame_most }
+        ensures small { sum_by unsigned_abs result.descrambled ≤ frame_most }
     {
         let number = self.clock.coming();
-        let unturned = self.unturned(ring, codes);
-        let mut turned = unturned;
-        unscramble(&self.scrambling.frame_bits(number), &mut turned);
+        let raw = self.raw(ring, codes);
+        let mut descrambled = raw;
+        unscramble(&self.scrambling.frame_bits(number), &mut descrambled);
         SoftFrame {
             number,
             end: self.clock.end(),
-            unturned,
-            turned,
-            power: self.power_in(number, &unturned),
+            raw,
+            descrambled,
+            power: self.power_in(number, &raw),
         }
     }
 
@@ -142,7 +142,7 @@ impl FrameReceiver {
             (taken : ℕ) → HoldsLast ring.now heard → HasGiven t channel m self.old taken →
             result ≡ soft_frame t channel m heard self.old.clock.have }
         ensures ends { result.end ≡ ring.now.taken }
-        ensures small { sum_by unsigned_abs result.turned ≤ frame_most }
+        ensures small { sum_by unsigned_abs result.descrambled ≤ frame_most }
         ensures same { self.new ≡ record self.old {
           clock = frame_heard (frame_come self.old.clock);
         } }

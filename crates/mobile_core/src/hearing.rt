@@ -13,10 +13,10 @@ ghost use Rattle.mobile_core.specs.Sound.{IsSoundMark};
 ghost use Rattle.heard_events.specs.SyncEvents.{events_of, heard_in};
 ghost use Rattle.heard_events.specs.TrafficEvents.{frame_event};
 ghost use Rattle.quality_bits.specs.Pieces.{StandsFor};
-ghost use Rattle.quality_bits.specs.TrafficWords.{information_of};
+ghost use Rattle.quality_bits.specs.TrafficCodewords.{information_of};
 
 use chip_core::air::{OFFSET_CHIPS, SUPERFRAME_BITS, SUPERFRAME_CHIPS};
-use chip_core::{Bits, CheckForm};
+use chip_core::{Bits, CheckForm, PowerBits};
 use frame_decoder::Decoded;
 use heard_events::{Event, Mark, Spelled};
 use long_code::State;
@@ -179,8 +179,8 @@ pub(crate) fn event_of_page(page: Option<Spelled<PagingMessage>>, at: u64) -> Op
 
 /// The event of a frame of the traffic channel, with its power control bits, when so many samples
 /// have been taken.
-pub(crate) fn frame_event(frame: &Decoded, commands: [bool; 16], at: u64) -> Event
-    ensures value { result ≡ frame_event at frame.now commands }
+pub(crate) fn frame_event(frame: &Decoded, power_bits: PowerBits, at: u64) -> Event
+    ensures value { result ≡ frame_event at frame.now power_bits }
     ensures ends { at_of result ≡ at }
     ensures unset { sets_mark result ≡ false }
 {
@@ -189,7 +189,7 @@ pub(crate) fn frame_event(frame: &Decoded, commands: [bool; 16], at: u64) -> Eve
         rate: frame.rate,
         good: frame.good,
         bits: frame.bits,
-        commands,
+        commands: power_bits,
     }
 }
 

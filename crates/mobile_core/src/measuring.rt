@@ -1,4 +1,4 @@
-//! How strong the pilots of the sets are before a moment.
+//! How strong the pilots of the sets are before an evaluation of the sets.
 
 ghost use Rattle.std.specs.Prelude.{◌≡◌, ◌<◌, ◌≤◌, List, length, unsigned_abs};
 ghost use Rattle.std.specs.List.{All};

@@ -19,8 +19,8 @@ use viterbi::Decoder;
 /// when the last of them has come.
 const RING_ROOM: u32 = 65536;
 
-/// The most bits of a word that a handset decodes: three frames of a paging channel at 9,600 bits a
-/// second.
+/// The most bits of a codeword that a handset decodes: three frames of a paging channel at 9,600
+/// bits a second.
 const MOST_BITS: u16 = 576;
 
 /// How many samples a step took, and what it heard.

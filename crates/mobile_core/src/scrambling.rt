@@ -4,7 +4,7 @@ use chip_core::Traffic;
 use chip_core::air::{DATA_FRAME_CHIPS, DATA_SYMBOLS, FRAME_OFFSET_CHIPS};
 use heard_events::{Channel, Mark};
 use long_code::{State, paging_mask, traffic_mask};
-use symbol_path::scramble_bits;
+use symbol_path::{ScramblingBits, scramble_bits};
 
 /// How the frames of a channel are scrambled: by the long code from each frame's first chip
 /// on, under the channel's mask (TIA/EIA-95-B, 7.1.3.1.6).
@@ -79,7 +79,7 @@ impl Scrambling {
     }
 
     /// The scrambling bits of a frame, one for each of its symbols.
-    pub(crate) fn frame_bits(&self, frame: u64) -> [bool; DATA_SYMBOLS]
+    pub(crate) fn frame_bits(&self, frame: u64) -> ScramblingBits
         requires mask { self.now.mask < 2 ^ 42 }
         requires frame { frame < 2 ^ 32 }
         ensures value { result ≡ scrambling (after self.now.state (24576 * frame)) self.now.mask }

@@ -12,7 +12,7 @@ use chip_core::air::DATA_SYMBOLS;
 pub(crate) const MOST_SOFTS: usize = 3 * DATA_SYMBOLS;
 
 /// A soft value, turned in sign where its scrambling bit is 1.
-fn turned_value(bit: bool, soft: i64) -> i64
+fn descrambled_value(bit: bool, soft: i64) -> i64
     requires { unsigned_abs soft ≤ 2 ^ 62 }
     ensures value { result ≡ sign bit *ℤ soft }
     ensures size { unsigned_abs result ≡ unsigned_abs soft }
@@ -29,7 +29,7 @@ pub(crate) fn unscramble(bits: &[bool], softs: &mut [i64])
     ensures small { sum_by unsigned_abs softs.new ≡ sum_by unsigned_abs softs.old }
 {
     for i in 0..bits.len() {
-        softs[i] = turned_value(bits[i], softs[i]);
+        softs[i] = descrambled_value(bits[i], softs[i]);
     }
 }
 

@@ -9,8 +9,8 @@ use crate::sets_keeper::SetsKeeper;
 use crate::softs::unscramble;
 use crate::traffic_softs::{leg_softs, power_softs};
 use chip_core::air::{DATA_FRAME_CHIPS, DATA_SYMBOLS, FRAME_OFFSET_CHIPS};
-use chip_core::{CheckForm, Phase, Traffic};
-use frame_decoder::{Decoded, PowerSofts, commands, traffic_frame};
+use chip_core::{CheckForm, Phase, PowerBits, Traffic};
+use frame_decoder::{Decoded, FrameSofts, PowerSofts, commands, traffic_frame};
 use heard_events::{Event, Mark, Spelled};
 use pilot_search::Near;
 use rake_finger::{Form, SampleRing};
@@ -44,7 +44,7 @@ pub(crate) struct TrafficReceiver {
     scrambling: Scrambling,
     /// The soft values of the frame that is heard next, where it has come, as the fingers hear
     /// them: no scrambling has turned them.
-    softs: [i64; DATA_SYMBOLS],
+    softs: FrameSofts,
     /// Those of its power control bits, by subchannels.
     power: PowerSofts,
     framer: SignalFramer,
@@ -70,7 +70,7 @@ impl TrafficReceiver {
     ghost use Rattle.heard_events.specs.Legs.{subchannels as subchannels_of};
     ghost use Rattle.heard_events.specs.Moments.{legs_by, moment_place};
     ghost use Rattle.mobile_core.specs.Sound.{IsSoundMark};
-    ghost use Rattle.heard_events.specs.TrafficEvents.{commands_at, decoded_at};
+    ghost use Rattle.heard_events.specs.TrafficEvents.{power_bits_at, decoded_at};
     ghost use Rattle.mobile_core.specs.TrafficReceiving.{HasTold, HearsTraffic, IsSoundTraffic};
     ghost use Rattle.mobile_core.specs.TrafficReceiving.{HearsWith, fingers_in, next_end, noted_by};
     ghost use Rattle.mobile_core.specs.TrafficReceiving.{told_left_with, traffic_due};
@@ -85,7 +85,7 @@ impl TrafficReceiver {
     ghost use Rattle.rake_finger.specs.Soft.{softs};
     ghost use Rattle.rake_finger.specs.declared.form.Form.TheVariants.{Data};
     ghost use Rattle.symbol_path.specs.Scrambling.{power_places};
-    ghost use Rattle.quality_bits.specs.TrafficWords.{information_of};
+    ghost use Rattle.quality_bits.specs.TrafficCodewords.{information_of};
 
     /// A receiver that has heard no frame, for a base station at a phase and near it.
     pub(crate) fn open(mark: &Mark, traffic: &Traffic, phase: Phase, near: &Near) -> TrafficReceiver
@@ -269,10 +269,10 @@ impl TrafficReceiver {
             self.kept = None;
             return message_event(&message, at);
         }
-        let (frame, commands) = self.next_frame(decoder);
+        let (frame, power_bits) = self.next_frame(decoder);
         self.kept = hear_signal(&mut self.framer, &frame, check);
         self.next += 1;
-        frame_event(&frame, commands, at)
+        frame_event(&frame, power_bits, at)
     }
 
     /// Takes the active pilots for the frame that comes next, where the last moment that has passed
@@ -305,24 +305,24 @@ impl TrafficReceiver {
     }
 
     /// What the frame that is due says, and its power control bits.
-    fn next_frame(&self, decoder: &mut Decoder) -> (Decoded, [bool; 16])
+    fn next_frame(&self, decoder: &mut Decoder) -> (Decoded, PowerBits)
         requires sound { IsSoundTraffic self.now }
         requires room { decoder.old ≡ 576 }
         ensures frame { (t : Tuning) (traffic : TheTraffic) (m : TheMark)
             (heard : List Sample) (pages : List TheEvent) (told : ℕ → Standing) →
             self.now.next < self.now.have → HearsWith t traffic m self.now heard pages told →
             result.0 ≡ decoded_at t traffic m (legs_by traffic m told) heard self.now.next }
-        ensures commands { (t : Tuning) (traffic : TheTraffic) (m : TheMark)
+        ensures power_bits { (t : Tuning) (traffic : TheTraffic) (m : TheMark)
             (heard : List Sample) (pages : List TheEvent) (told : ℕ → Standing) →
             self.now.next < self.now.have → HearsWith t traffic m self.now heard pages told →
-            result.1 ≡ commands_at t traffic m (legs_by traffic m told) heard self.now.next }
+            result.1 ≡ power_bits_at t traffic m (legs_by traffic m told) heard self.now.next }
         ensures long { length result.0.bits ≡ information_of result.0.rate }
         ensures kept { decoder.new ≡ decoder.old }
     {
         let replaced = power_places(&self.scrambling.state_at(self.next), self.scrambling.mask);
-        let mut turned = self.softs;
-        unscramble(&self.scrambling.frame_bits(self.next), &mut turned);
-        let decoded = traffic_frame(decoder, &turned, &replaced);
+        let mut descrambled = self.softs;
+        unscramble(&self.scrambling.frame_bits(self.next), &mut descrambled);
+        let decoded = traffic_frame(decoder, &descrambled, &replaced);
         (decoded, commands(&self.power))
     }
 }

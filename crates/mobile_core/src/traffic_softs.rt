@@ -18,10 +18,11 @@ use crate::fingers::leg_fingers;
 use crate::legs::Legs;
 use chip_core::Phase;
 use chip_core::air::DATA_SYMBOLS;
-use frame_decoder::PowerSofts;
+use frame_decoder::{FrameSofts, PowerSofts};
 use pilot_search::Near;
 use rake_finger::{Form, SampleRing, combine_into};
 use short_code::Codes;
+use symbol_path::PowerPlaces;
 
 /// Computes the soft values of the frame that begins at a reference sample, as the fingers of these
 /// pilots hear them; no scrambling turns them.
@@ -32,7 +33,7 @@ pub(crate) fn leg_softs(
     phase: Phase,
     near: &Near,
     start: u64,
-    out: &mut [i64; DATA_SYMBOLS],
+    out: &mut FrameSofts,
 )
     requires legs { IsHeldFrom ring.now legs.now phase near.now start }
     ensures value { (heard : List Sample) → HoldsLast ring.now heard → out.new
@@ -54,8 +55,8 @@ fn subchannel_softs(
     near: &Near,
     start: u64,
     subchannel: u8,
-    all: &[i64; DATA_SYMBOLS],
-    out: &mut [i64; DATA_SYMBOLS],
+    all: &FrameSofts,
+    out: &mut FrameSofts,
 )
     requires legs { IsHeldFrom ring.now legs.now phase near.now start }
     requires has { has_subchannel legs.now subchannel ≡ true }
@@ -85,8 +86,8 @@ pub(crate) fn power_softs(
     phase: Phase,
     near: &Near,
     start: u64,
-    replaced: &[u16; 32],
-    all: &[i64; DATA_SYMBOLS],
+    replaced: &PowerPlaces,
+    all: &FrameSofts,
 ) -> PowerSofts
     requires legs { IsHeldFrom ring.now legs.now phase near.now start }
     requires all { (heard : List Sample) → HoldsLast ring.now heard → all.now

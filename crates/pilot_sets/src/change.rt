@@ -1,6 +1,6 @@
-//! What a moment changed.
+//! What an evaluation of the pilot sets changed.
 
-/// What a moment changed.
+/// What an evaluation of the pilot sets, at one moment, changed.
 #[derive(Clone, Copy, PartialEq, Eq, Debug)]
 pub struct SetChange {
     /// The active or the candidate list isn't what it was when the moment began.

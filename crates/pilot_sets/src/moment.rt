@@ -1,5 +1,5 @@
-//! A moment: what the sets go through once the direction for its time has taken effect, and whether
-//! their lists have changed.
+//! A moment, the evaluation of the pilot sets: what they go through once the direction for its time
+//! has taken effect, and whether their lists have changed.
 
 ghost use Rattle.std.specs.Prelude.{◌≡◌, ◌<◌, ◌≤◌, ◌^◌, length, nat_eq};
 ghost use Rattle.std.specs.Cmp.Lexicographic.{pointwise};

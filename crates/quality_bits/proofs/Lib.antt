@@ -7,4 +7,4 @@ pub mod Ends
 pub mod Streams
 pub mod Wholes
 pub mod Marked
-pub mod TrafficWords
+pub mod TrafficCodewords

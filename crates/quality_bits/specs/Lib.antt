@@ -3,5 +3,5 @@ pub mod Faults
 pub mod Kinds
 pub mod Pieces
 pub mod Quality
-pub mod TrafficWords
+pub mod TrafficCodewords
 mod Worked

@@ -21,7 +21,7 @@ pub enum Rate {
 }
 
 impl Rate {
-    ghost use Rattle.quality_bits.specs.TrafficWords.{repeats_of, information_of, quality_of};
+    ghost use Rattle.quality_bits.specs.TrafficCodewords.{repeats_of, information_of, quality_of};
 
     /// How often each code symbol is sent: 1, 2, 4 or 8 times.
     pub fn repeats(&self) -> u8

@@ -1,4 +1,4 @@
-//! The samples before a moment, and their power.
+//! The samples before an evaluation of the pilot sets, and their power.
 
 ghost use Rattle.std.specs.Prelude.{◌≡◌, ◌≤◌, ◌*◌, ◌^◌, List, length, All};
 ghost use Rattle.chip_core.specs.Sums.{square};
@@ -11,7 +11,7 @@ ghost use Rattle.rake_finger.specs.Strengths.{IsNarrow};
 use crate::ring::SampleRing;
 use chip_core::Sample;
 
-/// How many samples are measured at a moment.
+/// How many samples are measured at an evaluation of the pilot sets.
 pub(crate) const MOMENT_SAMPLES: usize = 512;
 
 /// The 512 samples before a place, counted from sample 0.

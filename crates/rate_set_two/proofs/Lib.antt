@@ -1,5 +1,5 @@
 pub mod Agreement
-pub mod RateRows
+pub mod RateFormats
 pub mod Chosen
 pub mod SentFrames
 pub mod NothingHeard

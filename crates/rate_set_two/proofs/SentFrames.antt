@@ -4,16 +4,16 @@ use Rattle.std.specs.Prelude.{Option}
 use Rattle.symbol_path.specs.declared.rate_two.Rate2.{Rate2}
 use Rattle.symbol_path.specs.declared.rate_two.Rate2.TheVariants.{R14400, R7200, R3600, R1800}
 use Rattle.symbol_path.specs.SentOrderTwo.{sent2}
-use Rattle.symbol_path.proofs.WordsTwo.{parts_are}
-use Rattle.viterbi.specs.Words.{Word}
+use Rattle.symbol_path.proofs.CodewordsTwo.{parts_are}
+use Rattle.viterbi.specs.Codewords.{Codeword}
 use Rattle.viterbi.specs.Best.{IsAllowed}
-use Rattle.viterbi.specs.declared.word.Ends.TheVariants.{Zero}
-use Rattle.frame_decoder.specs.declared.rows.RowFrame.{RowFrame}
-use Rattle.frame_decoder.specs.Rows.{symbols_in, word_in, score_in, good_or, frame_of}
+use Rattle.viterbi.specs.declared.codeword.Ends.TheVariants.{Zero}
+use Rattle.frame_decoder.specs.declared.formats.DecodedFrame.{DecodedFrame}
+use Rattle.frame_decoder.specs.Formats.{symbols_in, codeword_in, score_in, good_or, frame_of}
 use Rattle.frame_decoder.specs.TrafficFrames.{unreplaced}
-use Rattle.frame_decoder.proofs.RowChoice.{IsAmong}
-use Rattle.frame_decoder.proofs.SentRows.{IsUnsharedIn, best_words, sent_chosen}
-use Rattle.rate_set_two.specs.TrafficFrames.{row_of, frame_word}
+use Rattle.frame_decoder.proofs.FormatChoice.{IsAmong}
+use Rattle.frame_decoder.proofs.SentFormats.{IsUnsharedIn, best_codewords, sent_chosen}
+use Rattle.rate_set_two.specs.TrafficFrames.{format_of, frame_codeword}
 use Rattle.rate_set_two.specs.Laws.{IsUnshared, IsSentFrameDecoded}
 use Rattle.rate_set_two.proofs.Chosen.{as_decoded, decoded_is}
 
@@ -27,9 +27,9 @@ among R7200 = record { before = R1800 ∷ R3600 ∷ []; after = R14400 ∷ []; p
 among R3600 = record { before = R1800 ∷ []; after = R7200 ∷ R14400 ∷ []; parted = refl }
 among R1800 = record { before = []; after = R3600 ∷ R7200 ∷ R14400 ∷ []; parted = refl }
 
--- the rows' words are the rates'
-unshared_in : (replaced : List ℕ) (rate : Rate2) (w : Word) → IsUnshared replaced rate w →
-    IsUnsharedIn row_of replaced rate w
+-- the formats' codewords are the rates'
+unshared_in : (replaced : List ℕ) (rate : Rate2) (w : Codeword) → IsUnshared replaced rate w →
+    IsUnsharedIn format_of replaced rate w
 unfolding symbols_in sent2
 unshared_in replaced rate w unshared r v allowed agree =
     unshared r v (subst (λ (n : ℕ). IsAllowed Zero n v) (parts_are r) allowed) agree
@@ -38,10 +38,10 @@ pub sent_frame : IsSentFrameDecoded
 unfolding frame_of symbols_in sent2
 sent_frame n replaced rate information softs some few long long' shows unshared =
     let kept = unreplaced replaced softs in
-    let word = word_in kept (row_of R14400) in
+    let codeword = codeword_in kept (format_of R14400) in
     sym (decoded_is replaced softs)
-    ∙ ap (λ (best : Option (RowFrame Rate2)).
-    as_decoded (good_or (row_of R14400) word.bits (score_in kept (row_of R14400) word) best))
-    (sent_chosen row_of rates n replaced rate information softs
-    (λ ks r. word_in ks (row_of r) ∷ []) (λ r. refl) among (best_words row_of) some few long long'
-    shows (unshared_in replaced rate (frame_word rate information) unshared))
+    ∙ ap (λ (best : Option (DecodedFrame Rate2)).
+    as_decoded (good_or (format_of R14400) codeword.bits (score_in kept (format_of R14400) codeword) best))
+    (sent_chosen format_of rates n replaced rate information softs
+    (λ ks r. codeword_in ks (format_of r) ∷ []) (λ r. refl) among (best_codewords format_of) some few long long'
+    shows (unshared_in replaced rate (frame_codeword rate information) unshared))

@@ -2,15 +2,15 @@
 use Rattle.std.specs.Prelude.{◌≡◌, ℕ, ◌*◌, ◌<◌, Bool, true, false, List, length, replicate, ℤ, pos}
 use Rattle.chip_core.specs.Agreement.{agreement}
 use Rattle.viterbi.specs.Best.{IsAllowed}
-use Rattle.viterbi.specs.Words.{Word}
-use Rattle.viterbi.specs.declared.word.Ends.TheVariants.{Zero}
+use Rattle.viterbi.specs.Codewords.{Codeword}
+use Rattle.viterbi.specs.declared.codeword.Ends.TheVariants.{Zero}
 use Rattle.frame_decoder.specs.Laws.{ShowSymbols, AgreeElsewhere, kept_count}
 use Rattle.symbol_path.specs.declared.rate_two.Rate2.{Rate2}
 use Rattle.symbol_path.specs.declared.rate_two.Rate2.TheVariants.{R14400}
 use Rattle.symbol_path.specs.RatesTwo.{information_of, frame_bits, symbols_of}
 use Rattle.symbol_path.specs.SentOrderTwo.{sent2}
 use Rattle.rate_set_two.specs.SentOrder.{gathered2}
-use Rattle.rate_set_two.specs.TrafficFrames.{frame_word, frame_symbols, decoded2}
+use Rattle.rate_set_two.specs.TrafficFrames.{frame_codeword, frame_symbols, decoded2}
 
 -- ---- the sums
 -- soft values agree with what is sent as their sums agree with the code symbols
@@ -21,17 +21,17 @@ KeepsAgreement =
     agreement softs (sent2 rate code) ≡ agreement (gathered2 rate softs) code
 
 -- ---- sent frames
--- no other word of any rate, its quality indicator right or not, has a word's symbols there
-abbrev pub IsUnshared : List ℕ → Rate2 → Word → Type 0
+-- no other codeword of any rate, its quality indicator right or not, has a codeword's symbols there
+abbrev pub IsUnshared : List ℕ → Rate2 → Codeword → Type 0
 IsUnshared replaced rate w =
-    (r : Rate2) (v : Word) → IsAllowed Zero (frame_bits r) v →
+    (r : Rate2) (v : Codeword) → IsAllowed Zero (frame_bits r) v →
     AgreeElsewhere replaced (frame_symbols rate w) (frame_symbols r v) → (r ≡ rate) × (v ≡ w)
 
--- soft values that show the symbols of a frame which no other word shares give that frame
+-- soft values that show the symbols of a frame which no other codeword shares give that frame
 abbrev pub IsSentFrameDecoded : Type 0
 IsSentFrameDecoded =
     (strength : ℕ) (replaced : List ℕ) (rate : Rate2) (information : List Bool) (softs : List ℤ) →
-    let w = frame_word rate information in
+    let w = frame_codeword rate information in
     0 < strength → length replaced < 384 → length softs ≡ 384 →
     length information ≡ information_of rate →
     ShowSymbols replaced strength (frame_symbols rate w) softs → IsUnshared replaced rate w →

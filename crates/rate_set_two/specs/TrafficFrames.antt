@@ -4,21 +4,21 @@ use Rattle.std.specs.Prelude.{replicate, ℤ, pos, int_lt, Option, None, Some}
 use Rattle.std.specs.Cmp.Lexicographic.{pointwise}
 use Rattle.std.proofs.Math.Bool.{beq}
 use Rattle.conv_code.specs.ConvCode.{code_symbols}
-use Rattle.viterbi.specs.Words.{Word, correlation, best_word}
-use Rattle.viterbi.specs.declared.word.Ends.TheVariants.{Zero}
+use Rattle.viterbi.specs.Codewords.{Codeword, correlation, best_codeword}
+use Rattle.viterbi.specs.declared.codeword.Ends.TheVariants.{Zero}
 use Rattle.frame_decoder.specs.TrafficFrames.{unreplaced}
-use Rattle.frame_decoder.specs.declared.rows.Row.{Row}
+use Rattle.frame_decoder.specs.declared.formats.FrameFormat.{FrameFormat}
 use Rattle.symbol_path.specs.declared.rate_two.Rate2.{Rate2}
 use Rattle.symbol_path.specs.declared.rate_two.Rate2.TheVariants.{R14400, R7200, R3600, R1800}
 use Rattle.rate_set_two.specs.declared.traffic.Decoded2.{Decoded2}
 use Rattle.symbol_path.specs.RatesTwo.{information_of, quality_of, quality_length, frame_bits}
 use Rattle.symbol_path.specs.RatesTwo.{repeats_of}
 use Rattle.symbol_path.specs.SentOrderTwo.{sent2}
-use Rattle.symbol_path.specs.FramesTwo.{quality_indicator, word_bits}
+use Rattle.symbol_path.specs.FramesTwo.{quality_indicator, codeword_bits}
 
 -- what the frames of a rate are made of
-abbrev pub row_of : Rate2 → Row Rate2
-row_of rate = record {
+abbrev pub format_of : Rate2 → FrameFormat Rate2
+format_of rate = record {
   rate = rate;
   information = information_of rate;
   quality = Some (quality_of rate);
@@ -26,22 +26,22 @@ row_of rate = record {
   drops = true;
 }
 
--- a frame's word: its bits behind eight zeros
-abbrev pub frame_word : Rate2 → List Bool → Word
-frame_word rate information =
-    record { start = replicate 8 false; bits = word_bits rate information }
+-- a frame's codeword: its bits behind eight zeros
+abbrev pub frame_codeword : Rate2 → List Bool → Codeword
+frame_codeword rate information =
+    record { start = replicate 8 false; bits = codeword_bits rate information }
 
--- a word's symbols as a frame of its rate sends them
-abbrev pub frame_symbols : Rate2 → Word → List Bool
+-- a codeword's symbols as a frame of its rate sends them
+abbrev pub frame_symbols : Rate2 → Codeword → List Bool
 frame_symbols rate w = sent2 rate (code_symbols w.start w.bits)
 
 -- how well they agree with the soft values
-abbrev pub frame_score : List ℤ → Rate2 → Word → ℤ
+abbrev pub frame_score : List ℤ → Rate2 → Codeword → ℤ
 frame_score softs rate w = correlation softs (frame_symbols rate w)
 
--- the best word of a rate: of all that start from eight zeros and end with eight zeros
-unfoldable pub rate_word : List ℤ → Rate2 → Word
-rate_word softs rate = best_word (frame_score softs rate) Zero (frame_bits rate)
+-- the best codeword of a rate: of all that start from eight zeros and end with eight zeros
+unfoldable pub rate_codeword : List ℤ → Rate2 → Codeword
+rate_codeword softs rate = best_codeword (frame_score softs rate) Zero (frame_bits rate)
 
 -- whether the quality indicator is that of the information bits
 abbrev pub has_quality : Rate2 → List Bool → Bool
@@ -50,7 +50,7 @@ has_quality rate bits =
     (take (quality_length rate) (drop (information_of rate) bits))
     (quality_indicator rate (take (information_of rate) bits))
 
--- a word of a rate as a decoded frame: good exactly where its score is above 0
+-- a codeword of a rate as a decoded frame: good exactly where its score is above 0
 abbrev pub shown : Rate2 → List Bool → ℤ → Decoded2
 shown rate bits score = record {
   rate = rate;
@@ -59,10 +59,11 @@ shown rate bits score = record {
   score = score;
 }
 
--- the best word of a rate as a decoded frame
+-- the best codeword of a rate as a decoded frame
 abbrev pub rate_frame : List ℤ → Rate2 → Decoded2
 rate_frame softs rate =
-    let word = rate_word softs rate in shown rate word.bits (frame_score softs rate word)
+    let codeword = rate_codeword softs rate in shown rate codeword.bits
+    (frame_score softs rate codeword)
 
 -- the frame of greater score, the first where both are equal
 abbrev pub better : Decoded2 → Decoded2 → Decoded2
@@ -79,10 +80,10 @@ preferred true higher (Some lower) = Some (better higher lower)
 abbrev pub best_candidate : List ℤ → List Rate2 → Option Decoded2
 best_candidate softs [] = None
 best_candidate softs (rate ∷ rates) =
-    preferred (has_quality rate (rate_word softs rate).bits) (rate_frame softs rate)
+    preferred (has_quality rate (rate_codeword softs rate).bits) (rate_frame softs rate)
     (best_candidate softs rates)
 
--- a frame that isn't good: the information bits of the best word at 14,400 bits a second
+-- a frame that isn't good: the information bits of the best codeword at 14,400 bits a second
 abbrev pub not_good : List Bool → ℤ → Decoded2
 not_good bits score = record {
   rate = R14400;
@@ -92,7 +93,7 @@ not_good bits score = record {
 }
 
 -- the best candidate where it is good; where not, its score alone is kept, and where there is none,
--- that of the best word at 14,400 bits a second
+-- that of the best codeword at 14,400 bits a second
 abbrev pub good_or : List Bool → ℤ → Option Decoded2 → Decoded2
 good_or bits score None = not_good bits score
 good_or bits score (Some best) = if best.good then best else not_good bits best.score
@@ -104,7 +105,7 @@ rate_set_2 = R14400 ∷ R7200 ∷ R3600 ∷ R1800 ∷ []
 -- what is shown of the soft values that are kept
 abbrev pub shown_of : List ℤ → Decoded2
 shown_of kept =
-    let highest = rate_word kept R14400 in
+    let highest = rate_codeword kept R14400 in
     good_or highest.bits (frame_score kept R14400 highest) (best_candidate kept rate_set_2)
 
 -- what is decoded of a frame's soft values, of which those at these places belong to power control

@@ -4,8 +4,8 @@ use Rattle.std.specs.Prelude.{replicate, pos, None, Some}
 use Rattle.chip_core.specs.Bits.{binary, number, places}
 use Rattle.quality_bits.specs.Quality.{check_bits}
 use Rattle.symbol_path.specs.SentOrderTwo.{place2, sent2}
-use Rattle.symbol_path.specs.FramesTwo.{word_bits}
-use Rattle.rate_set_two.specs.TrafficFrames.{frame_word, frame_symbols, has_quality, shown}
+use Rattle.symbol_path.specs.FramesTwo.{codeword_bits}
+use Rattle.rate_set_two.specs.TrafficFrames.{frame_codeword, frame_symbols, has_quality, shown}
 use Rattle.rate_set_two.specs.TrafficFrames.{preferred, good_or}
 use Rattle.symbol_path.specs.declared.rate_two.Rate2.TheVariants.{R14400, R7200, R3600, R1800}
 use Rattle.rate_set_two.specs.declared.traffic.Decoded2.{Decoded2}
@@ -20,34 +20,34 @@ unfolding binary
 places_1800 = refl
 
 -- the bits of frames
-word_14400 : number (word_bits R14400
+codeword_14400 : number (codeword_bits R14400
     (binary 12 0xaff ++ binary 64 0x5a84a4399865a2f3 ++ binary 64 0xb810770908da6317
     ++ binary 64 0x2e5a7a31a3915a4f ++ binary 64 0x1a4749ee021ed604))
     ≡ 0xaff5a84a4399865a2f3b810770908da63172e5a7a31a3915a4f1a4749ee021ed6043f400
 unfolding binary places check_bits
-word_14400 = refl
+codeword_14400 = refl
 
-word_7200 : number (word_bits R7200
+codeword_7200 : number (codeword_bits R7200
     (binary 62 0x1ed07cee9d3dacc8 ++ binary 64 0xf8b9baacb2e7f3ec))
     ≡ 0x7b41f3ba74f6b323e2e6eab2cb9fcfb39d00
 unfolding binary places check_bits
-word_7200 = refl
+codeword_7200 = refl
 
-word_3600 : number (word_bits R3600 (binary 56 0x59b5111069855d)) ≡ 0x59b5111069855dd200
+codeword_3600 : number (codeword_bits R3600 (binary 56 0x59b5111069855d)) ≡ 0x59b5111069855dd200
 unfolding binary places check_bits
-word_3600 = refl
+codeword_3600 = refl
 
 -- the information bits of one frame
 few : List Bool
 unfolding binary
 few = take 22 (binary 24 0x5a5a58)
 
-word_1800 : number (word_bits R1800 few) ≡ 0x5a5a5b100
+codeword_1800 : number (codeword_bits R1800 few) ≡ 0x5a5a5b100
 unfolding few binary places check_bits
-word_1800 = refl
+codeword_1800 = refl
 
 -- and its symbols as they are sent
-symbols_1800 : number (frame_symbols R1800 (frame_word R1800 few))
+symbols_1800 : number (frame_symbols R1800 (frame_codeword R1800 few))
     ≡ 0x44992712e55044992b6f11f044992712e55712e55b6f11f044992712e55044992b6f11f044992b6f11f712e55b6f11f
 unfolding few binary places check_bits sent2
 symbols_1800 = refl
@@ -81,7 +81,7 @@ nothing_good : good_or (replicate 288 false) (pos 7)
     ≡ record { rate = R14400; good = false; bits = replicate 268 false; score = pos 0 }
 nothing_good = refl
 
--- no candidate: the best word at 14,400 bits a second, which isn't good
+-- no candidate: the best codeword at 14,400 bits a second, which isn't good
 no_frame : good_or (replicate 288 true) (pos 7) None
     ≡ record { rate = R14400; good = false; bits = replicate 268 true; score = pos 7 }
 no_frame = refl

@@ -18,7 +18,7 @@ pub fn gathering_keeps_agreement()
 
 /// A frame comes back, rate and information bits, and is good: where the soft values of the symbols
 /// that no power control bit replaces are one positive number times the symbols' signs, and no
-/// other word of any rate has these symbols there.
+/// other codeword of any rate has these symbols there.
 pub fn sent_frame_is_decoded()
     ensures { IsSentFrameDecoded }
 {}

@@ -1,12 +1,12 @@
 //! What is decoded of a frame.
 
 ghost use Rattle.std.specs.Prelude.{◌≡◌, ◌≤◌, ◌^◌, sum_by, unsigned_abs};
-ghost use Rattle.frame_decoder.specs.Rows.{IsRow};
-ghost use Rattle.rate_set_two.specs.TrafficFrames.{row_of, decoded2};
+ghost use Rattle.frame_decoder.specs.Formats.{IsFormat};
+ghost use Rattle.rate_set_two.specs.TrafficFrames.{format_of, decoded2};
 
 use chip_core::Bits;
-use frame_decoder::{Row, frame_of};
-use symbol_path::Rate2;
+use frame_decoder::{FrameFormat, FrameSofts, frame_of};
+use symbol_path::{PowerPlaces, Rate2};
 use viterbi::Decoder;
 
 /// What is decoded of a frame.
@@ -19,16 +19,16 @@ pub struct Decoded2 {
     /// The information bits.
     pub bits: Bits,
     /// How well the best candidate's symbols agree with the soft values, and where there is none
-    /// those of the best word at 14,400 bits a second.
+    /// those of the best codeword at 14,400 bits a second.
     pub score: i64,
 }
 
 /// What the frames of a rate are made of.
-fn row_of(rate: Rate2) -> Row<Rate2>
-    ensures value { result ≡ row_of rate }
-    ensures row { IsRow result }
+fn format_of(rate: Rate2) -> FrameFormat<Rate2>
+    ensures value { result ≡ format_of rate }
+    ensures format { IsFormat result }
 {
-    Row {
+    FrameFormat {
         rate,
         information: rate.information_bits(),
         quality: Some(rate.quality()),
@@ -41,23 +41,23 @@ fn row_of(rate: Rate2) -> Row<Rate2>
 ///
 /// `softs` has the soft values of a frame's 384 symbols in the sent order, turned by the
 /// scrambling, and `places` the places of the power control bits, whose soft values count as 0, as
-/// those of dropped symbols do. Of each rate the best word is found, of those that start from eight
-/// zeros and end with eight zeros, and is a candidate where its quality indicator is right. The
-/// candidate of the greatest score is taken, the higher rate on a tie, and is good exactly where
-/// that score is above 0. Where it isn't, and where there is no candidate, the rate is 14,400, with
-/// the information bits of the best word at that rate.
-pub fn traffic2_frame(decoder: &mut Decoder, softs: &[i64; 384], places: &[u16; 32]) -> Decoded2
+/// those of dropped symbols do. Of each rate the best codeword is found, of those that start from
+/// eight zeros and end with eight zeros, and is a candidate where its quality indicator is right.
+/// The candidate of the greatest score is taken, the higher rate on a tie, and is good exactly
+/// where that score is above 0. Where it isn't, and where there is no candidate, the rate is
+/// 14,400, with the information bits of the best codeword at that rate.
+pub fn traffic2_frame(decoder: &mut Decoder, softs: &FrameSofts, places: &PowerPlaces) -> Decoded2
     requires room { 288 ≤ decoder.old }
     requires bound { sum_by unsigned_abs softs.now ≤ 2 ^ 62 }
     ensures value { result ≡ decoded2 places.now softs.now }
     ensures kept { decoder.new ≡ decoder.old }
 {
     let lower = [
-        row_of(Rate2::R1800),
-        row_of(Rate2::R3600),
-        row_of(Rate2::R7200),
+        format_of(Rate2::R1800),
+        format_of(Rate2::R3600),
+        format_of(Rate2::R7200),
     ];
-    let frame = frame_of(decoder, &row_of(Rate2::R14400), &lower, softs, places);
+    let frame = frame_of(decoder, &format_of(Rate2::R14400), &lower, softs, places);
     Decoded2 {
         rate: frame.rate,
         good: frame.good,

@@ -1,4 +1,4 @@
-//! What a word leads through: states, and what a bit adds on the way.
+//! What a codeword leads through: states, and what a bit adds on the way.
 
 ghost use Rattle.std.specs.Prelude.{◌≡◌, ◌<◌, ◌≤◌, ◌+◌, ◌^◌, [], ◌∷◌, ◌++◌, length, ◌*ℤ◌};
 ghost use Rattle.std.specs.Prelude.{unsigned_abs, IsTrue, ◌↔◌};
@@ -8,7 +8,7 @@ ghost use Rattle.viterbi.specs.States.{low_bits};
 ghost use Rattle.viterbi.specs.Survivors.{gain_of};
 
 use chip_core::parity_at;
-use viterbi::{Ends, Word};
+use viterbi::{Codeword, Ends};
 
 /// The taps of the first generator, 753 octal, on nine bits whose bit 8 is the newest.
 const G0: [u8; 7] = [8, 7, 6, 5, 3, 1, 0];
@@ -35,7 +35,7 @@ pub fn gain(first: i64, second: i64, nine: u64) -> i64
     signed(first, parity_at(nine, &G0)) + signed(second, parity_at(nine, &G1))
 }
 
-/// Whether a word may start from a state.
+/// Whether a codeword may start from a state.
 pub fn is_start(state: u8, ends: Ends) -> bool
     ensures { IsTrue result ↔ HasStart ends (low_bits 8 state) }
 {
@@ -45,15 +45,15 @@ pub fn is_start(state: u8, ends: Ends) -> bool
     }
 }
 
-/// The word with one bit more.
-pub fn longer(word: &Word, bit: bool) -> Word
-    requires { length word.now.bits < 1184 }
-    ensures { result ≡ record word.now { bits = word.now.bits ++ bit ∷ [] } }
+/// The codeword with one bit more.
+pub fn longer(codeword: &Codeword, bit: bool) -> Codeword
+    requires { length codeword.now.bits < 1184 }
+    ensures { result ≡ record codeword.now { bits = codeword.now.bits ++ bit ∷ [] } }
 {
-    let mut bits = word.bits;
+    let mut bits = codeword.bits;
     bits.append(bit);
-    Word {
-        start: word.start,
+    Codeword {
+        start: codeword.start,
         bits,
     }
 }

@@ -1,26 +1,26 @@
-//! The decoder that keeps a survivor's whole word in each state: plain and slow, under the contract
-//! of `Decoder`, beside which it is timed.
+//! The decoder that keeps a survivor's whole codeword in each state: plain and slow, under the
+//! contract of `Decoder`, beside which it is timed.
 
 ghost use Rattle.std.specs.Prelude.{◌≡◌, ◌≤◌, ◌*◌, ◌%◌, ◌^◌, length, vec_len, sum_by, unsigned_abs};
 ghost use Rattle.std.specs.Prelude.{IfOk};
 ghost use Rattle.chip_core.specs.Bits.{binary};
 ghost use Rattle.conv_code.specs.ConvCode.{code_symbols};
-ghost use Rattle.viterbi.specs.Words.{correlation};
-ghost use Rattle.viterbi.specs.Best.{IsBestWord, spelled};
+ghost use Rattle.viterbi.specs.Codewords.{correlation};
+ghost use Rattle.viterbi.specs.Best.{IsBestCodeword, spelled};
 
-use crate::survivor_trellis::{best_end, start_row, step};
+use crate::survivor_trellis::{best_end, start_column, step};
 use chip_core::OutOfMemory;
 use std::alloc::Global;
 use std::marker::Model;
-use viterbi::{Ends, Survivor, Word};
+use viterbi::{Codeword, Ends, Survivor};
 
-/// Finds the best word for a list of soft values, in memory that `new` takes.
+/// Finds the best codeword for a list of soft values, in memory that `new` takes.
 ///
-/// Contracts see the greatest number of bits of a word.
+/// Contracts see the greatest number of bits of a codeword.
 #[derive(Drop)]
 pub struct SurvivorDecoder {
     max_bits: u16,
-    row: Vec<Option<Survivor>>,
+    column: Vec<Option<Survivor>>,
     next: Vec<Option<Survivor>>,
 }
 
@@ -31,52 +31,52 @@ impl Model for SurvivorDecoder {
 
     ghost view = { λ d. d.max_bits };
 
-    ghost invariant = { λ d. (d.max_bits ≤ 576) × (vec_len d.row ≡ 256) × (vec_len d.next ≡ 256) };
+    ghost invariant = { λ d. (d.max_bits ≤ 576) × (vec_len d.column ≡ 256) × (vec_len d.next ≡ 256) };
 }
 
 impl SurvivorDecoder {
-    /// A decoder for words of at most `max_bits` bits, from 8 to 576; `OutOfMemory` where the
+    /// A decoder for codewords of at most `max_bits` bits, from 8 to 576; `OutOfMemory` where the
     /// allocator has none.
     pub fn new(alloc: Global, max_bits: u16) -> Result<SurvivorDecoder, OutOfMemory>
         requires least { 8 ≤ max_bits }
         requires most { max_bits ≤ 576 }
         ensures { IfOk result (λ decoder. decoder ≡ max_bits) }
     {
-        let row = vec![in alloc; None; 256]?;
+        let column = vec![in alloc; None; 256]?;
         let next = vec![in alloc; None; 256]?;
         Ok(SurvivorDecoder {
             max_bits,
-            row,
+            column,
             next,
         })
     }
 
-    /// Finds the first of all allowed words for these soft values, as `Decoder::best_into`.
-    pub fn best_into(&mut self, softs: &[i64], ends: Ends, out: &mut Word) -> i64
+    /// Finds the first of all allowed codewords for these soft values, as `Decoder::best_into`.
+    pub fn best_into(&mut self, softs: &[i64], ends: Ends, out: &mut Codeword) -> i64
         requires even { length softs.now % 2 ≡ 0 }
         requires least { 16 ≤ length softs.now }
         requires most { length softs.now ≤ 2 * self.old }
         requires bound { sum_by unsigned_abs softs.now ≤ 2 ^ 62 }
 
-        ensures best { IsBestWord softs.now ends (spelled out.new) }
+        ensures best { IsBestCodeword softs.now ends (spelled out.new) }
         ensures score { result ≡
             correlation softs.now (code_symbols (binary 8 out.new.start) out.new.bits) }
         ensures kept { self.new ≡ self.old }
     {
-        start_row(&mut self.row, ends);
+        start_column(&mut self.column, ends);
         for bit in 0..softs.len() / 2 {
             step(
-                &self.row,
+                &self.column,
                 softs[2 * bit],
                 softs[2 * bit + 1],
                 &mut self.next,
             );
-            std::mem::swap(&mut self.row, &mut self.next);
+            std::mem::swap(&mut self.column, &mut self.next);
         }
-        let Some(best) = best_end(&self.row, ends) else {
+        let Some(best) = best_end(&self.column, ends) else {
             unreachable!()
         };
-        *out = best.word;
+        *out = best.codeword;
         best.score
     }
 }

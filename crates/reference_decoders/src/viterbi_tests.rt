@@ -1,4 +1,4 @@
-//! The decoder on rows of decisions beside the one that keeps each state's best word whole.
+//! The decoder on columns of decisions beside the one that keeps each state's best codeword whole.
 
 ghost use Rattle.std.specs.Prelude.{◌<◌, ◌≤◌, ◌^◌, IsTrue, sum_by, unsigned_abs};
 
@@ -6,7 +6,7 @@ mod timing;
 
 use chip_core::Bits;
 use std::test::Fail;
-use viterbi::{Decoder, Ends, Word};
+use viterbi::{Codeword, Decoder, Ends};
 
 /// A linear congruential generator.
 #[derive(Drop)]
@@ -51,11 +51,11 @@ fn nothing_heard(rt: HostRuntime) -> Result<(), Fail> {
     let mut decoder = Decoder::new(rt.alloc(), 576)?;
     let softs = [0; 18];
     assert!(rt; is_bounded(&softs));
-    let mut word = Word {
+    let mut codeword = Codeword {
         start: 0,
         bits: Bits::empty(),
     };
-    let score = decoder.best_into(&softs, Ends::Zero, &mut word);
+    let score = decoder.best_into(&softs, Ends::Zero, &mut codeword);
     assert_eq!(rt; score, 0);
     Ok(())
 }

@@ -31,7 +31,7 @@ use Rattle.clean_link.specs.CleanLink.{soft_strength}
 use Rattle.clean_link.specs.PagingLaws.{ordered_symbols}
 use Rattle.clean_link.proofs.frames.PagingFrames.{paging_signs}
 use Rattle.clean_link.proofs.frames.PagingTimes.{paging_file_from}
-use Rattle.clean_link.proofs.frames.Words.{signed-frames}
+use Rattle.clean_link.proofs.frames.Codewords.{signed-frames}
 use Rattle.clean_link.proofs.pages.Whole.{stated_pages}
 use Rattle.slot_link.specs.Laws.{sent_in_span, HearsSlots, SlotsComeBack}
 use Rattle.slot_link.specs.SentSlots.{slots_to_end}
@@ -66,12 +66,12 @@ module _ (width : Width) (plan : CellPlan) (sync : SyncPlan) (p : PagingPlan) (t
       (omega (arith, inside, low, place, is.tuned.count))
 
   -- they show what the channel sends in them
-  slot_turned : (i : ℕ) → i < slots_to_end plan superframes →
+  slot_descrambled : (i : ℕ) → i < slots_to_end plan superframes →
       slot_softs (made_samples plan) (channel_stream t (channels.Paging p.number) m) i ≡
       signed (soft_strength plan Data p.gain)
       (sent_in_span (paging_channel (paging_rate plan.sync)) (cycle_frame_bits (cycle_of plan p))
       (4 * (superframes + i)) 4)
-  slot_turned i inside =
+  slot_descrambled i inside =
       let strength = soft_strength plan Data p.gain in
       let order : ℕ → List Bool = ordered_symbols (cycle_of plan p) in
       let first : ℕ = 4 * (superframes + i) in
@@ -104,7 +104,7 @@ module _ (width : Width) (plan : CellPlan) (sync : SyncPlan) (p : PagingPlan) (t
       ∙ ap (λ (form : CheckForm). slot_pages form rate (slot_bits rate softs))
       is.tuned.checks_of_30
       ∙ ap (slot_pages plan.cell.check30 rate)
-      (ap (slot_bits rate) (slot_turned i inside)
+      (ap (slot_bits rate) (slot_descrambled i inside)
       ∙ slot_bits_back rate (soft_strength plan Data p.gain) bits_of first
       (frame_long rate (cycle_of plan p).bits) (strong i inside))
       ∙ slot_pages_back rate plan.cell.check30 p.pages first

@@ -8,29 +8,29 @@ use Rattle.chip_core.specs.Bits.{places, sign}
 use Rattle.chip_core.proofs.Counted.{flat_map-add}
 use Rattle.chip_core.proofs.Ranges.{flat_map_ext_places}
 use Rattle.symbol_path.specs.SentOrder.{data_shape, sent}
-use Rattle.quality_bits.specs.TrafficWords.{repeats_of}
+use Rattle.quality_bits.specs.TrafficCodewords.{repeats_of}
 use Rattle.quality_bits.specs.declared.rate.Rate.{Rate}
 use Rattle.symbol_path.proofs.Agreement.{length-sent}
 use Rattle.viterbi.specs.Best.{IsAllowed}
 use Rattle.viterbi.specs.Laws.{signed}
-use Rattle.viterbi.specs.declared.word.Ends.TheVariants.{Free}
+use Rattle.viterbi.specs.declared.codeword.Ends.TheVariants.{Free}
 use Rattle.frame_decoder.specs.Spans.{own_bits, paging_channel, Channel}
-use Rattle.frame_decoder.specs.declared.layout.FrameKind.TheVariants.{Paging}
+use Rattle.frame_decoder.specs.declared.span_format.FrameKind.TheVariants.{Paging}
 use Rattle.frame_decoder.proofs.Parts.{length-frames}
 use Rattle.slot_mode.specs.Frames.{frame_bits, slot_bits}
 use Rattle.cell_plan.specs.Sendings.{continued_symbols}
-use Rattle.clean_link.specs.SentWords.{span_word}
+use Rattle.clean_link.specs.SentCodewords.{span_codeword}
 use Rattle.clean_link.proofs.frames.Scores.{sent_own, whole_frames}
-use Rattle.clean_link.proofs.frames.Words.{frame_at, length-before, sent_as_one, signed-frames}
+use Rattle.clean_link.proofs.frames.Codewords.{frame_at, length-before, sent_as_one, signed-frames}
 use Rattle.slot_link.specs.Laws.{sent_in_span, SlotBitsComeBack, SpansComeBack}
 
 -- ---- any span
 
--- the word of a span has the span's length
-word_allowed : (c : Channel) (bits_of : ℕ → List Bool) (first frames : ℕ) → 8 ≤ c.bits →
+-- the codeword of a span has the span's length
+codeword_allowed : (c : Channel) (bits_of : ℕ → List Bool) (first frames : ℕ) → 8 ≤ c.bits →
     ((k : ℕ) → length (bits_of k) ≡ c.bits) →
-    IsAllowed Free (c.bits * frames) (span_word bits_of first frames)
-word_allowed c bits_of first frames enough each = record {
+    IsAllowed Free (c.bits * frames) (span_codeword bits_of first frames)
+codeword_allowed c bits_of first frames enough each = record {
   start_long = length-before bits_of c.bits first enough each;
   bits_long = length-frames (λ j. bits_of (first + j)) c.bits frames (λ j. each (first + j));
   begins = tt;
@@ -39,11 +39,11 @@ word_allowed c bits_of first frames enough each = record {
 
 pub spans_back : SpansComeBack
 spans_back c symbols strength bits_of first frames own whole each some inside =
-    let word = span_word bits_of first frames in
+    let codeword = span_codeword bits_of first frames in
     ap (λ (order : List Bool). own_bits c frames own (signed strength order))
     (sym (sent_as_one c bits_of first frames whole.enough each))
-    ∙ sent_own c symbols frames own strength word whole some inside
-    (word_allowed c bits_of first frames whole.enough each)
+    ∙ sent_own c symbols frames own strength codeword whole some inside
+    (codeword_allowed c bits_of first frames whole.enough each)
     ∙ frame_at (λ j. bits_of (first + j)) c.bits frames own (λ j. each (first + j)) inside
 
 -- ---- a slot

@@ -25,7 +25,7 @@ use Rattle.heard_events.specs.declared.mark.Mark.{Mark}
 use Rattle.event_tap.specs.SlotLines.{lines_of_slots, slot_pages, slot_softs}
 use Rattle.clean_link.specs.CleanLink.{IsOnPath, IsTrueMark}
 use Rattle.cell_plan.specs.Stated.{IsReceivable}
-use Rattle.clean_link.specs.SentWords.{IsWholeChannel}
+use Rattle.clean_link.specs.SentCodewords.{IsWholeChannel}
 use Rattle.clean_link.specs.WholePages.{AreWholePages}
 use Rattle.slot_link.specs.SentSlots.{slots_sent, slots_to_end}
 use Rattle.slot_link.specs.SlotPages.{bits_in_slot, pages_in_slot}

@@ -51,6 +51,6 @@ slots_with_sync key cycle plan p (Some sync) =
     else []
 
 -- What is written for the handset of a key that monitors one of the cell's paging channels in a
--- cycle: the first whole sending of the sync channel tells the mark.
+-- cycle: the first whole transmission of the sync channel tells the mark.
 unfoldable pub slots_sent : ℕ → ℕ → CellPlan → PagingPlan → List ℕ
 slots_sent key cycle plan p = slots_with_sync key cycle plan p plan.sync

@@ -38,10 +38,10 @@ pub use Rattle.quality_bits.proofs.Steps.{length-check_bits}
 pub use Rattle.quality_bits.specs.Kinds.{generator_of, sent_check}
 pub use mir.Syntax.{w64}
 pub use mir.Val.{SFits, of_z, to_z}
-pub use Rattle.symbol_path.specs.FramesTwo.{quality_indicator, word_bits}
+pub use Rattle.symbol_path.specs.FramesTwo.{quality_indicator, codeword_bits}
 pub use Rattle.symbol_path.specs.RatesTwo.{frame_bits, information_of, quality_length, quality_of, symbols_of}
-pub use Rattle.symbol_path.specs.Scrambling.{group_scrambling, power_place, power_start, symbol_or_command}
-unfoldable pub use Rattle.symbol_path.specs.Scrambling.{power_places, symbol_chips, with_commands}
+pub use Rattle.symbol_path.specs.Scrambling.{group_scrambling, power_place, power_start, symbol_or_power_bit}
+unfoldable pub use Rattle.symbol_path.specs.Scrambling.{power_places, symbol_chips, with_power_bits}
 pub use Rattle.symbol_path.specs.SentOrder.{Shape, address, data_shape, place, reversed, shape_of, size, sync_shape}
 unfoldable pub use Rattle.symbol_path.specs.SentOrder.{gathered, sent}
 pub use Rattle.symbol_path.specs.SentOrderTwo.{IsDropped, IsKeptOnce, is_dropped, kept_symbol, place2, repeated_symbol}

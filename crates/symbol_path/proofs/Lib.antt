@@ -9,4 +9,4 @@ pub mod Reversal
 pub mod SymbolChips
 pub mod SentOnceTwo
 pub mod SentTwo
-pub mod WordsTwo
+pub mod CodewordsTwo

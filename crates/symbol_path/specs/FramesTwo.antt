@@ -12,11 +12,11 @@ abbrev pub quality_indicator : Rate2 → List Bool → List Bool
 quality_indicator rate information = check_bits (generator_of (quality_of rate)) information
 
 -- the bits of a frame: its information, its quality indicator, and eight tail bits
-abbrev pub word_bits : Rate2 → List Bool → List Bool
-word_bits rate information =
+abbrev pub codeword_bits : Rate2 → List Bool → List Bool
+codeword_bits rate information =
     information ++ quality_indicator rate information ++ replicate 8 false
 
 -- a frame's symbols in the order in which they are sent: the encoder starts from eight zeros
 abbrev pub sent_frame2 : Rate2 → List Bool → List Bool
 sent_frame2 rate information =
-    sent2 rate (code_symbols (replicate 8 false) (word_bits rate information))
+    sent2 rate (code_symbols (replicate 8 false) (codeword_bits rate information))

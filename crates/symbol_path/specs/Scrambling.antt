@@ -37,12 +37,12 @@ power_places state mask =
 
 -- Symbol i of a frame with its power control bits: that of the symbol's group of 24, where the
 -- symbol is at one of these places.
-abbrev pub symbol_or_command : List ℕ → List Bool → List Bool → ℕ → Bool
-symbol_or_command replaced commands symbols i =
-    if list_any (λ place. place == i) replaced then get_or commands (i / 24) false
+abbrev pub symbol_or_power_bit : List ℕ → List Bool → List Bool → ℕ → Bool
+symbol_or_power_bit replaced power_bits symbols i =
+    if list_any (λ place. place == i) replaced then get_or power_bits (i / 24) false
     else get_or symbols i false
 
 -- the symbols of a frame with its 16 power control bits, each in place of two of them
-unfoldable pub with_commands : ℕ → ℕ → List Bool → List Bool → List Bool
-with_commands state mask commands symbols =
-    map (symbol_or_command (power_places state mask) commands symbols) (places 384)
+unfoldable pub with_power_bits : ℕ → ℕ → List Bool → List Bool → List Bool
+with_power_bits state mask power_bits symbols =
+    map (symbol_or_power_bit (power_places state mask) power_bits symbols) (places 384)

@@ -2,7 +2,7 @@
 
 ghost use Rattle.std.specs.Prelude.{◌≡◌, length};
 ghost use Rattle.symbol_path.specs.RatesTwo.{information_of, frame_bits};
-ghost use Rattle.symbol_path.specs.FramesTwo.{word_bits, sent_frame2};
+ghost use Rattle.symbol_path.specs.FramesTwo.{codeword_bits, sent_frame2};
 
 use crate::order_two::place2_into;
 use crate::rate_two::Rate2;
@@ -15,9 +15,9 @@ const TAIL_BITS: u8 = 8;
 
 /// The bits of a frame with this information: the quality indicator stands behind the information,
 /// and the tail behind both.
-fn word(rate: Rate2, info: &Bits) -> Bits
+fn codeword(rate: Rate2, info: &Bits) -> Bits
     requires { length info.now ≡ information_of rate }
-    ensures value { result ≡ word_bits rate info.now }
+    ensures value { result ≡ codeword_bits rate info.now }
     ensures count { length result ≡ frame_bits rate }
 {
     let mut bits = *info;
@@ -38,6 +38,6 @@ pub fn encode2_into(rate: Rate2, info: &Bits, out: &mut Bits)
     ensures count { length out.new ≡ 384 }
 {
     let mut code = Bits::empty();
-    encode_into(0, &word(rate, info), &mut code);
+    encode_into(0, &codeword(rate, info), &mut code);
     place2_into(rate, &code, out);
 }

@@ -9,20 +9,20 @@
 //! and the fifth are dropped, and the other 384 are sent in the order of rate set 1.
 #![tactic(auto)]
 
-mod commands;
 mod encoding_two;
 mod kinds;
 pub mod laws;
 mod order;
 mod order_two;
+mod power_bits;
 mod rate_two;
 mod scramble;
 
-pub use commands::with_commands;
 pub use encoding_two::encode2_into;
 pub use kinds::Kind;
 pub use order::{address, gather_into, place_into};
 pub use order_two::{place2, repeated_symbol};
+pub use power_bits::with_power_bits;
 pub use quality_bits::Rate;
 pub use rate_two::{REPEATED_SYMBOLS, Rate2};
-pub use scramble::{power_places, power_start, scramble_bits};
+pub use scramble::{PowerPlaces, ScramblingBits, power_places, power_start, scramble_bits};

@@ -8,6 +8,14 @@ ghost use Rattle.symbol_path.specs.Scrambling.{power_start, power_places};
 
 use long_code::State;
 
+/// The scrambling bits of the 384 symbols of a frame, in the sent order: a symbol whose bit is
+/// `true` is sent inverted (TIA/EIA-95-B, 7.1.3.1.6).
+pub type ScramblingBits = [bool; 384];
+
+/// The places of the 32 symbols of a frame that its power control bits replace, two a bit, each
+/// from 0 to 383, in rising order (TIA/EIA-95-B, 7.1.3.1.7).
+pub type PowerPlaces = [u16; 32];
+
 /// The chips of a power control group: 24 symbols of 64 chips.
 const GROUP_CHIPS: u64 = 1536;
 
@@ -33,7 +41,7 @@ fn symbol_chips(state: &mut State, mask: u64, out: &mut [bool])
 ///
 /// TIA/EIA-95-B, 7.1.3.1.6: each symbol is added modulo 2 to the long code's first chip of the 64
 /// that it lasts.
-pub fn scramble_bits(state: &State, mask: u64, out: &mut [bool; 384])
+pub fn scramble_bits(state: &State, mask: u64, out: &mut ScramblingBits)
     requires { mask < 2 ^ 42 }
     ensures { out.new ≡ scrambling state.now mask }
 {
@@ -72,7 +80,7 @@ fn group_bits(state: &mut State, mask: u64) -> [bool; 24]
 /// TIA/EIA-95-B, 7.1.3.1.7: a frame has 16 groups of 24 symbols, and in each a power control bit
 /// takes the place of two symbols. Where it begins, the scrambling bits of the group before say;
 /// that of the first group is in the frame before.
-pub fn power_places(state: &State, mask: u64) -> [u16; 32]
+pub fn power_places(state: &State, mask: u64) -> PowerPlaces
     requires { mask < 2 ^ 42 }
     ensures value { result ≡ power_places state.now mask }
     ensures groups { (g : ℕ) → g < 16 → (24 * g ≤ slice_index result (2 * g)) ×

@@ -1,7 +1,7 @@
 //! The parts of a traffic frame.
 
 ghost use Rattle.std.specs.Prelude.{◌≡◌, ◌≤◌, cond, length, Some, None};
-ghost use Rattle.quality_bits.specs.TrafficWords.{information_of};
+ghost use Rattle.quality_bits.specs.TrafficCodewords.{information_of};
 ghost use Rattle.traffic_message.specs.Multiplex.{primary_bits, split, split_9600};
 
 use chip_core::Bits;

@@ -44,7 +44,7 @@ unfoldable pub use Rattle.cell_script.specs.ScriptLines.{statement_in, sync_behi
 pub use Rattle.cell_script.specs.ScriptStages.{after_frame, after_traffic, count_behind}
 unfoldable pub use Rattle.cell_script.specs.ScriptStages.{pages_behind}
 pub use Rattle.cell_script.specs.ScriptValues.{all_clear, as_state, begins_with, behind, hex_digit, octets_in, unpadded}
-unfoldable pub use Rattle.cell_script.specs.ScriptValues.{bits_in, commands_in, digits_behind, hex_bits, hex_from, length_before}
+unfoldable pub use Rattle.cell_script.specs.ScriptValues.{bits_in, power_bits_in, digits_behind, hex_bits, hex_from, length_before}
 unfoldable pub use Rattle.cell_script.specs.ScriptValues.{number_up_to, serial_number_in, signed_in, state_in}
 pub use Rattle.cell_script.specs.declared.stage.Stage.{Stage}
 pub use Rattle.cell_script.specs.declared.stage.Stage.TheVariants.{FirstFrame, FirstPage, Frames, Link, Pages, Paging, Pilot, Sync}
@@ -71,7 +71,7 @@ unfoldable pub use Rattle.paging_message.specs.HalfFrames.{bits_left}
 unfoldable pub use Rattle.paging_message.specs.Laying.{fill}
 unfoldable pub use Rattle.paging_message.specs.Reading.{is_body}
 pub use Rattle.quality_bits.proofs.Digits.{binary-number}
-pub use Rattle.quality_bits.specs.TrafficWords.{information_of}
+pub use Rattle.quality_bits.specs.TrafficCodewords.{information_of}
 pub use Rattle.quality_bits.specs.declared.rate.Rate.{Rate}
 pub use Rattle.quality_bits.specs.declared.rate.Rate.TheVariants.{R9600}
 pub use Rattle.trial_link.specs.Spelling.{form_bit}

@@ -5,13 +5,13 @@ use Rattle.trial_link.proofs.Common.{cond-true, eq-eqb, leb-true, number, CheckF
 use Rattle.trial_link.proofs.Common.{serial_digits, state_digits, admits, is_body, information_of, Rate, R9600, CellIdentity, Page}
 use Rattle.trial_link.proofs.Common.{TrafficLine, TrafficFrame, field, past, past_at, unsigned_at, cell_in, cell_line, cell_rows}
 use Rattle.trial_link.proofs.Common.{check_form, frame_in, frame_key, frame_with, lawful_frame, page_in, page_key, page_with, statement_in}
-use Rattle.trial_link.proofs.Common.{traffic_in, IsStatedCell, bits_in, commands_in, number_up_to, serial_number_in, state_in, cell_text}
+use Rattle.trial_link.proofs.Common.{traffic_in, IsStatedCell, bits_in, power_bits_in, number_up_to, serial_number_in, state_in, cell_text}
 use Rattle.trial_link.proofs.Common.{form_bit, frame_text, page_text, traffic_text, IsTrafficFrame, traffic_read}
 use Rattle.trial_link.proofs.SpelledBytes.{are_within, bit_text_short, bit_text_within, decimal_short, decimal_within, digits_of_long}
 use Rattle.trial_link.proofs.SpelledBytes.{digits_of_within, serial_long, serial_within, state_long, state_within, within-append}
 use Rattle.trial_link.proofs.SpelledBytes.{within-wider}
 use Rattle.trial_link.proofs.SpelledFields.{fenced_by_end, fenced_by_space, field-front, field-last, past-front, past-last}
-use Rattle.trial_link.proofs.SpelledValues.{bits_back, commands_back, number_back, serial_back, state_back}
+use Rattle.trial_link.proofs.SpelledValues.{bits_back, power_bits_back, number_back, serial_back, state_back}
 use Rattle.cell_script.specs.declared.statements.Statement.TheVariants as statements
 
 -- ---- values without a space
@@ -296,16 +296,16 @@ page_line_within page is =
 
 -- ---- frames
 
-frame_read : (rate : Rate) (information commands : List Bool) (text0 text1 : List ℕ) →
+frame_read : (rate : Rate) (information power_bits : List Bool) (text0 text1 : List ℕ) →
     field (frame_key rate) bits_in text0 ≡ Some information →
     past (frame_key rate) text0 ≡ text1 →
-    field (codes " ") commands_in text1 ≡ Some commands → past (codes " ") text1 ≡ [] →
+    field (codes " ") power_bits_in text1 ≡ Some power_bits → past (codes " ") text1 ≡ [] →
     length information ≡ information_of rate →
     frame_with rate text0
-    ≡ Some (record { rate = rate; information = information; commands = commands })
-frame_read rate information commands text0 text1 first past_first second ended long =
+    ≡ Some (record { rate = rate; information = information; power_bits = power_bits })
+frame_read rate information power_bits text0 text1 first past_first second ended long =
     let frame : TrafficFrame =
-    record { rate = rate; information = information; commands = commands } in
+    record { rate = rate; information = information; power_bits = power_bits } in
     let lawful : lawful_frame (information_of rate) information frame ≡ Some frame =
     cond-true _ _ _ (eq-eqb (length information) (information_of rate) long) in
     rw (past_first, ended, first, second, lawful) refl
@@ -315,25 +315,25 @@ information_few R9600 = omega arith
 information_few rate = omega arith
 
 abbrev frame_line : Rate → List Bool → List Bool → List ℕ
-frame_line rate information commands =
-    frame_key rate ++ (bit_text information ++ (codes " " ++ digits_of commands))
+frame_line rate information power_bits =
+    frame_key rate ++ (bit_text information ++ (codes " " ++ digits_of power_bits))
 
-frame_back : (rate : Rate) (information commands : List Bool) →
-    length information ≡ information_of rate → length commands ≡ 16 →
-    frame_with rate (frame_line rate information commands)
-    ≡ Some (record { rate = rate; information = information; commands = commands })
-frame_back rate information commands long sixteen =
+frame_back : (rate : Rate) (information power_bits : List Bool) →
+    length information ≡ information_of rate → length power_bits ≡ 16 →
+    frame_with rate (frame_line rate information power_bits)
+    ≡ Some (record { rate = rate; information = information; power_bits = power_bits })
+frame_back rate information power_bits long sixteen =
     let few = information_few rate in
-    let information_end = fenced_by_space (bit_text information) (digits_of commands)
+    let information_end = fenced_by_space (bit_text information) (digits_of power_bits)
     (bits_word information (omega (arith, long, few))) in
-    let behind = codes " " ++ digits_of commands in
-    frame_read rate information commands (frame_line rate information commands) behind
+    let behind = codes " " ++ digits_of power_bits in
+    frame_read rate information power_bits (frame_line rate information power_bits) behind
     (field-front (frame_key rate) (bit_text information) behind bits_in information_end
     ∙ bits_back information (omega (arith, long, few)))
     (past-front (frame_key rate) (bit_text information) behind information_end)
-    (field-last (codes " ") (digits_of commands) commands_in (digits_word commands)
-    ∙ commands_back commands sixteen)
-    (past-last (codes " ") (digits_of commands) (digits_word commands))
+    (field-last (codes " ") (digits_of power_bits) power_bits_in (digits_word power_bits)
+    ∙ power_bits_back power_bits sixteen)
+    (past-last (codes " ") (digits_of power_bits) (digits_word power_bits))
     long
 
 frame_statement : (rate : Rate) (rest : List ℕ) →
@@ -344,12 +344,12 @@ frame_statement R9600 rest = refl
 frame_statement rate rest = refl
 
 -- what the line of a frame states
-pub frame_spelled : (f : TrafficFrame) → IsTrafficFrame f → length f.commands ≡ 16 →
+pub frame_spelled : (f : TrafficFrame) → IsTrafficFrame f → length f.power_bits ≡ 16 →
     statement_in (frame_text f) ≡ Some (statements.Frame f)
 unfolding frame_text
 frame_spelled f long sixteen =
-    frame_statement f.rate (bit_text f.information ++ (codes " " ++ digits_of f.commands))
-    ∙ ap (option_map statements.Frame) (frame_back f.rate f.information f.commands long sixteen)
+    frame_statement f.rate (bit_text f.information ++ (codes " " ++ digits_of f.power_bits))
+    ∙ ap (option_map statements.Frame) (frame_back f.rate f.information f.power_bits long sixteen)
 
 frame_key_within : (rate : Rate) → are_within 32 126 (frame_key rate) ≡ true
 frame_key_within R9600 = refl
@@ -361,12 +361,12 @@ pub frame_line_within : (f : TrafficFrame) → IsTrafficFrame f →
 unfolding frame_text
 frame_line_within f long =
     let few = information_few f.rate in
-    keyed_within (frame_key f.rate) (bit_text f.information) (codes " " ++ digits_of f.commands)
+    keyed_within (frame_key f.rate) (bit_text f.information) (codes " " ++ digits_of f.power_bits)
     (frame_key_within f.rate)
     (bits_word f.information (omega (arith, long, few)))
-    (within-append 32 126 (codes " ") (digits_of f.commands) refl
-    (within-wider 33 126 32 126 (digits_of f.commands) (omega arith) (omega arith)
-    (digits_word f.commands)))
+    (within-append 32 126 (codes " ") (digits_of f.power_bits) refl
+    (within-wider 33 126 32 126 (digits_of f.power_bits) (omega arith) (omega arith)
+    (digits_word f.power_bits)))
 
 -- ---- each is one line
 
@@ -435,14 +435,14 @@ frame_key_long : (rate : Rate) → length (frame_key rate) ≡ 11
 frame_key_long R9600 = refl
 frame_key_long rate = refl
 
-pub frame_text_short : (f : TrafficFrame) → IsTrafficFrame f → length f.commands ≡ 16 →
+pub frame_text_short : (f : TrafficFrame) → IsTrafficFrame f → length f.power_bits ≡ 16 →
     length (frame_text f) ≤ 300
 unfolding frame_text
 frame_text_short f long sixteen =
     let few : length f.information ≤ 172 = omega (arith, long, information_few f.rate) in
-    let behind = codes " " ++ digits_of f.commands in
-    let last : length behind ≡ 1 + length (digits_of f.commands) =
-    length-append (codes " ") (digits_of f.commands) in
+    let behind = codes " " ++ digits_of f.power_bits in
+    let last : length behind ≡ 1 + length (digits_of f.power_bits) =
+    length-append (codes " ") (digits_of f.power_bits) in
     omega (
       arith,
       length-append (frame_key f.rate) (bit_text f.information ++ behind),
@@ -451,6 +451,6 @@ frame_text_short f long sixteen =
       frame_key_long f.rate,
       bit_text_short f.information (omega (arith, few)),
       few,
-      digits_of_long f.commands,
+      digits_of_long f.power_bits,
       sixteen,
     )

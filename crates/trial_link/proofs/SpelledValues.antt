@@ -7,7 +7,7 @@ use Rattle.trial_link.proofs.Common.{take-append_seam, cond-false, cond-true, eq
 use Rattle.trial_link.proofs.Common.{length-replicate, from_be_bytes-to_be_bytes_4, from_be_bytes-to_be_bytes_8, decode_of-encode_lower}
 use Rattle.trial_link.proofs.Common.{IsBytes, encode_lower, encode_with, lower_digits, binary, number, IsState, binary-number, bit_text}
 use Rattle.trial_link.proofs.Common.{digits_of, octet_count, octets, padded, serial_digits, state_digits, all_clear, as_state, behind}
-use Rattle.trial_link.proofs.Common.{bits_in, commands_in, digits_behind, hex_bits, hex_digit, hex_from, length_before, number_up_to}
+use Rattle.trial_link.proofs.Common.{bits_in, power_bits_in, digits_behind, hex_bits, hex_digit, hex_from, length_before, number_up_to}
 use Rattle.trial_link.proofs.Common.{octets_in, serial_number_in, state_in, unpadded, one_numeral}
 use Rattle.std.proofs.lemmas.List.{length-drop}
 use Rattle.trial_link.proofs.SpelledBytes.{are_within, at_below, before_high_mark, before_mark, bytes_are, decimal_within, digits_of_long}
@@ -227,8 +227,8 @@ digits_back before (false ∷ bits) =
     digits_back (before ++ false ∷ []) bits ∙ ap Some (append_assoc before (false ∷ []) bits)
 
 -- sixteen power control bits
-pub commands_back : (bits : List Bool) → length bits ≡ 16 → commands_in (digits_of bits) ≡ Some bits
-unfolding commands_in
-commands_back bits long =
+pub power_bits_back : (bits : List Bool) → length bits ≡ 16 → power_bits_in (digits_of bits) ≡ Some bits
+unfolding power_bits_in
+power_bits_back bits long =
     cond-true _ _ _ (eq-eqb (length (digits_of bits)) 16 (digits_of_long bits ∙ long))
     ∙ digits_back [] bits

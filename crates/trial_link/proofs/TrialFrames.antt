@@ -14,7 +14,7 @@ use Rattle.cell_script.specs.declared.statements.Statement.TheVariants as statem
 abbrev pub AreToldFrames : List TrafficFrame → Type 0
 AreToldFrames [] = Unit {0}
 AreToldFrames (f ∷ frames) =
-    IsTrafficFrame f × (length f.commands ≡ 16) × AreToldFrames frames
+    IsTrafficFrame f × (length f.power_bits ≡ 16) × AreToldFrames frames
 
 -- a plan whose last traffic channel has these frames
 abbrev pub with_last : CellPlan → List TrafficPlan → TrafficLine → List TrafficFrame → CellPlan
@@ -44,7 +44,7 @@ frame_added plan before line got f stage is =
 
 frame_leads : (plan : CellPlan) (before : List TrafficPlan) (line : TrafficLine)
     (got : List TrafficFrame) (f : TrafficFrame) (stage : Stage) →
-    after_frame stage ≡ Some Frames → IsTrafficFrame f → length f.commands ≡ 16 →
+    after_frame stage ≡ Some Frames → IsTrafficFrame f → length f.power_bits ≡ 16 →
     Leads (draft_at (with_last plan before line got) stage) (ended (frame_text f))
     (on_frames plan before line (got ++ f ∷ []))
 frame_leads plan before line got f stage is long sixteen =

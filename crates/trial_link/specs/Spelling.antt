@@ -52,4 +52,4 @@ traffic_text line = fields_text traffic_rows (line.row ∷ line.esn ∷ line.off
 -- `frame RATE BITS COMMANDS`
 unfoldable pub frame_text : TrafficFrame → List ℕ
 frame_text f =
-    frame_key f.rate ++ (bit_text f.information ++ (codes " " ++ digits_of f.commands))
+    frame_key f.rate ++ (bit_text f.information ++ (codes " " ++ digits_of f.power_bits))

@@ -5,7 +5,7 @@ use Rattle.std.specs.Prelude.{None}
 use Rattle.std.specs.List.{flat_map}
 use Rattle.chip_core.specs.Bits.{binary, places}
 use Rattle.chip_core.specs.declared.check_form.CheckForm.TheVariants.{Complemented}
-use Rattle.quality_bits.specs.TrafficWords.{information_of}
+use Rattle.quality_bits.specs.TrafficCodewords.{information_of}
 use Rattle.quality_bits.specs.declared.rate.Rate.{Rate}
 use Rattle.quality_bits.specs.declared.rate.Rate.TheVariants.{R9600, R4800, R2400, R1200}
 use Rattle.cell_plan.specs.declared.plan.CellIdentity.{CellIdentity}
@@ -56,7 +56,7 @@ abbrev pub frame_drawn : ℕ → TrafficFrame
 frame_drawn state = record {
   rate = rate_drawn state;
   information = bits_drawn (behind_draw state) (bits_of_frame state);
-  commands = bits_drawn (behind_draws (behind_draw state) (bits_of_frame state)) 16;
+  power_bits = bits_drawn (behind_draws (behind_draw state) (bits_of_frame state)) 16;
 }
 
 -- the state behind it
@@ -110,7 +110,7 @@ unfoldable pub other_frame : TrafficFrame
 other_frame = record {
   rate = R1200;
   information = binary 16 0xffff;
-  commands = binary 16 0x5555;
+  power_bits = binary 16 0x5555;
 }
 
 -- the channel that the handset follows, and the two beside

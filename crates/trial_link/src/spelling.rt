@@ -99,6 +99,6 @@ pub(crate) fn append_frame(text: &mut Text, frame: &TrafficFrame)
 {
     text.append(frame_key(frame.rate));
     text.append_bits(&frame.information);
-    text.append_word(" ");
-    text.append_digits(&frame.commands);
+    text.append_str(" ");
+    text.append_digits(&frame.power_bits);
 }

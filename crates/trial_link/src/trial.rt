@@ -8,7 +8,7 @@ ghost use Rattle.trial_link.specs.Trial as trial;
 use crate::spelling::{append_cell, append_frame, append_page, append_traffic};
 use cell_plan::{CellIdentity, Page, TrafficFrame};
 use cell_script::statements::TrafficLine;
-use chip_core::{Bits, CheckForm, OutOfMemory};
+use chip_core::{Bits, CheckForm, OutOfMemory, PowerBits};
 use line_text::Text;
 use std::alloc::Global;
 use symbol_path::Rate;
@@ -66,7 +66,7 @@ impl Draws {
     }
 
     /// The next power control bits, sixteen.
-    fn commands(&mut self) -> [bool; 16]
+    fn power_bits(&mut self) -> PowerBits
         ensures value { result ≡ trial.bits_drawn self.old.state 16 }
         ensures state { self.new.state ≡ trial.behind_draws self.old.state 16 }
     {
@@ -93,11 +93,11 @@ impl Draws {
     {
         let rate = self.rate();
         let information = self.bits(rate.information_bits());
-        let commands = self.commands();
+        let power_bits = self.power_bits();
         TrafficFrame {
             rate,
             information,
-            commands,
+            power_bits,
         }
     }
 
@@ -130,7 +130,7 @@ impl Draws {
 }
 
 /// Sixteen bits, one for each power control group.
-fn sixteen(bits: &Bits) -> [bool; 16]
+fn sixteen(bits: &Bits) -> PowerBits
     requires { length bits.now ≡ 16 }
     ensures { result ≡ bits.now }
 {
@@ -278,11 +278,11 @@ fn other_frame() -> TrafficFrame
 {
     let mut information = Bits::empty();
     information.append_number(16, 0xffff);
-    let mut commands = Bits::empty();
-    commands.append_number(16, 0x5555);
+    let mut power_bits = Bits::empty();
+    power_bits.append_number(16, 0x5555);
     TrafficFrame {
         rate: Rate::R1200,
         information,
-        commands: sixteen(&commands),
+        power_bits: sixteen(&power_bits),
     }
 }

@@ -58,10 +58,10 @@ module _ (form : TunedText) (check : CheckForm) (m : Mark) where
 module _ (check : CheckForm) (m : Mark) (kept frames : List SoftFrame) where
   -- so it is with the frames of rate set 2
   pub rate2_texts : frames_text RateSetTwo check m kept frames
-      ≡ flat_map (λ (f : SoftFrame). rate2_text f.end f.turned f.power) frames
+      ≡ flat_map (λ (f : SoftFrame). rate2_text f.end f.descrambled f.power) frames
   rate2_texts = texts_by_frame RateSetTwo check m (λ slot frame. refl) kept frames
 
-  -- and with those of rate set 1 with the first words of a rate
+  -- and with those of rate set 1 with the first codewords of a rate
   pub listed_texts : (k : ℕ) → frames_text (Listed k) check m kept frames
-      ≡ flat_map (λ (f : SoftFrame). listed_text k f.end f.turned f.power) frames
+      ≡ flat_map (λ (f : SoftFrame). listed_text k f.end f.descrambled f.power) frames
   listed_texts k = texts_by_frame (Listed k) check m (λ slot frame. refl) kept frames

@@ -46,7 +46,7 @@ module _ (softs : List ℤ) (small : (frame : ℕ) → frame < 4 →
 
 -- the soft values that are kept of a whole slot are those of its frames
 kept_softs : (w : SlotWriter) (slot : List SoftFrame) → HoldsSlot w slot → w.kept ≡ 4 →
-    length w.softs ≡ 1536 → w.softs ≡ flat_map (λ (f : SoftFrame). f.turned) slot
+    length w.softs ≡ 1536 → w.softs ≡ flat_map (λ (f : SoftFrame). f.descrambled) slot
 kept_softs w slot holds all long =
     let whole : length w.softs ≤ 384 * w.kept = omega (arith, all, long) in
     sym (take_all (384 * w.kept) w.softs whole) ∙ holds.softs_are

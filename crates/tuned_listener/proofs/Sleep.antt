@@ -63,7 +63,7 @@ module _ (t : Tuning) (near : AreNear (sync_stream t).fingers) (m : Mark) (one o
         (paging_near t near number m)).0 in
         let start : m.sample + 98304 * slot + 24576 * i ≡ frame_start stream (frame_of_slot slot i) =
         omega arith in
-        ap (λ (f : SoftFrame). f.turned)
+        ap (λ (f : SoftFrame). f.descrambled)
         (frame_same t (Paging number) m one other (frame_of_slot slot i)
         (subst (λ (u : ℕ). AgreeIn one other Data u stream.fingers) start
         (frame_agrees one other number t.phase (m.sample + 98304 * slot) i (omega (arith, late)) few

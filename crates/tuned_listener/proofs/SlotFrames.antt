@@ -84,12 +84,12 @@ ready_put w w' place size fresh given which is long room small decoder cycle kep
 -- a writer keeps a frame that goes on with its slot
 pub holds_put : (w w' : SlotWriter) (slot : List SoftFrame) (frame : SoftFrame) (place size : ℕ)
     (fresh : List ℤ) → place ≡ frame.number % 4 → (place ≡ 0) ⊎ (place ≡ w.kept) →
-    fresh ≡ frame.turned → length fresh ≡ 384 → 384 * place ≤ length w.softs →
+    fresh ≡ frame.descrambled → length fresh ≡ 384 → 384 * place ≤ length w.softs →
     w'.kept ≡ place + 1 → w'.softs ≡ put_mid (384 * place) size w.softs fresh →
     HoldsSlot w slot → HoldsSlot w' (slot_more slot frame)
 holds_put w w' slot frame place size fresh is which given long room kept softs holds =
-    let turned = λ (f : SoftFrame). f.turned in
-    let front : take (384 * w'.kept) w'.softs ≡ take (384 * place) w.softs ++ frame.turned =
+    let descrambled = λ (f : SoftFrame). f.descrambled in
+    let front : take (384 * w'.kept) w'.softs ≡ take (384 * place) w.softs ++ frame.descrambled =
     ap (λ (n : ℕ). take (384 * n) w'.softs) kept
     ∙ ap (take (384 * (place + 1))) softs
     ∙ put_front place size w.softs fresh room long
@@ -100,8 +100,8 @@ holds_put w w' slot frame place size fresh is which given long room kept softs h
           rw (slot_begun slot frame (eqb-true (frame.number % 4) 0 first)) (record {
             count_is = omega (arith, kept, none);
             softs_are = front
-                ∙ ap (λ (n : ℕ). take (384 * n) w.softs ++ frame.turned) none
-                ∙ sym (append-nil frame.turned);
+                ∙ ap (λ (n : ℕ). take (384 * n) w.softs ++ frame.descrambled) none
+                ∙ sym (append-nil frame.descrambled);
           })
       | inr other ↦
           let some = eqb-false (frame.number % 4) 0 other in
@@ -114,9 +114,9 @@ holds_put w w' slot frame place size fresh is which given long room kept softs h
           rw goes_on (record {
             count_is = omega (arith, kept, next, holds.count_is, length-append slot (frame ∷ []));
             softs_are = front
-                ∙ ap (λ (n : ℕ). take (384 * n) w.softs ++ frame.turned) next
-                ∙ ap (λ (xs : List ℤ). xs ++ frame.turned) holds.softs_are
-                ∙ ap (λ (xs : List ℤ). flat_map turned slot ++ xs) (sym (append-nil frame.turned))
-                ∙ sym (flat_map-append turned slot (frame ∷ []));
+                ∙ ap (λ (n : ℕ). take (384 * n) w.softs ++ frame.descrambled) next
+                ∙ ap (λ (xs : List ℤ). xs ++ frame.descrambled) holds.softs_are
+                ∙ ap (λ (xs : List ℤ). flat_map descrambled slot ++ xs) (sym (append-nil frame.descrambled))
+                ∙ sym (flat_map-append descrambled slot (frame ∷ []));
           })
     ]

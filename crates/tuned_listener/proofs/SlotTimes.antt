@@ -38,7 +38,7 @@ module _ (key cycle : ℕ) (check : CheckForm) (m : Mark) where
       slot_lines d.end (m.time + slot)
       (slot_pages check (paging_rate m.prat)
       (slot_bits (paging_rate m.prat)
-      (flat_map (λ (f : SoftFrame). f.turned) (a ∷ b ∷ c ∷ d ∷ []))))
+      (flat_map (λ (f : SoftFrame). f.descrambled) (a ∷ b ∷ c ∷ d ∷ []))))
 
   -- one frame more
   text_of_next : (kept slot : List SoftFrame) (frame : SoftFrame) (frames : List SoftFrame) →

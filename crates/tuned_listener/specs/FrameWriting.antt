@@ -26,7 +26,7 @@ text_of (writers.RateSetTwo decoder) = RateSetTwo
 text_of (writers.Listed decoder k) = Listed k
 text_of (writers.Slots slots) = Slots slots.key slots.cycle
 
--- its decoder takes a frame, and lists from 1 to 16 words; or it is ready for slots
+-- its decoder takes a frame, and lists from 1 to 16 codewords; or it is ready for slots
 abbrev pub IsReady : FrameWriter → Type 0
 IsReady (writers.RateSetTwo decoder) = 288 ≤ decoder
 IsReady (writers.Listed decoder k) = (192 ≤ decoder) × (1 ≤ k) × (k ≤ 16)

@@ -26,7 +26,7 @@ page_list (Some page) = page.message ∷ []
 -- it keeps these frames of a slot
 pub record HoldsSlot (w : SlotWriter) (slot : List SoftFrame) : Type 0 where
   pub count_is : w.kept ≡ length slot
-  pub softs_are : take (384 * w.kept) w.softs ≡ flat_map (λ (f : SoftFrame). f.turned) slot
+  pub softs_are : take (384 * w.kept) w.softs ≡ flat_map (λ (f : SoftFrame). f.descrambled) slot
 
 -- its decoder takes three frames, and what it keeps is so small that it may be decoded
 pub record IsReadyForSlots (w : SlotWriter) : Type 0 where

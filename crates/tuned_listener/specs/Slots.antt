@@ -39,5 +39,5 @@ slot_text key cycle check m slot frame =
     if length slot == 4 && is_monitored time key cycle && nat_lt m.prat 2
     then slot_lines frame.end time
     (slot_pages check rate
-    (slot_bits rate (flat_map (λ (f : SoftFrame). f.turned) slot)))
+    (slot_bits rate (flat_map (λ (f : SoftFrame). f.descrambled) slot)))
     else []

@@ -32,26 +32,26 @@ behind_mark t channel samples = frames_from t channel samples (mark t samples (l
 
 -- the line of a frame of rate set 2; one of a channel without power control bits has none
 abbrev pub rate2_text : ℕ → List ℤ → Option PowerControl → List ℕ
-rate2_text place turned None = []
-rate2_text place turned (Some power) =
-    frame2_line place (decoded2 power.replaced turned) power.commands
+rate2_text place descrambled None = []
+rate2_text place descrambled (Some power) =
+    frame2_line place (decoded2 power.replaced descrambled) power.power_bits
 
 -- the line of a frame of rate set 1, of which this was decoded
 abbrev pub decoded_line : ℕ → Decoded → List Bool → List ℕ
-decoded_line place frame commands =
-    frame_line place frame.rate frame.good frame.bits commands
+decoded_line place frame power_bits =
+    frame_line place frame.rate frame.good frame.bits power_bits
 
--- the line of a frame of rate set 1 with the first k words of a rate; one of a channel without
+-- the line of a frame of rate set 1 with the first k codewords of a rate; one of a channel without
 -- power control bits has none
 abbrev pub listed_text : ℕ → ℕ → List ℤ → Option PowerControl → List ℕ
-listed_text k place turned None = []
-listed_text k place turned (Some power) =
-    decoded_line place (listed k power.replaced turned) power.commands
+listed_text k place descrambled None = []
+listed_text k place descrambled (Some power) =
+    decoded_line place (listed k power.replaced descrambled) power.power_bits
 
 -- what is written of a frame, where these are the frames of its slot up to it
 abbrev pub frame_text : TunedText → CheckForm → Mark → List SoftFrame → SoftFrame → List ℕ
-frame_text RateSetTwo check m slot frame = rate2_text frame.end frame.turned frame.power
-frame_text (Listed k) check m slot frame = listed_text k frame.end frame.turned frame.power
+frame_text RateSetTwo check m slot frame = rate2_text frame.end frame.descrambled frame.power
+frame_text (Listed k) check m slot frame = listed_text k frame.end frame.descrambled frame.power
 frame_text (Slots key cycle) check m slot frame = slot_text key cycle check m slot frame
 
 -- what is written of frames in order, where these of a slot are kept from those before

@@ -30,10 +30,10 @@ use rate_set_two::traffic2_frame;
 use std::alloc::Global;
 use viterbi::Decoder;
 
-/// The most bits of a word of rate set 1: a frame at 9,600 bits a second.
+/// The most bits of a codeword of rate set 1: a frame at 9,600 bits a second.
 const SET_ONE_BITS: u16 = 192;
 
-/// The most bits of a word of rate set 2: a frame at 14,400 bits a second.
+/// The most bits of a codeword of rate set 2: a frame at 14,400 bits a second.
 const SET_TWO_BITS: u16 = 288;
 
 /// What decodes the frames of one channel, and writes what is made of them.
@@ -41,7 +41,7 @@ const SET_TWO_BITS: u16 = 288;
 pub(crate) enum FrameWriter {
     /// Decodes frames of rate set 2.
     RateSetTwo { decoder: Decoder },
-    /// Decodes frames of rate set 1 with the first `k` words of a rate, from 1 to 16.
+    /// Decodes frames of rate set 1 with the first `k` codewords of a rate, from 1 to 16.
     Listed { decoder: ListDecoder, k: u8 },
     /// Hears the slots of a paging channel that a handset monitors.
     Slots(SlotWriter),
@@ -54,22 +54,22 @@ fn write_rate2<K: Sink>(
     sink: &mut K,
 ) -> Result<(), Failed>
     requires decodes { 288 ≤ decoder.old }
-    requires small { sum_by unsigned_abs frame.now.turned ≤ frame_most }
+    requires small { sum_by unsigned_abs frame.now.descrambled ≤ frame_most }
     ensures kept { decoder.new ≡ decoder.old }
     ensures ok { OnOk result (Appends (K.written sink.old) (K.written sink.new)
-        (rate2_text frame.now.end frame.now.turned frame.now.power)) }
+        (rate2_text frame.now.end frame.now.descrambled frame.now.power)) }
     ensures err { OnErr result (AppendsPrefix (K.written sink.old) (K.written sink.new)
-        (rate2_text frame.now.end frame.now.turned frame.now.power)) }
+        (rate2_text frame.now.end frame.now.descrambled frame.now.power)) }
     ensures cause { HasCause (K.faults sink.old) (K.faults sink.new) result }
 {
     let Some(power) = frame.power else {
         return Ok(());
     };
-    let decoded = traffic2_frame(decoder, &frame.turned, &power.replaced);
-    write_frame2(frame.end, &decoded, &power.commands, sink)
+    let decoded = traffic2_frame(decoder, &frame.descrambled, &power.replaced);
+    write_frame2(frame.end, &decoded, &power.power_bits, sink)
 }
 
-/// Writes the line of a frame of rate set 1 with the first so many words of a rate, where the
+/// Writes the line of a frame of rate set 1 with the first so many codewords of a rate, where the
 /// channel has power control bits.
 #[tactic(auto, unfolding(event_tap::specs::EventLines::event_line))]
 fn write_listed<K: Sink>(
@@ -81,24 +81,24 @@ fn write_listed<K: Sink>(
     requires decodes { 192 ≤ decoder.old }
     requires some { 1 ≤ k }
     requires few { k ≤ 16 }
-    requires small { sum_by unsigned_abs frame.now.turned ≤ frame_most }
+    requires small { sum_by unsigned_abs frame.now.descrambled ≤ frame_most }
     ensures kept { decoder.new ≡ decoder.old }
     ensures ok { OnOk result (Appends (K.written sink.old) (K.written sink.new)
-        (listed_text k frame.now.end frame.now.turned frame.now.power)) }
+        (listed_text k frame.now.end frame.now.descrambled frame.now.power)) }
     ensures err { OnErr result (AppendsPrefix (K.written sink.old) (K.written sink.new)
-        (listed_text k frame.now.end frame.now.turned frame.now.power)) }
+        (listed_text k frame.now.end frame.now.descrambled frame.now.power)) }
     ensures cause { HasCause (K.faults sink.old) (K.faults sink.new) result }
 {
     let Some(power) = frame.power else {
         return Ok(());
     };
-    let decoded = listed_frame(decoder, k, &frame.turned, &power.replaced);
+    let decoded = listed_frame(decoder, k, &frame.descrambled, &power.replaced);
     let event = Event::Frame {
         at: frame.end,
         rate: decoded.rate,
         good: decoded.good,
         bits: decoded.bits,
-        commands: power.commands,
+        commands: power.power_bits,
     };
     write_event(&event, sink)
 }
@@ -135,7 +135,7 @@ impl FrameWriter {
     fn write<K: Sink>(&mut self, mark: &Mark, frame: &SoftFrame, sink: &mut K) -> Result<(), Failed>
         requires ready { IsReady self.old }
         requires mark { IsSoundMark mark.now }
-        requires small { sum_by unsigned_abs frame.now.turned ≤ frame_most }
+        requires small { sum_by unsigned_abs frame.now.descrambled ≤ frame_most }
         ensures ready { IsReady self.new }
         ensures text { text_of self.new ≡ text_of self.old }
         ensures holds { (check : TheCheck) (slot : List TheFrame) →

@@ -42,7 +42,7 @@ pub(crate) struct SlotWriter {
     cycle: u8,
     /// The check of capsules.
     check: CheckForm,
-    /// The soft values of the frames that are kept of a slot, 384 a frame, turned by the
+    /// The soft values of the frames that are kept of a slot, 384 a frame, descrambled by the
     /// scrambling.
     softs: [i64; 4 * DATA_SYMBOLS],
     /// How many frames are kept, from the slot's first on.
@@ -207,7 +207,7 @@ impl SlotWriter {
     /// Keeps the next frame, where it goes on with its slot.
     fn keep(&mut self, frame: &SoftFrame)
         requires ready { IsReadyForSlots self.old }
-        requires small { sum_by unsigned_abs frame.now.turned ≤ frame_most }
+        requires small { sum_by unsigned_abs frame.now.descrambled ≤ frame_most }
         ensures ready { IsReadyForSlots self.new }
         ensures key { self.new.key ≡ self.old.key }
         ensures cycle { self.new.cycle ≡ self.old.cycle }
@@ -221,7 +221,7 @@ impl SlotWriter {
             return;
         }
         let from = DATA_SYMBOLS * usize::from(place);
-        self.softs[from..from + DATA_SYMBOLS].copy_from_slice(&frame.turned);
+        self.softs[from..from + DATA_SYMBOLS].copy_from_slice(&frame.descrambled);
         self.kept = place + 1;
     }
 
@@ -274,7 +274,7 @@ impl SlotWriter {
     ) -> Result<(), Failed>
         requires ready { IsReadyForSlots self.old }
         requires mark { IsSoundMark mark.now }
-        requires small { sum_by unsigned_abs frame.now.turned ≤ frame_most }
+        requires small { sum_by unsigned_abs frame.now.descrambled ≤ frame_most }
         ensures ready { IsReadyForSlots self.new }
         ensures key { self.new.key ≡ self.old.key }
         ensures cycle { self.new.cycle ≡ self.old.cycle }

@@ -5,10 +5,10 @@
 pub enum TunedText {
     /// Each frame is decoded as one of rate set 2 (TIA/EIA-95-B, 7.1.3.5), and has its line.
     RateSetTwo,
-    /// Each frame is decoded as one of rate set 1 (7.1.3.5) with the first so many words of a rate,
-    /// and has its line.
+    /// Each frame is decoded as one of rate set 1 (7.1.3.5) with the first so many codewords of a
+    /// rate, and has its line.
     Listed {
-        /// How many words of a rate are looked at, from 1 to 16.
+        /// How many codewords of a rate are looked at, from 1 to 16.
         k: u8,
     },
     /// Each slot of a paging channel that a sleeping handset monitors (6.6.2.1.1.3) has its line,

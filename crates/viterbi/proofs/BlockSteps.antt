@@ -1,11 +1,11 @@
--- A block of eight states by the words of the definitions.
+-- A block of eight states by the codewords of the definitions.
 use Rattle.viterbi.proofs.Common.{◌≡◌, ℕ, zero, suc, ◌+◌, ◌-◌, ◌*◌, ◌/◌, ◌%◌, ◌^◌, ◌<◌, ◌≤◌, Bool, true, false, List, [], ◌∷◌, length, map}
 use Rattle.viterbi.proofs.Common.{take, drop, get_or, refl, sym, ap, ◌∙◌, arith, ℤ, pos, ◌+ℤ◌, ◌-ℤ◌, ◌*ℤ◌, ◌≤ℤ◌, ◌<ℤ◌, negsuc, FitsSigned}
 use Rattle.viterbi.proofs.Common.{unsigned_abs, to_z, of_z, w64, nat_lt, int_lt, list_all, range_with_len, ints, to_z-of_z}
 use Rattle.viterbi.proofs.Common.{fits_signed_from_abs, and_parts, nat_tests, get_or-map, get_or-drop, get_or-take, length-map}
 use Rattle.viterbi.proofs.Common.{length-take-le, get_or-range_with_len, length-range_with_len, get_or-chunk, length-chunk}
 use Rattle.viterbi.proofs.Common.{Each1-from_get_or, Each1, Each2, chunk, bit_of, sign, low_bits, gain_of, wants, taken_of, metric_from}
-use Rattle.viterbi.proofs.Common.{metric_into, choice_into, lane_codes, kinds, gain_by, code_of, Fit, length-drop}
+use Rattle.viterbi.proofs.Common.{metric_into, choice_into, lane_codes, patterns, gain_by, code_of, Fit, length-drop}
 use Rattle.viterbi.proofs.Codes.{code_gains}
 use Rattle.viterbi.proofs.Blocks.{passed, kept}
 
@@ -25,11 +25,11 @@ all_below p n all t b =
     sym (ap p (get_or-range_with_len 0 n t 0 b ∙ place))
     ∙ all_tests p (range_with_len 0 n) t 0 (omega (arith, b, length-range_with_len 0 n)) all
 
-abbrev small_kind : ℕ → Bool
-small_kind k = nat_lt (get_or kinds k 0) 4
+abbrev small_pattern : ℕ → Bool
+small_pattern k = nat_lt (get_or patterns k 0) 4
 
-all_small : list_all small_kind (range_with_len 0 32) ≡ true
-unfolding kinds
+all_small : list_all small_pattern (range_with_len 0 32) ≡ true
+unfolding patterns
 all_small = refl
 
 abbrev small_lane : ℕ → Bool
@@ -39,14 +39,14 @@ all_lanes : list_all small_lane (range_with_len 0 32) ≡ true
 unfolding lane_codes
 all_lanes = refl
 
-pub kind_small : (k : ℕ) → k < 32 → get_or kinds k 0 < 4
-kind_small k b = let e = all_below small_kind 32 all_small k b in grind (arith, nat_tests, e)
+pub pattern_small : (k : ℕ) → k < 32 → get_or patterns k 0 < 4
+pattern_small k b = let e = all_below small_pattern 32 all_small k b in grind (arith, nat_tests, e)
 
 pub lane_small : (j : ℕ) → j < 32 → get_or lane_codes j 0 < 4
 lane_small j b = let e = all_below small_lane 32 all_lanes j b in grind (arith, nat_tests, e)
 
 pub code_at : (k l : ℕ) → l < 8 →
-    code_of (8 * k + l) ≡ get_or lane_codes (8 * get_or kinds k 0 + l) 0
+    code_of (8 * k + l) ≡ get_or lane_codes (8 * get_or patterns k 0 + l) 0
 code_at k l b =
     let block : (8 * k + l) / 8 ≡ k = omega (arith, b) in
     let lane : (8 * k + l) % 8 ≡ l = omega (arith, b) in
@@ -143,14 +143,14 @@ pub passed_is : (xs : List ℤ) → ((l : ℕ) → l < length xs → FitsSigned 
     passed xs ≡ xs
 passed_is xs h = kept xs (Each1-from_get_or (λ x. FitsSigned w64 x) xs (pos 0) h)
 
--- eight numbers of a row, as they are handed on and less the top
-pub less_lanes : (row xs : List ℤ) (top : ℤ) (place : ℕ → ℕ) → length xs ≡ 8 → FitsSigned w64 top →
-    ((t : ℕ) → t < length row → FitsSigned w64 (get_or row t (pos 0))) →
-    ((t : ℕ) → t < length row → FitsSigned w64 (get_or row t (pos 0) -ℤ top)) →
-    ((l : ℕ) → l < 8 → place l < length row) →
-    ((l : ℕ) → l < 8 → get_or xs l (pos 0) ≡ get_or row (place l) (pos 0)) →
+-- eight numbers of a column, as they are handed on and less the top
+pub less_lanes : (column xs : List ℤ) (top : ℤ) (place : ℕ → ℕ) → length xs ≡ 8 → FitsSigned w64 top →
+    ((t : ℕ) → t < length column → FitsSigned w64 (get_or column t (pos 0))) →
+    ((t : ℕ) → t < length column → FitsSigned w64 (get_or column t (pos 0) -ℤ top)) →
+    ((l : ℕ) → l < 8 → place l < length column) →
+    ((l : ℕ) → l < 8 → get_or xs l (pos 0) ≡ get_or column (place l) (pos 0)) →
     (passed xs ≡ xs) × Each1 (λ x. Fit x top (x -ℤ top)) xs
-less_lanes row xs top place long fits each less within reads = (
+less_lanes column xs top place long fits each less within reads = (
   passed_is xs (λ l b. rw (reads l (omega (arith, b, long)))
       (each (place l) (within l (omega (arith, b, long))))),
   Each1-from_get_or (λ x. Fit x top (x -ℤ top)) xs (pos 0)
@@ -161,15 +161,15 @@ less_lanes row xs top place long fits each less within reads = (
 )
 
 -- and what is made of them, handed on again
-pub less_read : (row xs made : List ℤ) (top : ℤ) (place : ℕ → ℕ) → length xs ≡ 8 →
-    ((t : ℕ) → t < length row → FitsSigned w64 (get_or row t (pos 0) -ℤ top)) →
-    ((l : ℕ) → l < 8 → place l < length row) →
-    ((l : ℕ) → l < 8 → get_or xs l (pos 0) ≡ get_or row (place l) (pos 0)) →
+pub less_read : (column xs made : List ℤ) (top : ℤ) (place : ℕ → ℕ) → length xs ≡ 8 →
+    ((t : ℕ) → t < length column → FitsSigned w64 (get_or column t (pos 0) -ℤ top)) →
+    ((l : ℕ) → l < 8 → place l < length column) →
+    ((l : ℕ) → l < 8 → get_or xs l (pos 0) ≡ get_or column (place l) (pos 0)) →
     made ≡ map (λ x. x -ℤ top) xs → (l : ℕ) → l < 8 →
-    get_or (passed made) l (pos 0) ≡ get_or row (place l) (pos 0) -ℤ top
-less_read row xs made top place long less within reads is l b =
+    get_or (passed made) l (pos 0) ≡ get_or column (place l) (pos 0) -ℤ top
+less_read column xs made top place long less within reads is l b =
     ap (λ (r : List ℤ). get_or r l (pos 0)) (passed_is made fits) ∙ here l b where
-      here : (l : ℕ) → l < 8 → get_or made l (pos 0) ≡ get_or row (place l) (pos 0) -ℤ top
+      here : (l : ℕ) → l < 8 → get_or made l (pos 0) ≡ get_or column (place l) (pos 0) -ℤ top
       here l b =
           ap (λ (r : List ℤ). get_or r l (pos 0)) is
           ∙ get_or-map (λ x. x -ℤ top) xs l (pos 0) (pos 0) (omega (arith, b, long))
@@ -202,36 +202,36 @@ plus_less x top g = omega (arith, ints)
 minus_less : (x top g : ℤ) → (x -ℤ top) -ℤ g ≡ (x +ℤ (pos 0 -ℤ g)) -ℤ top
 minus_less x top g = omega (arith, ints)
 
-pub from_even : (row : List ℤ) (top f s : ℤ) (k l : ℕ) (a g : ℤ) → k < 32 → l < 8 →
-    a ≡ get_or row (16 * (k % 16) + 2 * l) (pos 0) -ℤ top →
-    g ≡ gain_by f s (get_or lane_codes (8 * get_or kinds k 0 + l) 0) →
-    a +ℤ g ≡ metric_from row f s (8 * k + l) 0 -ℤ top
+pub from_even : (column : List ℤ) (top f s : ℤ) (k l : ℕ) (a g : ℤ) → k < 32 → l < 8 →
+    a ≡ get_or column (16 * (k % 16) + 2 * l) (pos 0) -ℤ top →
+    g ≡ gain_by f s (get_or lane_codes (8 * get_or patterns k 0 + l) 0) →
+    a +ℤ g ≡ metric_from column f s (8 * k + l) 0 -ℤ top
 unfolding metric_from
-from_even row top f s k l a g p b ais gis =
+from_even column top f s k l a g p b ais gis =
     let t = 8 * k + l in
     let gain : g ≡ gain_of f s (low_bits 9 (2 * t + 0)) =
     gis ∙ ap (gain_by f s) (sym (code_at k l b)) ∙ sym (code_gains f s t (omega (arith, p, b))).0 in
-    let here : a ≡ get_or row (2 * (t % 128) + 0) (pos 0) -ℤ top =
-    ais ∙ ap (λ (i : ℕ). get_or row i (pos 0) -ℤ top) (sym (place_even k l p b)) in
+    let here : a ≡ get_or column (2 * (t % 128) + 0) (pos 0) -ℤ top =
+    ais ∙ ap (λ (i : ℕ). get_or column i (pos 0) -ℤ top) (sym (place_even k l p b)) in
     ap (λ (z : ℤ). z +ℤ g) here
-    ∙ ap (λ (z : ℤ). (get_or row (2 * (t % 128) + 0) (pos 0) -ℤ top) +ℤ z) gain
-    ∙ plus_less (get_or row (2 * (t % 128) + 0) (pos 0)) top _
+    ∙ ap (λ (z : ℤ). (get_or column (2 * (t % 128) + 0) (pos 0) -ℤ top) +ℤ z) gain
+    ∙ plus_less (get_or column (2 * (t % 128) + 0) (pos 0)) top _
 
-pub from_odd : (row : List ℤ) (top f s : ℤ) (k l : ℕ) (a g : ℤ) → k < 32 → l < 8 →
-    a ≡ get_or row (16 * (k % 16) + (2 * l + 1)) (pos 0) -ℤ top →
-    g ≡ gain_by f s (get_or lane_codes (8 * get_or kinds k 0 + l) 0) →
-    a -ℤ g ≡ metric_from row f s (8 * k + l) 1 -ℤ top
+pub from_odd : (column : List ℤ) (top f s : ℤ) (k l : ℕ) (a g : ℤ) → k < 32 → l < 8 →
+    a ≡ get_or column (16 * (k % 16) + (2 * l + 1)) (pos 0) -ℤ top →
+    g ≡ gain_by f s (get_or lane_codes (8 * get_or patterns k 0 + l) 0) →
+    a -ℤ g ≡ metric_from column f s (8 * k + l) 1 -ℤ top
 unfolding metric_from
-from_odd row top f s k l a g p b ais gis =
+from_odd column top f s k l a g p b ais gis =
     let t = 8 * k + l in
     let gain : pos 0 -ℤ g ≡ gain_of f s (low_bits 9 (2 * t + 1)) =
     ap (λ (z : ℤ). pos 0 -ℤ z) (gis ∙ ap (gain_by f s) (sym (code_at k l b)))
     ∙ sym (code_gains f s t (omega (arith, p, b))).1 in
-    let here : a ≡ get_or row (2 * (t % 128) + 1) (pos 0) -ℤ top =
-    ais ∙ ap (λ (i : ℕ). get_or row i (pos 0) -ℤ top) (sym (place_odd k l p b)) in
+    let here : a ≡ get_or column (2 * (t % 128) + 1) (pos 0) -ℤ top =
+    ais ∙ ap (λ (i : ℕ). get_or column i (pos 0) -ℤ top) (sym (place_odd k l p b)) in
     ap (λ (z : ℤ). z -ℤ g) here
-    ∙ minus_less (get_or row (2 * (t % 128) + 1) (pos 0)) top g
-    ∙ ap (λ (z : ℤ). (get_or row (2 * (t % 128) + 1) (pos 0) +ℤ z) -ℤ top) gain
+    ∙ minus_less (get_or column (2 * (t % 128) + 1) (pos 0)) top g
+    ∙ ap (λ (z : ℤ). (get_or column (2 * (t % 128) + 1) (pos 0) +ℤ z) -ℤ top) gain
 
 -- what is taken off both changes no comparison
 less_same : (x y top : ℤ) → int_lt (x -ℤ top) (y -ℤ top) ≡ int_lt x y
@@ -250,49 +250,49 @@ taken_less : (c : Bool) (x y top : ℤ) → taken_of c (x -ℤ top) (y -ℤ top)
 taken_less true x y top = refl
 taken_less false x y top = refl
 
-pub block_chosen : (row : List ℤ) (top f s : ℤ) (k l : ℕ) (forced : Bool) (a b g : ℤ) (bit : Bool) →
-    a +ℤ g ≡ metric_from row f s (8 * k + l) 0 -ℤ top →
-    b -ℤ g ≡ metric_from row f s (8 * k + l) 1 -ℤ top →
-    bit ≡ wants forced (a +ℤ g) (b -ℤ g) → bit ≡ choice_into forced row f s (8 * k + l)
+pub block_chosen : (column : List ℤ) (top f s : ℤ) (k l : ℕ) (forced : Bool) (a b g : ℤ) (bit : Bool) →
+    a +ℤ g ≡ metric_from column f s (8 * k + l) 0 -ℤ top →
+    b -ℤ g ≡ metric_from column f s (8 * k + l) 1 -ℤ top →
+    bit ≡ wants forced (a +ℤ g) (b -ℤ g) → bit ≡ choice_into forced column f s (8 * k + l)
 unfolding choice_into
-block_chosen row top f s k l forced a b g bit p q is = is ∙ rw (p, q) (wants_same forced _ _ top)
+block_chosen column top f s k l forced a b g bit p q is = is ∙ rw (p, q) (wants_same forced _ _ top)
 
-pub block_metric : (row : List ℤ) (top f s : ℤ) (k l : ℕ) (forced : Bool) (a b g m : ℤ) →
-    a +ℤ g ≡ metric_from row f s (8 * k + l) 0 -ℤ top →
-    b -ℤ g ≡ metric_from row f s (8 * k + l) 1 -ℤ top →
+pub block_metric : (column : List ℤ) (top f s : ℤ) (k l : ℕ) (forced : Bool) (a b g m : ℤ) →
+    a +ℤ g ≡ metric_from column f s (8 * k + l) 0 -ℤ top →
+    b -ℤ g ≡ metric_from column f s (8 * k + l) 1 -ℤ top →
     m ≡ taken_of (wants forced (a +ℤ g) (b -ℤ g)) (a +ℤ g) (b -ℤ g) →
-    m ≡ metric_into forced row f s (8 * k + l) -ℤ top
+    m ≡ metric_into forced column f s (8 * k + l) -ℤ top
 unfolding choice_into metric_into
-block_metric row top f s k l forced a b g m p q is =
+block_metric column top f s k l forced a b g m p q is =
     is
     ∙ rw (p, q)
-    (rw (wants_same forced (metric_from row f s (8 * k + l) 0) (metric_from row f s (8 * k + l) 1)
+    (rw (wants_same forced (metric_from column f s (8 * k + l) 0) (metric_from column f s (8 * k + l) 1)
     top)
     (taken_less
-    (wants forced (metric_from row f s (8 * k + l) 0) (metric_from row f s (8 * k + l) 1)) _ _ top))
+    (wants forced (metric_from column f s (8 * k + l) 0) (metric_from column f s (8 * k + l) 1)) _ _ top))
 
 -- LANES THAT ARE HANDED ON
 pub lane_gain : (gains g : List ℤ) (f s : ℤ) (k : ℕ) → k < 32 →
     ((j : ℕ) → j < 32 → get_or gains j (pos 0) ≡ gain_by f s (get_or lane_codes j 0)) →
-    ((l : ℕ) → l < 8 → get_or g l (pos 0) ≡ get_or gains (8 * get_or kinds k 0 + l) (pos 0)) →
+    ((l : ℕ) → l < 8 → get_or g l (pos 0) ≡ get_or gains (8 * get_or patterns k 0 + l) (pos 0)) →
     (l : ℕ) → l < 8 →
-    get_or g l (pos 0) ≡ gain_by f s (get_or lane_codes (8 * get_or kinds k 0 + l) 0)
-lane_gain gains g f s k p made read l b = let few = kind_small k p in read l b
-    ∙ made (8 * get_or kinds k 0 + l) (omega (arith, few, b))
+    get_or g l (pos 0) ≡ gain_by f s (get_or lane_codes (8 * get_or patterns k 0 + l) 0)
+lane_gain gains g f s k p made read l b = let few = pattern_small k p in read l b
+    ∙ made (8 * get_or patterns k 0 + l) (omega (arith, few, b))
 
-pub lanes_fit : (row a g : List ℤ) (top f s : ℤ) (k : ℕ) (place : ℕ → ℕ) → length a ≡ 8 →
+pub lanes_fit : (column a g : List ℤ) (top f s : ℤ) (k : ℕ) (place : ℕ → ℕ) → length a ≡ 8 →
     length g ≡ 8 →
     unsigned_abs f + unsigned_abs s ≤ 2 ^ 62 →
-    ((t : ℕ) → t < 256 → get_or row t (pos 0) ≤ℤ top) →
+    ((t : ℕ) → t < 256 → get_or column t (pos 0) ≤ℤ top) →
     ((t : ℕ) → t < 256 →
-    unsigned_abs (top -ℤ get_or row t (pos 0)) + (unsigned_abs f + unsigned_abs s) ≤ 2 ^ 63) →
+    unsigned_abs (top -ℤ get_or column t (pos 0)) + (unsigned_abs f + unsigned_abs s) ≤ 2 ^ 63) →
     ((l : ℕ) → l < 8 → place l < 256) →
-    ((l : ℕ) → l < 8 → get_or a l (pos 0) ≡ get_or row (place l) (pos 0) -ℤ top) →
+    ((l : ℕ) → l < 8 → get_or a l (pos 0) ≡ get_or column (place l) (pos 0) -ℤ top) →
     ((l : ℕ) → l < 8 →
-    get_or g l (pos 0) ≡ gain_by f s (get_or lane_codes (8 * get_or kinds k 0 + l) 0)) →
+    get_or g l (pos 0) ≡ gain_by f s (get_or lane_codes (8 * get_or patterns k 0 + l) 0)) →
     (passed a ≡ a)
     × ((passed g ≡ g) × (Each2 (λ x y. Fit x y (x +ℤ y)) a g × Each2 (λ x y. Fit x y (x -ℤ y)) a g))
-lanes_fit row a g top f s k place m n pair most near within reads gains = (
+lanes_fit column a g top f s k place m n pair most near within reads gains = (
   passed_is a (λ l b. a_fits l (omega (arith, b, m))),
   (
     passed_is g (λ l b. g_fits l (omega (arith, b, n))),
@@ -305,14 +305,14 @@ lanes_fit row a g top f s k place m n pair most near within reads gains = (
   a_fits : (l : ℕ) → l < 8 → FitsSigned w64 (get_or a l (pos 0))
   a_fits l b =
       rw (reads l b)
-      (less_fits (get_or row (place l) (pos 0)) top _ (most (place l) (within l b))
+      (less_fits (get_or column (place l) (pos 0)) top _ (most (place l) (within l b))
       (near (place l) (within l b)))
 
   g_fits : (l : ℕ) → l < 8 → FitsSigned w64 (get_or g l (pos 0))
   g_fits l b =
       rw (gains l b)
       (fits_signed_from_abs w64 _
-      (let size = gain_size f s (get_or lane_codes (8 * get_or kinds k 0 + l) 0) in omega
+      (let size = gain_size f s (get_or lane_codes (8 * get_or patterns k 0 + l) 0) in omega
       (arith, pair, size)))
 
   both : (l : ℕ) → l < 8 →
@@ -320,9 +320,9 @@ lanes_fit row a g top f s k place m n pair most near within reads gains = (
       × FitsSigned w64 (get_or a l (pos 0) -ℤ get_or g l (pos 0))
   both l b =
       rw (reads l b, gains l b)
-      (moved_fits (get_or row (place l) (pos 0)) top _ _ (most (place l) (within l b))
+      (moved_fits (get_or column (place l) (pos 0)) top _ _ (most (place l) (within l b))
       (near (place l) (within l b))
-      (gain_size f s (get_or lane_codes (8 * get_or kinds k 0 + l) 0)) pair)
+      (gain_size f s (get_or lane_codes (8 * get_or patterns k 0 + l) 0)) pair)
 
 pub gain_fits : (f s : ℤ) (c : ℕ) → unsigned_abs f + unsigned_abs s ≤ 2 ^ 62 →
     FitsSigned w64 (gain_by f s c)
@@ -330,41 +330,41 @@ gain_fits f s c pair =
     fits_signed_from_abs w64 _ (let size = gain_size f s c in omega (arith, pair, size))
 
 -- what is known of the lanes of one block
-pub record BlockLanes (row : List ℤ) (top f s : ℤ) (k : ℕ) (a o g : List ℤ) : Type 0 where
+pub record BlockLanes (column : List ℤ) (top f s : ℤ) (k : ℕ) (a o g : List ℤ) : Type 0 where
   pub even_kept : passed a ≡ a
   pub odd_kept : passed o ≡ o
   pub gain_kept : passed g ≡ g
   pub even_fit : Each2 (λ x y. Fit x y (x +ℤ y)) a g
   pub odd_fit : Each2 (λ x y. Fit x y (x -ℤ y)) o g
   pub even_is : (l : ℕ) → l < 8 →
-      get_or a l (pos 0) +ℤ get_or g l (pos 0) ≡ metric_from row f s (8 * k + l) 0 -ℤ top
+      get_or a l (pos 0) +ℤ get_or g l (pos 0) ≡ metric_from column f s (8 * k + l) 0 -ℤ top
   pub odd_is : (l : ℕ) → l < 8 →
-      get_or o l (pos 0) -ℤ get_or g l (pos 0) ≡ metric_from row f s (8 * k + l) 1 -ℤ top
+      get_or o l (pos 0) -ℤ get_or g l (pos 0) ≡ metric_from column f s (8 * k + l) 1 -ℤ top
 
-pub block_lanes : (row gains a o g : List ℤ) (top f s : ℤ) (k : ℕ) → length a ≡ 8 →
+pub block_lanes : (column gains a o g : List ℤ) (top f s : ℤ) (k : ℕ) → length a ≡ 8 →
     length o ≡ 8 → length g ≡ 8 → FitsSigned w64 top → k < 32 →
     unsigned_abs f + unsigned_abs s ≤ 2 ^ 62 →
-    ((t : ℕ) → t < 256 → get_or row t (pos 0) ≤ℤ top) →
+    ((t : ℕ) → t < 256 → get_or column t (pos 0) ≤ℤ top) →
     ((t : ℕ) → t < 256 →
-    unsigned_abs (top -ℤ get_or row t (pos 0)) + (unsigned_abs f + unsigned_abs s) ≤ 2 ^ 63) →
+    unsigned_abs (top -ℤ get_or column t (pos 0)) + (unsigned_abs f + unsigned_abs s) ≤ 2 ^ 63) →
     ((j : ℕ) → j < 32 → get_or gains j (pos 0) ≡ gain_by f s (get_or lane_codes j 0)) →
     ((l : ℕ) → l < 8 →
-    get_or a l (pos 0) ≡ get_or row (16 * (k % 16) + 2 * l) (pos 0) -ℤ to_z w64 (of_z w64 top)) →
+    get_or a l (pos 0) ≡ get_or column (16 * (k % 16) + 2 * l) (pos 0) -ℤ to_z w64 (of_z w64 top)) →
     ((l : ℕ) → l < 8 → get_or o l (pos 0)
-    ≡ get_or row (16 * (k % 16) + (2 * l + 1)) (pos 0) -ℤ to_z w64 (of_z w64 top)) →
-    ((l : ℕ) → l < 8 → get_or g l (pos 0) ≡ get_or gains (8 * get_or kinds k 0 + l) (pos 0)) →
-    BlockLanes row top f s k a o g
-block_lanes row gains a o g top f s k m n p fits few pair most near made evens odds lanes =
+    ≡ get_or column (16 * (k % 16) + (2 * l + 1)) (pos 0) -ℤ to_z w64 (of_z w64 top)) →
+    ((l : ℕ) → l < 8 → get_or g l (pos 0) ≡ get_or gains (8 * get_or patterns k 0 + l) (pos 0)) →
+    BlockLanes column top f s k a o g
+block_lanes column gains a o g top f s k m n p fits few pair most near made evens odds lanes =
     let evens_are : (l : ℕ) → l < 8 →
-    get_or a l (pos 0) ≡ get_or row (16 * (k % 16) + 2 * l) (pos 0) -ℤ top =
+    get_or a l (pos 0) ≡ get_or column (16 * (k % 16) + 2 * l) (pos 0) -ℤ top =
     rw (to_z-of_z w64 top fits) at evens in
     let odds_are : (l : ℕ) → l < 8 →
-    get_or o l (pos 0) ≡ get_or row (16 * (k % 16) + (2 * l + 1)) (pos 0) -ℤ top =
+    get_or o l (pos 0) ≡ get_or column (16 * (k % 16) + (2 * l + 1)) (pos 0) -ℤ top =
     rw (to_z-of_z w64 top fits) at odds in
     let gain = lane_gain gains g f s k few made lanes in
-    let even = lanes_fit row a g top f s k (λ l. 16 * (k % 16) + 2 * l) m p pair most near
+    let even = lanes_fit column a g top f s k (λ l. 16 * (k % 16) + 2 * l) m p pair most near
     (λ l b. omega (arith, b)) evens_are gain in
-    let odd = lanes_fit row o g top f s k (λ l. 16 * (k % 16) + (2 * l + 1)) n p pair most near
+    let odd = lanes_fit column o g top f s k (λ l. 16 * (k % 16) + (2 * l + 1)) n p pair most near
     (λ l b. omega (arith, b)) odds_are gain in
     record {
       even_kept = even.0;
@@ -372,6 +372,6 @@ block_lanes row gains a o g top f s k m n p fits few pair most near made evens o
       gain_kept = even.1.0;
       even_fit = even.1.1.0;
       odd_fit = odd.1.1.1;
-      even_is = λ l b. from_even row top f s k l _ _ few b (evens_are l b) (gain l b);
-      odd_is = λ l b. from_odd row top f s k l _ _ few b (odds_are l b) (gain l b);
+      even_is = λ l b. from_even column top f s k l _ _ few b (evens_are l b) (gain l b);
+      odd_is = λ l b. from_odd column top f s k l _ _ few b (odds_are l b) (gain l b);
     }

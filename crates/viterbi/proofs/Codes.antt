@@ -2,7 +2,7 @@
 use Rattle.viterbi.proofs.Common.{◌≡◌, ℕ, zero, suc, ◌+◌, ◌*◌, ◌<◌, Bool, true, false, List, [], ◌∷◌, length, get_or, refl, sym, ap, ◌∙◌}
 use Rattle.viterbi.proofs.Common.{arith, ℤ, pos, ◌+ℤ◌, ◌-ℤ◌, ◌*ℤ◌, not, nat_lt, ◌&&◌, list_all, range_with_len, ints, get_or-range_with_len}
 use Rattle.viterbi.proofs.Common.{length-range_with_len, and_parts, bit_of, sign, places, g0, g1, symbol, low_bits, gain_of, lane_codes}
-use Rattle.viterbi.proofs.Common.{kinds, gain_by, code_of}
+use Rattle.viterbi.proofs.Common.{patterns, gain_by, code_of}
 
 abbrev eq : Bool → Bool → Bool
 eq true b = b
@@ -16,7 +16,7 @@ fits t = let c = code_of t in nat_lt c 4
     (symbol g1 (low_bits 9 (2 * t + 1)) 0))))
 
 all_fit : list_all fits (places 256) ≡ true
-unfolding lane_codes kinds low_bits places
+unfolding lane_codes patterns low_bits places
 all_fit = refl
 
 fits_at : (t : ℕ) → t < 256 → fits t ≡ true

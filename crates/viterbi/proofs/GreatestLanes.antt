@@ -131,10 +131,10 @@ tops_more value k most m n inner next few before wings all here there = record {
         left : (¬ (t / 8 ≡ k)) → (¬ (t / 8 ≡ 16 + k)) → t / 8 % 16 < k
         left p q = omega (arith, b, done, p, q)
 
-pub row_greatest : (value : ℕ → ℤ) (most next : List ℤ) (top : ℤ) → length next ≡ 256 →
+pub column_greatest : (value : ℕ → ℤ) (most next : List ℤ) (top : ℤ) → length next ≡ 256 →
     AreTops value 16 most → IsGreatest most top →
     ((t : ℕ) → t < 256 → get_or next t (pos 0) ≡ value t) → IsGreatest next top
-row_greatest value most next top whole tops h is = record {
+column_greatest value most next top whole tops h is = record {
   most = λ t b.
       let small : t < 256 = omega (arith, b, whole) in
       rw (is t small)

@@ -22,7 +22,7 @@ pub mod Parted
 pub mod Blocks
 pub mod Ended
 pub mod BlockSteps
-pub mod RowSteps
-pub mod RowsMore
+pub mod ColumnSteps
+pub mod ColumnsMore
 pub mod Tops
 pub mod GreatestLanes

@@ -5,36 +5,36 @@ use Rattle.viterbi.proofs.Common.{get_or-append_right, length-map, length-chunk,
 
 -- two vectors of so many
 abbrev pub two_chunks : ℕ → List ℤ → ℕ → List ℕ
-two_chunks n row at = map (of_z w64) (chunk at n row) ++ map (of_z w64) (chunk (at + n) n row)
+two_chunks n column at = map (of_z w64) (chunk at n column) ++ map (of_z w64) (chunk (at + n) n column)
 
-one : (n : ℕ) (row : List ℤ) (at j : ℕ) → at + n ≤ length row → j < n →
-    get_or (map (of_z w64) (chunk at n row)) j 0 ≡ of_z w64 (get_or row (at + j) (pos 0))
-one n row at j room b =
-    let long = length-chunk at n row room in
-    get_or-map (of_z w64) (chunk at n row) j (pos 0) 0 (omega (arith, b, long))
-    ∙ ap (of_z w64) (get_or-chunk at n row j (pos 0) b)
+one : (n : ℕ) (column : List ℤ) (at j : ℕ) → at + n ≤ length column → j < n →
+    get_or (map (of_z w64) (chunk at n column)) j 0 ≡ of_z w64 (get_or column (at + j) (pos 0))
+one n column at j room b =
+    let long = length-chunk at n column room in
+    get_or-map (of_z w64) (chunk at n column) j (pos 0) 0 (omega (arith, b, long))
+    ∙ ap (of_z w64) (get_or-chunk at n column j (pos 0) b)
 
-size_of : (n : ℕ) (row : List ℤ) (at : ℕ) → at + n ≤ length row →
-    length (map (of_z w64) (chunk at n row)) ≡ n
-size_of n row at room = length-map (chunk at n row) (of_z w64) ∙ length-chunk at n row room
+size_of : (n : ℕ) (column : List ℤ) (at : ℕ) → at + n ≤ length column →
+    length (map (of_z w64) (chunk at n column)) ≡ n
+size_of n column at room = length-map (chunk at n column) (of_z w64) ∙ length-chunk at n column room
 
-pub lane_read : (n : ℕ) (row : List ℤ) (at j : ℕ) → at + (n + n) ≤ length row → j < n + n →
-    FitsSigned w64 (get_or row (at + j) (pos 0)) →
-    to_z w64 (get_or (two_chunks n row at) j 0) ≡ get_or row (at + j) (pos 0)
-lane_read n row at j room b fits =
-    let first : at + n ≤ length row = omega (arith, room) in
-    let second : at + n + n ≤ length row = omega (arith, room) in
+pub lane_read : (n : ℕ) (column : List ℤ) (at j : ℕ) → at + (n + n) ≤ length column → j < n + n →
+    FitsSigned w64 (get_or column (at + j) (pos 0)) →
+    to_z w64 (get_or (two_chunks n column at) j 0) ≡ get_or column (at + j) (pos 0)
+lane_read n column at j room b fits =
+    let first : at + n ≤ length column = omega (arith, room) in
+    let second : at + n + n ≤ length column = omega (arith, room) in
     ⊎_elim
     (λ low. ap (to_z w64)
-    (get_or_append_left (map (of_z w64) (chunk at n row)) (map (of_z w64) (chunk (at + n) n row)) 0
-    j (omega (arith, low, size_of n row at first))
-    ∙ one n row at j first low) ∙ to_z-of_z w64 _ fits)
+    (get_or_append_left (map (of_z w64) (chunk at n column)) (map (of_z w64) (chunk (at + n) n column)) 0
+    j (omega (arith, low, size_of n column at first))
+    ∙ one n column at j first low) ∙ to_z-of_z w64 _ fits)
     (λ high. let place : at + n + (j - n) ≡ at + j = omega (arith, high) in
     ap (to_z w64)
-    (get_or-append_right (map (of_z w64) (chunk at n row)) (map (of_z w64) (chunk (at + n) n row)) n
-    j 0 (size_of n row at first) high
-    ∙ one n row (at + n) (j - n) second (omega (arith, b, high))
-    ∙ ap (λ (i : ℕ). of_z w64 (get_or row i (pos 0))) place) ∙ to_z-of_z w64 _ fits)
+    (get_or-append_right (map (of_z w64) (chunk at n column)) (map (of_z w64) (chunk (at + n) n column)) n
+    j 0 (size_of n column at first) high
+    ∙ one n column (at + n) (j - n) second (omega (arith, b, high))
+    ∙ ap (λ (i : ℕ). of_z w64 (get_or column i (pos 0))) place) ∙ to_z-of_z w64 _ fits)
     (cases_lt j n)
 
 pub evens : (f : ℕ → ℤ) (l : ℕ) → l < 8 →

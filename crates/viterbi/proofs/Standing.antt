@@ -1,4 +1,4 @@
--- What metrics and rows of decisions stand for.
+-- What metrics and columns of decisions stand for.
 use Rattle.viterbi.proofs.Common.{◌≡◌, ℕ, zero, suc, ◌+◌, ◌*◌, ◌%◌, ◌<◌, ◌≤◌, Bool, true, false, List, [], ◌∷◌, ◌++◌, length, get_or, map}
 use Rattle.viterbi.proofs.Common.{refl, sym, ap, subst, ◌∙◌, arith, ℤ, pos, ◌+ℤ◌, ◌-ℤ◌, unsigned_abs, Option, Some, None, nat_le, int_lt}
 use Rattle.viterbi.proofs.Common.{ints, get_or-map, range_with_len, get_or-map-range_with_len, digit, low_bits, survivor_into, took}
@@ -8,42 +8,42 @@ use Rattle.viterbi.proofs.Choices.{IsBestOf}
 use Rattle.viterbi.proofs.Steps.{Into, Survive, survivor_into_best}
 use Rattle.viterbi.proofs.Living.{alive}
 use Rattle.viterbi.proofs.Traced.{step_agrees}
-use Rattle.viterbi.proofs.RowSteps.{metric_size}
+use Rattle.viterbi.proofs.ColumnSteps.{metric_size}
 
--- the first k rows are the same
+-- the first k columns are the same
 abbrev pub Same : ℕ → List (List ℕ) → List (List ℕ) → Type 0
-Same k rows rows' = (j : ℕ) → j < k → get_or rows' j [] ≡ get_or rows j []
+Same k columns columns' = (j : ℕ) → j < k → get_or columns' j [] ≡ get_or columns j []
 
-same_path : (k : ℕ) (rows rows' : List (List ℕ)) (t : ℕ) → Same k rows rows' →
-    path rows' k t ≡ path rows k t
+same_path : (k : ℕ) (columns columns' : List (List ℕ)) (t : ℕ) → Same k columns columns' →
+    path columns' k t ≡ path columns k t
 unfolding path
-same_path zero rows rows' t h = refl
-same_path (suc k) rows rows' t h =
-    let here : state_before rows' k t ≡ state_before rows k t =
+same_path zero columns columns' t h = refl
+same_path (suc k) columns columns' t h =
+    let here : state_before columns' k t ≡ state_before columns k t =
     ap (λ (r : List ℕ). 2 * (t % 128) + digit (took r t)) (h k (omega arith)) in
-    ap (λ (u : ℕ). path rows' k u ++ nat_le 128 t ∷ []) here
+    ap (λ (u : ℕ). path columns' k u ++ nat_le 128 t ∷ []) here
     ∙ ap (λ (r : List Bool). r ++ nat_le 128 t ∷ [])
-    (same_path k rows rows' (state_before rows k t) (λ j b. h j (omega (arith, b))))
+    (same_path k columns columns' (state_before columns k t) (λ j b. h j (omega (arith, b))))
 
-same_origin : (k : ℕ) (rows rows' : List (List ℕ)) (t : ℕ) → Same k rows rows' →
-    origin rows' k t ≡ origin rows k t
+same_origin : (k : ℕ) (columns columns' : List (List ℕ)) (t : ℕ) → Same k columns columns' →
+    origin columns' k t ≡ origin columns k t
 unfolding origin
-same_origin zero rows rows' t h = refl
-same_origin (suc k) rows rows' t h =
-    let here : state_before rows' k t ≡ state_before rows k t =
+same_origin zero columns columns' t h = refl
+same_origin (suc k) columns columns' t h =
+    let here : state_before columns' k t ≡ state_before columns k t =
     ap (λ (r : List ℕ). 2 * (t % 128) + digit (took r t)) (h k (omega arith)) in
-    ap (origin rows' k) here ∙ same_origin k rows rows' (state_before rows k t)
+    ap (origin columns' k) here ∙ same_origin k columns columns' (state_before columns k t)
     (λ j b. h j (omega (arith, b)))
 
-same_agrees : (k : ℕ) (rows rows' : List (List ℕ)) (t : ℕ) (metric : ℤ) (o : Option Survivor) →
-    Same k rows rows' → Agrees rows k t metric o → Agrees rows' k t metric o
-same_agrees k rows rows' t metric None same h = tt
-same_agrees k rows rows' t metric (Some s) same h = (
+same_agrees : (k : ℕ) (columns columns' : List (List ℕ)) (t : ℕ) (metric : ℤ) (o : Option Survivor) →
+    Same k columns columns' → Agrees columns k t metric o → Agrees columns' k t metric o
+same_agrees k columns columns' t metric None same h = tt
+same_agrees k columns columns' t metric (Some s) same h = (
   h.0,
   (
-    same_path k rows rows' t same ∙ h.1.0,
+    same_path k columns columns' t same ∙ h.1.0,
     h.1.1
-        ∙ ap (low_bits 8) (sym (same_origin k rows rows' t same)),
+        ∙ ap (low_bits 8) (sym (same_origin k columns columns' t same)),
   ),
 )
 
@@ -105,7 +105,7 @@ metric_moved by xs forced f s t whole =
 back_again : (x taken top : ℤ) → (x -ℤ top) +ℤ (taken +ℤ top) ≡ x +ℤ taken
 back_again x taken top = omega (arith, ints)
 
--- a metric of the next row and what was taken off
+-- a metric of the next column and what was taken off
 pub next_score : (taken top : ℤ) (xs : List ℤ) (forced : Bool) (f s x : ℤ) (t : ℕ) →
     length xs ≡ 256 →
     x ≡ metric_into forced xs f s t -ℤ top →
@@ -126,44 +126,44 @@ next_size taken top xs forced f s x bound t whole small is =
     (metric_size forced (moved taken xs) f s bound t
     (λ u b. rw (moved_read taken xs u whole b) (small u b)))
 
--- there are survivors that the metrics, what was taken off them, and the first k rows give
+-- there are survivors that the metrics, what was taken off them, and the first k columns give
 pub record Stands (softs : List ℤ) (ends : Ends) (k : ℕ) (taken : ℤ) (metrics : List ℤ)
-    (rows : List (List ℕ)) : Type 0 where
-  pub row : List (Option Survivor)
-  pub survive : Survive softs ends k row
+    (columns : List (List ℕ)) : Type 0 where
+  pub column : List (Option Survivor)
+  pub survive : Survive softs ends k column
   pub agree : (t : ℕ) → t < 256 →
-      Agrees rows k t (get_or metrics t (pos 0) +ℤ taken) (get_or row t None)
+      Agrees columns k t (get_or metrics t (pos 0) +ℤ taken) (get_or column t None)
 
 -- one bit more
 pub step_stands : (softs : List ℤ) (ends : Ends) (k : ℕ) (taken top : ℤ) (metrics next : List ℤ)
-    (rows rows' : List (List ℕ)) →
+    (columns columns' : List (List ℕ)) →
     2 * k + 2 ≤ length softs → length metrics ≡ 256 →
-    Stands softs ends k taken metrics rows → Same k rows rows' →
+    Stands softs ends k taken metrics columns → Same k columns columns' →
     ((t : ℕ) → t < 256 →
     get_or next t (pos 0) ≡ metric_into (forced_at ends k) metrics (get_or softs (2 * k) (pos 0))
     (get_or softs (2 * k + 1) (pos 0)) t -ℤ top) →
     ((t : ℕ) → t < 256 →
-    took (get_or rows' k []) t ≡ choice_into (forced_at ends k) metrics
+    took (get_or columns' k []) t ≡ choice_into (forced_at ends k) metrics
     (get_or softs (2 * k) (pos 0)) (get_or softs (2 * k + 1) (pos 0)) t) →
-    Stands softs ends (suc k) (taken +ℤ top) next rows'
-step_stands softs ends k taken top metrics next rows rows' room whole h same nexts choices =
+    Stands softs ends (suc k) (taken +ℤ top) next columns'
+step_stands softs ends k taken top metrics next columns columns' room whole h same nexts choices =
     record {
-      row = map (survivor_into h.row first second) (range_with_len 0 256);
+      column = map (survivor_into h.column first second) (range_with_len 0 256);
       survive =
           λ t b. subst
           (λ (o : Option Survivor). IsBestOf softs (Into ends (suc k) (low_bits 8 t)) o)
-          (sym (reads t b)) (survivor_into_best softs ends k h.row room h.survive t b);
+          (sym (reads t b)) (survivor_into_best softs ends k h.column room h.survive t b);
       agree = λ t b.
           rw (
             reads t b,
             next_score taken top metrics (forced_at ends k) first second
                 (get_or next t (pos 0)) t whole (nexts t b),
           )
-          (step_agrees rows' k t (forced_at ends k) (moved taken metrics) h.row first second
+          (step_agrees columns' k t (forced_at ends k) (moved taken metrics) h.column first second
           (λ u c. rw (moved_read taken metrics u whole c)
-          (same_agrees k rows rows' u (get_or metrics u (pos 0) +ℤ taken) (get_or h.row u None) same
+          (same_agrees k columns columns' u (get_or metrics u (pos 0) +ℤ taken) (get_or h.column u None) same
           (h.agree u c)))
-          (alive softs ends k h.row h.survive t)
+          (alive softs ends k h.column h.survive t)
           (choices t b ∙ sym (choice_moved taken metrics (forced_at ends k) first second t whole)));
     } where
       first : ℤ
@@ -173,18 +173,18 @@ step_stands softs ends k taken top metrics next rows rows' room whole h same nex
       second = get_or softs (2 * k + 1) (pos 0)
 
       reads : (t : ℕ) → t < 256 →
-          get_or (map (survivor_into h.row first second) (range_with_len 0 256)) t None
-          ≡ survivor_into h.row first second t
-      reads t b = get_or-map-range_with_len (survivor_into h.row first second) 0 256 t t None b
+          get_or (map (survivor_into h.column first second) (range_with_len 0 256)) t None
+          ≡ survivor_into h.column first second t
+      reads t b = get_or-map-range_with_len (survivor_into h.column first second) 0 256 t t None b
           (omega arith)
 
--- of other rows only the first k matter
+-- of other columns only the first k matter
 pub stands_same : (softs : List ℤ) (ends : Ends) (k : ℕ) (taken : ℤ) (metrics : List ℤ)
-    (rows rows' : List (List ℕ)) → Same k rows rows' →
-    Stands softs ends k taken metrics rows → Stands softs ends k taken metrics rows'
-stands_same softs ends k taken metrics rows rows' same h = record {
-  row = h.row;
+    (columns columns' : List (List ℕ)) → Same k columns columns' →
+    Stands softs ends k taken metrics columns → Stands softs ends k taken metrics columns'
+stands_same softs ends k taken metrics columns columns' same h = record {
+  column = h.column;
   survive = h.survive;
-  agree = λ t b. same_agrees k rows rows' t (get_or metrics t (pos 0) +ℤ taken)
-      (get_or h.row t None) same (h.agree t b);
+  agree = λ t b. same_agrees k columns columns' t (get_or metrics t (pos 0) +ℤ taken)
+      (get_or h.column t None) same (h.agree t b);
 }

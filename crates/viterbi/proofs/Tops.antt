@@ -37,7 +37,7 @@ tops_near xs top taken bound more t whole h few small b =
           unsigned_abs (top -ℤ x) + more ≤ 2 ^ 63
       apart x p q = omega (arith, ints, p, q, few)
 
--- of a row of zeros
+-- of a column of zeros
 pub zero_greatest : (xs : List ℤ) → length xs ≡ 256 →
     ((t : ℕ) → t < 256 → get_or xs t (pos 0) ≡ pos 0) → IsGreatest xs (pos 0)
 zero_greatest xs whole zeros = record {

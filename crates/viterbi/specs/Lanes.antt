@@ -10,22 +10,22 @@ use Rattle.chip_core.specs.Bits.{bit_of, sign}
 unfoldable pub gain_by : ℤ → ℤ → ℕ → ℤ
 gain_by first second code = (first *ℤ sign (bit_of code 0)) +ℤ (second *ℤ sign (bit_of code 1))
 
--- the codes of eight states with numbers from a multiple of eight on, of four kinds, one after
+-- the codes of eight states with numbers from a multiple of eight on, of four patterns, one after
 -- another: of the symbols of the newest bit where the oldest is 0
 unfoldable pub lane_codes : List ℕ
 lane_codes =
     0 ∷ 1 ∷ 0 ∷ 1 ∷ 1 ∷ 0 ∷ 1 ∷ 0 ∷ 1 ∷ 0 ∷ 1 ∷ 0 ∷ 0 ∷ 1 ∷ 0 ∷ 1
     ∷ 2 ∷ 3 ∷ 2 ∷ 3 ∷ 3 ∷ 2 ∷ 3 ∷ 2 ∷ 3 ∷ 2 ∷ 3 ∷ 2 ∷ 2 ∷ 3 ∷ 2 ∷ 3 ∷ []
 
--- the kinds of the 32 blocks of eight states
-unfoldable pub kinds : List ℕ
-kinds =
+-- the patterns of the 32 blocks of eight states
+unfoldable pub patterns : List ℕ
+patterns =
     0 ∷ 2 ∷ 3 ∷ 1 ∷ 3 ∷ 1 ∷ 0 ∷ 2 ∷ 1 ∷ 3 ∷ 2 ∷ 0 ∷ 2 ∷ 0 ∷ 1 ∷ 3
     ∷ 3 ∷ 1 ∷ 0 ∷ 2 ∷ 0 ∷ 2 ∷ 3 ∷ 1 ∷ 2 ∷ 0 ∷ 1 ∷ 3 ∷ 1 ∷ 3 ∷ 2 ∷ 0 ∷ []
 
 -- a state's code
 abbrev pub code_of : ℕ → ℕ
-code_of t = get_or lane_codes (8 * get_or kinds (t / 8) 0 + t % 8) 0
+code_of t = get_or lane_codes (8 * get_or patterns (t / 8) 0 + t % 8) 0
 
 -- three numbers of 64 bits: two and what is made of them
 abbrev pub Fit : ℤ → ℤ → ℤ → Type 0

@@ -1,8 +1,8 @@
-pub mod Words
+pub mod Codewords
 pub mod Best
 pub mod Laws
 pub mod States
 pub mod Survivors
-pub mod Rows
+pub mod Columns
 pub mod Lanes
 mod Worked

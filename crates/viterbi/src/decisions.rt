@@ -1,13 +1,13 @@
-//! Rows of decisions, and the words that they lead back to.
+//! Columns of decisions, and the codewords that they lead back to.
 
 ghost use Rattle.std.specs.Prelude.{◌≡◌, ◌<◌, ◌≤◌, ◌+◌, ◌*◌, ◌%◌, ◌^◌, ℕ, length};
 ghost use Rattle.chip_core.specs.Bits.{digit};
-ghost use Rattle.viterbi.specs.Rows.{took, path, origin};
+ghost use Rattle.viterbi.specs.Columns.{took, path, origin};
 
 use chip_core::Bits;
 
 /// A bit for each state after some bit, state `s` at bit `s % 8` of byte `s / 8`: whether the best
-/// word into it comes from the state before whose oldest bit is 1.
+/// codeword into it comes from the state before whose oldest bit is 1.
 pub type Decisions = [u8; 32];
 
 /// Whether a state came from the one with oldest bit 1.
@@ -24,18 +24,18 @@ fn state_before(decisions: &Decisions, state: u8) -> u8
     2 * (state % 128) + u8::from(is_taken(decisions, state))
 }
 
-/// The bits that the rows lead back to from a state go into `bits`; the answer is the state before
-/// them.
-fn trace_back(rows: &[Decisions], end: u8, bits: &mut [bool]) -> u8
-    requires { length bits.old ≡ length rows.now }
-    ensures start { result ≡ origin rows.now (length rows.now) end }
-    ensures bits { bits.new ≡ path rows.now (length rows.now) end }
+/// The bits that the columns lead back to from a state go into `bits`; the answer is the state
+/// before them.
+fn trace_back(columns: &[Decisions], end: u8, bits: &mut [bool]) -> u8
+    requires { length bits.old ≡ length columns.now }
+    ensures start { result ≡ origin columns.now (length columns.now) end }
+    ensures bits { bits.new ≡ path columns.now (length columns.now) end }
 {
     let mut state = end;
-    for back in 0..rows.len() {
-        let at = rows.len() - 1 - back;
+    for back in 0..columns.len() {
+        let at = columns.len() - 1 - back;
         bits[at] = state >= 128;
-        state = state_before(&rows[at], state);
+        state = state_before(&columns[at], state);
     }
     state
 }
@@ -52,14 +52,14 @@ pub fn bits_of(path: &[bool]) -> Bits
     bits
 }
 
-/// The state before the bits that the rows, one for each bit, lead back to from a state, and the
+/// The state before the bits that the columns, one for each bit, lead back to from a state, and the
 /// bits.
-pub fn traced(rows: &[Decisions], end: u8) -> (u8, Bits)
-    requires { length rows.now ≤ 576 }
-    ensures start { result.0 ≡ origin rows.now (length rows.now) end }
-    ensures bits { result.1 ≡ path rows.now (length rows.now) end }
+pub fn traced(columns: &[Decisions], end: u8) -> (u8, Bits)
+    requires { length columns.now ≤ 576 }
+    ensures start { result.0 ≡ origin columns.now (length columns.now) end }
+    ensures bits { result.1 ≡ path columns.now (length columns.now) end }
 {
     let mut path = [false; 576];
-    let start = trace_back(rows, end, &mut path[..rows.len()]);
-    (start, bits_of(&path[..rows.len()]))
+    let start = trace_back(columns, end, &mut path[..columns.len()]);
+    (start, bits_of(&path[..columns.len()]))
 }

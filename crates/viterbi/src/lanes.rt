@@ -8,12 +8,12 @@ ghost use Rattle.std.specs.Prelude.{false, length, get_or, map, pos, int_lt, Fit
 ghost use Rattle.std.specs.Int.{w64};
 ghost use lib.Lanes.{Each1, Each2, zip2};
 ghost use Rattle.chip_core.specs.Bits.{bit_of};
-ghost use Rattle.viterbi.specs.Lanes.{Fit, sum_at, difference_at, gain_by, lane_codes, kinds};
-ghost use Rattle.viterbi.specs.Rows.{CanStep, IsStep, taken_of, wants, metric_into, choice_into};
+ghost use Rattle.viterbi.specs.Lanes.{Fit, sum_at, difference_at, gain_by, lane_codes, patterns};
+ghost use Rattle.viterbi.specs.Columns.{CanStep, IsStep, taken_of, wants, metric_into, choice_into};
 
 use crate::decisions::Decisions;
 use crate::metrics::greatest;
-use crate::symbol_gains::{kind_of, lane_gains};
+use crate::symbol_gains::{lane_gains, pattern_of};
 use std::simd::prelude::*;
 
 /// The greater of each two metrics, the first on a tie, and a bit for each: whether it is the
@@ -52,35 +52,35 @@ fn lessened(lanes: i64x8, number: i64) -> i64x8
 }
 
 /// Eight pairs of neighbours from a place on, parted.
-fn parted(row: &[i64], at: usize) -> (i64x8, i64x8)
-    requires room { at + 16 ≤ length row.now }
-    requires fit { (t : ℕ) → t < length row.now → FitsSigned w64 (get_or row.now t (pos 0)) }
+fn parted(column: &[i64], at: usize) -> (i64x8, i64x8)
+    requires room { at + 16 ≤ length column.now }
+    requires fit { (t : ℕ) → t < length column.now → FitsSigned w64 (get_or column.now t (pos 0)) }
     ensures even_long { length result.0 ≡ 8 }
     ensures odd_long { length result.1 ≡ 8 }
     ensures even { (l : ℕ) → l < 8 →
-        get_or result.0 l (pos 0) ≡ get_or row.now (at + 2 * l) (pos 0) }
+        get_or result.0 l (pos 0) ≡ get_or column.now (at + 2 * l) (pos 0) }
     ensures odd { (l : ℕ) → l < 8 →
-        get_or result.1 l (pos 0) ≡ get_or row.now (at + (2 * l + 1)) (pos 0) }
+        get_or result.1 l (pos 0) ≡ get_or column.now (at + (2 * l + 1)) (pos 0) }
 {
-    let low = i64x8::from_slice(&row[at..]);
-    let high = i64x8::from_slice(&row[at + 8..]);
+    let low = i64x8::from_slice(&column[at..]);
+    let high = i64x8::from_slice(&column[at + 8..]);
     low.deinterleave(high)
 }
 
 /// Eight pairs of neighbours from a place on, parted, each less `top`.
-fn neighbours(row: &[i64], at: usize, top: i64) -> (i64x8, i64x8)
-    requires room { at + 16 ≤ length row.now }
-    requires fit { (t : ℕ) → t < length row.now → FitsSigned w64 (get_or row.now t (pos 0)) }
-    requires less { (t : ℕ) → t < length row.now →
-        FitsSigned w64 (get_or row.now t (pos 0) -ℤ top) }
+fn neighbours(column: &[i64], at: usize, top: i64) -> (i64x8, i64x8)
+    requires room { at + 16 ≤ length column.now }
+    requires fit { (t : ℕ) → t < length column.now → FitsSigned w64 (get_or column.now t (pos 0)) }
+    requires less { (t : ℕ) → t < length column.now →
+        FitsSigned w64 (get_or column.now t (pos 0) -ℤ top) }
     ensures even_long { length result.0 ≡ 8 }
     ensures odd_long { length result.1 ≡ 8 }
     ensures even { (l : ℕ) → l < 8 →
-        get_or result.0 l (pos 0) ≡ get_or row.now (at + 2 * l) (pos 0) -ℤ top }
+        get_or result.0 l (pos 0) ≡ get_or column.now (at + 2 * l) (pos 0) -ℤ top }
     ensures odd { (l : ℕ) → l < 8 →
-        get_or result.1 l (pos 0) ≡ get_or row.now (at + (2 * l + 1)) (pos 0) -ℤ top }
+        get_or result.1 l (pos 0) ≡ get_or column.now (at + (2 * l + 1)) (pos 0) -ℤ top }
 {
-    let (even, odd) = parted(row, at);
+    let (even, odd) = parted(column, at);
     (lessened(even, top), lessened(odd, top))
 }
 
@@ -114,34 +114,34 @@ fn gains_of(gains: &[i64; 32], block: usize) -> i64x8
     requires fit { (j : ℕ) → j < 32 → FitsSigned w64 (get_or gains.now j (pos 0)) }
     ensures long { length result ≡ 8 }
     ensures lanes { (l : ℕ) → l < 8 →
-        get_or result l (pos 0) ≡ get_or gains.now (8 * get_or kinds block 0 + l) (pos 0) }
+        get_or result l (pos 0) ≡ get_or gains.now (8 * get_or patterns block 0 + l) (pos 0) }
 {
-    let kind = kind_of(block);
-    i64x8::from_slice(&gains[8 * kind..])
+    let pattern = pattern_of(block);
+    i64x8::from_slice(&gains[8 * pattern..])
 }
 
 /// The eight states of a block, one bit further, with `top` taken off every metric: their metrics,
 /// and a bit for each, whether it is reached from the one with oldest bit 1.
 fn block_step<const FORCED: bool>(
-    row: &[i64],
+    column: &[i64],
     top: i64,
     first: i64,
     second: i64,
     gains: &[i64; 32],
     block: usize,
 ) -> (i64x8, u64)
-    requires row { CanStep row.now top first second }
+    requires column { CanStep column.now top first second }
     requires block { block < 32 }
     requires gains { (j : ℕ) → j < 32 →
         get_or gains.now j (pos 0) ≡ gain_by first second (get_or lane_codes j 0) }
     ensures long { length result.0 ≡ 8 }
     ensures metrics { (l : ℕ) → l < 8 →
         get_or result.0 l (pos 0)
-        ≡ metric_into FORCED row.now first second (8 * block + l) -ℤ top }
+        ≡ metric_into FORCED column.now first second (8 * block + l) -ℤ top }
     ensures choices { (l : ℕ) → l < 8 →
-        bit_of result.1 l ≡ choice_into FORCED row.now first second (8 * block + l) }
+        bit_of result.1 l ≡ choice_into FORCED column.now first second (8 * block + l) }
 {
-    let (a, b) = neighbours(row, 16 * (block % 16), top);
+    let (a, b) = neighbours(column, 16 * (block % 16), top);
     selected_block::<FORCED>(a, b, gains_of(gains, block))
 }
 
@@ -166,23 +166,23 @@ fn greater(one: i64x8, other: i64x8) -> i64x8
 /// metric, taken off every metric; the answer is the greatest of the new ones. Where `FORCED`, each
 /// state is reached from the one with oldest bit 0.
 fn step_all<const FORCED: bool>(
-    row: &[i64],
+    column: &[i64],
     top: i64,
     first: i64,
     second: i64,
     next: &mut [i64],
     choices: &mut Decisions,
 ) -> i64
-    requires row { CanStep row.now top first second }
+    requires column { CanStep column.now top first second }
     requires next { length next.old ≡ 256 }
-    ensures { IsStep FORCED row.now top first second next.new choices.new result }
+    ensures { IsStep FORCED column.now top first second next.new choices.new result }
 {
     let gains = lane_gains(first, second);
     let mut most = i64x8::splat(i64::MIN);
     for k in 0..16usize {
-        let (metrics, bits) = block_step::<FORCED>(row, top, first, second, &gains, k);
+        let (metrics, bits) = block_step::<FORCED>(column, top, first, second, &gains, k);
         let (upper_metrics, upper_bits) = block_step::<FORCED>(
-            row,
+            column,
             top,
             first,
             second,
@@ -200,7 +200,7 @@ fn step_all<const FORCED: bool>(
 
 /// All states, one bit further, as by `step_all`.
 pub fn step(
-    row: &[i64],
+    column: &[i64],
     top: i64,
     first: i64,
     second: i64,
@@ -208,13 +208,13 @@ pub fn step(
     next: &mut [i64],
     choices: &mut Decisions,
 ) -> i64
-    requires row { CanStep row.now top first second }
+    requires column { CanStep column.now top first second }
     requires next { length next.old ≡ 256 }
-    ensures { IsStep forced row.now top first second next.new choices.new result }
+    ensures { IsStep forced column.now top first second next.new choices.new result }
 {
     if forced {
-        step_all::<true>(row, top, first, second, next, choices)
+        step_all::<true>(column, top, first, second, next, choices)
     } else {
-        step_all::<false>(row, top, first, second, next, choices)
+        step_all::<false>(column, top, first, second, next, choices)
     }
 }

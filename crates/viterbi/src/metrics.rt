@@ -1,15 +1,15 @@
-//! Rows of metrics. A state's metric is the score of the best word into it, less what was taken off
-//! all metrics.
+//! Columns of metrics. A state's metric is the score of the best codeword into it, less what was
+//! taken off all metrics.
 
 ghost use Rattle.std.specs.Prelude.{◌≡◌, ◌<◌, ◌≤◌, ℕ, length, get_or, pos, ◌≤ℤ◌, ◌<ℤ◌};
 ghost use Rattle.chip_core.specs.Sums.{IsFirstGreatest};
-ghost use Rattle.viterbi.specs.Rows.{IsGreatest, forced_at};
+ghost use Rattle.viterbi.specs.Columns.{IsGreatest, forced_at};
 ghost use Rattle.viterbi.specs.Survivors.{end_count};
 
-use crate::word::Ends;
+use crate::codeword::Ends;
 
-/// Whether the next bit, behind so many, may come only from states with oldest bit 0: no word from
-/// zeros leads into another.
+/// Whether the next bit, behind so many, may come only from states with oldest bit 0: no codeword
+/// from zeros leads into another.
 pub fn is_forced(ends: Ends, bit: usize) -> bool
     ensures { result ≡ forced_at ends bit }
 {
@@ -20,16 +20,16 @@ pub fn is_forced(ends: Ends, bit: usize) -> bool
 }
 
 /// The metrics before the first bit.
-pub fn clear(row: &mut [i64])
-    ensures long { length row.new ≡ length row.old }
-    ensures zeros { (t : ℕ) → t < length row.old → get_or row.new t (pos 0) ≡ pos 0 }
+pub fn clear(column: &mut [i64])
+    ensures long { length column.new ≡ length column.old }
+    ensures zeros { (t : ℕ) → t < length column.old → get_or column.new t (pos 0) ≡ pos 0 }
 {
-    for metric in row.iter_mut() {
+    for metric in column.iter_mut() {
         *metric = 0;
     }
 }
 
-/// In how many states, from the first on, a word may end.
+/// In how many states, from the first on, a codeword may end.
 pub fn end_states(ends: Ends) -> usize
     ensures { result ≡ end_count ends }
 {

@@ -1,13 +1,13 @@
-//! What a bit adds to the score of a word, by the state into which it leads.
+//! What a bit adds to the score of a codeword, by the state into which it leads.
 //!
 //! A bit has two symbols. Which they are hangs on the state, and of each eight states from a
 //! multiple of 8 on they are of one of four kinds.
 
 ghost use Rattle.std.specs.Prelude.{◌≡◌, ◌<◌, ◌≤◌, ◌+◌, ◌^◌, ℕ, get_or, pos, unsigned_abs};
-ghost use Rattle.viterbi.specs.Lanes.{gain_by, lane_codes, kinds};
+ghost use Rattle.viterbi.specs.Lanes.{gain_by, lane_codes, patterns};
 
 /// Of which of four kinds the gains of each eight states are.
-const KINDS: [u8; 32] = [
+const PATTERNS: [u8; 32] = [
     0, 2, 3, 1, 3, 1, 0, 2, 1, 3, 2, 0, 2, 0, 1, 3, 3, 1, 0, 2, 0, 2, 3, 1, 2, 0, 1, 3, 1, 3, 2, 0,
 ];
 
@@ -40,10 +40,10 @@ pub fn lane_gains(first: i64, second: i64) -> [i64; 32]
 }
 
 /// The kind of the gains of the eight states from `8 * block` on.
-pub fn kind_of(block: usize) -> usize
+pub fn pattern_of(block: usize) -> usize
     requires { block < 32 }
-    ensures value { result ≡ get_or kinds block 0 }
+    ensures value { result ≡ get_or patterns block 0 }
     ensures small { result < 4 }
 {
-    KINDS[block] as usize
+    PATTERNS[block] as usize
 }

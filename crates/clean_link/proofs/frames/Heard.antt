@@ -3,36 +3,36 @@
 use Rattle.clean_link.proofs.Common.{◌≡◌, ℕ, zero, suc, ◌+◌, ◌-◌, ◌*◌, ◌<◌, ◌≤◌, Bool, true, false, List, [], ◌∷◌, ◌++◌, length, replicate}
 use Rattle.clean_link.proofs.Common.{refl, sym, ap, subst, ◌∙◌, ⊎_elim, arith, ℤ, pos, negsuc, ◌*ℤ◌, ◌<ℤ◌, neg_ℤ, Contains, flat_map}
 use Rattle.clean_link.proofs.Common.{mul-le-mul_left, ints, replicate-append-replicate, places, sign, xor, zip_with, Sample, times_neg}
-use Rattle.clean_link.proofs.Common.{frame_chips, softs, symbols, Finger, Form, Sync, Data, sent, length-sent, IsAllowed, signed, Word}
+use Rattle.clean_link.proofs.Common.{frame_chips, softs, symbols, Finger, Form, Sync, Data, sent, length-sent, IsAllowed, signed, Codeword}
 use Rattle.clean_link.proofs.Common.{Free, own_bits, score, sending, frames-none, frames-more, length-frames, CellPlan, made_samples}
-use Rattle.clean_link.proofs.Common.{continued_symbols, Carrier, carriers, phase_at, Scrambles, turned, unscrambled, Stream, frame_own_bits}
-use Rattle.clean_link.proofs.Common.{frame_softs, frame_start, is_in_file, span_first, span_frames, flat_map_ext_places, soft_strength}
-use Rattle.clean_link.proofs.Common.{AreReadBy, IsOnlyBest, IsWholeChannel, scrambled, span_softs, span_word, AreApart, IsFrameOf}
-use Rattle.clean_link.proofs.Common.{IsHeardBy}
-use Rattle.clean_link.proofs.frames.Scores.{sent_alone, sent_own, silent_own, word_softs}
+use Rattle.clean_link.proofs.Common.{continued_symbols, Carrier, carriers, phase_at, Scrambles, descrambled, unscrambled, Stream}
+use Rattle.clean_link.proofs.Common.{frame_own_bits, frame_softs, frame_start, is_in_file, span_first, span_frames, flat_map_ext_places}
+use Rattle.clean_link.proofs.Common.{soft_strength, AreReadBy, IsOnlyBest, IsWholeChannel, scrambled, span_softs, span_codeword, AreApart}
+use Rattle.clean_link.proofs.Common.{IsFrameOf, IsHeardBy}
+use Rattle.clean_link.proofs.frames.Scores.{sent_alone, sent_own, silent_own, codeword_softs}
 use Rattle.clean_link.proofs.frames.Spans.{in_span}
-use Rattle.clean_link.proofs.frames.Words.{frame_at, length-before, sent_as_one, signed-frames}
+use Rattle.clean_link.proofs.frames.Codewords.{frame_at, length-before, sent_as_one, signed-frames}
 use Rattle.clean_link.proofs.signal.Frames.{channel_softs}
 use Rattle.clean_link.proofs.frames.Times.{room_alone}
 
 -- ---- scrambling is turned back
 
-pub turned_symbol : (strength : ℕ) (a b : Bool) →
+pub descrambled_symbol : (strength : ℕ) (a b : Bool) →
     sign a *ℤ (pos strength *ℤ sign (xor b a)) ≡ pos strength *ℤ sign b
-turned_symbol n true true = omega (arith, ints)
-turned_symbol n true false =
+descrambled_symbol n true true = omega (arith, ints)
+descrambled_symbol n true false =
     let e : pos n *ℤ negsuc 0 ≡ neg_ℤ (pos n) = omega (arith, ints) in
     ap (λ (z : ℤ). negsuc 0 *ℤ z) e ∙ times_neg (negsuc 0) (pos n) ∙ omega (arith, ints)
-turned_symbol n false true = omega (arith, ints)
-turned_symbol n false false = omega (arith, ints)
+descrambled_symbol n false true = omega (arith, ints)
+descrambled_symbol n false false = omega (arith, ints)
 
 turns_back : (strength : ℕ) (bits symbols : List Bool) → length bits ≡ length symbols →
-    turned bits (signed strength (zip_with xor symbols bits)) ≡ signed strength symbols
+    descrambled bits (signed strength (zip_with xor symbols bits)) ≡ signed strength symbols
 turns_back n [] [] long = refl
 turns_back n [] (b ∷ symbols) long = absurd (omega (arith, long))
 turns_back n (a ∷ bits) [] long = absurd (omega (arith, long))
 turns_back n (a ∷ bits) (b ∷ symbols) long =
-    let here = turned_symbol n a b in
+    let here = descrambled_symbol n a b in
     let rest = turns_back n bits symbols (omega (arith, long)) in
     cc
 
@@ -45,13 +45,13 @@ clean_symbols strength n (b ∷ bits) symbols scrambles long = ⊎_elim
     (λ (all : length (b ∷ bits) ≡ n). turns_back strength (b ∷ bits) symbols (all ∙ sym long))
     scrambles
 
-length-turned : (bits symbols : List Bool) → length bits ≡ length symbols →
+length-descrambled : (bits symbols : List Bool) → length bits ≡ length symbols →
     length (zip_with xor symbols bits) ≡ length symbols
-length-turned [] [] long = refl
-length-turned [] (b ∷ symbols) long = absurd (omega (arith, long))
-length-turned (a ∷ bits) [] long = absurd (omega (arith, long))
-length-turned (a ∷ bits) (b ∷ symbols) long =
-    ap suc (length-turned bits symbols (omega (arith, long)))
+length-descrambled [] [] long = refl
+length-descrambled [] (b ∷ symbols) long = absurd (omega (arith, long))
+length-descrambled (a ∷ bits) [] long = absurd (omega (arith, long))
+length-descrambled (a ∷ bits) (b ∷ symbols) long =
+    ap suc (length-descrambled bits symbols (omega (arith, long)))
 
 length-scrambled : (n : ℕ) (bits symbols : List Bool) → Scrambles bits n → length symbols ≡ n →
     length (scrambled bits symbols) ≡ n
@@ -59,7 +59,7 @@ length-scrambled n [] symbols scrambles long = long
 length-scrambled n (b ∷ bits) symbols scrambles long = ⊎_elim
     (λ (none : b ∷ bits ≡ []). absurd (cc))
     (λ (all : length (b ∷ bits) ≡ n).
-    length-turned (b ∷ bits) symbols (all ∙ sym long) ∙ long)
+    length-descrambled (b ∷ bits) symbols (all ∙ sym long) ∙ long)
     scrambles
 
 -- ---- a stream whose soft values show the frames of a source
@@ -74,16 +74,16 @@ pub record IsShown (count strength : ℕ) (samples : List Sample) (s : Stream)
       signed strength
       (sent s.channel.shape s.channel.repeats (continued_symbols bits_of (base + k)))
 
--- the sent word of the span of a frame
-abbrev pub sent_word : ℕ → Stream → (ℕ → List Bool) → ℕ → ℕ → Word
-sent_word count s bits_of base k =
-    span_word bits_of (base + span_first count s k) (span_frames count s k)
+-- the sent codeword of the span of a frame
+abbrev pub sent_codeword : ℕ → Stream → (ℕ → List Bool) → ℕ → ℕ → Codeword
+sent_codeword count s bits_of base k =
+    span_codeword bits_of (base + span_first count s k) (span_frames count s k)
 
 span_is : (count strength base k : ℕ) (samples : List Sample) (s : Stream)
     (bits_of : ℕ → List Bool) → IsShown count strength samples s bits_of base →
     is_in_file count s k ≡ true →
     span_softs count samples s k ≡
-    word_softs strength s.channel (span_frames count s k) (sent_word count s bits_of base k)
+    codeword_softs strength s.channel (span_frames count s k) (sent_codeword count s bits_of base k)
 span_is count strength base k samples s bits_of is here =
     let c = s.channel in
     let first = span_first count s k in
@@ -99,10 +99,10 @@ span_is count strength base k samples s bits_of is here =
     ∙ ap (signed strength)
     (sym (sent_as_one c bits_of (base + first) frames is.whole.enough is.each))
 
-word_allowed : (count strength base k : ℕ) (samples : List Sample) (s : Stream)
+codeword_allowed : (count strength base k : ℕ) (samples : List Sample) (s : Stream)
     (bits_of : ℕ → List Bool) → IsShown count strength samples s bits_of base →
-    IsAllowed Free (s.channel.bits * span_frames count s k) (sent_word count s bits_of base k)
-word_allowed count strength base k samples s bits_of is =
+    IsAllowed Free (s.channel.bits * span_frames count s k) (sent_codeword count s bits_of base k)
+codeword_allowed count strength base k samples s bits_of is =
     let first = base + span_first count s k in
     record {
       start_long = length-before bits_of s.channel.bits first is.whole.enough is.each;
@@ -133,22 +133,22 @@ shown_back count strength base k samples s bits_of is here =
     ∙ ap (own_bits s.channel frames (k - first))
     (span_is count strength base k samples s bits_of is here)
     ∙ sent_own s.channel (symbols s.form) frames (k - first) strength
-    (sent_word count s bits_of base k) is.whole is.some at.to
-    (word_allowed count strength base k samples s bits_of is)
+    (sent_codeword count s bits_of base k) is.whole is.some at.to
+    (codeword_allowed count strength base k samples s bits_of is)
     ∙ frame_at (λ j. bits_of (base + first + j)) s.channel.bits frames (k - first)
     (λ j. is.each (base + first + j)) at.to
     ∙ ap bits_of place
 
--- and the word that was sent is the only best one of its span
+-- and the codeword that was sent is the only best one of its span
 pub shown_alone : (count strength base k : ℕ) (samples : List Sample) (s : Stream)
     (bits_of : ℕ → List Bool) → IsShown count strength samples s bits_of base →
     is_in_file count s k ≡ true →
-    IsOnlyBest count samples s k (sent_word count s bits_of base k)
+    IsOnlyBest count samples s k (sent_codeword count s bits_of base k)
 shown_alone count strength base k samples s bits_of is here =
     let c = s.channel in
     let frames = span_frames count s k in
-    let best = sent_word count s bits_of base k in
-    let p = word_allowed count strength base k samples s bits_of is in
+    let best = sent_codeword count s bits_of base k in
+    let p = codeword_allowed count strength base k samples s bits_of is in
     let at = in_span count s k here in
     let enough : 8 ≤ c.bits * frames =
     at_least c.bits frames is.whole.enough (omega (arith, at.to)) in
@@ -225,7 +225,7 @@ heard_frame plan c s base k heard here = record {
   begins = heard_begins s.form plan.link.start s.first c.first base k heard.begins;
 }
 
--- its turned soft values show the channel's symbols before scrambling
+-- its descrambled soft values show the channel's symbols before scrambling
 pub heard_softs : (plan : CellPlan) (c : Carrier) (s : Stream) (bits_of : ℕ → List Bool)
     (base k : ℕ) → plan.cell.pn < 512 → AreApart plan.pilot.gain (carriers plan) →
     Contains (carriers plan) c → IsHeardBy plan c s base → AreReadBy c s bits_of base →

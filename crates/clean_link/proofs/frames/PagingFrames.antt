@@ -5,19 +5,19 @@ use Rattle.clean_link.proofs.Common.{arith, ℤ, pos, replicate, Some, Contains,
 use Rattle.clean_link.proofs.Common.{length-places, Width, after, long_chip, paging_mask, scrambling, data_shape, sent, repeats_of, Rate}
 use Rattle.clean_link.proofs.Common.{R9600, Cycle, cycle_frame_bits, cycle_symbols, cycled, frame_scrambling, paging_frame_size}
 use Rattle.clean_link.proofs.Common.{IsLawfulPlan, IsPagingPlan, made_samples, continued_symbols, cycle_of, paging_carrier, CellPlan}
-use Rattle.clean_link.proofs.Common.{PagingPlan, SyncPlan, softs, Finger, Data, signed, paging_stream, turned, unscrambled, Stream}
+use Rattle.clean_link.proofs.Common.{PagingPlan, SyncPlan, softs, Finger, Data, signed, paging_stream, descrambled, unscrambled, Stream}
 use Rattle.clean_link.proofs.Common.{frame_own_bits, frame_start, is_in_file, Tuning, Mark, IsOnPath, IsTrueMark, soft_strength}
-use Rattle.clean_link.proofs.Common.{PagingFramesComeBack, PagingHaveSentSigns, PagingWordsAreTheOnlyBest, SilentPagingFramesAreZeros}
+use Rattle.clean_link.proofs.Common.{PagingFramesComeBack, PagingHaveSentSigns, PagingCodewordsAreTheOnlyBest, SilentPagingFramesAreZeros}
 use Rattle.clean_link.proofs.Common.{SilentPagingIsZero, ordered_symbols, AreReadBy, IsOnlyBest, scrambled, IsHeardBy}
 use Rattle.symbol_path.specs.Scrambling.{symbol_chips}
 use Rattle.heard_events.specs.PagingStreams.{paging_rate}
 use Rattle.clean_link.proofs.signal.CarriersApart.{paging_sent, paging_silent}
-use Rattle.clean_link.proofs.signal.ChannelsBack.{channel_frames, channel_words, silent_rows, strength_some, stream_symbols}
+use Rattle.clean_link.proofs.signal.ChannelsBack.{channel_frames, channel_codewords, silent_rows, strength_some, stream_symbols}
 use Rattle.clean_link.proofs.frames.Scores.{whole_frames}
-use Rattle.clean_link.proofs.frames.Heard.{sent_word, silent_back}
+use Rattle.clean_link.proofs.frames.Heard.{sent_codeword, silent_back}
 use Rattle.clean_link.proofs.frames.PagingTimes.{paging_file_to}
 use Rattle.clean_link.proofs.frames.SyncFrames.{fingers_are}
-use Rattle.frame_decoder.specs.declared.layout.FrameKind as kinds
+use Rattle.frame_decoder.specs.declared.span_format.FrameKind as kinds
 use Rattle.cell_plan.specs.PageCycles as cycles
 use Rattle.cell_plan.specs.Pages as pages
 
@@ -35,19 +35,19 @@ scrambled_some [] symbols some = absurd (omega (arith, some))
 scrambled_some (b ∷ bits) symbols some = refl
 
 -- soft values of 0 stay so
-zeros_turned : (bits : List Bool) →
-    turned bits (replicate (length bits) (pos 0)) ≡ replicate (length bits) (pos 0)
-zeros_turned [] = refl
-zeros_turned (true ∷ bits) = ap (λ (zs : List ℤ). pos 0 ∷ zs) (zeros_turned bits)
-zeros_turned (false ∷ bits) = ap (λ (zs : List ℤ). pos 0 ∷ zs) (zeros_turned bits)
+zeros_descrambled : (bits : List Bool) →
+    descrambled bits (replicate (length bits) (pos 0)) ≡ replicate (length bits) (pos 0)
+zeros_descrambled [] = refl
+zeros_descrambled (true ∷ bits) = ap (λ (zs : List ℤ). pos 0 ∷ zs) (zeros_descrambled bits)
+zeros_descrambled (false ∷ bits) = ap (λ (zs : List ℤ). pos 0 ∷ zs) (zeros_descrambled bits)
 
 zeros_unscrambled : (bits : List Bool) (n : ℕ) → length bits ≡ n →
     unscrambled bits (replicate n (pos 0)) ≡ replicate n (pos 0)
 zeros_unscrambled [] n long = refl
 zeros_unscrambled (b ∷ bits) n long =
     subst
-    (λ (k : ℕ). turned (b ∷ bits) (replicate k (pos 0)) ≡ replicate k (pos 0))
-    long (zeros_turned (b ∷ bits))
+    (λ (k : ℕ). descrambled (b ∷ bits) (replicate k (pos 0)) ≡ replicate k (pos 0))
+    long (zeros_descrambled (b ∷ bits))
 
 -- ---- the stream
 
@@ -158,15 +158,15 @@ paging_frames_back width plan sync p t m superframes k is sends has on at told h
     (paging_heard plan p t m superframes on at) (paging_read plan p t m superframes at same)
     (inside plan t s k on here))
 
-pub paging_words_alone : PagingWordsAreTheOnlyBest
-paging_words_alone width plan sync p t m superframes k is sends has on at told here =
+pub paging_codewords_alone : PagingCodewordsAreTheOnlyBest
+paging_codewords_alone width plan sync p t m superframes k is sends has on at told here =
     let s = paging_stream t p.number m in
     let bits_of = cycle_frame_bits (cycle_of plan p) in
     let same = rates_agree plan sync m sends told in
     subst
-    (λ (n : ℕ). IsOnlyBest n (made_samples plan) s k (sent_word n s bits_of (4 * superframes) k))
+    (λ (n : ℕ). IsOnlyBest n (made_samples plan) s k (sent_codeword n s bits_of (4 * superframes) k))
     (sym on.count)
-    (channel_words width plan (paging_carrier plan p) s bits_of (4 * superframes) k is
+    (channel_codewords width plan (paging_carrier plan p) s bits_of (4 * superframes) k is
     (paging_sent plan p has) (gain_some width plan p is.lawful has)
     (paging_heard plan p t m superframes on at) (paging_read plan p t m superframes at same)
     (inside plan t s k on here))

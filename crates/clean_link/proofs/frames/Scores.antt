@@ -1,20 +1,20 @@
--- The word that clean soft values show has the greatest score alone, and so it is decoded.
+-- The codeword that clean soft values show has the greatest score alone, and so it is decoded.
 use Rattle.clean_link.proofs.Common.{◌≡◌, ◌≢◌, ℕ, zero, suc, ◌+◌, ◌-◌, ◌*◌, ◌/◌, ◌<◌, ◌≤◌, Bool, true, false, List, [], ◌∷◌, ◌++◌, length}
 use Rattle.clean_link.proofs.Common.{get_or, take, drop, replicate, refl, sym, ap, subst, ◌∙◌, arith, inl, ℤ, ◌<ℤ◌, ◌*ℤ◌, pos, flat_map}
 use Rattle.clean_link.proofs.Common.{mul-le-mul_right, div-eq_of_eq-mul_left, by_lt_z, ints, ext_get_or, length-map, length-replicate}
 use Rattle.clean_link.proofs.Common.{length-take-le, drop-replicate, take-replicate, take_all, places, sign, code_symbols}
 use Rattle.clean_link.proofs.Common.{length-code_symbols, distinct, Shape, place, sent, shape_of, size, repeats_of, Kind, Rate, R9600}
 use Rattle.clean_link.proofs.Common.{R4800, R2400, R1200, FrameKind, Paging, length-sent, get_or-sent, repeats_some, size_some, place_lt}
-use Rattle.clean_link.proofs.Common.{address-place, IsAllowed, IsBestWord, signed, Word, best_word, correlation, score_of, Free}
-use Rattle.clean_link.proofs.Common.{agrees_alone, words_same, zero_word_best, by_definition, Channel, channel_for, gathered_span, own_bits}
-use Rattle.clean_link.proofs.Common.{score, sending, sent_symbols, best_word-same, own_is, length-gathered_span, within, frames-none}
-use Rattle.clean_link.proofs.Common.{frames-more, length-frames, take-frames, score_is, flat_map_ext_places, IsWholeChannel}
+use Rattle.clean_link.proofs.Common.{address-place, IsAllowed, IsBestCodeword, signed, Codeword, best_codeword, correlation, score_of, Free}
+use Rattle.clean_link.proofs.Common.{agrees_alone, codewords_same, zero_codeword_best, by_definition, Channel, channel_for, gathered_span}
+use Rattle.clean_link.proofs.Common.{own_bits, score, sending, sent_symbols, best_codeword-same, own_is, length-gathered_span, within}
+use Rattle.clean_link.proofs.Common.{frames-none, frames-more, length-frames, take-frames, score_is, flat_map_ext_places, IsWholeChannel}
 use Rattle.std.proofs.lemmas.List.{length-drop}
-use Rattle.frame_decoder.specs.declared.layout.FrameKind.TheVariants.{Sync}
-use Rattle.clean_link.proofs.frames.Words.{frame_at}
+use Rattle.frame_decoder.specs.declared.span_format.FrameKind.TheVariants.{Sync}
+use Rattle.clean_link.proofs.frames.Codewords.{frame_at}
 use Rattle.symbol_path.specs.declared.kinds.Kind as kinds
 
--- ---- equal sent symbols come from equal words
+-- ---- equal sent symbols come from equal codewords
 
 times_over : (c repeats : ℕ) → 0 < repeats → c * repeats / repeats ≡ c
 times_over c repeats some = div-eq_of_eq-mul_left some refl
@@ -93,17 +93,17 @@ frames_same kind repeats n frames one other fills long long' same =
 abbrev channel : Kind → ℕ → ℕ → Channel
 channel kind bits repeats = record { shape = shape_of kind; bits = bits; repeats = repeats }
 
-code_long : (w : Word) (bits n : ℕ) → length w.bits ≡ bits * n →
+code_long : (w : Codeword) (bits n : ℕ) → length w.bits ≡ bits * n →
     length (code_symbols w.start w.bits) ≡ 2 * bits * n
 code_long w bits n long =
     length-code_symbols w.start w.bits ∙ ap (λ (k : ℕ). 2 * k) long ∙ omega arith
 
-word_same : (kind : Kind) (bits repeats n : ℕ) (w v : Word) →
+codeword_same : (kind : Kind) (bits repeats n : ℕ) (w v : Codeword) →
     2 * bits * repeats ≡ size (shape_of kind) → 8 ≤ bits * n → IsAllowed Free (bits * n) w →
     IsAllowed Free (bits * n) v →
     sent_symbols (sending (channel kind bits repeats) n) w ≡
     sent_symbols (sending (channel kind bits repeats) n) v → w ≡ v
-word_same kind bits repeats n w v fills enough p q same =
+codeword_same kind bits repeats n w v fills enough p q same =
     let symbols =
     frames_same kind repeats (2 * bits) n (code_symbols w.start w.bits)
     (code_symbols v.start v.bits) fills (code_long w bits n p.bits_long)
@@ -111,9 +111,9 @@ word_same kind bits repeats n w v fills enough p q same =
     let fixed =
     distinct w.start v.start w.bits v.bits p.start_long q.start_long
     (omega (arith, enough, p.bits_long)) (p.bits_long ∙ sym q.bits_long) symbols in
-    words_same w v fixed.starts fixed.all
+    codewords_same w v fixed.starts fixed.all
 
-length-sent_symbols : (c : Channel) (n : ℕ) (w : Word) →
+length-sent_symbols : (c : Channel) (n : ℕ) (w : Codeword) →
     length (sent_symbols (sending c n) w) ≡ size c.shape * n
 length-sent_symbols c n w =
     length-frames
@@ -121,37 +121,37 @@ length-sent_symbols c n w =
     (take (2 * c.bits) (drop (2 * c.bits * k) (code_symbols w.start w.bits)))) (size c.shape) n
     (λ k. length-sent c.shape c.repeats _)
 
--- soft values of one positive number times the signs of a word's symbols, as they are sent
-abbrev pub word_softs : ℕ → Channel → ℕ → Word → List ℤ
-word_softs strength c n w = signed strength (sent_symbols (sending c n) w)
+-- soft values of one positive number times the signs of a codeword's symbols, as they are sent
+abbrev pub codeword_softs : ℕ → Channel → ℕ → Codeword → List ℤ
+codeword_softs strength c n w = signed strength (sent_symbols (sending c n) w)
 
--- every other word has a lesser score under them
-kind_alone : (kind : Kind) (bits repeats n strength : ℕ) (best w : Word) →
+-- every other codeword has a lesser score under them
+kind_alone : (kind : Kind) (bits repeats n strength : ℕ) (best w : Codeword) →
     2 * bits * repeats ≡ size (shape_of kind) → 8 ≤ bits * n → 0 < strength →
     IsAllowed Free (bits * n) best → IsAllowed Free (bits * n) w → w ≢ best →
-    score (word_softs strength (channel kind bits repeats) n best)
+    score (codeword_softs strength (channel kind bits repeats) n best)
     (sending (channel kind bits repeats) n) w
-    <ℤ score (word_softs strength (channel kind bits repeats) n best)
+    <ℤ score (codeword_softs strength (channel kind bits repeats) n best)
     (sending (channel kind bits repeats) n) best
 kind_alone kind bits repeats n strength best w fills enough some p q other =
     let c = channel kind bits repeats in
-    let softs = word_softs strength c n best in
+    let softs = codeword_softs strength c n best in
     by_lt_z (score softs (sending c n) w) (score softs (sending c n) best)
     (λ less. less)
-    (λ reaches. absurd (other (word_same kind bits repeats n w best fills enough q p
+    (λ reaches. absurd (other (codeword_same kind bits repeats n w best fills enough q p
     (sym (agrees_alone strength (sent_symbols (sending c n) best) (sent_symbols (sending c n) w)
     some (length-sent_symbols c n best ∙ sym (length-sent_symbols c n w)) reaches)))))
 
 -- so it is decoded from the gathered soft values
-kind_best : (kind : Kind) (bits repeats n strength : ℕ) (best : Word) →
+kind_best : (kind : Kind) (bits repeats n strength : ℕ) (best : Codeword) →
     2 * bits * repeats ≡ size (shape_of kind) → 8 ≤ bits * n → 0 < strength →
     IsAllowed Free (bits * n) best →
-    IsBestWord
+    IsBestCodeword
     (gathered_span (channel kind bits repeats) n
-    (word_softs strength (channel kind bits repeats) n best)) Free best
+    (codeword_softs strength (channel kind bits repeats) n best)) Free best
 kind_best kind bits repeats n strength best fills enough some p =
     let c = channel kind bits repeats in
-    let softs = word_softs strength c n best in
+    let softs = codeword_softs strength c n best in
     let size_is : length softs ≡ size c.shape * n =
     length-map (sent_symbols (sending c n) best) (λ b. pos strength *ℤ sign b) ∙
     length-sent_symbols c n best in
@@ -170,16 +170,16 @@ kind_best kind bits repeats n strength best fills enough some p =
     }
 
 -- the bits of a frame of it
-kind_own : (kind : Kind) (bits repeats n own strength : ℕ) (best : Word) →
+kind_own : (kind : Kind) (bits repeats n own strength : ℕ) (best : Codeword) →
     2 * bits * repeats ≡ size (shape_of kind) → 8 ≤ bits → 0 < strength → own < n →
     IsAllowed Free (bits * n) best →
     own_bits (channel kind bits repeats) n own
-    (word_softs strength (channel kind bits repeats) n best) ≡
+    (codeword_softs strength (channel kind bits repeats) n best) ≡
     take bits (drop (bits * own) best.bits)
 kind_own kind bits repeats n own strength best fills enough some lt p =
     let c = channel kind bits repeats in
     let room = within bits n own lt in
-    sym (own_is kind bits repeats n own (word_softs strength c n best) best enough fills
+    sym (own_is kind bits repeats n own (codeword_softs strength c n best) best enough fills
     (length-map (sent_symbols (sending c n) best) (λ b. pos strength *ℤ sign b) ∙
     length-sent_symbols c n best)
     lt
@@ -187,7 +187,7 @@ kind_own kind bits repeats n own strength best fills enough some lt p =
 
 -- ---- soft values of 0
 
--- under them every word has the same score
+-- under them every codeword has the same score
 no_score : (m : ℕ) (symbols : List Bool) → correlation (replicate m (pos 0)) symbols ≡ pos 0
 no_score zero symbols = refl
 no_score (suc m) [] = refl
@@ -200,16 +200,16 @@ pub silent_own : (c : Channel) (m n own : ℕ) → 8 ≤ c.bits → own < n →
 silent_own c m n own enough lt =
     let bits = c.bits * n in
     let room = within c.bits n own lt in
-    let zeros : Word = record { start = replicate 8 false; bits = replicate bits false } in
+    let zeros : Codeword = record { start = replicate 8 false; bits = replicate bits false } in
     let long : 8 ≤ bits = omega (arith, room, enough) in
-    let best : best_word (score (replicate m (pos 0)) (sending c n)) Free bits ≡ zeros =
-    best_word-same (score (replicate m (pos 0)) (sending c n))
+    let best : best_codeword (score (replicate m (pos 0)) (sending c n)) Free bits ≡ zeros =
+    best_codeword-same (score (replicate m (pos 0)) (sending c n))
     (score_of (replicate (2 * bits) (pos 0))) bits
     (λ w size. no_score m (sent_symbols (sending c n) w) ∙
     sym (no_score (2 * bits) (code_symbols w.start w.bits)))
     ∙ sym (by_definition (replicate (2 * bits) (pos 0)) Free bits zeros long
-    (length-replicate (2 * bits) (pos 0)) (zero_word_best Free bits long)) in
-    ap (λ (w : Word). take c.bits (drop (c.bits * own) w.bits)) best
+    (length-replicate (2 * bits) (pos 0)) (zero_codeword_best Free bits long)) in
+    ap (λ (w : Codeword). take c.bits (drop (c.bits * own) w.bits)) best
     ∙ ap (take c.bits) (drop-replicate (c.bits * own) bits false)
     ∙ take-replicate c.bits (bits - c.bits * own) false (omega (arith, room))
 
@@ -257,25 +257,25 @@ kind_of c symbols whole =
     } in
     ap shaped whole.shape
 
-pub sent_alone : (c : Channel) (symbols n strength : ℕ) (best w : Word) →
+pub sent_alone : (c : Channel) (symbols n strength : ℕ) (best w : Codeword) →
     IsWholeChannel c symbols → 8 ≤ c.bits * n → 0 < strength → IsAllowed Free (c.bits * n) best →
     IsAllowed Free (c.bits * n) w → w ≢ best →
-    score (word_softs strength c n best) (sending c n) w
-    <ℤ score (word_softs strength c n best) (sending c n) best
+    score (codeword_softs strength c n best) (sending c n) w
+    <ℤ score (codeword_softs strength c n best) (sending c n) best
 sent_alone c symbols n strength best w whole enough some p q other =
     subst
-    (λ (d : Channel). score (word_softs strength d n best) (sending d n) w
-    <ℤ score (word_softs strength d n best) (sending d n) best)
+    (λ (d : Channel). score (codeword_softs strength d n best) (sending d n) w
+    <ℤ score (codeword_softs strength d n best) (sending d n) best)
     (sym (kind_of c symbols whole))
     (kind_alone whole.kind c.bits c.repeats n strength best w
     (whole.fills ∙ ap size whole.shape) enough some p q other)
 
-pub sent_own : (c : Channel) (symbols n own strength : ℕ) (best : Word) →
+pub sent_own : (c : Channel) (symbols n own strength : ℕ) (best : Codeword) →
     IsWholeChannel c symbols → 0 < strength → own < n → IsAllowed Free (c.bits * n) best →
-    own_bits c n own (word_softs strength c n best) ≡ take c.bits (drop (c.bits * own) best.bits)
+    own_bits c n own (codeword_softs strength c n best) ≡ take c.bits (drop (c.bits * own) best.bits)
 sent_own c symbols n own strength best whole some lt p =
     subst
-    (λ (d : Channel). own_bits d n own (word_softs strength d n best) ≡
+    (λ (d : Channel). own_bits d n own (codeword_softs strength d n best) ≡
     take c.bits (drop (c.bits * own) best.bits))
     (sym (kind_of c symbols whole))
     (kind_own whole.kind c.bits c.repeats n own strength best (whole.fills ∙ ap size whole.shape)

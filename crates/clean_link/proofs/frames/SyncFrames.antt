@@ -4,14 +4,14 @@ use Rattle.clean_link.proofs.Common.{◌+ℤ◌, ints, int_rem_euclid_is, sent, 
 use Rattle.clean_link.proofs.Common.{continued_symbols, sync_frame_bits, sync_symbols, sync_carrier, phase_at, CellPlan, SyncPlan}
 use Rattle.clean_link.proofs.Common.{length-sync_frame_bits, softs, Finger, Sync, signed, frame_own_bits, frame_start, is_in_file, Tuning}
 use Rattle.clean_link.proofs.Common.{fingers_of, modulo_code, sync_stream, AreZeroWithoutSync, FramesAreZeros, FramesComeBack}
-use Rattle.clean_link.proofs.Common.{HaveSentSigns, SentWordsAreTheOnlyBest, IsOnPath, first_sync_frame, soft_strength, AreReadBy}
+use Rattle.clean_link.proofs.Common.{HaveSentSigns, SentCodewordsAreTheOnlyBest, IsOnPath, first_sync_frame, soft_strength, AreReadBy}
 use Rattle.clean_link.proofs.Common.{IsOnlyBest, IsHeardBy, path_finger, reference_finger}
 use Rattle.clean_link.proofs.signal.CarriersApart.{sync_sent, sync_silent}
-use Rattle.clean_link.proofs.signal.ChannelsBack.{channel_frames, channel_words, silent_rows, strength_some, stream_symbols}
+use Rattle.clean_link.proofs.signal.ChannelsBack.{channel_frames, channel_codewords, silent_rows, strength_some, stream_symbols}
 use Rattle.clean_link.proofs.frames.Scores.{whole_frames}
-use Rattle.clean_link.proofs.frames.Heard.{sent_word, silent_back}
+use Rattle.clean_link.proofs.frames.Heard.{sent_codeword, silent_back}
 use Rattle.clean_link.proofs.frames.SyncTimes.{frames_begin, in_file_to}
-use Rattle.frame_decoder.specs.declared.layout.FrameKind as kinds
+use Rattle.frame_decoder.specs.declared.span_format.FrameKind as kinds
 
 -- ---- the stream
 
@@ -102,14 +102,14 @@ frames_back width plan sync t k at is on here =
     (gain_some plan sync is at.lawful.sync) (sync_heard plan sync t at.lawful.pn on)
     (sync_read plan sync t) (inside plan t k on here))
 
-pub words_alone : SentWordsAreTheOnlyBest
-words_alone width plan sync t k at is on here =
+pub codewords_alone : SentCodewordsAreTheOnlyBest
+codewords_alone width plan sync t k at is on here =
     subst
     (λ (n : ℕ). IsOnlyBest n (made_samples plan) (sync_stream t) k
-    (sent_word n (sync_stream t) (sync_frame_bits plan.cell sync.message) (first_sync_frame plan)
+    (sent_codeword n (sync_stream t) (sync_frame_bits plan.cell sync.message) (first_sync_frame plan)
     k))
     (sym on.count)
-    (channel_words width plan (sync_carrier plan sync) (sync_stream t)
+    (channel_codewords width plan (sync_carrier plan sync) (sync_stream t)
     (sync_frame_bits plan.cell sync.message) (first_sync_frame plan) k at (sync_sent plan sync is)
     (gain_some plan sync is at.lawful.sync) (sync_heard plan sync t at.lawful.pn on)
     (sync_read plan sync t) (inside plan t k on here))

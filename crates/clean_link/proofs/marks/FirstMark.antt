@@ -1,4 +1,4 @@
--- The mark's time is that of the first whole sending, and there is a mark just where a sending is whole.
+-- The mark's time is that of the first whole transmission, and there is a mark just where a transmission is whole.
 use Rattle.clean_link.proofs.Common.{◌≡◌, ℕ, ◌+◌, ◌/◌, ◌%◌, ⊎_elim, Bool, true, false, List, [], ◌∷◌, map, filter, refl, sym, ap, ◌∙◌}
 use Rattle.clean_link.proofs.Common.{Option, Some, None, flat_map, cases_Bool, map-append, flat_map-append, Width, sync_capsule, SyncFields}
 use Rattle.clean_link.proofs.Common.{length, nat_lt, is_some, length-map, IsMarkedWhereHeard, IsState, made_samples, message_of, CellPlan}
@@ -69,7 +69,7 @@ gathered_times P f g (k ∷ ks) same =
     (cases_Bool (P k))
 
 -- ---- the first of them
--- the marks of all frames have the times of the whole sendings
+-- the marks of all frames have the times of the whole transmissions
 all_times : (width : Width) (plan : CellPlan) (t : Tuning) → IsReceivable width plan →
     IsOnPath plan t →
     map time_of (flat_map (marks_at t (made_samples plan)) (filter (in_file t) (frames_of t)))
@@ -115,7 +115,7 @@ sync_sent_is : (plan : CellPlan) (sync : SyncPlan) → plan.sync ≡ Some sync �
 unfolding sync_sent
 sync_sent_is plan sync sends = ap (events_of_channel plan) sends
 
--- the sending whose time a mark has, the first of these
+-- the transmission whose time a mark has, the first of these
 pub record IsFirstTold (f : ℕ → ℕ) (sendings : List ℕ) (m : Mark) : Type 0 where
   pub sending : ℕ
   pub others : List ℕ
@@ -152,7 +152,7 @@ module _ (width : Width) (plan : CellPlan) (sync : SyncPlan) (t : Tuning)
       ∙ ap (flat_map times_in) (sync_sent_is plan sync sends)
       ∙ sent_times plan sync.message (whole_sendings plan sync.message)
 
-  -- the mark has the time of the first whole sending, and where there is none it isn't set
+  -- the mark has the time of the first whole transmission, and where there is none it isn't set
   pub mark_of_first : (m : Mark) → mark t (made_samples plan) t.count ≡ Some m →
       IsFirstTold (λ q. (message_of plan.cell sync.message q).time)
       (whole_sendings plan sync.message) m

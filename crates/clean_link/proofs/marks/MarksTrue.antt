@@ -15,8 +15,8 @@ use Rattle.clean_link.proofs.sendings.Events.{first_among, in_file, known}
 use Rattle.clean_link.proofs.sendings.Heard.{ends_sending, heard_nothing, heard_sending, none_heard, heard_pieces}
 use Rattle.clean_link.proofs.sendings.Places.{ends_tells, threefold}
 
--- ---- the mark that a sending sets
--- which sending and which of its frames the file's frame k is, where it ends the sending
+-- ---- the mark that a transmission sets
+-- which transmission and which of its frames the file's frame k is, where it ends the transmission
 pub record EndsAt (plan : CellPlan) (m : SyncFields) (k q w : ℕ) : Type 0 where
   pub place : IsSentAt plan m (first_sync_frame plan) k q w
   pub ends : ends_sending plan m k w ≡ true
@@ -63,7 +63,7 @@ pub marks_sent : (plan : CellPlan) (m : SyncFields) (q first : ℕ) → IsState 
     (Some (message_of plan.cell m q))) ≡ sent_mark plan m q first ∷ []
 marks_sent plan m q first is = rw (lc_some plan m q is) refl
 
--- the frames of the sending under way
+-- the frames of the transmission under way
 frames_open_is : FramesComeBack →
     (width : Width) (plan : CellPlan) (sync : SyncPlan) (t : Tuning) (k q w : ℕ) →
     IsReceivable width plan → plan.sync ≡ Some sync → IsOnPath plan t → in_file t k ≡ true →
@@ -143,7 +143,7 @@ first_one x y h = cc
 no_first : (y : Mark) (R : Type 0) → first_of (let none : List Mark = [] in none) ≡ Some y → R
 no_first y R h = absurd (cc)
 
--- the sending whose message sets the mark of frame k, and which of its frames that is
+-- the transmission whose message sets the mark of frame k, and which of its frames that is
 record IsOfSending (plan : CellPlan) (m : SyncFields) (t : Tuning) (k : ℕ)
     (set : Mark) : Type 0 where
   sending : ℕ

@@ -4,7 +4,7 @@ use Rattle.clean_link.proofs.Common.{subst, Option, None, Some, filter, if◌the
 use Rattle.clean_link.proofs.Common.{places, Sample, Width, flat_map_ext_places, kept_count, Data, IsFreeOf, made_samples, frames_of}
 use Rattle.clean_link.proofs.Common.{cycled_frame, CellPlan, PagingPlan, TrafficPlan, TrafficFrame, events, events_at, frame_events_at}
 use Rattle.clean_link.proofs.Common.{heard_within, message_events_at, paging_events_at, mark, frames_at, messages_at, is_in_file}
-use Rattle.clean_link.proofs.Common.{sync_events_at, commands_at, decoded_at, frame_event, frame_heard, if_followed, replaced_in, Tuning}
+use Rattle.clean_link.proofs.Common.{sync_events_at, power_bits_at, decoded_at, frame_event, frame_heard, if_followed, replaced_in, Tuning}
 use Rattle.clean_link.proofs.Common.{Event, Pilot, Leg, Mark, Traffic, frames_by_one_mark, messages_by_one_mark, soft_strength, sync_sent}
 use Rattle.clean_link.proofs.Common.{IsNotDirected, IsOnPath, IsTunedTo, IsReceivable, is_frame, is_message, is_page, is_sync, AreEventsOf}
 use Rattle.clean_link.proofs.Common.{AreFramesBehind, AreMessagesBehind, EachChannelComesBack, FollowsOne, IsEventOf, frame_ends}
@@ -16,7 +16,7 @@ use Rattle.clean_link.proofs.messages.MessagesBack.{pages_all}
 use Rattle.clean_link.proofs.sendings.Back.{sendings_back}
 use Rattle.clean_link.proofs.signal.Samples.{length-made}
 use Rattle.clean_link.proofs.traffic.Back.{none_known, one_near, told_behind_mark, undirected, untold}
-use Rattle.clean_link.proofs.traffic.Commands.{commands_back}
+use Rattle.clean_link.proofs.traffic.PowerBits.{power_bits_back}
 use Rattle.clean_link.proofs.traffic.Frames.{each_frame_heard, frame_back, frame_there, heard_as, heard_there, inside_at, same_places}
 use Rattle.clean_link.proofs.traffic.OnePilot.{one_stream}
 use Rattle.clean_link.proofs.traffic.Signaling.{sent_messages_back}
@@ -53,19 +53,19 @@ module _ (width : Width) (plan : CellPlan) (p : TrafficPlan) (t : Tuning) (traff
       let number = 4 * superframes + k in
       let ends = frame_ends plan p number in
       let decoded = decoded_at t traffic m legs samples k in
-      let commands = commands_back width plan p t traffic m legs superframes k f is heard in
+      let power_bits = power_bits_back width plan p t traffic m legs superframes k f is heard in
       let score = soft_strength plan Data p.gain * kept_count (replaced_in traffic m k) in (
         f,
         frame,
         record {
           decoded = decoded;
-          powered = ap (frame_event ends decoded) commands;
+          powered = ap (frame_event ends decoded) power_bits;
           back = λ distinct.
-              heard_as ends f score decoded (commands_at t traffic m legs samples k)
+              heard_as ends f score decoded (power_bits_at t traffic m legs samples k)
               (frame_back width plan p t traffic m legs superframes k f is heard
               (subst (λ (ps : List ℕ). IsDistinctFrame ps f)
               (same_places width plan p t traffic m superframes is latest k) distinct))
-              commands;
+              power_bits;
         },
       )
 

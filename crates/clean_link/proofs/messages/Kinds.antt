@@ -16,7 +16,7 @@ abbrev pub kind_of : Event → ℕ
 kind_of (Pilot phase energy) = 0
 kind_of (Sync n capsule message) = 1
 kind_of (Paging n capsule message) = 2
-kind_of (Frame n rate good bits commands) = 3
+kind_of (Frame n rate good bits power_bits) = 3
 kind_of (OnTraffic n capsule message) = 4
 kind_of (Sets n time active candidate report) = 5
 

@@ -1,4 +1,4 @@
--- A handset hears the whole sendings, the whole pages, and the frames and messages of a traffic
+-- A handset hears the whole transmissions, the whole pages, and the frames and messages of a traffic
 -- channel of a clean link's cell, with the events of its pilot sets, in the order in which they are
 -- known, and nothing else.
 use Rattle.clean_link.proofs.Common.{◌≡◌, ℕ, ◌+◌, ◌*◌, Bool, true, false, List, [], ◌∷◌, ◌++◌, length, map, refl, sym, ap, ◌∙◌, arith, inl}
@@ -49,7 +49,7 @@ unrated t channel m samples n off =
     off
     ∙ none_gathered (places (n + 1))
 
--- what is sent with a sync channel, by its PRAT and by what its first whole sending tells
+-- what is sent with a sync channel, by its PRAT and by what its first whole transmission tells
 with_sync_is : (plan : CellPlan) (channel : ℕ) (sync : SyncPlan) (rated : Bool)
     (told : Option ℕ) → nat_lt sync.message.prat 2 ≡ rated →
     told_by_first plan sync.message (whole_sendings plan sync.message) ≡ told →
@@ -83,7 +83,7 @@ module _ (width : Width) (plan : CellPlan) (t : Tuning) (is : IsReceivable width
       (places (plan.link.samples + 1))
 
   module _ (sync : SyncPlan) (sends : plan.sync ≡ Some sync) where
-    -- where no sending is whole
+    -- where no transmission is whole
     unset : mark t (made_samples plan) t.count ≡ None →
         pages_with_sync plan t.paging (Some sync) ≡ []
     unset none_set =

@@ -1,4 +1,4 @@
--- A handset hears the whole sendings of a clean link's cell, in order, and nothing else.
+-- A handset hears the whole transmissions of a clean link's cell, in order, and nothing else.
 use Rattle.clean_link.proofs.Common.{◌≡◌, ℕ, ◌+◌, ◌-◌, ◌*◌, ◌/◌, ◌<◌, ◌≤◌, ◌&&◌, ◌≢◌, ⊎_elim, true, false, cond, List, [], ◌∷◌, filter}
 use Rattle.clean_link.proofs.Common.{refl, sym, ap, ◌∙◌, arith, nat_le, Option, Some, None, flat_map, mul-le-mul_left, and_parts, and_from}
 use Rattle.clean_link.proofs.Common.{le-leb, lt-leb, leb-true, cases_Bool, false_from_ne_true, places, Width, sync_capsule, message_of}
@@ -81,7 +81,7 @@ tells_if plan t j none = ⊎_elim
     refl)
     (cases_Bool (nat_le (first_sync_frame plan) j && in_file t (j - first_sync_frame plan)))
 
--- other frames than a sending's last tell nothing
+-- other frames than a transmission's last tell nothing
 tells_other : FramesComeBack →
     (width : Width) (plan : CellPlan) (sync : SyncPlan) (t : Tuning) (q w : ℕ) →
     IsReceivable width plan → plan.sync ≡ Some sync → IsOnPath plan t →
@@ -98,7 +98,7 @@ tells_other back width plan sync t q w is sends tuned low other =
     tells_none back width plan sync t k q w is sends tuned there
     (record { parts = omega (arith, early); low = low }) over)
 
--- the last tells of the sending where it is whole
+-- the last tells of the transmission where it is whole
 tells_last : FramesComeBack →
     (width : Width) (plan : CellPlan) (sync : SyncPlan) (t : Tuning) (q : ℕ) →
     IsReceivable width plan → plan.sync ≡ Some sync → IsOnPath plan t →

@@ -1,4 +1,4 @@
--- The capsules that the frames of a cell's sendings end.
+-- The capsules that the frames of a cell's transmissions end.
 use Rattle.clean_link.proofs.Common.{◌≡◌, ℕ, zero, suc, ◌+◌, ◌-◌, ◌*◌, ◌/◌, ◌%◌, ◌<◌, ◌≤◌, ◌&&◌, ◌==◌, ⊎_elim, Bool, true, false, List, []}
 use Rattle.clean_link.proofs.Common.{◌∷◌, ◌++◌, length, take, drop, replicate, refl, sym, ap, ◌∙◌, arith, nat_lt, nat_le, Option, Some}
 use Rattle.clean_link.proofs.Common.{None, if◌then◌else◌, div-add-mod', take-add, lt-ltb, le-ltb, lt-leb, le-leb, cases_lt, ne_eqb}
@@ -38,7 +38,7 @@ sized : (bits : List Bool) (n size : ℕ) → stated_bits bits ≡ size →
     (if nat_le (stated_bits bits) n then None else front_capsule bits) ≡ decided bits n size
 sized bits n size e = rw (front_is bits size e, e) refl
 
--- a whole or a part of a sending
+-- a whole or a part of a transmission
 part : (p c : List Bool) (w size : ℕ) → 40 ≤ size → size ≤ 1184 → 31 * (w + 1) ≤ length p →
     take size p ≡ c →
     decided (take (31 * (w + 1)) p) (31 * w) size ≡
@@ -66,8 +66,8 @@ part p c w size least most room is = ⊎_elim
     rw (a, b) refl)
     (cases_lt (31 * w) size)
 
--- ---- a sending
--- the frames of a sending
+-- ---- a transmission
+-- the frames of a transmission
 abbrev pub sending_frames : CellPlan → SyncFields → ℕ
 sending_frames plan m = 3 * superframes_a_sending plan.cell m
 
@@ -84,7 +84,7 @@ frame_bits : (plan : CellPlan) (m : SyncFields) (frame : ℕ) →
 unfolding sync_frame_bits
 frame_bits plan m frame = refl
 
--- frame w of sending q
+-- frame w of transmission q
 frame_piece : (plan : CellPlan) (m : SyncFields) (base j q w : ℕ) →
     base + j ≡ q * sending_frames plan m + w → w < sending_frames plan m →
     piece_of plan m base j ≡ record {
@@ -105,7 +105,7 @@ frame_piece plan m base j q w at low =
       body = take 31 (drop (31 * w) (padded_sending plan.cell m x));
     } in p) quotient
 
--- the bits of the first n frames of a sending
+-- the bits of the first n frames of a transmission
 bodies_are : (plan : CellPlan) (m : SyncFields) (base at q n : ℕ) →
     base + at ≡ q * sending_frames plan m → n ≤ sending_frames plan m →
     bodies (run (piece_of plan m base) at n) ≡ take (31 * n) (padded_sending plan.cell m q)
@@ -182,7 +182,7 @@ length-padded_sending plan m q =
       length-sending plan.cell m q,
     )
 
--- ---- the pieces of frames 0 to k, the last of which is frame w of sending q
+-- ---- the pieces of frames 0 to k, the last of which is frame w of transmission q
 pub record IsSentAt (plan : CellPlan) (m : SyncFields) (base k q w : ℕ) : Type 0 where
   pub parts : base + k ≡ q * sending_frames plan m + w
   pub low : w < sending_frames plan m
@@ -194,7 +194,7 @@ is_at plan m base k =
     let some : 0 < f = omega (arith, length-sync plan.cell.check30 m) in
     record { parts = sym (div-add-mod' (base + k) f); low = mod_below (base + k) f some }
 
--- where the sending began before the file, none of the pieces starts a message
+-- where the transmission began before the file, none of the pieces starts a message
 pub not_begun : (plan : CellPlan) (m : SyncFields) (base k q w : ℕ) → IsSentAt plan m base k q w →
     k < w → from_last_start (run (piece_of plan m base) 0 (suc k)) ≡ []
 not_begun plan m base k q w is before =
@@ -206,7 +206,7 @@ not_begun plan m base k q w is before =
     (omega (arith, is.low, lt, before)) in
     ap (λ (p : Piece). p.starts) here ∙ ne_eqb r 0 (λ e. omega (arith, e, lt, before)))
 
--- else the message under way has the sending's pieces
+-- else the message under way has the transmission's pieces
 pub begun : (plan : CellPlan) (m : SyncFields) (base k q w : ℕ) → IsSentAt plan m base k q w →
     w ≤ k →
     from_last_start (run (piece_of plan m base) 0 (suc k)) ≡

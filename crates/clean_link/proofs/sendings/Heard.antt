@@ -87,7 +87,7 @@ none_heard zeros width plan t k is silent tuned there =
     (none_starts (λ j. piece (replicate 32 false)) 0 (suc k) (λ i lt. refl)))
 
 -- ---- what is heard with one
--- whether frame w of a sending, which is the file's frame k, ends it, and its first frame is in the
+-- whether frame w of a transmission, which is the file's frame k, ends it, and its first frame is in the
 -- file
 abbrev pub ends_sending : CellPlan → SyncFields → ℕ → ℕ → Bool
 ends_sending plan m k w =
@@ -116,7 +116,7 @@ frame_early width plan t k lawful tuned there =
     let ends = in_file_to t k tuned.alone there in
     omega (arith, begins, ends, tuned.count, lawful.samples, few_samples width, lawful.start)
 
--- a sending has a lesser number than its frames
+-- a transmission has a lesser number than its frames
 sending_early : (plan : CellPlan) (m : SyncFields) (base k q w : ℕ) → IsSentAt plan m base k q w →
     q ≤ base + k
 sending_early plan m base k q w is =
@@ -136,7 +136,7 @@ heard_choice : (form : CheckForm) (b : Bool) (m : SyncFields) → IsSyncMessage 
 heard_choice form true m is = ap (with_message (sync_capsule form m)) (reads_capsule form m is)
 heard_choice form false m is = refl
 
--- frame w of sending q, which is the file's frame k
+-- frame w of transmission q, which is the file's frame k
 pub heard_is : FramesComeBack →
     (width : Width) (plan : CellPlan) (sync : SyncPlan) (t : Tuning) (k q w : ℕ) →
     IsReceivable width plan → plan.sync ≡ Some sync → IsOnPath plan t → in_file t k ≡ true →

@@ -1,4 +1,4 @@
--- Where sendings lie in the file of a clean link, and which are whole.
+-- Where transmissions lie in the file of a clean link, and which are whole.
 use Rattle.clean_link.proofs.Common.{◌≡◌, ℕ, ◌+◌, ◌-◌, ◌*◌, ◌/◌, ◌<◌, ◌≤◌, ◌&&◌, true, false, length, arith, nat_lt, nat_le}
 use Rattle.clean_link.proofs.Common.{mul-le-mul_left, and_parts, and_from, and_right, lt-ltb, le-leb, lt-leb, leb-true, ltb-true, Width}
 use Rattle.clean_link.proofs.Common.{sync_capsule, SyncFields, IsLawfulPlan, superframes_a_sending, CellPlan, length-sync, superframes_some}
@@ -8,7 +8,7 @@ use Rattle.clean_link.proofs.frames.SyncTimes.{end_of_frame, frames_begin, in_fi
 use Rattle.clean_link.proofs.sendings.Events.{in_file}
 use Rattle.clean_link.proofs.sendings.Heard.{ends_sending}
 
--- ---- the frame of a sending that ends it
+-- ---- the frame of a transmission that ends it
 abbrev pub last_frame : CellPlan → SyncFields → ℕ
 last_frame plan m = (length (sync_capsule plan.cell.check30 m) + 30) / 31 - 1
 
@@ -25,7 +25,7 @@ ends_there plan m k w is begun =
     (lt-ltb (31 * w) size (omega (arith, is, long))))
     (le-leb size (31 * (w + 1)) (omega (arith, is, long)))
 
--- what a frame that ends a sending tells
+-- what a frame that ends a transmission tells
 pub record Ends (plan : CellPlan) (m : SyncFields) (k w : ℕ) : Type 0 where
   pub begun : w ≤ k
   pub last : w ≡ last_frame plan m
@@ -40,7 +40,7 @@ ends_tells plan m k w h =
     let whole = leb-true size (31 * (w + 1)) both.1 in
     record { begun = leb-true w k front.0; last = omega (arith, more, whole) }
 
--- ---- where a sending lies
+-- ---- where a transmission lies
 -- Its last frame is the file's frame k.
 abbrev pub IsLast : CellPlan → SyncFields → ℕ → ℕ → Type 0
 IsLast plan m k q = IsSentAt plan m (first_sync_frame plan) k q (last_frame plan m)
@@ -96,7 +96,7 @@ whole_from width plan m t k q lawful tuned is begun there =
     (le-leb (sending_ends plan m q) (plan.link.start + plan.link.samples)
     (omega (arith, ends, fits, tuned.count)))
 
--- a whole sending's last frame
+-- a whole transmission's last frame
 pub record IsInside (plan : CellPlan) (m : SyncFields) (t : Tuning) (k q : ℕ) : Type 0 where
   pub last : IsLast plan m k q
   pub begun : last_frame plan m ≤ k
@@ -128,7 +128,7 @@ whole_to width plan m t q lawful tuned whole =
       },
     )
 
--- sendings that are whole have small numbers
+-- transmissions that are whole have small numbers
 pub late_sending : (plan : CellPlan) (m : SyncFields) (q : ℕ) →
     (plan.link.start + plan.link.samples) / 98304 + 1 ≤ q → is_whole plan m q ≡ false
 late_sending plan m q late =

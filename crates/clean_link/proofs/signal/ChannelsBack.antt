@@ -59,8 +59,8 @@ channel_frames width plan c s bits_of base k is has some heard read here =
     (strength_some width plan s.form c.gain is some))
     here
 
-pub channel_words : laws.ChannelWordsAreTheOnlyBest
-channel_words width plan c s bits_of base k is has some heard read here =
+pub channel_codewords : laws.ChannelCodewordsAreTheOnlyBest
+channel_codewords width plan c s bits_of base k is has some heard read here =
     let strength = soft_strength plan s.form c.gain in
     shown_alone plan.link.samples strength base k (made_samples plan) s bits_of
     (heard_shown plan c s bits_of base is.lawful.pn (plan_apart width plan is.lawful) has heard read

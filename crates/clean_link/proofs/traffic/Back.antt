@@ -81,7 +81,7 @@ told_behind plan told row chip = told_on (λ (p : TrafficPlan). told p chip) pla
 
 module _ (width : Width) (plan : CellPlan) (t : Tuning) (is : IsReceivable width plan)
     (tuned : IsOnPath plan t) where
-  -- the superframes of the mark are those that the first whole sending tells
+  -- the superframes of the mark are those that the first whole transmission tells
   told_so : (sync : SyncPlan) (m : Mark) → plan.sync ≡ Some sync →
       mark t (made_samples plan) t.count ≡ Some m → (superframes : ℕ) →
       m.time ≡ plan.cell.time + superframes →

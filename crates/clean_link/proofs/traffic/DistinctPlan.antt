@@ -2,16 +2,16 @@
 use Rattle.clean_link.proofs.Common.{◌≡◌, ◌≢◌, ℕ, ◌+◌, ◌*◌, ◌^◌, ◌<◌, ◌≤◌, Bool, true, List, [], ◌∷◌, length, map, refl, sym, ap, ◌∙◌}
 use Rattle.clean_link.proofs.Common.{set_one, set_two, FrameList, channel_on, arith, subst, nat_le, inl, inr, Some, All, flat_map}
 use Rattle.clean_link.proofs.Common.{and_parts, cases_eq, leb-true, All-cons, All-nil, binary, places, norm, Sixteen, after, traffic_mask}
-use Rattle.clean_link.proofs.Common.{after-after, IsState-before, capsule, octets, check_bits, traffic_word, M30, Rate, R9600, R4800, R2400}
-use Rattle.clean_link.proofs.Common.{R1200, word_bits, power_places, Rate2, R14400, R7200, R3600, R1800, on_again, sync_body, sync_capsule}
-use Rattle.clean_link.proofs.Common.{IsSyncMessage, split_9600, loudness, AreLawfulBeside, IsFreeOf, IsLawfulPlan, IsPagingPlan}
-use Rattle.clean_link.proofs.Common.{IsTrafficPlan, paging_rate, IsStatedPaging, IsReceivable, frames_of, cycled_frame, IsTrafficFrame}
-use Rattle.clean_link.proofs.Common.{IsTrafficFrame2, PagingPlan, TrafficPlan, TrafficFrame, TrafficFrame2, lost_symbols, bits_1200}
-use Rattle.clean_link.proofs.Common.{bits_14400, bits_1800, bits_2400, bits_3600, bits_4800, bits_7200, bits_9600, distinct_plan}
+use Rattle.clean_link.proofs.Common.{after-after, IsState-before, capsule, octets, check_bits, traffic_codeword, M30, Rate, R9600, R4800}
+use Rattle.clean_link.proofs.Common.{R2400, R1200, codeword_bits, power_places, Rate2, R14400, R7200, R3600, R1800, on_again, sync_body}
+use Rattle.clean_link.proofs.Common.{sync_capsule, IsSyncMessage, split_9600, loudness, AreLawfulBeside, IsFreeOf, IsLawfulPlan}
+use Rattle.clean_link.proofs.Common.{IsPagingPlan, IsTrafficPlan, paging_rate, IsStatedPaging, IsReceivable, frames_of, cycled_frame}
+use Rattle.clean_link.proofs.Common.{IsTrafficFrame, IsTrafficFrame2, PagingPlan, TrafficPlan, TrafficFrame, TrafficFrame2, lost_symbols}
+use Rattle.clean_link.proofs.Common.{bits_1200, bits_14400, bits_1800, bits_2400, bits_3600, bits_4800, bits_7200, bits_9600, distinct_plan}
 use Rattle.clean_link.proofs.Common.{first_channel, frame2_at, frame_at, on_row, second_channel, told_message, HasMark, HasSetOne}
 use Rattle.clean_link.proofs.Common.{HasSetTwo, frame_chip, is_received, received_frames, replaced_of, AreDistinct, IsDistinctFrame}
 use Rattle.clean_link.proofs.Common.{end_chip, messages_sent, cycled_frame2, IsDistinctFrame2, signaling_sent, told_with_sync}
-use Rattle.clean_link.proofs.Common.{lost_symbols2, sharing, sharing2, words_giving, SharesNone, SharesNone2}
+use Rattle.clean_link.proofs.Common.{lost_symbols2, sharing, sharing2, codewords_giving, SharesNone, SharesNone2}
 use Rattle.cell_plan.specs.TrafficFrames.{AreTrafficFrames, frame_count}
 use Rattle.long_code.specs.LongCode.{before}
 use Rattle.traffic_message.specs.Multiplex.{split}
@@ -133,43 +133,43 @@ by_rate P a b c d R4800 = b
 by_rate P a b c d R2400 = c
 by_rate P a b c d R1200 = d
 
--- no word of another rate shares the symbols of a frame
+-- no codeword of another rate shares the symbols of a frame
 abbrev IsApart : List ℕ → Rate → List Bool → Rate → Type 0
 IsApart found rate bits r = r ≢ rate → sharing (lost_symbols (pairs_by found)) rate bits r ≡ []
 
 abbrev IsAlone : List ℕ → Rate → List Bool → Type 0
 IsAlone found rate information =
-    SharesNone (lost_symbols (pairs_by found)) rate (traffic_word rate information)
+    SharesNone (lost_symbols (pairs_by found)) rate (traffic_codeword rate information)
 
 alone_9600 : IsAlone starts_0 R9600 bits_9600
-unfolding binary places check_bits words_giving
+unfolding binary places check_bits codewords_giving
 alone_9600 = record {
   own = refl;
-  others = by_rate (IsApart starts_0 R9600 (traffic_word R9600 bits_9600))
+  others = by_rate (IsApart starts_0 R9600 (traffic_codeword R9600 bits_9600))
       (λ other. absurd (other refl)) (λ other. refl) (λ other. refl) (λ other. refl);
 }
 
 alone_4800 : IsAlone starts_1 R4800 bits_4800
-unfolding binary places check_bits words_giving
+unfolding binary places check_bits codewords_giving
 alone_4800 = record {
   own = refl;
-  others = by_rate (IsApart starts_1 R4800 (traffic_word R4800 bits_4800))
+  others = by_rate (IsApart starts_1 R4800 (traffic_codeword R4800 bits_4800))
       (λ other. refl) (λ other. absurd (other refl)) (λ other. refl) (λ other. refl);
 }
 
 alone_2400 : IsAlone starts_2 R2400 bits_2400
-unfolding binary places check_bits words_giving
+unfolding binary places check_bits codewords_giving
 alone_2400 = record {
   own = refl;
-  others = by_rate (IsApart starts_2 R2400 (traffic_word R2400 bits_2400))
+  others = by_rate (IsApart starts_2 R2400 (traffic_codeword R2400 bits_2400))
       (λ other. refl) (λ other. refl) (λ other. absurd (other refl)) (λ other. refl);
 }
 
 alone_1200 : IsAlone starts_3 R1200 bits_1200
-unfolding binary places check_bits words_giving
+unfolding binary places check_bits codewords_giving
 alone_1200 = record {
   own = refl;
-  others = by_rate (IsApart starts_3 R1200 (traffic_word R1200 bits_1200))
+  others = by_rate (IsApart starts_3 R1200 (traffic_codeword R1200 bits_1200))
       (λ other. refl) (λ other. refl) (λ other. refl) (λ other. absurd (other refl));
 }
 
@@ -196,37 +196,37 @@ IsApart2 found rate bits r = r ≢ rate → sharing2 (lost_symbols2 (pairs_by fo
 
 abbrev IsAlone2 : List ℕ → Rate2 → List Bool → Type 0
 IsAlone2 found rate information =
-    SharesNone2 (lost_symbols2 (pairs_by found)) rate (word_bits rate information)
+    SharesNone2 (lost_symbols2 (pairs_by found)) rate (codeword_bits rate information)
 
 alone_14400 : IsAlone2 starts_0 R14400 bits_14400
-unfolding binary places check_bits words_giving
+unfolding binary places check_bits codewords_giving
 alone_14400 = record {
   own = refl;
-  others = by_rate2 (IsApart2 starts_0 R14400 (word_bits R14400 bits_14400))
+  others = by_rate2 (IsApart2 starts_0 R14400 (codeword_bits R14400 bits_14400))
       (λ other. absurd (other refl)) (λ other. refl) (λ other. refl) (λ other. refl);
 }
 
 alone_7200 : IsAlone2 starts_1 R7200 bits_7200
-unfolding binary places check_bits words_giving
+unfolding binary places check_bits codewords_giving
 alone_7200 = record {
   own = refl;
-  others = by_rate2 (IsApart2 starts_1 R7200 (word_bits R7200 bits_7200))
+  others = by_rate2 (IsApart2 starts_1 R7200 (codeword_bits R7200 bits_7200))
       (λ other. refl) (λ other. absurd (other refl)) (λ other. refl) (λ other. refl);
 }
 
 alone_3600 : IsAlone2 starts_2 R3600 bits_3600
-unfolding binary places check_bits words_giving
+unfolding binary places check_bits codewords_giving
 alone_3600 = record {
   own = refl;
-  others = by_rate2 (IsApart2 starts_2 R3600 (word_bits R3600 bits_3600))
+  others = by_rate2 (IsApart2 starts_2 R3600 (codeword_bits R3600 bits_3600))
       (λ other. refl) (λ other. refl) (λ other. absurd (other refl)) (λ other. refl);
 }
 
 alone_1800 : IsAlone2 starts_3 R1800 bits_1800
-unfolding binary places check_bits words_giving
+unfolding binary places check_bits codewords_giving
 alone_1800 = record {
   own = refl;
-  others = by_rate2 (IsApart2 starts_3 R1800 (word_bits R1800 bits_1800))
+  others = by_rate2 (IsApart2 starts_3 R1800 (codeword_bits R1800 bits_1800))
       (λ other. refl) (λ other. refl) (λ other. refl) (λ other. absurd (other refl));
 }
 

@@ -5,15 +5,15 @@ use Rattle.clean_link.proofs.Common.{cases_lt, inl, inr, map, filter, take, drop
 use Rattle.clean_link.proofs.Common.{flat_map, and_from, and_parts, cases_Bool, false_from_ne_true, le-leb, leb-true, All-head, All-tail}
 use Rattle.clean_link.proofs.Common.{places, Sample, Width, traffic_mask, power_places, kept_count, Decoded, sent_frame, Data, made_samples}
 use Rattle.clean_link.proofs.Common.{frames_of, cycled_frame, set_one, IsTrafficFrame, CellPlan, TrafficPlan, TrafficFrame, frame_softs}
-use Rattle.clean_link.proofs.Common.{is_in_file, known_at, known_now, Stream, frames_at, commands_at, decoded_at, frame_event, frame_heard}
-use Rattle.clean_link.proofs.Common.{frames_by, frame_state, frames_bound, frames_now, replaced_in, stream_of, Tuning, Event, Leg, Mark}
-use Rattle.clean_link.proofs.Common.{Traffic, filter_enough, flat_map_ext_filter_places, flat_map_ext_places, soft_strength, frame_chip}
-use Rattle.clean_link.proofs.Common.{frame_ends, frame_told, frames_of_channel, is_received, received_frames, replaced_of, sent_commands}
-use Rattle.clean_link.proofs.Common.{sent_frame_event, AreDistinct, IsDistinctFrame, IsOnePilot, SendsSetOne, end_chip, EachFrameIsHeard}
-use Rattle.clean_link.proofs.Common.{HearsTraffic, IsHeardAs, IsUndirected, SentFramesComeBack, TrafficFramesComeBack}
+use Rattle.clean_link.proofs.Common.{is_in_file, known_at, known_now, Stream, frames_at, power_bits_at, decoded_at, frame_event}
+use Rattle.clean_link.proofs.Common.{frame_heard, frames_by, frame_state, frames_bound, frames_now, replaced_in, stream_of, Tuning, Event}
+use Rattle.clean_link.proofs.Common.{Leg, Mark, Traffic, filter_enough, flat_map_ext_filter_places, flat_map_ext_places, soft_strength}
+use Rattle.clean_link.proofs.Common.{frame_chip, frame_ends, frame_told, frames_of_channel, is_received, received_frames, replaced_of}
+use Rattle.clean_link.proofs.Common.{sent_power_bits, sent_frame_event, AreDistinct, IsDistinctFrame, IsOnePilot, SendsSetOne, end_chip}
+use Rattle.clean_link.proofs.Common.{EachFrameIsHeard, HearsTraffic, IsHeardAs, IsUndirected, SentFramesComeBack, TrafficFramesComeBack}
 use Rattle.clean_link.proofs.pages.InOrder.{given_in_order, IsBound}
 use Rattle.clean_link.proofs.sendings.Order.{flat_map-filter, given_where, moved_up}
-use Rattle.clean_link.proofs.traffic.Commands.{commands_back, power_pairs}
+use Rattle.clean_link.proofs.traffic.PowerBits.{power_bits_back, power_pairs}
 use Rattle.clean_link.proofs.signal.Samples.{length-made}
 use Rattle.clean_link.proofs.traffic.OnePilot.{one_now, one_stream, one_stream_is}
 use Rattle.clean_link.proofs.traffic.Signs.{heard_shown, lawful_traffic, same_state}
@@ -69,11 +69,11 @@ frame_back width plan p t traffic m legs superframes k f is heard distinct =
     (sized width plan p t traffic m legs superframes k f is heard) shown.shows distinct
 
 -- what is heard of it
-pub heard_as : (n : ℕ) (f : TrafficFrame) (score : ℕ) (frame : Decoded) (commands : List Bool) →
+pub heard_as : (n : ℕ) (f : TrafficFrame) (score : ℕ) (frame : Decoded) (power_bits : List Bool) →
     frame ≡ record { rate = f.rate; good = true; bits = f.information; score = pos score } →
-    commands ≡ sent_commands f → frame_event n frame commands ≡ sent_frame_event n f
-heard_as n f score frame commands is sent =
-    ap (λ (d : Decoded). frame_event n d commands) is
+    power_bits ≡ sent_power_bits f → frame_event n frame power_bits ≡ sent_frame_event n f
+heard_as n f score frame power_bits is sent =
+    ap (λ (d : Decoded). frame_event n d power_bits) is
     ∙ ap (λ (bits : List Bool).
     frame_event n (record {
       rate = f.rate;
@@ -257,9 +257,9 @@ module _ (width : Width) (plan : CellPlan) (p : TrafficPlan) (t : Tuning) (traff
         ap (λ (n : ℕ). frame_heard t traffic m legs samples n k ∷ []) (known_is k)
         ∙ ap (λ (e : Event). e ∷ [])
         (heard_as ends f score (decoded_at t traffic m legs samples k)
-        (commands_at t traffic m legs samples k)
+        (power_bits_at t traffic m legs samples k)
         (frame_back width plan p t traffic m legs superframes k f is heard distinct)
-        (commands_back width plan p t traffic m legs superframes k f is heard))
+        (power_bits_back width plan p t traffic m legs superframes k f is heard))
         ∙ sym (ap (map (sent_frame_event ends)) frame)
 
     -- the frames that end at a number of samples

@@ -1,11 +1,12 @@
--- Frames of 9,600 bits a second that no other word shares.
+-- Frames of 9,600 bits a second that no other codeword shares.
 use Rattle.clean_link.proofs.Common.{◌≡◌, ℕ, ◌+◌, ◌-◌, ◌*◌, ◌/◌, ◌<◌, Bool, true, false, List, ◌++◌, length, get_or, drop, replicate, refl}
 use Rattle.clean_link.proofs.Common.{sym, ap, ◌∙◌, arith, subst, ◌&&◌, length-append, and_parts, drop_at, xor, add, length_add}
 use Rattle.clean_link.proofs.Common.{code_symbols, g0, g1, symbol, symbols_at, quality_indicator, data_shape, sent, quality_of}
-use Rattle.clean_link.proofs.Common.{traffic_word, R9600, R4800, R2400, R1200, word_fills, words_same, AgreeElsewhere, frame_word, is_kept}
-use Rattle.clean_link.proofs.Common.{is_seen, shows_full_rate, tells_all_bits, full_rate_symbols, lost_symbols, FullRateFramesAreDistinct}
+use Rattle.clean_link.proofs.Common.{traffic_codeword, R9600, R4800, R2400, R1200, codeword_fills, codewords_same, AgreeElsewhere}
+use Rattle.clean_link.proofs.Common.{frame_codeword, is_kept, is_seen, shows_full_rate, tells_all_bits, full_rate_symbols, lost_symbols}
+use Rattle.clean_link.proofs.Common.{FullRateFramesAreDistinct}
 use Rattle.conv_code.proofs.Pairs.{AreAt}
-use Rattle.clean_link.proofs.traffic.HiddenWords.{hidden_none, same_by_sum, same_is_none, sum_ends, symbol_add, AreHidden}
+use Rattle.clean_link.proofs.traffic.HiddenCodewords.{hidden_none, same_by_sum, same_is_none, sum_ends, symbol_add, AreHidden}
 use Rattle.clean_link.proofs.traffic.KeptSymbols.{at_each, at_one, kept_agree}
 
 -- ---- the same rate
@@ -29,7 +30,7 @@ sum_is_none generator x y j long same =
     symbol_add generator x y j long ∙
     same_is_none (symbol generator x j) (symbol generator y j) same
 
--- the sum of two words that agree elsewhere is hidden
+-- the sum of two codewords that agree elsewhere is hidden
 sum_hidden : (replaced : List ℕ) (bits bits' : List Bool) → length bits ≡ 192 →
     length bits' ≡ 192 →
     AgreeElsewhere replaced (sent data_shape 1 (code_symbols (replicate 8 false) bits))
@@ -62,7 +63,7 @@ sum_hidden replaced bits bits' long long' agree =
           sum_is_none g1 x y i both (sym (at_x i below).odd ∙ same ∙ (at_y i below).odd);
     }
 
--- so two such words are the same
+-- so two such codewords are the same
 bits_agree : (replaced : List ℕ) (bits bits' : List Bool) → length bits ≡ 192 →
     length bits' ≡ 192 → drop 184 bits ≡ replicate 8 false → drop 184 bits' ≡ replicate 8 false →
     tells_all_bits (lost_symbols replaced) ≡ true →
@@ -79,9 +80,9 @@ bits_agree replaced bits bits' long long' ends ends' tells agree =
     same_by_sum bits bits' 192 long long' (none ∙ ap (λ (n : ℕ). replicate n false) size)
 
 -- a frame's bits end in eight zeros
-word_ends : (information : List Bool) → length (traffic_word R9600 information) ≡ 192 →
-    drop 184 (traffic_word R9600 information) ≡ replicate 8 false
-word_ends information size =
+codeword_ends : (information : List Bool) → length (traffic_codeword R9600 information) ≡ 192 →
+    drop 184 (traffic_codeword R9600 information) ≡ replicate 8 false
+codeword_ends information size =
     let front = information ++ quality_indicator (quality_of R9600) information in
     drop_at front (replicate 8 false) 184
     (omega (arith, size, length-append front (replicate 8 false)))
@@ -108,7 +109,7 @@ not_one replaced xs ys r j one lt first second apart agree =
     (sym (sent_once xs (2 * j)) ∙ even ∙ ap (λ (n : ℕ). get_or ys n false) one ∙ sym odd ∙
     sent_once xs (2 * j + 1))
 
--- so no word of a lower rate has the symbols
+-- so no codeword of a lower rate has the symbols
 no_lower : (replaced : List ℕ) (xs ys : List Bool) (r : ℕ) →
     ((j : ℕ) → 2 * j / r ≡ (2 * j + 1) / r) →
     shows_full_rate (lost_symbols replaced) xs ≡ true →
@@ -126,11 +127,11 @@ no_lower replaced xs ys r one shows agree =
 
 -- ---- all rates
 
--- a word of any rate that agrees elsewhere is the frame's
+-- a codeword of any rate that agrees elsewhere is the frame's
 pub full_rate_distinct : FullRateFramesAreDistinct
 full_rate_distinct replaced information long tells shows R9600 v allowed agree =
-    let bits = traffic_word R9600 information in
-    let size : length bits ≡ 192 = omega (arith, word_fills R9600 information long) in
+    let bits = traffic_codeword R9600 information in
+    let size : length bits ≡ 192 = omega (arith, codeword_fills R9600 information long) in
     let same_start : AgreeElsewhere replaced (sent data_shape 1 (full_rate_symbols information))
     (sent data_shape 1 (code_symbols (replicate 8 false) v.bits)) =
     subst (λ (s : List Bool). AgreeElsewhere replaced
@@ -138,9 +139,9 @@ full_rate_distinct replaced information long tells shows R9600 v allowed agree =
     (sent data_shape 1 (code_symbols s v.bits))) allowed.begins agree in
     let ends : drop 184 v.bits ≡ replicate 8 false =
     ap (λ (n : ℕ). drop (n - 8) v.bits) (sym allowed.bits_long) ∙ allowed.closes in
-    let same = bits_agree replaced bits v.bits size allowed.bits_long (word_ends information size)
+    let same = bits_agree replaced bits v.bits size allowed.bits_long (codeword_ends information size)
     ends tells same_start in
-    (refl, words_same v (frame_word R9600 information) allowed.begins (sym same))
+    (refl, codewords_same v (frame_codeword R9600 information) allowed.begins (sym same))
 full_rate_distinct replaced information long tells shows R4800 v allowed agree =
     absurd (no_lower replaced (full_rate_symbols information) (code_symbols v.start v.bits) 2
     (λ j. omega arith) shows agree)

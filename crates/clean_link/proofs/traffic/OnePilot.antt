@@ -1,10 +1,10 @@
 -- What is heard of a traffic channel's frames from the reference's pilot alone.
 use Rattle.clean_link.proofs.Common.{◌≡◌, ℕ, ◌==◌, ◌&&◌, Bool, true, List, [], ◌∷◌, map, refl, sym, ap, ◌∙◌, arith, subst, ℤ, Option}
-use Rattle.clean_link.proofs.Common.{flat_map, option_to_list, append-nil, places, Sample, command, decoded, group_sums, Decoded, softs}
+use Rattle.clean_link.proofs.Common.{flat_map, option_to_list, append-nil, places, Sample, power_bit, decoded, group_sums, Decoded, softs}
 use Rattle.clean_link.proofs.Common.{Finger, Data, AreClose, all_fingers, subchannels, capsule_with, message_at, message_events}
 use Rattle.clean_link.proofs.Common.{message_heard, messages_by, signal_at, signal_in, signal_of, signals_before, frame_softs, is_in_file}
-use Rattle.clean_link.proofs.Common.{known_at, known_now, Stream, all_sums, commands_at, decoded_at, frame_event, frame_heard, frames_by}
-use Rattle.clean_link.proofs.Common.{subchannel_sums, unturned_by, unturned_softs, ends_now, frames_bound, frames_now, has_frame}
+use Rattle.clean_link.proofs.Common.{known_at, known_now, Stream, all_sums, power_bits_at, decoded_at, frame_event, frame_heard, frames_by}
+use Rattle.clean_link.proofs.Common.{subchannel_sums, raw_by, raw_softs, ends_now, frames_bound, frames_now, has_frame}
 use Rattle.clean_link.proofs.Common.{replaced_in, stream_of, traffic_start, traffic_stream, Tuning, fingers_of, Event, Leg, Mark, Traffic}
 use Rattle.clean_link.proofs.Common.{AreCloseAll, map_same, pilot_alone, filter_ext_places, flat_map_ext_filter, flat_map_ext_filter_places}
 use Rattle.clean_link.proofs.Common.{IsOnePilot}
@@ -40,7 +40,7 @@ module _ (t : Tuning) (traffic : Traffic) (m : Mark) (legs : ℕ → List Leg) (
   -- its power control bits are heard of all of its fingers
   pub one_sums : (samples : List Sample) →
       all_sums t traffic m legs samples k
-      ≡ group_sums (replaced_in traffic m k) (unturned_softs t traffic m legs samples k) ∷ []
+      ≡ group_sums (replaced_in traffic m k) (raw_softs t traffic m legs samples k) ∷ []
   one_sums samples =
       let one : List Leg = record { reference = true; finger = is.finger; subchannel = 0 } ∷ [] in
       let replaced = replaced_in traffic m k in
@@ -48,7 +48,7 @@ module _ (t : Tuning) (traffic : Traffic) (m : Mark) (legs : ℕ → List Leg) (
       map (subchannel_sums t traffic m samples k some) (subchannels some)) is.alone
       ∙ ap (map (subchannel_sums t traffic m samples k one)) (one_subchannel is.finger)
       ∙ sym
-      (ap (λ (some : List Leg). group_sums replaced (unturned_by t traffic m samples k some) ∷ [])
+      (ap (λ (some : List Leg). group_sums replaced (raw_by t traffic m samples k some) ∷ [])
       is.alone)
 
 -- ---- pilots that are the reference's alone are heard alike
@@ -71,28 +71,28 @@ module _ (t : Tuning) (traffic : Traffic) (m : Mark) (legs legs' : ℕ → List 
       (frame_softs samples (traffic_stream traffic m fingers) k))
       (same_fingers k)
 
-  same_unturned : (samples : List Sample) (k : ℕ) →
-      unturned_softs t traffic m legs samples k ≡ unturned_softs t traffic m legs' samples k
-  same_unturned samples k =
+  same_raw : (samples : List Sample) (k : ℕ) →
+      raw_softs t traffic m legs samples k ≡ raw_softs t traffic m legs' samples k
+  same_raw samples k =
       ap (λ (fingers : List Finger). softs samples fingers Data (traffic_start traffic m k))
       (same_fingers k)
 
-  same_commands : (samples : List Sample) (k : ℕ) →
-      commands_at t traffic m legs samples k ≡ commands_at t traffic m legs' samples k
-  unfolding commands_at
-  same_commands samples k =
+  same_power_bits : (samples : List Sample) (k : ℕ) →
+      power_bits_at t traffic m legs samples k ≡ power_bits_at t traffic m legs' samples k
+  unfolding power_bits_at
+  same_power_bits samples k =
       let replaced = replaced_in traffic m k in
-      ap (λ (sums : List (List ℤ)). map (command sums) (places 16))
+      ap (λ (sums : List (List ℤ)). map (power_bit sums) (places 16))
       (one_sums t traffic m legs k (one k) samples
-      ∙ ap (λ (values : List ℤ). group_sums replaced values ∷ []) (same_unturned samples k)
+      ∙ ap (λ (values : List ℤ). group_sums replaced values ∷ []) (same_raw samples k)
       ∙ sym (one_sums t traffic m legs' k (one' k) samples))
 
   same_heard : (samples : List Sample) (n k : ℕ) →
       frame_heard t traffic m legs samples n k ≡ frame_heard t traffic m legs' samples n k
   same_heard samples n k =
-      ap (λ (d : Decoded). frame_event n d (commands_at t traffic m legs samples k))
+      ap (λ (d : Decoded). frame_event n d (power_bits_at t traffic m legs samples k))
       (same_decoded samples k)
-      ∙ ap (frame_event n (decoded_at t traffic m legs' samples k)) (same_commands samples k)
+      ∙ ap (frame_event n (decoded_at t traffic m legs' samples k)) (same_power_bits samples k)
 
   same_has : (k : ℕ) → has_frame t traffic m legs k ≡ has_frame t traffic m legs' k
   same_has k =

@@ -1,16 +1,16 @@
--- The word of a distinct frame alone has the greatest score.
+-- The codeword of a distinct frame alone has the greatest score.
 use Rattle.clean_link.proofs.Common.{◌≡◌, ℕ, ◌-◌, ◌*◌, ◌<◌, Bool, true, false, List, ◌++◌, length, get_or, drop, replicate, refl, sym, ap}
 use Rattle.clean_link.proofs.Common.{◌∙◌, arith, ⊎_elim, ℤ, pos, subst, length-append, ◌≤ℤ◌, ◌<ℤ◌, ◌*ℤ◌, if◌then◌else◌, int_lt, ints}
 use Rattle.clean_link.proofs.Common.{cases_Bool, drop_at, ext_get_or, sign, code_symbols, quality_indicator, information_of, quality_of}
-use Rattle.clean_link.proofs.Common.{repeats_of, traffic_word, Rate, R9600, word_fills, data_shape, Rate2, length-sent, length-sent2}
-use Rattle.clean_link.proofs.Common.{length-word_bits, IsAllowed, Word, correlation, Zero, frame_word, AgreeElsewhere, IsUnshared}
-use Rattle.clean_link.proofs.Common.{ShowSymbols, frame_bits, frame_symbols, is_replaced, unreplaced, alone, get_or-masked, length-masked}
-use Rattle.clean_link.proofs.Common.{masked, own_score, weight, get_or-unreplaced, length-unreplaced, Data, made_samples, frame_softs}
-use Rattle.clean_link.proofs.Common.{replaced_in, stream_of, soft_strength, replaced_of, HeardAreTheOnlyBest, IsOnlyBestFrame}
-use Rattle.clean_link.proofs.Common.{IsOnlyBestFrame2, ReceivedAreTheOnlyBest, SetTwoAreTheOnlyBest}
+use Rattle.clean_link.proofs.Common.{repeats_of, traffic_codeword, Rate, R9600, codeword_fills, data_shape, Rate2, length-sent}
+use Rattle.clean_link.proofs.Common.{length-sent2, length-codeword_bits, IsAllowed, Codeword, correlation, Zero, frame_codeword}
+use Rattle.clean_link.proofs.Common.{AgreeElsewhere, IsUnshared, ShowSymbols, frame_bits, frame_symbols, is_replaced, unreplaced, alone}
+use Rattle.clean_link.proofs.Common.{get_or-masked, length-masked, masked, own_score, weight, get_or-unreplaced, length-unreplaced, Data}
+use Rattle.clean_link.proofs.Common.{made_samples, frame_softs, replaced_in, stream_of, soft_strength, replaced_of, HeardAreTheOnlyBest}
+use Rattle.clean_link.proofs.Common.{IsOnlyBestFrame, IsOnlyBestFrame2, ReceivedAreTheOnlyBest, SetTwoAreTheOnlyBest}
 use Rattle.clean_link.proofs.traffic.Frames.{sized}
 use Rattle.clean_link.proofs.traffic.Signs.{heard_shown}
-use Rattle.symbol_path.specs.FramesTwo as words_two
+use Rattle.symbol_path.specs.FramesTwo as codewords_two
 use Rattle.symbol_path.specs.RatesTwo as rates_two
 use Rattle.rate_set_two.specs.Laws as laws_two
 use Rattle.rate_set_two.specs.TrafficFrames as second
@@ -66,9 +66,9 @@ others_less n replaced xs ys softs some long size size' shows apart =
     subst (λ (zs : List ℤ). correlation zs ys <ℤ correlation zs xs)
     (sym (masked_is n replaced xs softs long size shows)) less
 
--- ---- words
+-- ---- codewords
 
--- bits behind which a tail stands are an allowed word
+-- bits behind which a tail stands are an allowed codeword
 tailed_allowed : (front : List Bool) (n : ℕ) → length (front ++ replicate 8 false) ≡ n →
     IsAllowed Zero n (record { start = replicate 8 false; bits = front ++ replicate 8 false })
 tailed_allowed front n long =
@@ -87,32 +87,32 @@ bits_fill : (rate : Rate) (n : ℕ) → n * repeats_of rate ≡ 192 → n ≡ fr
 bits_fill R9600 n h = omega (arith, h)
 bits_fill rate n h = omega (arith, h)
 
-word_allowed : (rate : Rate) (information : List Bool) → length information ≡ information_of rate →
-    IsAllowed Zero (frame_bits rate) (frame_word rate information)
-word_allowed rate information long =
+codeword_allowed : (rate : Rate) (information : List Bool) → length information ≡ information_of rate →
+    IsAllowed Zero (frame_bits rate) (frame_codeword rate information)
+codeword_allowed rate information long =
     tailed_allowed (information ++ quality_indicator (quality_of rate) information)
     (frame_bits rate)
-    (bits_fill rate (length (traffic_word rate information)) (word_fills rate information long))
+    (bits_fill rate (length (traffic_codeword rate information)) (codeword_fills rate information long))
 
-word_allowed2 : (rate : Rate2) (information : List Bool) →
+codeword_allowed2 : (rate : Rate2) (information : List Bool) →
     length information ≡ rates_two.information_of rate →
-    IsAllowed Zero (rates_two.frame_bits rate) (second.frame_word rate information)
-word_allowed2 rate information long =
-    tailed_allowed (information ++ words_two.quality_indicator rate information)
-    (rates_two.frame_bits rate) (length-word_bits rate information long)
+    IsAllowed Zero (rates_two.frame_bits rate) (second.frame_codeword rate information)
+codeword_allowed2 rate information long =
+    tailed_allowed (information ++ codewords_two.quality_indicator rate information)
+    (rates_two.frame_bits rate) (length-codeword_bits rate information long)
 
--- so an unshared frame's word is the only one of greatest score,
+-- so an unshared frame's codeword is the only one of greatest score,
 only_best : (n : ℕ) (replaced : List ℕ) (softs : List ℤ) (rate : Rate) (information : List Bool) →
     0 < n → length softs ≡ 384 → length information ≡ information_of rate →
-    ShowSymbols replaced n (frame_symbols rate (frame_word rate information)) softs →
-    IsUnshared replaced rate (frame_word rate information) →
-    IsOnlyBestFrame replaced softs rate (frame_word rate information)
+    ShowSymbols replaced n (frame_symbols rate (frame_codeword rate information)) softs →
+    IsUnshared replaced rate (frame_codeword rate information) →
+    IsOnlyBestFrame replaced softs rate (frame_codeword rate information)
 only_best n replaced softs rate information some long size shows unshared =
-    let w = frame_word rate information in
-    let sent : (r : Rate) (v : Word) → length (frame_symbols r v) ≡ 384 =
+    let w = frame_codeword rate information in
+    let sent : (r : Rate) (v : Codeword) → length (frame_symbols r v) ≡ 384 =
     λ r v. length-sent data_shape (repeats_of r) (code_symbols v.start v.bits) in
     record {
-      allowed = word_allowed rate information size;
+      allowed = codeword_allowed rate information size;
       lesser = λ r v allowed other.
           others_less n replaced (frame_symbols rate w) (frame_symbols r v) softs some long
           (sent rate w) (sent r v) shows (λ agree. other (unshared r v allowed agree));
@@ -122,15 +122,15 @@ only_best n replaced softs rate information some long size shows unshared =
 only_best2 : (n : ℕ) (replaced : List ℕ) (softs : List ℤ) (rate : Rate2)
     (information : List Bool) →
     0 < n → length softs ≡ 384 → length information ≡ rates_two.information_of rate →
-    ShowSymbols replaced n (second.frame_symbols rate (second.frame_word rate information)) softs →
-    laws_two.IsUnshared replaced rate (second.frame_word rate information) →
-    IsOnlyBestFrame2 replaced softs rate (second.frame_word rate information)
+    ShowSymbols replaced n (second.frame_symbols rate (second.frame_codeword rate information)) softs →
+    laws_two.IsUnshared replaced rate (second.frame_codeword rate information) →
+    IsOnlyBestFrame2 replaced softs rate (second.frame_codeword rate information)
 only_best2 n replaced softs rate information some long size shows unshared =
-    let w = second.frame_word rate information in
-    let sent : (r : Rate2) (v : Word) → length (second.frame_symbols r v) ≡ 384 =
+    let w = second.frame_codeword rate information in
+    let sent : (r : Rate2) (v : Codeword) → length (second.frame_symbols r v) ≡ 384 =
     λ r v. length-sent2 r (code_symbols v.start v.bits) in
     record {
-      allowed = word_allowed2 rate information size;
+      allowed = codeword_allowed2 rate information size;
       lesser = λ r v allowed other.
           others_less n replaced (second.frame_symbols rate w) (second.frame_symbols r v) softs
           some long (sent rate w) (sent r v) shows (λ agree. other (unshared r v allowed agree));
@@ -149,11 +149,11 @@ heard_only_best width plan p t traffic m legs superframes k f is heard distinct 
 pub received_only_best : ReceivedAreTheOnlyBest
 received_only_best plan p frame f soft size received distinct =
     let shown = received.shown in
-    only_best (soft_strength plan Data p.gain) (replaced_of plan p frame) soft.turned f.rate
+    only_best (soft_strength plan Data p.gain) (replaced_of plan p frame) soft.descrambled f.rate
     f.information shown.strong shown.long size shown.shows distinct
 
 pub set_two_only_best : SetTwoAreTheOnlyBest
 set_two_only_best plan p frame f soft size received distinct =
     let shown = received.shown in
-    only_best2 (soft_strength plan Data p.gain) (replaced_of plan p frame) soft.turned f.rate
+    only_best2 (soft_strength plan Data p.gain) (replaced_of plan p frame) soft.descrambled f.rate
     f.information shown.strong shown.long size shown.shows distinct

@@ -3,17 +3,17 @@ use Rattle.clean_link.proofs.Common.{◌≡◌, ℕ, ◌+◌, ◌-◌, ◌*◌, 
 use Rattle.clean_link.proofs.Common.{◌∙◌, arith, subst, nat_le, inl, inr, Option, Some, Contains, and_from, cases_Bool, le-leb, places}
 use Rattle.clean_link.proofs.Common.{Sample, filter_ext_places, flat_map_ext_filter_places, Width, traffic_mask, Data, made_samples}
 use Rattle.clean_link.proofs.Common.{frames_of, set_two, IsTrafficFrame2, CellPlan, TrafficPlan, TrafficFrame2, traffic_channel, mark}
-use Rattle.clean_link.proofs.Common.{frames_within, soft_frame, soft_frames, unturned_at, is_in_file, known_at, known_by, Stream}
+use Rattle.clean_link.proofs.Common.{frames_within, soft_frame, soft_frames, raw_at, is_in_file, known_at, known_by, Stream}
 use Rattle.clean_link.proofs.Common.{frames_bound, replaced_in, Tuning, Mark, Traffic, PowerControl, SoftFrame, soft_strength, IsOnPath}
 use Rattle.clean_link.proofs.Common.{IsReceivable, is_received, received_frames, replaced_of, sent_bits, IsAssigned, SendsSetTwo}
-use Rattle.clean_link.proofs.Common.{SendsSymbols, ShowFrame, cycled_frame2, word_symbols2, AreReceived, IsReceivedAs, IsSentFrame2}
+use Rattle.clean_link.proofs.Common.{SendsSymbols, ShowFrame, cycled_frame2, codeword_symbols2, AreReceived, IsReceivedAs, IsSentFrame2}
 use Rattle.clean_link.proofs.Common.{EachFrameIsReceived, FramesBehindMark, FramesShowSymbols, SetTwoBehindMark, SetTwoFramesComeBack}
 use Rattle.clean_link.proofs.Common.{HearsTraffic}
 use Rattle.cell_plan.specs.TrafficFrames.{frame_state}
 use Rattle.clean_link.proofs.marks.MarksTrue.{marks_true}
 use Rattle.clean_link.proofs.signal.Samples.{length-made}
 use Rattle.clean_link.proofs.traffic.Back.{told_behind_mark}
-use Rattle.clean_link.proofs.traffic.Commands.{power_pairs, shown_commands}
+use Rattle.clean_link.proofs.traffic.PowerBits.{power_pairs, shown_power_bits}
 use Rattle.clean_link.proofs.traffic.Frames.{by_marks_frames, inside_at, known_is, one_each, one_taken, one_there, same_places}
 use Rattle.clean_link.proofs.traffic.OnePilot.{one_stream}
 use Rattle.clean_link.proofs.traffic.Signs.{frame_shown, lawful_traffic, set_two_sends}
@@ -83,39 +83,39 @@ module _ (width : Width) (plan : CellPlan) (p : TrafficPlan) (t : Tuning) (traff
       ∙ sym (one_each behind (received_frames plan p (plan.link.start + m.sample)))
 
   -- what is received of one
-  received_at : (k : ℕ) (symbols commands : List Bool) → is_in_file t.count stream k ≡ true →
-      SendsSymbols plan p (4 * superframes + k) symbols commands →
-      IsReceivedAs plan p (4 * superframes + k) symbols commands (soft k)
-  received_at k symbols commands there sent =
+  received_at : (k : ℕ) (symbols power_bits : List Bool) → is_in_file t.count stream k ≡ true →
+      SendsSymbols plan p (4 * superframes + k) symbols power_bits →
+      IsReceivedAs plan p (4 * superframes + k) symbols power_bits (soft k)
+  received_at k symbols power_bits there sent =
       let shown =
-      frame_shown width plan p t traffic m superframes k symbols commands is sent there in
+      frame_shown width plan p t traffic m superframes k symbols power_bits is sent there in
       let places = sym (same_places width plan p t traffic m superframes is latest k) in
       let power : List ℕ → List Bool → Option PowerControl =
-      λ replaced bits. Some (record { replaced = replaced; commands = bits }) in
+      λ replaced bits. Some (record { replaced = replaced; power_bits = bits }) in
       let strength = soft_strength plan Data p.gain in
       record {
         ends = known_is width plan p t traffic m superframes is latest k;
         powered =
             ap (power (replaced_in traffic m k))
-            (shown_commands strength (heard.frame_state traffic m k) (traffic_mask traffic.esn)
-            commands (unturned_at t (traffic_channel traffic) m samples k) shown.strong
+            (shown_power_bits strength (heard.frame_state traffic m k) (traffic_mask traffic.esn)
+            power_bits (raw_at t (traffic_channel traffic) m samples k) shown.strong
             shown.powered)
-            ∙ ap (λ (replaced : List ℕ). power replaced (sent_bits commands)) places;
+            ∙ ap (λ (replaced : List ℕ). power replaced (sent_bits power_bits)) places;
         shown = subst
-            (λ (replaced : List ℕ). ShowFrame replaced strength symbols commands (soft k).turned
-            (soft k).unturned) places shown;
+            (λ (replaced : List ℕ). ShowFrame replaced strength symbols power_bits (soft k).descrambled
+            (soft k).raw) places shown;
       }
 
-  pub received_as : (frame : ℕ) (symbols commands : List Bool) →
+  pub received_as : (frame : ℕ) (symbols power_bits : List Bool) →
       is_received plan p (plan.link.start + m.sample) frame ≡ true →
-      SendsSymbols plan p frame symbols commands →
-      IsReceivedAs plan p frame symbols commands (soft (frame - 4 * superframes))
-  received_as frame symbols commands received sent =
+      SendsSymbols plan p frame symbols power_bits →
+      IsReceivedAs plan p frame symbols power_bits (soft (frame - 4 * superframes))
+  received_as frame symbols power_bits received sent =
       let k : ℕ = frame - 4 * superframes in
       let (here, there) = inside_at width plan p t traffic m superframes is latest frame received in
-      subst (λ (n : ℕ). IsReceivedAs plan p n symbols commands (soft k)) here
-      (received_at k symbols commands there
-      (subst (λ (n : ℕ). SendsSymbols plan p n symbols commands) (sym here) sent))
+      subst (λ (n : ℕ). IsReceivedAs plan p n symbols power_bits (soft k)) here
+      (received_at k symbols power_bits there
+      (subst (λ (n : ℕ). SendsSymbols plan p n symbols power_bits) (sym here) sent))
 
 -- ---- frames of rate set 2
 
@@ -127,7 +127,7 @@ set_two_back plan p frame f soft sized received =
       received = received;
       decoded = λ distinct.
           second.sent_frame (soft_strength plan Data p.gain) (replaced_of plan p frame) f.rate
-          f.information soft.turned shown.strong (omega (arith, few)) shown.long sized shown.shows
+          f.information soft.descrambled shown.strong (omega (arith, few)) shown.long sized shown.shows
           distinct;
     }
 
@@ -139,8 +139,8 @@ module _ (width : Width) (plan : CellPlan) (p : TrafficPlan) (t : Tuning) (traff
     (set : mark t (made_samples plan) (length (made_samples plan)) ≡ Some m) where
   -- each shows what it sends
   pub all_received : AreReceived plan p
-      (λ frame soft. (symbols commands : List Bool) → SendsSymbols plan p frame symbols commands →
-      IsReceivedAs plan p frame symbols commands soft)
+      (λ frame soft. (symbols power_bits : List Bool) → SendsSymbols plan p frame symbols power_bits →
+      IsReceivedAs plan p frame symbols power_bits soft)
       (soft_frames t (traffic_channel traffic) m (made_samples plan))
   all_received =
       let count : length (made_samples plan) ≡ t.count = length-made plan ∙ sym tuned.count in
@@ -164,8 +164,8 @@ module _ (width : Width) (plan : CellPlan) (p : TrafficPlan) (t : Tuning) (traff
         soft = soft;
         each = each_received width plan p t traffic m superframes hears
             ∙ ap (λ (c : ℕ). map soft (received_frames plan p c)) chip;
-        are = λ frame received symbols commands sends.
-            received_as width plan p t traffic m superframes hears frame symbols commands
+        are = λ frame received symbols power_bits sends.
+            received_as width plan p t traffic m superframes hears frame symbols power_bits
             (ap (λ (c : ℕ). is_received plan p c frame) chip ∙ received) sends;
       }
 
@@ -198,7 +198,7 @@ module _ (width : Width) (plan : CellPlan) (p : TrafficPlan) (t : Tuning) (traff
               f,
               here,
               set_two_back plan p frame f (all.soft frame) sized
-                  (all.are frame received (word_symbols2 f) f.commands
+                  (all.are frame received (codeword_symbols2 f) f.power_bits
                   (set_two_sends plan p frame f here)),
             );
       }
@@ -210,8 +210,8 @@ each_frame_received width plan p t traffic m superframes is =
     each_received width plan p t traffic m superframes is
 
 pub frames_show_symbols : FramesShowSymbols
-frames_show_symbols width plan p t traffic m superframes frame symbols commands is received sent =
-    received_as width plan p t traffic m superframes is frame symbols commands received sent
+frames_show_symbols width plan p t traffic m superframes frame symbols power_bits is received sent =
+    received_as width plan p t traffic m superframes is frame symbols power_bits received sent
 
 pub frames_behind_mark : FramesBehindMark
 frames_behind_mark width plan p t traffic m is tuned sent assigned set =

@@ -1,20 +1,20 @@
--- Frames of both rate sets are distinct where no other word shares their symbols.
+-- Frames of both rate sets are distinct where no other codeword shares their symbols.
 use Rattle.clean_link.proofs.Common.{◌≡◌, ℕ, ◌+◌, ◌-◌, ◌*◌, ◌/◌, ◌<◌, ◌≤◌, ◌⊎◌, Bool, true, false, not, List, [], ◌∷◌, ◌++◌, length, get_or}
 use Rattle.clean_link.proofs.Common.{drop, replicate, refl, sym, ap, ◌∙◌, arith, subst, ⊎_elim, inl, inr, nat_eq, ◌≢◌, list_any, and_parts}
 use Rattle.clean_link.proofs.Common.{cases_Bool, eq-eqb, eqb-true, not-true, or_cases, or_left, or_right, drop_at, drop-drop, code_symbols}
-use Rattle.clean_link.proofs.Common.{state_after, repeats_of, traffic_word, Rate, R9600, R4800, R2400, R1200, data_shape, sent, word_bits}
-use Rattle.clean_link.proofs.Common.{is_dropped, repeated_symbol, sent2, Rate2, R14400, R7200, R3600, R1800, kept_once, get_or-sent2}
-use Rattle.clean_link.proofs.Common.{IsAllowed, Word, Zero, words_same, frame_word, AgreeElsewhere, frame_bits, frame_symbols, is_replaced}
-use Rattle.clean_link.proofs.Common.{is_kept, lost_symbols, is_known2, lost_symbols2, shown_of, words_giving, AreDistinctBySharing}
-use Rattle.clean_link.proofs.Common.{AreDistinctBySharing2}
+use Rattle.clean_link.proofs.Common.{state_after, repeats_of, traffic_codeword, Rate, R9600, R4800, R2400, R1200, data_shape, sent}
+use Rattle.clean_link.proofs.Common.{codeword_bits, is_dropped, repeated_symbol, sent2, Rate2, R14400, R7200, R3600, R1800, kept_once}
+use Rattle.clean_link.proofs.Common.{get_or-sent2, IsAllowed, Codeword, Zero, codewords_same, frame_codeword, AgreeElsewhere, frame_bits}
+use Rattle.clean_link.proofs.Common.{frame_symbols, is_replaced, is_kept, lost_symbols, is_known2, lost_symbols2, shown_of}
+use Rattle.clean_link.proofs.Common.{codewords_giving, AreDistinctBySharing, AreDistinctBySharing2}
 use Rattle.clean_link.proofs.traffic.KeptSymbols.{kept_agree}
-use Rattle.clean_link.proofs.traffic.SharedWords.{agreeing_give, given_none, given_one, AreGiving}
+use Rattle.clean_link.proofs.traffic.SharedCodewords.{agreeing_give, given_none, given_one, AreGiving}
 use Rattle.symbol_path.specs.RatesTwo as rates_two
 use Rattle.rate_set_two.specs.TrafficFrames as frames_two
 
--- ---- words that end in zeros
+-- ---- codewords that end in zeros
 
--- the state behind such a word, of eight bits or more
+-- the state behind such a codeword, of eight bits or more
 ended_zeros : (bits : List Bool) → 8 ≤ length bits →
     drop (length bits - 8) bits ≡ replicate 8 false →
     list_any (λ bit. bit) (state_after (replicate 8 false) bits) ≡ false
@@ -28,28 +28,28 @@ ended_zeros bits long ends =
     ∙ ends)
 
 -- so that of an allowed one
-closed : (n : ℕ) (v : Word) → 8 ≤ n → IsAllowed Zero n v →
+closed : (n : ℕ) (v : Codeword) → 8 ≤ n → IsAllowed Zero n v →
     list_any (λ bit. bit) (state_after (replicate 8 false) v.bits) ≡ false
 closed n v enough allowed =
     let long = allowed.bits_long in
     ended_zeros v.bits (omega (arith, long, enough)) allowed.closes
 
--- Of the rates of a set: where only a frame's own word gives what it shows, no other allowed word
+-- Of the rates of a set: where only a frame's own codeword gives what it shows, no other allowed codeword
 -- does.
-one_word : {R : Type 0} (shown : R → ℕ → List Bool) (size : R → ℕ) (rate r : R) (bits : List Bool)
-    (v own : Word) → (r ≡ rate) ⊎ (r ≢ rate) → 8 ≤ size r → IsAllowed Zero (size r) v →
+one_codeword : {R : Type 0} (shown : R → ℕ → List Bool) (size : R → ℕ) (rate r : R) (bits : List Bool)
+    (v own : Codeword) → (r ≡ rate) ⊎ (r ≢ rate) → 8 ≤ size r → IsAllowed Zero (size r) v →
     AreGiving (shown r) 0 (replicate 8 false) v.bits →
-    words_giving (shown rate) (size rate) 0 (replicate 8 false) ≡ bits ∷ [] →
-    ((q : R) → q ≢ rate → words_giving (shown q) (size q) 0 (replicate 8 false) ≡ []) →
+    codewords_giving (shown rate) (size rate) 0 (replicate 8 false) ≡ bits ∷ [] →
+    ((q : R) → q ≢ rate → codewords_giving (shown q) (size q) 0 (replicate 8 false) ≡ []) →
     (bits ≡ v.bits → v ≡ own) → (r ≡ rate) × (v ≡ own)
-one_word {R} shown size rate r bits v own (inl same) enough allowed giving alone others is =
-    let here = subst (λ (q : R). words_giving (shown q) (size q) 0 (replicate 8 false) ≡ bits ∷ [])
+one_codeword {R} shown size rate r bits v own (inl same) enough allowed giving alone others is =
+    let here = subst (λ (q : R). codewords_giving (shown q) (size q) 0 (replicate 8 false) ≡ bits ∷ [])
     (sym same) alone in (
       same,
       is (given_one (shown r) (size r) 0 (replicate 8 false) v.bits bits refl allowed.bits_long
           (closed (size r) v enough allowed) giving here),
     )
-one_word shown size rate r bits v own (inr other) enough allowed giving alone others is =
+one_codeword shown size rate r bits v own (inr other) enough allowed giving alone others is =
     absurd (given_none (shown r) (size r) 0 (replicate 8 false) v.bits refl allowed.bits_long
     (closed (size r) v enough allowed) giving (others r other))
 
@@ -73,15 +73,15 @@ same_rate R2400 R2400 = inl refl
 same_rate R1200 R1200 = inl refl
 same_rate r s = inr (λ e. cc)
 
--- an allowed word that agrees with a frame elsewhere gives what the frame shows
-giving_word : (replaced : List ℕ) (rate r : Rate) (information : List Bool) (v : Word) →
+-- an allowed codeword that agrees with a frame elsewhere gives what the frame shows
+giving_codeword : (replaced : List ℕ) (rate r : Rate) (information : List Bool) (v : Codeword) →
     IsAllowed Zero (frame_bits r) v →
-    AgreeElsewhere replaced (frame_symbols rate (frame_word rate information)) (frame_symbols r v) →
+    AgreeElsewhere replaced (frame_symbols rate (frame_codeword rate information)) (frame_symbols r v) →
     AreGiving (shown_of (is_kept (lost_symbols replaced))
-    (code_symbols (replicate 8 false) (traffic_word rate information)) (repeats_of rate)
+    (code_symbols (replicate 8 false) (traffic_codeword rate information)) (repeats_of rate)
     (repeats_of r)) 0 (replicate 8 false) v.bits
-giving_word replaced rate r information v allowed agree =
-    let xs = code_symbols (replicate 8 false) (traffic_word rate information) in
+giving_codeword replaced rate r information v allowed agree =
+    let xs = code_symbols (replicate 8 false) (traffic_codeword rate information) in
     let from_zeros : AgreeElsewhere replaced (sent data_shape (repeats_of rate) xs)
     (sent data_shape (repeats_of r) (code_symbols (replicate 8 false) v.bits)) =
     subst (λ (s : List Bool). AgreeElsewhere replaced (sent data_shape (repeats_of rate) xs)
@@ -93,13 +93,13 @@ giving_word replaced rate r information v allowed agree =
 
 pub distinct_by_sharing : AreDistinctBySharing
 distinct_by_sharing replaced rate information none r v allowed agree =
-    one_word
+    one_codeword
     (λ (q : Rate). shown_of (is_kept (lost_symbols replaced))
-    (code_symbols (replicate 8 false) (traffic_word rate information)) (repeats_of rate)
-    (repeats_of q)) frame_bits rate r (traffic_word rate information) v
-    (frame_word rate information) (same_rate r rate) (enough_bits r) allowed
-    (giving_word replaced rate r information v allowed agree) none.own none.others
-    (λ same. words_same v (frame_word rate information) allowed.begins (sym same))
+    (code_symbols (replicate 8 false) (traffic_codeword rate information)) (repeats_of rate)
+    (repeats_of q)) frame_bits rate r (traffic_codeword rate information) v
+    (frame_codeword rate information) (same_rate r rate) (enough_bits r) allowed
+    (giving_codeword replaced rate r information v allowed agree) none.own none.others
+    (λ same. codewords_same v (frame_codeword rate information) allowed.begins (sym same))
 
 -- ---- rate set 2
 
@@ -159,15 +159,15 @@ known_agree replaced xs ys r s k low known agree =
     ∙ get_or-sent2 s ys i once.below
     ∙ ap (λ (n : ℕ). get_or ys (n / rates_two.repeats_of s) false) once.is
 
-giving_word2 : (replaced : List ℕ) (rate r : Rate2) (information : List Bool) (v : Word) →
+giving_codeword2 : (replaced : List ℕ) (rate r : Rate2) (information : List Bool) (v : Codeword) →
     IsAllowed Zero (rates_two.frame_bits r) v →
-    AgreeElsewhere replaced (frames_two.frame_symbols rate (frames_two.frame_word rate information))
+    AgreeElsewhere replaced (frames_two.frame_symbols rate (frames_two.frame_codeword rate information))
     (frames_two.frame_symbols r v) →
     AreGiving (shown_of (is_known2 (lost_symbols2 replaced))
-    (code_symbols (replicate 8 false) (word_bits rate information)) (rates_two.repeats_of rate)
+    (code_symbols (replicate 8 false) (codeword_bits rate information)) (rates_two.repeats_of rate)
     (rates_two.repeats_of r)) 0 (replicate 8 false) v.bits
-giving_word2 replaced rate r information v allowed agree =
-    let xs = code_symbols (replicate 8 false) (word_bits rate information) in
+giving_codeword2 replaced rate r information v allowed agree =
+    let xs = code_symbols (replicate 8 false) (codeword_bits rate information) in
     let from_zeros : AgreeElsewhere replaced (sent2 rate xs)
     (sent2 r (code_symbols (replicate 8 false) v.bits)) =
     subst (λ (s : List Bool). AgreeElsewhere replaced (sent2 rate xs)
@@ -179,10 +179,10 @@ giving_word2 replaced rate r information v allowed agree =
 
 pub distinct_by_sharing2 : AreDistinctBySharing2
 distinct_by_sharing2 replaced rate information none r v allowed agree =
-    one_word
+    one_codeword
     (λ (q : Rate2). shown_of (is_known2 (lost_symbols2 replaced))
-    (code_symbols (replicate 8 false) (word_bits rate information)) (rates_two.repeats_of rate)
-    (rates_two.repeats_of q)) rates_two.frame_bits rate r (word_bits rate information) v
-    (frames_two.frame_word rate information) (same_rate2 r rate) (enough_bits2 r) allowed
-    (giving_word2 replaced rate r information v allowed agree) none.own none.others
-    (λ same. words_same v (frames_two.frame_word rate information) allowed.begins (sym same))
+    (code_symbols (replicate 8 false) (codeword_bits rate information)) (rates_two.repeats_of rate)
+    (rates_two.repeats_of q)) rates_two.frame_bits rate r (codeword_bits rate information) v
+    (frames_two.frame_codeword rate information) (same_rate2 r rate) (enough_bits2 r) allowed
+    (giving_codeword2 replaced rate r information v allowed agree) none.own none.others
+    (λ same. codewords_same v (frames_two.frame_codeword rate information) allowed.begins (sym same))

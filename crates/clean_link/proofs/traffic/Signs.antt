@@ -1,19 +1,19 @@
 -- The soft values of the frames of a traffic channel have the signs that were sent.
 use Rattle.clean_link.proofs.Common.{◌≡◌, ℕ, zero, suc, ◌+◌, ◌*◌, ◌%◌, Bool, true, false, List, [], ◌∷◌, length, take, drop, refl, sym, ap}
 use Rattle.clean_link.proofs.Common.{◌∙◌, arith, subst, ℤ, replicate, ◌*ℤ◌, Contains, flat_map, append-nil, All-contains, sign, xor}
-use Rattle.clean_link.proofs.Common.{zip_with, Width, after, traffic_mask, code_symbols, scrambling, with_commands, data_shape, repeats_of}
-use Rattle.clean_link.proofs.Common.{traffic_word, length-sent, softs, Finger, Data, signed, ShowSymbols, length-sent2, IsLawfulPlan}
-use Rattle.clean_link.proofs.Common.{IsTrafficPlan, made_samples, frames_of, traffic_carrier, CellPlan, TrafficPlan, FrameList, SetOne}
-use Rattle.clean_link.proofs.Common.{SetTwo, TrafficFrame, TrafficFrame2, turned, unscrambled, frame_softs, frame_start, is_in_file, Stream}
-use Rattle.clean_link.proofs.Common.{unturned_softs, frame_state, replaced_in, stream_of, traffic_start, traffic_stream, Tuning, fingers_of}
-use Rattle.clean_link.proofs.Common.{Leg, Mark, Traffic, IsTrueMark, soft_strength, word_symbols, IsAssigned, SendsSymbols, ShowCommands}
-use Rattle.clean_link.proofs.Common.{ShowFrame, IsFrameOf, path_finger, SetOneSends, SetTwoSends, HearsTraffic, IsHeardAs}
-use Rattle.clean_link.proofs.Common.{TrafficHaveSentSigns}
+use Rattle.clean_link.proofs.Common.{zip_with, Width, after, traffic_mask, code_symbols, scrambling, with_power_bits, data_shape}
+use Rattle.clean_link.proofs.Common.{repeats_of, traffic_codeword, length-sent, softs, Finger, Data, signed, ShowSymbols, length-sent2}
+use Rattle.clean_link.proofs.Common.{IsLawfulPlan, IsTrafficPlan, made_samples, frames_of, traffic_carrier, CellPlan, TrafficPlan}
+use Rattle.clean_link.proofs.Common.{FrameList, SetOne, SetTwo, TrafficFrame, TrafficFrame2, descrambled, unscrambled, frame_softs}
+use Rattle.clean_link.proofs.Common.{frame_start, is_in_file, Stream, raw_softs, frame_state, replaced_in, stream_of, traffic_start}
+use Rattle.clean_link.proofs.Common.{traffic_stream, Tuning, fingers_of, Leg, Mark, Traffic, IsTrueMark, soft_strength, codeword_symbols}
+use Rattle.clean_link.proofs.Common.{IsAssigned, SendsSymbols, ShowPowerBits, ShowFrame, IsFrameOf, path_finger, SetOneSends, SetTwoSends}
+use Rattle.clean_link.proofs.Common.{HearsTraffic, IsHeardAs, TrafficHaveSentSigns}
 use Rattle.clean_link.proofs.signal.CarriersApart.{traffic_sent}
 use Rattle.clean_link.proofs.signal.ChannelsBack.{channel_signs, strength_some}
 use Rattle.clean_link.proofs.traffic.OnePilot.{one_fingers, one_stream, one_stream_is}
-use Rattle.clean_link.proofs.traffic.Symbols.{length-signed, length-with_commands, length-zipped, shows_commands, shows_symbols}
-use Rattle.clean_link.proofs.traffic.Symbols.{turned_some}
+use Rattle.clean_link.proofs.traffic.Symbols.{length-signed, length-with_power_bits, length-zipped, shows_power_bits, shows_symbols}
+use Rattle.clean_link.proofs.traffic.Symbols.{descrambled_some}
 use Rattle.clean_link.proofs.frames.PagingFrames.{length-scrambling}
 use Rattle.clean_link.proofs.frames.SyncFrames.{fingers_are}
 use Rattle.clean_link.proofs.traffic.Times.{traffic_file_to}
@@ -55,7 +55,7 @@ unfolding sends.traffic_frame_symbols sends.traffic_symbols
 set_one_sends plan p frame f is = record {
   all =
       length-sent data_shape (repeats_of f.rate)
-      (code_symbols (replicate 8 false) (traffic_word f.rate f.information));
+      (code_symbols (replicate 8 false) (traffic_codeword f.rate f.information));
   given =
       of_set_one (sends.frame_state (frames_of plan p) frame) (traffic_mask p.esn) frame p.frames f
       is;
@@ -66,18 +66,18 @@ unfolding sends.traffic_frame_symbols sends.traffic_symbols2
 set_two_sends plan p frame f is = record {
   all =
       length-sent2 f.rate
-      (code_symbols (replicate 8 false) (second.word_bits f.rate f.information));
+      (code_symbols (replicate 8 false) (second.codeword_bits f.rate f.information));
   given =
       of_set_two (sends.frame_state (frames_of plan p) frame) (traffic_mask p.esn) frame p.frames f
       is;
 }
 
 -- symbols are scrambled, and power control bits replace some
-scrambled_are : (state mask : ℕ) (commands symbols : List Bool) →
-    sends.sent_with state mask commands symbols
-    ≡ with_commands state mask commands (zip_with xor symbols (scrambling state mask))
+scrambled_are : (state mask : ℕ) (power_bits symbols : List Bool) →
+    sends.sent_with state mask power_bits symbols
+    ≡ with_power_bits state mask power_bits (zip_with xor symbols (scrambling state mask))
 unfolding cycles.scrambled
-scrambled_are state mask commands symbols = refl
+scrambled_are state mask power_bits symbols = refl
 
 -- ---- how it is heard
 
@@ -98,9 +98,9 @@ lawful_traffic width plan p lawful has =
     All-contains IsTrafficPlan plan.traffic p lawful.traffic.are has
 
 module _ (width : Width) (plan : CellPlan) (p : TrafficPlan) (t : Tuning) (traffic : Traffic)
-    (m : Mark) (superframes k : ℕ) (symbols commands : List Bool)
+    (m : Mark) (superframes k : ℕ) (symbols power_bits : List Bool)
     (is : HearsTraffic width plan p t traffic m superframes)
-    (sent : SendsSymbols plan p (4 * superframes + k) symbols commands)
+    (sent : SendsSymbols plan p (4 * superframes + k) symbols power_bits)
     (here : is_in_file t.count (one_stream t traffic m) k ≡ true) where
   abbrev strength : ℕ
   strength = soft_strength plan Data p.gain
@@ -116,19 +116,19 @@ module _ (width : Width) (plan : CellPlan) (p : TrafficPlan) (t : Tuning) (traff
 
   -- what is sent
   abbrev given : List Bool
-  given = with_commands state mask commands (zip_with xor symbols (scrambling state mask))
+  given = with_power_bits state mask power_bits (zip_with xor symbols (scrambling state mask))
 
   given_is : sends.traffic_frame_symbols (frames_of plan p) (4 * superframes + k) ≡ given
   given_is =
       let same = same_state plan p traffic m superframes k is.marked is.assigned in
       sent.given
-      ∙ ap (λ (s : ℕ). sends.sent_with s (traffic_mask p.esn) commands symbols) (sym same)
-      ∙ ap (λ (e : ℕ). sends.sent_with state (traffic_mask e) commands symbols) is.assigned.esn
-      ∙ scrambled_are state mask commands symbols
+      ∙ ap (λ (s : ℕ). sends.sent_with s (traffic_mask p.esn) power_bits symbols) (sym same)
+      ∙ ap (λ (e : ℕ). sends.sent_with state (traffic_mask e) power_bits symbols) is.assigned.esn
+      ∙ scrambled_are state mask power_bits symbols
 
   given_long : length given ≡ 384
   given_long =
-      length-with_commands state mask commands (zip_with xor symbols (scrambling state mask))
+      length-with_power_bits state mask power_bits (zip_with xor symbols (scrambling state mask))
 
   -- where
   is_frame : IsFrameOf plan (traffic_carrier plan p) Data u (4 * superframes + k)
@@ -149,26 +149,26 @@ module _ (width : Width) (plan : CellPlan) (p : TrafficPlan) (t : Tuning) (traff
       ∙ ap (λ (row : ℕ). path_finger plan row ∷ []) (sym is.assigned.row)
 
   -- the soft values as the finger hears them
-  abbrev unturned : List ℤ
-  unturned = softs (made_samples plan) (fingers_of traffic.row t.phase t.deltas) Data u
+  abbrev raw : List ℤ
+  raw = softs (made_samples plan) (fingers_of traffic.row t.phase t.deltas) Data u
 
-  unturned_are : unturned ≡ signed strength given
-  unturned_are =
+  raw_are : raw ≡ signed strength given
+  raw_are =
       ap (λ (fs : List Finger). softs (made_samples plan) fs Data u) finger
       ∙ channel_signs width plan (traffic_carrier plan p) Data u (4 * superframes + k)
       is.receivable (traffic_sent plan p is.sent) is_frame (ap length given_is ∙ given_long)
       ∙ ap (signed strength) given_is
 
-  -- and turned by the scrambling
-  turned_are : frame_softs (made_samples plan) (one_stream t traffic m) k
-      ≡ turned (scrambling state mask) (signed strength given)
-  turned_are =
+  -- and descrambled by the scrambling
+  descrambled_are : frame_softs (made_samples plan) (one_stream t traffic m) k
+      ≡ descrambled (scrambling state mask) (signed strength given)
+  descrambled_are =
       let some = length-scrambling state mask in
-      ap (unscrambled (scrambling state mask)) unturned_are
-      ∙ turned_some (scrambling state mask) (signed strength given) (omega (arith, some))
+      ap (unscrambled (scrambling state mask)) raw_are
+      ∙ descrambled_some (scrambling state mask) (signed strength given) (omega (arith, some))
 
-  long_turned : length (turned (scrambling state mask) (signed strength given)) ≡ 384
-  long_turned =
+  long_descrambled : length (descrambled (scrambling state mask) (signed strength given)) ≡ 384
+  long_descrambled =
       let all : length (signed strength given) ≡ 384 =
       length-signed strength given ∙ given_long in
       length-zipped (λ (b : Bool) (v : ℤ). sign b *ℤ v) (scrambling state mask)
@@ -176,19 +176,19 @@ module _ (width : Width) (plan : CellPlan) (p : TrafficPlan) (t : Tuning) (traff
       ∙ all
 
   -- so they show what was sent
-  pub frame_shown : ShowFrame (replaced_in traffic m k) strength symbols commands
-      (frame_softs (made_samples plan) (one_stream t traffic m) k) unturned
+  pub frame_shown : ShowFrame (replaced_in traffic m k) strength symbols power_bits
+      (frame_softs (made_samples plan) (one_stream t traffic m) k) raw
   frame_shown = record {
     strong = strength_some width plan Data p.gain is.receivable
         (lawful_traffic width plan p is.receivable.lawful is.sent).gain;
-    long = ap length turned_are ∙ long_turned;
+    long = ap length descrambled_are ∙ long_descrambled;
     shows =
-        subst (ShowSymbols (replaced_in traffic m k) strength symbols) (sym turned_are)
-        (shows_symbols strength state mask commands symbols (scrambling state mask)
+        subst (ShowSymbols (replaced_in traffic m k) strength symbols) (sym descrambled_are)
+        (shows_symbols strength state mask power_bits symbols (scrambling state mask)
         sent.all (length-scrambling state mask));
     powered =
-        subst (ShowCommands (replaced_in traffic m k) strength commands) (sym unturned_are)
-        (shows_commands strength state mask commands
+        subst (ShowPowerBits (replaced_in traffic m k) strength power_bits) (sym raw_are)
+        (shows_power_bits strength state mask power_bits
         (zip_with xor symbols (scrambling state mask)));
   }
 
@@ -205,19 +205,19 @@ module _ (width : Width) (plan : CellPlan) (p : TrafficPlan) (t : Tuning) (traff
       ∙ heard.here
 
   abbrev Shown : List ℤ → List ℤ → Type 0
-  Shown turned unturned =
-      ShowFrame (replaced_in traffic m k) (soft_strength plan Data p.gain) (word_symbols f)
-      f.commands turned unturned
+  Shown descrambled raw =
+      ShowFrame (replaced_in traffic m k) (soft_strength plan Data p.gain) (codeword_symbols f)
+      f.power_bits descrambled raw
 
   pub heard_shown : Shown (frame_softs (made_samples plan) (stream_of t traffic m legs k) k)
-      (unturned_softs t traffic m legs (made_samples plan) k)
+      (raw_softs t traffic m legs (made_samples plan) k)
   heard_shown =
       let samples = made_samples plan in
       subst
       (λ (fs : List Finger). Shown (frame_softs samples (traffic_stream traffic m fs) k)
       (softs samples fs Data (traffic_start traffic m k)))
       (sym (one_fingers traffic t.phase t.deltas (legs k) heard.pilot))
-      (frame_shown width plan p t traffic m superframes k (word_symbols f) f.commands is
+      (frame_shown width plan p t traffic m superframes k (codeword_symbols f) f.power_bits is
       (set_one_sends plan p (4 * superframes + k) f heard.frame) here)
 
 -- ---- the law

@@ -1,9 +1,9 @@
 -- The symbols of a traffic frame, place by place: its own, or its power control bits.
 use Rattle.clean_link.proofs.Common.{◌≡◌, ℕ, zero, suc, ◌/◌, ◌<◌, Bool, true, false, List, [], ◌∷◌, length, get_or, nat_eq, refl, sym, ap}
 use Rattle.clean_link.proofs.Common.{◌∙◌, arith, ⊎_elim, ◌⊎◌, ℤ, pos, ◌*ℤ◌, list_any, cases_order, eq-eqb, ne_eqb, sign, xor, zip_with}
-use Rattle.clean_link.proofs.Common.{get_or-map-places, length-map-places, power_places, symbol_or_command, with_commands, signed}
-use Rattle.clean_link.proofs.Common.{ShowSymbols, is_replaced, turned, unscrambled, ShowCommands}
-use Rattle.clean_link.proofs.frames.Heard.{turned_symbol}
+use Rattle.clean_link.proofs.Common.{get_or-map-places, length-map-places, power_places, symbol_or_power_bit, with_power_bits, signed}
+use Rattle.clean_link.proofs.Common.{ShowSymbols, is_replaced, descrambled, unscrambled, ShowPowerBits}
+use Rattle.clean_link.proofs.frames.Heard.{descrambled_symbol}
 
 -- ---- at one place
 
@@ -35,10 +35,10 @@ length-signed strength [] = refl
 length-signed strength (b ∷ symbols) = ap suc (length-signed strength symbols)
 
 -- where there are scrambling bits, each soft value is turned by its own
-pub turned_some : (bits : List Bool) (values : List ℤ) → 0 < length bits →
-    unscrambled bits values ≡ turned bits values
-turned_some [] values some = absurd (omega (arith, some))
-turned_some (b ∷ bits) values some = refl
+pub descrambled_some : (bits : List Bool) (values : List ℤ) → 0 < length bits →
+    unscrambled bits values ≡ descrambled bits values
+descrambled_some [] values some = absurd (omega (arith, some))
+descrambled_some (b ∷ bits) values some = refl
 
 -- ---- replaced places
 
@@ -62,66 +62,66 @@ same_test i (place ∷ replaced) =
     let rest = same_test i replaced in
     rw (here, rest) refl
 
-own_symbol : (replaced : List ℕ) (commands symbols : List Bool) (i : ℕ) →
+own_symbol : (replaced : List ℕ) (power_bits symbols : List Bool) (i : ℕ) →
     is_replaced replaced i ≡ false →
-    symbol_or_command replaced commands symbols i ≡ get_or symbols i false
-own_symbol replaced commands symbols i none =
+    symbol_or_power_bit replaced power_bits symbols i ≡ get_or symbols i false
+own_symbol replaced power_bits symbols i none =
     let none' = same_test i replaced ∙ none in rw none' refl
 
-command_there : (replaced : List ℕ) (commands symbols : List Bool) (i : ℕ) →
+power_bit_there : (replaced : List ℕ) (power_bits symbols : List Bool) (i : ℕ) →
     is_replaced replaced i ≡ true →
-    symbol_or_command replaced commands symbols i ≡ get_or commands (i / 24) false
-command_there replaced commands symbols i found =
+    symbol_or_power_bit replaced power_bits symbols i ≡ get_or power_bits (i / 24) false
+power_bit_there replaced power_bits symbols i found =
     let found' = same_test i replaced ∙ found in rw found' refl
 
 -- ---- a frame as it is sent
 
-pub length-with_commands : (state mask : ℕ) (commands symbols : List Bool) →
-    length (with_commands state mask commands symbols) ≡ 384
-unfolding with_commands
-length-with_commands state mask commands symbols =
-    length-map-places (symbol_or_command (power_places state mask) commands symbols) 384
+pub length-with_power_bits : (state mask : ℕ) (power_bits symbols : List Bool) →
+    length (with_power_bits state mask power_bits symbols) ≡ 384
+unfolding with_power_bits
+length-with_power_bits state mask power_bits symbols =
+    length-map-places (symbol_or_power_bit (power_places state mask) power_bits symbols) 384
 
-sent_at : (state mask : ℕ) (commands symbols : List Bool) (i : ℕ) → i < 384 →
-    get_or (with_commands state mask commands symbols) i false
-    ≡ symbol_or_command (power_places state mask) commands symbols i
-unfolding with_commands
-sent_at state mask commands symbols i below =
-    get_or-map-places (symbol_or_command (power_places state mask) commands symbols) 384 i false
+sent_at : (state mask : ℕ) (power_bits symbols : List Bool) (i : ℕ) → i < 384 →
+    get_or (with_power_bits state mask power_bits symbols) i false
+    ≡ symbol_or_power_bit (power_places state mask) power_bits symbols i
+unfolding with_power_bits
+sent_at state mask power_bits symbols i below =
+    get_or-map-places (symbol_or_power_bit (power_places state mask) power_bits symbols) 384 i false
     below
 
 -- the soft values of its power control bits
-pub shows_commands : (strength state mask : ℕ) (commands symbols : List Bool) →
-    ShowCommands (power_places state mask) strength commands
-    (signed strength (with_commands state mask commands symbols))
-shows_commands strength state mask commands symbols i below found =
-    let long = length-with_commands state mask commands symbols in
-    at_signed strength (with_commands state mask commands symbols) i (omega (arith, below, long))
+pub shows_power_bits : (strength state mask : ℕ) (power_bits symbols : List Bool) →
+    ShowPowerBits (power_places state mask) strength power_bits
+    (signed strength (with_power_bits state mask power_bits symbols))
+shows_power_bits strength state mask power_bits symbols i below found =
+    let long = length-with_power_bits state mask power_bits symbols in
+    at_signed strength (with_power_bits state mask power_bits symbols) i (omega (arith, below, long))
     ∙ ap (λ (b : Bool). pos strength *ℤ sign b)
-    (sent_at state mask commands symbols i below
-    ∙ command_there (power_places state mask) commands symbols i found)
+    (sent_at state mask power_bits symbols i below
+    ∙ power_bit_there (power_places state mask) power_bits symbols i found)
 
 -- those of its symbols, which were scrambled by these bits, turned by them
-pub shows_symbols : (strength state mask : ℕ) (commands symbols bits : List Bool) →
+pub shows_symbols : (strength state mask : ℕ) (power_bits symbols bits : List Bool) →
     length symbols ≡ 384 → length bits ≡ 384 →
     ShowSymbols (power_places state mask) strength symbols
-    (turned bits
-    (signed strength (with_commands state mask commands (zip_with xor symbols bits))))
-shows_symbols strength state mask commands symbols bits long many i below none =
+    (descrambled bits
+    (signed strength (with_power_bits state mask power_bits (zip_with xor symbols bits))))
+shows_symbols strength state mask power_bits symbols bits long many i below none =
     let mixed = zip_with xor symbols bits in
-    let given = with_commands state mask commands mixed in
+    let given = with_power_bits state mask power_bits mixed in
     let all : length (signed strength given) ≡ 384 =
-    length-signed strength given ∙ length-with_commands state mask commands mixed in
+    length-signed strength given ∙ length-with_power_bits state mask power_bits mixed in
     let sent : get_or (signed strength given) i (pos 0)
     ≡ pos strength *ℤ sign (xor (get_or symbols i false) (get_or bits i false)) =
     at_signed strength given i
-    (omega (arith, below, length-with_commands state mask commands mixed))
+    (omega (arith, below, length-with_power_bits state mask power_bits mixed))
     ∙ ap (λ (b : Bool). pos strength *ℤ sign b)
-    (sent_at state mask commands mixed i below
-    ∙ own_symbol (power_places state mask) commands mixed i none
+    (sent_at state mask power_bits mixed i below
+    ∙ own_symbol (power_places state mask) power_bits mixed i none
     ∙ at_zipped xor symbols bits i false false false (omega (arith, below, long))
     (omega (arith, below, many))) in
     at_zipped (λ (b : Bool) (v : ℤ). sign b *ℤ v) bits (signed strength given) i false (pos 0)
     (pos 0) (omega (arith, below, many)) (omega (arith, below, all))
     ∙ ap (λ (v : ℤ). sign (get_or bits i false) *ℤ v) sent
-    ∙ turned_symbol strength (get_or bits i false) (get_or symbols i false)
+    ∙ descrambled_symbol strength (get_or bits i false) (get_or symbols i false)

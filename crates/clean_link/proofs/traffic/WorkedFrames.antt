@@ -1,6 +1,6 @@
 -- A distinct frame, and frames of zeros, which aren't distinct.
 use Rattle.clean_link.proofs.Common.{◌≡◌, ℕ, Bool, true, false, List, length, get_or, replicate, refl, [], ◌∷◌, sym, ap, ◌∙◌, binary}
-use Rattle.clean_link.proofs.Common.{places, check_bits, sent, R2400, R1200, IsAllowed, Zero, frame_word, IsUnshared, frame_bits}
+use Rattle.clean_link.proofs.Common.{places, check_bits, sent, R2400, R1200, IsAllowed, Zero, frame_codeword, IsUnshared, frame_bits}
 use Rattle.clean_link.proofs.Common.{frame_symbols, full_rate_symbols, shows_full_rate, stays_apart, lost_symbols, tells_all_bits}
 use Rattle.clean_link.proofs.Common.{replaced_places, some_information, AFullRateFrameIsDistinct, ZerosAreShared}
 use Rattle.clean_link.proofs.traffic.FullRate.{full_rate_distinct}
@@ -23,7 +23,7 @@ lost_is : lost_symbols replaced_places ≡ lost
 unfolding binary
 lost_is = refl
 
--- no two words have the same code symbols but for those
+-- no two codewords have the same code symbols but for those
 told : tells_all_bits lost ≡ true
 unfolding places stays_apart
 told = refl
@@ -44,33 +44,33 @@ full_rate_frame_distinct =
 -- ---- frames of zeros
 
 -- all symbols are 0 at both rates
-zeros_same : frame_symbols R2400 (frame_word R2400 (replicate 40 false))
-    ≡ frame_symbols R1200 (frame_word R1200 (replicate 16 false))
+zeros_same : frame_symbols R2400 (frame_codeword R2400 (replicate 40 false))
+    ≡ frame_symbols R1200 (frame_codeword R1200 (replicate 16 false))
 unfolding binary places sent
 zeros_same = refl
 
--- both are words that a decoder tries
-zeros_2400 : IsAllowed Zero (frame_bits R2400) (frame_word R2400 (replicate 40 false))
+-- both are codewords that a decoder tries
+zeros_2400 : IsAllowed Zero (frame_bits R2400) (frame_codeword R2400 (replicate 40 false))
 zeros_2400 = record { start_long = refl; bits_long = refl; begins = refl; closes = refl }
 
 -- at the other rate too
-zeros_1200 : IsAllowed Zero (frame_bits R1200) (frame_word R1200 (replicate 16 false))
+zeros_1200 : IsAllowed Zero (frame_bits R1200) (frame_codeword R1200 (replicate 16 false))
 zeros_1200 = record { start_long = refl; bits_long = refl; begins = refl; closes = refl }
 
 -- so each rate's has the other's symbols
 not_2400 : (replaced : List ℕ) →
-    IsUnshared replaced R2400 (frame_word R2400 (replicate 40 false)) → ⊥
+    IsUnshared replaced R2400 (frame_codeword R2400 (replicate 40 false)) → ⊥
 not_2400 replaced unshared =
-    let found = unshared R1200 (frame_word R1200 (replicate 16 false)) zeros_1200
+    let found = unshared R1200 (frame_codeword R1200 (replicate 16 false)) zeros_1200
     (λ i below out. ap (λ (r : List Bool). get_or r i false) zeros_same) in
     let same = found.0 in
     cc
 
 -- and the other way round
 not_1200 : (replaced : List ℕ) →
-    IsUnshared replaced R1200 (frame_word R1200 (replicate 16 false)) → ⊥
+    IsUnshared replaced R1200 (frame_codeword R1200 (replicate 16 false)) → ⊥
 not_1200 replaced unshared =
-    let found = unshared R2400 (frame_word R2400 (replicate 40 false)) zeros_2400
+    let found = unshared R2400 (frame_codeword R2400 (replicate 40 false)) zeros_2400
     (λ i below out. ap (λ (r : List Bool). get_or r i false) (sym zeros_same)) in
     let same = found.0 in
     cc

@@ -8,21 +8,21 @@ use chip_core::Bits;
 use conv_code::encode_into;
 use std::process::Abort;
 use std::test::Fail;
-use viterbi::{Decoder, Ends, Word};
+use viterbi::{Codeword, Decoder, Ends};
 
-/// A word that was sent, and the soft values that are heard of it.
+/// A codeword that was sent, and the soft values that are heard of it.
 #[derive(Drop)]
 struct Sending {
     softs: [i64; 1152],
     /// How many of the soft values are heard.
     count: usize,
     ends: Ends,
-    word: Word,
+    codeword: Codeword,
 }
 
-/// A word to be sent, and soft values of its symbols' signs, between 1 and 2,047 in absolute value.
-/// The word's score is the sum of the absolute values, so it is the best.
-fn sent_into(rt: &impl Abort, count: u16, ends: Ends, softs: &mut [i64]) -> Word {
+/// A codeword to be sent, and soft values of its symbols' signs, between 1 and 2,047 in absolute
+/// value. The codeword's score is the sum of the absolute values, so it is the best.
+fn sent_into(rt: &impl Abort, count: u16, ends: Ends, softs: &mut [i64]) -> Codeword {
     let mut generator = Generator(8);
     let mut bits = Bits::empty();
     for i in 0..count {
@@ -42,24 +42,24 @@ fn sent_into(rt: &impl Abort, count: u16, ends: Ends, softs: &mut [i64]) -> Word
         let is_one = i < 1_152 && (i as u16) < symbols.len() && symbols.get(i as u16);
         *soft = if is_one { -size } else { size };
     }
-    Word { start, bits }
+    Codeword { start, bits }
 }
 
-/// A word of so many bits that was sent.
+/// A codeword of so many bits that was sent.
 fn sent(rt: &impl Abort, bits: u16, ends: Ends) -> Sending {
     let mut softs = [0; 1152];
     let count = 2 * usize::from(bits);
     assert!(rt; count <= 1152);
-    let word = sent_into(rt, bits, ends, &mut softs[..count]);
+    let codeword = sent_into(rt, bits, ends, &mut softs[..count]);
     Sending {
         softs,
         count,
         ends,
-        word,
+        codeword,
     }
 }
 
-/// Sees that a decoder finds the sent word, so many times.
+/// Sees that a decoder finds the sent codeword, so many times.
 macro_rules! decode {
     ($rt:expr, $decoder:expr, $sent:expr, $turns:expr) => {{
         assert!($rt; $sent.count <= 1152);
@@ -67,25 +67,25 @@ macro_rules! decode {
         assert!($rt; is_bounded(softs));
         assert!($rt; softs.len() % 2 == 0);
         assert!($rt; softs.len() >= 16);
-        let mut word = Word {
+        let mut codeword = Codeword {
             start: 0,
             bits: Bits::empty(),
         };
         for _turn in 0..$turns {
-            $decoder.best_into(softs, $sent.ends, &mut word);
+            $decoder.best_into(softs, $sent.ends, &mut codeword);
         }
-        assert!($rt; word == $sent.word);
+        assert!($rt; codeword == $sent.codeword);
     }};
 }
 
-/// The work of the decoder on rows of decisions.
-fn decode_on_rows(rt: &impl Abort, decoder: &mut Decoder, sent: &Sending, turns: u16)
+/// The work of the decoder on columns of decisions.
+fn decode_on_columns(rt: &impl Abort, decoder: &mut Decoder, sent: &Sending, turns: u16)
     requires { decoder.old ≡ 576 }
 {
     decode!(rt, decoder, sent, turns);
 }
 
-/// The same by the decoder that keeps each state's best word whole.
+/// The same by the decoder that keeps each state's best codeword whole.
 fn decode_by_survivors(rt: &impl Abort, decoder: &mut SurvivorDecoder, sent: &Sending, turns: u16)
     requires { decoder.old ≡ 576 }
 {
@@ -96,7 +96,7 @@ fn decode_by_survivors(rt: &impl Abort, decoder: &mut SurvivorDecoder, sent: &Se
 #[test]
 fn rows_decode_576_free_bits_100_times(rt: HostRuntime) -> Result<(), Fail> {
     let mut decoder = Decoder::new(rt.alloc(), 576)?;
-    decode_on_rows(&rt, &mut decoder, &sent(&rt, 576, Ends::Free), 100);
+    decode_on_columns(&rt, &mut decoder, &sent(&rt, 576, Ends::Free), 100);
     Ok(())
 }
 
@@ -110,7 +110,7 @@ fn survivors_decode_576_free_bits_4_times(rt: HostRuntime) -> Result<(), Fail> {
 #[test]
 fn rows_decode_192_bits_between_zeros_300_times(rt: HostRuntime) -> Result<(), Fail> {
     let mut decoder = Decoder::new(rt.alloc(), 576)?;
-    decode_on_rows(&rt, &mut decoder, &sent(&rt, 192, Ends::Zero), 300);
+    decode_on_columns(&rt, &mut decoder, &sent(&rt, 192, Ends::Zero), 300);
     Ok(())
 }
 

@@ -15,11 +15,11 @@ returns-clause-given c first found near =
     let long : length paths.deltas ≡ 3 = search rules in
     fresh_given (record {
       fingers = paths.count;
-      paging = c.args.receiver.paging;
-      traffic = c.args.receiver.traffic;
+      paging = c.args.options.paging;
+      traffic = c.args.options.traffic;
       check30 = c.args.header.check30;
       check16 = c.args.header.check16;
       count = c.args.header.count;
     })
-    c.args.header first c.args.receiver c.args.best paths c.in_ok-mobile.mobile found refl refl refl refl
+    c.args.header first c.args.options c.args.best paths c.in_ok-mobile.mobile found refl refl refl refl
     refl long near c.requires.near (search rules)

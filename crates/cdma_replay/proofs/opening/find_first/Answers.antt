@@ -8,7 +8,7 @@ returns-in_ok-best-in-Find-clause-shown g c =
 
 pub returns-in_ok-best-in-Follow-clause-shown : goal.returns-in_ok-best-in-Follow-clause-shown
 returns-in_ok-best-in-Follow-clause-shown g c =
-    rw c.in-Follow.is (followed_shows c.in-Follow.receiver)
+    rw c.in-Follow.is (followed_shows c.in-Follow.options)
 
 pub returns-in_ok-ranks-in-Survey-clause-shown : goal.returns-in_ok-ranks-in-Survey-clause-shown
 returns-in_ok-ranks-in-Survey-clause-shown g c =

@@ -5,7 +5,7 @@ pub returns-in_ok-mobile-in-Followed-clause-fresh : goal.returns-in_ok-mobile-in
 returns-in_ok-mobile-in-Followed-clause-fresh c =
     let first = c.args.first.now in
     let best = c.in-Followed.best in
-    let near : AreNearTo first best.phase c.in-Followed.receiver c.near-paths.result =
+    let near : AreNearTo first best.phase c.in-Followed.options c.near-paths.result =
     search rules in
     rw c.in-Followed.is
     (λ taps. (c.in_ok-mobile-in-Followed.ensures.given first (search rules) near, refl))

@@ -1,6 +1,6 @@
 use Rattle.cdma_replay.proofs.Common.{◌≡◌, Some, refl, rules, subst, IsLawfulJob, Job}
-use Rattle.cdma_words.specs.Words.{job_named}
-use Rattle.cdma_words.specs.declared.job.Job.TheVariants.{Follow, Trial}
+use Rattle.command_line.specs.Args.{job_named}
+use Rattle.command_line.specs.declared.job.Job.TheVariants.{Follow, Trial}
 use Rattle.cdma_replay.proofs.CleanLinks.{each_answer}
 use Rattle.cdma_replay.proofs.CleanTexts.{clean_answer}
 use Rattle.cdma_replay.proofs.Completed.{complete_answer}
@@ -10,10 +10,10 @@ use Rattle.cdma_replay.proofs.replaying.replay.Goals as goal
 
 pub returns-in-Ok : goal.returns-in-Ok
 returns-in-Ok g c =
-    let words = job_named c.args.words.now in
-    let run = λ (job : Job) (named : words ≡ Some job).
+    let args = job_named c.args.args.now in
+    let run = λ (job : Job) (named : args ≡ Some job).
     run_of job c.task_of.ensures.value c.in-Ok.ensures.job named c.run_task.ensures in
-    let lawful = λ (job : Job) (named : words ≡ Some job).
+    let lawful = λ (job : Job) (named : args ≡ Some job).
     subst IsLawfulJob (same_job _ c.in-Ok.job job c.in-Ok.ensures.job named) c.in-Ok.ensures.lawful in
     record {
       bad_words = search rules;

@@ -26,7 +26,7 @@ returns g c =
     let number = c.args.number in
     let plan = trial_plan number in
     let out = c.fill.new.out in
-    let receiver = c.receiver_for-receiver.result in
+    let options = c.options_for-options.result in
     let best = c.in_ok-best.best in
     let header : c.header-header.result ≡ header_of Sixteen plan =
     c.header-header.ensures.value ∙
@@ -35,12 +35,12 @@ returns g c =
     span_is c.args.cell.now number (length c.args.span.now) out c.requires.cell c.requires.span
     c.fill.ensures.samples in
     let found : IsBestIn out 0 32768 best.phase best.energy = search rules in
-    let near : AreNearTo out best.phase receiver c.near-paths.result = search rules in
-    let t = tuning_for c.header-header.result out receiver in
+    let near : AreNearTo out best.phase options c.near-paths.result = search rules in
+    let t = tuning_for c.header-header.result out options in
     let tuning : t ≡ trial_tuning number =
-    ap (λ (h : Header). tuning_for h out receiver) header
-    ∙ ap (λ (xs : List Sample). tuning_for (header_of Sixteen plan) xs receiver) span
-    ∙ ap (tuning_for (header_of Sixteen plan) (trial_span number)) c.receiver_for-receiver.ensures in
+    ap (λ (h : Header). tuning_for h out options) header
+    ∙ ap (λ (xs : List Sample). tuning_for (header_of Sixteen plan) xs options) span
+    ∙ ap (tuning_for (header_of Sixteen plan) (trial_span number)) c.options_for-options.ensures in
     let told = c.count.ensures.told t [] [] (c.in_ok-mobile.ensures.given out found near)
     c.none-counts.ensures.value in
     let behind = behind_span c.args.cell.now c.fill.new.self number (length c.args.span.now)

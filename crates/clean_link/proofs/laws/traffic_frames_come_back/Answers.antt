@@ -1,4 +1,4 @@
-use Rattle.clean_link.proofs.traffic.Commands.{commands_back, sixteen_sent}
+use Rattle.clean_link.proofs.traffic.PowerBits.{power_bits_back, sixteen_sent}
 use Rattle.clean_link.proofs.traffic.Frames.{each_frame_heard, frame_back, sent_frames_back}
 use Rattle.clean_link.proofs.traffic.NoneSent.{none_directed}
 use Rattle.clean_link.proofs.traffic.Signaling.{sent_messages_back}
@@ -10,7 +10,7 @@ pub returns : goal.returns
 returns c = record {
   pilot = one_pilot_heard;
   signs = traffic_signs;
-  commands = commands_back;
+  power_bits = power_bits_back;
   sixteen = sixteen_sent;
   frames = frame_back;
   each = each_frame_heard;

@@ -2,7 +2,7 @@ use Rattle.conv_code.proofs.Common.{◌≡◌, ◌*◌, ◌+◌, ◌<◌, ◌++�
 use Rattle.conv_code.proofs.Common.{length_push, take_more, get_or_from_slice_get, binary, g0, g1, symbol, code_symbols, state_after}
 use Rattle.conv_code.proofs.Continued.{code_symbols-none, state_after-none}
 use Rattle.conv_code.proofs.Pairs.{AreAt, take_pair}
-use Rattle.conv_code.proofs.Loops.{symbols_more, state_more, word_at, both_same, not_both, within_word}
+use Rattle.conv_code.proofs.Loops.{symbols_more, state_more, codeword_at, both_same, not_both, within_codeword}
 use Rattle.conv_code.proofs.inversion.bits_from.Goals as goal
 
 pub loop-i-init : goal.loop-i-init
@@ -12,7 +12,7 @@ loop-i-init c = record {
   long = rw c.empty-bits.ensures;
   state = ap (binary 8) c.new-register.ensures ∙ sym (state_after-none (binary 8 c.args.start)) ∙
       ap (state_after (binary 8 c.args.start)) (sym c.empty-bits.ensures);
-  only = λ word gives. c.empty-bits.ensures;
+  only = λ codeword gives. c.empty-bits.ensures;
 }
 
 pub loop-i-preserved : goal.loop-i-preserved
@@ -45,21 +45,21 @@ loop-i-preserved c =
       long = ap length c.append.ensures ∙ length_push bits bit ∙ ap (λ n. n + 1) inv.long;
       state = state_more start register c.push.new.self bits bit inv.state c.push.ensures.last
           ∙ ap (state_after (binary 8 start)) (sym c.append.ensures);
-      only = λ word gives.
-          let within : i < length word = within_word start i symbols word gives (omega arith) in
+      only = λ codeword gives.
+          let within : i < length codeword = within_codeword start i symbols codeword gives (omega arith) in
           let here =
-          word_at start register i bits symbols word gives within inv.state
-          (inv.only word gives) in
-          let next : get_or word i false ≡ bit =
-          c.bit_for-bit.ensures (get_or word i false) (sym here.even ∙ first) in
+          codeword_at start register i bits symbols codeword gives within inv.state
+          (inv.only codeword gives) in
+          let next : get_or codeword i false ≡ bit =
+          c.bit_for-bit.ensures (get_or codeword i false) (sym here.even ∙ first) in
           c.append.ensures
-          ∙ ap (λ (r : List Bool). r ++ bit ∷ []) (inv.only word gives)
-          ∙ ap (λ (b : Bool). take i word ++ b ∷ []) (sym next)
-          ∙ sym (take_more word i false within);
+          ∙ ap (λ (r : List Bool). r ++ bit ∷ []) (inv.only codeword gives)
+          ∙ ap (λ (b : Bool). take i codeword ++ b ∷ []) (sym next)
+          ∙ sym (take_more codeword i false within);
     }
 
 pub returns-then-ne-clause-none : goal.returns-then-ne-clause-none
-returns-then-ne-clause-none c word gives =
+returns-then-ne-clause-none c codeword gives =
     let inv = c.loop-i.invariant in
     let start = c.args.start in
     let i = c.loop-i.i in
@@ -70,12 +70,12 @@ returns-then-ne-clause-none c word gives =
     get_or_from_slice_get symbols (2 * i) c.get-first.result false c.get-first.ensures in
     let second : get_or symbols (2 * i + 1) false ≡ c.get-second.result =
     get_or_from_slice_get symbols (2 * i + 1) c.get-second.result false c.get-second.ensures in
-    let within : i < length word = within_word start i symbols word gives (omega arith) in
+    let within : i < length codeword = within_codeword start i symbols codeword gives (omega arith) in
     let here =
-    word_at start register i c.loop-i.bits symbols word gives within inv.state
-    (inv.only word gives) in
-    let next : get_or word i false ≡ bit =
-    c.bit_for-bit.ensures (get_or word i false) (sym here.even ∙ first) in
+    codeword_at start register i c.loop-i.bits symbols codeword gives within inv.state
+    (inv.only codeword gives) in
+    let next : get_or codeword i false ≡ bit =
+    c.bit_for-bit.ensures (get_or codeword i false) (sym here.even ∙ first) in
     not_both c.push.result.0 c.push.result.1 c.get-first.result c.get-second.result
     (sym c.if-ne.true ∙ c.ne.ensures)
     (c.push.ensures.first ∙

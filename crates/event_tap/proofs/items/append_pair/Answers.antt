@@ -1,8 +1,8 @@
 use Rattle.std.proofs.Common.{arith}
 use Rattle.event_tap.proofs.items.append_pair.Goals as goal
 
-pub append_word-requires-clause-room : goal.append_word-requires-clause-room
-append_word-requires-clause-room c =
+pub append_str-requires-clause-room : goal.append_str-requires-clause-room
+append_str-requires-clause-room c =
     omega (
       arith,
       c.append_short.ensures.len 10 (omega arith) (omega (arith, c.from.ensures)),
@@ -16,7 +16,7 @@ append_short-requires-2 c =
           omega (
             arith,
             c.append_short.ensures.len 10 (omega arith) (omega (arith, c.from.ensures)),
-            c.append_word.ensures.len,
+            c.append_str.ensures.len,
             c.requires.room,
           );
     }
@@ -26,6 +26,6 @@ returns-clause-len c j k some few more least =
     omega (
       arith,
       c.append_short.ensures.len j some (omega (arith, c.from.ensures, few)),
-      c.append_word.ensures.len,
+      c.append_str.ensures.len,
       c.append_short-2.ensures.len k more (omega (arith, c.from-2.ensures, least)),
     )

@@ -1,8 +1,8 @@
 use Rattle.std.proofs.Common.{arith}
 use Rattle.event_tap.proofs.items.append_triple.Goals as goal
 
-pub append_word-requires-clause-room : goal.append_word-requires-clause-room
-append_word-requires-clause-room c =
+pub append_str-requires-clause-room : goal.append_str-requires-clause-room
+append_str-requires-clause-room c =
     omega (
       arith,
       c.append_pair.ensures.len 10 10 (omega arith) (omega arith) (omega arith) (omega arith),
@@ -16,7 +16,7 @@ append_short-requires c =
           omega (
             arith,
             c.append_pair.ensures.len 10 10 (omega arith) (omega arith) (omega arith) (omega arith),
-            c.append_word.ensures.len,
+            c.append_str.ensures.len,
             c.requires.room,
           );
     }
@@ -26,6 +26,6 @@ returns-clause-len c j k l some few more least last small =
     omega (
       arith,
       c.append_pair.ensures.len j k some few more least,
-      c.append_word.ensures.len,
+      c.append_str.ensures.len,
       c.append_short.ensures.len l last (omega (arith, c.from.ensures, small)),
     )

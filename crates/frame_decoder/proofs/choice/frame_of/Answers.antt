@@ -1,15 +1,15 @@
-use Rattle.frame_decoder.proofs.RowChoice.{candidate_is, frame_is}
+use Rattle.frame_decoder.proofs.FormatChoice.{candidate_is, frame_is}
 use Rattle.frame_decoder.proofs.choice.frame_of.Goals as goal
 
 pub returns-clause-value : goal.returns-clause-value
 returns-clause-value g c =
     let highest = c.args.highest.now in
-    let kept = c.without_commands-kept in
+    let kept = c.without_power_bits-kept in
     let best = c.best_candidate-best in
-    let word = c.best_word-word in
-    let found = candidate_is kept.result highest word.result.bits word.result.score
-    c.candidate.result word.ensures.bits word.ensures.score c.candidate.ensures in
+    let codeword = c.best_codeword-codeword in
+    let found = candidate_is kept.result highest codeword.result.bits codeword.result.score
+    c.candidate.result codeword.ensures.bits codeword.ensures.score c.candidate.ensures in
     frame_is highest c.args.lower.now c.args.places.now c.args.softs.now kept.result
-    word.result.bits word.result.score best.result c.candidate.result c.preferred-best.result
-    c.good_or.result kept.ensures.value best.ensures.value word.ensures.bits word.ensures.score found
+    codeword.result.bits codeword.result.score best.result c.candidate.result c.preferred-best.result
+    c.good_or.result kept.ensures.value best.ensures.value codeword.ensures.bits codeword.ensures.score found
     c.preferred-best.ensures c.good_or.ensures

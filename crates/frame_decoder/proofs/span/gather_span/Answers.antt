@@ -5,7 +5,7 @@ use Rattle.frame_decoder.proofs.span.gather_span.Goals as goal
 
 pub loop-frame-init : goal.loop-frame-init
 loop-frame-init c =
-    let l = c.args.layout in
+    let l = c.args.span_format in
     let softs = c.args.softs.now in
     let out = c.args.out.now in
     record {
@@ -31,7 +31,7 @@ gather_into-requires-clause-bounded c =
     let softs = c.args.softs.now in
     let frame = c.loop-frame.frame in
     let symbols = c.symbols-symbols in
-    let count = size (shape_of c.args.layout.kind) in
+    let count = size (shape_of c.args.span_format.kind) in
     let bound = c.requires.bounded in
     let small = frame_small count frame softs in
     rw (frame_is symbols.result count frame softs symbols.ensures.value)
@@ -39,7 +39,7 @@ gather_into-requires-clause-bounded c =
 
 pub loop-frame-preserved : goal.loop-frame-preserved
 loop-frame-preserved c =
-    let l = c.args.layout in
+    let l = c.args.span_format in
     let softs = c.args.softs.now in
     let frame = c.loop-frame.frame in
     let out = c.loop-frame.out in

@@ -8,6 +8,6 @@ loop-state-init c = c.empty-finds.ensures
 pub loop-state-preserved : goal.loop-state-preserved
 unfolding first_finds
 loop-state-preserved c =
-    let read = end_read c.args.ends c.args.row.now c.loop-state.state c.end_states-state-end.result c.index-row-state.result []
-    c.loop-state-test.true c.end_states-state-end.ensures c.requires.whole c.index-row-state.is in
+    let read = end_read c.args.ends c.args.column.now c.loop-state.state c.end_states-state-end.result c.index-column-state.result []
+    c.loop-state-test.true c.end_states-state-end.ensures c.requires.whole c.index-column-state.is in
     rw add-one (c.merged-finds.ensures ∙ rw (c.finds_of.ensures, read, c.loop-state.invariant))

@@ -1,12 +1,12 @@
-use Rattle.list_viterbi.proofs.Common.{◌+◌, ◌*◌, ◌/◌, ◌%◌, ◌∙◌, ℕ, get_or, pos, arith, ap, w64, SFits, gains_read, kind_small}
+use Rattle.list_viterbi.proofs.Common.{◌+◌, ◌*◌, ◌/◌, ◌%◌, ◌∙◌, ℕ, get_or, pos, arith, ap, w64, SFits, gains_read, pattern_small}
 use Rattle.list_viterbi.proofs.gains.gains_of.Goals as goal
 
 pub returns-clause-lanes : goal.returns-clause-lanes
 returns-clause-lanes c l b =
     let block = c.args.block in
-    let few = kind_small (block / 4) (omega (arith, c.requires.block)) in
-    let is = c.kind_of-kind.ensures.value in
-    let at = 8 * c.kind_of-kind.result + 2 * (block % 4) in
+    let few = pattern_small (block / 4) (omega (arith, c.requires.block)) in
+    let is = c.pattern_of-pattern.ensures.value in
+    let at = 8 * c.pattern_of-pattern.result + 2 * (block % 4) in
     let fits : SFits w64 (get_or c.args.gains.now (at + l) (pos 0)) =
     c.requires.fit _ (omega (arith, few, is, b)) in
     gains_read 2 c.args.gains.now at l c.told-gains (omega (arith, few, is)) b fits

@@ -84,7 +84,7 @@ returns-clause-pair c =
     let uo : c.raised-upper_odd.result ≡ upper_odd ranks gain block =
     pairs.raised_is ranks gain (4 * block + 1) c.heads_at.result.1 c.raised-upper_odd.result
     c.requires.long c.requires.room c.heads_at.ensures.odd c.raised-upper_odd.ensures in
-    let row : c.merge_block-2.new.next ≡ with_both ranks gain block next =
+    let column : c.merge_block-2.new.next ≡ with_both ranks gain block next =
     pairs.both_put (λ (at : ℕ) (xs : List ℤ) (e o : Heads). put_heads at xs (four_scores e o)) ranks gain block next
     c.merge_block.new.next c.merge_block-2.new.next _ _ _ _ le lo ue uo
     c.merge_block.ensures.scores c.merge_block-2.ensures.scores in
@@ -92,7 +92,7 @@ returns-clause-pair c =
     pairs.both_put (λ (at : ℕ) (xs : List ℕ) (e o : Heads). put_choices at xs (four_choices e o)) ranks gain block choices
     c.merge_block.new.choices c.merge_block-2.new.choices _ _ _ _ le lo ue uo
     c.merge_block.ensures.choices c.merge_block-2.ensures.choices in
-    rw (row, chosen) (record {
+    rw (column, chosen) (record {
       lower =
           pair_lower ranks gain next choices block c.requires.whole_next c.told-choices
           c.requires.long c.requires.block;

@@ -7,24 +7,24 @@ two_are p q = λ i. p i ∷ q i ∷ []
 
 pub returns-clause-even : goal.returns-clause-even
 returns-clause-even c =
-    let row = c.args.ranks.now in
+    let column = c.args.ranks.now in
     let at = c.args.at in
     two_are
-    (lane_read 2 row at 0 c.requires.room (omega arith)
+    (lane_read 2 column at 0 c.requires.room (omega arith)
     (c.requires.fit _ (omega (arith, c.requires.room)))
-    ∙ read_at row (at + 0) (at) (omega arith))
-    (lane_read 2 row at 2 c.requires.room (omega arith)
+    ∙ read_at column (at + 0) (at) (omega arith))
+    (lane_read 2 column at 2 c.requires.room (omega arith)
     (c.requires.fit _ (omega (arith, c.requires.room)))
-    ∙ read_at row (at + 2) (at + 2) (omega arith))
+    ∙ read_at column (at + 2) (at + 2) (omega arith))
 
 pub returns-clause-odd : goal.returns-clause-odd
 returns-clause-odd c =
-    let row = c.args.ranks.now in
+    let column = c.args.ranks.now in
     let at = c.args.at in
     two_are
-    (lane_read 2 row at 1 c.requires.room (omega arith)
+    (lane_read 2 column at 1 c.requires.room (omega arith)
     (c.requires.fit _ (omega (arith, c.requires.room)))
-    ∙ read_at row (at + 1) (at + 1) (omega arith))
-    (lane_read 2 row at 3 c.requires.room (omega arith)
+    ∙ read_at column (at + 1) (at + 1) (omega arith))
+    (lane_read 2 column at 3 c.requires.room (omega arith)
     (c.requires.fit _ (omega (arith, c.requires.room)))
-    ∙ read_at row (at + 3) (at + 1 + 2) (omega arith))
+    ∙ read_at column (at + 3) (at + 1 + 2) (omega arith))

@@ -1,5 +1,5 @@
 use Rattle.list_viterbi.proofs.Common.{◌∙◌, w64, to_z-of_z, SFits}
-use Rattle.list_viterbi.proofs.RowLayouts.{four_here, four_read}
+use Rattle.list_viterbi.proofs.ColumnLayouts.{four_here, four_read}
 use Rattle.list_viterbi.proofs.lanes.put_scores.Goals as goal
 
 pub returns-clause-here : goal.returns-clause-here

@@ -4,5 +4,5 @@ use Rattle.list_viterbi.proofs.lanes.ranks_of.Given as goal
 abbrev pub invariant-loop-state : goal.invariant-loop-state
 invariant-loop-state l = record {
   whole : length l.ranks ≡ 1024;
-  each : (t : ℕ) → t < l.state → four_of l.ranks t ≡ get_or l.row t [];
+  each : (t : ℕ) → t < l.state → four_of l.ranks t ≡ get_or l.column t [];
 }

@@ -3,6 +3,6 @@ use Rattle.list_viterbi.proofs.lanes.scores_of.Given as goal
 
 abbrev pub invariant-loop-state : goal.invariant-loop-state
 invariant-loop-state l = record {
-  whole : length l.row ≡ 256;
-  each : (t : ℕ) → t < l.state → get_or l.row t [] ≡ four_of l.ranks t;
+  whole : length l.column ≡ 256;
+  each : (t : ℕ) → t < l.state → get_or l.column t [] ≡ four_of l.ranks t;
 }

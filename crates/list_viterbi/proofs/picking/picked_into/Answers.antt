@@ -6,8 +6,8 @@ pub picked-requires-clause-even_room : goal.picked-requires-clause-even_room
 picked-requires-clause-even_room c =
     let fits : SFits w64 c.args.gain = search rules in
     rw (to_z-of_z w64 c.args.gain fits)
-    (item_room c.args.row.now c.args.gain (2 * (c.args.state % 128)) c.index-row-before.result
-    c.requires.whole (omega arith) c.requires.room c.index-row-before.is)
+    (item_room c.args.column.now c.args.gain (2 * (c.args.state % 128)) c.index-column-before.result
+    c.requires.whole (omega arith) c.requires.room c.index-column-before.is)
 
 pub picked-requires-clause-odd_room : goal.picked-requires-clause-odd_room
 picked-requires-clause-odd_room c =
@@ -17,9 +17,9 @@ picked-requires-clause-odd_room c =
     let turned_fits : SFits w64 (pos 0 -ℤ gain) =
     fits_signed_from_abs w64 _ (omega (arith, ints, small)) in
     rw (to_z-of_z w64 gain fits, to_z-of_z w64 (pos 0 -ℤ gain) turned_fits)
-    (turned_room gain (pos 0 -ℤ gain) c.index-row-before-2.result refl
-    (item_room c.args.row.now gain (2 * (c.args.state % 128) + 1) c.index-row-before-2.result
-    c.requires.whole (omega arith) c.requires.room c.index-row-before-2.is))
+    (turned_room gain (pos 0 -ℤ gain) c.index-column-before-2.result refl
+    (item_room c.args.column.now gain (2 * (c.args.state % 128) + 1) c.index-column-before-2.result
+    c.requires.whole (omega arith) c.requires.room c.index-column-before-2.is))
 
 pub returns : goal.returns
 returns c =
@@ -28,8 +28,8 @@ returns c =
     let fits : SFits w64 gain = search rules in
     let turned_fits : SFits w64 (pos 0 -ℤ gain) =
     fits_signed_from_abs w64 _ (omega (arith, ints, small)) in
-    by_made c.args.row.now gain (pos 0 -ℤ gain) c.args.k c.args.state (2 * (c.args.state % 128))
-    c.index-row-before.result c.index-row-before-2.result c.picked.new.scores c.picked.result
+    by_made c.args.column.now gain (pos 0 -ℤ gain) c.args.k c.args.state (2 * (c.args.state % 128))
+    c.index-column-before.result c.index-column-before-2.result c.picked.new.scores c.picked.result
     refl
-    (omega (arith, c.requires.whole)) c.index-row-before.is c.index-row-before-2.is refl
+    (omega (arith, c.requires.whole)) c.index-column-before.is c.index-column-before-2.is refl
     (rw (to_z-of_z w64 gain fits, to_z-of_z w64 (pos 0 -ℤ gain) turned_fits) at c.picked.ensures)

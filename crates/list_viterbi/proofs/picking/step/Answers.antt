@@ -36,13 +36,13 @@ loop-state-preserved c =
     (c.gain_at-gain.ensures ∙ c.gains-gains.ensures _ (code_small t (omega arith))) in
     let scores = c.picked_into.new.scores in
     let chosen = c.picked_into.result in
-    let here : HasPicks scores chosen (picks_into c.args.row.now f s c.args.k t) =
+    let here : HasPicks scores chosen (picks_into c.args.column.now f s c.args.k t) =
     rw (to_z-of_z w64 gain (record { sfits = c.gain_at-gain.type_inv }), is)
     at c.picked_into.ensures in
     rw (to_z-of_z w64 f fits, to_z-of_z w64 s fits') (record {
       whole = length-set c.loop-state.next t scores ∙ inv.whole;
       whole_choices = length-set c.loop-state.choices t chosen ∙ inv.whole_choices;
-      each = each_more c.args.row.now c.loop-state.next c.loop-state.choices f s c.args.k t
+      each = each_more c.args.column.now c.loop-state.next c.loop-state.choices f s c.args.k t
           scores chosen (omega (arith, inv.whole)) (omega (arith, inv.whole_choices))
           (rw (to_z-of_z w64 f fits, to_z-of_z w64 s fits') at inv.each) here;
     })

@@ -6,5 +6,5 @@ invariant-loop-state l = record {
   whole : length l.next ≡ 256;
   whole_choices : length l.choices ≡ 256;
   each : (t : ℕ) → t < l.state → HasPicks (get_or l.next t []) (get_or l.choices t 0)
-      (picks_into l.row l.first l.second l.k t);
+      (picks_into l.column l.first l.second l.k t);
 }

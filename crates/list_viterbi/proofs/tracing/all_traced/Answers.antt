@@ -5,7 +5,7 @@ use Rattle.list_viterbi.proofs.tracing.all_traced.Goals as goal
 pub loop-i-preserved : goal.loop-i-preserved
 loop-i-preserved c =
     c.push.ensures
-    ∙ ap (λ (e : Entry). c.loop-i.words ++ e ∷ []) c.traced.ensures
-    ∙ map_more (entry_at c.args.rows.now) c.args.finds.now c.loop-i.words c.loop-i.i
+    ∙ ap (λ (e : Entry). c.loop-i.codewords ++ e ∷ []) c.traced.ensures
+    ∙ map_more (entry_at c.args.columns.now) c.args.finds.now c.loop-i.codewords c.loop-i.i
     c.get.result.now
     (omega (arith, c.loop-i-test.true)) c.get.ensures.value c.loop-i.invariant

@@ -8,39 +8,39 @@ loop-back-init c = record {
   long = c.requires;
   small = search rules;
   rank_small = search rules;
-  start = ap (λ (k : ℕ). origin c.args.rows.now k c.args.end c.args.place)
-      (less_none (length c.args.rows.now));
-  whole = all_left c.args.rows.now (length c.args.rows.now) (length c.args.rows.now - 0) c.args.end
-      c.args.place c.args.bits.now (less_none (length c.args.rows.now)) (omega (arith, c.requires));
+  start = ap (λ (k : ℕ). origin c.args.columns.now k c.args.end c.args.place)
+      (less_none (length c.args.columns.now));
+  whole = all_left c.args.columns.now (length c.args.columns.now) (length c.args.columns.now - 0) c.args.end
+      c.args.place c.args.bits.now (less_none (length c.args.columns.now)) (omega (arith, c.requires));
 }
 
 pub loop-back-preserved : goal.loop-back-preserved
 loop-back-preserved c =
-    let rows = c.args.rows.now in
-    let n = length rows in
+    let columns = c.args.columns.now in
+    let n = length columns in
     let back = c.loop-back.back in
     let state = c.loop-back.state in
     let rank = c.loop-back.rank in
     let j = n - (back + 1) in
     let same : n - 1 - back ≡ j = omega arith in
     let size : n - back ≡ suc j = omega (arith, c.loop-back-test.true) in
-    let pointer : c.pointer_at-pointer.result ≡ back_of rows j state rank =
+    let pointer : c.pointer_at-pointer.result ≡ back_of columns j state rank =
     rw same at c.pointer_at-pointer.ensures in
     let before : 2 * (state % 128) + c.pointer_at-pointer.result % 2
-    ≡ state_before rows j state rank =
+    ≡ state_before columns j state rank =
     ap (λ (b : ℕ). 2 * (state % 128) + b % 2) pointer in
-    let place : c.pointer_at-pointer.result / 2 ≡ place_before rows j state rank =
+    let place : c.pointer_at-pointer.result / 2 ≡ place_before columns j state rank =
     ap (λ (b : ℕ). b / 2) pointer in
     record {
       long = search rules;
       small = omega arith;
       rank_small = omega (arith, c.pointer_at-pointer.type_inv);
-      start = origin-back rows (n - back) j state rank
+      start = origin-back columns (n - back) j state rank
           (2 * (state % 128) + c.pointer_at-pointer.result % 2) (c.pointer_at-pointer.result / 2)
           size before place
           ∙ c.loop-back.invariant.start;
       whole = rw same
-          (path-back rows (n - back) j state rank
+          (path-back columns (n - back) j state rank
           (2 * (state % 128) + c.pointer_at-pointer.result % 2) (c.pointer_at-pointer.result / 2)
           c.loop-back.bits size (omega (arith, c.loop-back.invariant.long, c.loop-back-test.true))
           before place
@@ -49,11 +49,11 @@ loop-back-preserved c =
 
 pub returns-clause-start : goal.returns-clause-start
 returns-clause-start c =
-    origin_left c.args.rows.now (length c.args.rows.now - c.loop-back.back) c.loop-back.state c.loop-back.rank
+    origin_left c.args.columns.now (length c.args.columns.now - c.loop-back.back) c.loop-back.state c.loop-back.rank
     (omega (arith, c.loop-back-test.false)) ∙ c.loop-back.invariant.start
 
 pub returns-clause-bits : goal.returns-clause-bits
 returns-clause-bits c =
-    sym (none_left c.args.rows.now (length c.args.rows.now - c.loop-back.back) c.loop-back.state
+    sym (none_left c.args.columns.now (length c.args.columns.now - c.loop-back.back) c.loop-back.state
     c.loop-back.rank c.loop-back.bits (omega (arith, c.loop-back-test.false)))
     ∙ c.loop-back.invariant.whole

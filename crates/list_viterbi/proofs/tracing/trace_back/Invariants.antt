@@ -3,12 +3,12 @@ use Rattle.list_viterbi.proofs.tracing.trace_back.Given as goal
 
 abbrev pub invariant-loop-back : goal.invariant-loop-back
 invariant-loop-back l = record {
-  long : length l.bits ≡ length l.rows;
+  long : length l.bits ≡ length l.columns;
   small : l.state < 256;
   rank_small : l.rank < 256;
-  start : origin l.rows (length l.rows - l.back) l.state l.rank
-      ≡ origin l.rows (length l.rows) l.end l.place;
-  whole : path l.rows (length l.rows - l.back) l.state l.rank
-      ++ drop (length l.rows - l.back) l.bits
-      ≡ path l.rows (length l.rows) l.end l.place;
+  start : origin l.columns (length l.columns - l.back) l.state l.rank
+      ≡ origin l.columns (length l.columns) l.end l.place;
+  whole : path l.columns (length l.columns - l.back) l.state l.rank
+      ++ drop (length l.columns - l.back) l.bits
+      ≡ path l.columns (length l.columns) l.end l.place;
 }

@@ -2,31 +2,31 @@ use Rattle.std.proofs.Common.{◌<◌, Some, sym, ap, ◌∙◌, arith, length, 
 use Rattle.std.specs.Int.{w64}
 use Rattle.std.proofs.lemmas.Int.{to_z-of_z}
 use Rattle.std.specs.Option.{option_map}
-use Rattle.frame_decoder.specs.Rows.{is_right, frame_in}
+use Rattle.frame_decoder.specs.Formats.{is_right, frame_in}
 use Rattle.listed_frame.proofs.Candidates.{found_here, found_later}
 use Rattle.listed_frame.proofs.frame.candidate.Goals as goal
 
 pub returns-then-is_right : goal.returns-then-is_right
 returns-then-is_right c =
-    let row = c.args.row.now in
-    let words = c.args.words.now in
-    let within : c.loop-i.i < length words =
+    let format = c.args.format.now in
+    let codewords = c.args.codewords.now in
+    let within : c.loop-i.i < length codewords =
     omega (arith, c.loop-i-test.true, c.len-i-end.ensures.value) in
     let score = c.get-entry.result.now.score in
     let fits : FitsSigned w64 score = search rules in
     ap Some c.frame.ensures
-    ∙ ap (λ z. Some (frame_in row c.get-entry.result.now.word.bits z)) (to_z-of_z w64 score fits)
+    ∙ ap (λ z. Some (frame_in format c.get-entry.result.now.word.bits z)) (to_z-of_z w64 score fits)
     ∙ sym
-    (ap (option_map (λ e. frame_in row e.word.bits e.score))
-    (found_here (λ e. is_right row e.word.bits) words c.loop-i.i c.get-entry.result.now within
+    (ap (option_map (λ e. frame_in format e.word.bits e.score))
+    (found_here (λ e. is_right format e.word.bits) codewords c.loop-i.i c.get-entry.result.now within
     c.get-entry.ensures.value c.loop-i.invariant (sym c.is_right.ensures ∙ c.if-is_right.true)))
 
 pub loop-i-preserved : goal.loop-i-preserved
 loop-i-preserved c =
-    let row = c.args.row.now in
-    let words = c.args.words.now in
-    let within : c.loop-i.i < length words =
+    let format = c.args.format.now in
+    let codewords = c.args.codewords.now in
+    let within : c.loop-i.i < length codewords =
     omega (arith, c.loop-i-test.true, c.len-i-end.ensures.value) in
-    found_later (λ e. is_right row e.word.bits) words c.loop-i.i c.get-entry.result.now within
+    found_later (λ e. is_right format e.word.bits) codewords c.loop-i.i c.get-entry.result.now within
     c.get-entry.ensures.value c.loop-i.invariant
     (sym c.is_right.ensures ∙ c.if-is_right.false)

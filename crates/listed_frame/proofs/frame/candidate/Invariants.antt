@@ -1,9 +1,9 @@
 use Rattle.std.proofs.Common.{◌≡◌, drop}
 use Rattle.std.specs.List.{find}
-use Rattle.frame_decoder.specs.Rows.{is_right}
+use Rattle.frame_decoder.specs.Formats.{is_right}
 use Rattle.listed_frame.proofs.frame.candidate.Given as goal
 
 abbrev pub invariant-loop-i : goal.invariant-loop-i
 invariant-loop-i l =
-    find (λ e. is_right l.row e.word.bits) l.words
-    ≡ find (λ e. is_right l.row e.word.bits) (drop l.i l.words)
+    find (λ e. is_right l.format e.word.bits) l.codewords
+    ≡ find (λ e. is_right l.format e.word.bits) (drop l.i l.codewords)

@@ -7,22 +7,22 @@ use Rattle.listed_frame.proofs.frame.listed_frame.Goals as goal
 
 pub good_or-frame-requires : goal.good_or-frame-requires
 good_or-frame-requires c =
-    first_bits c.row_of-row.result c.words_in-words.result c.get-first.result.now
-    c.words_in-words.ensures.sizes c.get-first.ensures.value
+    first_bits c.format_of-format.result c.codewords_in-codewords.result c.get-first.result.now
+    c.codewords_in-codewords.ensures.sizes c.get-first.ensures.value
 
 pub returns-clause-value : goal.returns-clause-value
 returns-clause-value c =
-    let kept = c.without_commands-kept in
-    let words = c.words_in-words in
+    let kept = c.without_power_bits-kept in
+    let codewords = c.codewords_in-codewords in
     let first = c.get-first.result.now in
     let frame = c.good_or-frame in
     let own : FitsSigned w64 first.score = search rules in
     let fits : FitsSigned w64 frame.result.score = search rules in
-    decoded_by c.args.k c.args.places.now c.args.softs.now kept.result c.row_of-row.result
-    words.result first c.candidate_of-best.result c.candidate_of.result c.candidate_of-2.result
+    decoded_by c.args.k c.args.places.now c.args.softs.now kept.result c.format_of-format.result
+    codewords.result first c.candidate_of-best.result c.candidate_of.result c.candidate_of-2.result
     c.candidate.result c.preferred-best.result c.preferred-best-2.result c.preferred-best-3.result
-    frame.result _ _ (omega (arith, c.requires.some)) kept.ensures.value c.row_of-row.ensures.value
-    words.ensures.words words.ensures.scores c.get-first.ensures.value
+    frame.result _ _ (omega (arith, c.requires.some)) kept.ensures.value c.format_of-format.ensures.value
+    codewords.ensures.codewords codewords.ensures.scores c.get-first.ensures.value
     c.candidate_of-best.ensures.value c.candidate_of.ensures.value c.candidate_of-2.ensures.value
     c.candidate.ensures c.preferred-best.ensures c.preferred-best-2.ensures
     c.preferred-best-3.ensures (to_z-of_z w64 first.score own) frame.ensures

@@ -1,6 +1,6 @@
 use Rattle.mobile_core.proofs.Common.{◌≡◌, ◌<◌, ℕ, ◌∙◌, ap, arith, rules, ℤ, length, get_or, pos, false, ◌*ℤ◌, unsigned_abs, to_z-of_z}
 use Rattle.mobile_core.proofs.Common.{sum_by-set, SFits, w64, sign}
-use Rattle.mobile_core.proofs.Turned.{turned_more}
+use Rattle.mobile_core.proofs.Descrambled.{descrambled_more}
 use Rattle.mobile_core.proofs.softs.unscramble.Goals as goal
 
 pub loop-i-preserved : goal.loop-i-preserved
@@ -9,7 +9,7 @@ loop-i-preserved c =
     let old = c.args.softs.now in
     let now = c.loop-i.softs in
     let i : ℕ = c.loop-i.i in
-    let v : ℤ = c.turned_value.result in
+    let v : ℤ = c.descrambled_value.result in
     let fits : SFits w64 v = search rules in
     let kept = to_z-of_z w64 v fits in
     let x : ℤ = get_or now i (pos 0) in
@@ -19,11 +19,11 @@ loop-i-preserved c =
     let long : length now ≡ length old = search rules in
     let many : i < length old = search rules in
     let value : v ≡ sign (get_or bits i false) *ℤ x =
-    c.turned_value.ensures.value ∙ ap (λ y. sign (get_or bits i false) *ℤ y) read in
+    c.descrambled_value.ensures.value ∙ ap (λ y. sign (get_or bits i false) *ℤ y) read in
     let size : unsigned_abs v ≡ unsigned_abs x =
-    c.turned_value.ensures.size ∙ ap unsigned_abs read in
+    c.descrambled_value.ensures.size ∙ ap unsigned_abs read in
     rw kept (record {
-      value = turned_more bits old now i v few many c.loop-i.invariant.value value;
+      value = descrambled_more bits old now i v few many c.loop-i.invariant.value value;
       small =
           let sum = sum_by-set unsigned_abs now i v (pos 0) (omega (arith, many, long)) in
           omega (arith, sum, size, c.loop-i.invariant.small);

@@ -8,7 +8,7 @@ pub loop-n-preserved : goal.loop-n-preserved
 loop-n-preserved c =
     let xs = c.args.first.now in
     let ys = c.args.second.now in
-    let before = c.loop-n.words in
+    let before = c.loop-n.codewords in
     let h = c.loop-n.invariant in
     let few = h.few in
     elim c.if-takes_second.branch [
@@ -17,7 +17,7 @@ loop-n-preserved c =
           sym w.if-takes_second.ensures in
           let within = second_has score_in xs ys c.loop-n.i c.loop-n.j h.second_place next in
           let long = length-append before (w.get.result.now ∷ []) in
-          rw (w.words-is, w.i-is, w.j-is, w.push.ensures) (record {
+          rw (w.codewords-is, w.i-is, w.j-is, w.push.ensures) (record {
             first_place = h.first_place;
             second_place = omega (arith, within);
             few = omega (arith, long, few);
@@ -30,7 +30,7 @@ loop-n-preserved c =
           let within : c.loop-n.i < length xs =
           omega (arith, w.if-i-len.true, w.len.ensures.value) in
           let long = length-append before (w.get-then-i-len.result.now ∷ []) in
-          rw (w.words-is, w.i-is, w.j-is, w.push-then-i-len.ensures) (record {
+          rw (w.codewords-is, w.i-is, w.j-is, w.push-then-i-len.ensures) (record {
             first_place = omega (arith, within);
             second_place = h.second_place;
             few = omega (arith, long, few);
@@ -42,7 +42,7 @@ loop-n-preserved c =
           sym w.if-takes_second.ensures in
           let over : length xs ≤ c.loop-n.i =
           omega (arith, w.if-i-len.false, w.len.ensures.value) in
-          rw (w.words-is, w.i-is, w.j-is) (record {
+          rw (w.codewords-is, w.i-is, w.j-is) (record {
             first_place = h.first_place;
             second_place = h.second_place;
             few = omega (arith, few);
@@ -54,4 +54,4 @@ loop-n-preserved c =
 pub returns : goal.returns
 returns c =
     all_taken score_in c.args.k c.loop-n.i c.loop-n.j c.loop-n._n c.args.first.now c.args.second.now
-    c.loop-n.words (omega arith) c.loop-n.invariant.part
+    c.loop-n.codewords (omega arith) c.loop-n.invariant.part

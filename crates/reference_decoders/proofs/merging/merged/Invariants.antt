@@ -7,6 +7,6 @@ abbrev pub invariant-loop-n : goal.invariant-loop-n
 invariant-loop-n l = record {
   first_place : l.i ≤ length l.first;
   second_place : l.j ≤ length l.second;
-  few : length l.words ≤ l._n;
-  part : IsPart score_in l.k l.first l.second l.i l.j l._n l.words;
+  few : length l.codewords ≤ l._n;
+  part : IsPart score_in l.k l.first l.second l.i l.j l._n l.codewords;
 }

@@ -10,6 +10,6 @@ loop-state-init c = refl
 pub loop-state-preserved : goal.loop-state-preserved
 unfolding first_best
 loop-state-preserved c =
-    let read = end_read c.args.ends c.args.row.now c.loop-state.state c.end_states-state-end.result c.index-row-state.result None
-    c.loop-state-test.true c.end_states-state-end.ensures c.requires c.index-row-state.is in
+    let read = end_read c.args.ends c.args.column.now c.loop-state.state c.end_states-state-end.result c.index-column-state.result None
+    c.loop-state-test.true c.end_states-state-end.ensures c.requires c.index-column-state.is in
     rw add-one (c.better-best.ensures ∙ rw (read, c.loop-state.invariant))

@@ -5,5 +5,5 @@ use Rattle.reference_decoders.proofs.survivor_trellis.step.Given as goal
 abbrev pub invariant-loop-state : goal.invariant-loop-state
 invariant-loop-state l = record {
   whole : length l.next ≡ 256;
-  each : (t : ℕ) → t < l.state → get_or l.next t None ≡ survivor_into l.row l.first l.second t;
+  each : (t : ℕ) → t < l.state → get_or l.next t None ≡ survivor_into l.column l.first l.second t;
 }

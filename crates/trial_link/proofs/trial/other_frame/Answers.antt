@@ -6,7 +6,7 @@ sixteen-requires c =
     omega (
       arith,
       ap length c.append_number-2.ensures,
-      length-append c.empty-commands.result (binary 16 0x5555),
+      length-append c.empty-power_bits.result (binary 16 0x5555),
       length-binary 16 0x5555,
-      ap length c.empty-commands.ensures,
+      ap length c.empty-power_bits.ensures,
     )

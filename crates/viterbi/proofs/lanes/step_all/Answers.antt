@@ -1,9 +1,9 @@
 use Rattle.viterbi.proofs.Common.{◌≡◌, ◌+◌, ◌*◌, ◌/◌, ◌%◌, ◌<◌, ◌-ℤ◌, ◌∙◌, ℕ, get_or, pos, rules, w64, map, to_z, arith, to_z-of_z}
 use Rattle.viterbi.proofs.Common.{length-put_chunk, bit_of, metric_into, choice_into, number}
-use Rattle.viterbi.proofs.RowSteps.{metric_fits, metrics_lanes, wings_more, choices_more}
+use Rattle.viterbi.proofs.ColumnSteps.{metric_fits, metrics_lanes, wings_more, choices_more}
 use Rattle.viterbi.specs.contracts.lanes.step_all.{FORCED-type}
 use Rattle.viterbi.proofs.Blocks.{kept}
-use Rattle.viterbi.proofs.GreatestLanes.{IsGreaterOf, AreTops, tops_first, tops_more, row_greatest}
+use Rattle.viterbi.proofs.GreatestLanes.{IsGreaterOf, AreTops, tops_first, tops_more, column_greatest}
 use Rattle.viterbi.proofs.lanes.step_all.Goals as goal
 
 nothing_yet : {A : Type 0} (t : ℕ) → t / 8 % 16 < 0 → A
@@ -22,24 +22,24 @@ loop-k-init g c =
       chosen = λ t b none. nothing_yet t none;
       tops = rw (et, ef, es)
           (tops_first
-          (λ t. metric_into forced c.args.row.now c.args.first c.args.second t -ℤ c.args.top)
-          (metric_fits forced c.args.row.now c.args.top c.args.first c.args.second 0
-          c.requires.row.pair c.requires.row.most c.requires.row.near));
+          (λ t. metric_into forced c.args.column.now c.args.first c.args.second t -ℤ c.args.top)
+          (metric_fits forced c.args.column.now c.args.top c.args.first c.args.second 0
+          c.requires.column.pair c.requires.column.most c.requires.column.near));
     }
 
 pub greater-requires-clause-one_fit : goal.greater-requires-clause-one_fit
 greater-requires-clause-one_fit g c =
-    let lower = metrics_lanes (FORCED-type (number g.row.FORCED)) c.args.row.now c.args.top
+    let lower = metrics_lanes (FORCED-type (number g.row.FORCED)) c.args.column.now c.args.top
     c.args.first c.args.second c.loop-k.k c.block_step-bits.result.0 c.block_step-bits.ensures.long
-    c.requires.row.pair c.requires.row.most c.requires.row.near c.ranges.top c.ranges.first c.ranges.second
+    c.requires.column.pair c.requires.column.most c.requires.column.near c.ranges.top c.ranges.first c.ranges.second
     c.block_step-bits.ensures.metrics in
     rw lower.kept lower.fit
 
 pub greater-requires-clause-other_fit : goal.greater-requires-clause-other_fit
 greater-requires-clause-other_fit g c =
-    let upper = metrics_lanes (FORCED-type (number g.row.FORCED)) c.args.row.now c.args.top
+    let upper = metrics_lanes (FORCED-type (number g.row.FORCED)) c.args.column.now c.args.top
     c.args.first c.args.second (16 + c.loop-k.k) c.block_step-upper_bits.result.0
-    c.block_step-upper_bits.ensures.long c.requires.row.pair c.requires.row.most c.requires.row.near
+    c.block_step-upper_bits.ensures.long c.requires.column.pair c.requires.column.most c.requires.column.near
     c.ranges.top c.ranges.first c.ranges.second c.block_step-upper_bits.ensures.metrics in
     rw upper.kept upper.fit
 
@@ -51,7 +51,7 @@ greater-most-requires-clause-other_fit g c =
 pub loop-k-preserved : goal.loop-k-preserved
 loop-k-preserved g c =
     let forced = FORCED-type (number g.row.FORCED) in
-    let row = c.args.row.now in
+    let column = c.args.column.now in
     let top = c.args.top in
     let f = c.args.first in
     let s = c.args.second in
@@ -59,20 +59,20 @@ loop-k-preserved g c =
     let et = to_z-of_z w64 top c.ranges.top in
     let ef = to_z-of_z w64 f c.ranges.first in
     let es = to_z-of_z w64 s c.ranges.second in
-    let lower = metrics_lanes (FORCED-type (number g.row.FORCED)) c.args.row.now c.args.top
+    let lower = metrics_lanes (FORCED-type (number g.row.FORCED)) c.args.column.now c.args.top
     c.args.first c.args.second c.loop-k.k c.block_step-bits.result.0 c.block_step-bits.ensures.long
-    c.requires.row.pair c.requires.row.most c.requires.row.near c.ranges.top c.ranges.first c.ranges.second
+    c.requires.column.pair c.requires.column.most c.requires.column.near c.ranges.top c.ranges.first c.ranges.second
     c.block_step-bits.ensures.metrics in
-    let upper = metrics_lanes (FORCED-type (number g.row.FORCED)) c.args.row.now c.args.top
+    let upper = metrics_lanes (FORCED-type (number g.row.FORCED)) c.args.column.now c.args.top
     c.args.first c.args.second (16 + c.loop-k.k) c.block_step-upper_bits.result.0
-    c.block_step-upper_bits.ensures.long c.requires.row.pair c.requires.row.most c.requires.row.near
+    c.block_step-upper_bits.ensures.long c.requires.column.pair c.requires.column.most c.requires.column.near
     c.ranges.top c.ranges.first c.ranges.second c.block_step-upper_bits.ensures.metrics in
     let low = c.block_step-bits.result in
     let high = c.block_step-upper_bits.result in
-    let choices : (l : ℕ) → l < 8 → bit_of low.1 l ≡ choice_into forced row f s (8 * k + l) =
+    let choices : (l : ℕ) → l < 8 → bit_of low.1 l ≡ choice_into forced column f s (8 * k + l) =
     rw (ef, es) at c.block_step-bits.ensures.choices in
     let upper_choices : (l : ℕ) → l < 8 →
-    bit_of high.1 l ≡ choice_into forced row f s (8 * (16 + k) + l) =
+    bit_of high.1 l ≡ choice_into forced column f s (8 * (16 + k) + l) =
     rw (ef, es) at c.block_step-upper_bits.ensures.choices in
     let inner = c.greater.result in
     let next = c.greater-most.result in
@@ -96,16 +96,16 @@ loop-k-preserved g c =
           ∙ c.loop-k.invariant.whole;
       long = search rules;
       metrics = rw (et, ef, es, lower.kept, upper.kept)
-          (wings_more c.loop-k.next low.0 high.0 k (λ t. metric_into forced row f s t -ℤ top)
+          (wings_more c.loop-k.next low.0 high.0 k (λ t. metric_into forced column f s t -ℤ top)
           c.loop-k.invariant.whole c.loop-k-test.true
           c.block_step-bits.ensures.long c.block_step-upper_bits.ensures.long
           (rw (et, ef, es) at c.loop-k.invariant.metrics) lower.each upper.each);
       chosen = rw (ef, es)
-          (choices_more c.loop-k.choices low.1 high.1 k (choice_into forced row f s)
+          (choices_more c.loop-k.choices low.1 high.1 k (choice_into forced column f s)
           c.loop-k.invariant.long c.loop-k-test.true
           (rw (ef, es) at c.loop-k.invariant.chosen) choices upper_choices);
       tops = rw (et, ef, es, kept next c.greater-most.ensures.fit)
-          (tops_more (λ t. metric_into forced row f s t -ℤ top) k (map (to_z w64) c.loop-k.most)
+          (tops_more (λ t. metric_into forced column f s t -ℤ top) k (map (to_z w64) c.loop-k.most)
           low.0 high.0 inner next c.loop-k-test.true
           (rw (et, ef, es) at c.loop-k.invariant.tops) wings all lower.each upper.each);
     }
@@ -113,7 +113,7 @@ loop-k-preserved g c =
 pub returns : goal.returns
 returns g c =
     let forced = FORCED-type (number g.row.FORCED) in
-    let row = c.args.row.now in
+    let column = c.args.column.now in
     let top = c.args.top in
     let f = c.args.first in
     let s = c.args.second in
@@ -121,16 +121,16 @@ returns g c =
     let ef = to_z-of_z w64 f c.ranges.first in
     let es = to_z-of_z w64 s c.ranges.second in
     let all : c.loop-k.k ≡ 16 = omega (arith, c.loop-k-test.false) in
-    let tops : AreTops (λ t. metric_into forced row f s t -ℤ top) 16 (map (to_z w64) c.loop-k.most)
+    let tops : AreTops (λ t. metric_into forced column f s t -ℤ top) 16 (map (to_z w64) c.loop-k.most)
     = rw (et, ef, es, all) at c.loop-k.invariant.tops in
     let metrics : (t : ℕ) → t < 256 →
-    get_or c.loop-k.next t (pos 0) ≡ metric_into forced row f s t -ℤ top =
+    get_or c.loop-k.next t (pos 0) ≡ metric_into forced column f s t -ℤ top =
     λ t b. (rw (et, ef, es) at c.loop-k.invariant.metrics) t b (rw all (omega arith)) in
     record {
       whole = c.loop-k.invariant.whole;
       metrics = metrics;
       choices = λ t b. (rw (ef, es) at c.loop-k.invariant.chosen) t b (rw all (omega arith));
       greatest = rw (to_z-of_z w64 c.greatest.result (record { sfits = c.greatest.type_inv }))
-          (row_greatest (λ t. metric_into forced row f s t -ℤ top) (map (to_z w64) c.loop-k.most)
+          (column_greatest (λ t. metric_into forced column f s t -ℤ top) (map (to_z w64) c.loop-k.most)
           c.loop-k.next c.greatest.result c.loop-k.invariant.whole tops c.greatest.ensures metrics);
     }

@@ -1,4 +1,4 @@
-use Rattle.cell_plan.proofs.Common.{ℕ, ap, ◌∙◌, scrambling, with_commands, data_shape, sent, repeats_of, scrambled, traffic_symbols}
+use Rattle.cell_plan.proofs.Common.{ℕ, ap, ◌∙◌, scrambling, with_power_bits, data_shape, sent, repeats_of, scrambled, traffic_symbols}
 use Rattle.cell_plan.proofs.traffic_frame.TrafficFrame.symbols.Goals as goal
 
 pub returns-clause-value : goal.returns-clause-value
@@ -10,6 +10,6 @@ returns-clause-value c =
     let placed = c.place_into.ensures.value
     ∙ ap (λ (n : ℕ). sent data_shape n c.code-code.result) c.repeats.ensures.value
     ∙ ap (sent data_shape (repeats_of f.rate)) c.code-code.ensures.value in
-    c.with_commands.ensures.value
-    ∙ ap (with_commands state mask f.commands)
+    c.with_power_bits.ensures.value
+    ∙ ap (with_power_bits state mask f.power_bits)
     (c.scrambled-mixed.ensures.value ∙ ap (scrambled (scrambling state mask)) placed)

@@ -2,7 +2,7 @@ use Rattle.cell_samples.proofs.Common.{◌≡◌, ◌/◌, ◌*◌, ap, ◌∙�
 use Rattle.cell_samples.proofs.sendings.Sendings.frame_bits.Goals.{After-capsule_of-capsule}
 use Rattle.cell_samples.proofs.sendings.Sendings.frame_bits.Goals as goal
 
--- the capsule of the frame's sending
+-- the capsule of the frame's transmission
 capsule_is : (c : After-capsule_of-capsule) → let s = c.self.inside in
     c.capsule_of-capsule.result
     ≡ sync_capsule s.cell.check30

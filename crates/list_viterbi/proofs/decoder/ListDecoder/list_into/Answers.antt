@@ -1,17 +1,17 @@
 use Rattle.list_viterbi.proofs.Common.{◌≡◌, ◌+◌, ◌*◌, ◌/◌, ◌<◌, ◌≤◌, ℕ, [], length, get_or, ◌∙◌, suc, rules, arith, add-one, pos, pair_kept}
 use Rattle.list_viterbi.proofs.Common.{pair_small, HasPicks, picks_into}
 use Rattle.list_viterbi.proofs.Rooms.{found_first, found_number, found_scores}
-use Rattle.list_viterbi.proofs.Standing.{stands_first, row_stands, score_rooms}
-use Rattle.list_viterbi.proofs.Found.{run_words}
+use Rattle.list_viterbi.proofs.Standing.{stands_first, column_stands, score_rooms}
+use Rattle.list_viterbi.proofs.Found.{run_codewords}
 use Rattle.list_viterbi.proofs.decoder.ListDecoder.list_into.Goals as goal
 
 pub loop-bit-init : goal.loop-bit-init
 loop-bit-init c = record {
-  rows_whole = search rules;
+  columns_whole = search rules;
   kept = c.self.view_is;
   few = c.start.ensures.k;
   stands = stands_first c.args.softs.now c.args.ends c.args.k c.start.new.self.scores
-      c.self.inside.rows.items (omega (arith, c.requires.some)) c.start.ensures.scores;
+      c.self.inside.columns.items (omega (arith, c.requires.some)) c.start.ensures.scores;
 }
 
 pub step-requires-clause-fits : goal.step-requires-clause-fits
@@ -25,52 +25,52 @@ step-requires-clause-room c =
     let few : bit ≤ 576 =
     omega (arith, c.loop-bit-test.true, c.requires.most, c.self.view_is, c.self.invariant) in
     rw (kept.0, kept.1)
-    (score_rooms softs c.args.ends c.args.k bit c.loop-bit.self-inside.row.scores
-    c.loop-bit.self-inside.rows.items (omega (arith, c.loop-bit-test.true)) c.requires.bound few
+    (score_rooms softs c.args.ends c.args.k bit c.loop-bit.self-inside.column.scores
+    c.loop-bit.self-inside.columns.items (omega (arith, c.loop-bit-test.true)) c.requires.bound few
     c.loop-bit.invariant.stands)
 
 pub loop-bit-preserved : goal.loop-bit-preserved
 loop-bit-preserved c =
     let softs = c.args.softs.now in
     let bit = c.loop-bit.bit in
-    let row = c.loop-bit.self-inside.row.scores in
+    let column = c.loop-bit.self-inside.column.scores in
     let first = get_or softs (2 * bit) (pos 0) in
     let second = get_or softs (2 * bit + 1) (pos 0) in
     let room : 2 * bit + 2 ≤ length softs = omega (arith, c.loop-bit-test.true) in
     let pair = pair_kept softs bit room c.requires.bound in
     let next : bit + 1 ≡ suc bit = add-one bit in
     let each : (t : ℕ) → t < 256 → HasPicks (get_or c.step.new.self.scores t [])
-    (get_or c.step.new.choices t 0) (picks_into row first second c.args.k t) =
+    (get_or c.step.new.choices t 0) (picks_into column first second c.args.k t) =
     λ t b. rw (pair.0, pair.1, c.loop-bit.invariant.few)
     at (c.step.ensures.each t b) in
     let few : bit < 576 =
     omega (arith, c.loop-bit-test.true, c.requires.most, c.self.view_is, c.self.invariant) in
-    let within : bit < length c.loop-bit.self-inside.rows.items = search rules in
+    let within : bit < length c.loop-bit.self-inside.columns.items = search rules in
     record {
-      rows_whole = c.loop-bit.invariant.rows_whole;
+      columns_whole = c.loop-bit.invariant.columns_whole;
       kept = c.loop-bit.invariant.kept;
       few = c.step.ensures.k ∙ c.loop-bit.invariant.few;
       stands = rw next
-          (row_stands softs c.args.ends c.args.k bit row c.step.new.self.scores
-          c.loop-bit.self-inside.rows.items c.step.new.choices room c.requires.few within
+          (column_stands softs c.args.ends c.args.k bit column c.step.new.self.scores
+          c.loop-bit.self-inside.columns.items c.step.new.choices room c.requires.few within
           c.loop-bit.invariant.stands each);
     }
 
 pub returns-clause-first : goal.returns-clause-first
 returns-clause-first c = found_first c.args.softs.now _ c.args.k c.all_traced.result
-    (run_words c.args.softs.now c.args.ends c.args.k _ c.loop-bit.bit _ _ _ _ _ (omega (arith, c.loop-bit-test.false)) c.requires.least
-    (omega (arith, c.requires.most, c.self.view_is, c.self.invariant)) (c.deref.ensures.len ∙ c.loop-bit.invariant.rows_whole)
+    (run_codewords c.args.softs.now c.args.ends c.args.k _ c.loop-bit.bit _ _ _ _ _ (omega (arith, c.loop-bit-test.false)) c.requires.least
+    (omega (arith, c.requires.most, c.self.view_is, c.self.invariant)) (c.deref.ensures.len ∙ c.loop-bit.invariant.columns_whole)
     c.deref.ensures.value c.loop-bit.invariant.stands c.loop-bit.invariant.few c.first_ends-finds.ensures c.all_traced.ensures)
 
 pub returns-clause-scores : goal.returns-clause-scores
 returns-clause-scores c = found_scores c.args.softs.now _ c.args.k c.all_traced.result
-    (run_words c.args.softs.now c.args.ends c.args.k _ c.loop-bit.bit _ _ _ _ _ (omega (arith, c.loop-bit-test.false)) c.requires.least
-    (omega (arith, c.requires.most, c.self.view_is, c.self.invariant)) (c.deref.ensures.len ∙ c.loop-bit.invariant.rows_whole)
+    (run_codewords c.args.softs.now c.args.ends c.args.k _ c.loop-bit.bit _ _ _ _ _ (omega (arith, c.loop-bit-test.false)) c.requires.least
+    (omega (arith, c.requires.most, c.self.view_is, c.self.invariant)) (c.deref.ensures.len ∙ c.loop-bit.invariant.columns_whole)
     c.deref.ensures.value c.loop-bit.invariant.stands c.loop-bit.invariant.few c.first_ends-finds.ensures c.all_traced.ensures)
 
 pub returns-clause-number : goal.returns-clause-number
 returns-clause-number c = c.len.ensures.value ∙ found_number c.args.softs.now c.args.ends (length c.args.softs.now / 2) c.args.k
     c.all_traced.result (omega (arith, c.requires.least))
-    (run_words c.args.softs.now c.args.ends c.args.k _ c.loop-bit.bit _ _ _ _ _ (omega (arith, c.loop-bit-test.false)) c.requires.least
-    (omega (arith, c.requires.most, c.self.view_is, c.self.invariant)) (c.deref.ensures.len ∙ c.loop-bit.invariant.rows_whole)
+    (run_codewords c.args.softs.now c.args.ends c.args.k _ c.loop-bit.bit _ _ _ _ _ (omega (arith, c.loop-bit-test.false)) c.requires.least
+    (omega (arith, c.requires.most, c.self.view_is, c.self.invariant)) (c.deref.ensures.len ∙ c.loop-bit.invariant.columns_whole)
     c.deref.ensures.value c.loop-bit.invariant.stands c.loop-bit.invariant.few c.first_ends-finds.ensures c.all_traced.ensures)

@@ -56,7 +56,7 @@ returns-clause-hears c = λ t traffic m heard told at' check st.
     hears_heard st c.requires.sound come next.0 (says.frame t traffic m heard [] told come st)
     signal.new.framer signal.result c.frame_event.result next.1 c.args.check signal.ensures.framed
     (c.frame_event.ensures.value ∙ ap (λ (n : ℕ). frame_event n next.0 next.1) at')
-    (says.commands t traffic m heard [] told come st) check signal.ensures.message none
+    (says.power_bits t traffic m heard [] told come st) check signal.ensures.message none
 
 pub returns-clause-left : goal.returns-clause-left
 returns-clause-left c = λ t traffic m heard told at' check st.
@@ -68,4 +68,4 @@ returns-clause-left c = λ t traffic m heard told at' check st.
     told_here st c.requires.sound come next.0 (says.frame t traffic m heard [] told come st)
     c.frame_event.result next.1 signal.result c.args.check
     (c.frame_event.ensures.value ∙ ap (λ (n : ℕ). frame_event n next.0 next.1) at')
-    (says.commands t traffic m heard [] told come st) check signal.ensures.message none
+    (says.power_bits t traffic m heard [] told come st) check signal.ensures.message none

@@ -1,5 +1,5 @@
 use Rattle.mobile_core.proofs.Common.{◌∙◌, ℕ, ap, power_places}
-use Rattle.mobile_core.proofs.FramesHeard.{commands_here, frame_here}
+use Rattle.mobile_core.proofs.FramesHeard.{power_bits_here, frame_here}
 use Rattle.mobile_core.proofs.SignalParts.{decoded_long}
 use Rattle.mobile_core.proofs.traffic_receiver.TrafficReceiver.next_frame.Goals as goal
 
@@ -12,9 +12,9 @@ returns-clause-frame c = λ t traffic m heard pages told come st.
     ∙ ap (λ (n : ℕ). power_places n r.scrambling.mask) c.state_at.ensures)
     c.frame_bits.ensures.value c.unscramble.ensures.value c.traffic_frame-decoded.ensures.value
 
-pub returns-clause-commands : goal.returns-clause-commands
-returns-clause-commands c = λ t traffic m heard pages told come st.
-    commands_here st c.requires.sound come c.commands.result c.commands.ensures
+pub returns-clause-power_bits : goal.returns-clause-power_bits
+returns-clause-power_bits c = λ t traffic m heard pages told come st.
+    power_bits_here st c.requires.sound come c.commands.result c.commands.ensures
 
 pub returns-clause-long : goal.returns-clause-long
 returns-clause-long c =

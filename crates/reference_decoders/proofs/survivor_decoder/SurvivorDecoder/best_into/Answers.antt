@@ -10,16 +10,16 @@ use Rattle.reference_decoders.proofs.survivor_decoder.SurvivorDecoder.best_into.
 
 pub loop-bit-init : goal.loop-bit-init
 loop-bit-init c =
-    let kept = take_at c.start_row.new.row
-    (drop (length c.start_row.new.row) c.self.inside.row.items) c.self.inside.row.len (omega arith)
+    let kept = take_at c.start_column.new.column
+    (drop (length c.start_column.new.column) c.self.inside.column.items) c.self.inside.column.len (omega arith)
     in
     record {
-      row_whole = search rules;
+      column_whole = search rules;
       next_whole = search rules;
       kept = c.self.view_is;
       survive =
-          rw kept (survive_start c.args.softs.now c.args.ends c.start_row.new.row
-          c.start_row.ensures);
+          rw kept (survive_start c.args.softs.now c.args.ends c.start_column.new.column
+          c.start_column.ensures);
     }
 
 pub step-requires-clause-fits : goal.step-requires-clause-fits
@@ -30,7 +30,7 @@ step-requires-clause-room c =
     let softs = c.args.softs.now in
     let pair = pair_kept softs c.loop-bit.bit (omega (arith, c.loop-bit-test.true)) c.requires.bound in
     rw (pair.0, pair.1, c.deref.ensures.value)
-    (rooms softs c.args.ends c.loop-bit.bit c.loop-bit.self-inside.row.items
+    (rooms softs c.args.ends c.loop-bit.bit c.loop-bit.self-inside.column.items
     (omega (arith, c.loop-bit-test.true)) c.requires.bound
     (omega (arith, c.loop-bit-test.true, c.requires.most, c.self.view_is, c.self.invariant))
     c.loop-bit.invariant.survive)
@@ -43,14 +43,14 @@ loop-bit-preserved c =
     rw c.swap.ensures.x_after
     (with_items_is c.loop-bit.self-inside.next c.step.new.next (omega arith)) in
     record {
-      row_whole = search rules;
+      column_whole = search rules;
       next_whole = search rules;
       kept = c.loop-bit.invariant.kept;
       survive = λ t h.
           let each = c.step.ensures.each t h in
           let each' = rw (pair.0, pair.1, c.deref.ensures.value) at each in
           rw (items, each', add-one c.loop-bit.bit)
-          (survivor_into_best softs c.args.ends c.loop-bit.bit c.loop-bit.self-inside.row.items
+          (survivor_into_best softs c.args.ends c.loop-bit.bit c.loop-bit.self-inside.column.items
           (omega (arith, c.loop-bit-test.true)) c.loop-bit.invariant.survive t h);
     }
 

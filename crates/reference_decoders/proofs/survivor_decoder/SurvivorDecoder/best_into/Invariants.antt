@@ -4,8 +4,8 @@ use Rattle.reference_decoders.proofs.survivor_decoder.SurvivorDecoder.best_into.
 
 abbrev pub invariant-loop-bit : goal.invariant-loop-bit
 invariant-loop-bit l = record {
-  row_whole : vec_len l.self-inside.row ≡ 256;
+  column_whole : vec_len l.self-inside.column ≡ 256;
   next_whole : vec_len l.self-inside.next ≡ 256;
   kept : l.self-inside.max_bits ≡ l.fn.self;
-  survive : Survive l.softs l.ends l.bit l.self-inside.row.items;
+  survive : Survive l.softs l.ends l.bit l.self-inside.column.items;
 }

@@ -16,7 +16,7 @@ pub returns-clause-ready : goal.returns-clause-ready
 returns-clause-ready c =
     let (long, room, which) = placed (goal.at.returns-clause-ready c).After-copy_from_slice in
     ready_put c.args.self.now _ c.from-from.result _ c.copy_from_slice.new.self
-    c.args.frame.now.turned which c.copy_from_slice.ensures.after
+    c.args.frame.now.descrambled which c.copy_from_slice.ensures.after
     long room c.requires.small refl refl (ap (λ (n : ℕ). n + 1) (sym c.from-from.ensures)) refl
     (search rules) c.requires.ready
 

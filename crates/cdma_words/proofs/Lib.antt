@@ -1,6 +1,0 @@
-pub mod Common
-mod WordApps
-mod WordJobs
-mod WordTests
-mod WordTexts
-mod WordWalks

@@ -1,7 +1,0 @@
-use Rattle.cdma_words.proofs.Common.{◌≡◌, drop, map, app_of, app_from, bare_app, row_of}
-use Rattle.cdma_words.proofs.matching.command_by.Given as goal
-
-abbrev pub invariant-loop-rule : goal.invariant-loop-rule
-invariant-loop-rule l =
-    app_from (bare_app l.fn.name) (map row_of l.rules) ≡
-    app_from (app_of l.command) (drop l.rule-index (map row_of l.rules))

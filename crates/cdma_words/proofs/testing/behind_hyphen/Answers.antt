@@ -1,7 +1,0 @@
-use Rattle.cdma_words.proofs.Common.{arith, strip_prefix_char, strip_byte-from}
-use Rattle.cdma_words.proofs.testing.behind_hyphen.Goals as goal
-
-pub returns : goal.returns
-returns c = strip_byte-from 45 c.args.word.now c.strip_prefix.result
-    (strip_prefix_char 45 c.args.word.now c.strip_prefix.result c.strip_prefix.ensures.cases
-    (omega arith))

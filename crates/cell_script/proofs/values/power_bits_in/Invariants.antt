@@ -1,0 +1,9 @@
+use Rattle.cell_script.proofs.Common.{◌≡◌, length}
+use Rattle.cell_script.proofs.ScriptTexts.{AreBits}
+use Rattle.cell_script.proofs.values.power_bits_in.Given as goal
+
+abbrev pub invariant-loop-k : goal.invariant-loop-k
+invariant-loop-k l = record {
+  bits : AreBits l.text l.power_bits l.k;
+  long : length l.power_bits ≡ 16;
+}

@@ -1,0 +1,252 @@
+//! The options of the commands, as data.
+
+ghost use Rattle.std.specs.Prelude.{◌≡◌, IfSome};
+ghost use Rattle.command_line.specs.Args.{IsAdmitted, admits, eight_digits_in, number_in};
+ghost use Rattle.command_line.specs.Args.{spelled_in, value_in};
+
+use chip_core::digits_in;
+use hex::FromHex;
+
+/// The form of an option's values.
+#[derive(Clone, Copy, PartialEq, Eq, Debug)]
+pub enum ValueForm {
+    /// All numbers from the one to the other, in decimal digits.
+    Between {
+        /// The least.
+        least: u128,
+        /// The greatest.
+        most: u128,
+    },
+    /// Just these two numbers, in decimal digits.
+    Either {
+        /// The one.
+        one: u128,
+        /// The other.
+        other: u128,
+    },
+    /// All numbers of 32 bits, in eight hex digits of either case.
+    EightDigits,
+}
+
+impl ValueForm {
+    /// The number of a text that is a value of this form.
+    pub fn value_in(self, text: &str) -> Option<u128>
+        ensures value { result ≡ value_in self text.now }
+        ensures admitted { IfSome result (IsAdmitted self) }
+    {
+        let number = self.spelled_in(text)?;
+        if self.admits(number) {
+            Some(number)
+        } else {
+            None
+        }
+    }
+
+    /// The number that the text spells, as values of this form are spelled.
+    fn spelled_in(self, text: &str) -> Option<u128>
+        ensures { result ≡ spelled_in self text.now }
+    {
+        match self {
+            ValueForm::Between { .. } | ValueForm::Either { .. } => number_in(text),
+            ValueForm::EightDigits => eight_digits_in(text),
+        }
+    }
+
+    /// Whether the number is admitted.
+    fn admits(self, number: u128) -> bool
+        ensures { result ≡ admits self number }
+    {
+        match self {
+            ValueForm::Between { least, most } => least <= number && number <= most,
+            ValueForm::Either { one, other } => number == one || number == other,
+            ValueForm::EightDigits => number <= 4294967295,
+        }
+    }
+}
+
+/// An option of a command.
+#[derive(Clone, Copy)]
+pub struct OptionRule {
+    /// Its name, without the hyphens.
+    pub name: &'static str,
+    /// The form of its values.
+    pub form: ValueForm,
+    /// The number that stands where the option isn't given, if one does.
+    pub default: Option<u128>,
+}
+
+/// `--span`: how many samples the pilot is searched in.
+pub const SPAN: OptionRule = OptionRule {
+    name: "span",
+    form: ValueForm::Between {
+        least: 64,
+        most: 32768,
+    },
+    default: Some(2048),
+};
+
+/// `--workers`: how many workers search it.
+pub const WORKERS: OptionRule = OptionRule {
+    name: "workers",
+    form: ValueForm::Between { least: 1, most: 64 },
+    default: Some(4),
+};
+
+/// `--fingers`: how many paths are followed.
+pub const FINGERS: OptionRule = OptionRule {
+    name: "fingers",
+    form: ValueForm::Between { least: 1, most: 3 },
+    default: Some(1),
+};
+
+/// `--paging`: which paging channel is followed.
+pub const PAGING: OptionRule = OptionRule {
+    name: "paging",
+    form: ValueForm::Between { least: 1, most: 7 },
+    default: Some(1),
+};
+
+/// `--key`: the key that tells a handset's slots.
+pub const KEY: OptionRule = OptionRule {
+    name: "key",
+    form: ValueForm::EightDigits,
+    default: None,
+};
+
+/// `--cycle`: the index of its slot cycle.
+pub const CYCLE: OptionRule = OptionRule {
+    name: "cycle",
+    form: ValueForm::Between { least: 0, most: 7 },
+    default: Some(0),
+};
+
+/// `--esn`: the handset's electronic serial number.
+pub const SERIAL_NUMBER: OptionRule = OptionRule {
+    name: "esn",
+    form: ValueForm::EightDigits,
+    default: None,
+};
+
+/// `--row`: the Walsh row of its traffic channel.
+pub const ROW: OptionRule = OptionRule {
+    name: "row",
+    form: ValueForm::Between { least: 1, most: 63 },
+    default: None,
+};
+
+/// `--offset`: FRAME_OFFSET of that channel.
+pub const OFFSET: OptionRule = OptionRule {
+    name: "offset",
+    form: ValueForm::Between { least: 0, most: 15 },
+    default: None,
+};
+
+/// `--k`: how many of the best codewords of a rate are listed.
+pub const LIST_LENGTH: OptionRule = OptionRule {
+    name: "k",
+    form: ValueForm::Between { least: 1, most: 16 },
+    default: None,
+};
+
+/// `--pilots`: how many pilot lines are written.
+pub const PILOTS: OptionRule = OptionRule {
+    name: "pilots",
+    form: ValueForm::Between {
+        least: 0,
+        most: 4294967295,
+    },
+    default: Some(4294967295),
+};
+
+/// `--messages`: how many messages' lines are written.
+pub const MESSAGES: OptionRule = OptionRule {
+    name: "messages",
+    form: ValueForm::Between {
+        least: 0,
+        most: 4294967295,
+    },
+    default: Some(4294967295),
+};
+
+/// `--frames`: how many frames' lines are written.
+pub const FRAMES: OptionRule = OptionRule {
+    name: "frames",
+    form: ValueForm::Between {
+        least: 0,
+        most: 4294967295,
+    },
+    default: Some(4294967295),
+};
+
+/// `--raw`: how many lines of raw capsules are written.
+pub const RAW: OptionRule = OptionRule {
+    name: "raw",
+    form: ValueForm::Between {
+        least: 0,
+        most: 4294967295,
+    },
+    default: Some(0),
+};
+
+/// `--base`: the phase of the pilot of offset 0.
+pub const BASE: OptionRule = OptionRule {
+    name: "base",
+    form: ValueForm::Between {
+        least: 0,
+        most: 32767,
+    },
+    default: Some(0),
+};
+
+/// `--width`: how many chips round its own phase each pilot is measured.
+pub const WIDTH: OptionRule = OptionRule {
+    name: "width",
+    form: ValueForm::Between { least: 0, most: 31 },
+    default: Some(10),
+};
+
+/// `--top`: how many ranks are written.
+pub const TOP: OptionRule = OptionRule {
+    name: "top",
+    form: ValueForm::Between {
+        least: 1,
+        most: 512,
+    },
+    default: Some(512),
+};
+
+/// `--bits`: how wide the parts of samples are.
+pub const BITS: OptionRule = OptionRule {
+    name: "bits",
+    form: ValueForm::Either { one: 8, other: 16 },
+    default: Some(16),
+};
+
+/// `--number`: which link a trial makes.
+pub const NUMBER: OptionRule = OptionRule {
+    name: "number",
+    form: ValueForm::Between {
+        least: 0,
+        most: 18446744073709551615,
+    },
+    default: None,
+};
+
+/// The number that 1 to 20 decimal digits spell, leading zeros among them.
+fn number_in(text: &str) -> Option<u128>
+    ensures { result ≡ number_in text.now }
+{
+    if text.is_empty() || text.len() > 20 {
+        return None;
+    }
+    digits_in(text.as_bytes())
+}
+
+/// The number that eight hex digits of either case spell.
+#[tactic(auto, unfolding(crate::specs::Args::eight_digits_in))]
+fn eight_digits_in(text: &str) -> Option<u128>
+    ensures { result ≡ eight_digits_in text.now }
+{
+    let octets = <[u8; 4] as FromHex>::from_hex(text).ok()?;
+    Some(u128::from(u32::from_be_bytes(octets)))
+}

@@ -1,0 +1,85 @@
+//! What the commands that receive a signal have in common: how it is received, and which traffic
+//! channel is heard.
+
+ghost use Rattle.std.specs.Prelude.{◌≡◌, IfSome};
+ghost use Rattle.command_line.specs.Args.{IsLawfulChannel, IsLawfulReception, IsLawfulTraffic};
+ghost use Rattle.command_line.specs.Args.{channel_entries, channel_with, has_none, numbers_by};
+ghost use Rattle.command_line.specs.Args.{reception_entries, reception_with, traffic_with};
+
+use crate::grammar::{FINGERS, OFFSET, ROW, SERIAL_NUMBER, SPAN, WORKERS};
+use crate::texts::{Texts, number_by};
+use chip_core::Traffic;
+
+/// The Walsh row of the sync channel (TIA/EIA-95-B, 7.1.3.1.8).
+const SYNC_ROW: u128 = 32;
+
+/// How a signal is received.
+#[derive(Clone, Copy)]
+pub struct ReceptionOptions {
+    /// How many samples the pilot is searched in, 64 to 32,768.
+    pub span: u16,
+    /// How many workers search the pilot, 1 to 64.
+    pub workers: u8,
+    /// How many paths of the signal are followed, 1 to 3.
+    pub fingers: u8,
+}
+
+/// How the signal is received.
+pub fn reception_with<T: Texts>(texts: &T) -> Option<ReceptionOptions>
+    ensures value { result ≡ reception_with (numbers_by reception_entries (T.text_at texts.now)) }
+    ensures lawful { IfSome result IsLawfulReception }
+{
+    let span = number_by(texts, &SPAN)?;
+    let workers = number_by(texts, &WORKERS)?;
+    let fingers = number_by(texts, &FINGERS)?;
+    Some(ReceptionOptions {
+        span: span as u16,
+        workers: workers as u8,
+        fingers: fingers as u8,
+    })
+}
+
+/// The traffic channel of a serial number, a row and an offset, which is else 0; none where one of
+/// the first two is missing, and where the row is the sync channel's.
+pub fn channel_with<T: Texts>(texts: &T) -> Option<Traffic>
+    ensures value { result ≡ channel_with (numbers_by channel_entries (T.text_at texts.now)) }
+    ensures lawful { IfSome result IsLawfulChannel }
+{
+    let esn = number_by(texts, &SERIAL_NUMBER)?;
+    let row = number_by(texts, &ROW)?;
+    let offset = number_by(texts, &OFFSET);
+    if row == SYNC_ROW {
+        return None;
+    }
+    Some(Traffic {
+        esn: esn as u32,
+        row: row as u8,
+        offset: offset.unwrap_or(0) as u8,
+    })
+}
+
+/// The traffic channel beside a paging channel, if one is told; none where its options don't go
+/// together, and where its row is the paging channel's.
+pub fn traffic_with<T: Texts>(texts: &T, paging: u128) -> Option<Option<Traffic>>
+    ensures value { result ≡ traffic_with paging (numbers_by channel_entries (T.text_at texts.now)) }
+    ensures lawful { IfSome result (IsLawfulTraffic paging) }
+{
+    if has_no_channel(texts) {
+        return Some(None);
+    }
+    let channel = channel_with(texts)?;
+    if u128::from(channel.row) == paging {
+        return None;
+    }
+    Some(Some(channel))
+}
+
+/// Whether none of the options of a traffic channel is given.
+fn has_no_channel<T: Texts>(texts: &T) -> bool
+    ensures { result ≡ has_none (numbers_by channel_entries (T.text_at texts.now)) }
+{
+    let esn = number_by(texts, &SERIAL_NUMBER);
+    let row = number_by(texts, &ROW);
+    let offset = number_by(texts, &OFFSET);
+    esn.is_none() && row.is_none() && offset.is_none()
+}

@@ -1,0 +1,146 @@
+-- The codewords of a format, their scores, and their quality indicators.
+use Rattle.frame_decoder.proofs.Common.{◌≡◌, ℕ, ◌+◌, ◌-◌, ◌*◌, ◌<◌, ◌≤◌, Bool, true, false, List, length, get_or, take, drop, sym, ap, ◌∙◌}
+use Rattle.frame_decoder.proofs.Common.{arith, subst, ℤ, pos, ◌↔◌, IsTrue, if◌then◌else◌, Option, None, Some, Decides, one_answer}
+use Rattle.frame_decoder.proofs.Common.{booleans_Decides, pointwise, pointwise_decides, beq, drop-take, take-take, Plain, length-map-places}
+use Rattle.frame_decoder.proofs.Common.{get_or-map-places, map-places-all, code_symbols, length-code_symbols, generator_of, body_length}
+use Rattle.frame_decoder.proofs.Common.{IsChecked, quality_indicator, quality_length, check_bits, data_shape, address, repeated_symbol}
+use Rattle.frame_decoder.proofs.Common.{Data, agreement-keyed, part, symbol_lt, address_lt, kept_lt, Codeword, score_of, IsBestCodeword}
+use Rattle.frame_decoder.proofs.Common.{Zero, by_definition, FrameFormat, IsFormat, bits_in, repeated_in, place_in, symbols_in, gathered_in}
+use Rattle.frame_decoder.proofs.Common.{score_in, codeword_in, is_right, length-take-le}
+use Rattle.frame_decoder.proofs.ZeroCodewords.{length-best_zero_codeword, best_zero_codeword-same}
+use Rattle.quality_bits.specs.declared.kind.Kind.{Kind as Check}
+
+-- ---- places
+repeated_lt : (drops : Bool) (i : ℕ) → i < 384 →
+    (if drops then repeated_symbol i else address data_shape i) < (if drops then 576 else 384)
+repeated_lt true i lt = kept_lt (address data_shape i) (address_lt Data i lt)
+repeated_lt false i lt = address_lt Data i lt
+
+pub place_lt : {R : Type 0} (format : FrameFormat R) (i : ℕ) → IsFormat format → i < 384 →
+    place_in format i < 2 * bits_in format
+place_lt format i h lt =
+    symbol_lt (if format.drops then repeated_symbol i else address data_shape i) (2 * bits_in format)
+    format.repeats (repeated_in format) h.fills (repeated_lt format.drops i lt)
+
+pub bits_least : {R : Type 0} (format : FrameFormat R) → 8 ≤ bits_in format
+bits_least format = omega arith
+
+-- ---- the sums
+-- of the soft values that are sent for a code symbol
+abbrev pub sum_in : {R : Type 0} → FrameFormat R → List ℤ → ℕ → ℤ
+sum_in format softs c = part (λ i. get_or softs i (pos 0)) (place_in format) 384 c
+
+pub length-gathered_in : {R : Type 0} (format : FrameFormat R) (softs : List ℤ) →
+    length (gathered_in format softs) ≡ 2 * bits_in format
+unfolding gathered_in
+length-gathered_in format softs = length-map-places (sum_in format softs) (2 * bits_in format)
+
+get_or-gathered_in : {R : Type 0} (format : FrameFormat R) (softs : List ℤ) (c : ℕ) → c < 2 * bits_in format →
+    get_or (gathered_in format softs) c (pos 0) ≡ sum_in format softs c
+unfolding gathered_in
+get_or-gathered_in format softs c h =
+    get_or-map-places (sum_in format softs) (2 * bits_in format) c (pos 0) h
+
+-- the sums of all soft values
+pub gathered_all : {R : Type 0} (format : FrameFormat R) (sums softs : List ℤ) →
+    length sums ≡ 2 * bits_in format →
+    ((c : ℕ) → get_or sums c (pos 0) ≡ sum_in format softs c) → sums ≡ gathered_in format softs
+unfolding gathered_in
+gathered_all format sums softs long each =
+    map-places-all (sum_in format softs) sums (2 * bits_in format) (pos 0) long (λ c lt. each c)
+
+-- ---- codewords
+pub length-symbols_in : {R : Type 0} (format : FrameFormat R) (w : Codeword) → length (symbols_in format w) ≡ 384
+unfolding symbols_in
+length-symbols_in format w =
+    length-map-places (λ i. get_or (code_symbols w.start w.bits) (place_in format i) false) 384
+
+get_or-symbols_in : {R : Type 0} (format : FrameFormat R) (w : Codeword) (i : ℕ) → i < 384 →
+    get_or (symbols_in format w) i false ≡ get_or (code_symbols w.start w.bits) (place_in format i) false
+unfolding symbols_in
+get_or-symbols_in format w i h =
+    get_or-map-places (λ k. get_or (code_symbols w.start w.bits) (place_in format k) false) 384 i false
+    h
+
+pub length-codeword_in : {R : Type 0} (softs : List ℤ) (format : FrameFormat R) →
+    length (codeword_in softs format).bits ≡ bits_in format
+unfolding codeword_in
+length-codeword_in softs format =
+    length-best_zero_codeword (score_in softs format) (bits_in format) (bits_least format)
+
+-- a codeword's score under the gathered soft values is its score as it is sent
+pub gathered_score : {R : Type 0} (softs : List ℤ) (format : FrameFormat R) (w : Codeword) → IsFormat format →
+    length softs ≡ 384 → length w.bits ≡ bits_in format →
+    score_of (gathered_in format softs) w ≡ score_in softs format w
+gathered_score softs format w h long long' =
+    let code = code_symbols w.start w.bits in
+    let size : length code ≡ 2 * bits_in format =
+    length-code_symbols w.start w.bits ∙ ap (λ (n : ℕ). 2 * n) long' in
+    sym
+    (agreement-keyed 384 (2 * bits_in format) (place_in format) softs (gathered_in format softs)
+    (symbols_in format w) code long (length-symbols_in format w) (length-gathered_in format softs) size
+    (λ i lt. place_lt format i h lt) (λ i lt. get_or-symbols_in format w i lt)
+    (λ c lt. get_or-gathered_in format softs c lt))
+
+-- the best codeword of the gathered soft values is the format's
+pub best_is : {R : Type 0} (softs : List ℤ) (format : FrameFormat R) (best : Codeword) → IsFormat format →
+    length softs ≡ 384 → IsBestCodeword (gathered_in format softs) Zero best → best ≡ codeword_in softs format
+unfolding codeword_in
+best_is softs format best h long is =
+    let n = bits_in format in
+    let values = gathered_in format softs in
+    by_definition values Zero n best (bits_least format) (length-gathered_in format softs) is
+    ∙ best_zero_codeword-same (score_of values) (score_in softs format) n (bits_least format)
+    (λ w long'. gathered_score softs format w h long long')
+
+-- ---- the quality indicator
+pub always_right : {R : Type 0} (format : FrameFormat R) (bits : List Bool) → format.quality ≡ None →
+    true ≡ is_right format bits
+always_right format bits e =
+    ap (λ (o : Option Check). pointwise beq
+    (take (quality_length o) (drop format.information bits))
+    (quality_indicator o (take format.information bits))) (sym e)
+
+-- there are information bits before it
+pub check_fits : {R : Type 0} (format : FrameFormat R) (check : Check) (bits checked : List Bool) (count : ℕ) →
+    1 ≤ format.information → format.quality ≡ Some check → length bits ≡ bits_in format →
+    count ≡ length bits - 8 → checked ≡ take count (drop 0 bits) →
+    (generator_of check).degree < length checked
+check_fits format check bits checked count told e long few is =
+    let fills : format.information + (generator_of check).degree + 8 ≡ length bits =
+    ap (λ (o : Option Check). format.information + quality_length o + 8) (sym e) ∙ sym long in
+    let size : length checked ≡ count =
+    ap (λ (xs : List Bool). length xs) is
+    ∙ length-take-le count bits (omega (arith, few)) in
+    omega (arith, size, few, fills, told)
+
+-- the code's test of the bits before the tail
+pub right_is : {R : Type 0} (format : FrameFormat R) (check : Check) (bits : List Bool) (count : ℕ)
+    (right : Bool) → format.quality ≡ Some check → length bits ≡ bits_in format →
+    count ≡ length bits - 8 →
+    IsTrue right ↔ IsChecked check Plain (take count (drop 0 bits)) → right ≡ is_right format bits
+right_is format check bits count right e long few h =
+    let info = format.information in
+    let degree = (generator_of check).degree in
+    let fills : info + degree + 8 ≡ length bits =
+    ap (λ (o : Option Check). info + quality_length o + 8) (sym e) ∙ sym long in
+    let counted : count ≡ info + degree = omega (arith, few, fills) in
+    let body = take (info + degree) bits in
+    let size : length body ≡ info + degree =
+    length-take-le (info + degree) bits (omega (arith, fills)) in
+    let front : body_length check body ≡ info = omega (arith, size) in
+    let is : IsTrue right ↔ IsChecked check Plain body =
+    subst (λ (n : ℕ). IsTrue right ↔ IsChecked check Plain (take n bits)) counted h in
+    let sent = check_bits (generator_of check) (take info bits) in
+    let end = take degree (drop info bits) in
+    let left : drop (body_length check body) body ≡ end =
+    ap (λ (n : ℕ). drop n body) front ∙ drop-take info degree bits in
+    let again : check_bits (generator_of check) (take (body_length check body) body) ≡ sent =
+    ap (λ (n : ℕ). check_bits (generator_of check) (take n body)) front
+    ∙ ap (check_bits (generator_of check)) (take-take info (info + degree) bits (omega arith)) in
+    let told : Decides right (end ≡ sent) =
+    ((λ t. sym left ∙ is.0 t ∙ again), (λ same. is.1 (left ∙ same ∙ sym again))) in
+    one_answer right (pointwise beq end sent) told (pointwise_decides booleans_Decides end sent)
+    ∙ ap (λ (o : Option Check).
+    pointwise beq (take (quality_length o) (drop info bits)) (quality_indicator o (take info bits)))
+    (sym e)

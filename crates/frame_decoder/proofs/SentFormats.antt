@@ -1,0 +1,276 @@
+-- A sent frame of any rate set comes back, and soft values of 0 give none.
+use Rattle.frame_decoder.proofs.Common.{◌≡◌, ℕ, ◌-◌, ◌*◌, ◌<◌, inl, inr, ⊎_elim, Bool, true, false, List, [], ◌∷◌, ◌++◌, length, map, take}
+use Rattle.frame_decoder.proofs.Common.{drop, replicate, refl, sym, ap, subst, ◌∙◌, arith, ℤ, pos, length-append, append_assoc, ◌≤ℤ◌}
+use Rattle.frame_decoder.proofs.Common.{int_lt, All, get_or, None, Some, option_map, booleans_Decides, pointwise_decides, ints, cases_Bool}
+use Rattle.frame_decoder.proofs.Common.{take_at, drop_at, length-replicate, All-cons, All-nil, code_symbols, quality_indicator}
+use Rattle.frame_decoder.proofs.Common.{quality_length, length-quality_indicator, Codeword, score_of, IsAllowed, Zero, by_definition}
+use Rattle.frame_decoder.proofs.Common.{zero_codeword_best, FrameFormat, DecodedFrame, is_replaced, unreplaced, ShowSymbols, AgreeElsewhere}
+use Rattle.frame_decoder.proofs.Common.{kept_count, bits_in, symbols_in, score_in, codeword_in, is_right, frame_in, candidate_of, rising}
+use Rattle.frame_decoder.proofs.Common.{not_good, frame_of, shown_of}
+use Rattle.frame_decoder.proofs.MaskedScores.{masked, weight, own_score, alone, zeros_score}
+use Rattle.frame_decoder.proofs.FormatChoice.{Below, IsAmong, chosen_is, candidate_below, first_found, silent_shown}
+use Rattle.frame_decoder.proofs.FormatCodewords.{bits_least, length-symbols_in}
+use Rattle.frame_decoder.proofs.ShownSymbols.{lt_true, le_of_false, lt_of_true, kept_is, count_is, some_left, positive}
+use Rattle.frame_decoder.proofs.Unreplaced.{zeros_kept}
+use Rattle.frame_decoder.proofs.ZeroCodewords.{best_zero_codeword_allowed, best_zero_codeword_greatest, best_zero_codeword-same}
+
+-- ---- the codeword of a frame
+-- its information, its quality indicator, and eight tail bits
+abbrev pub sent_bits : {R : Type 0} → FrameFormat R → List Bool → List Bool
+sent_bits format information =
+    information ++ quality_indicator format.quality information ++ replicate 8 false
+
+abbrev pub sent_codeword : {R : Type 0} → FrameFormat R → List Bool → Codeword
+sent_codeword format information =
+    record { start = replicate 8 false; bits = sent_bits format information }
+
+codeword_is : {R : Type 0} (format : FrameFormat R) (information : List Bool) → sent_bits format information
+    ≡ information ++ (quality_indicator format.quality information ++ replicate 8 false)
+codeword_is format information =
+    append_assoc information (quality_indicator format.quality information) (replicate 8 false)
+
+front_is : {R : Type 0} (format : FrameFormat R) (information : List Bool) →
+    length information ≡ format.information →
+    take format.information (sent_bits format information) ≡ information
+front_is format information long =
+    ap (take format.information) (codeword_is format information)
+    ∙ take_at information (quality_indicator format.quality information ++ replicate 8 false)
+    format.information long
+
+codeword_right : {R : Type 0} (format : FrameFormat R) (information : List Bool) →
+    length information ≡ format.information → is_right format (sent_bits format information) ≡ true
+codeword_right format information long =
+    let indicator = quality_indicator format.quality information in
+    let bits = sent_bits format information in
+    let end = take (quality_length format.quality) (drop format.information bits) in
+    let sent = quality_indicator format.quality (take format.information bits) in
+    let left : end ≡ indicator =
+    ap (λ (xs : List Bool). take (quality_length format.quality) (drop format.information xs))
+    (codeword_is format information)
+    ∙ ap (take (quality_length format.quality))
+    (drop_at information (indicator ++ replicate 8 false) format.information long)
+    ∙ take_at indicator (replicate 8 false) (quality_length format.quality)
+    (length-quality_indicator format.quality information) in
+    let right : sent ≡ indicator =
+    ap (quality_indicator format.quality) (front_is format information long) in
+    (pointwise_decides booleans_Decides end sent).1 (left ∙ sym right)
+
+codeword_allowed : {R : Type 0} (format : FrameFormat R) (information : List Bool) →
+    length information ≡ format.information →
+    IsAllowed Zero (bits_in format) (sent_codeword format information)
+codeword_allowed format information long =
+    let indicator = quality_indicator format.quality information in
+    let front = information ++ indicator in
+    let size : length front ≡ bits_in format - 8 =
+    omega (
+      arith,
+      length-append information indicator,
+      length-quality_indicator format.quality information,
+      long,
+    ) in
+    let all : length (front ++ replicate 8 false) ≡ bits_in format =
+    length-append front (replicate 8 false) ∙ omega (arith, size, bits_least format) in
+    record {
+      start_long = refl;
+      bits_long = all;
+      begins = refl;
+      closes = ap (λ (k : ℕ). drop (k - 8) (front ++ replicate 8 false)) all
+          ∙ drop_at front (replicate 8 false) (bits_in format - 8) size;
+    }
+
+pub codeword_in_allowed : {R : Type 0} (softs : List ℤ) (format : FrameFormat R) →
+    IsAllowed Zero (bits_in format) (codeword_in softs format)
+unfolding codeword_in
+codeword_in_allowed softs format =
+    best_zero_codeword_allowed (score_in softs format) (bits_in format) (bits_least format)
+
+codeword_in_greatest : {R : Type 0} (softs : List ℤ) (format : FrameFormat R) (w : Codeword) →
+    IsAllowed Zero (bits_in format) w →
+    score_in softs format w ≤ℤ score_in softs format (codeword_in softs format)
+unfolding codeword_in
+codeword_in_greatest softs format w h =
+    best_zero_codeword_greatest (score_in softs format) (bits_in format) w (bits_least format) h
+
+-- ---- a sent frame
+-- no other codeword of any rate of a set, its quality indicator right or not, has a codeword's symbols where
+-- no power control bit replaces them
+abbrev pub IsUnsharedIn : {R : Type 0} → (R → FrameFormat R) → List ℕ → R → Codeword → Type 0
+IsUnsharedIn {R} format_of replaced rate w =
+    (r : R) (v : Codeword) → IsAllowed Zero (bits_in (format_of r)) v →
+    AgreeElsewhere replaced (symbols_in (format_of rate) w) (symbols_in (format_of r) v) →
+    (r ≡ rate) × (v ≡ w)
+
+abbrev good_frame : {R : Type 0} → R → List Bool → ℕ → DecodedFrame R
+good_frame rate information m =
+    record { rate = rate; good = true; bits = information; score = pos m }
+
+-- the codeword of a frame as a decoded frame
+shown_own : {R : Type 0} (rate : R) (format : FrameFormat R) (information : List Bool) (m : ℕ) → 0 < m →
+    format.rate ≡ rate → length information ≡ format.information →
+    frame_in format (sent_bits format information) (pos m) ≡ good_frame rate information m
+shown_own {R} rate format information m some named long =
+    let with : R → Bool → List Bool → DecodedFrame R =
+    λ r good bits. record { rate = r; good = good; bits = bits; score = pos m } in
+    ap (λ (r : R). with r (int_lt (pos 0) (pos m))
+    (take format.information (sent_bits format information))) named
+    ∙ ap (λ (good : Bool). with rate good (take format.information (sent_bits format information)))
+    (lt_true (pos 0) (pos m) (omega (arith, ints, some)))
+    ∙ ap (with rate true) (front_is format information long)
+
+-- a codeword of a rate that is the sent one
+frame_same : {R : Type 0} (format_of : R → FrameFormat R) (softs : List ℤ) (rate r : R)
+    (information : List Bool) (v : Codeword) (m : ℕ) → 0 < m → (format_of rate).rate ≡ rate →
+    length information ≡ (format_of rate).information →
+    score_in softs (format_of rate) (sent_codeword (format_of rate) information) ≡ pos m →
+    r ≡ rate → v ≡ sent_codeword (format_of rate) information →
+    frame_in (format_of r) v.bits (score_in softs (format_of r) v) ≡ good_frame rate information m
+frame_same {R} format_of softs rate r information v m some named long own rates codewords =
+    let w = sent_codeword (format_of rate) information in
+    ap (λ (u : Codeword). frame_in (format_of r) u.bits (score_in softs (format_of r) u)) codewords
+    ∙ ap (λ (q : R). frame_in (format_of q) w.bits (score_in softs (format_of q) w)) rates
+    ∙ ap (frame_in (format_of rate) w.bits) own
+    ∙ shown_own rate (format_of rate) information m some named long
+
+-- a codeword that scores as much as the sent one is the sent one
+no_other : {R : Type 0} (format_of : R → FrameFormat R) (n : ℕ) (replaced : List ℕ) (rate r : R)
+    (w v : Codeword) → 0 < n → IsUnsharedIn format_of replaced rate w →
+    IsAllowed Zero (bits_in (format_of r)) v →
+    pos (n * weight (is_replaced replaced) 0 (symbols_in (format_of rate) w))
+    ≤ℤ score_in (masked n (is_replaced replaced) 0 (symbols_in (format_of rate) w)) (format_of r) v →
+    (r ≡ rate) × (v ≡ w)
+no_other format_of n replaced rate r w v some unshared allowed reaches =
+    let xs = symbols_in (format_of rate) w in
+    let ys = symbols_in (format_of r) v in
+    let size = length-symbols_in (format_of rate) w in
+    let same : length xs ≡ length ys = size ∙ sym (length-symbols_in (format_of r) v) in
+    unshared r v allowed
+    (λ i lt h.
+    alone n (is_replaced replaced) xs ys some same reaches i (omega (arith, lt, size)) h)
+
+-- what is known of the codewords among which each rate's candidate is
+pub record AreCodewords {R : Type 0} (format_of : R → FrameFormat R) (softs : List ℤ)
+    (codewords : R → List Codeword) : Type 0 where
+  pub allowed : (r : R) → All (IsAllowed Zero (bits_in (format_of r))) (codewords r)
+  pub first : (r : R) → take 1 (codewords r) ≡ codeword_in softs (format_of r) ∷ []
+
+masked_chosen : {R : Type 0} (format_of : R → FrameFormat R) (rates : List R) (n : ℕ) (replaced : List ℕ)
+    (rate : R) (information : List Bool) (codewords : R → List Codeword) → 0 < n →
+    (format_of rate).rate ≡ rate → IsAmong rate rates →
+    length information ≡ (format_of rate).information →
+    let w = sent_codeword (format_of rate) information in
+    let xs = symbols_in (format_of rate) w in
+    let out = is_replaced replaced in
+    let kept = masked n out 0 xs in
+    0 < n * weight out 0 xs → IsUnsharedIn format_of replaced rate w → AreCodewords format_of kept codewords →
+    rising None (map (λ r. candidate_of kept (format_of r) (codewords r)) rates)
+    ≡ Some (good_frame rate information (n * weight out 0 xs))
+masked_chosen {R} format_of rates n replaced rate information codewords some named among long more unshared
+    known =
+    let format = format_of rate in
+    let w = sent_codeword format information in
+    let xs = symbols_in format w in
+    let out = is_replaced replaced in
+    let kept = masked n out 0 xs in
+    let m = n * weight out 0 xs in
+    let d : DecodedFrame R = good_frame rate information m in
+    let own : score_in kept format w ≡ pos m = own_score n out xs in
+    let same : (r : R) (v : Codeword) → IsAllowed Zero (bits_in (format_of r)) v →
+    pos m ≤ℤ score_in kept (format_of r) v → (r ≡ rate) × (v ≡ w) = λ r v allowed reaches.
+    no_other format_of n replaced rate r w v some unshared allowed reaches in
+    let low : (r : R) (v : Codeword) → IsAllowed Zero (bits_in (format_of r)) v →
+    Below d (frame_in (format_of r) v.bits (score_in kept (format_of r) v)) = λ r v allowed.
+    let s = score_in kept (format_of r) v in
+    ⊎_elim
+    (λ (t : int_lt s (pos m) ≡ true). inr (lt_of_true s (pos m) t))
+    (λ (t : int_lt s (pos m) ≡ false).
+    let e = same r v allowed (le_of_false s (pos m) t) in
+    inl (frame_same format_of kept rate r information v m more named long own e.0 e.1))
+    (cases_Bool (int_lt s (pos m))) in
+    let reach : pos m ≤ℤ score_in kept format (codeword_in kept format) =
+    subst (λ (z : ℤ). z ≤ℤ score_in kept format (codeword_in kept format)) own
+    (codeword_in_greatest kept format w (codeword_allowed format information long)) in
+    let found : codeword_in kept format ≡ w =
+    (same rate (codeword_in kept format) (codeword_in_allowed kept format) reach).1 in
+    let right : is_right format (codeword_in kept format).bits ≡ true =
+    ap (λ (v : Codeword). is_right format v.bits) found ∙ codeword_right format information long in
+    chosen_is d (λ r. candidate_of kept (format_of r) (codewords r)) rate rates among
+    (λ r. candidate_below d kept (format_of r) (codewords r)
+    (λ i v b. low r (get_or (codewords r) i v) (known.allowed r i v b)))
+    (ap (option_map (λ v. frame_in format v.bits (score_in kept format v)))
+    (first_found (λ v. is_right format v.bits) (codewords rate) (codeword_in kept format) (known.first rate)
+    right)
+    ∙ ap Some
+    (frame_same format_of kept rate rate information (codeword_in kept format) m more named long own refl
+    found))
+
+-- soft values that show the symbols of a frame which no other codeword shares have that frame chosen
+pub sent_chosen : {R : Type 0} (format_of : R → FrameFormat R) (rates : List R) (n : ℕ) (replaced : List ℕ)
+    (rate : R) (information : List Bool) (softs : List ℤ) (codewords : List ℤ → R → List Codeword) →
+    ((r : R) → (format_of r).rate ≡ r) → ((r : R) → IsAmong r rates) →
+    ((kept : List ℤ) → AreCodewords format_of kept (codewords kept)) →
+    let w = sent_codeword (format_of rate) information in
+    let kept = unreplaced replaced softs in
+    0 < n → length replaced < 384 → length softs ≡ 384 →
+    length information ≡ (format_of rate).information →
+    ShowSymbols replaced n (symbols_in (format_of rate) w) softs →
+    IsUnsharedIn format_of replaced rate w →
+    rising None (map (λ r. candidate_of kept (format_of r) (codewords kept r)) rates)
+    ≡ Some (good_frame rate information (n * kept_count replaced))
+sent_chosen {R} format_of rates n replaced rate information softs codewords named among known some few long
+    long' shows unshared =
+    let w = sent_codeword (format_of rate) information in
+    let out = is_replaced replaced in
+    let xs = symbols_in (format_of rate) w in
+    let size = length-symbols_in (format_of rate) w in
+    let kept = masked n out 0 xs in
+    let more : 0 < n * weight out 0 xs =
+    positive n (weight out 0 xs) some (some_left replaced xs few size) in
+    ap (λ (ks : List ℤ). rising None (map (λ r. candidate_of ks (format_of r) (codewords ks r)) rates))
+    (kept_is n replaced xs softs long size shows)
+    ∙ masked_chosen format_of rates n replaced rate information (codewords kept) some (named rate)
+    (among rate) long' more unshared (known kept)
+    ∙ ap (λ (k : ℕ). Some (good_frame rate information (n * k))) (count_is replaced xs size)
+
+-- the best codewords alone
+pub best_codewords : {R : Type 0} (format_of : R → FrameFormat R) (kept : List ℤ) →
+    AreCodewords format_of kept (λ r. codeword_in kept (format_of r) ∷ [])
+best_codewords format_of kept = record {
+  allowed = λ r.
+      let is : Codeword → Type 0 = IsAllowed Zero (bits_in (format_of r)) in
+      All-cons is (codeword_in kept (format_of r)) [] (codeword_in_allowed kept (format_of r)) (All-nil is);
+  first = λ r. refl;
+}
+
+-- ---- nothing heard
+-- the best codeword is that of zeros
+zeros_codeword : {R : Type 0} (n : ℕ) (format : FrameFormat R) → codeword_in (replicate n (pos 0)) format
+    ≡ record { start = replicate 8 false; bits = replicate (bits_in format) false }
+unfolding codeword_in
+zeros_codeword n format =
+    let count = bits_in format in
+    let zeros : List ℤ = replicate n (pos 0) in
+    let code : List ℤ = replicate (2 * count) (pos 0) in
+    best_zero_codeword-same (score_in zeros format) (score_of code) count (bits_least format)
+    (λ w long. zeros_score n (symbols_in format w)
+    ∙ sym (zeros_score (2 * count) (code_symbols w.start w.bits)))
+    ∙ sym (by_definition code Zero count
+    (record { start = replicate 8 false; bits = replicate count false }) (bits_least format)
+    (length-replicate (2 * count) (pos 0)) (zero_codeword_best Zero count (bits_least format)))
+
+nothing_shown : {R : Type 0} (highest : FrameFormat R) (lower : List (FrameFormat R)) (n : ℕ) →
+    shown_of highest lower (replicate n (pos 0))
+    ≡ not_good highest (replicate (bits_in highest) false) (pos 0)
+nothing_shown highest lower n =
+    let zeros : List ℤ = replicate n (pos 0) in
+    silent_shown zeros (codeword_in zeros) highest lower
+    (λ format. zeros_score n (symbols_in format (codeword_in zeros format)))
+    ∙ ap (λ (w : Codeword). not_good highest w.bits (pos 0)) (zeros_codeword n highest)
+
+pub nothing_decoded : {R D : Type 0} (shown : DecodedFrame R → D) (highest : FrameFormat R)
+    (lower : List (FrameFormat R)) (n : ℕ) (replaced : List ℕ) →
+    shown (frame_of highest lower replaced (replicate n (pos 0)))
+    ≡ shown (not_good highest (replicate (bits_in highest) false) (pos 0))
+unfolding frame_of
+nothing_decoded shown highest lower n replaced =
+    ap (λ (ks : List ℤ). shown (shown_of highest lower ks)) (zeros_kept replaced n)
+    ∙ ap shown (nothing_shown highest lower n)

@@ -1,0 +1,150 @@
+-- The frames of a traffic channel, whatever its rate set: each rate has a format that says what its
+-- frames are made of. How well codewords agree with soft values, and the choice among the
+-- candidates of the rates.
+use Rattle.std.specs.Prelude.{◌≡◌, ℕ, ◌+◌, ◌*◌, ◌/◌, ◌≤◌, ◌==◌, Bool, false, if◌then◌else◌, List}
+use Rattle.std.specs.Prelude.{[], ◌∷◌, map, filter, take, drop, get_or, ℤ, pos, int_lt, Option}
+use Rattle.std.specs.Prelude.{None, Some}
+use Rattle.std.specs.List.{find}
+use Rattle.std.specs.Option.{option_map}
+use Rattle.std.specs.Cmp.Lexicographic.{pointwise}
+use Rattle.std.proofs.Math.Bool.{beq}
+use Rattle.chip_core.specs.Bits.{places}
+use Rattle.chip_core.specs.Sums.{total}
+use Rattle.conv_code.specs.ConvCode.{code_symbols}
+use Rattle.quality_bits.specs.Kinds.{quality_indicator, quality_length}
+use Rattle.quality_bits.specs.TrafficCodewords.{repeats_of, information_of, quality_of}
+use Rattle.quality_bits.specs.declared.rate.Rate.{Rate}
+use Rattle.symbol_path.specs.SentOrder.{data_shape, address}
+use Rattle.symbol_path.specs.SentOrderTwo.{repeated_symbol}
+use Rattle.viterbi.specs.Codewords.{Codeword, correlation, best_codeword}
+use Rattle.viterbi.specs.declared.codeword.Ends.TheVariants.{Zero}
+use Rattle.frame_decoder.specs.TrafficFrames.{unreplaced}
+use Rattle.frame_decoder.specs.declared.formats.FrameFormat.{FrameFormat}
+use Rattle.frame_decoder.specs.declared.formats.DecodedFrame.{DecodedFrame}
+
+-- ---- what a format's frames are made of
+-- how many bits a frame has: its information, its quality indicator, and eight tail bits
+abbrev pub bits_in : {R : Type 0} → FrameFormat R → ℕ
+bits_in format = format.information + quality_length format.quality + 8
+
+-- how many repeated symbols it has, before any are dropped
+abbrev pub repeated_in : {R : Type 0} → FrameFormat R → ℕ
+repeated_in format = if format.drops then 576 else 384
+
+-- two code symbols a bit, each repeated so often, are all of them; and some bit is information
+pub record IsFormat {R : Type 0} (format : FrameFormat R) : Type 0 where
+  pub fills : 2 * bits_in format * format.repeats ≡ repeated_in format
+  pub some : 1 ≤ format.repeats
+  pub most : bits_in format ≤ 288
+  pub told : 1 ≤ format.information
+
+-- the formats of rate set 1
+abbrev pub format_of : Rate → FrameFormat Rate
+format_of rate = record {
+  rate = rate;
+  information = information_of rate;
+  quality = quality_of rate;
+  repeats = repeats_of rate;
+  drops = false;
+}
+
+-- which code symbol a frame sends as symbol i
+abbrev pub place_in : {R : Type 0} → FrameFormat R → ℕ → ℕ
+place_in format i =
+    (if format.drops then repeated_symbol i else address data_shape i) / format.repeats
+
+-- ---- codewords and soft values
+-- a codeword's symbols as a frame of the format sends them
+unfoldable pub symbols_in : {R : Type 0} → FrameFormat R → Codeword → List Bool
+symbols_in format w =
+    map (λ i. get_or (code_symbols w.start w.bits) (place_in format i) false) (places 384)
+
+-- for each code symbol the sum of the soft values of the symbols that are sent for it
+unfoldable pub gathered_in : {R : Type 0} → FrameFormat R → List ℤ → List ℤ
+gathered_in format softs =
+    map (λ c. total
+    (map (λ i. get_or softs i (pos 0)) (filter (λ i. place_in format i == c) (places 384))))
+    (places (2 * bits_in format))
+
+-- how well a codeword's symbols agree with the soft values
+abbrev pub score_in : {R : Type 0} → List ℤ → FrameFormat R → Codeword → ℤ
+score_in softs format w = correlation softs (symbols_in format w)
+
+-- the best codeword of a format: of all that start from eight zeros and end with eight zeros
+unfoldable pub codeword_in : {R : Type 0} → List ℤ → FrameFormat R → Codeword
+codeword_in softs format = best_codeword (score_in softs format) Zero (bits_in format)
+
+-- whether the quality indicator is that of the information bits; so always where a format has none
+abbrev pub is_right : {R : Type 0} → FrameFormat R → List Bool → Bool
+is_right format bits =
+    pointwise beq
+    (take (quality_length format.quality) (drop format.information bits))
+    (quality_indicator format.quality (take format.information bits))
+
+-- ---- frames
+-- a codeword of a format as a frame: good exactly where its score is above 0
+abbrev pub frame_in : {R : Type 0} → FrameFormat R → List Bool → ℤ → DecodedFrame R
+frame_in format bits score = record {
+  rate = format.rate;
+  good = int_lt (pos 0) score;
+  bits = take format.information bits;
+  score = score;
+}
+
+-- the first of some codewords whose quality indicator is right, as a frame
+abbrev pub candidate_of : {R : Type 0} → List ℤ → FrameFormat R → List Codeword →
+    Option (DecodedFrame R)
+candidate_of softs format codewords =
+    option_map (λ w. frame_in format w.bits (score_in softs format w))
+    (find (λ w. is_right format w.bits) codewords)
+
+-- a format's candidate by its best codeword
+abbrev pub candidate_in : {R : Type 0} → List ℤ → FrameFormat R → Option (DecodedFrame R)
+candidate_in softs format = candidate_of softs format (codeword_in softs format ∷ [])
+
+-- the frame of greater score, the first where both are equal
+abbrev pub better : {R : Type 0} → DecodedFrame R → DecodedFrame R → DecodedFrame R
+better first second = if int_lt first.score second.score then second else first
+
+-- a higher rate's candidate against the best of the lower rates, if any: it is preferred on a tie
+abbrev pub preferred : {R : Type 0} →
+    Option (DecodedFrame R) → Option (DecodedFrame R) → Option (DecodedFrame R)
+preferred None lower = lower
+preferred (Some higher) None = Some higher
+preferred (Some higher) (Some lower) = Some (better higher lower)
+
+-- the best of these candidates, from the lowest rate up, and one of lower rates
+abbrev pub rising : {R : Type 0} →
+    Option (DecodedFrame R) → List (Option (DecodedFrame R)) → Option (DecodedFrame R)
+rising lower [] = lower
+rising lower (candidate ∷ higher) = rising (preferred candidate lower) higher
+
+-- a frame that isn't good: the information bits of a codeword of the highest rate
+abbrev pub not_good : {R : Type 0} → FrameFormat R → List Bool → ℤ → DecodedFrame R
+not_good format bits score = record {
+  rate = format.rate;
+  good = false;
+  bits = take format.information bits;
+  score = score;
+}
+
+-- the best candidate where it is good; where not, its score alone is kept, and where there is none,
+-- that of the codeword of the highest rate
+abbrev pub good_or : {R : Type 0} → FrameFormat R → List Bool → ℤ → Option (DecodedFrame R) →
+    DecodedFrame R
+good_or format bits score None = not_good format bits score
+good_or format bits score (Some best) = if best.good then best else not_good format bits best.score
+
+-- what is shown of the soft values that are kept, with the highest rate's format and those of the
+-- lower rates, the lowest first
+abbrev pub shown_of : {R : Type 0} → FrameFormat R → List (FrameFormat R) → List ℤ → DecodedFrame R
+shown_of highest lower kept =
+    let codeword = codeword_in kept highest in
+    good_or highest codeword.bits (score_in kept highest codeword)
+    (preferred (candidate_in kept highest) (rising None (map (candidate_in kept) lower)))
+
+-- what is decoded of a frame's soft values, of which those at these places belong to power control
+-- bits
+unfoldable pub frame_of : {R : Type 0} → FrameFormat R → List (FrameFormat R) → List ℕ → List ℤ →
+    DecodedFrame R
+frame_of highest lower replaced softs = shown_of highest lower (unreplaced replaced softs)

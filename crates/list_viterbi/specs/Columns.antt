@@ -1,0 +1,69 @@
+-- Columns of choices, and the codewords that they lead back to.
+use Rattle.std.specs.Prelude.{ℕ, zero, suc, ◌+◌, ◌*◌, ◌/◌, ◌%◌, Bool, true, List, [], ◌∷◌, ◌++◌}
+use Rattle.std.specs.Prelude.{length, get_or, ℤ, pos, nat_le, nat_eq, if◌then◌else◌}
+use Rattle.std.specs.Int.{reverse_bits_onto}
+use Rattle.viterbi.specs.declared.codeword.Ends.{Ends}
+use Rattle.viterbi.specs.declared.codeword.Ends.TheVariants.{Zero, Free}
+use Rattle.list_viterbi.specs.Merging.{merge}
+use Rattle.list_viterbi.specs.Picks.{pointer_of}
+use Rattle.list_viterbi.specs.declared.codewords.Entry.{Entry}
+use Rattle.list_viterbi.specs.declared.finds.Find.{Find}
+
+-- whether a codeword may start from a state
+abbrev pub starts_at : Ends → ℕ → Bool
+starts_at Zero t = nat_eq t 0
+starts_at Free t = true
+
+-- the score of the codeword of no bits into a state, where a codeword may start from it
+abbrev pub start_scores : Ends → ℕ → List ℤ
+start_scores ends t = if starts_at ends t then pos 0 ∷ [] else []
+
+-- by column n, the pointer of a place in a state's list
+abbrev pub back_of : List (List ℕ) → ℕ → ℕ → ℕ → ℕ
+back_of columns n t place = pointer_of (get_or (get_or columns n []) t 0) (place % 16)
+
+-- the state before
+abbrev pub state_before : List (List ℕ) → ℕ → ℕ → ℕ → ℕ
+state_before columns n t place = 2 * (t % 128) + back_of columns n t place % 2
+
+-- the place in its list
+abbrev pub place_before : List (List ℕ) → ℕ → ℕ → ℕ → ℕ
+place_before columns n t place = back_of columns n t place / 2
+
+-- the state before the first of n bits
+unfoldable pub origin : List (List ℕ) → ℕ → ℕ → ℕ → ℕ
+origin columns zero t place = t
+origin columns (suc n) t place =
+    origin columns n (state_before columns n t place) (place_before columns n t place)
+
+-- the n bits that lead to a place in a state's list
+unfoldable pub path : List (List ℕ) → ℕ → ℕ → ℕ → List Bool
+path columns zero t place = []
+path columns (suc n) t place =
+    path columns n (state_before columns n t place) (place_before columns n t place) ++ nat_le 128 t
+    ∷ []
+
+abbrev pub find_score : Find → ℤ
+find_score f = f.score
+
+-- the codewords of a state's list, the first of which has this place
+abbrev pub finds_from : ℕ → ℕ → List ℤ → List Find
+finds_from t place [] = []
+finds_from t place (s ∷ ss) =
+    record { score = s; state = t; rank = place } ∷ finds_from t (suc place) ss
+
+-- the first k codewords of the lists of the first so many states
+unfoldable pub first_finds : List (List ℤ) → ℕ → ℕ → List Find
+first_finds column k zero = []
+first_finds column k (suc n) =
+    merge find_score k (first_finds column k n) (finds_from n 0 (get_or column n []))
+
+-- the codeword that all columns lead back to, with its score
+abbrev pub entry_at : List (List ℕ) → Find → Entry
+entry_at columns f = record {
+  word = record {
+    start = reverse_bits_onto 8 (origin columns (length columns) f.state f.rank) 0;
+    bits = path columns (length columns) f.state f.rank;
+  };
+  score = f.score;
+}

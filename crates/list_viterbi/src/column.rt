@@ -1,0 +1,169 @@
+//! The scores of the first codewords into all states, after so many bits.
+
+ghost use Rattle.std.specs.Prelude.{◌≡◌, ◌<◌, ◌≤◌, ◌+◌, ◌^◌, ℕ, [], length, get_or, vec_len};
+ghost use Rattle.std.specs.Prelude.{unsigned_abs, All, IfOk};
+ghost use Rattle.viterbi.specs.Survivors.{end_count};
+ghost use Rattle.list_viterbi.specs.Picks.{HasPicks, picks_into};
+ghost use Rattle.list_viterbi.specs.Columns.{starts_at, start_scores, first_finds};
+
+use crate::finds::{Finds, first_ends};
+use crate::lanes::{has_four, ranks_of, scores_of, step_four};
+use crate::picking::{Choices, step};
+use crate::scores::Scores;
+use chip_core::OutOfMemory;
+use std::alloc::Global;
+use std::marker::Model;
+use viterbi::Ends;
+
+/// The scores of the first codewords into each state, of at most `k` for each: by their states or,
+/// where there are four of each state, by their places.
+///
+/// Contracts see the greatest number of codewords, and the scores of each state.
+#[derive(Drop)]
+pub struct Column {
+    k: u8,
+    /// Whether the scores stand by their places.
+    is_by_place: bool,
+    states: Vec<Scores>,
+    /// The scores after one bit more.
+    next_states: Vec<Scores>,
+    ranks: Vec<i64>,
+    next_ranks: Vec<i64>,
+}
+
+impl Model for Column {
+    ghost use Rattle.std.specs.Prelude.{◌≡◌, true, vec_len, if◌then◌else◌, ◌≤◌};
+    ghost use Rattle.list_viterbi.specs.Heads.{column_of, ColumnValue};
+
+    ghost Value = { ColumnValue };
+
+    ghost view = { λ r. record { k = r.k; scores = if r.is_by_place then column_of r.ranks.items else r.states.items } };
+
+    ghost invariant = { λ r. (vec_len r.states ≡ 256) × (vec_len r.next_states ≡ 256)
+        × (vec_len r.ranks ≡ 1024) × (vec_len r.next_ranks ≡ 1024) × (r.k ≤ 16)
+        × (r.is_by_place ≡ true → r.k ≡ 4) };
+}
+
+/// A column of states without codewords.
+fn empty_column(alloc: Global) -> Result<Vec<Scores>, OutOfMemory>
+    ensures { IfOk result (λ column. vec_len column ≡ 256) }
+{
+    let mut column = Vec::with_capacity(alloc, 256)?;
+    for _state in 0..256usize {
+        column.push(Scores::empty())?;
+    }
+    Ok(column)
+}
+
+/// Whether a codeword may start from a state.
+fn is_start(state: u8, ends: Ends) -> bool
+    ensures { result ≡ starts_at ends state }
+{
+    match ends {
+        Ends::Zero => state == 0,
+        Ends::Free => true,
+    }
+}
+
+/// The score of the codeword of no bits into a state, where a codeword may start from it.
+fn start_at(state: u8, ends: Ends) -> Scores
+    ensures { result ≡ start_scores ends state }
+{
+    let mut scores = Scores::empty();
+    if is_start(state, ends) {
+        scores.push(0);
+    }
+    scores
+}
+
+/// The scores before the first bit.
+fn start_column(column: &mut [Scores], ends: Ends)
+    requires { length column.old ≡ 256 }
+    ensures { (t : ℕ) → t < 256 → get_or column.new t [] ≡ start_scores ends t }
+{
+    for (state, scores) in column.iter_mut().enumerate() {
+        *scores = start_at(state as u8, ends);
+    }
+}
+
+impl Column {
+    /// A column of states without codewords, with all the memory that it needs.
+    pub fn new(alloc: Global) -> Result<Column, OutOfMemory> {
+        let states = empty_column(alloc)?;
+        let next_states = empty_column(alloc)?;
+        let ranks = vec![in alloc; 0i64; 1024]?;
+        let next_ranks = vec![in alloc; 0i64; 1024]?;
+        Ok(Column {
+            k: 0,
+            is_by_place: false,
+            states,
+            next_states,
+            ranks,
+            next_ranks,
+        })
+    }
+
+    /// The scores before the first bit.
+    pub fn start(&mut self, ends: Ends, k: u8)
+        requires { k ≤ 16 }
+        ensures k { self.new.k ≡ k }
+        ensures scores { (t : ℕ) → t < 256 →
+            get_or self.new.scores t [] ≡ start_scores ends t }
+    {
+        self.k = k;
+        self.is_by_place = false;
+        start_column(&mut self.states, ends);
+    }
+
+    /// Lays the scores out by their places where there are four of each state.
+    fn lay_out(&mut self)
+        ensures k { self.new.k ≡ self.old.k }
+        ensures scores { (t : ℕ) → t < 256 →
+            get_or self.new.scores t [] ≡ get_or self.old.scores t [] }
+    {
+        if self.k == 4 && !self.is_by_place && has_four(&self.states) {
+            ranks_of(&self.states, &mut self.ranks);
+            self.is_by_place = true;
+        }
+    }
+
+    /// The scores and the choices of the first codewords into all states, one bit further, by the
+    /// soft values of its two symbols.
+    pub fn step(&mut self, first: i64, second: i64, choices: &mut Choices)
+        requires fits { unsigned_abs first + unsigned_abs second ≤ 2 ^ 62 }
+        requires room { (t : ℕ) → t < 256 →
+            All (λ s. unsigned_abs s + (unsigned_abs first + unsigned_abs second) ≤ 2 ^ 62)
+            (get_or self.old.scores t []) }
+        ensures k { self.new.k ≡ self.old.k }
+        ensures each { (t : ℕ) → t < 256 →
+            HasPicks (get_or self.new.scores t []) (get_or choices.new t 0)
+            (picks_into self.old.scores first second self.old.k t) }
+    {
+        if self.is_by_place {
+            step_four(&self.ranks, first, second, &mut self.next_ranks, choices);
+            std::mem::swap(&mut self.ranks, &mut self.next_ranks);
+            return;
+        }
+        step(
+            &self.states,
+            first,
+            second,
+            self.k,
+            &mut self.next_states,
+            choices,
+        );
+        std::mem::swap(&mut self.states, &mut self.next_states);
+        self.lay_out();
+    }
+
+    /// The first codewords of the states in which a codeword may end.
+    pub fn first_ends(&mut self, ends: Ends) -> Finds
+        ensures { result ≡ first_finds self.old.scores self.old.k (end_count ends) }
+    {
+        if self.is_by_place {
+            scores_of(&self.ranks, &mut self.states);
+            return first_ends(&self.states, ends, self.k);
+        }
+        first_ends(&self.states, ends, self.k)
+    }
+}

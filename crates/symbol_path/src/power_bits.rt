@@ -1,0 +1,50 @@
+//! Power control bits in place of symbols.
+
+ghost use Rattle.std.specs.Prelude.{◌≡◌, ◌<◌, ◌^◌, length};
+ghost use Rattle.symbol_path.specs.Scrambling.{symbol_or_power_bit, with_power_bits};
+
+use crate::scramble::{PowerPlaces, power_places};
+use chip_core::air::DATA_SYMBOLS;
+use chip_core::{Bits, PowerBits};
+use long_code::State;
+
+/// How many symbols a power control group has.
+const GROUP_SYMBOLS: u16 = 24;
+
+/// Symbol `i` of a frame with its power control bits: that of the symbol's group, where the symbol
+/// is at one of these places.
+fn symbol_or_power_bit(
+    replaced: &PowerPlaces,
+    power_bits: &PowerBits,
+    symbols: &Bits,
+    i: u16,
+) -> bool
+    requires place { i < 384 }
+    requires symbols { length symbols.now ≡ 384 }
+    ensures { result ≡ symbol_or_power_bit replaced.now power_bits.now symbols.now i }
+{
+    if replaced.contains(&i) {
+        power_bits[usize::from(i / GROUP_SYMBOLS)]
+    } else {
+        symbols.get(i)
+    }
+}
+
+/// The 384 symbols of the frame that begins at a state, with its 16 power control bits, each in
+/// place of two of them.
+///
+/// TIA/EIA-95-B, 7.1.3.1.7: the bits replace symbols that are scrambled already. A 1 tells the
+/// handset to lower its power.
+pub fn with_power_bits(state: &State, mask: u64, power_bits: &PowerBits, symbols: &Bits) -> Bits
+    requires mask { mask < 2 ^ 42 }
+    requires symbols { length symbols.now ≡ 384 }
+    ensures value { result ≡ with_power_bits state.now mask power_bits.now symbols.now }
+    ensures count { length result ≡ 384 }
+{
+    let replaced = power_places(state, mask);
+    let mut out = Bits::empty();
+    for i in 0..DATA_SYMBOLS as u16 {
+        out.append(symbol_or_power_bit(&replaced, power_bits, symbols, i));
+    }
+    out
+}

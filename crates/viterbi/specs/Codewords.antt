@@ -1,0 +1,48 @@
+-- Codewords, their scores, and the best of them.
+use Rattle.std.specs.Prelude.{ℕ, ◌+◌, ◌-◌, ◌^◌, ◌<◌, ◌≡◌, Bool, false, List, ◌++◌, take, drop}
+use Rattle.std.specs.Prelude.{replicate, reverse, ℤ, ◌<ℤ◌, ◌⊎◌}
+use Rattle.chip_core.specs.Agreement.{agreement}
+use Rattle.chip_core.specs.Bits.{binary, number}
+use Rattle.chip_core.specs.Sums.{first_greatest}
+use Rattle.conv_code.specs.ConvCode.{code_symbols}
+use Rattle.viterbi.specs.declared.codeword.Ends.{Ends}
+use Rattle.viterbi.specs.declared.codeword.Ends.TheVariants.{Zero, Free}
+
+-- the eight start bits, the oldest first, and the bits
+pub record Codeword : Type 0 where
+  pub start : List Bool
+  pub bits : List Bool
+
+-- the number that the bits spell from the last to the first: of codewords of equal score the one of
+-- the lesser number is better
+abbrev pub rank : Codeword → ℕ
+rank w = number (reverse (w.start ++ w.bits))
+
+-- how many codewords of n bits are allowed
+abbrev pub codeword_count : Ends → ℕ → ℕ
+codeword_count Zero n = 2 ^ (n - 8)
+codeword_count Free n = 2 ^ (n + 8)
+
+-- the allowed codewords of n bits by rising rank: number r of them
+abbrev pub codeword_at : Ends → ℕ → ℕ → Codeword
+codeword_at Zero n r =
+    record { start = replicate 8 false; bits = reverse (binary (n - 8) r) ++ replicate 8 false }
+codeword_at Free n r = let joined = reverse (binary (n + 8) r) in record
+    { start = take 8 joined; bits = drop 8 joined }
+
+-- how well soft values agree with symbols, as a codeword's score is called here
+abbrev pub correlation : List ℤ → List Bool → ℤ
+correlation = agreement
+
+-- the score of a codeword: the correlation of its code symbols
+abbrev pub score_of : List ℤ → Codeword → ℤ
+score_of softs w = correlation softs (code_symbols w.start w.bits)
+
+-- a codeword is better than another: greater score, or the same and lesser rank
+abbrev pub IsBetter : (Codeword → ℤ) → Codeword → Codeword → Type 0
+IsBetter score w v = (score v <ℤ score w) ⊎ ((score v ≡ score w) × (rank w < rank v))
+
+-- the best of the allowed codewords of n bits
+unfoldable pub best_codeword : (Codeword → ℤ) → Ends → ℕ → Codeword
+best_codeword score ends n =
+    codeword_at ends n (first_greatest (λ r. score (codeword_at ends n r)) (codeword_count ends n))
