@@ -11,6 +11,7 @@ pub use Rattle.std.proofs.lemmas.Nat.{div-mul-add, le-div, pow_pos}
 pub use Rattle.std.proofs.lemmas.Option.{get_or_from_slice_get}
 pub use Rattle.std.specs.Prelude.{IfSome}
 pub use Rattle.chip_core.proofs.FieldLists.{length-binary, spelled-append}
+pub use Rattle.chip_core.proofs.Numerals.{bool_byte-digit, digit_below, read_more}
 pub use Rattle.chip_core.proofs.ValueLists.{behind_front, column_more, dropped, fit_value, front, length-column, length-in_widths}
 pub use Rattle.chip_core.proofs.ValueLists.{number_front, taken_more, total_more, total_room, values_again, values_more, values_there}
 pub use Rattle.chip_core.proofs.ValueLists.{width_within, write_room, written_more}

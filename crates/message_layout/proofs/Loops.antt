@@ -1,11 +1,42 @@
 -- Loops over the fields of a table and over records: what holds after so many of them.
 use Rattle.message_layout.proofs.Common.{◌≡◌, ℕ, zero, suc, ◌+◌, ◌*◌, ◌<◌, ◌≤◌, Bool, List, [], ◌∷◌, ◌++◌, length, get_or, map, take, drop}
-use Rattle.message_layout.proofs.Common.{refl, sym, ap, ◌∙◌, arith, Some, None, le-leb, lt-leb, length-drop, length-take-le, take_all}
+use Rattle.message_layout.proofs.Common.{refl, sym, ap, ◌∙◌, arith, inl, inr, Some, None, cases_lt, le-leb, leb-true, lt-leb, nat_le, length-drop}
+use Rattle.message_layout.proofs.Common.{length-take-le, take_all, number_part, mul-le-mul_right, column_in, length-map, lt-ltb}
 use Rattle.message_layout.proofs.Common.{suc-mul, number, total, AreWidths, number_at, values_at, column_at, column_more, dropped, subst}
 use Rattle.message_layout.proofs.Common.{true, false, ◌^◌, field, in_widths, FieldsFit, taken_more, length-column, total_more, total_room}
 use Rattle.message_layout.proofs.Common.{values_more, width_within, count_in, fields_at}
 use Rattle.message_layout.proofs.Columns.{fit_append}
 use Rattle.message_layout.proofs.Lawful.{count_room}
+use Rattle.message_layout.proofs.Parts.{guard_some, some_is}
+
+-- ONE NUMBER
+number_there : (w : ℕ) (bits : List Bool) → w ≤ length bits →
+    number_part w bits ≡ Some (number_at 0 w bits, drop w bits)
+unfolding number_part
+number_there w bits room = rw (le-leb w (length bits) room) refl
+
+-- what was read of a number
+pub number_taken : (w n : ℕ) (bits after : List Bool) → Some (n, after) ≡ number_part w bits →
+    (w ≤ length bits) × (n ≡ number (take w bits)) × (after ≡ drop w bits)
+unfolding number_part
+number_taken w n bits after e =
+    let read : ℕ × List Bool = (number_at 0 w bits, drop w bits) in
+    let g = guard_some (nat_le w (length bits)) (Some read) (n, after) (sym e) in
+    let same : (n, after) ≡ read = sym (some_is read (n, after) g.1) in (
+      leb-true w (length bits) g.0,
+      ap (λ (x : ℕ × List Bool). x.0) same,
+      ap (λ (x : ℕ × List Bool). x.1) same,
+    )
+
+pub number_short : (w : ℕ) (bits : List Bool) → None ≡ number_part w bits → length bits < w
+number_short w bits e =
+    elim (cases_lt (length bits) w) [
+      | inl less ↦ less
+      | inr more ↦
+          let read : ℕ × List Bool = (number_at 0 w bits, drop w bits) in
+          let both : None ≡ Some read = e ∙ number_there w bits more in
+          absurd (cc)
+    ]
 
 -- FIELDS THAT ARE READ
 pub record FieldsRead (ws : List ℕ) (i : ℕ) (bits : List Bool) (values : List ℕ)
@@ -106,6 +137,48 @@ widths_taken f (row ∷ rows) (suc j) are = (are.0, are.1, widths_taken f rows j
 pub records_end : (ws : List ℕ) (count size few all : ℕ) → count ≡ count_in ws few →
     size ≡ total ws → few ≡ all → count * size ≤ all
 records_end ws count size few all a b c = rw (a, b, ← c) (count_room ws few)
+
+-- each of them ends within the bits
+pub place_within : (size first width i count all : ℕ) → i < count →
+    first + width + count * size ≤ all + size → i * size + first + width ≤ all
+place_within size first width i count all h within =
+    let most : suc i * size ≤ count * size =
+    mul-le-mul_right size (let e : suc i ≤ count = omega (arith, h) in e) in
+    omega (arith, most, suc-mul i size, within)
+
+-- the numbers behind a place of a list
+pub column_moved : (base size place width n : ℕ) (bits : List Bool) →
+    column_at size (base + place) width n bits ≡ column_at size place width n (drop base bits)
+column_moved base size place width zero bits = refl
+column_moved base size place width (suc n) bits =
+    let one : number_at (base + place) width bits ≡ number_at place width (drop base bits) =
+    ap (λ (r : List Bool). number (take width r)) (sym (dropped place base bits)) in
+    let order : drop base (drop size bits) ≡ drop size (drop base bits) =
+    dropped base size bits ∙ ap (λ (k : ℕ). drop k bits)
+    (let e : size + base ≡ base + size = omega arith in e) ∙ sym (dropped size base bits) in
+    let more : column_at size (base + place) width n (drop size bits)
+    ≡ column_at size place width n (drop size (drop base bits)) =
+    column_moved base size place width n (drop size bits)
+    ∙ ap (column_at size place width n) order in
+    ap (λ (k : ℕ). k ∷ column_at size (base + place) width n (drop size bits)) one
+    ∙ ap (λ (ns : List ℕ). number_at place width (drop base bits) ∷ ns) more
+
+rows_taken : {A : Type 0} (f : A → ℕ) (rows : List A) (j : ℕ) →
+    map f (take j rows) ≡ take j (map f rows)
+rows_taken f rows zero = refl
+rows_taken f [] (suc j) = refl
+rows_taken f (row ∷ rows) (suc j) = ap (λ (ws : List ℕ). f row ∷ ws) (rows_taken f rows j)
+
+-- those of a field
+pub column_read : {A : Type 0} (f : A → ℕ) (rows : List A) (j base size place width n : ℕ)
+    (bits : List Bool) (read : List ℕ) → j < length rows → size ≡ total (map f rows) →
+    place ≡ total (map f (take j rows)) → width ≡ get_or (map f rows) j 0 →
+    read ≡ column_at size (base + place) width n bits →
+    read ≡ column_in (map f rows) n j (drop base bits)
+column_read f rows j base size place width n bits read h all before wide e =
+    let there : place ≡ total (take j (map f rows)) = before ∙ ap total (rows_taken f rows j) in
+    let t = lt-ltb j (length (map f rows)) (omega (arith, h, length-map rows f)) in
+    e ∙ column_moved base size place width n bits ∙ rw (t, all, there, wide) refl
 
 pub record PlacesRead (size place width i : ℕ) (bits : List Bool) (at_place : ℕ)
     (numbers : List ℕ) : Type 0 where

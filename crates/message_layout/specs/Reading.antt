@@ -19,6 +19,11 @@ abbrev pub mapped : {A B : Type 0} → (A → B) → Option A → Option B
 mapped f None = None
 mapped f (Some x) = Some (f x)
 
+-- what was read, and the bits behind it, which begin at a place of a list
+abbrev pub behind : {A : Type 0} → List Bool → Option (A × ℕ) → Option (A × List Bool)
+behind bits None = None
+behind bits (Some x) = Some (x.0, drop x.1 bits)
+
 -- fields of these widths
 unfoldable pub fields_at : List ℕ → List Bool → Option (List ℕ × List Bool)
 fields_at widths bits =

@@ -17,6 +17,6 @@ pub use layout::{
     ALL_BITS, FieldRow, Group, Layout, NO_GROUP, NO_OCTETS, NO_RECORDS, Octets, Presence, Records,
     name_in, width_in,
 };
-pub use reading::{read, read_kind};
+pub use reading::{read, read_fields, read_from, read_kind};
 pub use values::FieldValues;
 pub use writing::append;

@@ -1,11 +1,14 @@
 //! Bits read by a layout.
+//!
+//! Each function reads what stands at a place of one list, counted from 0, and gives the place
+//! behind it; so nothing is copied but octets and a rest.
 
 ghost use Rattle.std.specs.Prelude.{◌≡◌, ◌≤◌, ◌<◌, ◌+◌, ◌*◌, ◌^◌, ◌++◌, ◌∷◌, [], true, length, map};
-ghost use Rattle.std.specs.Prelude.{IfSome, Some};
+ghost use Rattle.std.specs.Prelude.{drop, IfSome, Some};
 ghost use Rattle.chip_core.specs.Fields.{total, AreWidths};
 ghost use Rattle.chip_core.specs.Readings.{column_at, number_at};
 ghost use Rattle.message_layout.specs.Contents.{column_in, count_in};
-ghost use Rattle.message_layout.specs.Reading.{fields_at, group_at, is_rest, number_part};
+ghost use Rattle.message_layout.specs.Reading.{behind, fields_at, group_at, is_rest, number_part};
 ghost use Rattle.message_layout.specs.Reading.{octets_at, part_at, presence_at, reading};
 ghost use Rattle.message_layout.specs.Reading.{records_at};
 ghost use Rattle.message_layout.specs.Shapes.{is_lawful, shape, AreNarrow};
@@ -15,7 +18,7 @@ ghost use Rattle.message_layout.specs.declared.contents.Contents.{Contents as Th
 use crate::contents::Contents;
 use crate::layout::{FieldRow, Group, Layout, Octets, Presence, Records, width_in};
 use crate::values::FieldValues;
-use chip_core::{BitReader, Bits, Numbers};
+use chip_core::{Bits, Numbers};
 
 /// What bits say by a layout, with at most 128 records; `None` exactly where no contents of the
 /// layout are spelled so.
@@ -28,21 +31,46 @@ pub fn read(layout: &Layout, bits: &Bits) -> Option<Contents>
         bits.now ≡ spelling (shape layout.now) c → result ≡ Some c }
     ensures reading { result ≡ reading (shape layout.now) bits.now }
 {
-    read_parts(layout, bits)
+    read_from(layout, bits, 0)
 }
 
-/// What bits say, part by part.
-#[tactic(auto, unfolding(crate::specs::Reading::reading))]
-fn read_parts(layout: &Layout, bits: &Bits) -> Option<Contents>
+/// What the bits from a place on say by a layout, with at most 128 records; `None` exactly where no
+/// contents of the layout are spelled so.
+pub fn read_from(layout: &Layout, bits: &Bits, from: u16) -> Option<Contents>
     requires lawful { is_lawful (shape layout.now) ≡ true }
-    requires room { count_in (shape layout.now).records (length bits.now) ≤ 128 }
-    ensures { result ≡ reading (shape layout.now) bits.now }
+    requires within { from ≤ length bits.now }
+    requires room { count_in (shape layout.now).records (length (drop from bits.now)) ≤ 128 }
+    ensures found { IfSome result (λ c.
+        IsOf (shape layout.now) c × (drop from bits.now ≡ spelling (shape layout.now) c)) }
+    ensures only { (c : TheContents) → IsOf (shape layout.now) c →
+        drop from bits.now ≡ spelling (shape layout.now) c → result ≡ Some c }
+    ensures reading { result ≡ reading (shape layout.now) (drop from bits.now) }
 {
-    let (fixed, bits) = read_fields(layout.fixed, bits)?;
-    let (group, bits) = read_group(&layout.group, &bits)?;
-    let (octets, bits) = read_octets(layout.octets, &bits)?;
-    let (columns, rest) = read_records(&layout.records, &bits)?;
-    if !is_rest_of(layout.most, &rest) {
+    read_parts(layout, bits, from)
+}
+
+/// The message type, 8 bits, and the place behind it; `None` exactly where there are fewer.
+pub fn read_kind(bits: &Bits) -> Option<(u8, u16)>
+    ensures kind { behind bits.now result ≡ number_part 8 bits.now }
+    ensures within { IfSome result (λ x. x.1 ≤ length bits.now) }
+{
+    let (kind, from) = read_number(8, bits, 0)?;
+    Some((kind as u8, from))
+}
+
+/// What the bits from a place on say, part by part.
+#[tactic(auto, unfolding(crate::specs::Reading::reading))]
+fn read_parts(layout: &Layout, bits: &Bits, from: u16) -> Option<Contents>
+    requires lawful { is_lawful (shape layout.now) ≡ true }
+    requires within { from ≤ length bits.now }
+    requires room { count_in (shape layout.now).records (length (drop from bits.now)) ≤ 128 }
+    ensures { result ≡ reading (shape layout.now) (drop from bits.now) }
+{
+    let (fixed, from) = read_fields(layout.fixed, bits, from)?;
+    let (group, from) = read_group(&layout.group, bits, from)?;
+    let (octets, from) = read_octets(layout.octets, bits, from)?;
+    let (columns, from) = read_records(&layout.records, bits, from)?;
+    if !is_rest_of(layout.most, bits, from) {
         return None;
     }
     Some(Contents {
@@ -50,142 +78,171 @@ fn read_parts(layout: &Layout, bits: &Bits) -> Option<Contents>
         group,
         octets,
         columns,
-        rest,
+        rest: rest_of(bits, from),
     })
 }
 
 /// Whether no more bits are left than may be.
-fn is_rest_of(most: Option<u16>, rest: &Bits) -> bool
-    ensures { result ≡ is_rest most rest.now }
+fn is_rest_of(most: Option<u16>, bits: &Bits, from: u16) -> bool
+    requires { from ≤ length bits.now }
+    ensures { result ≡ is_rest most (drop from bits.now) }
 {
     match most {
         None => true,
-        Some(most) => rest.len() <= most,
+        Some(most) => bits.len() - from <= most,
     }
 }
 
-/// The values of fields, and the bits behind them.
-fn read_fields(rows: &[FieldRow], bits: &Bits) -> Option<(FieldValues, Bits)>
+/// The bits that are left.
+fn rest_of(bits: &Bits, from: u16) -> Bits
+    requires { from ≤ length bits.now }
+    ensures { result ≡ drop from bits.now }
+{
+    bits.part(from, bits.len() - from)
+}
+
+/// The values of fields of a table from a place on, at most 48, and the place behind them; `None`
+/// exactly where there are fewer bits.
+pub fn read_fields(rows: &[FieldRow], bits: &Bits, from: u16) -> Option<(FieldValues, u16)>
     requires widths { AreWidths (map (λ row. row.1) rows.now) }
     requires room { length rows.now ≤ 48 }
-    ensures { result ≡ fields_at (map (λ row. row.1) rows.now) bits.now }
+    requires within { from ≤ length bits.now }
+    ensures values { behind bits.now result ≡ fields_at (map (λ row. row.1) rows.now)
+        (drop from bits.now) }
+    ensures within { IfSome result (λ x. x.1 ≤ length bits.now) }
 {
-    let mut reader = BitReader::new(bits);
+    let mut place = from;
     let mut values = FieldValues::empty();
     for i in 0..rows.len() {
-        match reader.take(width_in(rows, i)) {
-            Ok(value) => values.append(value),
-            Err(_) => return None,
-        }
+        let (value, next) = read_number(width_in(rows, i), bits, place)?;
+        values.append(value);
+        place = next;
     }
-    Some((values, reader.rest()))
+    Some((values, place))
 }
 
-/// The values of a group where it is there, and the bits behind it.
+/// The values of a group where it is there.
 #[tactic(auto, unfolding(crate::specs::Reading::group_at))]
-fn read_group(group: &Group, bits: &Bits) -> Option<(Option<FieldValues>, Bits)>
+fn read_group(group: &Group, bits: &Bits, from: u16) -> Option<(Option<FieldValues>, u16)>
     requires widths { AreWidths (map (λ row. row.1) group.now.fields.now) }
     requires room { length group.now.fields.now ≤ 48 }
-    ensures { result ≡ group_at group.now.presence (map (λ row. row.1) group.now.fields.now)
-        bits.now }
+    requires within { from ≤ length bits.now }
+    ensures group { behind bits.now result ≡ group_at group.now.presence
+        (map (λ row. row.1) group.now.fields.now) (drop from bits.now) }
+    ensures within { IfSome result (λ x. x.1 ≤ length bits.now) }
 {
-    let (is_there, bits) = read_presence(group.presence, bits)?;
+    let (is_there, from) = read_presence(group.presence, bits, from)?;
     if !is_there {
-        return Some((None, bits));
+        return Some((None, from));
     }
-    let (values, bits) = read_fields(group.fields, &bits)?;
-    Some((Some(values), bits))
+    let (values, from) = read_fields(group.fields, bits, from)?;
+    Some((Some(values), from))
 }
 
-/// Whether a group is there, and the bits behind what says so.
+/// Whether a group is there.
 #[tactic(auto, unfolding(crate::specs::Reading::presence_at))]
-fn read_presence(presence: Presence, bits: &Bits) -> Option<(bool, Bits)>
-    ensures { result ≡ presence_at presence bits.now }
+fn read_presence(presence: Presence, bits: &Bits, from: u16) -> Option<(bool, u16)>
+    requires { from ≤ length bits.now }
+    ensures presence { behind bits.now result ≡ presence_at presence (drop from bits.now) }
+    ensures within { IfSome result (λ x. x.1 ≤ length bits.now) }
 {
     match presence {
-        Presence::Never => Some((false, *bits)),
+        Presence::Never => Some((false, from)),
         Presence::Flagged => {
-            let (flag, bits) = read_number(1, bits)?;
-            Some((flag == 1, bits))
+            let (flag, from) = read_number(1, bits, from)?;
+            Some((flag == 1, from))
         }
-        Presence::UnlessLeft(count) => Some((bits.len() != count, *bits)),
+        Presence::UnlessLeft(count) => Some((bits.len() - from != count, from)),
     }
 }
 
-/// The octets that are counted, and the bits behind them.
+/// The octets that are counted.
 #[tactic(auto, unfolding(crate::specs::Reading::octets_at))]
-fn read_octets(octets: Octets, bits: &Bits) -> Option<(Bits, Bits)>
+fn read_octets(octets: Octets, bits: &Bits, from: u16) -> Option<(Bits, u16)>
     requires zeros { octets.zeros ≤ 64 }
     requires width { octets.width ≤ 8 }
-    ensures { result ≡ octets_at octets.zeros octets.width bits.now }
+    requires within { from ≤ length bits.now }
+    ensures octets { behind bits.now result ≡ octets_at octets.zeros octets.width
+        (drop from bits.now) }
+    ensures within { IfSome result (λ x. x.1 ≤ length bits.now) }
 {
-    let (zeros, bits) = read_number(octets.zeros, bits)?;
-    let (count, bits) = read_number(octets.width, &bits)?;
+    let (zeros, from) = read_number(octets.zeros, bits, from)?;
+    let (count, from) = read_number(octets.width, bits, from)?;
     if zeros != 0 {
         return None;
     }
-    read_part(8 * count, &bits)
+    read_part(8 * count, bits, from)
 }
 
-/// The message type, 8 bits, and the bits behind it; `None` exactly where there are fewer.
-pub fn read_kind(bits: &Bits) -> Option<(u8, Bits)>
-    ensures { result ≡ number_part 8 bits.now }
-{
-    let (kind, bits) = read_number(8, bits)?;
-    Some((kind as u8, bits))
-}
-
-/// A number of so many bits, which is 0 where there are none, and the bits behind it.
+/// A number of so many bits, which is 0 where there are none.
 #[tactic(auto, unfolding(crate::specs::Reading::number_part))]
-fn read_number(width: u8, bits: &Bits) -> Option<(u64, Bits)>
-    requires { width ≤ 64 }
-    ensures value { result ≡ number_part width bits.now }
+fn read_number(width: u8, bits: &Bits, from: u16) -> Option<(u64, u16)>
+    requires width { width ≤ 64 }
+    requires within { from ≤ length bits.now }
+    ensures value { behind bits.now result ≡ number_part width (drop from bits.now) }
     ensures fits { IfSome result (λ x. x.0 < 2 ^ width) }
+    ensures within { IfSome result (λ x. x.1 ≤ length bits.now) }
 {
-    if width == 0 {
-        return Some((0, *bits));
-    }
-    let mut reader = BitReader::new(bits);
-    let Ok(number) = reader.take(width) else {
+    if bits.len() - from < u16::from(width) {
         return None;
-    };
-    Some((number, reader.rest()))
+    }
+    Some((number_from(bits, from, width), from + u16::from(width)))
 }
 
-/// So many bits, and those behind them.
-#[tactic(auto, unfolding(crate::specs::Reading::part_at))]
-fn read_part(count: u64, bits: &Bits) -> Option<(Bits, Bits)>
-    ensures { result ≡ part_at count bits.now }
+/// The number that `width` bits from a place on spell.
+fn number_from(bits: &Bits, from: u16, width: u8) -> u64
+    requires width { width ≤ 64 }
+    requires within { from + width ≤ length bits.now }
+    ensures value { result ≡ number_at from width bits.now }
+    ensures fits { result < 2 ^ width }
 {
-    if count > u64::from(bits.len()) {
+    let _most = bits.len();
+    let mut number = 0u64;
+    for k in 0..width {
+        let bit = bits.get(from + u16::from(k));
+        number = 2 * number + u64::from(bit);
+    }
+    number
+}
+
+/// So many bits.
+#[tactic(auto, unfolding(crate::specs::Reading::part_at))]
+fn read_part(count: u64, bits: &Bits, from: u16) -> Option<(Bits, u16)>
+    requires { from ≤ length bits.now }
+    ensures part { behind bits.now result ≡ part_at count (drop from bits.now) }
+    ensures within { IfSome result (λ x. x.1 ≤ length bits.now) }
+{
+    if count > u64::from(bits.len() - from) {
         return None;
     }
     let count = count as u16;
-    Some((bits.part(0, count), bits.part(count, bits.len() - count)))
+    Some((bits.part(from, count), from + count))
 }
 
-/// The numbers of as many records as fit, column by column, and the bits behind them.
+/// The numbers of as many records as fit, column by column.
 #[tactic(auto, unfolding(crate::specs::Reading::records_at))]
-fn read_records(records: &Records, bits: &Bits) -> Option<([Numbers; 3], Bits)>
+fn read_records(records: &Records, bits: &Bits, from: u16) -> Option<([Numbers; 3], u16)>
     requires widths { AreWidths (map (λ row. row.1) records.now.fields.now) }
     requires narrow { AreNarrow (map (λ row. row.1) records.now.fields.now) }
     requires few { length records.now.fields.now ≤ 3 }
-    requires room { count_in (map (λ row. row.1) records.now.fields.now) (length bits.now) ≤ 128 }
-    ensures { result ≡ records_at (map (λ row. row.1) records.now.fields.now) records.now.least
-        bits.now }
+    requires within { from ≤ length bits.now }
+    requires room { count_in (map (λ row. row.1) records.now.fields.now)
+        (length (drop from bits.now)) ≤ 128 }
+    ensures records { behind bits.now result ≡ records_at
+        (map (λ row. row.1) records.now.fields.now) records.now.least (drop from bits.now) }
+    ensures within { IfSome result (λ x. x.1 ≤ length bits.now) }
 {
     let fields = records.fields;
-    let count = records_within(fields, bits.len());
+    let count = records_within(fields, bits.len() - from);
     if count < u16::from(records.least) {
         return None;
     }
     let columns = [
-        read_column(fields, 0, count as u8, bits),
-        read_column(fields, 1, count as u8, bits),
-        read_column(fields, 2, count as u8, bits),
+        read_column(fields, 0, count as u8, bits, from),
+        read_column(fields, 1, count as u8, bits, from),
+        read_column(fields, 2, count as u8, bits, from),
     ];
-    let behind = count * size_of(fields);
-    Some((columns, bits.part(behind, bits.len() - behind)))
+    Some((columns, from + count * size_of(fields)))
 }
 
 /// How many records fit into so many bits.
@@ -212,53 +269,39 @@ pub(crate) fn size_of(fields: &[FieldRow]) -> u16
     size
 }
 
-/// The numbers of field `j` of the first so many records; none past the last field.
-fn read_column(fields: &[FieldRow], j: usize, count: u8, bits: &Bits) -> Numbers
+/// The numbers of field `j` of the first so many records from a place on; none past the last field.
+fn read_column(fields: &[FieldRow], j: usize, count: u8, bits: &Bits, from: u16) -> Numbers
     requires widths { AreWidths (map (λ row. row.1) fields.now) }
     requires narrow { AreNarrow (map (λ row. row.1) fields.now) }
     requires few { length fields.now ≤ 3 }
     requires most { count ≤ 128 }
-    requires within { count * total (map (λ row. row.1) fields.now) ≤ length bits.now }
-    ensures { result ≡ column_in (map (λ row. row.1) fields.now) count j bits.now }
+    requires within { from + count * total (map (λ row. row.1) fields.now) ≤ length bits.now }
+    ensures { result ≡ column_in (map (λ row. row.1) fields.now) count j (drop from bits.now) }
 {
     if j >= fields.len() {
         return Numbers::empty();
     }
-    let place = size_of(&fields[..j]);
-    read_places(bits, place, width_in(fields, j), size_of(fields), count)
+    let _most = bits.len();
+    let first = from + size_of(&fields[..j]);
+    read_places(bits, first, width_in(fields, j), size_of(fields), count)
 }
 
-/// The number at a place of each of the first so many records of a size.
-fn read_places(bits: &Bits, place: u16, width: u8, size: u16, count: u8) -> Numbers
+/// The numbers at a place and at so many bits behind it each, `count` of them.
+fn read_places(bits: &Bits, first: u16, width: u8, size: u16, count: u8) -> Numbers
     requires width { (1 ≤ width) × (width ≤ 32) }
-    requires part { place + width ≤ size }
     requires size { size ≤ 192 }
     requires most { count ≤ 128 }
-    requires within { count * size ≤ length bits.now }
-    ensures { result ≡ column_at size place width count bits.now }
+    requires within { first + width + count * size ≤ length bits.now + size }
+    ensures { result ≡ column_at size first width count bits.now }
 {
     let _most = bits.len();
     let mut numbers = Numbers::empty();
-    let mut at = place;
+    let mut place = first;
     for _i in 0..count {
-        push_number(&mut numbers, number_from(bits, at, width));
-        at += size;
+        push_number(&mut numbers, number_from(bits, place, width) as u32);
+        place += size;
     }
     numbers
-}
-
-/// The number that `width` bits from a place on spell.
-fn number_from(bits: &Bits, place: u16, width: u8) -> u32
-    requires width { (1 ≤ width) × (width ≤ 32) }
-    requires within { place + width ≤ length bits.now }
-    ensures { result ≡ number_at place width bits.now }
-{
-    let part = bits.part(place, u16::from(width));
-    let mut reader = BitReader::new(&part);
-    match reader.take(width) {
-        Ok(number) => number as u32,
-        Err(_) => 0,
-    }
 }
 
 /// Adds a number at the end of a list that is known to have room.

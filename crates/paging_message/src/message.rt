@@ -11,7 +11,7 @@ use crate::neighbors::NeighborList;
 use crate::other::OtherMessage;
 use crate::system::SystemParameters;
 use chip_core::{Bits, CheckForm};
-use message_layout::{Contents, append, read, read_kind};
+use message_layout::{Contents, append, read_from, read_kind};
 use quality_bits::{Kind, MessageFault, body_of, capsule_of};
 
 /// A message of the paging channel that has a spelling.
@@ -84,8 +84,8 @@ impl PagingMessage {
         if !fills_capsule(body) {
             return None;
         }
-        let (kind, behind) = read_kind(body)?;
-        let contents = read(&layout_of(kind), &behind)?;
+        let (kind, from) = read_kind(body)?;
+        let contents = read_from(&layout_of(kind), body, from)?;
         Some(PagingMessage::of(kind, &contents))
     }
 

@@ -11,7 +11,7 @@ use crate::fields::SyncFields;
 use crate::table::{FREQ_FIELD, SYNC_FIELDS};
 use chip_core::{Bits, Numbers};
 use message_layout::{
-    Contents, FieldValues, Group, Layout, NO_OCTETS, NO_RECORDS, Presence, read, read_kind,
+    Contents, FieldValues, Group, Layout, NO_OCTETS, NO_RECORDS, Presence, read_from, read_kind,
 };
 
 /// The fields that each message has, and the frequency unless 3 bits are left, as at 25 octets.
@@ -31,11 +31,11 @@ pub(crate) const SYNC_CHANNEL: Layout = Layout {
 pub(crate) fn read_body(body: &Bits) -> Option<SyncFields>
     ensures { result ≡ body_reading body.now }
 {
-    let (kind, bits) = read_kind(body)?;
+    let (kind, from) = read_kind(body)?;
     if kind != 1 {
         return None;
     }
-    let contents = read(&SYNC_CHANNEL, &bits)?;
+    let contents = read_from(&SYNC_CHANNEL, body, from)?;
     Some(fields_from(&contents))
 }
 

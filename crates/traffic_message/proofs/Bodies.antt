@@ -5,7 +5,7 @@ use Rattle.traffic_message.proofs.Common.{Option, Some, None, and_from, and_part
 use Rattle.traffic_message.proofs.Common.{leb-true, ne_eqb, drop_at, length-drop, binary, digit, spelled, in_widths, FieldsFit, number_at}
 use Rattle.traffic_message.proofs.Common.{values_at, digit_of, length-binary, behind_front, dropped, front, length-in_widths, number_front}
 use Rattle.traffic_message.proofs.Common.{values_again, values_there, FillsCapsule, M16, is_hard, head_widths, TrafficBody, Head, Form}
-use Rattle.traffic_message.proofs.Common.{HasFields, body_from, contents_of, form_at, form_in, shape_of, head_shape, Contents, mapped}
+use Rattle.traffic_message.proofs.Common.{HasFields, body_from, contents_of, form_at, form_in, shape_of, head_shape, Contents, mapped, fields_at}
 use Rattle.traffic_message.proofs.Common.{mapped_some, number_part, some_is, plain_contents, fields_reading, reading_again, reading_there}
 use Rattle.message_layout.specs.Reading as layouts
 use Rattle.traffic_message.proofs.ByLayout.{laid, lawful, made_of, placed, spelled_as}
@@ -322,16 +322,15 @@ no_body body f = rw f refl
 abbrev pub message : Head → TrafficBody → messages.Message
 message h b = record { head = h; body = b }
 
--- the type, the head and what stands behind it, as their layouts have them
-pub record AreParts (body : List Bool) (k : ℕ) (c : Contents) : Type 0 where
+-- the type, the values of the head and the bits behind it
+pub record AreParts (body : List Bool) (k : ℕ) (vs : List ℕ) (rest : List Bool) : Type 0 where
   pub kind : k ≡ number_at 0 8 body
-  pub head : reading.head_of c.fixed ≡ reading.head_at body
-  pub fit : FieldsFit (messages.head_fields (reading.head_of c.fixed))
-  pub behind : c.rest ≡ drop 17 body
+  pub head : reading.head_of vs ≡ reading.head_at body
+  pub fit : FieldsFit (messages.head_fields (reading.head_of vs))
+  pub behind : rest ≡ drop 17 body
 
-abbrev head_said : List Bool → Contents
-head_said body =
-    plain_contents (values_at head_widths (drop 8 body)) ([] ∷ [] ∷ [] ∷ []) (drop 9 (drop 8 body))
+abbrev head_said : List Bool → List ℕ × List Bool
+head_said body = (values_at head_widths (drop 8 body), drop 9 (drop 8 body))
 
 pub kind_there : (body : List Bool) → reading.is_body body ≡ true →
     number_part 8 body ≡ Some (number_at 0 8 body, drop 8 body)
@@ -341,12 +340,13 @@ kind_there body t =
     rw some refl
 
 pub head_there : (body : List Bool) → reading.is_body body ≡ true →
-    layouts.reading head_shape (drop 8 body) ≡ Some (head_said body)
+    fields_at head_widths (drop 8 body) ≡ Some (head_said body)
+unfolding fields_at
 head_there body t =
     let w = drop 8 body in
     let some = le-leb 9 (length w)
     (omega (arith, (is_body_parts body t).1, length-drop 8 body)) in
-    fields_reading head_widths w ∙ rw some refl
+    rw some refl
 
 pub no_kind : (body : List Bool) → reading.is_body body ≡ true → ¬ (None ≡ number_part 8 body)
 no_kind body t none =
@@ -362,48 +362,48 @@ behind_kind body w k t typed =
     (ap (λ (x : ℕ × List Bool). x.0) pair, ap (λ (x : ℕ × List Bool). x.1) pair)
 
 pub no_head : (body w : List Bool) (k : ℕ) → reading.is_body body ≡ true →
-    Some (k, w) ≡ number_part 8 body → ¬ (None ≡ layouts.reading head_shape w)
+    Some (k, w) ≡ number_part 8 body → ¬ (None ≡ fields_at head_widths w)
 no_head body w k t typed none =
     let some : None ≡ Some (head_said body) =
-    none ∙ ap (layouts.reading head_shape) (behind_kind body w k t typed).1 ∙ head_there body t in
+    none ∙ ap (fields_at head_widths) (behind_kind body w k t typed).1 ∙ head_there body t in
     absurd (cc)
 
-pub are_parts : (body w : List Bool) (k : ℕ) (c : Contents) → reading.is_body body ≡ true →
-    Some (k, w) ≡ number_part 8 body → Some c ≡ layouts.reading head_shape w → AreParts body k c
+pub are_parts : (body w : List Bool) (k : ℕ) (vs : List ℕ) (rest : List Bool) →
+    reading.is_body body ≡ true → Some (k, w) ≡ number_part 8 body →
+    Some (vs, rest) ≡ fields_at head_widths w → AreParts body k vs rest
 unfolding reading.head_at
-are_parts body w k c t typed read =
+are_parts body w k vs rest t typed read =
     let there = behind_kind body w k t typed in
-    let same : c ≡ head_said body =
-    some_is c (head_said body)
-    (read ∙ ap (layouts.reading head_shape) there.1 ∙ head_there body t) in
-    let values : c.fixed ≡ values_at head_widths (drop 8 body) =
-    ap (λ (d : Contents). d.fixed) same in
+    let same : (vs, rest) ≡ head_said body =
+    some_is (vs, rest) (head_said body)
+    (read ∙ ap (fields_at head_widths) there.1 ∙ head_there body t) in
+    let us = values_at head_widths (drop 8 body) in
+    let values : vs ≡ us = ap (λ (x : List ℕ × List Bool). x.0) same in
     let v = values_there head_widths (drop 8 body)
     (omega (arith, (is_body_parts body t).1, length-drop 8 body)) in
-    let vs = values_at head_widths (drop 8 body) in
     record {
       kind = there.0;
       head = ap reading.head_of values;
-      fit = subst (λ (us : List ℕ). FieldsFit (messages.head_fields (reading.head_of us))) (sym values)
-          (subst (λ (us : List ℕ). FieldsFit (in_widths head_widths us)) (sym (head_back vs v.0 v.1)) v.1);
-      behind = ap (λ (d : Contents). d.rest) same ∙ dropped 9 8 body;
+      fit = subst (λ (ns : List ℕ). FieldsFit (messages.head_fields (reading.head_of ns))) (sym values)
+          (subst (λ (ns : List ℕ). FieldsFit (in_widths head_widths ns)) (sym (head_back us v.0 v.1)) v.1);
+      behind = ap (λ (x : List ℕ × List Bool). x.1) same ∙ dropped 9 8 body;
     }
 
 -- what was read behind a head
-pub part_read : (body : List Bool) (k : ℕ) (c : Contents) (h : Head) (read : Option TrafficBody) →
-    reading.is_body body ≡ true → AreParts body k c → h ≡ reading.head_of c.fixed →
-    read ≡ reading.part_reading k h.encryption c.rest →
+pub part_read : (body : List Bool) (k : ℕ) (vs : List ℕ) (rest : List Bool) (h : Head)
+    (read : Option TrafficBody) → reading.is_body body ≡ true → AreParts body k vs rest →
+    h ≡ reading.head_of vs → read ≡ reading.part_reading k h.encryption rest →
     mapped (message h) read ≡ reading.body_reading body
 unfolding reading.body_reading
-part_read body k c h read t parts head e =
+part_read body k vs rest h read t parts head e =
     let g = reading.head_at body in
     let n = number_at 0 8 body in
     let all : mapped (message g) (reading.part_reading n g.encryption (drop 17 body))
     ≡ reading.body_reading body = rw t refl in
     ap (mapped (message h)) e
-    ∙ ap (λ (x : Head). mapped (message x) (reading.part_reading k x.encryption c.rest))
+    ∙ ap (λ (x : Head). mapped (message x) (reading.part_reading k x.encryption rest))
     (head ∙ parts.head)
-    ∙ ap (λ (x : ℕ). mapped (message g) (reading.part_reading x g.encryption c.rest)) parts.kind
+    ∙ ap (λ (x : ℕ). mapped (message g) (reading.part_reading x g.encryption rest)) parts.kind
     ∙ ap (λ (r : List Bool). mapped (message g) (reading.part_reading n g.encryption r))
     parts.behind ∙ all
 

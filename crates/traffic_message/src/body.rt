@@ -1,6 +1,6 @@
 //! What a message says behind its head.
 
-ghost use Rattle.std.specs.Prelude.{◌≡◌, ◌+◌, ◌≤◌, ◌++◌, length};
+ghost use Rattle.std.specs.Prelude.{◌≡◌, ◌+◌, ◌≤◌, ◌++◌, drop, length};
 ghost use Rattle.traffic_message.specs.Layouts.{body_from, contents_of, form_in, HasFields};
 ghost use Rattle.traffic_message.specs.Messages.{bits_of, kind_of as type_of};
 ghost use Rattle.traffic_message.specs.Reading.{part_reading};
@@ -10,7 +10,7 @@ use crate::in_traffic::InTraffic;
 use crate::layouts::{Form, form_of, layout_of};
 use crate::neighbors::NeighborUpdate;
 use chip_core::{Bits, Numbers};
-use message_layout::{Contents, append, read};
+use message_layout::{Contents, append, read_from};
 
 /// What a message of the traffic channel says behind its head.
 ///
@@ -45,14 +45,15 @@ impl TrafficBody {
         }
     }
 
-    /// Reads what stands behind the head, by the type where nothing is encrypted; `None` where the
-    /// fields of the type don't fit.
-    pub(crate) fn read(kind: u8, encryption: u8, bits: &Bits) -> Option<TrafficBody>
-        requires { length bits.now ≤ 1143 }
-        ensures { result ≡ part_reading kind encryption bits.now }
+    /// Reads what stands behind the head, from a place on, by the type where nothing is encrypted;
+    /// `None` where the fields of the type don't fit.
+    pub(crate) fn read(kind: u8, encryption: u8, bits: &Bits, from: u16) -> Option<TrafficBody>
+        requires within { from ≤ length bits.now }
+        requires room { length (drop from bits.now) ≤ 1143 }
+        ensures { result ≡ part_reading kind encryption (drop from bits.now) }
     {
-        let form = form_of(kind, encryption, bits);
-        let contents = read(&layout_of(form), bits)?;
+        let form = form_of(kind, encryption, bits, from);
+        let contents = read_from(&layout_of(form), bits, from)?;
         Some(TrafficBody::of(form, kind, &contents))
     }
 

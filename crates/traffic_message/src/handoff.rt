@@ -1,6 +1,6 @@
 //! The Extended Handoff Direction Message.
 
-ghost use Rattle.std.specs.Prelude.{◌≡◌, ◌<◌, ◌≤◌, ◌==◌, length};
+ghost use Rattle.std.specs.Prelude.{◌≡◌, ◌<◌, ◌≤◌, ◌==◌, drop, length};
 ghost use Rattle.std.specs.List.{All};
 ghost use Rattle.chip_core.specs.Fields.{in_widths, FieldsFit};
 ghost use Rattle.chip_core.specs.Readings.{number_at};
@@ -91,29 +91,32 @@ impl HandoffDirection {
     }
 }
 
-/// Whether HARD_INCLUDED is there and set.
+/// Whether HARD_INCLUDED is there and set in the fields from a place on.
 #[tactic(auto, unfolding(crate::specs::Handoff::is_hard))]
-pub(crate) fn is_hard_handoff(bits: &Bits) -> bool
-    ensures { result ≡ is_hard bits.now }
+pub(crate) fn is_hard_handoff(bits: &Bits, from: u16) -> bool
+    requires { from ≤ length bits.now }
+    ensures { result ≡ is_hard (drop from bits.now) }
 {
-    is_set(bits, hard_at(bits))
+    is_set(bits, from, hard_at(bits, from))
 }
 
-/// Whether the bit at a place is there and set.
-fn is_set(bits: &Bits, place: u16) -> bool
-    ensures { result ≡ (number_at place 1 bits.now == 1) }
+/// Whether the bit at a place of those from another on is there and set.
+fn is_set(bits: &Bits, from: u16, place: u16) -> bool
+    requires { from ≤ length bits.now }
+    ensures { result ≡ (number_at place 1 (drop from bits.now) == 1) }
 {
-    place < bits.len() && bits.get(place)
+    place < bits.len() - from && bits.get(from + place)
 }
 
 /// Where HARD_INCLUDED stands: behind the search parameters where SEARCH_INCLUDED is set.
 #[tactic(auto, unfolding(crate::specs::Handoff::hard_place))]
-fn hard_at(bits: &Bits) -> u16
-    ensures value { result ≡ hard_place bits.now }
+fn hard_at(bits: &Bits, from: u16) -> u16
+    requires { from ≤ length bits.now }
+    ensures value { result ≡ hard_place (drop from bits.now) }
     ensures least { 10 ≤ result }
     ensures most { result ≤ 34 }
 {
-    if is_set(bits, 9) { 34 } else { 10 }
+    if is_set(bits, from, 9) { 34 } else { 10 }
 }
 
 /// The fields of what was read.

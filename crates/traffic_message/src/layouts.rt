@@ -1,6 +1,6 @@
 //! The layouts of the head, and of what stands behind it.
 
-ghost use Rattle.std.specs.Prelude.{◌≡◌};
+ghost use Rattle.std.specs.Prelude.{◌≡◌, ◌≤◌, drop, length};
 ghost use Rattle.message_layout.specs.Shapes.{shape};
 ghost use Rattle.traffic_message.specs.Layouts.{form_at, shape_of};
 
@@ -25,8 +25,9 @@ pub(crate) enum Form {
 }
 
 /// The form of what stands behind a head, by the type where nothing is encrypted.
-pub(crate) fn form_of(kind: u8, encryption: u8, bits: &Bits) -> Form
-    ensures { result ≡ form_at kind encryption bits.now }
+pub(crate) fn form_of(kind: u8, encryption: u8, bits: &Bits, from: u16) -> Form
+    requires { from ≤ length bits.now }
+    ensures { result ≡ form_at kind encryption (drop from bits.now) }
 {
     if encryption == 0 && kind == 7 {
         return Form::Parameters;
@@ -34,7 +35,7 @@ pub(crate) fn form_of(kind: u8, encryption: u8, bits: &Bits) -> Form
     if encryption == 0 && kind == 8 {
         return Form::Update;
     }
-    if encryption == 0 && kind == 17 && !is_hard_handoff(bits) {
+    if encryption == 0 && kind == 17 && !is_hard_handoff(bits, from) {
         return Form::Direction;
     }
     Form::Plain

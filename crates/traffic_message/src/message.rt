@@ -15,7 +15,7 @@ use crate::body::TrafficBody;
 use crate::fields::Head;
 use crate::layouts::HEAD;
 use chip_core::{Bits, CheckForm, Numbers};
-use message_layout::{Contents, FieldValues, append, read, read_kind};
+use message_layout::{Contents, FieldValues, append, read_fields, read_kind};
 use quality_bits::{Kind, MessageFault, body_of, capsule_of};
 use std::marker::Model;
 
@@ -109,10 +109,10 @@ impl TrafficMessage {
         if !fills_capsule(body) {
             return None;
         }
-        let (kind, behind) = read_kind(body)?;
-        let contents = read(&HEAD, &behind)?;
-        let head = head_from(&contents.fixed);
-        let body = TrafficBody::read(kind, head.encryption, &contents.rest)?;
+        let (kind, from) = read_kind(body)?;
+        let (values, from) = read_fields(HEAD.fixed, body, from)?;
+        let head = head_from(&values);
+        let body = TrafficBody::read(kind, head.encryption, body, from)?;
         Some(TrafficMessage { head, body })
     }
 

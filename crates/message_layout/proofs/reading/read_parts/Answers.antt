@@ -1,4 +1,4 @@
-use Rattle.message_layout.proofs.Common.{length, arith, length-map, shape}
+use Rattle.message_layout.proofs.Common.{drop, length, arith, length-map, shape}
 use Rattle.message_layout.proofs.Lawful.{count_below, lawful}
 use Rattle.message_layout.proofs.Parts.{octets_left}
 use Rattle.message_layout.proofs.reading.read_parts.Goals as goal
@@ -48,13 +48,16 @@ read_records-requires-clause-few c =
 pub read_records-requires-clause-room : goal.read_records-requires-clause-room
 read_records-requires-clause-room c =
     let s = shape c.args.layout.now in
-    let left = octets_left s.presence s.fixed s.group s.zeros s.count c.args.bits.now
-    c.in_ok-fixed.bits c.in_ok-group.bits c.in_ok-octets.bits c.in_ok-fixed.fixed
-    c.in_ok-group.group c.in_ok-octets.octets c.in_ok-fixed.ensures c.in_ok-group.ensures
-    c.in_ok-octets.ensures in
+    let bits = c.args.bits.now in
+    let fixed = drop c.in_ok-fixed.from bits in
+    let group = drop c.in_ok-group.from bits in
+    let octets = drop c.in_ok-octets.from bits in
+    let left = octets_left s.presence s.fixed s.group s.zeros s.count (drop c.args.from bits) fixed
+    group octets c.in_ok-fixed.fixed c.in_ok-group.group c.in_ok-octets.octets
+    c.in_ok-fixed.ensures.values c.in_ok-group.ensures.group c.in_ok-octets.ensures.octets in
     omega (
       arith,
-      count_below s.records (length c.in_ok-octets.bits) (length c.args.bits.now)
+      count_below s.records (length octets) (length (drop c.args.from bits))
           (lawful s c.requires.lawful).records left,
       c.requires.room,
     )

@@ -1,8 +1,8 @@
 use Rattle.sync_message.proofs.ByLayout.{fields_fit, sync_lawful}
 use Rattle.sync_message.proofs.layout.read_body.Goals as goal
 
-pub read-requires-clause-lawful : goal.read-requires-clause-lawful
-read-requires-clause-lawful c = sync_lawful
+pub read_from-requires-clause-lawful : goal.read_from-requires-clause-lawful
+read_from-requires-clause-lawful c = sync_lawful
 
 pub fields_from-requires-clause-fixed : goal.fields_from-requires-clause-fixed
 fields_from-requires-clause-fixed c =

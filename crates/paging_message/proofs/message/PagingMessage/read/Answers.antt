@@ -1,4 +1,4 @@
-use Rattle.paging_message.proofs.Common.{◌≡◌, ◌≤◌, None, Some, length, subst, sym, ap, ◌∙◌, count_in, Shape}
+use Rattle.paging_message.proofs.Common.{◌≡◌, ◌≤◌, None, Some, drop, length, subst, sym, ap, ◌∙◌, count_in, Shape}
 use Rattle.paging_message.proofs.ByLayout.{few_records, lawful}
 use Rattle.paging_message.proofs.Messages.{no_body, no_type, told, told_is, typed_length}
 use Rattle.paging_message.proofs.message.PagingMessage.read.Goals as goal
@@ -10,34 +10,34 @@ returns-then-not-fills_capsule c =
 pub returns-in_err-kind : goal.returns-in_err-kind
 returns-in_err-kind c =
     let none : c.from_residual.result ≡ None = cc in
-    none ∙ no_type c.args.body.now c.in_err-kind.ensures
+    none ∙ no_type c.args.body.now c.in_err-kind.ensures.kind
 
-pub read-requires-clause-lawful : goal.read-requires-clause-lawful
-read-requires-clause-lawful c = rw c.layout_of.ensures (lawful c.in_ok-kind.kind)
+pub read_from-requires-clause-lawful : goal.read_from-requires-clause-lawful
+read_from-requires-clause-lawful c = rw c.layout_of.ensures (lawful c.in_ok-kind.kind)
 
-pub read-requires-clause-room : goal.read-requires-clause-room
-read-requires-clause-room c =
-    subst (λ (s : Shape). count_in s.records (length c.in_ok-kind.behind) ≤ 128)
-    (sym c.layout_of.ensures) (few_records c.in_ok-kind.kind (length c.in_ok-kind.behind)
-    (typed_length c.args.body.now c.in_ok-kind.behind c.in_ok-kind.kind
-    (c.fills_capsule.ensures.0 c.if-not-fills_capsule.false) c.in_ok-kind.ensures))
+pub read_from-requires-clause-room : goal.read_from-requires-clause-room
+read_from-requires-clause-room c =
+    subst (λ (s : Shape). count_in s.records (length (drop c.in_ok-kind.from c.args.body.now)) ≤ 128)
+    (sym c.layout_of.ensures) (few_records c.in_ok-kind.kind (length (drop c.in_ok-kind.from c.args.body.now))
+    (typed_length c.args.body.now (drop c.in_ok-kind.from c.args.body.now) c.in_ok-kind.kind
+    (c.fills_capsule.ensures.0 c.if-not-fills_capsule.false) c.in_ok-kind.ensures.kind))
 
 pub returns-in_err-contents : goal.returns-in_err-contents
 returns-in_err-contents c =
     let none : c.from_residual-in_err-contents.result ≡ None = cc in
-    none ∙ told c.args.body.now c.in_ok-kind.behind c.in_ok-kind.kind _ None
-    (c.fills_capsule.ensures.0 c.if-not-fills_capsule.false) c.in_ok-kind.ensures
+    none ∙ told c.args.body.now (drop c.in_ok-kind.from c.args.body.now) c.in_ok-kind.kind _ None
+    (c.fills_capsule.ensures.0 c.if-not-fills_capsule.false) c.in_ok-kind.ensures.kind
     c.layout_of.ensures c.in_err-contents.ensures.reading
 
 pub of-requires : goal.of-requires
 of-requires c =
-    told_is c.args.body.now c.in_ok-kind.behind c.in_ok-kind.kind _ c.in_ok-contents.contents
-    (c.fills_capsule.ensures.0 c.if-not-fills_capsule.false) c.in_ok-kind.ensures
+    told_is c.args.body.now (drop c.in_ok-kind.from c.args.body.now) c.in_ok-kind.kind _ c.in_ok-contents.contents
+    (c.fills_capsule.ensures.0 c.if-not-fills_capsule.false) c.in_ok-kind.ensures.kind
     c.layout_of.ensures c.in_ok-contents.ensures.found
 
 pub returns : goal.returns
 returns c =
     ap Some c.of.ensures
-    ∙ told c.args.body.now c.in_ok-kind.behind c.in_ok-kind.kind _ (Some c.in_ok-contents.contents)
-    (c.fills_capsule.ensures.0 c.if-not-fills_capsule.false) c.in_ok-kind.ensures
+    ∙ told c.args.body.now (drop c.in_ok-kind.from c.args.body.now) c.in_ok-kind.kind _ (Some c.in_ok-contents.contents)
+    (c.fills_capsule.ensures.0 c.if-not-fills_capsule.false) c.in_ok-kind.ensures.kind
     c.layout_of.ensures c.in_ok-contents.ensures.reading

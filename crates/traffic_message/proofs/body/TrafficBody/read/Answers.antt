@@ -1,19 +1,19 @@
-use Rattle.traffic_message.proofs.Common.{◌≡◌, ◌≤◌, Some, None, length, sym, ap, subst, ◌∙◌, count_in, Shape}
+use Rattle.traffic_message.proofs.Common.{◌≡◌, ◌≤◌, Some, None, drop, length, sym, ap, subst, ◌∙◌, count_in, Shape}
 use Rattle.traffic_message.proofs.ByLayout.{few_records, lawful, told, told_is}
 use Rattle.traffic_message.proofs.body.TrafficBody.read.Goals as goal
 
-pub read-requires-clause-lawful : goal.read-requires-clause-lawful
-read-requires-clause-lawful c = rw c.layout_of.ensures (lawful c.form_of-form.result)
+pub read_from-requires-clause-lawful : goal.read_from-requires-clause-lawful
+read_from-requires-clause-lawful c = rw c.layout_of.ensures (lawful c.form_of-form.result)
 
-pub read-requires-clause-room : goal.read-requires-clause-room
-read-requires-clause-room c =
-    subst (λ (s : Shape). count_in s.records (length c.args.bits.now) ≤ 128)
-    (sym c.layout_of.ensures) (few_records c.form_of-form.result (length c.args.bits.now) c.requires)
+pub read_from-requires-clause-room : goal.read_from-requires-clause-room
+read_from-requires-clause-room c =
+    subst (λ (s : Shape). count_in s.records (length (drop c.args.from c.args.bits.now)) ≤ 128)
+    (sym c.layout_of.ensures) (few_records c.form_of-form.result (length (drop c.args.from c.args.bits.now)) c.requires.room)
 
 pub returns-in_err-contents : goal.returns-in_err-contents
 returns-in_err-contents c =
     let none : c.from_residual.result ≡ None = cc in
-    none ∙ told c.args.kind c.args.encryption c.args.bits.now c.form_of-form.result _ None
+    none ∙ told c.args.kind c.args.encryption (drop c.args.from c.args.bits.now) c.form_of-form.result _ None
     c.form_of-form.ensures c.layout_of.ensures c.in_err-contents.ensures.reading
 
 pub of-requires : goal.of-requires
@@ -24,6 +24,6 @@ of-requires c =
 pub returns : goal.returns
 returns c =
     ap Some c.of.ensures
-    ∙ told c.args.kind c.args.encryption c.args.bits.now c.form_of-form.result _
+    ∙ told c.args.kind c.args.encryption (drop c.args.from c.args.bits.now) c.form_of-form.result _
     (Some c.in_ok-contents.contents) c.form_of-form.ensures c.layout_of.ensures
     c.in_ok-contents.ensures.reading
