@@ -5,8 +5,8 @@ use Rattle.traffic_message.proofs.Common.{Option, Some, None, and_from, and_part
 use Rattle.traffic_message.proofs.Common.{leb-true, ne_eqb, drop_at, length-drop, binary, digit, spelled, in_widths, FieldsFit, number_at}
 use Rattle.traffic_message.proofs.Common.{values_at, digit_of, length-binary, behind_front, dropped, front, length-in_widths, number_front}
 use Rattle.traffic_message.proofs.Common.{values_again, values_there, FillsCapsule, M16, is_hard, head_widths, TrafficBody, Head, Form}
-use Rattle.traffic_message.proofs.Common.{HasFields, body_from, contents_of, form_at, form_in, shape_of, head_shape, Contents, mapped, fields_at}
-use Rattle.traffic_message.proofs.Common.{mapped_some, number_part, some_is, plain_contents, fields_reading, reading_again, reading_there}
+use Rattle.traffic_message.proofs.Common.{HasFields, body_from, contents_of, form_at, form_in, shape_of, Contents, mapped, fields_at}
+use Rattle.traffic_message.proofs.Common.{mapped_some, number_part, some_is, reading_again, reading_there}
 use Rattle.message_layout.specs.Reading as layouts
 use Rattle.traffic_message.proofs.ByLayout.{laid, lawful, made_of, placed, spelled_as}
 use Rattle.traffic_message.proofs.Directions.{soft_bits}
@@ -384,8 +384,9 @@ are_parts body w k vs rest t typed read =
     record {
       kind = there.0;
       head = ap reading.head_of values;
-      fit = subst (λ (ns : List ℕ). FieldsFit (messages.head_fields (reading.head_of ns))) (sym values)
-          (subst (λ (ns : List ℕ). FieldsFit (in_widths head_widths ns)) (sym (head_back us v.0 v.1)) v.1);
+      fit = subst (λ (ns : List ℕ). FieldsFit (messages.head_fields (reading.head_of ns)))
+          (sym values) (subst (λ (ns : List ℕ). FieldsFit (in_widths head_widths ns))
+          (sym (head_back us v.0 v.1)) v.1);
       behind = ap (λ (x : List ℕ × List Bool). x.1) same ∙ dropped 9 8 body;
     }
 

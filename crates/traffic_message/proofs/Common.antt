@@ -46,7 +46,7 @@ pub use Rattle.traffic_message.specs.Handoff.{direction_at, direction_records, h
 unfoldable pub use Rattle.traffic_message.specs.Handoff.{direction_reading}
 pub use Rattle.traffic_message.specs.InTraffic.{in_traffic_at}
 unfoldable pub use Rattle.traffic_message.specs.InTraffic.{in_traffic_reading}
-pub use Rattle.traffic_message.specs.Layouts.{HasFields, body_from, contents_of, form_at, form_in, head_shape, shape_of}
+pub use Rattle.traffic_message.specs.Layouts.{HasFields, body_from, contents_of, form_at, form_in, shape_of}
 pub use Rattle.traffic_message.specs.Messages.{IsTrafficMessage, Message, bits_of, head_fields, head_values, kind_of, message_body}
 unfoldable pub use Rattle.traffic_message.specs.Messages.{traffic_capsule}
 pub use Rattle.traffic_message.specs.Multiplex.{joined, primary_bits}

@@ -17,27 +17,32 @@ read_from-requires-clause-lawful c = rw c.layout_of.ensures (lawful c.in_ok-kind
 
 pub read_from-requires-clause-room : goal.read_from-requires-clause-room
 read_from-requires-clause-room c =
-    subst (λ (s : Shape). count_in s.records (length (drop c.in_ok-kind.from c.args.body.now)) ≤ 128)
-    (sym c.layout_of.ensures) (few_records c.in_ok-kind.kind (length (drop c.in_ok-kind.from c.args.body.now))
-    (typed_length c.args.body.now (drop c.in_ok-kind.from c.args.body.now) c.in_ok-kind.kind
+    let body = c.args.body.now in
+    let behind = drop c.in_ok-kind.from body in
+    subst (λ (s : Shape). count_in s.records (length behind) ≤ 128) (sym c.layout_of.ensures)
+    (few_records c.in_ok-kind.kind (length behind)
+    (typed_length body behind c.in_ok-kind.kind
     (c.fills_capsule.ensures.0 c.if-not-fills_capsule.false) c.in_ok-kind.ensures.kind))
 
 pub returns-in_err-contents : goal.returns-in_err-contents
 returns-in_err-contents c =
+    let body = c.args.body.now in
     let none : c.from_residual-in_err-contents.result ≡ None = cc in
-    none ∙ told c.args.body.now (drop c.in_ok-kind.from c.args.body.now) c.in_ok-kind.kind _ None
+    none ∙ told body (drop c.in_ok-kind.from body) c.in_ok-kind.kind _ None
     (c.fills_capsule.ensures.0 c.if-not-fills_capsule.false) c.in_ok-kind.ensures.kind
     c.layout_of.ensures c.in_err-contents.ensures.reading
 
 pub of-requires : goal.of-requires
 of-requires c =
-    told_is c.args.body.now (drop c.in_ok-kind.from c.args.body.now) c.in_ok-kind.kind _ c.in_ok-contents.contents
+    let body = c.args.body.now in
+    told_is body (drop c.in_ok-kind.from body) c.in_ok-kind.kind _ c.in_ok-contents.contents
     (c.fills_capsule.ensures.0 c.if-not-fills_capsule.false) c.in_ok-kind.ensures.kind
     c.layout_of.ensures c.in_ok-contents.ensures.found
 
 pub returns : goal.returns
 returns c =
+    let body = c.args.body.now in
     ap Some c.of.ensures
-    ∙ told c.args.body.now (drop c.in_ok-kind.from c.args.body.now) c.in_ok-kind.kind _ (Some c.in_ok-contents.contents)
+    ∙ told body (drop c.in_ok-kind.from body) c.in_ok-kind.kind _ (Some c.in_ok-contents.contents)
     (c.fills_capsule.ensures.0 c.if-not-fills_capsule.false) c.in_ok-kind.ensures.kind
     c.layout_of.ensures c.in_ok-contents.ensures.reading

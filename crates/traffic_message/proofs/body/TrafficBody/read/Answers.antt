@@ -7,13 +7,15 @@ read_from-requires-clause-lawful c = rw c.layout_of.ensures (lawful c.form_of-fo
 
 pub read_from-requires-clause-room : goal.read_from-requires-clause-room
 read_from-requires-clause-room c =
-    subst (λ (s : Shape). count_in s.records (length (drop c.args.from c.args.bits.now)) ≤ 128)
-    (sym c.layout_of.ensures) (few_records c.form_of-form.result (length (drop c.args.from c.args.bits.now)) c.requires.room)
+    let behind = drop c.args.from c.args.bits.now in
+    subst (λ (s : Shape). count_in s.records (length behind) ≤ 128) (sym c.layout_of.ensures)
+    (few_records c.form_of-form.result (length behind) c.requires.room)
 
 pub returns-in_err-contents : goal.returns-in_err-contents
 returns-in_err-contents c =
+    let behind = drop c.args.from c.args.bits.now in
     let none : c.from_residual.result ≡ None = cc in
-    none ∙ told c.args.kind c.args.encryption (drop c.args.from c.args.bits.now) c.form_of-form.result _ None
+    none ∙ told c.args.kind c.args.encryption behind c.form_of-form.result _ None
     c.form_of-form.ensures c.layout_of.ensures c.in_err-contents.ensures.reading
 
 pub of-requires : goal.of-requires
@@ -23,7 +25,8 @@ of-requires c =
 
 pub returns : goal.returns
 returns c =
+    let behind = drop c.args.from c.args.bits.now in
     ap Some c.of.ensures
-    ∙ told c.args.kind c.args.encryption (drop c.args.from c.args.bits.now) c.form_of-form.result _
+    ∙ told c.args.kind c.args.encryption behind c.form_of-form.result _
     (Some c.in_ok-contents.contents) c.form_of-form.ensures c.layout_of.ensures
     c.in_ok-contents.ensures.reading

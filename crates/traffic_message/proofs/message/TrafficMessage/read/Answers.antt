@@ -42,8 +42,8 @@ returns-in_err-body c =
     let parts = are_parts body (drop c.in_ok-kind.from body) c.in_ok-kind.kind c.in_ok-values.values
     rest t c.in_ok-kind.ensures.kind c.in_ok-values.ensures.values in
     let none : c.from_residual-in_err-body.result ≡ None = cc in
-    none ∙ part_read body c.in_ok-kind.kind c.in_ok-values.values rest c.head_from-head.result None t
-    parts c.head_from-head.ensures c.in_err-body.ensures
+    none ∙ part_read body c.in_ok-kind.kind c.in_ok-values.values rest c.head_from-head.result None
+    t parts c.head_from-head.ensures c.in_err-body.ensures
 
 pub returns : goal.returns
 returns c =
