@@ -266,8 +266,8 @@ pub use Rattle.clean_link.specs.PageLaws.{PageSendingsComeBack, WholePagesComeBa
 pub use Rattle.clean_link.specs.PagingLaws.{MarksTellTheRate, PagingFramesComeBack, PagingHaveSentSigns, PagingCodewordsAreTheOnlyBest}
 pub use Rattle.clean_link.specs.PagingLaws.{SilentPagingFramesAreZeros, SilentPagingIsZero, UnmarkedWithoutSync, ordered_symbols}
 pub use Rattle.clean_link.specs.ReceivedFrames.{AreReceived, IsDistinctFrame2, IsReceivedAs, IsSentFrame2, cycled_frame2, codeword_symbols2}
-pub use Rattle.clean_link.specs.ReceivedLaws.{EachFrameIsReceived, FramesBehindMark, FramesShowSymbols, SetOneSends, SetTwoBehindMark}
-pub use Rattle.clean_link.specs.ReceivedLaws.{SetTwoFramesComeBack, SetTwoSends}
+pub use Rattle.clean_link.specs.ReceivedLaws.{EachFrameIsReceived, FramesBehindMark, FramesShowPowerBits, FramesShowSymbols}
+pub use Rattle.clean_link.specs.ReceivedLaws.{SetOneSends, SetTwoBehindMark, SetTwoFramesComeBack, SetTwoSends}
 pub use Rattle.clean_link.specs.SentEvents.{FollowsSent, NoEventIsDirected, WholeMessagesComeBack, by_places, is_at, known_event}
 pub use Rattle.clean_link.specs.SentEvents.{pages_behind_mark, pages_with_sync, told_by_first, told_followed, told_with_sync}
 unfoldable pub use Rattle.clean_link.specs.SentEvents.{paging_sent, sent_events, sets_heard, signaling_sent, traffic_sent}

@@ -78,14 +78,12 @@ pub record SendsSymbols (plan : CellPlan) (p : TrafficPlan) (frame : ℕ)
       ≡ sent_with (frame_state (frames_of plan p) frame) (traffic_mask p.esn) power_bits symbols
 
 -- Soft values of a frame that show what it sends: descrambled by its scrambling they are, at the
--- places that no power control bit replaces, one positive number times the signs of its symbols,
--- and raw, at the others, that number times the signs of the power control bits.
-pub record ShowFrame (replaced : List ℕ) (strength : ℕ) (symbols power_bits : List Bool)
-    (descrambled raw : List ℤ) : Type 0 where
+-- places that no power control bit replaces, one positive number times the signs of its symbols.
+pub record ShowFrame (replaced : List ℕ) (strength : ℕ) (symbols : List Bool)
+    (descrambled : List ℤ) : Type 0 where
   pub strong : 0 < strength
   pub long : length descrambled ≡ 384
   pub shows : ShowSymbols replaced strength symbols descrambled
-  pub powered : ShowPowerBits replaced strength power_bits raw
 
 -- ---- the frames of a channel
 

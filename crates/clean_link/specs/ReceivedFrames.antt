@@ -19,8 +19,8 @@ use Rattle.clean_link.specs.SentEvents.{told_with_sync}
 -- ---- any frame
 
 -- What is received of frame `frame` of a channel, where it sends these symbols and these power
--- control bits: it ends at its own end, its power control bits are the sent ones, and its soft
--- values show what is sent.
+-- control bits: it ends at its own end, its power control bits are the sent ones, and its
+-- descrambled soft values show the symbols.
 pub record IsReceivedAs (plan : CellPlan) (p : TrafficPlan) (frame : ℕ)
     (symbols power_bits : List Bool) (soft : SoftFrame) : Type 0 where
   pub ends : soft.end ≡ frame_ends plan p frame
@@ -29,8 +29,7 @@ pub record IsReceivedAs (plan : CellPlan) (p : TrafficPlan) (frame : ℕ)
     power_bits = sent_bits power_bits;
   })
   pub shown : ShowFrame (replaced_of plan p frame) (soft_strength plan Data p.gain) symbols
-      power_bits
-      soft.descrambled soft.raw
+      soft.descrambled
 
 -- ---- frames of rate set 2
 

@@ -3,6 +3,7 @@
 use Rattle.std.specs.Prelude.{ℕ, ◌+◌, ◌-◌, ◌*◌, ◌≡◌, true, Bool, List, [], ◌∷◌, length, map, Some}
 use Rattle.std.specs.List.{Contains}
 use Rattle.chip_core.specs.declared.width.Width.{Width}
+use Rattle.rake_finger.specs.declared.form.Form.TheVariants.{Data}
 use Rattle.cell_plan.specs.Sampled.{made_samples}
 use Rattle.cell_plan.specs.Signal.{frames_of}
 use Rattle.cell_plan.specs.TrafficFrames.{cycled_frame, IsTrafficFrame2}
@@ -12,15 +13,15 @@ use Rattle.cell_plan.specs.declared.traffic_frame.TrafficFrame.{TrafficFrame}
 use Rattle.cell_plan.specs.declared.traffic_frame2.TrafficFrame2.{TrafficFrame2}
 use Rattle.heard_events.specs.FramesAlone.{traffic_channel}
 use Rattle.heard_events.specs.Marks.{mark}
-use Rattle.heard_events.specs.SoftFrames.{soft_frame, soft_frames}
+use Rattle.heard_events.specs.SoftFrames.{raw_at, soft_frame, soft_frames}
 use Rattle.heard_events.specs.Tuning.{Tuning}
 use Rattle.heard_events.specs.declared.mark.Mark.{Mark}
 use Rattle.chip_core.specs.declared.assignment.Traffic.{Traffic}
 use Rattle.heard_events.specs.declared.soft_frame.SoftFrame.{SoftFrame}
-use Rattle.clean_link.specs.CleanLink.{IsOnPath}
+use Rattle.clean_link.specs.CleanLink.{IsOnPath, soft_strength}
 use Rattle.cell_plan.specs.Stated.{IsReceivable}
 use Rattle.clean_link.specs.HeardFrames.{is_received, received_frames, codeword_symbols, IsAssigned}
-use Rattle.clean_link.specs.HeardFrames.{SendsSetTwo, SendsSymbols}
+use Rattle.clean_link.specs.HeardFrames.{replaced_of, SendsSetTwo, SendsSymbols, ShowPowerBits}
 use Rattle.clean_link.specs.ReceivedFrames.{cycled_frame2, codeword_symbols2, AreReceived}
 use Rattle.clean_link.specs.ReceivedFrames.{IsReceivedAs, IsSentFrame2}
 use Rattle.clean_link.specs.TrafficLaws.{HearsTraffic}
@@ -60,6 +61,16 @@ FramesShowSymbols = (width : Width) (plan : CellPlan) (p : TrafficPlan) (t : Tun
     SendsSymbols plan p frame symbols power_bits →
     IsReceivedAs plan p frame symbols power_bits
     (soft_frame t (traffic_channel traffic) m (made_samples plan) (frame - 4 * superframes))
+
+-- Its raw soft values show the power control bits, at the places of the symbols that they replace.
+abbrev pub FramesShowPowerBits : Type 0
+FramesShowPowerBits = (width : Width) (plan : CellPlan) (p : TrafficPlan) (t : Tuning)
+    (traffic : Traffic) (m : Mark) (superframes frame : ℕ) (symbols power_bits : List Bool) →
+    HearsTraffic width plan p t traffic m superframes →
+    is_received plan p (plan.link.start + m.sample) frame ≡ true →
+    SendsSymbols plan p frame symbols power_bits →
+    ShowPowerBits (replaced_of plan p frame) (soft_strength plan Data p.gain) power_bits
+    (raw_at t (traffic_channel traffic) m (made_samples plan) (frame - 4 * superframes))
 
 -- So a distinct frame of rate set 2 is decoded with its rate and its information bits, and is good.
 abbrev pub SetTwoFramesComeBack : Type 0

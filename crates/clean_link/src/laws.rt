@@ -26,7 +26,8 @@ ghost use Rattle.clean_link.specs.PagingLaws.{PagingHaveSentSigns, PagingCodewor
 ghost use Rattle.clean_link.specs.PagingLaws.{SilentPagingFramesAreZeros, SilentPagingIsZero};
 ghost use Rattle.clean_link.specs.PagingLaws.{UnmarkedWithoutSync};
 ghost use Rattle.clean_link.specs.ReceivedLaws.{EachFrameIsReceived, FramesBehindMark};
-ghost use Rattle.clean_link.specs.ReceivedLaws.{FramesShowSymbols, SetOneSends, SetTwoBehindMark};
+ghost use Rattle.clean_link.specs.ReceivedLaws.{FramesShowPowerBits, FramesShowSymbols};
+ghost use Rattle.clean_link.specs.ReceivedLaws.{SetOneSends, SetTwoBehindMark};
 ghost use Rattle.clean_link.specs.ReceivedLaws.{SetTwoFramesComeBack, SetTwoSends};
 ghost use Rattle.clean_link.specs.SentEvents.{NoEventIsDirected, WholeMessagesComeBack};
 ghost use Rattle.clean_link.specs.SharedCodewords.{AreDistinctBySharing, AreDistinctBySharing2};
@@ -141,6 +142,7 @@ pub fn frames_are_received_of_the_reference()
     ensures two { SetTwoSends }
     ensures each { EachFrameIsReceived }
     ensures shown { FramesShowSymbols }
+    ensures raw { FramesShowPowerBits }
     ensures decoded { SetTwoFramesComeBack }
     ensures behind { FramesBehindMark }
     ensures file { SetTwoBehindMark }

@@ -88,7 +88,6 @@ module _ (t : Tuning) (channel : Channel) (m : Mark) where
       record {
         number = k;
         end = frame_end s.fingers s.form (frame_start s k);
-        raw = raw;
         descrambled = unscrambled (s.scrambling k) raw;
         power = power_of channel m k raw;
       }

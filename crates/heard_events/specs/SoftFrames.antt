@@ -36,7 +36,6 @@ soft_frame t channel m samples k =
     record {
       number = k;
       end = frame_end s.fingers s.form (frame_start s k);
-      raw = raw_at t channel m samples k;
       descrambled = frame_softs samples s k;
       power = power_of channel m k (raw_at t channel m samples k);
     }

@@ -21,9 +21,7 @@ pub struct SoftFrame {
     pub number: u64,
     /// How many samples of the file have been taken when it ends on every finger.
     pub end: u64,
-    /// The raw soft values of its symbols, as the fingers hear them.
-    pub raw: FrameSofts,
-    /// The same, descrambled (7.1.3.1.6).
+    /// The soft values of its symbols, descrambled (7.1.3.1.6).
     pub descrambled: FrameSofts,
     /// Its power control bits; `None` for a frame of a paging channel.
     pub power: Option<PowerControl>,

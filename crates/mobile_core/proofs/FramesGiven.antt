@@ -11,11 +11,10 @@ use Rattle.heard_events.proofs.ChannelFrames.{form_by, waits_by, scrambled_by, k
 use Rattle.chip_core.proofs.Ranges as ranges
 
 -- WHAT IS RECEIVED OF A FRAME
-abbrev frame_by : ℕ → ℕ → List ℤ → List ℤ → Option PowerControl → SoftFrame
-frame_by number end raw descrambled' power = record {
+abbrev frame_by : ℕ → ℕ → List ℤ → Option PowerControl → SoftFrame
+frame_by number end descrambled' power = record {
   number = number;
   end = end;
-  raw = raw;
   descrambled = descrambled';
   power = power;
 }
@@ -30,7 +29,7 @@ module _ (t : Tuning) (channel : Channel) (m : Mark) where
         ≡ unscrambled
         (scrambling (after r.scrambling.state (24576 * number)) r.scrambling.mask) raw →
         power ≡ power_of channel m number raw →
-        frame_by number end raw descrambled' power ≡ soft_frame t channel m samples r.clock.have
+        frame_by number end descrambled' power ≡ soft_frame t channel m samples r.clock.have
     unfolding stream_end
     frame_is samples number end raw descrambled' power number_is end_is soft descrambled_is power_is =
         let s = channel_stream t channel m in
@@ -50,11 +49,10 @@ module _ (t : Tuning) (channel : Channel) (m : Mark) where
         ∙ ap (λ (i : ℕ). power_of channel m i raw) number_is
         ∙ ap (power_of channel m k) soft in
         let ends = end_is ∙ has.clocked.end_is in
-        ap (λ (i : ℕ). frame_by i end raw descrambled' power) number_is
-        ∙ ap (λ (e : ℕ). frame_by k e raw descrambled' power) ends
-        ∙ ap (λ (u : List ℤ). frame_by k (stream_end s k) u descrambled' power) soft
-        ∙ ap (λ (v : List ℤ). frame_by k (stream_end s k) heard v power) turn
-        ∙ ap (frame_by k (stream_end s k) heard (unscrambled (s.scrambling k) heard)) powered
+        ap (λ (i : ℕ). frame_by i end descrambled' power) number_is
+        ∙ ap (λ (e : ℕ). frame_by k e descrambled' power) ends
+        ∙ ap (λ (v : List ℤ). frame_by k (stream_end s k) v power) turn
+        ∙ ap (frame_by k (stream_end s k) (unscrambled (s.scrambling k) heard)) powered
 
   -- ONE FRAME AFTER ANOTHER
   module _ {r : FrameReceiver} {n : ℕ} (has : HasGiven t channel m r n)

@@ -120,15 +120,14 @@ impl FrameReceiver {
         ensures small { sum_by unsigned_abs result.descrambled ≤ frame_most }
     {
         let number = self.clock.coming();
-        let raw = self.raw(ring, codes);
-        let mut descrambled = raw;
-        unscramble(&self.scrambling.frame_bits(number), &mut descrambled);
+        let mut softs = self.raw(ring, codes);
+        let power = self.power_in(number, &softs);
+        unscramble(&self.scrambling.frame_bits(number), &mut softs);
         SoftFrame {
             number,
             end: self.clock.end(),
-            raw,
-            descrambled,
-            power: self.power_in(number, &raw),
+            descrambled: softs,
+            power,
         }
     }
 

@@ -7,7 +7,7 @@ use Rattle.clean_link.proofs.Common.{pairs_neighbours, ArePairs, power_bit, grou
 use Rattle.clean_link.proofs.Common.{map_ext_places, power_bits_at, raw_softs, frame_state, soft_strength, sent_bits, ShowPowerBits}
 use Rattle.clean_link.proofs.Common.{PowerBitsComeBack, SixteenPowerBitsAreSent}
 use Rattle.clean_link.proofs.traffic.OnePilot.{one_sums}
-use Rattle.clean_link.proofs.traffic.Signs.{heard_shown}
+use Rattle.clean_link.proofs.traffic.Signs.{heard_powered, heard_shown}
 
 -- ---- the places of power control bits
 
@@ -167,7 +167,8 @@ power_bits_back width plan p t traffic m legs superframes k f is heard =
     ap (λ (all : List (List ℤ)). map (power_bit all) (places 16))
     (one_sums t traffic m legs k heard.pilot (made_samples plan))
     ∙ shown_power_bits (soft_strength plan Data p.gain) (frame_state traffic m k)
-    (traffic_mask traffic.esn) f.power_bits softs shown.strong shown.powered
+    (traffic_mask traffic.esn) f.power_bits softs shown.strong
+    (heard_powered width plan p t traffic m legs superframes k f is heard)
 
 pub sixteen_sent : SixteenPowerBitsAreSent
 unfolding sent_bits

@@ -6,9 +6,9 @@ use Rattle.clean_link.proofs.Common.{frames_of, set_two, IsTrafficFrame2, CellPl
 use Rattle.clean_link.proofs.Common.{frames_within, soft_frame, soft_frames, raw_at, is_in_file, known_at, known_by, Stream}
 use Rattle.clean_link.proofs.Common.{frames_bound, replaced_in, Tuning, Mark, Traffic, PowerControl, SoftFrame, soft_strength, IsOnPath}
 use Rattle.clean_link.proofs.Common.{IsReceivable, is_received, received_frames, replaced_of, sent_bits, IsAssigned, SendsSetTwo}
-use Rattle.clean_link.proofs.Common.{SendsSymbols, ShowFrame, cycled_frame2, codeword_symbols2, AreReceived, IsReceivedAs, IsSentFrame2}
-use Rattle.clean_link.proofs.Common.{EachFrameIsReceived, FramesBehindMark, FramesShowSymbols, SetTwoBehindMark, SetTwoFramesComeBack}
-use Rattle.clean_link.proofs.Common.{HearsTraffic}
+use Rattle.clean_link.proofs.Common.{SendsSymbols, ShowFrame, ShowPowerBits, cycled_frame2, codeword_symbols2, AreReceived, IsReceivedAs, IsSentFrame2}
+use Rattle.clean_link.proofs.Common.{EachFrameIsReceived, FramesBehindMark, FramesShowPowerBits, FramesShowSymbols, SetTwoBehindMark}
+use Rattle.clean_link.proofs.Common.{HearsTraffic, SetTwoFramesComeBack}
 use Rattle.cell_plan.specs.TrafficFrames.{frame_state}
 use Rattle.clean_link.proofs.marks.MarksTrue.{marks_true}
 use Rattle.clean_link.proofs.signal.Samples.{length-made}
@@ -16,7 +16,7 @@ use Rattle.clean_link.proofs.traffic.Back.{told_behind_mark}
 use Rattle.clean_link.proofs.traffic.PowerBits.{power_pairs, shown_power_bits}
 use Rattle.clean_link.proofs.traffic.Frames.{by_marks_frames, inside_at, known_is, one_each, one_taken, one_there, same_places}
 use Rattle.clean_link.proofs.traffic.OnePilot.{one_stream}
-use Rattle.clean_link.proofs.traffic.Signs.{frame_shown, lawful_traffic, set_two_sends}
+use Rattle.clean_link.proofs.traffic.Signs.{frame_powered, frame_shown, lawful_traffic, set_two_sends}
 use Rattle.clean_link.proofs.traffic.Times.{traffic_file_to, traffic_known_is}
 use Rattle.rate_set_two.proofs.SentFrames as second
 use Rattle.heard_events.specs.TrafficStreams as heard
@@ -82,6 +82,18 @@ module _ (width : Width) (plan : CellPlan) (p : TrafficPlan) (t : Tuning) (traff
       (λ frame. behind frame ∷ []))
       ∙ sym (one_each behind (received_frames plan p (plan.link.start + m.sample)))
 
+  -- the power control bits of one
+  powered_at : (k : ℕ) (symbols power_bits : List Bool) → is_in_file t.count stream k ≡ true →
+      SendsSymbols plan p (4 * superframes + k) symbols power_bits →
+      ShowPowerBits (replaced_of plan p (4 * superframes + k)) (soft_strength plan Data p.gain)
+      power_bits (raw_at t (traffic_channel traffic) m samples k)
+  powered_at k symbols power_bits there sent =
+      subst
+      (λ (replaced : List ℕ). ShowPowerBits replaced (soft_strength plan Data p.gain) power_bits
+      (raw_at t (traffic_channel traffic) m samples k))
+      (sym (same_places width plan p t traffic m superframes is latest k))
+      (frame_powered width plan p t traffic m superframes k symbols power_bits is sent there)
+
   -- what is received of one
   received_at : (k : ℕ) (symbols power_bits : List Bool) → is_in_file t.count stream k ≡ true →
       SendsSymbols plan p (4 * superframes + k) symbols power_bits →
@@ -99,11 +111,11 @@ module _ (width : Width) (plan : CellPlan) (p : TrafficPlan) (t : Tuning) (traff
             ap (power (replaced_in traffic m k))
             (shown_power_bits strength (heard.frame_state traffic m k) (traffic_mask traffic.esn)
             power_bits (raw_at t (traffic_channel traffic) m samples k) shown.strong
-            shown.powered)
+            (frame_powered width plan p t traffic m superframes k symbols power_bits is sent there))
             ∙ ap (λ (replaced : List ℕ). power replaced (sent_bits power_bits)) places;
         shown = subst
-            (λ (replaced : List ℕ). ShowFrame replaced strength symbols power_bits (soft k).descrambled
-            (soft k).raw) places shown;
+            (λ (replaced : List ℕ). ShowFrame replaced strength symbols (soft k).descrambled) places
+            shown;
       }
 
   pub received_as : (frame : ℕ) (symbols power_bits : List Bool) →
@@ -115,6 +127,20 @@ module _ (width : Width) (plan : CellPlan) (p : TrafficPlan) (t : Tuning) (traff
       let (here, there) = inside_at width plan p t traffic m superframes is latest frame received in
       subst (λ (n : ℕ). IsReceivedAs plan p n symbols power_bits (soft k)) here
       (received_at k symbols power_bits there
+      (subst (λ (n : ℕ). SendsSymbols plan p n symbols power_bits) (sym here) sent))
+
+  pub powered_as : (frame : ℕ) (symbols power_bits : List Bool) →
+      is_received plan p (plan.link.start + m.sample) frame ≡ true →
+      SendsSymbols plan p frame symbols power_bits →
+      ShowPowerBits (replaced_of plan p frame) (soft_strength plan Data p.gain) power_bits
+      (raw_at t (traffic_channel traffic) m samples (frame - 4 * superframes))
+  powered_as frame symbols power_bits received sent =
+      let k : ℕ = frame - 4 * superframes in
+      let (here, there) = inside_at width plan p t traffic m superframes is latest frame received in
+      subst
+      (λ (n : ℕ). ShowPowerBits (replaced_of plan p n) (soft_strength plan Data p.gain) power_bits
+      (raw_at t (traffic_channel traffic) m samples k)) here
+      (powered_at k symbols power_bits there
       (subst (λ (n : ℕ). SendsSymbols plan p n symbols power_bits) (sym here) sent))
 
 -- ---- frames of rate set 2
@@ -212,6 +238,11 @@ each_frame_received width plan p t traffic m superframes is =
 pub frames_show_symbols : FramesShowSymbols
 frames_show_symbols width plan p t traffic m superframes frame symbols power_bits is received sent =
     received_as width plan p t traffic m superframes is frame symbols power_bits received sent
+
+pub frames_show_power_bits : FramesShowPowerBits
+frames_show_power_bits width plan p t traffic m superframes frame symbols power_bits is received
+    sent =
+    powered_as width plan p t traffic m superframes is frame symbols power_bits received sent
 
 pub frames_behind_mark : FramesBehindMark
 frames_behind_mark width plan p t traffic m is tuned sent assigned set =

@@ -176,8 +176,8 @@ module _ (width : Width) (plan : CellPlan) (p : TrafficPlan) (t : Tuning) (traff
       ∙ all
 
   -- so they show what was sent
-  pub frame_shown : ShowFrame (replaced_in traffic m k) strength symbols power_bits
-      (frame_softs (made_samples plan) (one_stream t traffic m) k) raw
+  pub frame_shown : ShowFrame (replaced_in traffic m k) strength symbols
+      (frame_softs (made_samples plan) (one_stream t traffic m) k)
   frame_shown = record {
     strong = strength_some width plan Data p.gain is.receivable
         (lawful_traffic width plan p is.receivable.lawful is.sent).gain;
@@ -186,11 +186,14 @@ module _ (width : Width) (plan : CellPlan) (p : TrafficPlan) (t : Tuning) (traff
         subst (ShowSymbols (replaced_in traffic m k) strength symbols) (sym descrambled_are)
         (shows_symbols strength state mask power_bits symbols (scrambling state mask)
         sent.all (length-scrambling state mask));
-    powered =
-        subst (ShowPowerBits (replaced_in traffic m k) strength power_bits) (sym raw_are)
-        (shows_power_bits strength state mask power_bits
-        (zip_with xor symbols (scrambling state mask)));
   }
+
+  -- and raw the power control bits
+  pub frame_powered : ShowPowerBits (replaced_in traffic m k) strength power_bits raw
+  frame_powered =
+      subst (ShowPowerBits (replaced_in traffic m k) strength power_bits) (sym raw_are)
+      (shows_power_bits strength state mask power_bits
+      (zip_with xor symbols (scrambling state mask)))
 
 -- ---- of the reference's pilot among the active ones
 
@@ -204,25 +207,37 @@ module _ (width : Width) (plan : CellPlan) (p : TrafficPlan) (t : Tuning) (traff
       (sym (one_stream_is t traffic m legs k heard.pilot))
       ∙ heard.here
 
-  abbrev Shown : List ℤ → List ℤ → Type 0
-  Shown descrambled raw =
-      ShowFrame (replaced_in traffic m k) (soft_strength plan Data p.gain) (codeword_symbols f)
-      f.power_bits descrambled raw
+  abbrev Shown : List ℤ → Type 0
+  Shown descrambled = ShowFrame (replaced_in traffic m k) (soft_strength plan Data p.gain)
+      (codeword_symbols f) descrambled
+
+  abbrev Powered : List ℤ → Type 0
+  Powered raw = ShowPowerBits (replaced_in traffic m k) (soft_strength plan Data p.gain)
+      f.power_bits raw
+
+  sends_codeword : SendsSymbols plan p (4 * superframes + k) (codeword_symbols f) f.power_bits
+  sends_codeword = set_one_sends plan p (4 * superframes + k) f heard.frame
 
   pub heard_shown : Shown (frame_softs (made_samples plan) (stream_of t traffic m legs k) k)
-      (raw_softs t traffic m legs (made_samples plan) k)
   heard_shown =
-      let samples = made_samples plan in
       subst
-      (λ (fs : List Finger). Shown (frame_softs samples (traffic_stream traffic m fs) k)
-      (softs samples fs Data (traffic_start traffic m k)))
+      (λ (fs : List Finger). Shown (frame_softs (made_samples plan) (traffic_stream traffic m fs) k))
       (sym (one_fingers traffic t.phase t.deltas (legs k) heard.pilot))
       (frame_shown width plan p t traffic m superframes k (codeword_symbols f) f.power_bits is
-      (set_one_sends plan p (4 * superframes + k) f heard.frame) here)
+      sends_codeword here)
+
+  pub heard_powered : Powered (raw_softs t traffic m legs (made_samples plan) k)
+  heard_powered =
+      subst
+      (λ (fs : List Finger). Powered (softs (made_samples plan) fs Data (traffic_start traffic m k)))
+      (sym (one_fingers traffic t.phase t.deltas (legs k) heard.pilot))
+      (frame_powered width plan p t traffic m superframes k (codeword_symbols f) f.power_bits is
+      sends_codeword here)
 
 -- ---- the law
 
 pub traffic_signs : TrafficHaveSentSigns
 traffic_signs width plan p t traffic m legs superframes k f is heard =
     let shown = heard_shown width plan p t traffic m legs superframes k f is heard in
-    (shown.strong, shown.shows, shown.powered)
+    let powered = heard_powered width plan p t traffic m legs superframes k f is heard in
+    (shown.strong, shown.shows, powered)

@@ -1,5 +1,5 @@
-use Rattle.clean_link.proofs.traffic.Received.{each_frame_received, frames_behind_mark, frames_show_symbols, set_two_back}
-use Rattle.clean_link.proofs.traffic.Received.{set_two_behind_mark}
+use Rattle.clean_link.proofs.traffic.Received.{each_frame_received, frames_behind_mark, frames_show_power_bits, frames_show_symbols}
+use Rattle.clean_link.proofs.traffic.Received.{set_two_back, set_two_behind_mark}
 use Rattle.clean_link.proofs.traffic.Signs.{set_one_sends, set_two_sends}
 use Rattle.clean_link.proofs.laws.frames_are_received_of_the_reference.Goals as goal
 
@@ -9,6 +9,7 @@ returns c = record {
   two = set_two_sends;
   each = each_frame_received;
   shown = frames_show_symbols;
+  raw = frames_show_power_bits;
   decoded = set_two_back;
   behind = frames_behind_mark;
   file = set_two_behind_mark;
