@@ -1,11 +1,12 @@
 //! Frame quality indicators and the checks of messages (TIA/EIA-95-B, 7.1.3.5 and 7.7):
 //! remainders of the bits, as a polynomial over the field of two elements, by a fixed generator.
-//! And the capsules of messages, which end with one, with the faults of messages; and the rates of
-//! frames, with what a frame of each has.
+//! And the capsules of messages, which end with one, with the faults of messages, and the framer
+//! that cuts them out of whole frames; and the rates of frames, with what a frame of each has.
 #![tactic(auto)]
 
 mod capsule;
 mod checking;
+mod framer;
 mod kind;
 pub mod laws;
 mod message_fault;
@@ -15,6 +16,7 @@ mod register;
 
 pub use capsule::{CapsuleFault, body_of, capsule_of, stated_length};
 pub use checking::{append_check, check};
+pub use framer::CapsuleFramer;
 pub use kind::Kind;
 pub use message_fault::MessageFault;
 pub use open_capsule::OpenCapsule;

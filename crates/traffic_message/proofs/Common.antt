@@ -37,7 +37,6 @@ pub use Rattle.message_layout.specs.declared.contents.Contents.{Contents}
 pub use Rattle.message_layout.specs.declared.layout.Presence.TheVariants.{Flagged}
 pub use Rattle.quality_bits.proofs.Decoded.{AreRead, IsDecoded, IsNone, decoded, fault_read, if_spelled-again, if_spelled-there, uncapsuled}
 pub use Rattle.quality_bits.proofs.Decoded.{undecoded, whole_checked}
-pub use Rattle.quality_bits.proofs.Streams.{under_way-none}
 pub use Rattle.quality_bits.specs.Capsules.{FillsCapsule, capsule}
 pub use Rattle.quality_bits.specs.declared.kind.Kind.TheVariants.{M16}
 pub use Rattle.traffic_message.specs.Admitted.{HasMessage}

@@ -5,7 +5,6 @@
 
 mod body;
 mod fields;
-mod framer;
 mod handoff;
 mod in_traffic;
 pub mod laws;
@@ -17,12 +16,14 @@ mod table;
 
 pub use body::TrafficBody;
 pub use fields::{DirectionFields, Head, InTrafficFields, Search, UpdateFields};
-pub use framer::SignalFramer;
 pub use handoff::HandoffDirection;
 pub use in_traffic::InTraffic;
 pub use message::TrafficMessage;
 pub use multiplex::{Mux, split_frame};
 pub use neighbors::NeighborUpdate;
+/// The framer of the signaling parts of a traffic channel's frames (TIA/EIA-95-B, 7.7.3.1), each of
+/// which begins with the SOM bit.
+pub use quality_bits::CapsuleFramer as SignalFramer;
 pub use quality_bits::MessageFault;
 pub use table::{
     HEAD_FIELDS, IN_TRAFFIC_FIELDS, SEARCH_FIELDS, TIME_FIELDS, UPDATE_FIELDS, head_name,

@@ -1,18 +1,20 @@
-//! Capsules out of frames.
+//! Capsules out of whole frames.
 
-ghost use Rattle.std.specs.Prelude.{◌≡◌, Bool, List, [], ◌∷◌, ◌++◌, length, map};
+ghost use Rattle.std.specs.Prelude.{◌≡◌, ◌≤◌, Bool, List, [], ◌∷◌, ◌++◌, length, map};
 ghost use Rattle.quality_bits.specs.Pieces.{piece, capsule_ending, StandsFor};
 
+use crate::open_capsule::OpenCapsule;
 use chip_core::Bits;
-use quality_bits::OpenCapsule;
 use std::marker::Model;
 
-/// Cuts capsules out of the frames of the sync channel.
+/// Cuts capsules out of frames that begin with the SOM bit: those of the sync channel, or the
+/// signaling parts of a traffic channel's frames.
 ///
-/// TIA/EIA-95-B, 7.7.1.2: a frame has 32 bits, the SOM bit and 31 bits of body. A frame with SOM 1
-/// starts a capsule, and drops one that isn't complete; one with SOM 0 goes on with the open
-/// capsule, or is passed over where there is none. Contracts see the bits of the open capsule, and
-/// say for which frames the framer stands.
+/// TIA/EIA-95-B, 7.7.1.2: a frame of the sync channel has 32 bits, the SOM bit and 31 bits of body.
+/// 7.7.3.1: a signaling part begins with the SOM bit. A frame with SOM 1 starts a capsule, and
+/// drops one that isn't complete; one with SOM 0 goes on with the open capsule, or is passed over
+/// where there is none. Contracts see the bits of the open capsule, and say for which frames the
+/// framer stands.
 #[derive(Clone, Copy, PartialEq, Eq, Debug)]
 pub struct CapsuleFramer {
     capsule: OpenCapsule,
@@ -42,7 +44,7 @@ impl CapsuleFramer {
     /// stood for, it stands for those and this one behind them, and the capsule is the one that
     /// they end with.
     pub fn push(&mut self, frame: &Bits) -> Option<Bits>
-        requires { length frame.now ≡ 32 }
+        requires { 1 ≤ length frame.now }
         ensures stands { (frames : List (List Bool)) →
             StandsFor self.old frames → StandsFor self.new (frames ++ frame.now ∷ []) }
         ensures capsule { (frames : List (List Bool)) →
