@@ -23,8 +23,7 @@ pub use multiplex::{Mux, split_frame};
 pub use neighbors::NeighborUpdate;
 /// The framer of the signaling parts of a traffic channel's frames (TIA/EIA-95-B, 7.7.3.1), each of
 /// which begins with the SOM bit.
-pub use quality_bits::CapsuleFramer as SignalFramer;
-pub use quality_bits::MessageFault;
+pub use quality_bits::{CapsuleFramer as SignalFramer, MessageFault};
 pub use table::{
     HEAD_FIELDS, IN_TRAFFIC_FIELDS, SEARCH_FIELDS, TIME_FIELDS, UPDATE_FIELDS, head_name,
     in_traffic_name, search_name, time_name,
