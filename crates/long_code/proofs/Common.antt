@@ -5,11 +5,13 @@ pub use Rattle.std.proofs.Common.{sym, take, true, zero, zero-add, ℕ, ◌%◌,
 pub use Rattle.std.proofs.Math.Nat.{mod-lt}
 pub use Rattle.std.proofs.Math.Pow.{pow_mono}
 pub use Rattle.std.proofs.lemmas.Bool.{agree_below, agree_below_at, eqb-true, ne_eqb}
+pub use Rattle.std.proofs.lemmas.List.FromFn.{get_or-map-range_with_len}
 pub use Rattle.std.proofs.lemmas.List.{length-map, length-replicate, length-reverse, length-take-le, map-append, reverse-append}
 pub use Rattle.std.proofs.lemmas.List.{reverse-reverse, take_more}
 pub use Rattle.std.proofs.lemmas.Nat.{and_mask, mod-pow-add, or_shifted, pow_pos, shr-shr, shr_le, xor_block, xor_comm, xor_lt}
 pub use Rattle.std.specs.Int.Bits.{xor_shifted, xor_zero_r}
 pub use Rattle.std.specs.Int.RustNames.{count_ones}
+pub use Rattle.std.specs.List.{range_with_len}
 pub use Rattle.chip_core.proofs.BitLists.{add, length_add, xor_assoc, zip_push}
 pub use Rattle.chip_core.proofs.CommonParity.{common_parity-ones}
 pub use Rattle.chip_core.proofs.Digits.{binary-double, binary-low, binary-xor, digit_of, number-binary, number_lt}

@@ -1,4 +1,4 @@
-use Rattle.long_code.proofs.Common.{◌≡◌, ◌<◌, ◌%◌, ◌^◌, ℕ, arith, sym, ap, subst, ◌∙◌, after}
+use Rattle.long_code.proofs.Common.{◌≡◌, ◌<◌, ◌%◌, ◌^◌, ℕ, arith, refl, sym, ap, subst, ◌∙◌, binary, places, after}
 use Rattle.long_code.proofs.After.{after_lt}
 use Rattle.long_code.proofs.Product.{after-zero}
 use Rattle.long_code.proofs.BitPairs.{bits_left, pair_more, all_bits}
@@ -13,11 +13,12 @@ loop-row-init c =
     }
 
 pub loop-row-preserved : goal.loop-row-preserved
+unfolding after binary places
 loop-row-preserved c =
     let l = c.loop-row in
     record {
       left = bits_left c.args.value l.row-index l.left l.invariant.left;
-      sum = pair_more c.args.value l.row-index l.left l.sum c.loop-row-test.true
+      sum = pair_more _ c.args.value l.row-index l.left l.sum refl c.loop-row-test.true
           l.invariant.left l.invariant.sum;
     }
 
