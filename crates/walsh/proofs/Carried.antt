@@ -1,5 +1,6 @@
 -- What the entries are from stage to stage, until each is what its row carries.
-use Rattle.std.proofs.Common.{◌≡◌, ℕ, suc, ◌+◌, ◌-◌, ◌^◌, ◌<◌, Bool, true, false, List, length, get_or, refl, sym, ap, ◌∙◌, arith, add-one}
+use Rattle.std.proofs.Common.{◌≡◌, ℕ, suc, ◌+◌, ◌-◌, ◌^◌, ◌<◌, Bool, true, false, List, length, map, get_or, refl, sym, ap, ◌∙◌, arith}
+use Rattle.std.proofs.Common.{add-one}
 use Rattle.std.specs.Prelude.{ℤ, if◌then◌else◌, pos, ◌+ℤ◌, ◌-ℤ◌}
 use Rattle.std.specs.List.{All}
 use Rattle.std.proofs.lemmas.List.{length-map}
@@ -28,82 +29,72 @@ begins old h within = record {
   small = λ n less. All-get_or (IsWithin (2 ^ 40)) old n origin (omega (arith, less, h)) within;
 }
 
-i_of : (b : Bool) (x y z w : Pair) →
-    (if b then minus x y else plus z w).i ≡ (if b then x.i -ℤ y.i else z.i +ℤ w.i)
-i_of true x y z w = refl
-i_of false x y z w = refl
+-- a part of complex numbers, which adds up by itself
+record IsPart (part : Pair → ℤ) : Type 0 where
+  sums : (x y : Pair) → part (plus x y) ≡ part x +ℤ part y
+  differences : (x y : Pair) → part (minus x y) ≡ part x -ℤ part y
 
-q_of : (b : Bool) (x y z w : Pair) →
-    (if b then minus x y else plus z w).q ≡ (if b then x.q -ℤ y.q else z.q +ℤ w.q)
-q_of true x y z w = refl
-q_of false x y z w = refl
+i_part : IsPart (λ v. v.i)
+i_part = record { sums = λ x y. refl; differences = λ x y. refl }
 
-butterfly-i : (bit : ℕ) (new : List Pair) (n : ℕ) →
-    (butterfly bit new n).i ≡
-    (if bit_of n bit then (entry new (n - 2 ^ bit)).i -ℤ (entry new n).i
-    else (entry new n).i +ℤ (entry new (n + 2 ^ bit)).i)
+q_part : IsPart (λ v. v.q)
+q_part = record { sums = λ x y. refl; differences = λ x y. refl }
+
+part_of : (part : Pair → ℤ) → IsPart part → (b : Bool) (x y z w : Pair) →
+    part (if b then minus x y else plus z w) ≡
+    (if b then part x -ℤ part y else part z +ℤ part w)
+part_of part p true x y z w = p.differences x y
+part_of part p false x y z w = p.sums z w
+
+part_more : (part : Pair → ℤ) → IsPart part → (bit n : ℕ) (old new next : List Pair) → bit < 6 →
+    n < 64 → entry next n ≡ butterfly bit new n →
+    ((m : ℕ) → m < 64 → part (entry new m) ≡ partial bit (λ k. part (entry old k)) m) →
+    part (entry next n) ≡ partial (bit + 1) (λ k. part (entry old k)) n
 unfolding butterfly
-butterfly-i bit new n =
-    i_of (bit_of n bit) (entry new (n - 2 ^ bit)) (entry new n) (entry new n)
+part_more part p bit n old new next few less is h =
+    let count : bit + 1 ≡ suc bit = add-one bit in
+    ap part is
+    ∙ part_of part p (bit_of n bit) (entry new (n - 2 ^ bit)) (entry new n) (entry new n)
     (entry new (n + 2 ^ bit))
-
-butterfly-q : (bit : ℕ) (new : List Pair) (n : ℕ) →
-    (butterfly bit new n).q ≡
-    (if bit_of n bit then (entry new (n - 2 ^ bit)).q -ℤ (entry new n).q
-    else (entry new n).q +ℤ (entry new (n + 2 ^ bit)).q)
-unfolding butterfly
-butterfly-q bit new n =
-    q_of (bit_of n bit) (entry new (n - 2 ^ bit)) (entry new n) (entry new n)
-    (entry new (n + 2 ^ bit))
+    ∙ partial-more bit n (λ k. part (entry old k)) (λ k. part (entry new k)) few less h ∙
+    ap (λ (s : ℕ). partial s (λ k. part (entry old k)) n) (sym count)
 
 pub goes_on : (bit : ℕ) (old new next : List Pair) → bit < 6 → length next ≡ 64 →
     IsCarried bit old new → IsStage bit new next → AreWithin (2 ^ (41 + bit)) next →
     IsCarried (bit + 1) old next
 goes_on bit old new next p long h stage small =
-    let count : bit + 1 ≡ suc bit = add-one bit in
     let bound : 40 + (bit + 1) ≡ 41 + bit = omega arith in
     record {
       long = long;
-      i_is = λ n less.
-          ap (λ (v : Pair). v.i) (stage n less) ∙ butterfly-i bit new n
-          ∙ partial-more bit n (λ k. (entry old k).i) (λ k. (entry new k).i) p less h.i_is ∙
-          ap (λ (s : ℕ). partial s (λ k. (entry old k).i) n) (sym count);
-      q_is = λ n less.
-          ap (λ (v : Pair). v.q) (stage n less) ∙ butterfly-q bit new n
-          ∙ partial-more bit n (λ k. (entry old k).q) (λ k. (entry new k).q) p less h.q_is ∙
-          ap (λ (s : ℕ). partial s (λ k. (entry old k).q) n) (sym count);
+      i_is = λ n less. part_more (λ v. v.i) i_part bit n old new next p less (stage n less) h.i_is;
+      q_is = λ n less. part_more (λ v. v.q) q_part bit n old new next p less (stage n less) h.q_is;
       small = rw bound small;
     }
 
-at_i : (values : List Pair) (k : ℕ) → get_or (in_phase values) k (pos 0) ≡ (entry values k).i
-at_i values k = get_or-map (λ (v : Pair). v.i) values k origin
-
-at_q : (values : List Pair) (k : ℕ) → get_or (quadrature values) k (pos 0) ≡ (entry values k).q
-at_q values k = get_or-map (λ (v : Pair). v.q) values k origin
+part_is : (part : Pair → ℤ) (old new : List Pair) → part origin ≡ pos 0 → length old ≡ 64 →
+    length new ≡ 64 →
+    ((n : ℕ) → n < 64 → part (entry new n) ≡ partial 6 (λ k. part (entry old k)) n) →
+    map part new ≡ transform (map part old)
+unfolding transform
+part_is part old new none long long' h =
+    map-places-all (λ n. walsh_sum_from n 0 (map part old)) (map part new) 64 (pos 0)
+    (length-map new part ∙ long')
+    (λ n less.
+    at new n ∙ h n less ∙
+    partial-same 6 n (λ k. part (entry old k)) (λ k. get_or (map part old) k (pos 0))
+    (λ k. sym (at old k))
+    ∙ partial-all n (map part old) less (length-map old part ∙ long)) where
+      at : (values : List Pair) (k : ℕ) → get_or (map part values) k (pos 0) ≡ part (entry values k)
+      at values k =
+          ap (get_or (map part values) k) (sym none) ∙ get_or-map part values k origin
 
 pub in_phase_is : (old new : List Pair) → length old ≡ 64 → IsCarried 6 old new →
     in_phase new ≡ transform (in_phase old)
-unfolding transform
-in_phase_is old new long h =
-    map-places-all (λ n. walsh_sum_from n 0 (in_phase old)) (in_phase new) 64 (pos 0)
-    (length-map new (λ (v : Pair). v.i) ∙ h.long)
-    (λ n less.
-    at_i new n ∙ h.i_is n less ∙
-    partial-same 6 n (λ k. (entry old k).i) (λ k. get_or (in_phase old) k (pos 0))
-    (λ k. sym (at_i old k))
-    ∙ partial-all n (in_phase old) less (length-map old (λ (v : Pair). v.i) ∙ long))
+in_phase_is old new long h = part_is (λ v. v.i) old new refl long h.long h.i_is
 
 pub quadrature_is : (old new : List Pair) → length old ≡ 64 → IsCarried 6 old new →
     quadrature new ≡ transform (quadrature old)
-unfolding transform
-quadrature_is old new long h =
-    map-places-all (λ n. walsh_sum_from n 0 (quadrature old)) (quadrature new) 64 (pos 0)
-    (length-map new (λ (v : Pair). v.q) ∙ h.long)
-    (λ n less.
-    at_q new n ∙ h.q_is n less ∙
-    partial-same 6 n (λ k. (entry old k).q) (λ k. get_or (quadrature old) k (pos 0))
-    (λ k. sym (at_q old k))
-    ∙ partial-all n (quadrature old) less (length-map old (λ (v : Pair). v.q) ∙ long))
+quadrature_is old new long h = part_is (λ v. v.q) old new refl long h.long h.q_is
 
 -- one entry of the transform, for callers
 pub get_or-transform : (xs : List ℤ) (n : ℕ) → n < 64 →

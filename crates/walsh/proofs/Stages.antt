@@ -1,6 +1,6 @@
 -- A stage of butterflies, entry after entry.
-use Rattle.std.proofs.Common.{◌≡◌, ◌≢◌, ℕ, suc, ◌+◌, ◌-◌, ◌*◌, ◌^◌, ◌<◌, ◌≤◌, Bool, true, false, List, length, set, refl, sym, ap, subst}
-use Rattle.std.proofs.Common.{◌∙◌, arith, ⊎_elim, get_or-set_other, get_or-set_same, length-set}
+use Rattle.std.proofs.Common.{◌≡◌, ◌≢◌, ℕ, suc, ◌+◌, ◌-◌, ◌*◌, ◌%◌, ◌^◌, ◌<◌, ◌≤◌, Bool, true, false, List, length, set, refl, sym, ap}
+use Rattle.std.proofs.Common.{subst, ◌∙◌, arith, bit_and, ⊎_elim, get_or-set_other, get_or-set_same, length-set}
 use Rattle.std.proofs.lemmas.Int.{ints}
 use Rattle.std.proofs.lemmas.Bool.{cases_eq}
 use Rattle.std.proofs.lemmas.Nat.{pow_pos}
@@ -10,7 +10,7 @@ use Rattle.chip_core.specs.Complex.{origin, plus}
 use Rattle.chip_core.specs.declared.sample.Pair.{Pair}
 use Rattle.walsh.specs.Walsh.{IsWithin}
 use Rattle.walsh.specs.Butterfly.{minus, entry, butterfly, IsStage, AreWithin}
-use Rattle.walsh.proofs.Pairing.{low, high}
+use Rattle.walsh.proofs.Pairing.{low, high, is_clear, shifted}
 
 -- the two entries of each butterfly whose lower place is below `low` are done, and the others stand
 -- as they were
@@ -116,16 +116,20 @@ moves bit l old new x y p small clear h e f =
     }
 
 -- the same, as the code writes it
-pub moves_at : (bit l step : ℕ) (old new next : List Pair) (x y : Pair) → bit < 6 → l < 64 →
-    bit_of l bit ≡ false → IsPartway bit l old new → step ≡ 2 ^ bit →
-    x ≡ plus (entry new l) (entry new (l + step)) → y ≡ minus (entry new l) (entry new (l + step)) →
-    next ≡ set (set new l x) (l + step) y →
+abbrev pub step : ℕ → ℕ
+step bit = 1 * 2 ^ bit % 18446744073709551616
+
+pub moves_at : (bit l : ℕ) (old new next : List Pair) (x y : Pair) → bit < 6 → l < 64 →
+    bit_and l (step bit) ≡ 0 → IsPartway bit l old new →
+    x ≡ plus (entry new l) (entry new (l + step bit)) →
+    y ≡ minus (entry new l) (entry new (l + step bit)) →
+    next ≡ set (set new l x) (l + step bit) y →
     IsPartway bit (l + 1) old next
-moves_at bit l step old new next x y p small clear h s e f is =
-    let place : l + step ≡ l + 2 ^ bit = ap (λ (k : ℕ). l + k) s in
+moves_at bit l old new next x y p small clear h e f is =
+    let place : l + step bit ≡ l + 2 ^ bit = ap (λ (k : ℕ). l + k) (shifted bit p) in
     let P : List Pair → Type 0 = λ v. IsPartway bit (l + 1) old v in
     subst P (sym (is ∙ ap (λ (k : ℕ). set (set new l x) k y) place))
-    (moves bit l old new x y p small clear h
+    (moves bit l old new x y p small (is_clear bit l p small clear) h
     (e ∙ ap (λ (k : ℕ). plus (entry new l) (entry new k)) place) (f ∙
     ap (λ (k : ℕ). minus (entry new l) (entry new k)) place))
 
@@ -194,17 +198,15 @@ has_room bit x y p e (a, b) =
     let P : Pair → Type 0 = λ v. IsWithin (2 ^ 45) v in
     subst P (sym e) (omega (arith, a, most), omega (arith, b, most))
 
-pub first_has_room : (bit l : ℕ) (old new : List Pair) → bit < 6 → l < 64 → bit_of l bit ≡ false →
-    IsPartway bit l old new → AreWithin (2 ^ (40 + bit)) old → IsWithin (2 ^ 45) (entry new l)
-first_has_room bit l old new p small clear h within =
-    has_room bit (entry new l) (entry old l) p (first_is bit l old new h small clear)
-    (within l small)
-
-pub second_has_room : (bit l step : ℕ) (old new : List Pair) → bit < 6 → l < 64 →
-    bit_of l bit ≡ false → IsPartway bit l old new → AreWithin (2 ^ (40 + bit)) old →
-    step ≡ 2 ^ bit → IsWithin (2 ^ 45) (entry new (l + step))
-second_has_room bit l step old new p small clear h within s =
-    let place : l + step ≡ l + 2 ^ bit = ap (λ (k : ℕ). l + k) s in
-    has_room bit (entry new (l + step)) (entry old (l + 2 ^ bit)) p (ap (entry new) place ∙
-    second_is bit l old new p h small clear)
-    (within (l + 2 ^ bit) (low bit l p small clear).room)
+pub have_room : (bit l : ℕ) (old new : List Pair) → bit < 6 → l < 64 → bit_and l (step bit) ≡ 0 →
+    IsPartway bit l old new → AreWithin (2 ^ (40 + bit)) old →
+    IsWithin (2 ^ 45) (entry new l) × IsWithin (2 ^ 45) (entry new (l + step bit))
+have_room bit l old new p small apart h within =
+    let clear = is_clear bit l p small apart in
+    let place : l + step bit ≡ l + 2 ^ bit = ap (λ (k : ℕ). l + k) (shifted bit p) in (
+      has_room bit (entry new l) (entry old l) p (first_is bit l old new h small clear)
+          (within l small),
+      has_room bit (entry new (l + step bit)) (entry old (l + 2 ^ bit)) p
+          (ap (entry new) place ∙ second_is bit l old new p h small clear)
+          (within (l + 2 ^ bit) (low bit l p small clear).room),
+    )

@@ -47,8 +47,7 @@ fn stage(values: &mut [Pair; 64], bit: u32)
 
 /// The sum of two numbers whose parts have room for it.
 fn sum(x: Pair, y: Pair) -> Pair
-    requires first { IsWithin (2 ^ 45) x }
-    requires second { IsWithin (2 ^ 45) y }
+    requires { IsWithin (2 ^ 45) x × IsWithin (2 ^ 45) y }
     ensures { result ≡ plus x y }
 {
     let parts = i64x2::from_array([x.i, x.q]) + i64x2::from_array([y.i, y.q]);
@@ -61,8 +60,7 @@ fn sum(x: Pair, y: Pair) -> Pair
 
 /// The difference of two such numbers.
 fn difference(x: Pair, y: Pair) -> Pair
-    requires first { IsWithin (2 ^ 45) x }
-    requires second { IsWithin (2 ^ 45) y }
+    requires { IsWithin (2 ^ 45) x × IsWithin (2 ^ 45) y }
     ensures { result ≡ minus x y }
 {
     let parts = i64x2::from_array([x.i, x.q]) - i64x2::from_array([y.i, y.q]);
