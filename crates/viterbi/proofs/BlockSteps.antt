@@ -5,7 +5,8 @@ use Rattle.viterbi.proofs.Common.{unsigned_abs, to_z, of_z, w64, nat_lt, int_lt,
 use Rattle.viterbi.proofs.Common.{fits_signed_from_abs, and_parts, nat_tests, get_or-map, get_or-drop, get_or-take, length-map}
 use Rattle.viterbi.proofs.Common.{length-take-le, get_or-range_with_len, length-range_with_len, get_or-chunk, length-chunk}
 use Rattle.viterbi.proofs.Common.{Each1-from_get_or, Each1, Each2, chunk, bit_of, sign, low_bits, gain_of, wants, taken_of, metric_from}
-use Rattle.viterbi.proofs.Common.{metric_into, choice_into, lane_codes, patterns, gain_by, code_of, Fit, length-drop}
+use Rattle.viterbi.proofs.Common.{metric_into, choice_into, lane_codes, patterns, gain_by, code_of, Fit, length-drop, CanStep}
+use Rattle.viterbi.proofs.Common.{AreEveryOther}
 use Rattle.viterbi.proofs.Codes.{code_gains}
 use Rattle.viterbi.proofs.Blocks.{passed, kept}
 
@@ -143,56 +144,55 @@ pub passed_is : (xs : List ℤ) → ((l : ℕ) → l < length xs → FitsSigned 
     passed xs ≡ xs
 passed_is xs h = kept xs (Each1-from_get_or (λ x. FitsSigned w64 x) xs (pos 0) h)
 
--- eight numbers of a column, as they are handed on and less the top
-pub less_lanes : (column xs : List ℤ) (top : ℤ) (place : ℕ → ℕ) → length xs ≡ 8 → FitsSigned w64 top →
+-- lanes of a column, as they are handed on and less the top
+pub less_lanes : (column xs : List ℤ) (top : ℤ) (at : ℕ) → at + 15 ≤ length column →
+    FitsSigned w64 top →
     ((t : ℕ) → t < length column → FitsSigned w64 (get_or column t (pos 0))) →
     ((t : ℕ) → t < length column → FitsSigned w64 (get_or column t (pos 0) -ℤ top)) →
-    ((l : ℕ) → l < 8 → place l < length column) →
-    ((l : ℕ) → l < 8 → get_or xs l (pos 0) ≡ get_or column (place l) (pos 0)) →
-    (passed xs ≡ xs) × Each1 (λ x. Fit x top (x -ℤ top)) xs
-less_lanes column xs top place long fits each less within reads = (
-  passed_is xs (λ l b. rw (reads l (omega (arith, b, long)))
-      (each (place l) (within l (omega (arith, b, long))))),
-  Each1-from_get_or (λ x. Fit x top (x -ℤ top)) xs (pos 0)
-      (λ l b. rw (reads l (omega (arith, b, long))) (
-        each (place l) (within l (omega (arith, b, long))),
-        (fits, less (place l) (within l (omega (arith, b, long)))),
-      )),
-)
+    AreEveryOther (λ x. x) column at xs → (passed xs ≡ xs) × Each1 (λ x. Fit x top (x -ℤ top)) xs
+less_lanes column xs top at room fits each less h =
+    let long = h.long in (
+      passed_is xs (λ l b. rw (h.each l (omega (arith, b, long)))
+          (each (at + 2 * l) (omega (arith, b, long, room)))),
+      Each1-from_get_or (λ x. Fit x top (x -ℤ top)) xs (pos 0)
+          (λ l b. rw (h.each l (omega (arith, b, long))) (
+            each (at + 2 * l) (omega (arith, b, long, room)),
+            (fits, less (at + 2 * l) (omega (arith, b, long, room))),
+          )),
+    )
 
 -- and what is made of them, handed on again
-pub less_read : (column xs made : List ℤ) (top : ℤ) (place : ℕ → ℕ) → length xs ≡ 8 →
+pub less_read : (column xs made : List ℤ) (top : ℤ) (at : ℕ) → at + 15 ≤ length column →
+    FitsSigned w64 top →
+    ((t : ℕ) → t < length column → FitsSigned w64 (get_or column t (pos 0))) →
     ((t : ℕ) → t < length column → FitsSigned w64 (get_or column t (pos 0) -ℤ top)) →
-    ((l : ℕ) → l < 8 → place l < length column) →
-    ((l : ℕ) → l < 8 → get_or xs l (pos 0) ≡ get_or column (place l) (pos 0)) →
-    made ≡ map (λ x. x -ℤ top) xs → (l : ℕ) → l < 8 →
-    get_or (passed made) l (pos 0) ≡ get_or column (place l) (pos 0) -ℤ top
-less_read column xs made top place long less within reads is l b =
-    ap (λ (r : List ℤ). get_or r l (pos 0)) (passed_is made fits) ∙ here l b where
-      here : (l : ℕ) → l < 8 → get_or made l (pos 0) ≡ get_or column (place l) (pos 0) -ℤ top
+    AreEveryOther (λ x. x) column at xs →
+    made ≡ map (λ x. x -ℤ to_z w64 (of_z w64 top)) (passed xs) →
+    AreEveryOther (λ x. x -ℤ top) column at (passed made)
+less_read column xs made top at room top_fits each less h made_of =
+    rw (passed_is made fits) (record { long = size; each = here }) where
+      is : made ≡ map (λ x. x -ℤ top) xs
+      is = rw ((less_lanes column xs top at room top_fits each less h).0, to_z-of_z w64 top top_fits)
+          at made_of
+
+      here : (l : ℕ) → l < 8 → get_or made l (pos 0) ≡ get_or column (at + 2 * l) (pos 0) -ℤ top
       here l b =
           ap (λ (r : List ℤ). get_or r l (pos 0)) is
-          ∙ get_or-map (λ x. x -ℤ top) xs l (pos 0) (pos 0) (omega (arith, b, long))
-          ∙ ap (λ (z : ℤ). z -ℤ top) (reads l b)
+          ∙ get_or-map (λ x. x -ℤ top) xs l (pos 0) (pos 0) (omega (arith, b, h.long))
+          ∙ ap (λ (z : ℤ). z -ℤ top) (h.each l b)
 
       size : length made ≡ 8
-      size = ap length is ∙ length-map xs (λ x. x -ℤ top) ∙ long
+      size = ap length is ∙ length-map xs (λ x. x -ℤ top) ∙ h.long
 
       fits : (l : ℕ) → l < length made → FitsSigned w64 (get_or made l (pos 0))
       fits l b =
           rw (here l (omega (arith, b, size)))
-          (less (place l) (within l (omega (arith, b, size))))
-
-pub less_long : (xs made : List ℤ) (top : ℤ) → length xs ≡ 8 → made ≡ map (λ x. x -ℤ top) xs →
-    length (passed made) ≡ 8
-less_long xs made top long is =
-    length-map (map (of_z w64) made) (to_z w64) ∙ length-map made (of_z w64) ∙ ap length is
-    ∙ length-map xs (λ x. x -ℤ top) ∙ long
+          (less (at + 2 * l) (omega (arith, b, size, room)))
 
 place_even : (k l : ℕ) → k < 32 → l < 8 → 2 * ((8 * k + l) % 128) + 0 ≡ 16 * (k % 16) + 2 * l
 place_even k l p b = omega (arith, p, b)
 
-place_odd : (k l : ℕ) → k < 32 → l < 8 → 2 * ((8 * k + l) % 128) + 1 ≡ 16 * (k % 16) + (2 * l + 1)
+place_odd : (k l : ℕ) → k < 32 → l < 8 → 2 * ((8 * k + l) % 128) + 1 ≡ 16 * (k % 16) + 1 + 2 * l
 place_odd k l p b = omega (arith, p, b)
 
 -- the two metrics that are compared, each less the top
@@ -218,7 +218,7 @@ from_even column top f s k l a g p b ais gis =
     ∙ plus_less (get_or column (2 * (t % 128) + 0) (pos 0)) top _
 
 pub from_odd : (column : List ℤ) (top f s : ℤ) (k l : ℕ) (a g : ℤ) → k < 32 → l < 8 →
-    a ≡ get_or column (16 * (k % 16) + (2 * l + 1)) (pos 0) -ℤ top →
+    a ≡ get_or column (16 * (k % 16) + 1 + 2 * l) (pos 0) -ℤ top →
     g ≡ gain_by f s (get_or lane_codes (8 * get_or patterns k 0 + l) 0) →
     a -ℤ g ≡ metric_from column f s (8 * k + l) 1 -ℤ top
 unfolding metric_from
@@ -280,54 +280,48 @@ pub lane_gain : (gains g : List ℤ) (f s : ℤ) (k : ℕ) → k < 32 →
 lane_gain gains g f s k p made read l b = let few = pattern_small k p in read l b
     ∙ made (8 * get_or patterns k 0 + l) (omega (arith, few, b))
 
-pub lanes_fit : (column a g : List ℤ) (top f s : ℤ) (k : ℕ) (place : ℕ → ℕ) → length a ≡ 8 →
-    length g ≡ 8 →
-    unsigned_abs f + unsigned_abs s ≤ 2 ^ 62 →
-    ((t : ℕ) → t < 256 → get_or column t (pos 0) ≤ℤ top) →
-    ((t : ℕ) → t < 256 →
-    unsigned_abs (top -ℤ get_or column t (pos 0)) + (unsigned_abs f + unsigned_abs s) ≤ 2 ^ 63) →
-    ((l : ℕ) → l < 8 → place l < 256) →
-    ((l : ℕ) → l < 8 → get_or a l (pos 0) ≡ get_or column (place l) (pos 0) -ℤ top) →
+pub gain_fits : (f s : ℤ) (c : ℕ) → unsigned_abs f + unsigned_abs s ≤ 2 ^ 62 →
+    FitsSigned w64 (gain_by f s c)
+gain_fits f s c pair =
+    fits_signed_from_abs w64 _ (let size = gain_size f s c in omega (arith, pair, size))
+
+pub lanes_fit : (column a g : List ℤ) (top f s : ℤ) (k at : ℕ) → at + 15 ≤ 256 →
+    CanStep column top f s → AreEveryOther (λ x. x -ℤ top) column at a → length g ≡ 8 →
     ((l : ℕ) → l < 8 →
     get_or g l (pos 0) ≡ gain_by f s (get_or lane_codes (8 * get_or patterns k 0 + l) 0)) →
     (passed a ≡ a)
     × ((passed g ≡ g) × (Each2 (λ x y. Fit x y (x +ℤ y)) a g × Each2 (λ x y. Fit x y (x -ℤ y)) a g))
-lanes_fit column a g top f s k place m n pair most near within reads gains = (
-  passed_is a (λ l b. a_fits l (omega (arith, b, m))),
+lanes_fit column a g top f s k at room can h n gains = (
+  passed_is a (λ l b. a_fits l (omega (arith, b, h.long))),
   (
     passed_is g (λ l b. g_fits l (omega (arith, b, n))),
     (
-      each2_from (λ x y. x +ℤ y) a g 8 m n (λ l b. (a_fits l b, (g_fits l b, (both l b).0))),
-      each2_from (λ x y. x -ℤ y) a g 8 m n (λ l b. (a_fits l b, (g_fits l b, (both l b).1))),
+      each2_from (λ x y. x +ℤ y) a g 8 h.long n (λ l b. (a_fits l b, (g_fits l b, (both l b).0))),
+      each2_from (λ x y. x -ℤ y) a g 8 h.long n (λ l b. (a_fits l b, (g_fits l b, (both l b).1))),
     ),
   ),
 ) where
   a_fits : (l : ℕ) → l < 8 → FitsSigned w64 (get_or a l (pos 0))
   a_fits l b =
-      rw (reads l b)
-      (less_fits (get_or column (place l) (pos 0)) top _ (most (place l) (within l b))
-      (near (place l) (within l b)))
+      rw (h.each l b)
+      (less_fits (get_or column (at + 2 * l) (pos 0)) top _
+      (can.most (at + 2 * l) (omega (arith, b, room)))
+      (can.near (at + 2 * l) (omega (arith, b, room))))
 
   g_fits : (l : ℕ) → l < 8 → FitsSigned w64 (get_or g l (pos 0))
   g_fits l b =
       rw (gains l b)
-      (fits_signed_from_abs w64 _
-      (let size = gain_size f s (get_or lane_codes (8 * get_or patterns k 0 + l) 0) in omega
-      (arith, pair, size)))
+      (gain_fits f s (get_or lane_codes (8 * get_or patterns k 0 + l) 0) can.pair)
 
   both : (l : ℕ) → l < 8 →
       FitsSigned w64 (get_or a l (pos 0) +ℤ get_or g l (pos 0))
       × FitsSigned w64 (get_or a l (pos 0) -ℤ get_or g l (pos 0))
   both l b =
-      rw (reads l b, gains l b)
-      (moved_fits (get_or column (place l) (pos 0)) top _ _ (most (place l) (within l b))
-      (near (place l) (within l b))
-      (gain_size f s (get_or lane_codes (8 * get_or patterns k 0 + l) 0)) pair)
-
-pub gain_fits : (f s : ℤ) (c : ℕ) → unsigned_abs f + unsigned_abs s ≤ 2 ^ 62 →
-    FitsSigned w64 (gain_by f s c)
-gain_fits f s c pair =
-    fits_signed_from_abs w64 _ (let size = gain_size f s c in omega (arith, pair, size))
+      rw (h.each l b, gains l b)
+      (moved_fits (get_or column (at + 2 * l) (pos 0)) top _ _
+      (can.most (at + 2 * l) (omega (arith, b, room)))
+      (can.near (at + 2 * l) (omega (arith, b, room)))
+      (gain_size f s (get_or lane_codes (8 * get_or patterns k 0 + l) 0)) can.pair)
 
 -- what is known of the lanes of one block
 pub record BlockLanes (column : List ℤ) (top f s : ℤ) (k : ℕ) (a o g : List ℤ) : Type 0 where
@@ -341,37 +335,29 @@ pub record BlockLanes (column : List ℤ) (top f s : ℤ) (k : ℕ) (a o g : Lis
   pub odd_is : (l : ℕ) → l < 8 →
       get_or o l (pos 0) -ℤ get_or g l (pos 0) ≡ metric_from column f s (8 * k + l) 1 -ℤ top
 
-pub block_lanes : (column gains a o g : List ℤ) (top f s : ℤ) (k : ℕ) → length a ≡ 8 →
-    length o ≡ 8 → length g ≡ 8 → FitsSigned w64 top → k < 32 →
-    unsigned_abs f + unsigned_abs s ≤ 2 ^ 62 →
-    ((t : ℕ) → t < 256 → get_or column t (pos 0) ≤ℤ top) →
-    ((t : ℕ) → t < 256 →
-    unsigned_abs (top -ℤ get_or column t (pos 0)) + (unsigned_abs f + unsigned_abs s) ≤ 2 ^ 63) →
+pub block_lanes : (column gains a o g : List ℤ) (top f s : ℤ) (k : ℕ) → k < 32 →
+    FitsSigned w64 top → CanStep column top f s → length g ≡ 8 →
     ((j : ℕ) → j < 32 → get_or gains j (pos 0) ≡ gain_by f s (get_or lane_codes j 0)) →
-    ((l : ℕ) → l < 8 →
-    get_or a l (pos 0) ≡ get_or column (16 * (k % 16) + 2 * l) (pos 0) -ℤ to_z w64 (of_z w64 top)) →
-    ((l : ℕ) → l < 8 → get_or o l (pos 0)
-    ≡ get_or column (16 * (k % 16) + (2 * l + 1)) (pos 0) -ℤ to_z w64 (of_z w64 top)) →
+    AreEveryOther (λ x. x -ℤ to_z w64 (of_z w64 top)) column (16 * (k % 16)) a →
+    AreEveryOther (λ x. x -ℤ to_z w64 (of_z w64 top)) column (16 * (k % 16) + 1) o →
     ((l : ℕ) → l < 8 → get_or g l (pos 0) ≡ get_or gains (8 * get_or patterns k 0 + l) (pos 0)) →
     BlockLanes column top f s k a o g
-block_lanes column gains a o g top f s k m n p fits few pair most near made evens odds lanes =
-    let evens_are : (l : ℕ) → l < 8 →
-    get_or a l (pos 0) ≡ get_or column (16 * (k % 16) + 2 * l) (pos 0) -ℤ top =
+block_lanes column gains a o g top f s k few fits can long made evens odds lanes =
+    let evens_are : AreEveryOther (λ x. x -ℤ top) column (16 * (k % 16)) a =
     rw (to_z-of_z w64 top fits) at evens in
-    let odds_are : (l : ℕ) → l < 8 →
-    get_or o l (pos 0) ≡ get_or column (16 * (k % 16) + (2 * l + 1)) (pos 0) -ℤ top =
+    let odds_are : AreEveryOther (λ x. x -ℤ top) column (16 * (k % 16) + 1) o =
     rw (to_z-of_z w64 top fits) at odds in
     let gain = lane_gain gains g f s k few made lanes in
-    let even = lanes_fit column a g top f s k (λ l. 16 * (k % 16) + 2 * l) m p pair most near
-    (λ l b. omega (arith, b)) evens_are gain in
-    let odd = lanes_fit column o g top f s k (λ l. 16 * (k % 16) + (2 * l + 1)) n p pair most near
-    (λ l b. omega (arith, b)) odds_are gain in
+    let even = lanes_fit column a g top f s k (16 * (k % 16)) (omega arith) can evens_are long gain
+    in
+    let odd = lanes_fit column o g top f s k (16 * (k % 16) + 1) (omega arith) can odds_are long
+    gain in
     record {
       even_kept = even.0;
       odd_kept = odd.0;
       gain_kept = even.1.0;
       even_fit = even.1.1.0;
       odd_fit = odd.1.1.1;
-      even_is = λ l b. from_even column top f s k l _ _ few b (evens_are l b) (gain l b);
-      odd_is = λ l b. from_odd column top f s k l _ _ few b (odds_are l b) (gain l b);
+      even_is = λ l b. from_even column top f s k l _ _ few b (evens_are.each l b) (gain l b);
+      odd_is = λ l b. from_odd column top f s k l _ _ few b (odds_are.each l b) (gain l b);
     }

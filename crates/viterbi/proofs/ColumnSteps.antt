@@ -1,10 +1,10 @@
 -- A whole column, block by block.
-use Rattle.viterbi.proofs.Common.{◌≡◌, ℕ, ◌+◌, ◌*◌, ◌/◌, ◌%◌, ◌^◌, ◌<◌, ◌≤◌, Bool, true, false, List, length, set, get_or, sym, ap, ◌∙◌}
-use Rattle.viterbi.proofs.Common.{arith, ℤ, pos, ◌+ℤ◌, ◌*ℤ◌, unsigned_abs, ⊎_elim, ◌⊎◌, inl, inr, subst, ◌-ℤ◌, ◌≤ℤ◌, FitsSigned, to_z, of_z}
+use Rattle.viterbi.proofs.Common.{◌≡◌, ℕ, ◌+◌, ◌*◌, ◌/◌, ◌%◌, ◌<◌, ◌≤◌, Bool, true, false, List, length, set, get_or, sym, ap, ◌∙◌}
+use Rattle.viterbi.proofs.Common.{arith, ℤ, pos, ◌+ℤ◌, ◌*ℤ◌, unsigned_abs, ⊎_elim, ◌⊎◌, inl, inr, subst, ◌-ℤ◌, FitsSigned, to_z, of_z}
 use Rattle.viterbi.proofs.Common.{w64, ints, to_z-of_z, cases_lt, cases_eq, get_or-set_same, get_or-set_other, length-set}
 use Rattle.viterbi.proofs.Common.{get_or-put_chunk_below, get_or-put_chunk_above, get_or-put_chunk_at, length-put_chunk, Each1-from_get_or}
 use Rattle.viterbi.proofs.Common.{Each1, put_chunk, bit_of, sign, low_bit, g0, g1, symbol, low_bits, gain_of, took, metric_from}
-use Rattle.viterbi.proofs.Common.{metric_into, choice_into, taken_of}
+use Rattle.viterbi.proofs.Common.{metric_into, choice_into, taken_of, CanStep}
 use Rattle.viterbi.proofs.Blocks.{passed, kept}
 use Rattle.viterbi.proofs.BlockSteps.{moved_fits, plus_less}
 
@@ -50,13 +50,9 @@ metric_size forced column f s bound t small = either (choice_into forced column 
 
 -- lanes that hold metrics are handed on as they are
 pub metric_fits : (forced : Bool) (column : List ℤ) (top f s : ℤ) (t : ℕ) →
-    unsigned_abs f + unsigned_abs s ≤ 2 ^ 62 →
-    ((u : ℕ) → u < 256 → get_or column u (pos 0) ≤ℤ top) →
-    ((u : ℕ) → u < 256 →
-    unsigned_abs (top -ℤ get_or column u (pos 0)) + (unsigned_abs f + unsigned_abs s) ≤ 2 ^ 63) →
-    FitsSigned w64 (metric_into forced column f s t -ℤ top)
+    CanStep column top f s → FitsSigned w64 (metric_into forced column f s t -ℤ top)
 unfolding metric_into metric_from
-metric_fits forced column top f s t pair most near = either (choice_into forced column f s t) where
+metric_fits forced column top f s t can = either (choice_into forced column f s t) where
   from : (oldest : ℕ) → oldest < 2 →
       FitsSigned w64
       ((get_or column (2 * (t % 128) + oldest) (pos 0) +ℤ gain_of f s (low_bits 9 (2 * t + oldest)))
@@ -66,8 +62,8 @@ metric_fits forced column top f s t pair most near = either (choice_into forced 
       let below : place < 256 = omega (arith, two) in
       let gain = gain_of f s (low_bits 9 (2 * t + oldest)) in
       subst (FitsSigned w64) (plus_less (get_or column place (pos 0)) top gain)
-      (moved_fits (get_or column place (pos 0)) top gain _ (most place below) (near place below)
-      (gain_of_size f s (low_bits 9 (2 * t + oldest))) pair).0
+      (moved_fits (get_or column place (pos 0)) top gain _ (can.most place below)
+      (can.near place below) (gain_of_size f s (low_bits 9 (2 * t + oldest))) can.pair).0
 
   either : (c : Bool) →
       FitsSigned w64
@@ -85,17 +81,12 @@ pub record BlockMetrics (forced : Bool) (column : List ℤ) (top f s : ℤ) (k :
   pub fit : Each1 (λ x. FitsSigned w64 x) m
 
 pub metrics_lanes : (forced : Bool) (column : List ℤ) (top f s : ℤ) (k : ℕ) (m : List ℤ) →
-    length m ≡ 8 →
-    unsigned_abs f + unsigned_abs s ≤ 2 ^ 62 →
-    ((u : ℕ) → u < 256 → get_or column u (pos 0) ≤ℤ top) →
-    ((u : ℕ) → u < 256 →
-    unsigned_abs (top -ℤ get_or column u (pos 0)) + (unsigned_abs f + unsigned_abs s) ≤ 2 ^ 63) →
-    FitsSigned w64 top → FitsSigned w64 f → FitsSigned w64 s →
+    length m ≡ 8 → CanStep column top f s → FitsSigned w64 top → FitsSigned w64 f → FitsSigned w64 s →
     ((l : ℕ) → l < 8 → get_or m l (pos 0)
     ≡ metric_into forced column (to_z w64 (of_z w64 f)) (to_z w64 (of_z w64 s)) (8 * k + l)
     -ℤ to_z w64 (of_z w64 top)) →
     BlockMetrics forced column top f s k m
-metrics_lanes forced column top f s k m long pair most near p q r made =
+metrics_lanes forced column top f s k m long can p q r made =
     record { each = each; kept = kept m all; fit = all } where
       each : (l : ℕ) → l < 8 → get_or m l (pos 0) ≡ metric_into forced column f s (8 * k + l) -ℤ top
       each = rw (to_z-of_z w64 top p, to_z-of_z w64 f q, to_z-of_z w64 s r) at made
@@ -103,7 +94,7 @@ metrics_lanes forced column top f s k m long pair most near p q r made =
       all : Each1 (λ x. FitsSigned w64 x) m
       all = Each1-from_get_or (λ x. FitsSigned w64 x) m (pos 0)
           (λ l b. rw (each l (omega (arith, b, long)))
-          (metric_fits forced column top f s (8 * k + l) pair most near))
+          (metric_fits forced column top f s (8 * k + l) can))
 
 -- EIGHT STATES WRITTEN
 in_block : (next m : List ℤ) (j : ℕ) (f : ℕ → ℤ) (t : ℕ) → length next ≡ 256 → j < 32 →

@@ -41,10 +41,10 @@ pub use denote.Param.{number}
 pub use lib.Lanes.{Each1, Each2, chunk, mask_l, put_chunk, sel_l, top, zip2}
 pub use mir.Val.{SFits, bits, hbits}
 pub use Rattle.viterbi.specs.Best.{HasStart, IsAllowed, IsBestCodeword, spelled}
-pub use Rattle.viterbi.specs.Lanes.{Fit, code_of}
+pub use Rattle.viterbi.specs.Lanes.{AreEveryOther, AreGreater, Fit, code_of}
 unfoldable pub use Rattle.viterbi.specs.Lanes.{gain_by, patterns, lane_codes}
 pub use Rattle.viterbi.specs.Laws.{HasSentCodewordAlone, HasSentCodewordBest, HasZeroCodewordBest, IsBestByDefinition, signed}
-pub use Rattle.viterbi.specs.Columns.{Agrees, Alive, IsGreatest, forced_at, state_before, taken_of, wants}
+pub use Rattle.viterbi.specs.Columns.{Agrees, Alive, CanStep, IsGreatest, forced_at, state_before, taken_of, wants}
 unfoldable pub use Rattle.viterbi.specs.Columns.{choice_into, metric_from, metric_into, origin, path, took}
 unfoldable pub use Rattle.viterbi.specs.States.{low_bits}
 pub use Rattle.viterbi.specs.Survivors.{HasRoom, Start, better_of, end_count, extended_by}

@@ -1,7 +1,7 @@
 -- The greatest metrics, lane by lane.
 use Rattle.viterbi.proofs.Common.{◌≡◌, ℕ, ◌+◌, ◌*◌, ◌/◌, ◌%◌, ◌<◌, Bool, true, false, List, length, get_or, refl, sym, ap, ◌∙◌, arith, ℤ}
 use Rattle.viterbi.proofs.Common.{pos, negsuc, ◌≤ℤ◌, FitsSigned, w64, ◌⊎◌, inl, inr, replicate, int_lt, ints, cases_eq, get_or-replicate}
-use Rattle.viterbi.proofs.Common.{get_or-zip2, length-zip2, Each1-get_or, Each1-from_get_or, Each1, zip2, IsGreatest, taken_of}
+use Rattle.viterbi.proofs.Common.{get_or-zip2, length-zip2, Each1-get_or, Each1-from_get_or, Each1, zip2, IsGreatest, taken_of, AreGreater}
 use Rattle.viterbi.proofs.Blocks.{passed, kept}
 
 abbrev pub greater_of : ℤ → ℤ → ℤ
@@ -25,28 +25,19 @@ either P x y p q = by_test (int_lt x y) where
   by_test true = q
   by_test false = p
 
--- what `greater` gives
-pub record IsGreaterOf (xs ys m : List ℤ) : Type 0 where
-  pub long : length m ≡ 8
-  pub fit : Each1 (λ x. FitsSigned w64 x) m
-  pub one : (l : ℕ) → l < 8 → get_or xs l (pos 0) ≤ℤ get_or m l (pos 0)
-  pub other : (l : ℕ) → l < 8 → get_or ys l (pos 0) ≤ℤ get_or m l (pos 0)
-  pub least : (bound : ℤ) (l : ℕ) → l < 8 → get_or xs l (pos 0) ≤ℤ bound →
-      get_or ys l (pos 0) ≤ℤ bound → get_or m l (pos 0) ≤ℤ bound
-
 fit_at : (xs : List ℤ) (l : ℕ) → l < length xs → Each1 (λ x. FitsSigned w64 x) xs →
     FitsSigned w64 (get_or xs l (pos 0))
 fit_at xs l b h = Each1-get_or (λ x. FitsSigned w64 x) xs l (pos 0) b h
 
-pub is_greater_of : (xs ys m : List ℤ) → length xs ≡ 8 → length ys ≡ 8 →
+pub are_greater : (xs ys m : List ℤ) → length xs ≡ 8 → length ys ≡ 8 →
     Each1 (λ x. FitsSigned w64 x) xs → Each1 (λ x. FitsSigned w64 x) ys →
     m ≡ zip2 (λ x y. taken_of (int_lt x y) x y) (passed xs) (passed ys) →
-    IsGreaterOf xs ys (passed m)
-is_greater_of xs ys m p q f g is = rw (kept m fit) (record {
+    AreGreater xs ys (passed m)
+are_greater xs ys m p q f g is = rw (kept m fit) (record {
   long = long;
   fit = fit;
-  one = λ l b. rw (here l b) (one_le (get_or xs l (pos 0)) (get_or ys l (pos 0)));
-  other = λ l b. rw (here l b) (other_le (get_or xs l (pos 0)) (get_or ys l (pos 0)));
+  first = λ l b. rw (here l b) (one_le (get_or xs l (pos 0)) (get_or ys l (pos 0)));
+  second = λ l b. rw (here l b) (other_le (get_or xs l (pos 0)) (get_or ys l (pos 0)));
   least = λ bound l b one other. rw (here l b)
       (either (λ z. z ≤ℤ bound) (get_or xs l (pos 0)) (get_or ys l (pos 0)) one other);
 }) where
@@ -100,7 +91,7 @@ tops_first value fits = record {
 
 pub tops_more : (value : ℕ → ℤ) (k : ℕ) (most m n inner next : List ℤ) → k < 16 →
     AreTops value k most →
-    IsGreaterOf m n inner → IsGreaterOf most inner next →
+    AreGreater m n inner → AreGreater most inner next →
     ((l : ℕ) → l < 8 → get_or m l (pos 0) ≡ value (8 * k + l)) →
     ((l : ℕ) → l < 8 → get_or n l (pos 0) ≡ value (8 * (16 + k) + l)) → AreTops value (k + 1) next
 tops_more value k most m n inner next few before wings all here there = record {
@@ -119,15 +110,15 @@ tops_more value k most m n inner next few before wings all here there = record {
       let place : 8 * k + t % 8 ≡ t = omega (arith, lower) in
       let lane : t % 8 < 8 = omega arith in
       let is : get_or m (t % 8) (pos 0) ≡ value t = here (t % 8) lane ∙ ap value place in
-      rw (← is) (int_le_trans _ _ _ (wings.one (t % 8) lane) (all.other (t % 8) lane))
+      rw (← is) (int_le_trans _ _ _ (wings.first (t % 8) lane) (all.second (t % 8) lane))
   by_block t b done (inr off) (inl upper) =
       let place : 8 * (16 + k) + t % 8 ≡ t = omega (arith, upper) in
       let lane : t % 8 < 8 = omega arith in
       let is : get_or n (t % 8) (pos 0) ≡ value t = there (t % 8) lane ∙ ap value place in
-      rw (← is) (int_le_trans _ _ _ (wings.other (t % 8) lane) (all.other (t % 8) lane))
+      rw (← is) (int_le_trans _ _ _ (wings.second (t % 8) lane) (all.second (t % 8) lane))
   by_block t b done (inr off) (inr off') =
       let lane : t % 8 < 8 = omega arith in
-      int_le_trans _ _ _ (before.over t b (left off off')) (all.one (t % 8) lane) where
+      int_le_trans _ _ _ (before.over t b (left off off')) (all.first (t % 8) lane) where
         left : (¬ (t / 8 ≡ k)) → (¬ (t / 8 ≡ 16 + k)) → t / 8 % 16 < k
         left p q = omega (arith, b, done, p, q)
 

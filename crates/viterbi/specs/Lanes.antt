@@ -1,7 +1,8 @@
 -- What a bit adds to the score, eight states at a time.
-use Rattle.std.specs.Prelude.{ℕ, ◌+◌, ◌*◌, ◌/◌, ◌%◌, List, [], ◌∷◌, get_or, ℤ, pos, ◌+ℤ◌, ◌-ℤ◌}
-use Rattle.std.specs.Prelude.{◌*ℤ◌, FitsSigned}
+use Rattle.std.specs.Prelude.{ℕ, ◌+◌, ◌*◌, ◌/◌, ◌%◌, ◌<◌, ◌≡◌, List, [], ◌∷◌, length, get_or, ℤ}
+use Rattle.std.specs.Prelude.{pos, ◌+ℤ◌, ◌-ℤ◌, ◌*ℤ◌, ◌≤ℤ◌, FitsSigned}
 use Rattle.std.specs.Int.{w64}
+use lib.Lanes.{Each1}
 use Rattle.chip_core.specs.Bits.{bit_of, sign}
 
 -- A code is two symbols as a number: 1 where the first is 1, plus 2 where the second is.
@@ -37,3 +38,18 @@ sum_at xs ys l = get_or xs l (pos 0) +ℤ get_or ys l (pos 0)
 
 abbrev pub difference_at : List ℤ → List ℤ → ℕ → ℤ
 difference_at xs ys l = get_or xs l (pos 0) -ℤ get_or ys l (pos 0)
+
+-- eight lanes made of every other number of a column, from a place on
+pub record AreEveryOther (made : ℤ → ℤ) (column : List ℤ) (at : ℕ) (lanes : List ℤ) : Type 0 where
+  pub long : length lanes ≡ 8
+  pub each : (l : ℕ) → l < 8 → get_or lanes l (pos 0) ≡ made (get_or column (at + 2 * l) (pos 0))
+
+-- the greater of each two lanes: neither is greater, and whatever neither is greater than is at
+-- least this
+pub record AreGreater (one other lanes : List ℤ) : Type 0 where
+  pub long : length lanes ≡ 8
+  pub fit : Each1 (λ x. FitsSigned w64 x) lanes
+  pub first : (l : ℕ) → l < 8 → get_or one l (pos 0) ≤ℤ get_or lanes l (pos 0)
+  pub second : (l : ℕ) → l < 8 → get_or other l (pos 0) ≤ℤ get_or lanes l (pos 0)
+  pub least : (bound : ℤ) (l : ℕ) → l < 8 → get_or one l (pos 0) ≤ℤ bound →
+      get_or other l (pos 0) ≤ℤ bound → get_or lanes l (pos 0) ≤ℤ bound

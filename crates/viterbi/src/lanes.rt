@@ -3,12 +3,13 @@
 //! The states of block `k`, the eight from `8 * k` on, and those of block `16 + k` are reached from
 //! the same sixteen states, from `16 * k` on: eight butterflies of the trellis.
 
-ghost use Rattle.std.specs.Prelude.{◌≡◌, ◌<◌, ◌≤◌, ◌+◌, ◌*◌, ◌%◌, ◌^◌, ◌+ℤ◌, ◌-ℤ◌, ◌≤ℤ◌, ℕ, ℤ};
+ghost use Rattle.std.specs.Prelude.{◌≡◌, ◌<◌, ◌≤◌, ◌+◌, ◌*◌, ◌%◌, ◌^◌, ◌+ℤ◌, ◌-ℤ◌, ℕ};
 ghost use Rattle.std.specs.Prelude.{false, length, get_or, map, pos, int_lt, FitsSigned};
 ghost use Rattle.std.specs.Int.{w64};
 ghost use lib.Lanes.{Each1, Each2, zip2};
 ghost use Rattle.chip_core.specs.Bits.{bit_of};
 ghost use Rattle.viterbi.specs.Lanes.{Fit, sum_at, difference_at, gain_by, lane_codes, patterns};
+ghost use Rattle.viterbi.specs.Lanes.{AreEveryOther, AreGreater};
 ghost use Rattle.viterbi.specs.Columns.{CanStep, IsStep, taken_of, wants, metric_into, choice_into};
 
 use crate::decisions::Decisions;
@@ -55,12 +56,8 @@ fn lessened(lanes: i64x8, number: i64) -> i64x8
 fn parted(column: &[i64], at: usize) -> (i64x8, i64x8)
     requires room { at + 16 ≤ length column.now }
     requires fit { (t : ℕ) → t < length column.now → FitsSigned w64 (get_or column.now t (pos 0)) }
-    ensures even_long { length result.0 ≡ 8 }
-    ensures odd_long { length result.1 ≡ 8 }
-    ensures even { (l : ℕ) → l < 8 →
-        get_or result.0 l (pos 0) ≡ get_or column.now (at + 2 * l) (pos 0) }
-    ensures odd { (l : ℕ) → l < 8 →
-        get_or result.1 l (pos 0) ≡ get_or column.now (at + (2 * l + 1)) (pos 0) }
+    ensures even { AreEveryOther (λ x. x) column.now at result.0 }
+    ensures odd { AreEveryOther (λ x. x) column.now (at + 1) result.1 }
 {
     let low = i64x8::from_slice(&column[at..]);
     let high = i64x8::from_slice(&column[at + 8..]);
@@ -73,12 +70,8 @@ fn neighbours(column: &[i64], at: usize, top: i64) -> (i64x8, i64x8)
     requires fit { (t : ℕ) → t < length column.now → FitsSigned w64 (get_or column.now t (pos 0)) }
     requires less { (t : ℕ) → t < length column.now →
         FitsSigned w64 (get_or column.now t (pos 0) -ℤ top) }
-    ensures even_long { length result.0 ≡ 8 }
-    ensures odd_long { length result.1 ≡ 8 }
-    ensures even { (l : ℕ) → l < 8 →
-        get_or result.0 l (pos 0) ≡ get_or column.now (at + 2 * l) (pos 0) -ℤ top }
-    ensures odd { (l : ℕ) → l < 8 →
-        get_or result.1 l (pos 0) ≡ get_or column.now (at + (2 * l + 1)) (pos 0) -ℤ top }
+    ensures even { AreEveryOther (λ x. x -ℤ top) column.now at result.0 }
+    ensures odd { AreEveryOther (λ x. x -ℤ top) column.now (at + 1) result.1 }
 {
     let (even, odd) = parted(column, at);
     (lessened(even, top), lessened(odd, top))
@@ -151,12 +144,7 @@ fn greater(one: i64x8, other: i64x8) -> i64x8
     requires other_long { length other ≡ 8 }
     requires one_fit { Each1 (λ x. FitsSigned w64 x) one }
     requires other_fit { Each1 (λ x. FitsSigned w64 x) other }
-    ensures long { length result ≡ 8 }
-    ensures fit { Each1 (λ x. FitsSigned w64 x) result }
-    ensures one { (l : ℕ) → l < 8 → get_or one l (pos 0) ≤ℤ get_or result l (pos 0) }
-    ensures other { (l : ℕ) → l < 8 → get_or other l (pos 0) ≤ℤ get_or result l (pos 0) }
-    ensures least { (bound : ℤ) (l : ℕ) → l < 8 → get_or one l (pos 0) ≤ℤ bound →
-        get_or other l (pos 0) ≤ℤ bound → get_or result l (pos 0) ≤ℤ bound }
+    ensures { AreGreater one other result }
 {
     let (lanes, _) = selected_lanes(one, other);
     lanes

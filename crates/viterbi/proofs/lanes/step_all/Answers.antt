@@ -1,9 +1,9 @@
 use Rattle.viterbi.proofs.Common.{◌≡◌, ◌+◌, ◌*◌, ◌/◌, ◌%◌, ◌<◌, ◌-ℤ◌, ◌∙◌, ℕ, get_or, pos, rules, w64, map, to_z, arith, to_z-of_z}
-use Rattle.viterbi.proofs.Common.{length-put_chunk, bit_of, metric_into, choice_into, number}
+use Rattle.viterbi.proofs.Common.{length-put_chunk, bit_of, metric_into, choice_into, number, AreGreater}
 use Rattle.viterbi.proofs.ColumnSteps.{metric_fits, metrics_lanes, wings_more, choices_more}
 use Rattle.viterbi.specs.contracts.lanes.step_all.{FORCED-type}
 use Rattle.viterbi.proofs.Blocks.{kept}
-use Rattle.viterbi.proofs.GreatestLanes.{IsGreaterOf, AreTops, tops_first, tops_more, column_greatest}
+use Rattle.viterbi.proofs.GreatestLanes.{AreTops, tops_first, tops_more, column_greatest}
 use Rattle.viterbi.proofs.lanes.step_all.Goals as goal
 
 nothing_yet : {A : Type 0} (t : ℕ) → t / 8 % 16 < 0 → A
@@ -24,23 +24,22 @@ loop-k-init g c =
           (tops_first
           (λ t. metric_into forced c.args.column.now c.args.first c.args.second t -ℤ c.args.top)
           (metric_fits forced c.args.column.now c.args.top c.args.first c.args.second 0
-          c.requires.column.pair c.requires.column.most c.requires.column.near));
+          c.requires.column));
     }
 
 pub greater-requires-clause-one_fit : goal.greater-requires-clause-one_fit
 greater-requires-clause-one_fit g c =
     let lower = metrics_lanes (FORCED-type (number g.row.FORCED)) c.args.column.now c.args.top
     c.args.first c.args.second c.loop-k.k c.block_step-bits.result.0 c.block_step-bits.ensures.long
-    c.requires.column.pair c.requires.column.most c.requires.column.near c.ranges.top c.ranges.first c.ranges.second
-    c.block_step-bits.ensures.metrics in
+    c.requires.column c.ranges.top c.ranges.first c.ranges.second c.block_step-bits.ensures.metrics in
     rw lower.kept lower.fit
 
 pub greater-requires-clause-other_fit : goal.greater-requires-clause-other_fit
 greater-requires-clause-other_fit g c =
     let upper = metrics_lanes (FORCED-type (number g.row.FORCED)) c.args.column.now c.args.top
     c.args.first c.args.second (16 + c.loop-k.k) c.block_step-upper_bits.result.0
-    c.block_step-upper_bits.ensures.long c.requires.column.pair c.requires.column.most c.requires.column.near
-    c.ranges.top c.ranges.first c.ranges.second c.block_step-upper_bits.ensures.metrics in
+    c.block_step-upper_bits.ensures.long c.requires.column c.ranges.top c.ranges.first
+    c.ranges.second c.block_step-upper_bits.ensures.metrics in
     rw upper.kept upper.fit
 
 pub greater-most-requires-clause-other_fit : goal.greater-most-requires-clause-other_fit
@@ -59,14 +58,12 @@ loop-k-preserved g c =
     let et = to_z-of_z w64 top c.ranges.top in
     let ef = to_z-of_z w64 f c.ranges.first in
     let es = to_z-of_z w64 s c.ranges.second in
-    let lower = metrics_lanes (FORCED-type (number g.row.FORCED)) c.args.column.now c.args.top
-    c.args.first c.args.second c.loop-k.k c.block_step-bits.result.0 c.block_step-bits.ensures.long
-    c.requires.column.pair c.requires.column.most c.requires.column.near c.ranges.top c.ranges.first c.ranges.second
+    let lower = metrics_lanes forced column top f s k c.block_step-bits.result.0
+    c.block_step-bits.ensures.long c.requires.column c.ranges.top c.ranges.first c.ranges.second
     c.block_step-bits.ensures.metrics in
-    let upper = metrics_lanes (FORCED-type (number g.row.FORCED)) c.args.column.now c.args.top
-    c.args.first c.args.second (16 + c.loop-k.k) c.block_step-upper_bits.result.0
-    c.block_step-upper_bits.ensures.long c.requires.column.pair c.requires.column.most c.requires.column.near
-    c.ranges.top c.ranges.first c.ranges.second c.block_step-upper_bits.ensures.metrics in
+    let upper = metrics_lanes forced column top f s (16 + k) c.block_step-upper_bits.result.0
+    c.block_step-upper_bits.ensures.long c.requires.column c.ranges.top c.ranges.first
+    c.ranges.second c.block_step-upper_bits.ensures.metrics in
     let low = c.block_step-bits.result in
     let high = c.block_step-upper_bits.result in
     let choices : (l : ℕ) → l < 8 → bit_of low.1 l ≡ choice_into forced column f s (8 * k + l) =
@@ -76,21 +73,9 @@ loop-k-preserved g c =
     rw (ef, es) at c.block_step-upper_bits.ensures.choices in
     let inner = c.greater.result in
     let next = c.greater-most.result in
-    let wings : IsGreaterOf low.0 high.0 inner = record {
-      long = c.greater.ensures.long;
-      fit = c.greater.ensures.fit;
-      one = rw lower.kept at c.greater.ensures.one;
-      other = rw upper.kept at c.greater.ensures.other;
-      least = rw (lower.kept, upper.kept) at c.greater.ensures.least;
-    } in
-    let same_inner = kept inner c.greater.ensures.fit in
-    let all : IsGreaterOf (map (to_z w64) c.loop-k.most) inner next = record {
-      long = c.greater-most.ensures.long;
-      fit = c.greater-most.ensures.fit;
-      one = c.greater-most.ensures.one;
-      other = rw same_inner at c.greater-most.ensures.other;
-      least = rw same_inner at c.greater-most.ensures.least;
-    } in
+    let wings : AreGreater low.0 high.0 inner = rw (lower.kept, upper.kept) at c.greater.ensures in
+    let all : AreGreater (map (to_z w64) c.loop-k.most) inner next =
+    rw (kept inner c.greater.ensures.fit) at c.greater-most.ensures in
     record {
       whole = length-put_chunk (8 * (16 + k)) _ _ ∙ length-put_chunk (8 * k) c.loop-k.next _
           ∙ c.loop-k.invariant.whole;
