@@ -36,7 +36,7 @@ unfoldable pub use Rattle.chip_core.specs.Sums.{first_places}
 pub use Rattle.conv_code.proofs.Continued.{state_after-none}
 pub use Rattle.conv_code.specs.ConvCode.{state_after}
 pub use Rattle.viterbi.proofs.BlockSteps.{gain_fits, gains_read, pattern_small, lane_small}
-pub use Rattle.viterbi.proofs.Blocks.{kept, passed}
+pub use Rattle.viterbi.proofs.Blocks.{kept, made_fit, passed}
 pub use Rattle.viterbi.proofs.Choices.{Either, IsPushed, leads_both, leads_trans, rank_of-pushed, stays_first, codewords_same}
 pub use Rattle.viterbi.proofs.Codes.{code_gains}
 pub use Rattle.viterbi.proofs.Finish.{IntoBelow, allowed_into, below_first, below_or_last, into_allowed, more_below, no_bits, score-none}
@@ -64,9 +64,9 @@ pub use lib.Dec.{T}
 pub use lib.Lanes.{Each1, Each2, put_chunk, sel_l, zip2}
 pub use mir.Val.{SFits, bool_byte}
 pub use Rattle.list_viterbi.specs.First.{AreFirst, HaveScores, first_codewords, codeword_of}
-pub use Rattle.list_viterbi.specs.Heads.{AreWeights, HeadsFit, HeadsLong, IsWeight, LoweredFit, PairPicked, RaisedFit, ColumnValue}
+pub use Rattle.list_viterbi.specs.Heads.{AreWeights, HeadsFit, HeadsLong, IsWeight, MadeFit, PairPicked, ColumnValue}
 pub use Rattle.list_viterbi.specs.Heads.{even_after, even_after_two, even_heads, four_of, heads_from, lane_of, lane_sum, less_heads}
-pub use Rattle.list_viterbi.specs.Heads.{lowered_heads, odd_after, odd_after_two, odd_heads, put_choices, put_heads, raised_heads}
+pub use Rattle.list_viterbi.specs.Heads.{made_heads, odd_after, odd_after_two, odd_heads, put_choices, put_heads}
 pub use Rattle.list_viterbi.specs.Heads.{taken_scores, taken_weights, two_from}
 unfoldable pub use Rattle.list_viterbi.specs.Heads.{four_choices, four_scores, column_of}
 pub use Rattle.list_viterbi.specs.Laws.{HaveBestFirst, HaveFirstPassing, NamesOneList}

@@ -1,24 +1,12 @@
 -- Two blocks of two states are put, and all else stays.
 use Rattle.list_viterbi.proofs.Common.{◌≡◌, ℕ, ◌+◌, ◌*◌, ◌/◌, ◌%◌, ◌^◌, ◌<◌, ◌≤◌, ◌⊎◌, inl, inr, ⊎_elim, List, [], ◌∷◌, length, get_or}
-use Rattle.list_viterbi.proofs.Common.{refl, sym, subst, ◌∙◌, arith, ℤ, pos, ◌+ℤ◌, ◌-ℤ◌, unsigned_abs, FitsSigned, w64, ints}
-use Rattle.list_viterbi.proofs.Common.{fits_signed_from_abs, cases_lt, length-set, Each1, Each2, zip2, Fit, Heads, Pick, picks_by, HasPicks}
+use Rattle.list_viterbi.proofs.Common.{refl, sym, subst, ◌∙◌, arith, ℤ, pos, ◌+ℤ◌, ◌-ℤ◌, unsigned_abs, w64, ints}
+use Rattle.list_viterbi.proofs.Common.{fits_signed_from_abs, cases_lt, length-set, Each2, Fit, Heads, Pick, picks_by, HasPicks}
 use Rattle.list_viterbi.proofs.Common.{HeadsLong, four_scores, four_choices, two_from, heads_from, put_heads, put_choices, four_of}
-use Rattle.list_viterbi.proofs.Common.{column_of}
+use Rattle.list_viterbi.proofs.Common.{made_heads, column_of}
 use Rattle.list_viterbi.proofs.LaneMerges.{scores_long}
 use Rattle.list_viterbi.proofs.LanePuts.{heads_put, put_read, put_others, choices_read, choices_others}
-use Rattle.list_viterbi.proofs.LanePicks.{made_heads, block_picks}
-
-pub made_long : (made : ℤ → ℤ → ℤ) (ranks gain : List ℤ) (at : ℕ) → length gain ≡ 2 →
-    HeadsLong (made_heads made (heads_from ranks at) gain)
-made_long made ranks [] at long = absurd (omega (arith, long))
-made_long made ranks (x ∷ []) at long = absurd (omega (arith, long))
-made_long made ranks (x ∷ y ∷ []) at long = record {
-  first = refl;
-  second = refl;
-  third = refl;
-  fourth = refl;
-}
-made_long made ranks (x ∷ y ∷ z ∷ zs) at long = absurd (omega (arith, long))
+use Rattle.list_viterbi.proofs.LanePicks.{made_long, block_picks}
 
 -- where there is room, what is made of two scores and their gains are numbers of 64 bits
 pub two_fit : (made : ℤ → ℤ → ℤ) (ranks gain : List ℤ) (i : ℕ) → length gain ≡ 2 → i + 2 < 1024 →
@@ -48,13 +36,6 @@ plus_size x y = omega (arith, ints)
 
 pub minus_size : (x y : ℤ) → unsigned_abs (x -ℤ y) ≤ unsigned_abs x + unsigned_abs y
 minus_size x y = omega (arith, ints)
-
--- and so is what they are made
-pub made_fit : (made : ℤ → ℤ → ℤ) (xs ys : List ℤ) → Each2 (λ x y. Fit x y (made x y)) xs ys →
-    Each1 (λ x. FitsSigned w64 x) (zip2 made xs ys)
-made_fit made [] ys h = tt
-made_fit made (x ∷ xs) [] h = tt
-made_fit made (x ∷ xs) (y ∷ ys) h = (h.0.1.1, made_fit made xs ys h.1)
 
 -- scores and choices of the states of two blocks
 abbrev pub lower_even : List ℤ → List ℤ → ℕ → Heads
@@ -91,6 +72,18 @@ chosen_both ranks gain block choices =
     put_choices (128 + 2 * block) (chosen_lower ranks gain block choices)
     (four_choices (upper_even ranks gain block) (upper_odd ranks gain block))
 
+lower_long : (ranks gain : List ℤ) (block : ℕ) → length gain ≡ 2 →
+    HeadsLong (four_scores (lower_even ranks gain block) (lower_odd ranks gain block))
+lower_long ranks gain block two =
+    scores_long _ _ (made_long (λ x y. x +ℤ y) ranks gain (4 * block) two)
+    (made_long (λ x y. x -ℤ y) ranks gain (4 * block + 1) two)
+
+upper_long : (ranks gain : List ℤ) (block : ℕ) → length gain ≡ 2 →
+    HeadsLong (four_scores (upper_even ranks gain block) (upper_odd ranks gain block))
+upper_long ranks gain block two =
+    scores_long _ _ (made_long (λ x y. x -ℤ y) ranks gain (4 * block) two)
+    (made_long (λ x y. x +ℤ y) ranks gain (4 * block + 1) two)
+
 picks_same : (ss ss' : List ℤ) (c c' : ℕ) (picks : List Pick) → ss ≡ ss' → c ≡ c' →
     HasPicks ss' c' picks → HasPicks ss c picks
 picks_same ss ss' c c' picks p q h =
@@ -105,22 +98,17 @@ pub pair_lower : (ranks gain next : List ℤ) (choices : List ℕ) (block : ℕ)
 pair_lower ranks gain next choices block whole long two below l b =
     let e = lower_even ranks gain block in
     let o = lower_odd ranks gain block in
-    let el = made_long (λ x y. x +ℤ y) ranks gain (4 * block) two in
-    let ol = made_long (λ x y. x -ℤ y) ranks gain (4 * block + 1) two in
-    let uel = made_long (λ x y. x -ℤ y) ranks gain (4 * block) two in
-    let uol = made_long (λ x y. x +ℤ y) ranks gain (4 * block + 1) two in
     let before : 2 * block + l < 128 + 2 * block = omega (arith, b) in
     picks_same _ _ _ _ _
     (put_others (128 + 2 * block) (2 * block + l) (with_lower ranks gain block next) _
-    (omega (arith, below)) (omega (arith, below, b)) (scores_long _ _ uel uol) (inl before)
+    (omega (arith, below)) (omega (arith, below, b)) (upper_long ranks gain block two) (inl before)
     ∙ put_read (2 * block) l next (four_scores e o) whole (omega (arith, below))
-    (scores_long e o el ol) b)
+    (lower_long ranks gain block two) b)
     (choices_others (128 + 2 * block) (2 * block + l) (chosen_lower ranks gain block choices)
     (four_choices (upper_even ranks gain block) (upper_odd ranks gain block)) (inl before)
     ∙ choices_read (2 * block) l choices (four_choices e o) long (omega (arith, below)) b)
     (block_picks (λ x y. x +ℤ y) (λ x y. x -ℤ y) ranks gain (4 * block) l (2 * block + l)
-    (get_or gain l (pos 0)) b two (λ x. refl) (λ x. omega (arith, ints)) (omega (arith, below, b))
-    el ol)
+    (get_or gain l (pos 0)) b two (λ x. refl) (λ x. omega (arith, ints)) (omega (arith, below, b)))
 
 pub pair_upper : (ranks gain next : List ℤ) (choices : List ℕ) (block : ℕ) → length next ≡ 1024 →
     length choices ≡ 256 → length gain ≡ 2 → block < 64 → (l : ℕ) → l < 2 →
@@ -130,19 +118,17 @@ pub pair_upper : (ranks gain next : List ℤ) (choices : List ℕ) (block : ℕ)
 pair_upper ranks gain next choices block whole long two below l b =
     let e = upper_even ranks gain block in
     let o = upper_odd ranks gain block in
-    let el = made_long (λ x y. x -ℤ y) ranks gain (4 * block) two in
-    let ol = made_long (λ x y. x +ℤ y) ranks gain (4 * block + 1) two in
     let first = with_lower ranks gain block next in
     let first_choices = chosen_lower ranks gain block choices in
     picks_same _ _ _ _ _
     (put_read (128 + 2 * block) l first (four_scores e o) (heads_put (2 * block) next _ ∙ whole)
-    (omega (arith, below)) (scores_long e o el ol) b)
+    (omega (arith, below)) (upper_long ranks gain block two) b)
     (choices_read (128 + 2 * block) l first_choices (four_choices e o)
     (length-set _ (2 * block + 1) _ ∙ length-set choices (2 * block) _ ∙ long)
     (omega (arith, below)) b)
     (block_picks (λ x y. x -ℤ y) (λ x y. x +ℤ y) ranks gain (4 * block) l (128 + 2 * block + l)
     (pos 0 -ℤ get_or gain l (pos 0)) b two (λ x. omega (arith, ints)) (λ x. omega (arith, ints))
-    (omega (arith, below, b)) el ol)
+    (omega (arith, below, b)))
 
 side_of : (t at : ℕ) → t < 256 → at < 128 → ¬ (t / 2 % 64 ≡ at / 2) → at % 2 ≡ 0 →
     ((t < at) ⊎ (at + 2 ≤ t)) × ((t < 128 + at) ⊎ (128 + at + 2 ≤ t))
@@ -162,15 +148,11 @@ pub pair_others : (ranks gain next : List ℤ) (choices : List ℕ) (block : ℕ
 pair_others ranks gain next choices block two below t b other =
     let half : 2 * block / 2 ≡ block = omega arith in
     let sides = side_of t (2 * block) b (omega (arith, below)) (λ e. other (e ∙ half)) (omega arith)
-    in
-    let el = made_long (λ x y. x +ℤ y) ranks gain (4 * block) two in
-    let ol = made_long (λ x y. x -ℤ y) ranks gain (4 * block + 1) two in
-    let uel = made_long (λ x y. x -ℤ y) ranks gain (4 * block) two in
-    let uol = made_long (λ x y. x +ℤ y) ranks gain (4 * block + 1) two in (
+    in (
       put_others (128 + 2 * block) t (with_lower ranks gain block next) _ (omega (arith, below)) b
-          (scores_long _ _ uel uol) sides.1
-          ∙ put_others (2 * block) t next _ (omega (arith, below)) b (scores_long _ _ el ol)
-          sides.0,
+          (upper_long ranks gain block two) sides.1
+          ∙ put_others (2 * block) t next _ (omega (arith, below)) b
+          (lower_long ranks gain block two) sides.0,
       choices_others (128 + 2 * block) t (chosen_lower ranks gain block choices)
           (four_choices (upper_even ranks gain block) (upper_odd ranks gain block)) sides.1
           ∙ choices_others (2 * block) t choices

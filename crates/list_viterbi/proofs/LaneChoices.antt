@@ -43,13 +43,17 @@ chosen_lanes es os xs ys =
 kept_twice : (xs : List ℤ) → AllFit xs → passed (passed xs) ≡ xs
 kept_twice xs h = ap passed (kept xs h) ∙ kept xs h
 
+pub choose_each : (P : ℤ → Type 0) (ts : List Bool) (xs ys : List ℤ) → Each1 P xs → Each1 P ys →
+    Each1 P (choose ts xs ys)
+choose_each P [] xs ys p q = tt
+choose_each P (t ∷ ts) [] ys p q = tt
+choose_each P (t ∷ ts) (x ∷ xs) [] p q = tt
+choose_each P (true ∷ ts) (x ∷ xs) (y ∷ ys) p q = (q.0, choose_each P ts xs ys p.1 q.1)
+choose_each P (false ∷ ts) (x ∷ xs) (y ∷ ys) p q = (p.0, choose_each P ts xs ys p.1 q.1)
+
 pub choose_fits : (ts : List Bool) (xs ys : List ℤ) → AllFit xs → AllFit ys →
     AllFit (choose ts xs ys)
-choose_fits [] xs ys p q = tt
-choose_fits (t ∷ ts) [] ys p q = tt
-choose_fits (t ∷ ts) (x ∷ xs) [] p q = tt
-choose_fits (true ∷ ts) (x ∷ xs) (y ∷ ys) p q = (q.0, choose_fits ts xs ys p.1 q.1)
-choose_fits (false ∷ ts) (x ∷ xs) (y ∷ ys) p q = (p.0, choose_fits ts xs ys p.1 q.1)
+choose_fits = choose_each (λ x. FitsSigned w64 x)
 
 pub chosen_is : (made es os xs ys : List ℤ) → AllFit es → AllFit os → AllFit xs → AllFit ys →
     made ≡ choose (zip2 int_lt (passed (passed es)) (passed (passed os))) (passed (passed xs))

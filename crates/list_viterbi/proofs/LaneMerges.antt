@@ -1,17 +1,9 @@
 -- The scores of four turns fit, and their weights are small.
-use Rattle.list_viterbi.proofs.Common.{Bool, true, false, List, [], ◌∷◌, refl, subst, arith, ℤ, pos, ints, Each1, Heads, choose, HeadsFit}
+use Rattle.list_viterbi.proofs.Common.{[], ◌∷◌, refl, subst, arith, ℤ, pos, ints, Each1, Heads, HeadsFit}
 use Rattle.list_viterbi.proofs.Common.{HeadsLong, AreWeights, IsWeight, less_heads, even_after, odd_after, even_after_two, odd_after_two}
 use Rattle.list_viterbi.proofs.Common.{four_scores, four_choices}
-use Rattle.list_viterbi.proofs.LaneChoices.{choose_fits, even_fits, odd_fits}
+use Rattle.list_viterbi.proofs.LaneChoices.{choose_each, choose_fits, even_fits, odd_fits}
 use Rattle.list_viterbi.proofs.LaneTurns.{pairs, pairs_are}
-
-choose_each : (P : ℤ → Type 0) (ts : List Bool) (xs ys : List ℤ) → Each1 P xs → Each1 P ys →
-    Each1 P (choose ts xs ys)
-choose_each P [] xs ys p q = tt
-choose_each P (t ∷ ts) [] ys p q = tt
-choose_each P (t ∷ ts) (x ∷ xs) [] p q = tt
-choose_each P (true ∷ ts) (x ∷ xs) (y ∷ ys) p q = (q.0, choose_each P ts xs ys p.1 q.1)
-choose_each P (false ∷ ts) (x ∷ xs) (y ∷ ys) p q = (p.0, choose_each P ts xs ys p.1 q.1)
 
 two_weights : (z : ℤ) → IsWeight z → Each1 IsWeight (z ∷ z ∷ [])
 two_weights z w = (w, (w, tt))

@@ -1,11 +1,10 @@
 -- What the calls for four states make together.
 use Rattle.list_viterbi.proofs.Common.{◌≡◌, ℕ, ◌+◌, ◌*◌, ◌/◌, ◌%◌, ◌^◌, ◌<◌, ◌≤◌, List, [], ◌∷◌, length, get_or, sym, ap, subst, ◌∙◌, arith}
-use Rattle.list_viterbi.proofs.Common.{ℤ, pos, ◌+ℤ◌, ◌-ℤ◌, unsigned_abs, FitsSigned, to_z, of_z, w64, fits_signed_from_abs, SFits, gain_by}
-use Rattle.list_viterbi.proofs.Common.{code_of, lane_codes, patterns, kept, passed, pattern_small, gain_fits, Heads, HeadsFit, RaisedFit}
-use Rattle.list_viterbi.proofs.Common.{LoweredFit, raised_heads, lowered_heads, two_from, heads_from}
+use Rattle.list_viterbi.proofs.Common.{ℤ, pos, unsigned_abs, FitsSigned, to_z, of_z, w64, fits_signed_from_abs, SFits, gain_by}
+use Rattle.list_viterbi.proofs.Common.{code_of, lane_codes, patterns, kept, passed, pattern_small, gain_fits, Heads, HeadsFit, MadeFit}
+use Rattle.list_viterbi.proofs.Common.{made_fit, made_heads, two_from, heads_from}
 use Rattle.list_viterbi.proofs.StateCodes.{gain_by_size, gain_passed}
-use Rattle.list_viterbi.proofs.LanePicks.{made_heads}
-use Rattle.list_viterbi.proofs.LaneBlocks.{made_fit, two_fit, plus_size, minus_size, lower_even, lower_odd, upper_even, upper_odd}
+use Rattle.list_viterbi.proofs.LaneBlocks.{two_fit, lower_even, lower_odd, upper_even, upper_odd}
 use Rattle.list_viterbi.proofs.LaneGains.{code_two}
 
 -- each score and each gain can be added
@@ -31,63 +30,46 @@ gain_kept ranks gain two room =
     two_kept gain two
     (λ l b. let few = room l 0 b (omega arith) in fits_signed_from_abs w64 _ (omega (arith, few)))
 
--- what may be added and taken off
-pub raised_fit : (ranks gain : List ℤ) (at : ℕ) (h : Heads) → length gain ≡ 2 → at + 3 ≤ 256 →
-    LeaveRoom ranks gain → h ≡ heads_from ranks at → RaisedFit h (passed gain)
-raised_fit ranks gain at h two below room is =
-    rw (is, gain_kept ranks gain two room) (record {
-      first = two_fit (λ x y. x +ℤ y) ranks gain at two (omega (arith, below)) plus_size room;
-      second = two_fit (λ x y. x +ℤ y) ranks gain (256 + at) two (omega (arith, below)) plus_size
-          room;
-      third = two_fit (λ x y. x +ℤ y) ranks gain (512 + at) two (omega (arith, below)) plus_size
-          room;
-      fourth = two_fit (λ x y. x +ℤ y) ranks gain (768 + at) two (omega (arith, below)) plus_size
-          room;
+-- what is no greater than both together
+abbrev pub IsNear : (ℤ → ℤ → ℤ) → Type 0
+IsNear made = (x y : ℤ) → unsigned_abs (made x y) ≤ unsigned_abs x + unsigned_abs y
+
+heads_fit : (made : ℤ → ℤ → ℤ) (ranks gain : List ℤ) (at : ℕ) → length gain ≡ 2 → at + 3 ≤ 256 →
+    LeaveRoom ranks gain → IsNear made → MadeFit made (heads_from ranks at) gain
+heads_fit made ranks gain at two below room near = record {
+  first = two_fit made ranks gain at two (omega (arith, below)) near room;
+  second = two_fit made ranks gain (256 + at) two (omega (arith, below)) near room;
+  third = two_fit made ranks gain (512 + at) two (omega (arith, below)) near room;
+  fourth = two_fit made ranks gain (768 + at) two (omega (arith, below)) near room;
+}
+
+-- what may be made of scores and gains
+pub may_make : (made : ℤ → ℤ → ℤ) (ranks gain : List ℤ) (at : ℕ) (h : Heads) → length gain ≡ 2 →
+    at + 3 ≤ 256 → LeaveRoom ranks gain → IsNear made → h ≡ heads_from ranks at →
+    MadeFit made h (passed gain)
+may_make made ranks gain at h two below room near is =
+    rw (is, gain_kept ranks gain two room) (heads_fit made ranks gain at two below room near)
+
+-- what it is
+pub made_is : (made : ℤ → ℤ → ℤ) (ranks gain : List ℤ) (at : ℕ) (h m : Heads) → length gain ≡ 2 →
+    LeaveRoom ranks gain → h ≡ heads_from ranks at → m ≡ made_heads made h (passed gain) →
+    m ≡ made_heads made (heads_from ranks at) gain
+made_is made ranks gain at h m two room from is =
+    is ∙ ap (made_heads made h) (gain_kept ranks gain two room)
+    ∙ ap (λ (g : Heads). made_heads made g gain) from
+
+-- and that its numbers are of 64 bits
+pub makes_fit : (made : ℤ → ℤ → ℤ) (ranks gain : List ℤ) (at : ℕ) (h m : Heads) →
+    length gain ≡ 2 → at + 3 ≤ 256 → LeaveRoom ranks gain → IsNear made → h ≡ heads_from ranks at →
+    m ≡ made_heads made h (passed gain) → HeadsFit m
+makes_fit made ranks gain at h m two below room near from is =
+    let fit = heads_fit made ranks gain at two below room near in
+    subst HeadsFit (sym (made_is made ranks gain at h m two room from is)) (record {
+      first = made_fit made (two_from ranks at) gain fit.first;
+      second = made_fit made (two_from ranks (256 + at)) gain fit.second;
+      third = made_fit made (two_from ranks (512 + at)) gain fit.third;
+      fourth = made_fit made (two_from ranks (768 + at)) gain fit.fourth;
     })
-
-pub lowered_fit : (ranks gain : List ℤ) (at : ℕ) (h : Heads) → length gain ≡ 2 → at + 3 ≤ 256 →
-    LeaveRoom ranks gain → h ≡ heads_from ranks at → LoweredFit h (passed gain)
-lowered_fit ranks gain at h two below room is =
-    rw (is, gain_kept ranks gain two room) (record {
-      first = two_fit (λ x y. x -ℤ y) ranks gain at two (omega (arith, below)) minus_size room;
-      second = two_fit (λ x y. x -ℤ y) ranks gain (256 + at) two (omega (arith, below)) minus_size
-          room;
-      third = two_fit (λ x y. x -ℤ y) ranks gain (512 + at) two (omega (arith, below)) minus_size
-          room;
-      fourth = two_fit (λ x y. x -ℤ y) ranks gain (768 + at) two (omega (arith, below)) minus_size
-          room;
-    })
-
--- and what they make
-pub raised_is : (ranks gain : List ℤ) (at : ℕ) (h made : Heads) → length gain ≡ 2 →
-    LeaveRoom ranks gain → h ≡ heads_from ranks at → made ≡ raised_heads h (passed gain) →
-    made ≡ made_heads (λ x y. x +ℤ y) (heads_from ranks at) gain
-raised_is ranks gain at h made two room from is =
-    is ∙ ap (raised_heads h) (gain_kept ranks gain two room)
-    ∙ ap (λ (g : Heads). raised_heads g gain) from
-
-pub lowered_is : (ranks gain : List ℤ) (at : ℕ) (h made : Heads) → length gain ≡ 2 →
-    LeaveRoom ranks gain → h ≡ heads_from ranks at → made ≡ lowered_heads h (passed gain) →
-    made ≡ made_heads (λ x y. x -ℤ y) (heads_from ranks at) gain
-lowered_is ranks gain at h made two room from is =
-    is ∙ ap (lowered_heads h) (gain_kept ranks gain two room)
-    ∙ ap (λ (g : Heads). lowered_heads g gain) from
-
--- which are numbers of 64 bits
-pub made_heads_fit : (made : ℤ → ℤ → ℤ) (ranks gain : List ℤ) (at : ℕ) (h : Heads) →
-    length gain ≡ 2 → at + 3 ≤ 256 → LeaveRoom ranks gain →
-    ((x y : ℤ) → unsigned_abs (made x y) ≤ unsigned_abs x + unsigned_abs y) →
-    h ≡ made_heads made (heads_from ranks at) gain → HeadsFit h
-made_heads_fit made ranks gain at h two below room size is = subst HeadsFit (sym is) (record {
-  first = made_fit made (two_from ranks at) gain
-      (two_fit made ranks gain at two (omega (arith, below)) size room);
-  second = made_fit made (two_from ranks (256 + at)) gain
-      (two_fit made ranks gain (256 + at) two (omega (arith, below)) size room);
-  third = made_fit made (two_from ranks (512 + at)) gain
-      (two_fit made ranks gain (512 + at) two (omega (arith, below)) size room);
-  fourth = made_fit made (two_from ranks (768 + at)) gain
-      (two_fit made ranks gain (768 + at) two (omega (arith, below)) size room);
-})
 
 -- a column after both blocks, where `put` is what a block puts into it from a state on
 pub both_put : {A : Type 0} (put : ℕ → List A → Heads → Heads → List A) (ranks gain : List ℤ)

@@ -1,9 +1,8 @@
 -- Four turns of a lane are the picks into its state.
 use Rattle.list_viterbi.proofs.Common.{◌≡◌, ℕ, zero, suc, ◌+◌, ◌*◌, ◌%◌, ◌<◌, List, [], ◌∷◌, length, get_or, refl, sym, ap, subst, ◌∙◌}
-use Rattle.list_viterbi.proofs.Common.{arith, ℤ, pos, ◌+ℤ◌, ◌-ℤ◌, unsigned_abs, get_or-map-range_with_len, zip2, Heads, merge, pick_score}
+use Rattle.list_viterbi.proofs.Common.{arith, ℤ, pos, ◌+ℤ◌, ◌-ℤ◌, unsigned_abs, get_or-map-range_with_len, length-zip2, merge, pick_score}
 use Rattle.list_viterbi.proofs.Common.{picks_from, picks_by, HasPicks, turned_scores, turned_choices, HeadsLong, lane_of, lane_sum}
-use Rattle.list_viterbi.proofs.Common.{four_scores, four_choices, heads_from, four_of, column_of}
-use Rattle.list_viterbi.proofs.LaneChoices.{heads_of}
+use Rattle.list_viterbi.proofs.Common.{four_scores, four_choices, heads_from, made_heads, two_from, four_of, column_of}
 use Rattle.list_viterbi.proofs.LaneTurns.{lane_scores, lane_choices}
 use Rattle.list_viterbi.proofs.Turns.{AreSums, sum_at, all_turns}
 
@@ -11,10 +10,14 @@ pub column_read : (ranks : List ℤ) (t : ℕ) → t < 256 → get_or (column_of
 unfolding column_of
 column_read ranks t b = get_or-map-range_with_len (four_of ranks) 0 256 t t [] b (omega arith)
 
--- heads with what is made of each score and a gain
-abbrev pub made_heads : (ℤ → ℤ → ℤ) → Heads → List ℤ → Heads
-made_heads made h gain = heads_of (zip2 made h.first gain) (zip2 made h.second gain)
-    (zip2 made h.third gain) (zip2 made h.fourth gain)
+pub made_long : (made : ℤ → ℤ → ℤ) (ranks gain : List ℤ) (at : ℕ) → length gain ≡ 2 →
+    HeadsLong (made_heads made (heads_from ranks at) gain)
+made_long made ranks gain at long = record {
+  first = length-zip2 made (two_from ranks at) gain (sym long);
+  second = length-zip2 made (two_from ranks (256 + at)) gain (sym long);
+  third = length-zip2 made (two_from ranks (512 + at)) gain (sym long);
+  fourth = length-zip2 made (two_from ranks (768 + at)) gain (sym long);
+}
 
 pub lane_sums : (made : ℤ → ℤ → ℤ) (ranks : List ℤ) (at l : ℕ) (gain : List ℤ) (g : ℤ) → l < 2 →
     length gain ≡ 2 → ((x : ℤ) → made x (get_or gain l (pos 0)) ≡ x +ℤ g) →
@@ -67,14 +70,15 @@ lane_picks ranks xs ys t g m n p q =
 pub block_picks : (made made' : ℤ → ℤ → ℤ) (ranks gain : List ℤ) (at l t : ℕ) (g : ℤ) → l < 2 →
     length gain ≡ 2 → ((x : ℤ) → made x (get_or gain l (pos 0)) ≡ x +ℤ g) →
     ((x : ℤ) → made' x (get_or gain l (pos 0)) ≡ x +ℤ (pos 0 -ℤ g)) →
-    at + 2 * l ≡ 2 * (t % 128) + 0 → HeadsLong (made_heads made (heads_from ranks at) gain) →
-    HeadsLong (made_heads made' (heads_from ranks (at + 1)) gain) →
+    at + 2 * l ≡ 2 * (t % 128) + 0 →
     HasPicks
     (lane_of l (four_scores (made_heads made (heads_from ranks at) gain)
     (made_heads made' (heads_from ranks (at + 1)) gain)))
     (unsigned_abs (lane_sum l (four_choices (made_heads made (heads_from ranks at) gain)
     (made_heads made' (heads_from ranks (at + 1)) gain)))) (picks_by (column_of ranks) g 4 t)
-block_picks made made' ranks gain at l t g b long is is' place p q =
+block_picks made made' ranks gain at l t g b long is is' place =
+    let p = made_long made ranks gain at long in
+    let q = made_long made' ranks gain (at + 1) long in
     let e = made_heads made (heads_from ranks at) gain in
     let o = made_heads made' (heads_from ranks (at + 1)) gain in
     let next : at + 1 + 2 * l ≡ 2 * (t % 128) + 1 = omega (arith, place) in

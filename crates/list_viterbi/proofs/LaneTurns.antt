@@ -1,7 +1,7 @@
 -- Each of two lanes has the scores and the choices of its own turns.
-use Rattle.list_viterbi.proofs.Common.{◌≡◌, ℕ, zero, suc, ◌+◌, ◌*◌, ◌<◌, Bool, true, false, List, [], ◌∷◌, length, get_or, refl, sym, subst}
-use Rattle.list_viterbi.proofs.Common.{arith, ℤ, pos, ◌+ℤ◌, digit, taken_of, Heads, turned_scores, turned_choices, HeadsLong, lane_of}
-use Rattle.list_viterbi.proofs.Common.{lane_sum, four_scores, four_choices}
+use Rattle.list_viterbi.proofs.Common.{◌≡◌, ℕ, zero, suc, ◌+◌, ◌*◌, ◌<◌, Bool, true, false, List, [], ◌∷◌, length, get_or, refl, sym, ap}
+use Rattle.list_viterbi.proofs.Common.{subst, arith, ℤ, pos, ◌+ℤ◌, digit, taken_of, Heads, turned_scores, turned_choices, HeadsLong}
+use Rattle.list_viterbi.proofs.Common.{lane_of, lane_sum, four_scores, four_choices}
 use Rattle.list_viterbi.proofs.LaneChoices.{heads_of}
 
 abbrev pub pair_of : List ℤ → List ℤ
@@ -38,26 +38,16 @@ lane_scores e o l b p q =
     ≡ turned_scores 4 (lane_of l (pairs e)) (lane_of l h)) (pairs_are o q)
     (scores_of_pairs e o l b))
 
+weight_of : (b : Bool) (n : ℕ) → taken_of b (pos 0) (pos n) ≡ pos (digit b * n)
+weight_of true n = ap pos (omega arith)
+weight_of false n = ap pos (omega arith)
+
 weights_sum : (a b c d : Bool) →
     (taken_of a (pos 0) (pos 1) +ℤ taken_of b (pos 0) (pos 2))
     +ℤ (taken_of c (pos 0) (pos 4) +ℤ taken_of d (pos 0) (pos 8))
     ≡ pos (digit a * 1 + (digit b * 2 + (digit c * 4 + (digit d * 8 + 0))))
-weights_sum true true true true = refl
-weights_sum true true true false = refl
-weights_sum true true false true = refl
-weights_sum true true false false = refl
-weights_sum true false true true = refl
-weights_sum true false true false = refl
-weights_sum true false false true = refl
-weights_sum true false false false = refl
-weights_sum false true true true = refl
-weights_sum false true true false = refl
-weights_sum false true false true = refl
-weights_sum false true false false = refl
-weights_sum false false true true = refl
-weights_sum false false true false = refl
-weights_sum false false false true = refl
-weights_sum false false false false = refl
+weights_sum a b c d =
+    rw (weight_of a 1, weight_of b 2, weight_of c 4, weight_of d 8) (ap pos (omega arith))
 
 choices_of_pairs : (e o : Heads) (l : ℕ) → l < 2 →
     lane_sum l (four_choices (pairs e) (pairs o))

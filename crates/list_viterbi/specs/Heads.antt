@@ -9,12 +9,16 @@ use Rattle.list_viterbi.specs.Picks.{HasPicks, picks_by}
 use Rattle.list_viterbi.specs.Turns.{choose}
 use Rattle.list_viterbi.specs.declared.lanes.Heads.{Heads}
 
+-- what holds of the lanes of each place
+pub record EachHead (P : List ℤ → Type 0) (h : Heads) : Type 0 where
+  pub first : P h.first
+  pub second : P h.second
+  pub third : P h.third
+  pub fourth : P h.fourth
+
 -- all are numbers of 64 bits
-pub record HeadsFit (h : Heads) : Type 0 where
-  pub first : Each1 (λ x. FitsSigned w64 x) h.first
-  pub second : Each1 (λ x. FitsSigned w64 x) h.second
-  pub third : Each1 (λ x. FitsSigned w64 x) h.third
-  pub fourth : Each1 (λ x. FitsSigned w64 x) h.fourth
+abbrev pub HeadsFit : Heads → Type 0
+HeadsFit h = EachHead (λ xs. Each1 (λ x. FitsSigned w64 x) xs) h
 
 -- whether the head of the list of oldest bit 1 is greater
 abbrev pub less_heads : Heads → Heads → List Bool
@@ -38,34 +42,16 @@ odd_heads ts h = record {
   fourth = h.fourth;
 }
 
--- the sums with a gain are numbers of 64 bits
-pub record RaisedFit (h : Heads) (gain : List ℤ) : Type 0 where
-  pub first : Each2 (λ x y. Fit x y (x +ℤ y)) h.first gain
-  pub second : Each2 (λ x y. Fit x y (x +ℤ y)) h.second gain
-  pub third : Each2 (λ x y. Fit x y (x +ℤ y)) h.third gain
-  pub fourth : Each2 (λ x y. Fit x y (x +ℤ y)) h.fourth gain
+-- what is made of each score and its gain is a number of 64 bits
+abbrev pub MadeFit : (ℤ → ℤ → ℤ) → Heads → List ℤ → Type 0
+MadeFit made h gain = EachHead (λ xs. Each2 (λ x y. Fit x y (made x y)) xs gain) h
 
-abbrev pub raised_heads : Heads → List ℤ → Heads
-raised_heads h gain = record {
-  first = zip2 (λ x y. x +ℤ y) h.first gain;
-  second = zip2 (λ x y. x +ℤ y) h.second gain;
-  third = zip2 (λ x y. x +ℤ y) h.third gain;
-  fourth = zip2 (λ x y. x +ℤ y) h.fourth gain;
-}
-
--- the differences with a gain are numbers of 64 bits
-pub record LoweredFit (h : Heads) (gain : List ℤ) : Type 0 where
-  pub first : Each2 (λ x y. Fit x y (x -ℤ y)) h.first gain
-  pub second : Each2 (λ x y. Fit x y (x -ℤ y)) h.second gain
-  pub third : Each2 (λ x y. Fit x y (x -ℤ y)) h.third gain
-  pub fourth : Each2 (λ x y. Fit x y (x -ℤ y)) h.fourth gain
-
-abbrev pub lowered_heads : Heads → List ℤ → Heads
-lowered_heads h gain = record {
-  first = zip2 (λ x y. x -ℤ y) h.first gain;
-  second = zip2 (λ x y. x -ℤ y) h.second gain;
-  third = zip2 (λ x y. x -ℤ y) h.third gain;
-  fourth = zip2 (λ x y. x -ℤ y) h.fourth gain;
+abbrev pub made_heads : (ℤ → ℤ → ℤ) → Heads → List ℤ → Heads
+made_heads made h gain = record {
+  first = zip2 made h.first gain;
+  second = zip2 made h.second gain;
+  third = zip2 made h.third gain;
+  fourth = zip2 made h.fourth gain;
 }
 
 -- both lists after a turn
@@ -125,11 +111,8 @@ lane_sum l h = (get_or h.first l (pos 0) +ℤ get_or h.second l (pos 0))
     +ℤ (get_or h.third l (pos 0) +ℤ get_or h.fourth l (pos 0))
 
 -- lanes of two states
-pub record HeadsLong (h : Heads) : Type 0 where
-  pub first : length h.first ≡ 2
-  pub second : length h.second ≡ 2
-  pub third : length h.third ≡ 2
-  pub fourth : length h.fourth ≡ 2
+abbrev pub HeadsLong : Heads → Type 0
+HeadsLong h = EachHead (λ xs. length xs ≡ 2) h
 
 -- the scores of one place of two states, the second two after the first
 abbrev pub two_from : List ℤ → ℕ → List ℤ
@@ -148,11 +131,8 @@ heads_from ranks at = record {
 abbrev pub IsWeight : ℤ → Type 0
 IsWeight x = (pos 0 ≤ℤ x) × (x ≤ℤ pos 8)
 
-pub record AreWeights (h : Heads) : Type 0 where
-  pub first : Each1 IsWeight h.first
-  pub second : Each1 IsWeight h.second
-  pub third : Each1 IsWeight h.third
-  pub fourth : Each1 IsWeight h.fourth
+abbrev pub AreWeights : Heads → Type 0
+AreWeights h = EachHead (λ xs. Each1 IsWeight xs) h
 
 -- scores of two states from a place on
 abbrev pub put_heads : ℕ → List ℤ → Heads → List ℤ

@@ -4,14 +4,14 @@
 //! second, and so on. States `2 * b` and `2 * b + 1` are reached from the four states from `4 * b`
 //! on, and so are those 128 on.
 
-ghost use Rattle.std.specs.Prelude.{◌≡◌, ◌<◌, ◌≤◌, ◌+◌, ◌*◌, ◌^◌, ◌+ℤ◌, ℕ, [], int_lt, length};
-ghost use Rattle.std.specs.Prelude.{get_or, pos, replicate, true, unsigned_abs, FitsSigned};
+ghost use Rattle.std.specs.Prelude.{◌≡◌, ◌<◌, ◌≤◌, ◌+◌, ◌*◌, ◌^◌, ◌+ℤ◌, ◌-ℤ◌, ℕ, [], int_lt};
+ghost use Rattle.std.specs.Prelude.{length, get_or, pos, replicate, true, unsigned_abs, FitsSigned};
 ghost use Rattle.std.specs.Int.{w64};
 ghost use lib.Lanes.{Each2, zip2, put_chunk};
 ghost use Rattle.viterbi.specs.Lanes.{Fit};
 ghost use Rattle.list_viterbi.specs.Turns.{choose, held};
-ghost use Rattle.list_viterbi.specs.Heads.{HeadsFit, less_heads, even_heads, odd_heads, RaisedFit};
-ghost use Rattle.list_viterbi.specs.Heads.{raised_heads, LoweredFit, lowered_heads, four_scores};
+ghost use Rattle.list_viterbi.specs.Heads.{HeadsFit, less_heads, even_heads, odd_heads, MadeFit};
+ghost use Rattle.list_viterbi.specs.Heads.{made_heads, four_scores};
 ghost use Rattle.list_viterbi.specs.Heads.{four_choices, two_from, heads_from, HeadsLong};
 ghost use Rattle.list_viterbi.specs.Heads.{AreWeights, lane_sum, put_heads, put_choices, four_of};
 ghost use Rattle.list_viterbi.specs.Heads.{column_of, PairPicked};
@@ -74,8 +74,8 @@ fn heads_at(ranks: &[i64], at: usize) -> (Heads, Heads)
 
 /// Scores with what a bit adds.
 fn raised(heads: &Heads, gain: i64x2) -> Heads
-    requires { RaisedFit heads.now gain }
-    ensures { result ≡ raised_heads heads.now gain }
+    requires { MadeFit (λ x y. x +ℤ y) heads.now gain }
+    ensures { result ≡ made_heads (λ x y. x +ℤ y) heads.now gain }
 {
     Heads {
         first: heads.first + gain,
@@ -87,8 +87,8 @@ fn raised(heads: &Heads, gain: i64x2) -> Heads
 
 /// Scores less what a bit takes off.
 fn lowered(heads: &Heads, gain: i64x2) -> Heads
-    requires { LoweredFit heads.now gain }
-    ensures { result ≡ lowered_heads heads.now gain }
+    requires { MadeFit (λ x y. x -ℤ y) heads.now gain }
+    ensures { result ≡ made_heads (λ x y. x -ℤ y) heads.now gain }
 {
     Heads {
         first: heads.first - gain,
@@ -115,6 +115,8 @@ fn turn(even: &Heads, odd: &Heads, weight: i64) -> (i64x2, i64x2, Heads, Heads)
         (replicate 2 weight) }
     ensures even { result.2 ≡ even_heads (less_heads even.now odd.now) even.now }
     ensures odd { result.3 ≡ odd_heads (less_heads even.now odd.now) odd.now }
+    ensures even_fit { HeadsFit result.2 }
+    ensures odd_fit { HeadsFit result.3 }
 {
     let score = chosen(even.first, odd.first, even.first, odd.first);
     let choice = chosen(even.first, odd.first, i64x2::splat(0), i64x2::splat(weight));

@@ -1,7 +1,6 @@
 use Rattle.list_viterbi.proofs.Common.{◌≡◌, ℕ, ◌+◌, ◌*◌, List, ℤ, ◌+ℤ◌, ◌-ℤ◌, arith, Heads, four_choices, four_scores, put_choices}
 use Rattle.list_viterbi.proofs.Common.{put_heads}
-use Rattle.list_viterbi.proofs.LaneBlocks.{lower_even, lower_odd, upper_even, upper_odd, with_both, chosen_both, pair_lower, pair_upper}
-use Rattle.list_viterbi.proofs.LaneBlocks.{pair_others, plus_size, minus_size}
+use Rattle.list_viterbi.proofs.LaneBlocks.{with_both, chosen_both, pair_lower, pair_upper, pair_others, plus_size, minus_size}
 use Rattle.list_viterbi.proofs.LanePairs as pairs
 use Rattle.list_viterbi.proofs.lanes.merge_pair.Goals as goal
 
@@ -11,59 +10,47 @@ heads_at-requires-clause-fit c =
 
 pub raised-lower_even-requires : goal.raised-lower_even-requires
 raised-lower_even-requires c =
-    pairs.raised_fit c.args.ranks.now c.args.gain (4 * c.args.block) c.heads_at.result.0
-    c.requires.long (omega (arith, c.requires.block)) c.requires.room c.heads_at.ensures.even
+    pairs.may_make (λ x y. x +ℤ y) c.args.ranks.now c.args.gain (4 * c.args.block) _ c.requires.long
+    (omega (arith, c.requires.block)) c.requires.room plus_size c.heads_at.ensures.even
 
 pub lowered-lower_odd-requires : goal.lowered-lower_odd-requires
 lowered-lower_odd-requires c =
-    pairs.lowered_fit c.args.ranks.now c.args.gain (4 * c.args.block + 1) c.heads_at.result.1
-    c.requires.long (omega (arith, c.requires.block)) c.requires.room c.heads_at.ensures.odd
+    pairs.may_make (λ x y. x -ℤ y) c.args.ranks.now c.args.gain (4 * c.args.block + 1) _ c.requires.long
+    (omega (arith, c.requires.block)) c.requires.room minus_size c.heads_at.ensures.odd
 
 pub merge_block-requires-clause-even_fit : goal.merge_block-requires-clause-even_fit
 merge_block-requires-clause-even_fit c =
-    pairs.made_heads_fit (λ x y. x +ℤ y) c.args.ranks.now c.args.gain (4 * c.args.block)
-    c.raised-lower_even.result c.requires.long (omega (arith, c.requires.block)) c.requires.room
-    plus_size
-    (pairs.raised_is c.args.ranks.now c.args.gain (4 * c.args.block) c.heads_at.result.0
-    c.raised-lower_even.result c.requires.long c.requires.room c.heads_at.ensures.even
-    c.raised-lower_even.ensures)
+    pairs.makes_fit (λ x y. x +ℤ y) c.args.ranks.now c.args.gain (4 * c.args.block) _ _ c.requires.long
+    (omega (arith, c.requires.block)) c.requires.room plus_size c.heads_at.ensures.even
+    c.raised-lower_even.ensures
 
 pub merge_block-requires-clause-odd_fit : goal.merge_block-requires-clause-odd_fit
 merge_block-requires-clause-odd_fit c =
-    pairs.made_heads_fit (λ x y. x -ℤ y) c.args.ranks.now c.args.gain (4 * c.args.block + 1)
-    c.lowered-lower_odd.result c.requires.long (omega (arith, c.requires.block)) c.requires.room
-    minus_size
-    (pairs.lowered_is c.args.ranks.now c.args.gain (4 * c.args.block + 1) c.heads_at.result.1
-    c.lowered-lower_odd.result c.requires.long c.requires.room c.heads_at.ensures.odd
-    c.lowered-lower_odd.ensures)
+    pairs.makes_fit (λ x y. x -ℤ y) c.args.ranks.now c.args.gain (4 * c.args.block + 1) _ _ c.requires.long
+    (omega (arith, c.requires.block)) c.requires.room minus_size c.heads_at.ensures.odd
+    c.lowered-lower_odd.ensures
 
 pub lowered-upper_even-requires : goal.lowered-upper_even-requires
 lowered-upper_even-requires c =
-    pairs.lowered_fit c.args.ranks.now c.args.gain (4 * c.args.block) c.heads_at.result.0
-    c.requires.long (omega (arith, c.requires.block)) c.requires.room c.heads_at.ensures.even
+    pairs.may_make (λ x y. x -ℤ y) c.args.ranks.now c.args.gain (4 * c.args.block) _ c.requires.long
+    (omega (arith, c.requires.block)) c.requires.room minus_size c.heads_at.ensures.even
 
 pub raised-upper_odd-requires : goal.raised-upper_odd-requires
 raised-upper_odd-requires c =
-    pairs.raised_fit c.args.ranks.now c.args.gain (4 * c.args.block + 1) c.heads_at.result.1
-    c.requires.long (omega (arith, c.requires.block)) c.requires.room c.heads_at.ensures.odd
+    pairs.may_make (λ x y. x +ℤ y) c.args.ranks.now c.args.gain (4 * c.args.block + 1) _ c.requires.long
+    (omega (arith, c.requires.block)) c.requires.room plus_size c.heads_at.ensures.odd
 
 pub merge_block-requires-2-clause-even_fit : goal.merge_block-requires-2-clause-even_fit
 merge_block-requires-2-clause-even_fit c =
-    pairs.made_heads_fit (λ x y. x -ℤ y) c.args.ranks.now c.args.gain (4 * c.args.block)
-    c.lowered-upper_even.result c.requires.long (omega (arith, c.requires.block)) c.requires.room
-    minus_size
-    (pairs.lowered_is c.args.ranks.now c.args.gain (4 * c.args.block) c.heads_at.result.0
-    c.lowered-upper_even.result c.requires.long c.requires.room c.heads_at.ensures.even
-    c.lowered-upper_even.ensures)
+    pairs.makes_fit (λ x y. x -ℤ y) c.args.ranks.now c.args.gain (4 * c.args.block) _ _ c.requires.long
+    (omega (arith, c.requires.block)) c.requires.room minus_size c.heads_at.ensures.even
+    c.lowered-upper_even.ensures
 
 pub merge_block-requires-2-clause-odd_fit : goal.merge_block-requires-2-clause-odd_fit
 merge_block-requires-2-clause-odd_fit c =
-    pairs.made_heads_fit (λ x y. x +ℤ y) c.args.ranks.now c.args.gain (4 * c.args.block + 1)
-    c.raised-upper_odd.result c.requires.long (omega (arith, c.requires.block)) c.requires.room
-    plus_size
-    (pairs.raised_is c.args.ranks.now c.args.gain (4 * c.args.block + 1) c.heads_at.result.1
-    c.raised-upper_odd.result c.requires.long c.requires.room c.heads_at.ensures.odd
-    c.raised-upper_odd.ensures)
+    pairs.makes_fit (λ x y. x +ℤ y) c.args.ranks.now c.args.gain (4 * c.args.block + 1) _ _ c.requires.long
+    (omega (arith, c.requires.block)) c.requires.room plus_size c.heads_at.ensures.odd
+    c.raised-upper_odd.ensures
 
 pub returns-clause-pair : goal.returns-clause-pair
 returns-clause-pair c =
@@ -72,18 +59,17 @@ returns-clause-pair c =
     let block = c.args.block in
     let next = c.args.next.now in
     let choices = c.args.choices.now in
-    let le : c.raised-lower_even.result ≡ lower_even ranks gain block =
-    pairs.raised_is ranks gain (4 * block) c.heads_at.result.0 c.raised-lower_even.result
-    c.requires.long c.requires.room c.heads_at.ensures.even c.raised-lower_even.ensures in
-    let lo : c.lowered-lower_odd.result ≡ lower_odd ranks gain block =
-    pairs.lowered_is ranks gain (4 * block + 1) c.heads_at.result.1 c.lowered-lower_odd.result
-    c.requires.long c.requires.room c.heads_at.ensures.odd c.lowered-lower_odd.ensures in
-    let ue : c.lowered-upper_even.result ≡ upper_even ranks gain block =
-    pairs.lowered_is ranks gain (4 * block) c.heads_at.result.0 c.lowered-upper_even.result
-    c.requires.long c.requires.room c.heads_at.ensures.even c.lowered-upper_even.ensures in
-    let uo : c.raised-upper_odd.result ≡ upper_odd ranks gain block =
-    pairs.raised_is ranks gain (4 * block + 1) c.heads_at.result.1 c.raised-upper_odd.result
-    c.requires.long c.requires.room c.heads_at.ensures.odd c.raised-upper_odd.ensures in
+    let long = c.requires.long in
+    let room = c.requires.room in
+    let at = c.heads_at.ensures in
+    let le = pairs.made_is (λ x y. x +ℤ y) ranks gain (4 * block) _ _ long room at.even
+    c.raised-lower_even.ensures in
+    let lo = pairs.made_is (λ x y. x -ℤ y) ranks gain (4 * block + 1) _ _ long room at.odd
+    c.lowered-lower_odd.ensures in
+    let ue = pairs.made_is (λ x y. x -ℤ y) ranks gain (4 * block) _ _ long room at.even
+    c.lowered-upper_even.ensures in
+    let uo = pairs.made_is (λ x y. x +ℤ y) ranks gain (4 * block + 1) _ _ long room at.odd
+    c.raised-upper_odd.ensures in
     let column : c.merge_block-2.new.next ≡ with_both ranks gain block next =
     pairs.both_put (λ (at : ℕ) (xs : List ℤ) (e o : Heads). put_heads at xs (four_scores e o)) ranks gain block next
     c.merge_block.new.next c.merge_block-2.new.next _ _ _ _ le lo ue uo

@@ -1,5 +1,5 @@
-use Rattle.list_viterbi.proofs.Common.{[], ◌∷◌, pos, rules, FitsSigned, w64, kept}
-use Rattle.list_viterbi.proofs.LaneChoices.{chosen_is, heads_are}
+use Rattle.list_viterbi.proofs.Common.{[], ◌∷◌, pos, rules, subst, sym, FitsSigned, w64, kept, HeadsFit}
+use Rattle.list_viterbi.proofs.LaneChoices.{chosen_is, heads_are, even_fits, odd_fits}
 use Rattle.list_viterbi.proofs.lanes.turn.Goals as goal
 
 pub returns-clause-score : goal.returns-clause-score
@@ -36,3 +36,12 @@ returns-clause-odd c =
     (chosen_is c.chosen-6.result _ _ _ _ c.requires.even_fit.first c.requires.odd_fit.first c.requires.odd_fit.third c.requires.odd_fit.fourth
     c.chosen-6.ensures)
     (kept c.args.odd.now.fourth c.requires.odd_fit.fourth)
+
+-- what is left of lists of numbers of 64 bits is of such
+pub returns-clause-even_fit : goal.returns-clause-even_fit
+returns-clause-even_fit c =
+    subst HeadsFit (sym (returns-clause-even c)) (even_fits _ c.args.even.now c.requires.even_fit)
+
+pub returns-clause-odd_fit : goal.returns-clause-odd_fit
+returns-clause-odd_fit c =
+    subst HeadsFit (sym (returns-clause-odd c)) (odd_fits _ c.args.odd.now c.requires.odd_fit)
