@@ -302,10 +302,10 @@ fn put_scores(scores: &Scores, state: usize, ranks: &mut [i64])
     ensures here { four_of ranks.new state ≡ scores.now }
     ensures others { (t : ℕ) → t < 256 → ¬ (t ≡ state) → four_of ranks.new t ≡ four_of ranks.old t }
 {
-    ranks[state] = scores.get(0);
-    ranks[256 + state] = scores.get(1);
-    ranks[512 + state] = scores.get(2);
-    ranks[768 + state] = scores.get(3);
+    ranks[state] = *scores.get(0);
+    ranks[256 + state] = *scores.get(1);
+    ranks[512 + state] = *scores.get(2);
+    ranks[768 + state] = *scores.get(3);
 }
 
 /// The scores by their places.

@@ -19,8 +19,10 @@ mod gains;
 mod lanes;
 pub mod laws;
 mod picking;
+mod ranked;
 mod scores;
 mod tracing;
 
 pub use codewords::{Codewords, Entry, Words};
 pub use decoder::ListDecoder;
+pub use ranked::{Ranked, Scored, merged};

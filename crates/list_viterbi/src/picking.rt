@@ -24,7 +24,7 @@ fn sum_at(scores: &Scores, i: u8, gain: i64) -> i64
     ensures value { result ≡ get_or scores.now i (pos 0) +ℤ gain }
     ensures below { i < 16 }
 {
-    scores.get(i) + gain
+    *scores.get(i) + gain
 }
 
 /// Whether the codewords of the state before with oldest bit 1, from place `j` on, have one that

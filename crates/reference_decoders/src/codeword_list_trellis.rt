@@ -9,10 +9,10 @@ ghost use Rattle.std.specs.Prelude.{All};
 ghost use Rattle.viterbi.specs.Survivors.{end_count};
 ghost use Rattle.list_viterbi.specs.Merging.{Start, HasRoom, list_into, first_lists};
 
-use crate::merging::{extended, merged};
+use crate::extending::extended;
 use crate::states::{gain, is_start};
 use chip_core::Bits;
-use list_viterbi::{Codewords, Entry};
+use list_viterbi::{Codewords, Entry, merged};
 use viterbi::{Codeword, Ends, end_states};
 
 /// The first codewords into a state, one bit further: of those that come from the two states before

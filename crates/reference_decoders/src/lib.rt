@@ -11,9 +11,9 @@ mod codeword_list_decoder;
 #[cfg(test)]
 mod codeword_list_trellis;
 #[cfg(test)]
-mod list_viterbi_tests;
+mod extending;
 #[cfg(test)]
-mod merging;
+mod list_viterbi_tests;
 #[cfg(test)]
 mod pilot_search_correlation_tests;
 #[cfg(test)]

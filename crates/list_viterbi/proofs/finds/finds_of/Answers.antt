@@ -10,12 +10,12 @@ push-requires c =
 
 pub loop-rank-preserved : goal.loop-rank-preserved
 loop-rank-preserved c =
-    let fits : SFits w64 c.get.result = search rules in
+    let fits : SFits w64 c.get.result.now = search rules in
     c.push.ensures
     ∙ ap
     (λ (s : ℤ).
     c.loop-rank.finds ++ record { score = s; state = c.args.state; rank = c.loop-rank.rank } ∷ [])
-    (to_z-of_z w64 c.get.result fits)
-    ∙ finds_more c.args.state c.args.scores.now c.loop-rank.rank c.get.result c.loop-rank.finds
+    (to_z-of_z w64 c.get.result.now fits)
+    ∙ finds_more c.args.state c.args.scores.now c.loop-rank.rank c.get.result.now c.loop-rank.finds
     (omega (arith, c.loop-rank-test.true, c.len-rank-end.ensures.value)) c.get.ensures.value
     c.loop-rank.invariant

@@ -1,17 +1,17 @@
-use Rattle.list_viterbi.proofs.Common.{◌∙◌, w64, to_z-of_z, SFits}
+use Rattle.list_viterbi.proofs.Common.{◌∙◌, rules, w64, to_z-of_z, SFits}
 use Rattle.list_viterbi.proofs.ColumnLayouts.{four_here, four_read}
 use Rattle.list_viterbi.proofs.lanes.put_scores.Goals as goal
 
 pub returns-clause-here : goal.returns-clause-here
 returns-clause-here c =
-    let first = c.get.result in
-    let second = c.get-2.result in
-    let third = c.get-3.result in
-    let fourth = c.get-4.result in
-    let fits : SFits w64 first = record { sfits = c.get.type_inv } in
-    let fits2 : SFits w64 second = record { sfits = c.get-2.type_inv } in
-    let fits3 : SFits w64 third = record { sfits = c.get-3.type_inv } in
-    let fits4 : SFits w64 fourth = record { sfits = c.get-4.type_inv } in
+    let first = c.get.result.now in
+    let second = c.get-2.result.now in
+    let third = c.get-3.result.now in
+    let fourth = c.get-4.result.now in
+    let fits : SFits w64 first = search rules in
+    let fits2 : SFits w64 second = search rules in
+    let fits3 : SFits w64 third = search rules in
+    let fits4 : SFits w64 fourth = search rules in
     rw (
       to_z-of_z w64 first fits,
       to_z-of_z w64 second fits2,

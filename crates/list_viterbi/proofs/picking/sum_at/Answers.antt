@@ -4,17 +4,17 @@ use Rattle.list_viterbi.proofs.picking.sum_at.Goals as goal
 
 pub overflow_add-result : goal.overflow_add-result
 overflow_add-result c =
-    let fits : SFits w64 c.get.result = search rules in
+    let fits : SFits w64 c.get.result.now = search rules in
     let fits' : SFits w64 c.args.gain = search rules in
-    let read : get_or c.args.scores.now c.args.i (pos 0) ≡ c.get.result =
-    get_or_from_slice_get c.args.scores.now c.args.i c.get.result (pos 0) c.get.ensures.value in
+    let read : get_or c.args.scores.now c.args.i (pos 0) ≡ c.get.result.now =
+    get_or_from_slice_get c.args.scores.now c.args.i c.get.result.now (pos 0) c.get.ensures.value in
     let room = rw read at (c.requires.room c.args.i (pos 0) c.requires.place) in
-    rw (to_z-of_z w64 c.get.result fits, to_z-of_z w64 c.args.gain fits')
+    rw (to_z-of_z w64 c.get.result.now fits, to_z-of_z w64 c.args.gain fits')
     (fits_signed_from_abs w64 _ (omega (arith, ints, room)))
 
 pub returns-clause-value : goal.returns-clause-value
 returns-clause-value c =
-    let read : get_or c.args.scores.now c.args.i (pos 0) ≡ c.get.result =
-    get_or_from_slice_get c.args.scores.now c.args.i c.get.result (pos 0) c.get.ensures.value in
+    let read : get_or c.args.scores.now c.args.i (pos 0) ≡ c.get.result.now =
+    get_or_from_slice_get c.args.scores.now c.args.i c.get.result.now (pos 0) c.get.ensures.value in
     let room = rw read at (c.requires.room c.args.i (pos 0) c.requires.place) in
-    sum_fits c.get.result c.args.gain room ∙ ap (λ (z : ℤ). z +ℤ c.args.gain) (sym read)
+    sum_fits c.get.result.now c.args.gain room ∙ ap (λ (z : ℤ). z +ℤ c.args.gain) (sym read)

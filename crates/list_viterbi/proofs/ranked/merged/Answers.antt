@@ -1,58 +1,58 @@
 use Rattle.list_viterbi.proofs.Common.{◌≡◌, ◌<◌, ◌≤◌, ◌∷◌, [], true, false, drop, length, sym, arith, length-append, second_is_next}
-use Rattle.list_viterbi.proofs.Common.{find_score}
 use Rattle.list_viterbi.proofs.Walks.{second_has, took_second, took_first, took_none, all_taken}
-use Rattle.list_viterbi.proofs.finds.merged.Goals.{then-takes_second, else-takes_second+then-i-len, else-takes_second+else-i-len}
-use Rattle.list_viterbi.proofs.finds.merged.Goals as goal
+use Rattle.list_viterbi.proofs.ranked.merged.Goals.{then-takes_second, else-takes_second+then-i-len, else-takes_second+else-i-len}
+use Rattle.list_viterbi.proofs.ranked.merged.Goals as goal
 
 pub loop-n-preserved : goal.loop-n-preserved
-loop-n-preserved c =
+loop-n-preserved g c =
+    let score = g.T.Scored.score in
     let xs = c.args.first.now in
     let ys = c.args.second.now in
-    let before = c.loop-n.finds in
+    let before = c.loop-n.taken in
     let h = c.loop-n.invariant in
     let few = h.few in
     elim c.if-takes_second.branch [
       | then-takes_second w ↦
-          let next : second_is_next find_score (drop c.loop-n.i xs) (drop c.loop-n.j ys) ≡ true =
+          let next : second_is_next score (drop c.loop-n.i xs) (drop c.loop-n.j ys) ≡ true =
           sym w.if-takes_second.ensures in
-          let within = second_has find_score xs ys c.loop-n.i c.loop-n.j h.second_place next in
+          let within = second_has score xs ys c.loop-n.i c.loop-n.j h.second_place next in
           let long = length-append before (w.get.result.now ∷ []) in
-          rw (w.finds-is, w.i-is, w.j-is, w.push.ensures) (record {
+          rw (w.taken-is, w.i-is, w.j-is, w.push.ensures) (record {
             first_place = h.first_place;
             second_place = omega (arith, within);
             few = omega (arith, long, few);
-            part = took_second find_score c.args.k c.loop-n.i c.loop-n.j c.loop-n._n xs ys before
+            part = took_second score c.args.k c.loop-n.i c.loop-n.j c.loop-n._n xs ys before
                 w.get.result.now within w.get.ensures.value next h.part;
           })
       | else-takes_second+then-i-len w ↦
-          let next : second_is_next find_score (drop c.loop-n.i xs) (drop c.loop-n.j ys) ≡ false =
+          let next : second_is_next score (drop c.loop-n.i xs) (drop c.loop-n.j ys) ≡ false =
           sym w.if-takes_second.ensures in
           let within : c.loop-n.i < length xs =
           omega (arith, w.if-i-len.true, w.len.ensures.value) in
           let long = length-append before (w.get-then-i-len.result.now ∷ []) in
-          rw (w.finds-is, w.i-is, w.j-is, w.push-then-i-len.ensures) (record {
+          rw (w.taken-is, w.i-is, w.j-is, w.push-then-i-len.ensures) (record {
             first_place = omega (arith, within);
             second_place = h.second_place;
             few = omega (arith, long, few);
-            part = took_first find_score c.args.k c.loop-n.i c.loop-n.j c.loop-n._n xs ys before
+            part = took_first score c.args.k c.loop-n.i c.loop-n.j c.loop-n._n xs ys before
                 w.get-then-i-len.result.now within w.get-then-i-len.ensures.value next h.part;
           })
       | else-takes_second+else-i-len w ↦
-          let next : second_is_next find_score (drop c.loop-n.i xs) (drop c.loop-n.j ys) ≡ false =
+          let next : second_is_next score (drop c.loop-n.i xs) (drop c.loop-n.j ys) ≡ false =
           sym w.if-takes_second.ensures in
           let over : length xs ≤ c.loop-n.i =
           omega (arith, w.if-i-len.false, w.len.ensures.value) in
-          rw (w.finds-is, w.i-is, w.j-is) (record {
+          rw (w.taken-is, w.i-is, w.j-is) (record {
             first_place = h.first_place;
             second_place = h.second_place;
             few = omega (arith, few);
-            part = took_none find_score c.args.k c.loop-n.i c.loop-n.j c.loop-n._n xs ys before over
+            part = took_none score c.args.k c.loop-n.i c.loop-n.j c.loop-n._n xs ys before over
                 next h.part;
           })
     ]
 
 pub returns : goal.returns
-returns c =
-    all_taken find_score c.args.k c.loop-n.i c.loop-n.j c.loop-n._n c.args.first.now
+returns g c =
+    all_taken g.T.Scored.score c.args.k c.loop-n.i c.loop-n.j c.loop-n._n c.args.first.now
     c.args.second.now
-    c.loop-n.finds (omega arith) c.loop-n.invariant.part
+    c.loop-n.taken (omega arith) c.loop-n.invariant.part

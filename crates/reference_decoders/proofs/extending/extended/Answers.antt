@@ -2,7 +2,7 @@ use Rattle.std.proofs.Common.{◌++◌, ◌∷◌, [], ap, ◌∙◌, arith, to_
 use Rattle.list_viterbi.specs.declared.codewords.Entry.{Entry}
 use Rattle.list_viterbi.specs.Merging.{extended_by}
 use Rattle.list_viterbi.proofs.Walks.{map_more}
-use Rattle.reference_decoders.proofs.merging.extended.Goals as goal
+use Rattle.reference_decoders.proofs.extending.extended.Goals as goal
 
 pub loop-i-preserved : goal.loop-i-preserved
 loop-i-preserved c =
