@@ -1,9 +1,9 @@
 -- The first codewords of some kind, in the decoder's order.
-use Rattle.std.specs.Prelude.{ℕ, ◌≡◌, ◌≢◌, ◌≤◌, Bool, true, List, length, map, ℤ, ◌⊎◌, All}
-use Rattle.std.specs.Prelude.{AllPairs, Contains}
+use Rattle.std.specs.Prelude.{ℕ, ◌≡◌, ◌≢◌, ◌≤◌, ◌/◌, Bool, true, List, length, map, min, ℤ, ◌⊎◌}
+use Rattle.std.specs.Prelude.{All, AllPairs, Contains}
 use Rattle.chip_core.specs.Sums.{first_places}
 use Rattle.viterbi.specs.Codewords.{Codeword, score_of, IsBetter, codeword_at, codeword_count}
-use Rattle.viterbi.specs.Best.{spelled}
+use Rattle.viterbi.specs.Best.{IsAllowed, spelled}
 use Rattle.viterbi.specs.declared.codeword.Ends.{Ends}
 use Rattle.list_viterbi.specs.declared.codewords.Entry.{Entry}
 
@@ -38,3 +38,13 @@ codeword_of e = spelled e.word
 -- each entry has its codeword's score
 abbrev pub HaveScores : List ℤ → List Entry → Type 0
 HaveScores softs entries = All (λ e. e.score ≡ score_of softs (codeword_of e)) entries
+
+-- what a list decoder makes of soft values: the first k allowed codewords with their scores, or all
+-- where there are fewer, and how many they are; it is still for so many bits
+pub record AreListed (softs : List ℤ) (ends : Ends) (k bits left : ℕ) (out : List Entry)
+    (result : ℕ) : Type 0 where
+  pub first : AreFirst (score_of softs) (IsAllowed ends (length softs / 2)) k (map codeword_of out)
+  pub scores : HaveScores softs out
+  pub count : result ≡ length out
+  pub number : result ≡ min k (codeword_count ends (length softs / 2))
+  pub kept : left ≡ bits

@@ -1,10 +1,8 @@
 //! The decoder and its memory.
 
-ghost use Rattle.std.specs.Prelude.{◌≡◌, ◌<◌, ◌≤◌, ◌*◌, ◌/◌, ◌%◌, ◌^◌, ℕ, [], min, length, get_or};
-ghost use Rattle.std.specs.Prelude.{map, vec_len, sum_by, unsigned_abs, IfOk};
-ghost use Rattle.viterbi.specs.Codewords.{score_of, codeword_count};
-ghost use Rattle.viterbi.specs.Best.{IsAllowed};
-ghost use Rattle.list_viterbi.specs.First.{AreFirst, HaveScores, codeword_of};
+ghost use Rattle.std.specs.Prelude.{◌≡◌, ◌≤◌, IfOk};
+ghost use Rattle.viterbi.specs.Best.{AreDecodable};
+ghost use Rattle.list_viterbi.specs.First.{AreListed};
 
 use crate::codewords::Codewords;
 use crate::column::Column;
@@ -67,17 +65,8 @@ impl ListDecoder {
     pub fn list_into(&mut self, softs: &[i64], ends: Ends, k: u8, out: &mut Codewords) -> u8
         requires some { 1 ≤ k }
         requires few { k ≤ 16 }
-        requires even { length softs.now % 2 ≡ 0 }
-        requires least { 16 ≤ length softs.now }
-        requires most { length softs.now ≤ 2 * self.old }
-        requires bound { sum_by unsigned_abs softs.now ≤ 2 ^ 62 }
-
-        ensures first { AreFirst (score_of softs.now) (IsAllowed ends (length softs.now / 2)) k
-            (map codeword_of out.new) }
-        ensures scores { HaveScores softs.now out.new }
-        ensures count { result ≡ length out.new }
-        ensures number { result ≡ min k (codeword_count ends (length softs.now / 2)) }
-        ensures kept { self.new ≡ self.old }
+        requires softs { AreDecodable self.old softs.now }
+        ensures { AreListed softs.now ends k self.old self.new out.new result }
     {
         let count = softs.len() / 2;
         self.column.start(ends, k);

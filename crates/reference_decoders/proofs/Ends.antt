@@ -1,5 +1,7 @@
--- What the last column of a run of bits gives.
-use Rattle.std.proofs.Common.{◌≡◌, ◌≤◌, ◌/◌, ℕ, List, ℤ, length, Option, arith, subst, sym}
+-- One bit more of a run of bits, and what the last column gives.
+use Rattle.std.proofs.Common.{◌≡◌, ◌<◌, ◌≤◌, ◌+◌, ◌*◌, ◌/◌, ◌^◌, ℕ, List, ℤ, pos, length, get_or, Option, arith, subst, sym, unsigned_abs}
+use Rattle.std.proofs.Common.{to_z, of_z, w64}
+use Rattle.std.specs.List.{sum_by}
 use Rattle.list_viterbi.specs.Merging.{first_lists}
 use Rattle.list_viterbi.specs.declared.codewords.Entry.{Entry}
 use Rattle.list_viterbi.proofs.Merges.{Lists}
@@ -12,7 +14,21 @@ use Rattle.viterbi.specs.declared.codeword.Ends.{Ends}
 use Rattle.viterbi.proofs.Choices.{IsBestOf}
 use Rattle.viterbi.proofs.Finish.{IntoBelow}
 use Rattle.viterbi.proofs.Finish as best
+use Rattle.viterbi.proofs.Scores.{pair_kept}
 use Rattle.viterbi.proofs.Steps.{Survive}
+
+-- what holds of all states by the two soft values of a bit holds by those that are handed on
+pub states_more : {A : Type 0} (P : ℕ → A → Type 0) (into : ℤ → ℤ → ℕ → A) (none : A)
+    (softs : List ℤ) (bit : ℕ) (made : List A) → 2 * bit + 2 ≤ length softs →
+    sum_by unsigned_abs softs ≤ 2 ^ 62 →
+    ((t : ℕ) → t < 256 → get_or made t none ≡ into (to_z w64 (of_z w64 (get_or softs (2 * bit) (pos 0))))
+    (to_z w64 (of_z w64 (get_or softs (2 * bit + 1) (pos 0)))) t) →
+    ((t : ℕ) → t < 256 →
+    P t (into (get_or softs (2 * bit) (pos 0)) (get_or softs (2 * bit + 1) (pos 0)) t)) →
+    (t : ℕ) → t < 256 → P t (get_or made t none)
+states_more P into none softs bit made room bound each holds t b =
+    let pair = pair_kept softs bit room bound in
+    rw (each t b, pair.0, pair.1) (holds t b)
 
 -- the best survivor
 pub run_best : (softs : List ℤ) (ends : Ends) (bit : ℕ) (column held : List (Option Survivor))

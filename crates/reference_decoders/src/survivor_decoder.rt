@@ -1,12 +1,8 @@
 //! The decoder that keeps a survivor's whole codeword in each state: plain and slow, under the
 //! contract of `Decoder`, beside which it is timed.
 
-ghost use Rattle.std.specs.Prelude.{◌≡◌, ◌≤◌, ◌*◌, ◌%◌, ◌^◌, length, vec_len, sum_by, unsigned_abs};
-ghost use Rattle.std.specs.Prelude.{IfOk};
-ghost use Rattle.chip_core.specs.Bits.{binary};
-ghost use Rattle.conv_code.specs.ConvCode.{code_symbols};
-ghost use Rattle.viterbi.specs.Codewords.{correlation};
-ghost use Rattle.viterbi.specs.Best.{IsBestCodeword, spelled};
+ghost use Rattle.std.specs.Prelude.{◌≡◌, ◌≤◌, IfOk};
+ghost use Rattle.viterbi.specs.Best.{AreDecodable, IsDecoded};
 
 use crate::survivor_trellis::{best_end, start_column, step};
 use chip_core::OutOfMemory;
@@ -53,15 +49,8 @@ impl SurvivorDecoder {
 
     /// Finds the first of all allowed codewords for these soft values, as `Decoder::best_into`.
     pub fn best_into(&mut self, softs: &[i64], ends: Ends, out: &mut Codeword) -> i64
-        requires even { length softs.now % 2 ≡ 0 }
-        requires least { 16 ≤ length softs.now }
-        requires most { length softs.now ≤ 2 * self.old }
-        requires bound { sum_by unsigned_abs softs.now ≤ 2 ^ 62 }
-
-        ensures best { IsBestCodeword softs.now ends (spelled out.new) }
-        ensures score { result ≡
-            correlation softs.now (code_symbols (binary 8 out.new.start) out.new.bits) }
-        ensures kept { self.new ≡ self.old }
+        requires { AreDecodable self.old softs.now }
+        ensures { IsDecoded softs.now ends self.old self.new out.new result }
     {
         start_column(&mut self.column, ends);
         for bit in 0..softs.len() / 2 {

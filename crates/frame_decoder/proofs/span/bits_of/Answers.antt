@@ -1,18 +1,23 @@
-use Rattle.frame_decoder.proofs.Common.{◌≡◌, ◌*◌, ℕ, length, take, drop, ap, ◌∙◌, arith, IsBestCodeword, spelled, Codeword, Free}
+use Rattle.frame_decoder.proofs.Common.{◌≡◌, ◌*◌, ℕ, length, take, drop, ap, ◌∙◌, arith, rules, IsBestCodeword, spelled, Codeword, Free}
 use Rattle.frame_decoder.proofs.Common.{channel_of, gathered_span, length-take-le, length-drop}
 use Rattle.frame_decoder.proofs.Gathered.{length-gathered_span}
 use Rattle.frame_decoder.proofs.BestCodewords.{own_within, own_is}
 use Rattle.frame_decoder.proofs.span.bits_of.Goals as goal
 
-pub best_codeword-codeword-requires-clause-most : goal.best_codeword-codeword-requires-clause-most
-best_codeword-codeword-requires-clause-most c =
+pub best_codeword-codeword-requires : goal.best_codeword-codeword-requires
+best_codeword-codeword-requires c =
     let l = c.args.span_format in
     let n = c.args.frames in
     let long : length c.gather_span.new.out ≡ 2 * l.bits * n =
     ap length c.gather_span.ensures.value
     ∙ length-gathered_span l.kind l.bits l.repeats n c.args.softs.now c.requires.sent in
     let room = c.requires.room in
-    omega (arith, long, room)
+    record {
+      even = search rules;
+      least = search rules;
+      most = omega (arith, long, room);
+      bound = search rules;
+    }
 
 pub part-requires : goal.part-requires
 part-requires c =

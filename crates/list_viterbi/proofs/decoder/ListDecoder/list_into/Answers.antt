@@ -15,18 +15,18 @@ loop-bit-init c = record {
 }
 
 pub step-requires-clause-fits : goal.step-requires-clause-fits
-step-requires-clause-fits c = pair_small c.args.softs.now c.loop-bit.bit (omega (arith, c.loop-bit-test.true)) c.requires.bound
+step-requires-clause-fits c = pair_small c.args.softs.now c.loop-bit.bit (omega (arith, c.loop-bit-test.true)) c.requires.softs.bound
 
 pub step-requires-clause-room : goal.step-requires-clause-room
 step-requires-clause-room c =
     let softs = c.args.softs.now in
     let bit = c.loop-bit.bit in
-    let kept = pair_kept softs bit (omega (arith, c.loop-bit-test.true)) c.requires.bound in
+    let kept = pair_kept softs bit (omega (arith, c.loop-bit-test.true)) c.requires.softs.bound in
     let few : bit ≤ 576 =
-    omega (arith, c.loop-bit-test.true, c.requires.most, c.self.view_is, c.self.invariant) in
+    omega (arith, c.loop-bit-test.true, c.requires.softs.most, c.self.view_is, c.self.invariant) in
     rw (kept.0, kept.1)
     (score_rooms softs c.args.ends c.args.k bit c.loop-bit.self-inside.column.scores
-    c.loop-bit.self-inside.columns.items (omega (arith, c.loop-bit-test.true)) c.requires.bound few
+    c.loop-bit.self-inside.columns.items (omega (arith, c.loop-bit-test.true)) c.requires.softs.bound few
     c.loop-bit.invariant.stands)
 
 pub loop-bit-preserved : goal.loop-bit-preserved
@@ -37,14 +37,14 @@ loop-bit-preserved c =
     let first = get_or softs (2 * bit) (pos 0) in
     let second = get_or softs (2 * bit + 1) (pos 0) in
     let room : 2 * bit + 2 ≤ length softs = omega (arith, c.loop-bit-test.true) in
-    let pair = pair_kept softs bit room c.requires.bound in
+    let pair = pair_kept softs bit room c.requires.softs.bound in
     let next : bit + 1 ≡ suc bit = add-one bit in
     let each : (t : ℕ) → t < 256 → HasPicks (get_or c.step.new.self.scores t [])
     (get_or c.step.new.choices t 0) (picks_into column first second c.args.k t) =
     λ t b. rw (pair.0, pair.1, c.loop-bit.invariant.few)
     at (c.step.ensures.each t b) in
     let few : bit < 576 =
-    omega (arith, c.loop-bit-test.true, c.requires.most, c.self.view_is, c.self.invariant) in
+    omega (arith, c.loop-bit-test.true, c.requires.softs.most, c.self.view_is, c.self.invariant) in
     let within : bit < length c.loop-bit.self-inside.columns.items = search rules in
     record {
       columns_whole = c.loop-bit.invariant.columns_whole;
@@ -56,21 +56,21 @@ loop-bit-preserved c =
           c.loop-bit.invariant.stands each);
     }
 
-pub returns-clause-first : goal.returns-clause-first
-returns-clause-first c = found_first c.args.softs.now _ c.args.k c.all_traced.result
-    (run_codewords c.args.softs.now c.args.ends c.args.k _ c.loop-bit.bit _ _ _ _ _ (omega (arith, c.loop-bit-test.false)) c.requires.least
-    (omega (arith, c.requires.most, c.self.view_is, c.self.invariant)) (c.deref.ensures.len ∙ c.loop-bit.invariant.columns_whole)
-    c.deref.ensures.value c.loop-bit.invariant.stands c.loop-bit.invariant.few c.first_ends-finds.ensures c.all_traced.ensures)
-
-pub returns-clause-scores : goal.returns-clause-scores
-returns-clause-scores c = found_scores c.args.softs.now _ c.args.k c.all_traced.result
-    (run_codewords c.args.softs.now c.args.ends c.args.k _ c.loop-bit.bit _ _ _ _ _ (omega (arith, c.loop-bit-test.false)) c.requires.least
-    (omega (arith, c.requires.most, c.self.view_is, c.self.invariant)) (c.deref.ensures.len ∙ c.loop-bit.invariant.columns_whole)
-    c.deref.ensures.value c.loop-bit.invariant.stands c.loop-bit.invariant.few c.first_ends-finds.ensures c.all_traced.ensures)
-
-pub returns-clause-number : goal.returns-clause-number
-returns-clause-number c = c.len.ensures.value ∙ found_number c.args.softs.now c.args.ends (length c.args.softs.now / 2) c.args.k
-    c.all_traced.result (omega (arith, c.requires.least))
-    (run_codewords c.args.softs.now c.args.ends c.args.k _ c.loop-bit.bit _ _ _ _ _ (omega (arith, c.loop-bit-test.false)) c.requires.least
-    (omega (arith, c.requires.most, c.self.view_is, c.self.invariant)) (c.deref.ensures.len ∙ c.loop-bit.invariant.columns_whole)
-    c.deref.ensures.value c.loop-bit.invariant.stands c.loop-bit.invariant.few c.first_ends-finds.ensures c.all_traced.ensures)
+pub returns : goal.returns
+returns c =
+    let softs = c.args.softs.now in
+    let out = c.all_traced.result in
+    let lists = run_codewords softs c.args.ends c.args.k _ c.loop-bit.bit _ _ _ _ _
+    (omega (arith, c.loop-bit-test.false)) c.requires.softs.least
+    (omega (arith, c.requires.softs.most, c.self.view_is, c.self.invariant))
+    (c.deref.ensures.len ∙ c.loop-bit.invariant.columns_whole) c.deref.ensures.value
+    c.loop-bit.invariant.stands c.loop-bit.invariant.few c.first_ends-finds.ensures
+    c.all_traced.ensures in
+    record {
+      first = found_first softs _ c.args.k out lists;
+      scores = found_scores softs _ c.args.k out lists;
+      count = c.len.ensures.value;
+      number = c.len.ensures.value ∙ found_number softs c.args.ends (length softs / 2) c.args.k out
+          (omega (arith, c.requires.softs.least)) lists;
+      kept = c.loop-bit.invariant.kept;
+    }

@@ -1,44 +1,46 @@
-use Rattle.std.proofs.Common.{◌≡◌, ◌/◌, length, drop, ◌∙◌, rules, arith, add-one, w64, Some, None}
+use Rattle.std.proofs.Common.{◌≡◌, ◌≤◌, ◌+◌, ◌*◌, ◌/◌, ℕ, length, ◌∙◌, rules, arith, add-one, suc, w64, Option, Some, None}
 use Rattle.std.proofs.lemmas.Int.{to_z-of_z}
 use Rattle.std.proofs.lemmas.List.{take_at, with_items_is}
+use Rattle.viterbi.proofs.Choices.{IsBestOf}
 use Rattle.viterbi.proofs.Scores.{pair_kept, pair_small}
-use Rattle.viterbi.proofs.Steps.{survivor_into_best}
+use Rattle.viterbi.proofs.Steps.{Into, survivor_into_best}
 use Rattle.viterbi.proofs.Rooms.{rooms}
 use Rattle.viterbi.proofs.Finish.{survive_start, best_is, some_best}
-use Rattle.reference_decoders.proofs.Ends.{run_best}
+use Rattle.viterbi.specs.States.{low_bits}
+use Rattle.viterbi.specs.Survivors.{survivor_into}
+use Rattle.viterbi.specs.declared.survivor.Survivor.{Survivor}
+use Rattle.reference_decoders.proofs.Ends.{run_best, states_more}
 use Rattle.reference_decoders.proofs.survivor_decoder.SurvivorDecoder.best_into.Goals as goal
 
 pub loop-bit-init : goal.loop-bit-init
-loop-bit-init c =
-    let kept = take_at c.start_column.new.column
-    (drop (length c.start_column.new.column) c.self.inside.column.items) c.self.inside.column.len (omega arith)
-    in
-    record {
-      column_whole = search rules;
-      next_whole = search rules;
-      kept = c.self.view_is;
-      survive =
-          rw kept (survive_start c.args.softs.now c.args.ends c.start_column.new.column
-          c.start_column.ensures);
-    }
+loop-bit-init c = record {
+  column_whole = search rules;
+  next_whole = search rules;
+  kept = c.self.view_is;
+  survive = rw (take_at c.start_column.new.column _ c.self.inside.column.len (omega arith))
+      (survive_start c.args.softs.now c.args.ends c.start_column.new.column c.start_column.ensures);
+}
 
 pub step-requires-clause-fits : goal.step-requires-clause-fits
-step-requires-clause-fits c = pair_small c.args.softs.now c.loop-bit.bit (omega (arith, c.loop-bit-test.true)) c.requires.bound
+step-requires-clause-fits c =
+    pair_small c.args.softs.now c.loop-bit.bit (omega (arith, c.loop-bit-test.true)) c.requires.bound
 
 pub step-requires-clause-room : goal.step-requires-clause-room
 step-requires-clause-room c =
     let softs = c.args.softs.now in
-    let pair = pair_kept softs c.loop-bit.bit (omega (arith, c.loop-bit-test.true)) c.requires.bound in
+    let two : 2 * c.loop-bit.bit + 2 ≤ length softs = omega (arith, c.loop-bit-test.true) in
+    let pair = pair_kept softs c.loop-bit.bit two c.requires.bound in
     rw (pair.0, pair.1, c.deref.ensures.value)
-    (rooms softs c.args.ends c.loop-bit.bit c.loop-bit.self-inside.column.items
-    (omega (arith, c.loop-bit-test.true)) c.requires.bound
+    (rooms softs c.args.ends c.loop-bit.bit c.loop-bit.self-inside.column.items two c.requires.bound
     (omega (arith, c.loop-bit-test.true, c.requires.most, c.self.view_is, c.self.invariant))
     c.loop-bit.invariant.survive)
 
 pub loop-bit-preserved : goal.loop-bit-preserved
 loop-bit-preserved c =
     let softs = c.args.softs.now in
-    let pair = pair_kept softs c.loop-bit.bit (omega (arith, c.loop-bit-test.true)) c.requires.bound in
+    let bit = c.loop-bit.bit in
+    let column = c.loop-bit.self-inside.column.items in
+    let two : 2 * bit + 2 ≤ length softs = omega (arith, c.loop-bit-test.true) in
     let items : c.swap.new.x.items ≡ c.step.new.next =
     rw c.swap.ensures.x_after
     (with_items_is c.loop-bit.self-inside.next c.step.new.next (omega arith)) in
@@ -46,12 +48,12 @@ loop-bit-preserved c =
       column_whole = search rules;
       next_whole = search rules;
       kept = c.loop-bit.invariant.kept;
-      survive = λ t h.
-          let each = c.step.ensures.each t h in
-          let each' = rw (pair.0, pair.1, c.deref.ensures.value) at each in
-          rw (items, each', add-one c.loop-bit.bit)
-          (survivor_into_best softs c.args.ends c.loop-bit.bit c.loop-bit.self-inside.column.items
-          (omega (arith, c.loop-bit-test.true)) c.loop-bit.invariant.survive t h);
+      survive = rw (items, add-one bit)
+          (states_more
+          (λ (t : ℕ) (o : Option Survivor). IsBestOf softs (Into c.args.ends (suc bit) (low_bits 8 t)) o)
+          (survivor_into column) None softs bit c.step.new.next two c.requires.bound
+          (rw c.deref.ensures.value at c.step.ensures.each)
+          (survivor_into_best softs c.args.ends bit column two c.loop-bit.invariant.survive));
     }
 
 pub unreachable-requires : goal.unreachable-requires
@@ -61,17 +63,16 @@ unreachable-requires c =
     (omega (arith, c.loop-bit-test.false)) c.deref-2.ensures.value c.loop-bit.invariant.survive
     c.in_default.ensures)
 
-pub returns-clause-best : goal.returns-clause-best
-returns-clause-best c =
-    best_is c.args.softs.now c.args.ends (length c.args.softs.now / 2) c.in-Some.best
-    (omega (arith, c.requires.least)) (omega (arith, c.requires.even))
-    (run_best c.args.softs.now c.args.ends c.loop-bit.bit _ _ (Some c.in-Some.best)
-    (omega (arith, c.loop-bit-test.false)) c.deref-2.ensures.value c.loop-bit.invariant.survive
-    c.in-Some.ensures)
-
-pub returns-clause-score : goal.returns-clause-score
-returns-clause-score c =
-    let best = run_best c.args.softs.now c.args.ends c.loop-bit.bit _ _ (Some c.in-Some.best)
+pub returns : goal.returns
+returns c =
+    let softs = c.args.softs.now in
+    let s = c.in-Some.best in
+    let best = run_best softs c.args.ends c.loop-bit.bit _ _ (Some s)
     (omega (arith, c.loop-bit-test.false)) c.deref-2.ensures.value c.loop-bit.invariant.survive
     c.in-Some.ensures in
-    to_z-of_z w64 c.in-Some.best.score (search rules) ∙ best.score
+    record {
+      best = best_is softs c.args.ends (length softs / 2) s (omega (arith, c.requires.least))
+          (omega (arith, c.requires.even)) best;
+      score = to_z-of_z w64 s.score (search rules) ∙ best.score;
+      kept = c.loop-bit.invariant.kept;
+    }
