@@ -17,30 +17,37 @@ use std::simd::prelude::*;
 /// How many samples the lanes have.
 pub(crate) const GROUP: usize = 8;
 
+/// Two parts of each of eight things side by side, the first thing at a place.
+macro_rules! side_by_side {
+    ($list:ident, $at:ident, $one:tt, $other:tt) => {
+        [
+            $list[$at].$one,
+            $list[$at].$other,
+            $list[$at + 1].$one,
+            $list[$at + 1].$other,
+            $list[$at + 2].$one,
+            $list[$at + 2].$other,
+            $list[$at + 3].$one,
+            $list[$at + 3].$other,
+            $list[$at + 4].$one,
+            $list[$at + 4].$other,
+            $list[$at + 5].$one,
+            $list[$at + 5].$other,
+            $list[$at + 6].$one,
+            $list[$at + 6].$other,
+            $list[$at + 7].$one,
+            $list[$at + 7].$other,
+        ]
+    };
+}
+
 /// Both parts of eight numbers side by side, the first number at `at`.
 pub(crate) fn parts_of(numbers: &[Sample], at: usize) -> i16x16
     requires { at + 8 ≤ length numbers.now }
     ensures value { result ≡ parts (eight (sample_at numbers.now) at) }
     ensures short { Each1 IsShort (eight (sample_at numbers.now) at) }
 {
-    i16x16::from_array([
-        numbers[at].i,
-        numbers[at].q,
-        numbers[at + 1].i,
-        numbers[at + 1].q,
-        numbers[at + 2].i,
-        numbers[at + 2].q,
-        numbers[at + 3].i,
-        numbers[at + 3].q,
-        numbers[at + 4].i,
-        numbers[at + 4].q,
-        numbers[at + 5].i,
-        numbers[at + 5].q,
-        numbers[at + 6].i,
-        numbers[at + 6].q,
-        numbers[at + 7].i,
-        numbers[at + 7].q,
-    ])
+    i16x16::from_array(side_by_side!(numbers, at, i, q))
 }
 
 /// The signs of eight chips side by side, the first chip at `at`.
@@ -49,25 +56,7 @@ fn wide_signs(signs: &[(i8, i8)], at: usize) -> i16x16
     requires units { All IsUnit signs.now }
     ensures { result ≡ parts (eight (signs_at signs.now) at) }
 {
-    i8x16::from_array([
-        signs[at].0,
-        signs[at].1,
-        signs[at + 1].0,
-        signs[at + 1].1,
-        signs[at + 2].0,
-        signs[at + 2].1,
-        signs[at + 3].0,
-        signs[at + 3].1,
-        signs[at + 4].0,
-        signs[at + 4].1,
-        signs[at + 5].0,
-        signs[at + 5].1,
-        signs[at + 6].0,
-        signs[at + 6].1,
-        signs[at + 7].0,
-        signs[at + 7].1,
-    ])
-    .cast::<i16>()
+    i8x16::from_array(side_by_side!(signs, at, 0, 1)).cast::<i16>()
 }
 
 /// The signs of eight chips, each turned by a quarter of a circle.
