@@ -1,5 +1,5 @@
 -- The best phase of a range, and of two neighbouring ranges.
-use Rattle.pilot_search.proofs.Common.{◌≡◌, ℕ, ◌<◌, ◌≤◌, List, refl, ap, ◌∙◌, arith, pos, ⊎_elim, ints, cases_lt, IsFirstGreatest}
+use Rattle.pilot_search.proofs.Common.{◌≡◌, ℕ, List, refl, ap, ◌∙◌, arith, pos, ints, IsFirstGreatest}
 use Rattle.pilot_search.proofs.Common.{first_greatest, Sample, only, first_greatest-is, energy, best_phase, IsBestIn}
 
 first_of_all : (samples : List Sample) (phase most : ℕ) → IsBestIn samples 0 32768 phase most →
@@ -37,33 +37,3 @@ best_phase-is samples =
       greatest = λ k _ lt. let g = is.greatest k lt in omega (arith, ints, g);
       first = λ k _ lt. let g = is.first k lt in omega (arith, ints, g);
     }
-
-pub lower_best : (samples : List Sample) (from middle to low low_energy high high_energy : ℕ) →
-    IsBestIn samples from middle low low_energy →
-    IsBestIn samples middle to high high_energy → high_energy ≤ low_energy →
-    IsBestIn samples from to low low_energy
-lower_best samples from middle to low low_energy high high_energy p q less = record {
-  not_below = p.not_below;
-  below = let a = p.below in let b = q.not_below in let c = q.below in omega (arith, a, b, c);
-  measured = p.measured;
-  greatest =
-      λ k le lt. ⊎_elim (λ below. p.greatest k le below) (λ above. let g = q.greatest k above lt in
-      omega (arith, g, less)) (cases_lt k middle);
-  first = p.first;
-}
-
-pub higher_best : (samples : List Sample) (from middle to low low_energy high high_energy : ℕ) →
-    IsBestIn samples from middle low low_energy →
-    IsBestIn samples middle to high high_energy → low_energy < high_energy →
-    IsBestIn samples from to high high_energy
-higher_best samples from middle to low low_energy high high_energy p q more = record {
-  not_below = let a = p.not_below in let b = p.below in
-      let c = q.not_below in omega (arith, a, b, c);
-  below = q.below;
-  measured = q.measured;
-  greatest =
-      λ k le lt. ⊎_elim (λ below. let g = p.greatest k le below in
-      omega (arith, g, more)) (λ above. q.greatest k above lt) (cases_lt k middle);
-  first = λ k le lt. ⊎_elim (λ below. let g = p.greatest k le below in
-      omega (arith, g, more)) (λ above. q.first k above lt) (cases_lt k middle);
-}

@@ -1,14 +1,14 @@
 -- Sums of a part of the samples, and how great an energy can become.
-use Rattle.pilot_search.proofs.Common.{◌≡◌, ℕ, zero, suc, ◌+◌, ◌-◌, ◌*◌, ◌%◌, ◌<◌, ◌≤◌, Bool, true, false, List, [], ◌∷◌, ◌++◌, length}
+use Rattle.pilot_search.proofs.Common.{◌≡◌, ℕ, zero, suc, ◌+◌, ◌-◌, ◌*◌, ◌%◌, ◌≤◌, Bool, true, false, List, [], ◌∷◌, ◌++◌, length}
 use Rattle.pilot_search.proofs.Common.{take, drop, refl, sym, ap, ◌∙◌, subst, arith, ℤ, ◌+ℤ◌, unsigned_abs, mul-le-mul, take-add, ints}
 use Rattle.pilot_search.proofs.Common.{length-take-le, drop-drop, origin, plus, times, conjugate, point, of_sample, sum_of, norm, Pair}
 use Rattle.pilot_search.proofs.Common.{Sample, plus_assoc, origin-plus, sum_of-append, code_point, despread, pilot_chip, despread-append}
-use Rattle.pilot_search.proofs.Common.{correlation, energy, magnitudes, square_of, bound, HasBoundBelow, HasNoBoundBelow, IsSumOf}
+use Rattle.pilot_search.proofs.Common.{correlation, energy, magnitudes, square_of, bound, HasNoBoundBelow, IsSumOf}
 use Rattle.pilot_search.proofs.CorrelationSums.{plus_is}
 
 -- PARTS OF THE SAMPLES
 -- the code begins again after 32,768 chips
-despread_mod : (samples : List Sample) (a b : ℕ) → a % 32768 ≡ b % 32768 →
+pub despread_mod : (samples : List Sample) (a b : ℕ) → a % 32768 ≡ b % 32768 →
     despread a samples ≡ despread b samples
 despread_mod [] a b e = refl
 despread_mod (s ∷ samples) a b e =
@@ -182,15 +182,6 @@ pub bound_is : (samples : List Sample) (phase k tail found : ℕ) (sum : Pair) �
 bound_is samples phase k tail found sum e f is =
     is ∙ ap (λ (x : Pair × ℕ). square_of (unsigned_abs x.0.i + x.1) +
     square_of (unsigned_abs x.0.q + x.1)) (λ i. (e i, f i))
-
--- the bound that the program looks at is below the limit
-pub bound_below : (samples : List Sample) (phase j limit tail found : ℕ) (sum : Pair) →
-    IsSumOf samples phase (64 * j) sum → tail ≡ magnitudes (drop (64 * j) samples) →
-    found ≡ square_of (unsigned_abs sum.i + tail) + square_of (unsigned_abs sum.q + tail) →
-    64 * j < length samples → found < limit → HasBoundBelow samples phase limit
-bound_below samples phase j limit tail found sum so_far left is lt less =
-    let here = bound_is samples phase (64 * j) tail found sum so_far.value left is in
-    (j, lt, omega (arith, here, less))
 
 -- no samples
 pub none_left : (samples : List Sample) (phase limit : ℕ) → length samples ≡ 0 →

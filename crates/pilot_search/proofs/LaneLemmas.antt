@@ -1,7 +1,7 @@
 -- Lanes of 32 bits that hold products of samples with signs, and sums of them.
 use Rattle.pilot_search.proofs.Common.{◌≡◌, ℕ, zero, suc, ◌+◌, ◌*◌, ◌%◌, ◌^◌, ◌<◌, ◌≤◌, List, [], ◌∷◌, map, length, get_or, take, drop}
 use Rattle.pilot_search.proofs.Common.{add-one, All, refl, sym, ap, ◌∙◌, arith, ℤ, pos, negsuc, ◌+ℤ◌, ◌*ℤ◌, unsigned_abs, to_z, of_z}
-use Rattle.pilot_search.proofs.Common.{FitsSigned, w8, w16, w32, w64, neg_ℤ, +ℤ_assoc, Fits-of_z, int_wrap, ints, to_z-of_z, int_wrap_fits}
+use Rattle.pilot_search.proofs.Common.{FitsSigned, w16, w32, w64, neg_ℤ, +ℤ_assoc, Fits-of_z, int_wrap, ints, to_z-of_z, int_wrap_fits}
 use Rattle.pilot_search.proofs.Common.{wrapping_add-bits, wrapping_mul_onto, fits_signed_from_abs, unsigned_abs-mul, Each1, subst, Each2}
 use Rattle.pilot_search.proofs.Common.{zip2, map_at, All-head, All-tail, Each2-of, plus, total, Pair, real_part, Sample, across}
 use Rattle.pilot_search.proofs.Common.{correlation_with, IsUnit, product_at, real_lanes, imaginary_lanes, both, parts, eight, sample_at}
@@ -64,14 +64,6 @@ kept_units x g first xs units same is =
       to_z-of_z w16 (g t).0 (unit_short (g t).0 (units t).i) i,
       to_z-of_z w16 (g t).1 (unit_short (g t).1 (units t).q) i,
     ))
-
--- a sign of 8 bits in a lane of 16 bits, and times 1 and -1 there
-pub narrow_sign : (c : ℤ) → unsigned_abs c ≤ 1 → to_z w16 (of_z w16 (to_z w8 (of_z w8 c))) ≡ c
-narrow_sign (pos zero) h = refl
-narrow_sign (pos (suc zero)) h = refl
-narrow_sign (pos (suc (suc k))) h = absurd (omega arith)
-narrow_sign (negsuc zero) h = refl
-narrow_sign (negsuc (suc k)) h = absurd (omega arith)
 
 pub same_sign : (c : ℤ) → unsigned_abs c ≤ 1 → to_z w16 (of_z w16 c * 1 % 65536) ≡ c
 same_sign (pos zero) h = refl

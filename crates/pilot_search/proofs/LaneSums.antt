@@ -1,7 +1,7 @@
 -- The loop over groups of eight samples: what its lanes hold.
-use Rattle.pilot_search.proofs.Common.{◌≡◌, ℕ, ◌+◌, ◌*◌, ◌^◌, ◌<◌, ◌≤◌, List, length, map, drop, refl, sym, ap, ◌∙◌, subst, arith, ℤ, ◌+ℤ◌}
-use Rattle.pilot_search.proofs.Common.{unsigned_abs, to_z, of_z, w32, w64, Each1, Each2, zip2, to_z-of_z, fits_signed_from_abs, length-map}
-use Rattle.pilot_search.proofs.Common.{Each1-weaker, length-zip2, plus, total, origin-plus, pos, replicate, Pair, Sample, correlation_with}
+use Rattle.pilot_search.proofs.Common.{◌≡◌, ℕ, ◌+◌, ◌*◌, ◌^◌, ◌<◌, ◌≤◌, List, length, drop, sym, ap, ◌∙◌, subst, arith, ℤ, ◌+ℤ◌}
+use Rattle.pilot_search.proofs.Common.{unsigned_abs, to_z, of_z, w64, Each1, Each2, zip2, to_z-of_z, fits_signed_from_abs}
+use Rattle.pilot_search.proofs.Common.{Each1-weaker, length-zip2, plus, total, Pair, Sample, correlation_with}
 use Rattle.pilot_search.proofs.Common.{AreNear, AreProducts, AreSums}
 use Rattle.pilot_search.proofs.CorrelationSums.{correlation_with-all}
 use Rattle.pilot_search.proofs.LaneLemmas.{kept, kept_lanes, kept_products, lanes_fit, bounds_more, total_bound, lanes_more}
@@ -17,9 +17,6 @@ sums_fit k xs few h =
 pub kept_sums : (k : ℕ) (xs : List ℤ) → k ≤ 4096 → Each1 (λ x. unsigned_abs x ≤ 65536 * k) xs →
     kept xs ≡ xs
 kept_sums k xs few h = kept_lanes xs (sums_fit k xs few h)
-
-pub long_kept : (xs : List ℤ) → length xs ≡ 8 → length (kept xs) ≡ 8
-long_kept xs e = length-map (map (of_z w32) xs) (to_z w32) ∙ length-map xs (of_z w32) ∙ e
 
 pub fit_kept : (k : ℕ) (xs : List ℤ) → k ≤ 4096 → Each1 (λ x. unsigned_abs x ≤ 65536 * k) xs →
     Each1 (λ x. unsigned_abs x < 2 ^ 31) (kept xs)
@@ -124,20 +121,6 @@ sums_more samples signs k real imaginary more_real more_imaginary real' imaginar
     }
 
 -- THE LOOP
-pub no_sums : (samples : List Sample) (signs : List (ℤ × ℤ)) →
-    AreSums samples signs 0 (replicate 8 (pos 0)) (replicate 8 (pos 0))
-no_sums samples signs =
-    let o : 0 ≤ 0 = omega arith in
-    record {
-      near = record {
-        real_long = refl;
-        imaginary_long = refl;
-        real_bound = (o, (o, (o, (o, (o, (o, (o, (o, tt))))))));
-        imaginary_bound = (o, (o, (o, (o, (o, (o, (o, (o, tt))))))));
-      };
-      whole = origin-plus (correlation_with samples signs);
-    }
-
 pub sums_kept : (samples : List Sample) (signs : List (ℤ × ℤ)) (k : ℕ) (real imaginary : List ℤ) →
     k ≤ 4096 → AreSums samples signs k real imaginary →
     AreSums samples signs k (kept real) (kept imaginary)
@@ -147,10 +130,6 @@ sums_kept samples signs k real imaginary few all =
       sym (kept_sums k real few all.near.real_bound) i,
       sym (kept_sums k imaginary few all.near.imaginary_bound) i,
     )) all
-
-pub near_at : (k n : ℕ) (real imaginary : List ℤ) → k ≡ n → AreNear k real imaginary →
-    AreNear n real imaginary
-near_at k n real imaginary here near = subst (λ (m : ℕ). AreNear m real imaginary) here near
 
 -- THE SUM OF THE LANES
 pub record IsTotal (k : ℕ) (xs : List ℤ) (sum : ℤ) : Type 0 where

@@ -1,8 +1,8 @@
 -- In each complete run of the workers the best phase is evaluated.
-use Rattle.pilot_search.proofs.Common.{IsStart, ◌≡◌, ◌⊎◌, ℕ, zero, suc, ◌*◌, ◌<◌, ◌≤◌, max, List, [], ◌∷◌, set, refl, sym, ap, ◌∙◌, subst}
-use Rattle.pilot_search.proofs.Common.{⊎_elim, inl, inr, arith, Some, None, Contains, All, slice_get, cases_order, cases_lt, All-set}
+use Rattle.pilot_search.proofs.Common.{IsStart, ◌≡◌, ◌⊎◌, ℕ, zero, suc, ◌<◌, ◌≤◌, max, List, [], ◌∷◌, set, refl, sym, ap, ◌∙◌, subst}
+use Rattle.pilot_search.proofs.Common.{⊎_elim, inl, inr, arith, Some, Contains, All, slice_get, cases_order, cases_lt, All-set}
 use Rattle.pilot_search.proofs.Common.{All-contains, All-get_or, All-nil, All-cons, All-head, All-tail, slice_get_within}
-use Rattle.pilot_search.proofs.Common.{get_or_from_slice_get, Sample, energy, best_phase, greatest, bound, HasBoundBelow, Worker, Step}
+use Rattle.pilot_search.proofs.Common.{get_or_from_slice_get, Sample, energy, best_phase, greatest, Worker, Step}
 use Rattle.pilot_search.proofs.Common.{Evaluate, Publish, Read, Skip, Goes, Run, Parts, IsDone, FindsBest, ComesFirst, BestComesFirst}
 use Rattle.pilot_search.proofs.Common.{IsTry}
 use Rattle.pilot_search.specs.SearchRun.{State}
@@ -203,19 +203,6 @@ put_get : {X : Type 0} (xs : List X) (k : ℕ) (x y : X) → slice_get xs k ≡ 
 put_get [] k x y at = absurd (cc)
 put_get (z ∷ xs) zero x y at = refl
 put_get (z ∷ xs) (suc k) x y at = put_get xs k x y at
-
-pub left_is_try : (samples : List Sample) (phase read : ℕ) → HasBoundBelow samples phase read →
-    IsTry samples phase read None
-left_is_try samples phase read has old k w at fresh seen = (
-  64 * has.0,
-  (
-    w,
-    at,
-    fresh,
-    subst (λ (n : ℕ). bound samples phase (64 * has.0) < n) (sym seen) has.2,
-    refl,
-  ),
-)
 
 pub told_is_try : (samples : List Sample) (phase read e : ℕ) → e ≡ energy samples phase →
     IsTry samples phase read (Some e)

@@ -1,5 +1,5 @@
 -- A ranking is the definition's.
-use Rattle.std.proofs.Common.{◌≡◌, ℕ, ◌<◌, ◌⊎◌, inl, inr, ⊎_elim, List, length, get_or, map, sym, ap, ◌∙◌, subst, arith, pos}
+use Rattle.std.proofs.Common.{◌≡◌, ℕ, ◌<◌, inl, inr, ⊎_elim, List, length, get_or, map, sym, ap, ◌∙◌, subst, arith, pos}
 use Rattle.std.proofs.lemmas.List.{get_or-map, get_or_default, length-map, same_lists}
 use Rattle.chip_core.specs.declared.sample.Sample.{Sample}
 use Rattle.pilot_survey.specs.Ranking.{ComesBefore, IsRanking}

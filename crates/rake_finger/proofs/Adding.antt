@@ -1,5 +1,5 @@
 -- Adding soft values up, symbol by symbol and finger by finger.
-use Rattle.std.proofs.Common.{◌≡◌, ◌≢◌, ℕ, ◌+◌, ◌*◌, ◌/◌, ◌^◌, ◌<◌, ◌≤◌, List, [], ◌∷◌, ◌++◌, length, get_or, map, take, refl, sym, ap, ◌∙◌}
+use Rattle.std.proofs.Common.{◌≡◌, ◌≢◌, ℕ, ◌+◌, ◌*◌, ◌/◌, ◌^◌, ◌<◌, ◌≤◌, List, [], ◌∷◌, ◌++◌, length, get_or, map, take, sym, ap, ◌∙◌}
 use Rattle.std.proofs.Common.{arith, ⊎_elim, inl, inr, ℤ, pos, ◌+ℤ◌, unsigned_abs, Some, sum_by}
 use Rattle.std.proofs.Math.ListN.{set}
 use Rattle.std.specs.List.{slice_get}
@@ -14,17 +14,12 @@ use Rattle.chip_core.proofs.Places.{map-places-all}
 use Rattle.chip_core.specs.declared.sample.Sample.{Sample}
 use Rattle.rake_finger.specs.Added.{AreWithin, IsAdded}
 use Rattle.rake_finger.specs.Held.{Held, HoldsLast}
-use Rattle.rake_finger.specs.Soft.{symbol_chips, window_chips, symbols, frame_chips, windows, window_symbols, soft, softs, soft_bound}
+use Rattle.rake_finger.specs.Soft.{symbol_chips, window_chips, symbols, windows, window_symbols, soft, softs, soft_bound}
 use Rattle.rake_finger.specs.declared.finger.Finger.{Finger}
 use Rattle.rake_finger.specs.declared.form.Form.{Form}
 use Rattle.rake_finger.specs.declared.form.Form.TheVariants.{Sync, Data}
 
 -- FORMS
-pub window_within : (form : Form) (window : ℕ) → window < windows form →
-    window_chips form * (window + 1) ≤ frame_chips form
-window_within Sync window lt = omega (arith, lt)
-window_within Data window lt = omega (arith, lt)
-
 pub window_of : (form : Form) (window symbol : ℕ) → window_symbols form * window ≤ symbol →
     symbol < window_symbols form * window + window_symbols form →
     symbol_chips form * symbol / window_chips form ≡ window
@@ -36,23 +31,11 @@ pub symbol_within : (form : Form) (window symbol : ℕ) → window < windows for
 symbol_within Sync window symbol lt high = omega (arith, lt, high)
 symbol_within Data window symbol lt high = omega (arith, lt, high)
 
-pub all_windows : (form : Form) → window_symbols form * windows form ≡ symbols form
-all_windows Sync = refl
-all_windows Data = refl
-
 pub soft_bound-most : (form : Form) → soft_bound form ≤ 2 ^ 51
 soft_bound-most Sync = omega arith
 soft_bound-most Data = omega arith
 
 -- ONE FINGER
-pub IsAdded-none : (ring : Held) (finger : Finger) (form : Form) (start done : ℕ) (old : List ℤ) →
-    done ≡ 0 → IsAdded ring finger form start done old old
-IsAdded-none ring finger form start done old none = record {
-  values = λ samples held j lt. absurd (omega (arith, lt, none));
-  others = λ j le. refl;
-  bound = λ j lt. absurd (omega (arith, lt, none));
-}
-
 pub IsAdded-more : (ring : Held) (finger : Finger) (form : Form) (start done : ℕ) (old new : List ℤ)
     (value entry : ℤ) →
     IsAdded ring finger form start done old new → done < length new →

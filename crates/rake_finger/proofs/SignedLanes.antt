@@ -29,14 +29,6 @@ pub sign_unit : (b : Bool) → unsigned_abs (sign b) ≤ 1
 sign_unit true = omega arith
 sign_unit false = omega arith
 
-pub units_of : (row : ℕ) (signs : List ℤ) → AreRowSigns row signs → AreUnits signs
-units_of row signs h = λ k lt.
-    subst (λ (z : ℤ). unsigned_abs z ≤ 1) (sym (h k lt)) (sign_unit (walsh row k))
-
--- a sign that is kept as bits
-pub kept_unit : (x : ℤ) → unsigned_abs x ≤ 1 → to_z w32 (of_z w32 x) ≡ x
-kept_unit x h = to_z-of_z w32 x (fits_signed_from_abs w32 x (omega (arith, h)))
-
 pub unit_lanes : (signs : List ℤ) (first : ℕ) → first + 8 ≤ 64 → AreUnits signs →
     Each1 (λ x. unsigned_abs x ≤ 1) (sign_lanes signs first)
 unit_lanes signs first room u = (
@@ -103,12 +95,6 @@ kept_units xs h =
 pub near_kept : (xs : List ℤ) → Each1 (λ x. unsigned_abs x ≤ 65536) xs →
     Each1 (λ x. unsigned_abs x ≤ 65536) (kept xs)
 near_kept xs h = subst (Each1 (λ x. unsigned_abs x ≤ 65536)) (sym (kept_products xs h)) h
-
-pub units_kept : (xs signs : List ℤ) → xs ≡ signs → Each1 (λ x. unsigned_abs x ≤ 1) signs →
-    Each1 (λ x. unsigned_abs x ≤ 1) (kept xs)
-units_kept xs signs is h =
-    subst (Each1 (λ x. unsigned_abs x ≤ 1))
-    (sym (ap kept is ∙ kept_units signs h)) h
 
 -- lanes of products times lanes of signs, all kept as bits
 pub signed_kept : (products lanes signs result : List ℤ) →

@@ -1,41 +1,28 @@
 -- The strength of a pilot: the greatest energy of a window of phases.
-use Rattle.std.proofs.Common.{◌≡◌, ℕ, ◌+◌, ◌-◌, ◌*◌, ◌/◌, ◌%◌, ◌<◌, ◌≤◌, List, [], ◌∷◌, ◌++◌, length, take, drop, refl, ap, ◌∙◌, arith}
+use Rattle.std.proofs.Common.{◌≡◌, ℕ, ◌+◌, ◌-◌, ◌*◌, ◌/◌, ◌%◌, ◌<◌, ◌≤◌, List, [], ◌∷◌, ◌++◌, length, take, drop, ap, ◌∙◌, arith}
 use Rattle.std.proofs.Common.{length-drop, ◌^◌, ℤ, pos, ◌-ℤ◌, unsigned_abs}
 use Rattle.std.specs.List.{All}
 use Rattle.std.proofs.Math.Nat.{mul-le-mul}
 use Rattle.std.proofs.lemmas.Int.{ints}
 use Rattle.std.proofs.lemmas.List.Elements.{All-head, All-tail}
 use Rattle.std.proofs.lemmas.List.{take-append-le, drop-append-le}
-use Rattle.chip_core.specs.Complex.{times, conjugate, point, of_sample, sum_of, norm}
+use Rattle.chip_core.specs.Complex.{sum_of, norm}
 use Rattle.chip_core.specs.Sums.{IsFirstGreatest, first_greatest}
 use Rattle.chip_core.specs.declared.sample.Pair.{Pair}
 use Rattle.chip_core.specs.declared.sample.Sample.{Sample}
 use Rattle.chip_core.proofs.Greatest.{takes, keeps, starts, only, first_greatest-is}
-use Rattle.short_code.specs.Despread.{code_point, despread}
-use Rattle.short_code.specs.ShortCode.{pilot_chip}
 use Rattle.pilot_search.specs.Bounds.{magnitudes, square_of, bound}
 use Rattle.pilot_search.specs.Search.{correlation, energy}
-use Rattle.pilot_search.proofs.BoundLemmas.{bounds, nothing_yet}
-use Rattle.rake_finger.specs.Held.{Held, HoldsLast}
-use Rattle.rake_finger.specs.InRing.{HoldsBefore}
+use Rattle.pilot_search.proofs.BoundLemmas.{bounds, nothing_yet, despread_mod}
 use Rattle.rake_finger.specs.Strengths.{samples_before, window_energy, Strength, strength, IsStrongest, IsNarrow}
 
 -- PHASES
--- the code begins again after 32,768 chips
-despread_again : (samples : List Sample) (a b : ℕ) → a % 32768 ≡ b % 32768 →
-    despread a samples ≡ despread b samples
-despread_again [] a b e = refl
-despread_again (s ∷ samples) a b e =
-    ap (λ (n : ℕ). times (of_sample s) (conjugate (point (pilot_chip n)))
-    ∷ despread (a + 1) samples) e
-    ∙ ap (λ (ps : List Pair). times (of_sample s) (conjugate (code_point b)) ∷ ps)
-    (despread_again samples (a + 1) (b + 1) (omega (arith, e)))
 
 pub energy_again : (samples : List Sample) (a b : ℕ) → a % 32768 ≡ b % 32768 →
     energy samples a ≡ energy samples b
 unfolding energy correlation
 energy_again samples a b e =
-    ap (λ (ps : List Pair). norm (sum_of ps)) (despread_again samples a b e)
+    ap (λ (ps : List Pair). norm (sum_of ps)) (despread_mod samples a b e)
 
 -- THE STRONGEST
 pub strongest_one : (samples : List Sample) (lowest most : ℕ) → most ≡ energy samples lowest →
@@ -168,17 +155,3 @@ samples_before-append heard more end begun within =
     let long = length-drop (end - 512) heard in
     ap (take 512) (drop-append-le (end - 512) heard more (omega (arith, within)))
     ∙ take-append-le 512 (drop (end - 512) heard) more (omega (arith, long, begun, within))
-
--- a ring with room for 65,536 samples still holds them
-pub held_before : (ring : Held) (heard : List Sample) (end : ℕ) → HoldsLast ring heard →
-    65536 ≤ ring.room → 512 ≤ end → end ≤ length heard → length heard ≤ end + 65024 →
-    HoldsBefore ring end
-held_before ring heard end held room begun within near =
-    let t = held.taken in
-    record {
-      begun = begun;
-      held = record {
-        kept = omega (arith, t, room, begun, near);
-        taken = omega (arith, t, begun, within);
-      };
-    }

@@ -1,12 +1,6 @@
 use Rattle.pilot_search.proofs.Common.{◌≡◌, ◌≤◌, ◌+◌, ◌*◌, ◌/◌, arith, length, length-map, map, to_z, w32, both}
-use Rattle.pilot_search.proofs.LaneSums.{kept_near, near_at, no_sums, products_kept, sums_kept, sums_whole}
+use Rattle.pilot_search.proofs.LaneSums.{kept_near, products_kept, sums_kept, sums_whole}
 use Rattle.pilot_search.proofs.blocks.sum_of_groups.Goals as goal
-
-pub loop-k-init : goal.loop-k-init
-loop-k-init c = record { sums = no_sums c.args.samples.now (map both c.args.points.now) }
-
-pub with_products-requires-clause-near : goal.with_products-requires-clause-near
-with_products-requires-clause-near c = c.loop-k.invariant.sums.near
 
 pub with_products-requires-clause-more : goal.with_products-requires-clause-more
 with_products-requires-clause-more c =
@@ -27,11 +21,6 @@ loop-k-preserved c =
           (products_kept xs signs (8 * c.loop-k.k) c.products_by.result.0 c.products_by.result.1
           c.products_by.ensures));
     }
-
-pub sum_of_lanes-requires-clause-near : goal.sum_of_lanes-requires-clause-near
-sum_of_lanes-requires-clause-near c =
-    near_at c.loop-k.k _ _ _ (omega (arith, c.loop-k.auto.k-end, c.loop-k-test.false))
-    c.loop-k.invariant.sums.near
 
 pub returns-clause-value : goal.returns-clause-value
 returns-clause-value c =

@@ -1,15 +1,9 @@
-use Rattle.pilot_search.proofs.LaneSums.{IsTotal, fit_kept, is_total, long_kept}
+use Rattle.pilot_search.proofs.LaneSums.{IsTotal, fit_kept, is_total}
 use Rattle.pilot_search.proofs.lanes.sum_of_lanes.Goals as goal
-
-pub total_of-requires-clause-long : goal.total_of-requires-clause-long
-total_of-requires-clause-long c = long_kept c.args.real c.requires.near.real_long
 
 pub total_of-requires-clause-fit : goal.total_of-requires-clause-fit
 total_of-requires-clause-fit c =
     fit_kept c.args.groups c.args.real c.requires.few c.requires.near.real_bound
-
-pub total_of-requires-2-clause-long : goal.total_of-requires-2-clause-long
-total_of-requires-2-clause-long c = long_kept c.args.imaginary c.requires.near.imaginary_long
 
 pub total_of-requires-2-clause-fit : goal.total_of-requires-2-clause-fit
 total_of-requires-2-clause-fit c =

@@ -1,12 +1,6 @@
-use Rattle.pilot_search.proofs.Common.{◌≤◌, ◌+◌, ◌*◌, ◌/◌, arith, length, map, to_z, w32}
-use Rattle.pilot_search.proofs.LaneSums.{kept_near, near_at, no_sums, products_kept, sums_kept, sums_left}
+use Rattle.pilot_search.proofs.Common.{◌≤◌, ◌+◌, ◌*◌, arith, length}
+use Rattle.pilot_search.proofs.LaneSums.{kept_near, products_kept, sums_kept}
 use Rattle.pilot_search.proofs.lanes.sums_on_lanes.Goals as goal
-
-pub loop-k-init : goal.loop-k-init
-loop-k-init c = record { sums = no_sums c.args.samples.now c.args.signs.now }
-
-pub with_products-requires-clause-near : goal.with_products-requires-clause-near
-with_products-requires-clause-near c = c.loop-k.invariant.sums.near
 
 pub with_products-requires-clause-more : goal.with_products-requires-clause-more
 with_products-requires-clause-more c =
@@ -27,15 +21,3 @@ loop-k-preserved c =
           c.loop-k.invariant.sums
           (products_kept xs gs (8 * k) made.0 made.1 c.products.ensures));
     }
-
-pub sum_of_lanes-requires-clause-near : goal.sum_of_lanes-requires-clause-near
-sum_of_lanes-requires-clause-near c =
-    near_at c.loop-k.k _ _ _ (omega (arith, c.loop-k.auto.k-end, c.loop-k-test.false))
-    c.loop-k.invariant.sums.near
-
-pub returns-clause-whole : goal.returns-clause-whole
-returns-clause-whole c =
-    sums_left c.args.samples.now c.args.signs.now c.loop-k.k (length c.args.samples.now / 8)
-    (map (to_z w32) c.loop-k.real) (map (to_z w32) c.loop-k.imaginary) c.sum_of_lanes.result
-    (omega (arith, c.loop-k.auto.k-end, c.loop-k-test.false)) c.loop-k.invariant.sums
-    c.sum_of_lanes.ensures.value

@@ -1,6 +1,6 @@
 use Rattle.pilot_search.proofs.Common.{◌≡◌, ◌<◌, ◌+◌, ◌*◌, ◌-◌, ◌/◌, ◌%◌, ◌∙◌, ℕ, List, arith, rules, ap, drop, length, common_steps}
 use Rattle.pilot_search.proofs.Common.{Sample, correlation, bound, magnitudes}
-use Rattle.pilot_search.proofs.BoundLemmas.{bound_is, bound_below, none_left, none_below, sum_whole}
+use Rattle.pilot_search.proofs.BoundLemmas.{bound_is, none_left, none_below, sum_whole}
 use Rattle.pilot_search.proofs.trying.energy_unless_below.Goals as goal
 
 pub returns-then-is_empty : goal.returns-then-is_empty
@@ -8,16 +8,6 @@ returns-then-is_empty c =
     let none : length c.args.samples.now ≡ 0 =
     (first_of (search rules, grind (arith, common_steps))) in
     none_left c.args.samples.now c.args.phase c.args.limit none
-
-pub returns-then-bound_of-limit : goal.returns-then-bound_of-limit
-returns-then-bound_of-limit c =
-    let xs = c.args.samples.now in
-    let last : ℕ = (length xs - 1) / 64 in
-    let some : 0 < length xs = (first_of (search rules, grind (arith, common_steps))) in
-    bound_below xs c.args.phase last c.args.limit c.get.result c.bound_of.result
-    c.in_ok-sum.sum c.in_ok-sum.ensures
-    (c.get.ensures.value ∙ c.requires.tails last (omega (arith, some, c.requires.samples)))
-    c.bound_of.ensures (omega (arith, some)) c.if-bound_of-limit.true
 
 pub returns : goal.returns
 returns c =

@@ -1,6 +1,6 @@
-use Rattle.pilot_search.proofs.Common.{◌≡◌, ◌≤◌, ◌<◌, ◌+◌, ◌*◌, ◌-◌, ◌%◌, ◌∙◌, ℕ, List, arith, ap, refl, take, drop, length, ints}
+use Rattle.pilot_search.proofs.Common.{◌≡◌, ◌≤◌, ◌+◌, ◌*◌, ◌-◌, ◌%◌, ◌∙◌, ℕ, List, arith, ap, refl, take, drop, length, ints}
 use Rattle.pilot_search.proofs.Common.{length-drop, length-take-le, drop-drop, Sample, correlation}
-use Rattle.pilot_search.proofs.BoundLemmas.{none_added, bound_below, sum_more}
+use Rattle.pilot_search.proofs.BoundLemmas.{none_added, sum_more}
 use Rattle.pilot_search.proofs.trying.sum_unless_below.Goals as goal
 
 pub loop-j-init : goal.loop-j-init
@@ -10,16 +10,6 @@ loop-j-init c = record {
   rest = refl;
   left = omega arith;
 }
-
-pub returns-then-bound_of-limit : goal.returns-then-bound_of-limit
-returns-then-bound_of-limit c =
-    let j = c.loop-j.j in
-    let few : j < 512 =
-    omega (arith, c.loop-j-test.true, c.requires.last, c.requires.samples) in
-    bound_below c.args.samples.now c.args.phase j c.args.limit c.get.result c.bound_of.result
-    c.loop-j.sum c.loop-j.invariant.sum (c.get.ensures.value ∙ c.requires.tails j few)
-    c.bound_of.ensures (omega (arith, c.loop-j-test.true, c.requires.last))
-    c.if-bound_of-limit.true
 
 pub loop-j-preserved : goal.loop-j-preserved
 loop-j-preserved c =

@@ -1,4 +1,4 @@
-use Rattle.std.proofs.Common.{◌≡◌, ◌≢◌, ◌+◌, ◌*◌, ◌<◌, ◌≤◌, ℕ, List, ℤ, get_or, pos, length, refl, sym, ap, ◌∙◌, arith, unsigned_abs}
+use Rattle.std.proofs.Common.{◌≡◌, ◌≢◌, ◌+◌, ◌*◌, ◌<◌, ◌≤◌, ℕ, List, ℤ, get_or, pos, length, sym, ap, ◌∙◌, arith, unsigned_abs}
 use Rattle.std.proofs.lemmas.Int.{ints, fits_signed_from_abs}
 use Rattle.std.proofs.lemmas.List.{get_or-set_other}
 use Rattle.std.specs.Int.{w64}
@@ -29,14 +29,6 @@ overflow_add-out c =
     c.turned_by.ensures.bound in
     let most = soft_bound-most form in
     rw at (fits_signed_from_abs w64 _ (omega (arith, ints, rest, small, bound, most)))
-
-pub loop-symbol-init : goal.loop-symbol-init
-loop-symbol-init c =
-    let first = ap (λ (n : ℕ). n * c.args.window) c.window_symbols.ensures in
-    record {
-      added = λ first_values h. rw first h;
-      rest = λ j le. refl;
-    }
 
 pub loop-symbol-preserved : goal.loop-symbol-preserved
 loop-symbol-preserved c =

@@ -1,27 +1,13 @@
 use Rattle.std.proofs.Common.{◌*◌, arith}
 use Rattle.rake_finger.specs.RowSigns.{sign_lanes}
-use Rattle.rake_finger.proofs.SignedLanes.{near_kept, signed_kept, unit_lanes, units_kept}
+use Rattle.rake_finger.proofs.SignedLanes.{near_kept, signed_kept, unit_lanes}
 use Rattle.rake_finger.proofs.lanes.covered_products.Goals as goal
 
 pub signed_lanes-requires-clause-products : goal.signed_lanes-requires-clause-products
 signed_lanes-requires-clause-products c = near_kept c.args.real c.requires.real
 
-pub signed_lanes-requires-clause-signs : goal.signed_lanes-requires-clause-signs
-signed_lanes-requires-clause-signs c =
-    units_kept c.eight_signs-signs.result (sign_lanes c.args.row.now (8 * c.args.group))
-    c.eight_signs-signs.ensures
-    (unit_lanes c.args.row.now (8 * c.args.group) (omega (arith, c.requires.group))
-    c.requires.units)
-
 pub signed_lanes-requires-2-clause-products : goal.signed_lanes-requires-2-clause-products
 signed_lanes-requires-2-clause-products c = near_kept c.args.imaginary c.requires.imaginary
-
-pub signed_lanes-requires-2-clause-signs : goal.signed_lanes-requires-2-clause-signs
-signed_lanes-requires-2-clause-signs c =
-    units_kept c.eight_signs-signs.result (sign_lanes c.args.row.now (8 * c.args.group))
-    c.eight_signs-signs.ensures
-    (unit_lanes c.args.row.now (8 * c.args.group) (omega (arith, c.requires.group))
-    c.requires.units)
 
 pub returns-clause-real : goal.returns-clause-real
 returns-clause-real c =

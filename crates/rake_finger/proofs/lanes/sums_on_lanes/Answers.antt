@@ -1,15 +1,9 @@
 use Rattle.std.proofs.Common.{◌≤◌, ◌+◌, ◌*◌, ◌/◌, arith, length}
 use Rattle.pilot_search.proofs.LaneLemmas.{kept}
-use Rattle.pilot_search.proofs.LaneSums.{kept_near, near_at, no_sums, products_kept, products_near, sums_kept, sums_whole}
+use Rattle.pilot_search.proofs.LaneSums.{kept_near, products_kept, products_near, sums_kept, sums_whole}
 use Rattle.rake_finger.specs.RowSigns.{covered_signs}
 use Rattle.rake_finger.proofs.SignedLanes.{group_products, length-covered}
 use Rattle.rake_finger.proofs.lanes.sums_on_lanes.Goals as goal
-
-pub loop-k-init : goal.loop-k-init
-loop-k-init c =
-    let xs = c.args.samples.now in
-    let gs = c.args.signs.now in
-    record { plain = no_sums xs gs; covered = no_sums xs (covered_signs c.args.row.now 0 gs) }
 
 pub covered_products-requires-clause-real : goal.covered_products-requires-clause-real
 covered_products-requires-clause-real c =
@@ -21,16 +15,10 @@ covered_products-requires-clause-imaginary c =
     (kept_near c.args.samples.now c.args.signs.now (8 * c.loop-k.k) c.products.result.0
     c.products.result.1 c.products.ensures).imaginary_bound
 
-pub with_products-requires-clause-near : goal.with_products-requires-clause-near
-with_products-requires-clause-near c = c.loop-k.invariant.plain.near
-
 pub with_products-requires-clause-more : goal.with_products-requires-clause-more
 with_products-requires-clause-more c =
     kept_near c.args.samples.now c.args.signs.now (8 * c.loop-k.k) c.products.result.0
     c.products.result.1 c.products.ensures
-
-pub with_products-requires-in-loop-k-clause-near : goal.with_products-requires-in-loop-k-clause-near
-with_products-requires-in-loop-k-clause-near c = c.loop-k.invariant.covered.near
 
 pub with_products-requires-in-loop-k-clause-more : goal.with_products-requires-in-loop-k-clause-more
 with_products-requires-in-loop-k-clause-more c =
@@ -69,16 +57,6 @@ loop-k-preserved c =
           made.result.1 ge c.requires.row_units c.products.ensures made.ensures.real
           made.ensures.imaginary));
     }
-
-pub sum_of_lanes-requires-clause-near : goal.sum_of_lanes-requires-clause-near
-sum_of_lanes-requires-clause-near c =
-    near_at c.loop-k.k _ _ _ (omega (arith, c.loop-k.auto.k-end, c.loop-k-test.false))
-    c.loop-k.invariant.plain.near
-
-pub sum_of_lanes-requires-2-clause-near : goal.sum_of_lanes-requires-2-clause-near
-sum_of_lanes-requires-2-clause-near c =
-    near_at c.loop-k.k _ _ _ (omega (arith, c.loop-k.auto.k-end, c.loop-k-test.false))
-    c.loop-k.invariant.covered.near
 
 pub returns-clause-plain : goal.returns-clause-plain
 returns-clause-plain c =

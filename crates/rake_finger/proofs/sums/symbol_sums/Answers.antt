@@ -1,10 +1,5 @@
 use Rattle.std.proofs.Common.{arith}
-use Rattle.rake_finger.proofs.SignedLanes.{units_of}
 use Rattle.rake_finger.proofs.sums.symbol_sums.Goals as goal
-
-pub unbroken_sums-requires-clause-units : goal.unbroken_sums-requires-clause-units
-unbroken_sums-requires-clause-units c =
-    units_of c.args.finger.now.row c.args.signs.now c.requires.signs
 
 pub returns-clause-sums : goal.returns-clause-sums
 returns-clause-sums c = λ samples held.

@@ -1,5 +1,3 @@
-use Rattle.std.proofs.Common.{ap, ◌∙◌, ℤ, unsigned_abs}
-use Rattle.std.proofs.lemmas.Int.{unsigned_abs-mul}
 use Rattle.rake_finger.proofs.SoftValues.{product_is, product_most}
 use Rattle.rake_finger.proofs.values.product.Goals as goal
 
@@ -7,13 +5,6 @@ pub returns-clause-value : goal.returns-clause-value
 returns-clause-value c =
     product_is c.args.pilot c.args.symbol c.ranges.pilot c.ranges.symbol c.requires.pilot
     c.requires.symbol
-
-pub returns-clause-size : goal.returns-clause-size
-returns-clause-size c =
-    ap (λ (z : ℤ). unsigned_abs z)
-    (product_is c.args.pilot c.args.symbol c.ranges.pilot c.ranges.symbol c.requires.pilot
-    c.requires.symbol)
-    ∙ unsigned_abs-mul c.args.pilot c.args.symbol
 
 pub returns-clause-most : goal.returns-clause-most
 returns-clause-most c =

@@ -1,6 +1,6 @@
-use Rattle.std.proofs.Common.{◌≡◌, ◌+◌, ◌*◌, ◌<◌, ◌≤◌, ◌∙◌, ℕ, ap, arith, refl}
+use Rattle.std.proofs.Common.{◌≡◌, ◌+◌, ◌*◌, ◌<◌, ◌≤◌, ◌∙◌, ℕ, ap, arith}
 use Rattle.std.specs.Prelude.{unsigned_abs}
-use Rattle.std.proofs.lemmas.List.{length-replicate, length-set}
+use Rattle.std.proofs.lemmas.List.{length-set}
 use Rattle.chip_core.specs.Complex.{origin, sum_of}
 use Rattle.chip_core.specs.declared.sample.Pair.{Pair}
 use Rattle.walsh.specs.Walsh.{IsWithin}
@@ -10,40 +10,6 @@ use Rattle.rake_finger.proofs.SoftValues.{symbol_is}
 use Rattle.rake_finger.proofs.WindowSums.{bound_kept, chips_more, entry_more, most_symbols, pilot_more, pilot_whole, sum_fits, sum_kept}
 use Rattle.rake_finger.proofs.WindowSums.{symbol_held, symbol_place, whole_symbols}
 use Rattle.rake_finger.proofs.windows.window_sums.Goals as goal
-
-pub symbol_sums-sums-requires-clause-held : goal.symbol_sums-sums-requires-clause-held
-symbol_sums-sums-requires-clause-held c =
-    let form = c.args.form in
-    let k = c.loop-k.k in
-    let chips = c.symbol_chips-chips.ensures in
-    let far = ap (λ (n : ℕ). n * k) chips in
-    let wide = ap (λ (n : ℕ). n * c.args.window) c.window_chips.ensures in
-    rw chips
-    (symbol_held c.args.ring.now c.args.finger.now form c.args.start c.args.window k _
-    c.requires.ring c.requires.window (omega (arith, c.loop-k-test.true, c.window_symbols-k-end.ensures))
-    (omega (arith, far, wide)))
-
-pub loop-k-init : goal.loop-k-init
-loop-k-init c =
-    let form = c.args.form in
-    let none : symbol_chips form * 0 ≡ 0 = omega arith in
-    record {
-      pilot = λ samples held. rw none refl;
-      symbols = λ samples held j lt. absurd (omega (arith, lt));
-      pilot_i = omega arith;
-      pilot_q = omega arith;
-      small = λ j lt. absurd (omega (arith, lt));
-      long = length-replicate 24 origin;
-    }
-
-pub overflow_add-pilot : goal.overflow_add-pilot
-overflow_add-pilot c =
-    let form = c.args.form in
-    let sums = c.symbol_sums-sums in
-    let chips = c.symbol_chips-chips.ensures in
-    sum_fits form c.loop-k.k c.loop-k.pilot.i sums.result.plain.i
-    (omega (arith, c.loop-k-test.true, c.window_symbols-k-end.ensures))
-    c.loop-k.invariant.pilot_i (omega (arith, chips, sums.ensures.small.plain.0))
 
 pub overflow_add-pilot-in-loop-k : goal.overflow_add-pilot-in-loop-k
 overflow_add-pilot-in-loop-k c =
@@ -129,27 +95,3 @@ returns-clause-pilot c = λ samples held.
     (whole_symbols form c.loop-k.k
     (omega (arith, c.loop-k-test.false, c.loop-k.auto.k-end, c.window_symbols-k-end.ensures)))
     (omega (arith, wide))
-
-pub returns-clause-symbols : goal.returns-clause-symbols
-returns-clause-symbols c = λ samples held k lt.
-    c.loop-k.invariant.symbols samples held k
-    (omega (arith, lt, c.loop-k-test.false, c.loop-k.auto.k-end, c.window_symbols-k-end.ensures))
-
-pub returns-clause-small : goal.returns-clause-small
-returns-clause-small c = λ k lt.
-    c.loop-k.invariant.small k
-    (omega (arith, lt, c.loop-k-test.false, c.loop-k.auto.k-end, c.window_symbols-k-end.ensures))
-
-pub returns-clause-pilot_i : goal.returns-clause-pilot_i
-returns-clause-pilot_i c =
-    let all =
-    whole_symbols c.args.form c.loop-k.k
-    (omega (arith, c.loop-k-test.false, c.loop-k.auto.k-end, c.window_symbols-k-end.ensures)) in
-    rw all at c.loop-k.invariant.pilot_i
-
-pub returns-clause-pilot_q : goal.returns-clause-pilot_q
-returns-clause-pilot_q c =
-    let all =
-    whole_symbols c.args.form c.loop-k.k
-    (omega (arith, c.loop-k-test.false, c.loop-k.auto.k-end, c.window_symbols-k-end.ensures)) in
-    rw all at c.loop-k.invariant.pilot_q
