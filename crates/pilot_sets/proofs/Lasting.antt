@@ -1,47 +1,34 @@
 -- What lasts over any sequence of calls.
-use Rattle.pilot_sets.proofs.Common.{◌≡◌, ◌≢◌, ◌<◌, ◌≤◌, ◌-◌, ℕ, Bool, true, false, cond, if◌then◌else◌, ◌&&◌, ◌==◌, not, List, [], ◌∷◌}
-use Rattle.pilot_sets.proofs.Common.{◌++◌, length, map, filter, take, nat_lt, suc, Option, Some, None, refl, ap, sym, ◌∙◌, subst, arith}
-use Rattle.pilot_sets.proofs.Common.{length-append, length-map, length-take, ne_eqb, eq-eqb, ltb-true, All-head, All-tail, All}
+use Rattle.pilot_sets.proofs.Common.{◌≡◌, ◌≢◌, ◌<◌, ◌≤◌, ◌-◌, ℕ, Bool, true, false, cond, if◌then◌else◌, List, [], ◌∷◌}
+use Rattle.pilot_sets.proofs.Common.{◌++◌, length, map, filter, take, suc, Option, Some, None, refl, ap, sym, ◌∙◌, subst, arith}
+use Rattle.pilot_sets.proofs.Common.{length-append, length-map, length-take, ne_eqb, eq-eqb, All-head, All-tail, All}
 use Rattle.pilot_sets.proofs.Common.{DirectionFields, lacks, without, firsts, timed_pilots, IsDirection, direction_fault, named_pilots}
-use Rattle.pilot_sets.proofs.Common.{accepted_of, is_expired, pilots_named, actives_without, fresh, left, all_left, cleared, handed_off}
+use Rattle.pilot_sets.proofs.Common.{accepted_of, pilots_named, actives_without, fresh, left, all_left, cleared, handed_off}
 use Rattle.pilot_sets.proofs.Common.{energy_in, active_timed, candidate_timed, timed, stays, pilots_going, rises, dropped, moving_up}
 use Rattle.pilot_sets.proofs.Common.{measured, IsActiveSetIfAny, IsOrderly, Standing, new_standing, unless_refused, directed, began_in}
 use Rattle.pilot_sets.proofs.Common.{due_for, due_at, Call, after, after_all, IsLawful, AreApart, LeavesWaiting, Parameters, Neighbors}
 use Rattle.pilot_sets.proofs.Common.{Direct, Due, Step, DirectionFault, ActivePilot, CandidatePilot, Accepted, PilotSets}
 use Rattle.pilot_sets.proofs.Refusals.{accepted_few}
+use Rattle.pilot_sets.proofs.Steps.{left_is, due_is, directed_is}
 use Rattle.pilot_sets.proofs.Times.{once_at_most}
 use Rattle.pilot_sets.proofs.Orders.{new_orderly, neighbors_orderly, thresholds_orderly, waiting_orderly, accepted_active_set}
-use Rattle.pilot_sets.proofs.Orders.{handed_off_orderly, measured_orderly, length-after, all_left-waiting}
+use Rattle.pilot_sets.proofs.Orders.{handed_off_orderly, measured_orderly, length-after, handed_off-waiting}
 
 -- IN ORDER
-pub due_orderly : (waiting : Option Accepted) (time : ℕ) (s : Standing) → IsOrderly s.sets →
-    IsActiveSetIfAny waiting → IsOrderly (due_for waiting time s).sets
-due_orderly None time s h named = h
-due_orderly (Some direction) time s h named = go (direction.time == time)
-  where
-    go : (b : Bool) →
-        IsOrderly (if b
-        then record s { sets = handed_off time direction s.sets; began = Some (began_in s) }
-        else s).sets
-    go true = handed_off_orderly time direction s.sets h named
-    go false = h
-
-pub directed_orderly : (first : ℕ) (d : DirectionFields) (s : Standing) → IsDirection d →
+directed_orderly : (first : ℕ) (d : DirectionFields) (s : Standing) → IsDirection d →
     IsOrderly s.sets → IsOrderly (directed first d s).sets
-directed_orderly first d s lawful h = go (direction_fault d) refl
-  where
-    go : (fault : Option DirectionFault) → direction_fault d ≡ fault →
-        IsOrderly (unless_refused fault (accepted_of first d) s).sets
-    go None e =
-        waiting_orderly (accepted_of first d) s.sets (accepted_active_set first d lawful e) h
-    go (Some fault) e = h
+directed_orderly first d s lawful h =
+    directed_is IsOrderly first d s
+    (λ e. waiting_orderly (accepted_of first d) s.sets (accepted_active_set first d lawful e) h) h
 
 orderly_after : (call : Call) (s : Standing) → IsLawful call → IsOrderly s.sets →
     IsOrderly (after call s).sets
 orderly_after (Parameters t) s lawful h = thresholds_orderly t s.sets h
 orderly_after (Neighbors heard) s lawful h = neighbors_orderly heard s.sets lawful h
 orderly_after (Direct first d) s lawful h = directed_orderly first d s lawful h
-orderly_after (Due time) s lawful h = due_orderly s.sets.waiting time s h h.waiting
+orderly_after (Due time) s lawful h =
+    due_is IsOrderly s.sets.waiting time s
+    (λ direction is. handed_off_orderly time direction s.sets h (subst IsActiveSetIfAny is h.waiting)) h
 orderly_after (Step strengths power time) s lawful h =
     measured_orderly (energy_in strengths) power time (began_in s).neighbors s.sets h
 
@@ -75,38 +62,13 @@ length-named (p ∷ ps) [] rs = omega arith
 length-named (p ∷ ps) (c ∷ cs) [] = omega arith
 length-named (p ∷ ps) (c ∷ cs) (r ∷ rs) = omega (arith, length-named ps cs rs)
 
-abbrev left_is : ActivePilot → PilotSets → Bool → Bool → Bool → PilotSets
-left_is a s has_room runs is_free =
-    if has_room && runs then record s { candidates = s.candidates ++ fresh a.pilot ∷ [] }
-    else if is_free then record s { neighbors = s.neighbors ++ a.pilot ∷ [] } else s
-
 left_few : (time : ℕ) (a : ActivePilot) (s : PilotSets) → length s.candidates ≤ 10 →
     length s.neighbors ≤ 20 →
     (length (left time a s).candidates ≤ 10) × (length (left time a s).neighbors ≤ 20)
 left_few time a s few some =
-    go (nat_lt (length s.candidates) 10) (not (is_expired s.thresholds time a.timer))
-    (nat_lt (length s.neighbors) 20) refl refl
-  where
-    go : (b e c : Bool) → nat_lt (length s.candidates) 10 ≡ b → nat_lt (length s.neighbors) 20 ≡ c →
-        (length (left_is a s b e c).candidates ≤ 10) × (length (left_is a s b e c).neighbors ≤ 20)
-    go true true c h k = (
-      omega (
-        arith,
-        ltb-true (length s.candidates) 10 h,
-        length-append s.candidates (fresh a.pilot ∷ []),
-      ),
-      some,
-    )
-    go true false true h k = (
-      few,
-      omega (arith, ltb-true (length s.neighbors) 20 k, length-append s.neighbors (a.pilot ∷ [])),
-    )
-    go true false false h k = (few, some)
-    go false e true h k = (
-      few,
-      omega (arith, ltb-true (length s.neighbors) 20 k, length-append s.neighbors (a.pilot ∷ [])),
-    )
-    go false e false h k = (few, some)
+    left_is (λ (t : PilotSets). (length t.candidates ≤ 10) × (length t.neighbors ≤ 20)) time a s
+    (λ free. (omega (arith, free, length-append s.candidates (fresh a.pilot ∷ [])), some))
+    (λ free. (few, omega (arith, free, length-append s.neighbors (a.pilot ∷ [])))) (few, some)
 
 all_left_few : (time : ℕ) (xs : List ActivePilot) (s : PilotSets) → length s.candidates ≤ 10 →
     length s.neighbors ≤ 20 →
@@ -122,7 +84,7 @@ handed_off_few time direction s h few = record {
   active = omega (arith, length-after s.active 0 direction.named, few);
   candidates = others.0;
   neighbors = others.1;
-  waiting = subst IsFewIfAny (sym nothing) tt;
+  waiting = subst IsFewIfAny (sym (handed_off-waiting time direction s)) tt;
 }
   where
     others : (length (handed_off time direction s).candidates ≤ 10)
@@ -142,40 +104,16 @@ handed_off_few time direction s h few = record {
           length-filter_le (lacks (pilots_named direction.named)) s.neighbors,
         ))
 
-    nothing : (handed_off time direction s).waiting ≡ None
-    nothing =
-        all_left-waiting time (actives_without (pilots_named direction.named) s.active)
-        (cleared direction s)
-
-due_few : (waiting : Option Accepted) (time : ℕ) (s : Standing) → AreFew s.sets →
-    IsFewIfAny waiting → AreFew (due_for waiting time s).sets
-due_few None time s h named = h
-due_few (Some direction) time s h named = go (direction.time == time)
-  where
-    go : (b : Bool) →
-        AreFew (if b
-        then record s { sets = handed_off time direction s.sets; began = Some (began_in s) }
-        else s).sets
-    go true = handed_off_few time direction s.sets h named
-    go false = h
-
 directed_few : (first : ℕ) (d : DirectionFields) (s : Standing) → AreFew s.sets →
     AreFew (directed first d s).sets
-directed_few first d s h = go (direction_fault d) refl
-  where
-    go : (fault : Option DirectionFault) → direction_fault d ≡ fault →
-        AreFew (unless_refused fault (accepted_of first d) s).sets
-    go None e = record {
+directed_few first d s h =
+    directed_is AreFew first d s
+    (λ e. record {
       active = h.active;
       candidates = h.candidates;
       neighbors = h.neighbors;
-      waiting = omega (
-        arith,
-        length-named d.pns d.combs d.rows,
-        accepted_few d.pns d.rows e,
-      );
-    }
-    go (Some fault) e = h
+      waiting = omega (arith, length-named d.pns d.combs d.rows, accepted_few d.pns d.rows e);
+    }) h
 
 dropped_few : (energy : ℕ → ℕ) (power time : ℕ) (s : PilotSets) → length s.candidates ≤ 10 →
     length (dropped energy power time s).candidates ≤ 10
@@ -233,7 +171,9 @@ few_after (Neighbors heard) s h = record {
   waiting = h.waiting;
 }
 few_after (Direct first d) s h = directed_few first d s h
-few_after (Due time) s h = due_few s.sets.waiting time s h h.waiting
+few_after (Due time) s h =
+    due_is AreFew s.sets.waiting time s
+    (λ direction is. handed_off_few time direction s.sets h (subst IsFewIfAny is h.waiting)) h
 few_after (Step strengths power time) s h =
     measured_few (energy_in strengths) power time (began_in s).neighbors s.sets h
 
@@ -263,11 +203,6 @@ sets_stay_apart pilot row calls offset on_row lawful =
     })
 
 -- A DIRECTION WAITS
-pub accepted_waits : (first : ℕ) (d : DirectionFields) (s : Standing) → direction_fault d ≡ None →
-    (directed first d s).sets.waiting ≡ Some (accepted_of first d)
-accepted_waits first d s e =
-    ap (λ f. (unless_refused f (accepted_of first d) s).sets.waiting) e
-
 pub refused_same : (first : ℕ) (d : DirectionFields) (fault : DirectionFault) (s : Standing) →
     direction_fault d ≡ Some fault → directed first d s ≡ s
 refused_same first d fault s e = ap (λ f. unless_refused f (accepted_of first d) s) e

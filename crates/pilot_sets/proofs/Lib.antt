@@ -8,5 +8,6 @@ pub mod Ratios
 pub mod Refusals
 pub mod Rows
 pub mod Running
+pub mod Steps
 pub mod Times
 pub mod Within

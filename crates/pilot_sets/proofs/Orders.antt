@@ -1,6 +1,6 @@
 -- What keeps the sets in order.
-use Rattle.pilot_sets.proofs.Common.{◌≡◌, ◌<◌, ◌≤◌, ◌+◌, ◌-◌, ℕ, Bool, true, false, not, cond, if◌then◌else◌, ◌&&◌, List, [], ◌∷◌, ◌++◌}
-use Rattle.pilot_sets.proofs.Common.{length, map, filter, nat_eq, nat_lt, Some, None, refl, ap, sym, ◌∙◌, subst, arith, length-map}
+use Rattle.pilot_sets.proofs.Common.{◌≡◌, ◌<◌, ◌≤◌, ◌+◌, ◌-◌, ℕ, Bool, true, false, not, cond, List, [], ◌∷◌, ◌++◌}
+use Rattle.pilot_sets.proofs.Common.{length, map, filter, nat_eq, nat_lt, Some, None, refl, ap, sym, ◌∙◌, subst, arith, length-map, map-append}
 use Rattle.pilot_sets.proofs.Common.{ltb-false, All-nil, All-cons, All, has, lacks, without, firsts, active_pilots, candidate_pilots}
 use Rattle.pilot_sets.proofs.Common.{timed_pilots, pilots, pilots_of_actives, pilots_of_candidates, new_sets, neighbors_heard}
 use Rattle.pilot_sets.proofs.Common.{thresholds_heard, IsDirection, direction_fault, named_pilots, accepted_of, is_expired, pilots_named}
@@ -9,22 +9,18 @@ use Rattle.pilot_sets.proofs.Common.{active_timed, candidate_timed, timed, goes,
 use Rattle.pilot_sets.proofs.Common.{measured, times, times_in, places_for, IsOnceEach, IsActiveSet, IsActiveSetIfAny, IsOrderly}
 use Rattle.pilot_sets.proofs.Common.{DirectionFields, Thresholds, ActivePilot, CandidatePilot, NamedPilot, Accepted, PilotSets}
 use Rattle.pilot_sets.proofs.Refusals.{accepted_few, accepted_known, accepted_once}
+use Rattle.pilot_sets.proofs.Steps.{left_is}
 use Rattle.pilot_sets.proofs.Rows.{one_row, named_rows, rows_after, timed_rows}
 use Rattle.pilot_sets.proofs.Times.{times-append, times-take, times-filter, times-missing, times-left_out, firsts_once, firsts_within}
 use Rattle.pilot_sets.proofs.Times.{firsts_all, times-offsets, once_each, offsets_of}
 
 -- THE PILOTS OF A SET
-pilots-timed_actives : (energy : ℕ → ℕ) (k power time : ℕ) (xs : List ActivePilot) →
-    pilots_of_actives (map (active_timed energy k power time) xs) ≡ pilots_of_actives xs
-pilots-timed_actives energy k power time [] = refl
-pilots-timed_actives energy k power time (a ∷ xs) =
-    ap (λ l. a.pilot ∷ l) (pilots-timed_actives energy k power time xs)
-
-pilots-timed_candidates : (energy : ℕ → ℕ) (k power time : ℕ) (xs : List CandidatePilot) →
-    pilots_of_candidates (map (candidate_timed energy k power time) xs) ≡ pilots_of_candidates xs
-pilots-timed_candidates energy k power time [] = refl
-pilots-timed_candidates energy k power time (c ∷ xs) =
-    ap (λ l. c.pilot ∷ l) (pilots-timed_candidates energy k power time xs)
+pilots-kept : {X : Type 0} (pilot_in : X → ℕ) (f : X → X) → ((x : X) → pilot_in (f x) ≡ pilot_in x) →
+    (xs : List X) → map pilot_in (map f xs) ≡ map pilot_in xs
+pilots-kept pilot_in f same [] = refl
+pilots-kept pilot_in f same (x ∷ xs) =
+    ap (λ p. p ∷ map pilot_in (map f xs)) (same x)
+    ∙ ap (λ l. pilot_in x ∷ l) (pilots-kept pilot_in f same xs)
 
 pilots-fresh : (xs : List ℕ) → pilots_of_candidates (map fresh xs) ≡ xs
 pilots-fresh [] = refl
@@ -32,39 +28,20 @@ pilots-fresh (x ∷ xs) = ap (λ l. x ∷ l) (pilots-fresh xs)
 
 pilots-append : (xs ys : List CandidatePilot) →
     pilots_of_candidates (xs ++ ys) ≡ pilots_of_candidates xs ++ pilots_of_candidates ys
-pilots-append [] ys = refl
-pilots-append (x ∷ xs) ys = ap (λ l. x.pilot ∷ l) (pilots-append xs ys)
+pilots-append = map-append (λ (c : CandidatePilot). c.pilot)
 
-candidates-filter : (t : ℕ → Bool) (xs : List CandidatePilot) →
-    pilots_of_candidates (filter (λ (c : CandidatePilot). t c.pilot) xs)
-    ≡ filter t (pilots_of_candidates xs)
-candidates-filter t [] = refl
-candidates-filter t (c ∷ xs) = go (t c.pilot) (candidates-filter t xs)
+pilots-filter : {X : Type 0} (pilot_in : X → ℕ) (t : ℕ → Bool) (xs : List X) →
+    map pilot_in (filter (λ x. t (pilot_in x)) xs) ≡ filter t (map pilot_in xs)
+pilots-filter pilot_in t [] = refl
+pilots-filter {X} pilot_in t (x ∷ xs) = go (t (pilot_in x)) (pilots-filter pilot_in t xs)
   where
-    go : (b : Bool) →
-        pilots_of_candidates (filter (λ (c : CandidatePilot). t c.pilot) xs)
-        ≡ filter t (pilots_of_candidates xs) →
-        pilots_of_candidates
-        (cond b (c ∷ filter (λ (c : CandidatePilot). t c.pilot) xs)
-        (filter (λ (c : CandidatePilot). t c.pilot) xs))
-        ≡ cond b (c.pilot ∷ filter t (pilots_of_candidates xs)) (filter t (pilots_of_candidates xs))
-    go true ih = ap (λ l. c.pilot ∷ l) ih
-    go false ih = ih
+    kept : List X
+    kept = filter (λ y. t (pilot_in y)) xs
 
-actives-filter : (t : ℕ → Bool) (xs : List ActivePilot) →
-    pilots_of_actives (filter (λ (a : ActivePilot). t a.pilot) xs)
-    ≡ filter t (pilots_of_actives xs)
-actives-filter t [] = refl
-actives-filter t (a ∷ xs) = go (t a.pilot) (actives-filter t xs)
-  where
-    go : (b : Bool) →
-        pilots_of_actives (filter (λ (a : ActivePilot). t a.pilot) xs)
-        ≡ filter t (pilots_of_actives xs) →
-        pilots_of_actives
-        (cond b (a ∷ filter (λ (a : ActivePilot). t a.pilot) xs)
-        (filter (λ (a : ActivePilot). t a.pilot) xs))
-        ≡ cond b (a.pilot ∷ filter t (pilots_of_actives xs)) (filter t (pilots_of_actives xs))
-    go true ih = ap (λ l. a.pilot ∷ l) ih
+    go : (b : Bool) → map pilot_in kept ≡ filter t (map pilot_in xs) →
+        map pilot_in (cond b (x ∷ kept) kept)
+        ≡ cond b (pilot_in x ∷ filter t (map pilot_in xs)) (filter t (map pilot_in xs))
+    go true ih = ap (λ l. pilot_in x ∷ l) ih
     go false ih = ih
 
 -- those that stay and those that go are all of them
@@ -235,35 +212,18 @@ length-after old subchannel (n ∷ named) =
 left_le : (p time : ℕ) (a : ActivePilot) (s : PilotSets) →
     lower p (left time a s) ≤ lower p s + cond (nat_eq p a.pilot) 1 0
 left_le p time a s =
-    go (nat_lt (length s.candidates) 10 && not (is_expired s.thresholds time a.timer))
-    (nat_lt (length s.neighbors) 20)
-  where
-    go : (b c : Bool) →
-        lower p (
-        if b then record s { candidates = s.candidates ++ fresh a.pilot ∷ [] }
-        else if c then record s { neighbors = s.neighbors ++ a.pilot ∷ [] } else s
-        )
-        ≤ lower p s + cond (nat_eq p a.pilot) 1 0
-    go true c = omega (
+    left_is (λ (t : PilotSets). lower p t ≤ lower p s + cond (nat_eq p a.pilot) 1 0) time a s
+    (λ free. omega (
       arith,
       ap (times p) (pilots-append s.candidates (fresh a.pilot ∷ [])),
       times-append p (candidate_pilots s) (a.pilot ∷ []),
-    )
-    go false true = omega (arith, times-append p s.neighbors (a.pilot ∷ []))
-    go false false = omega arith
+    ))
+    (λ free. omega (arith, times-append p s.neighbors (a.pilot ∷ [])))
+    (omega arith)
 
 left-waiting : (time : ℕ) (a : ActivePilot) (s : PilotSets) → (left time a s).waiting ≡ s.waiting
 left-waiting time a s =
-    go (nat_lt (length s.candidates) 10 && not (is_expired s.thresholds time a.timer))
-    (nat_lt (length s.neighbors) 20)
-  where
-    go : (b c : Bool) →
-        (if b then record s { candidates = s.candidates ++ fresh a.pilot ∷ [] }
-        else if c then record s { neighbors = s.neighbors ++ a.pilot ∷ [] } else s).waiting
-        ≡ s.waiting
-    go true c = refl
-    go false true = refl
-    go false false = refl
+    left_is (λ (t : PilotSets). t.waiting ≡ s.waiting) time a s (λ free. refl) (λ free. refl) refl
 
 all_left_le : (p time : ℕ) (xs : List ActivePilot) (s : PilotSets) →
     lower p (all_left time xs s) ≤ lower p s + times p (pilots_of_actives xs)
@@ -271,7 +231,7 @@ all_left_le p time [] s = omega arith
 all_left_le p time (a ∷ xs) s =
     omega (arith, all_left_le p time xs (left time a s), left_le p time a s)
 
-pub all_left-waiting : (time : ℕ) (xs : List ActivePilot) (s : PilotSets) →
+all_left-waiting : (time : ℕ) (xs : List ActivePilot) (s : PilotSets) →
     (all_left time xs s).waiting ≡ s.waiting
 all_left-waiting time [] s = refl
 all_left-waiting time (a ∷ xs) s =
@@ -289,12 +249,15 @@ handed_off_once p time direction s once each = go (has (pilots_named direction.n
     candidates_are : times p (candidate_pilots (cleared direction s))
         ≡ times p (filter (lacks (pilots_named direction.named)) (candidate_pilots s))
     candidates_are =
-        ap (times p) (candidates-filter (lacks (pilots_named direction.named)) s.candidates)
+        ap (times p)
+        (pilots-filter (λ (c : CandidatePilot). c.pilot) (lacks (pilots_named direction.named)) s.candidates)
 
     leaving_are :
         times p (pilots_of_actives (actives_without (pilots_named direction.named) s.active))
         ≡ times p (filter (lacks (pilots_named direction.named)) (active_pilots s))
-    leaving_are = ap (times p) (actives-filter (lacks (pilots_named direction.named)) s.active)
+    leaving_are =
+        ap (times p)
+        (pilots-filter (λ (a : ActivePilot). a.pilot) (lacks (pilots_named direction.named)) s.active)
 
     total : times_in p (handed_off time direction s)
         ≤ times p (pilots_named direction.named)
@@ -330,19 +293,20 @@ handed_off_once p time direction s once each = go (has (pilots_named direction.n
       times-filter p (lacks (pilots_named direction.named)) (active_pilots s),
     )
 
+pub handed_off-waiting : (time : ℕ) (direction : Accepted) (s : PilotSets) →
+    (handed_off time direction s).waiting ≡ None
+handed_off-waiting time direction s =
+    all_left-waiting time (actives_without (pilots_named direction.named) s.active)
+    (cleared direction s)
+
 pub handed_off_orderly : (time : ℕ) (direction : Accepted) (s : PilotSets) → IsOrderly s →
     IsActiveSet direction.named → IsOrderly (handed_off time direction s)
 handed_off_orderly time direction s h named = record {
   some = omega (arith, length-after s.active 0 direction.named, named.some);
   once = λ p. handed_off_once p time direction s (h.once p) named.once;
   rows = rows_after s.active 0 direction.named named.rows (omega (arith, named.few));
-  waiting = subst IsActiveSetIfAny (sym nothing) tt;
+  waiting = subst IsActiveSetIfAny (sym (handed_off-waiting time direction s)) tt;
 }
-  where
-    nothing : (handed_off time direction s).waiting ≡ None
-    nothing =
-        all_left-waiting time (actives_without (pilots_named direction.named) s.active)
-        (cleared direction s)
 
 -- A MOMENT
 expired_le : (p time : ℕ) (s : PilotSets) → lower p (expired_moved time s) ≤ lower p s
@@ -386,9 +350,11 @@ timed_same : (p : ℕ) (energy : ℕ → ℕ) (power time : ℕ) (s : PilotSets)
 timed_same p energy power time s =
     ap (λ l. times p l
     + (times p (candidate_pilots (timed energy power time s)) + times p s.neighbors))
-    (pilots-timed_actives energy s.thresholds.t_drop power time s.active)
+    (pilots-kept (λ (a : ActivePilot). a.pilot) (active_timed energy s.thresholds.t_drop power time)
+    (λ a. refl) s.active)
     ∙ ap (λ l. times p (active_pilots s) + (times p l + times p s.neighbors))
-    (pilots-timed_candidates energy s.thresholds.t_drop power time s.candidates)
+    (pilots-kept (λ (c : CandidatePilot). c.pilot) (candidate_timed energy s.thresholds.t_drop power time)
+    (λ c. refl) s.candidates)
 
 measured_le : (p : ℕ) (energy : ℕ → ℕ) (power time : ℕ) (began : List ℕ) (s : PilotSets) →
     times_in p (measured energy power time began s) ≤ times_in p s

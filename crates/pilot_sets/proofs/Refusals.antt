@@ -1,7 +1,7 @@
 -- Why a direction is refused, case by case.
 use Rattle.pilot_sets.proofs.Common.{◌≡◌, ◌<◌, ◌≤◌, ℕ, Bool, true, false, List, [], length, Option, Some, None, nat_lt, refl, sym, ◌∙◌}
 use Rattle.pilot_sets.proofs.Common.{arith, lt-ltb, ltb-true, ltb-false, find, is_unknown_row, first_repeated, fault_of, unknown_or_twice}
-use Rattle.pilot_sets.proofs.Common.{TooMany, Unknown, Twice}
+use Rattle.pilot_sets.proofs.Common.{TooMany, Unknown}
 
 pub some_none : {X : Type 0} {x : X} → Some x ≡ None → ⊥
 some_none e = cc
@@ -24,14 +24,6 @@ few pns rows within = go (nat_lt 6 (length pns)) refl
 pub unknown : (pns rows : List ℕ) → length pns ≤ 6 → (row : ℕ) →
     find is_unknown_row rows ≡ Some row → Some (Unknown row) ≡ fault_of pns rows
 unknown pns rows within row found = sym (few pns rows within ∙ rw found refl)
-
-pub named_twice : (pns rows : List ℕ) → length pns ≤ 6 → find is_unknown_row rows ≡ None →
-    (pilot : ℕ) → first_repeated [] pns ≡ Some pilot → Some (Twice pilot) ≡ fault_of pns rows
-named_twice pns rows within none pilot again = sym (few pns rows within ∙ rw (none, again) refl)
-
-pub not_refused : (pns rows : List ℕ) → length pns ≤ 6 → find is_unknown_row rows ≡ None →
-    first_repeated [] pns ≡ None → None ≡ fault_of pns rows
-not_refused pns rows within none once = sym (few pns rows within ∙ rw (none, once) refl)
 
 -- a direction that isn't refused has at most six records
 pub accepted_few : (pns rows : List ℕ) → fault_of pns rows ≡ None → length pns ≤ 6

@@ -1,14 +1,15 @@
 -- Which timers run behind a call.
-use Rattle.pilot_sets.proofs.Common.{◌≡◌, ℕ, Bool, true, false, cond, if◌then◌else◌, ◌&&◌, ◌||◌, ◌==◌, not, ◌⊎◌, inl, inr, List, [], ◌∷◌}
-use Rattle.pilot_sets.proofs.Common.{◌++◌, length, map, filter, nat_lt, nat_eq, Option, Some, None, unwrap_or, refl, ap, sym, ◌∙◌, eqb-true}
-use Rattle.pilot_sets.proofs.Common.{eq-eqb, list_any-append, DirectionFields, has, lacks, active_pilots, candidate_pilots, timed_pilots}
-use Rattle.pilot_sets.proofs.Common.{pilots_of_actives, pilots_of_candidates, direction_fault, accepted_of, is_strong, is_expired}
+use Rattle.pilot_sets.proofs.Common.{◌≡◌, ℕ, Bool, true, false, cond, if◌then◌else◌, ◌||◌, ◌⊎◌, ⊎_elim, inl, inr, List, [], ◌∷◌}
+use Rattle.pilot_sets.proofs.Common.{◌++◌, map, filter, nat_eq, Option, Some, None, unwrap_or, refl, ap, sym, ◌∙◌, eqb-true, map-append, subst}
+use Rattle.pilot_sets.proofs.Common.{eq-eqb, list_any-append, has, lacks, active_pilots, candidate_pilots, timed_pilots}
+use Rattle.pilot_sets.proofs.Common.{is_strong}
 use Rattle.pilot_sets.proofs.Common.{timer_after, pilots_named, actives_without, timer_of, next_subchannel, actives_after, fresh, left}
 use Rattle.pilot_sets.proofs.Common.{all_left, cleared, handed_off, energy_in, active_timed, candidate_timed, timed, stays, dropped}
-use Rattle.pilot_sets.proofs.Common.{moving_up, measured, Standing, unless_refused, began_in, due_for, Call, after, active_timers}
-use Rattle.pilot_sets.proofs.Common.{candidate_timers, IsAmong, RunsSince, Starts, Parameters, Neighbors, Direct, Due, Step, DirectionFault}
+use Rattle.pilot_sets.proofs.Common.{moving_up, measured, Standing, began_in, due_for, Call, after, active_timers}
+use Rattle.pilot_sets.proofs.Common.{candidate_timers, IsAmong, RunsSince, Starts, Parameters, Neighbors, Direct, Due, Step}
 use Rattle.pilot_sets.proofs.Common.{ActivePilot, CandidatePilot, NamedPilot, Accepted, PilotSets}
 use Rattle.pilot_sets.proofs.Refusals.{some_none}
+use Rattle.pilot_sets.proofs.Steps.{left_is, due_is, directed_is}
 
 -- LISTS OF TIMERS
 among-append : (x : ℕ × Option ℕ) (xs ys : List (ℕ × Option ℕ)) → IsAmong x (xs ++ ys) →
@@ -31,18 +32,17 @@ among_right : (x : ℕ × Option ℕ) (xs ys : List (ℕ × Option ℕ)) → IsA
 among_right x [] ys h = h
 among_right x (y ∷ xs) ys h = inr (among_right x xs ys h)
 
+-- what is known of a timer that hasn't started now
+or_now : {A B : Type 0} {start time : ℕ} → (A → B) → A ⊎ (start ≡ time) → B ⊎ (start ≡ time)
+or_now before (inl a) = inl (before a)
+or_now before (inr now) = inr now
+
 candidates-append : (x : ℕ × Option ℕ) (xs ys : List CandidatePilot) →
     IsAmong x (candidate_timers (xs ++ ys)) →
     IsAmong x (candidate_timers xs) ⊎ IsAmong x (candidate_timers ys)
-candidates-append x [] ys h = inr h
-candidates-append x (c ∷ xs) ys (inl e) = inl (inl e)
-candidates-append x (c ∷ xs) ys (inr h) = go (candidates-append x xs ys h)
-  where
-    go : IsAmong x (candidate_timers xs) ⊎ IsAmong x (candidate_timers ys) →
-        ((x ≡ (c.pilot, c.timer)) ⊎ IsAmong x (candidate_timers xs))
-        ⊎ IsAmong x (candidate_timers ys)
-    go (inl h) = inl (inr h)
-    go (inr h) = inr h
+candidates-append x xs ys h =
+    among-append x (candidate_timers xs) (candidate_timers ys)
+    (subst (IsAmong x) (map-append (λ (c : CandidatePilot). (c.pilot, c.timer)) xs ys) h)
 
 candidates-filter : (x : ℕ × Option ℕ) (test : CandidatePilot → Bool) (xs : List CandidatePilot) →
     IsAmong x (candidate_timers (filter test xs)) → IsAmong x (candidate_timers xs)
@@ -97,26 +97,12 @@ after_among pilot start old subchannel (n ∷ named) (inr h) =
 left_among : (pilot start time : ℕ) (a : ActivePilot) (s : PilotSets) →
     IsAmong (pilot, Some start) (candidate_timers (left time a s).candidates) →
     IsAmong (pilot, Some start) (candidate_timers s.candidates)
-left_among pilot start time a s h =
-    go (nat_lt (length s.candidates) 10 && not (is_expired s.thresholds time a.timer))
-    (nat_lt (length s.neighbors) 20) h
-  where
-    new : IsAmong (pilot, Some start) (candidate_timers s.candidates)
-        ⊎ IsAmong (pilot, Some start) (candidate_timers (fresh a.pilot ∷ [])) →
-        IsAmong (pilot, Some start) (candidate_timers s.candidates)
-    new (inl h) = h
-    new (inr h) = absurd (none_fresh pilot start (a.pilot ∷ []) h)
-
-    go : (b c : Bool) →
-        IsAmong (pilot, Some start) (candidate_timers (
-        if b then record s { candidates = s.candidates ++ fresh a.pilot ∷ [] }
-        else if c then record s { neighbors = s.neighbors ++ a.pilot ∷ [] } else s
-        ).candidates) →
-        IsAmong (pilot, Some start) (candidate_timers s.candidates)
-    go true c h =
-        new (candidates-append (pilot, Some start) s.candidates (fresh a.pilot ∷ []) h)
-    go false true h = h
-    go false false h = h
+left_among pilot start time a s =
+    left_is (λ (t : PilotSets). IsAmong (pilot, Some start) (candidate_timers t.candidates) →
+    IsAmong (pilot, Some start) (candidate_timers s.candidates)) time a s
+    (λ free h. ⊎_elim (λ old. old) (λ new. absurd (none_fresh pilot start (a.pilot ∷ []) new))
+    (candidates-append (pilot, Some start) s.candidates (fresh a.pilot ∷ []) h))
+    (λ free h. h) (λ h. h)
 
 all_left_among : (pilot start time : ℕ) (xs : List ActivePilot) (s : PilotSets) →
     IsAmong (pilot, Some start) (candidate_timers (all_left time xs s).candidates) →
@@ -151,18 +137,12 @@ handed_off_runs pilot start time direction s h =
         (all_left_among pilot start time (leaving_of direction s) (cleared direction s) h)
         )
 
-due_runs : (waiting : Option Accepted) (pilot start time : ℕ) (s : Standing) →
-    RunsSince pilot start (due_for waiting time s).sets → RunsSince pilot start s.sets
-due_runs None pilot start time s h = h
-due_runs (Some direction) pilot start time s h = go (direction.time == time) h
-  where
-    go : (b : Bool) →
-        RunsSince pilot start (if b
-        then record s { sets = handed_off time direction s.sets; began = Some (began_in s) }
-        else s).sets →
-        RunsSince pilot start s.sets
-    go true h = handed_off_runs pilot start time direction s.sets h
-    go false h = h
+due_runs : (pilot start time : ℕ) (s : Standing) →
+    RunsSince pilot start (due_for s.sets.waiting time s).sets → RunsSince pilot start s.sets
+due_runs pilot start time s =
+    due_is (λ (t : PilotSets). RunsSince pilot start t → RunsSince pilot start s.sets)
+    s.sets.waiting time s (λ direction is. handed_off_runs pilot start time direction s.sets)
+    (λ h. h)
 
 -- A MOMENT
 -- a timer that runs behind a moment ran before, or started at it
@@ -172,79 +152,44 @@ timer_started true time start timer e = absurd (some_none (sym e))
 timer_started false time start None e = inr (sym (ap (λ t. unwrap_or t 0) e))
 timer_started false time start (Some before) e = inl e
 
-actives_started : (energy : ℕ → ℕ) (k power time pilot start : ℕ) (xs : List ActivePilot) →
-    IsAmong (pilot, Some start) (active_timers (map (active_timed energy k power time) xs)) →
-    IsAmong (pilot, Some start) (active_timers xs) ⊎ (start ≡ time)
-actives_started energy k power time pilot start [] h = elim h [ ]
-actives_started energy k power time pilot start (a ∷ xs) (inl e) =
-    go (timer_started (is_strong k power (energy a.pilot)) time start a.timer
-    (sym (ap (λ t. t.1) e)))
-  where
-    go : (a.timer ≡ Some start) ⊎ (start ≡ time) →
-        ((◌≡◌ {A = ℕ × Option ℕ} (pilot, Some start) (a.pilot, a.timer))
-        ⊎ IsAmong (pilot, Some start) (active_timers xs)) ⊎ (start ≡ time)
-    go (inl same) =
-        inl (inl (ap (λ p. (p, Some start)) (ap (λ t. t.0) e) ∙ ap (λ t. (a.pilot, t)) (sym same)))
-    go (inr now) = inr now
-actives_started energy k power time pilot start (a ∷ xs) (inr h) =
-    go (actives_started energy k power time pilot start xs h)
-  where
-    go : IsAmong (pilot, Some start) (active_timers xs) ⊎ (start ≡ time) →
-        ((◌≡◌ {A = ℕ × Option ℕ} (pilot, Some start) (a.pilot, a.timer))
-        ⊎ IsAmong (pilot, Some start) (active_timers xs)) ⊎ (start ≡ time)
-    go (inl h) = inl (inr h)
-    go (inr now) = inr now
+one_started : (strong : Bool) (time start pilot p : ℕ) (timer : Option ℕ) →
+    ◌≡◌ {A = ℕ × Option ℕ} (pilot, Some start) (p, timer_after strong time timer) →
+    (◌≡◌ {A = ℕ × Option ℕ} (pilot, Some start) (p, timer)) ⊎ (start ≡ time)
+one_started strong time start pilot p timer e =
+    or_now
+    (λ same. ap (λ q. (q, Some start)) (ap (λ t. t.0) e) ∙ ap (λ t. (p, t)) (sym same))
+    (timer_started strong time start timer (sym (ap (λ t. t.1) e)))
 
-candidates_started : (energy : ℕ → ℕ) (k power time pilot start : ℕ) (xs : List CandidatePilot) →
-    IsAmong (pilot, Some start) (candidate_timers (map (candidate_timed energy k power time) xs)) →
-    IsAmong (pilot, Some start) (candidate_timers xs) ⊎ (start ≡ time)
-candidates_started energy k power time pilot start [] h = elim h [ ]
-candidates_started energy k power time pilot start (c ∷ xs) (inl e) =
-    go (timer_started (is_strong k power (energy c.pilot)) time start c.timer
-    (sym (ap (λ t. t.1) e)))
-  where
-    go : (c.timer ≡ Some start) ⊎ (start ≡ time) →
-        ((◌≡◌ {A = ℕ × Option ℕ} (pilot, Some start) (c.pilot, c.timer))
-        ⊎ IsAmong (pilot, Some start) (candidate_timers xs)) ⊎ (start ≡ time)
-    go (inl same) =
-        inl (inl (ap (λ p. (p, Some start)) (ap (λ t. t.0) e) ∙ ap (λ t. (c.pilot, t)) (sym same)))
-    go (inr now) = inr now
-candidates_started energy k power time pilot start (c ∷ xs) (inr h) =
-    go (candidates_started energy k power time pilot start xs h)
-  where
-    go : IsAmong (pilot, Some start) (candidate_timers xs) ⊎ (start ≡ time) →
-        ((◌≡◌ {A = ℕ × Option ℕ} (pilot, Some start) (c.pilot, c.timer))
-        ⊎ IsAmong (pilot, Some start) (candidate_timers xs)) ⊎ (start ≡ time)
-    go (inl h) = inl (inr h)
-    go (inr now) = inr now
+-- so that of a list of pilots with timers
+started : {X : Type 0} (timer_in : X → ℕ × Option ℕ) (f : X → X) (pilot start time : ℕ) →
+    ((x : X) → (pilot, Some start) ≡ timer_in (f x) →
+    ((pilot, Some start) ≡ timer_in x) ⊎ (start ≡ time)) →
+    (xs : List X) → IsAmong (pilot, Some start) (map timer_in (map f xs)) →
+    IsAmong (pilot, Some start) (map timer_in xs) ⊎ (start ≡ time)
+started timer_in f pilot start time each [] h = elim h [ ]
+started timer_in f pilot start time each (x ∷ xs) (inl e) = or_now (λ same. inl same) (each x e)
+started timer_in f pilot start time each (x ∷ xs) (inr h) =
+    or_now (λ among. inr among) (started timer_in f pilot start time each xs h)
 
 actives_measured : (energy : ℕ → ℕ) (power time pilot start : ℕ) (s : PilotSets) →
     IsAmong (pilot, Some start) (active_timers (timed energy power time s).active) →
     RunsSince pilot start s ⊎ (start ≡ time)
 actives_measured energy power time pilot start s h =
-    go (actives_started energy s.thresholds.t_drop power time pilot start s.active h)
-  where
-    go : IsAmong (pilot, Some start) (active_timers s.active) ⊎ (start ≡ time) →
-        RunsSince pilot start s ⊎ (start ≡ time)
-    go (inl h) =
-        inl (among_left (pilot, Some start) (active_timers s.active)
-        (candidate_timers s.candidates) h)
-    go (inr now) = inr now
+    let k = s.thresholds.t_drop in
+    or_now (among_left (pilot, Some start) (active_timers s.active) (candidate_timers s.candidates))
+    (started (λ (a : ActivePilot). (a.pilot, a.timer)) (active_timed energy k power time) pilot start time
+    (λ a. one_started (is_strong k power (energy a.pilot)) time start pilot a.pilot a.timer) s.active h)
 
 candidates_measured : (energy : ℕ → ℕ) (power time pilot start : ℕ) (s : PilotSets) →
     IsAmong (pilot, Some start) (candidate_timers (dropped energy power time s).candidates) →
     RunsSince pilot start s ⊎ (start ≡ time)
 candidates_measured energy power time pilot start s h =
-    go (candidates_started energy s.thresholds.t_drop power time pilot start s.candidates
+    let k = s.thresholds.t_drop in
+    or_now (among_right (pilot, Some start) (active_timers s.active) (candidate_timers s.candidates))
+    (started (λ (c : CandidatePilot). (c.pilot, c.timer)) (candidate_timed energy k power time) pilot start time
+    (λ c. one_started (is_strong k power (energy c.pilot)) time start pilot c.pilot c.timer) s.candidates
     (candidates-filter (pilot, Some start) (stays s.thresholds time)
     (timed energy power time s).candidates h))
-  where
-    go : IsAmong (pilot, Some start) (candidate_timers s.candidates) ⊎ (start ≡ time) →
-        RunsSince pilot start s ⊎ (start ≡ time)
-    go (inl h) =
-        inl (among_right (pilot, Some start) (active_timers s.active)
-        (candidate_timers s.candidates) h)
-    go (inr now) = inr now
 
 measured_runs : (energy : ℕ → ℕ) (power time : ℕ) (began : List ℕ) (pilot start : ℕ)
     (s : PilotSets) → RunsSince pilot start (measured energy power time began s) →
@@ -272,45 +217,28 @@ measured_runs energy power time began pilot start s h =
         )
 
 -- CALLS
-directed_runs : (first : ℕ) (d : DirectionFields) (pilot start : ℕ) (s : Standing) →
-    (fault : Option DirectionFault) →
-    RunsSince pilot start (unless_refused fault (accepted_of first d) s).sets →
-    RunsSince pilot start s.sets
-directed_runs first d pilot start s None h = h
-directed_runs first d pilot start s (Some fault) h = h
-
 pub keeps : (call : Call) (pilot start : ℕ) (s : Standing) →
     RunsSince pilot start (after call s).sets → RunsSince pilot start s.sets ⊎ Starts start call
 keeps (Parameters t) pilot start s h = inl h
 keeps (Neighbors heard) pilot start s h = inl h
-keeps (Direct first d) pilot start s h =
-    inl (directed_runs first d pilot start s (direction_fault d) h)
-keeps (Due time) pilot start s h = inl (due_runs s.sets.waiting pilot start time s h)
+keeps (Direct first d) pilot start s h = inl (
+    directed_is (λ (t : PilotSets). RunsSince pilot start t → RunsSince pilot start s.sets) first d s
+    (λ accepted runs. runs) (λ runs. runs) h
+    )
+keeps (Due time) pilot start s h = inl (due_runs pilot start time s h)
 keeps (Step strengths power time) pilot start s h =
     measured_runs (energy_in strengths) power time (began_in s).neighbors pilot start s.sets h
 
 -- THE SETS OF A TIMER
-active_has : (pilot : ℕ) (timer : Option ℕ) (xs : List ActivePilot) →
-    IsAmong (pilot, timer) (active_timers xs) → has (pilots_of_actives xs) pilot ≡ true
-active_has pilot timer [] h = elim h [ ]
-active_has pilot timer (a ∷ xs) (inl e) =
-    ap (λ b. b || has (pilots_of_actives xs) pilot) (eq-eqb pilot a.pilot (ap (λ t. t.0) e))
-active_has pilot timer (a ∷ xs) (inr h) =
-    ap (λ b. nat_eq pilot a.pilot || b) (active_has pilot timer xs h)
-    ∙ or_true (nat_eq pilot a.pilot)
-  where
-    or_true : (b : Bool) → (b || true) ≡ true
-    or_true true = refl
-    or_true false = refl
-
-candidate_has : (pilot : ℕ) (timer : Option ℕ) (xs : List CandidatePilot) →
-    IsAmong (pilot, timer) (candidate_timers xs) → has (pilots_of_candidates xs) pilot ≡ true
-candidate_has pilot timer [] h = elim h [ ]
-candidate_has pilot timer (c ∷ xs) (inl e) =
-    ap (λ b. b || has (pilots_of_candidates xs) pilot) (eq-eqb pilot c.pilot (ap (λ t. t.0) e))
-candidate_has pilot timer (c ∷ xs) (inr h) =
-    ap (λ b. nat_eq pilot c.pilot || b) (candidate_has pilot timer xs h)
-    ∙ or_true (nat_eq pilot c.pilot)
+timer_has : {X : Type 0} (pilot_in : X → ℕ) (timer_in : X → Option ℕ) (pilot : ℕ)
+    (timer : Option ℕ) (xs : List X) →
+    IsAmong (pilot, timer) (map (λ x. (pilot_in x, timer_in x)) xs) → has (map pilot_in xs) pilot ≡ true
+timer_has pilot_in timer_in pilot timer [] h = elim h [ ]
+timer_has pilot_in timer_in pilot timer (x ∷ xs) (inl e) =
+    ap (λ b. b || has (map pilot_in xs) pilot) (eq-eqb pilot (pilot_in x) (ap (λ t. t.0) e))
+timer_has pilot_in timer_in pilot timer (x ∷ xs) (inr h) =
+    ap (λ b. nat_eq pilot (pilot_in x) || b) (timer_has pilot_in timer_in pilot timer xs h)
+    ∙ or_true (nat_eq pilot (pilot_in x))
   where
     or_true : (b : Bool) → (b || true) ≡ true
     or_true true = refl
@@ -327,9 +255,11 @@ only pilot start s h =
         ⊎ IsAmong (pilot, Some start) (candidate_timers s.candidates) →
         (has (active_pilots s) pilot || has (candidate_pilots s) pilot) ≡ true
     go (inl h) =
-        ap (λ b. b || has (candidate_pilots s) pilot) (active_has pilot (Some start) s.active h)
+        ap (λ b. b || has (candidate_pilots s) pilot)
+        (timer_has (λ (a : ActivePilot). a.pilot) (λ a. a.timer) pilot (Some start) s.active h)
     go (inr h) =
-        right (has (active_pilots s) pilot) (candidate_has pilot (Some start) s.candidates h)
+        right (has (active_pilots s) pilot)
+        (timer_has (λ (c : CandidatePilot). c.pilot) (λ c. c.timer) pilot (Some start) s.candidates h)
       where
         right : (b : Bool) → has (candidate_pilots s) pilot ≡ true →
             (b || has (candidate_pilots s) pilot) ≡ true

@@ -173,12 +173,9 @@ story : List Call → Story
 story calls = left_by (after_all calls (new_standing 7 10)) (changes calls (new_standing 7 10))
 
 -- a neighbor list loses its repeats, and the pilots of the other sets
-heard_calls : List Call
-heard_calls =
-    Neighbors (9 ∷ 7 ∷ 9 ∷ 8 ∷ 300 ∷ 8 ∷ [])
-    ∷ []
-
-heard : story heard_calls
+heard : story
+    (Neighbors (9 ∷ 7 ∷ 9 ∷ 8 ∷ 300 ∷ 8 ∷ [])
+    ∷ [])
     ≡ (
       (7, 10, 0) ∷ [],
       [],
@@ -186,18 +183,15 @@ heard : story heard_calls
       [],
       [],
     )
-unfolding story heard_calls strength thresholds direction searching leg
+unfolding story strength thresholds direction searching leg
 heard = refl
 
 -- a strong neighbor becomes a candidate, which is reported; at equality it is strong
-rises_calls : List Call
-rises_calls =
-    Parameters (thresholds 0 0 15 15)
+rises : story
+    (Parameters (thresholds 0 0 15 15)
     ∷ Neighbors (8 ∷ 9 ∷ [])
     ∷ Step (strength 7 1024 ∷ strength 8 1024 ∷ strength 9 1023 ∷ []) 1 1
-    ∷ []
-
-rises : story rises_calls
+    ∷ [])
     ≡ (
       (7, 10, 0) ∷ [],
       8 ∷ [],
@@ -205,20 +199,17 @@ rises : story rises_calls
       [],
       (true, true) ∷ [],
     )
-unfolding story rises_calls strength thresholds direction searching leg
+unfolding story strength thresholds direction searching leg
 rises = refl
 
 -- a timer starts where a pilot is weak, goes on, and stops where it is strong
-stops_calls : List Call
-stops_calls =
-    Parameters (thresholds 0 0 15 15)
+stops : story
+    (Parameters (thresholds 0 0 15 15)
     ∷ Step (strength 7 1023 ∷ []) 1 1
     ∷ Step (strength 7 5 ∷ []) 1 2
     ∷ Step (strength 7 1024 ∷ []) 1 3
     ∷ Step (strength 7 0 ∷ []) 1 4
-    ∷ []
-
-stops : story stops_calls
+    ∷ [])
     ≡ (
       (7, 10, 0) ∷ [],
       [],
@@ -226,21 +217,18 @@ stops : story stops_calls
       (7, 4) ∷ [],
       (false, false) ∷ (false, false) ∷ (false, false) ∷ (false, false) ∷ [],
     )
-unfolding story stops_calls strength thresholds direction searching leg
+unfolding story strength thresholds direction searching leg
 stops = refl
 
 -- a candidate whose timer has run for 100 ms becomes the last neighbor
-expires_calls : List Call
-expires_calls =
-    Parameters (thresholds 0 0 15 0)
+expires : story
+    (Parameters (thresholds 0 0 15 0)
     ∷ Neighbors (8 ∷ 9 ∷ [])
     ∷ Step (strength 7 1024 ∷ strength 8 1024 ∷ strength 9 0 ∷ []) 1 1
     ∷ Step (strength 7 1024 ∷ strength 8 1 ∷ strength 9 0 ∷ []) 1 2
     ∷ Step (strength 7 1024 ∷ strength 8 1 ∷ strength 9 0 ∷ []) 1 3
     ∷ Step (strength 7 1024 ∷ strength 8 1 ∷ strength 9 0 ∷ []) 1 4
-    ∷ []
-
-expires : story expires_calls
+    ∷ [])
     ≡ (
       (7, 10, 0) ∷ [],
       [],
@@ -248,22 +236,19 @@ expires : story expires_calls
       [],
       (true, true) ∷ (false, false) ∷ (false, false) ∷ (true, false) ∷ [],
     )
-unfolding story expires_calls strength thresholds direction searching leg
+unfolding story strength thresholds direction searching leg
 expires = refl
 
 -- a pilot that became a neighbor in this moment rises at the next one
-waits_once_calls : List Call
-waits_once_calls =
-    Parameters (thresholds 63 0 15 0)
+waits_once : story
+    (Parameters (thresholds 63 0 15 0)
     ∷ Neighbors (8 ∷ [])
     ∷ Step (strength 7 1024 ∷ strength 8 1023 ∷ []) 1 1
     ∷ Step (strength 7 1024 ∷ strength 8 1023 ∷ []) 1 2
     ∷ Step (strength 7 1024 ∷ strength 8 1023 ∷ []) 1 3
     ∷ Step (strength 7 1024 ∷ strength 8 1023 ∷ []) 1 4
     ∷ Step (strength 7 1024 ∷ strength 8 1023 ∷ []) 1 5
-    ∷ []
-
-waits_once : story waits_once_calls
+    ∷ [])
     ≡ (
       (7, 10, 0) ∷ [],
       8 ∷ [],
@@ -271,20 +256,17 @@ waits_once : story waits_once_calls
       [],
       (true, true) ∷ (false, false) ∷ (false, false) ∷ (true, false) ∷ (true, true) ∷ [],
     )
-unfolding story waits_once_calls strength thresholds direction searching leg
+unfolding story strength thresholds direction searching leg
 waits_once = refl
 
 -- an expired timer of an active pilot is reported at every moment
-reported_calls : List Call
-reported_calls =
-    Parameters (thresholds 0 0 15 0)
+reported : story
+    (Parameters (thresholds 0 0 15 0)
     ∷ Step (strength 7 0 ∷ []) 1 1
     ∷ Step (strength 7 0 ∷ []) 1 2
     ∷ Step (strength 7 0 ∷ []) 1 3
     ∷ Step (strength 7 0 ∷ []) 1 4
-    ∷ []
-
-reported : story reported_calls
+    ∷ [])
     ≡ (
       (7, 10, 0) ∷ [],
       [],
@@ -292,20 +274,17 @@ reported : story reported_calls
       (7, 1) ∷ [],
       (false, false) ∷ (false, false) ∷ (false, true) ∷ (false, true) ∷ [],
     )
-unfolding story reported_calls strength thresholds direction searching leg
+unfolding story strength thresholds direction searching leg
 reported = refl
 
 -- a candidate that is above an active pilot is reported; one that is level with it isn't
-above_calls : List Call
-above_calls =
-    Parameters (thresholds 0 0 0 15)
+above : story
+    (Parameters (thresholds 0 0 0 15)
     ∷ Neighbors (8 ∷ [])
     ∷ Step (strength 7 2000 ∷ strength 8 1500 ∷ []) 1 1
     ∷ Step (strength 7 2000 ∷ strength 8 2000 ∷ []) 1 2
     ∷ Step (strength 7 2000 ∷ strength 8 2001 ∷ []) 1 3
-    ∷ []
-
-above : story above_calls
+    ∷ [])
     ≡ (
       (7, 10, 0) ∷ [],
       8 ∷ [],
@@ -313,21 +292,18 @@ above : story above_calls
       [],
       (true, true) ∷ (false, false) ∷ (false, true) ∷ [],
     )
-unfolding story above_calls strength thresholds direction searching leg
+unfolding story strength thresholds direction searching leg
 above = refl
 
 -- a direction moves a candidate up; an active pilot that stays keeps its timer
-takes_over_calls : List Call
-takes_over_calls =
-    Parameters (thresholds 0 0 15 15)
+takes_over : story
+    (Parameters (thresholds 0 0 15 15)
     ∷ Neighbors (8 ∷ 9 ∷ [])
     ∷ Step (strength 7 5 ∷ strength 8 1024 ∷ strength 9 0 ∷ []) 1 1
     ∷ Direct 1 (direction 0 0 (leg 8 0 11 ∷ leg 7 1 12 ∷ leg 9 0 13 ∷ []))
     ∷ Due 2
     ∷ Step (strength 8 1024 ∷ strength 7 5 ∷ strength 9 1024 ∷ []) 1 2
-    ∷ []
-
-takes_over : story takes_over_calls
+    ∷ [])
     ≡ (
       (8, 11, 0) ∷ (7, 12, 0) ∷ (9, 13, 1) ∷ [],
       [],
@@ -335,18 +311,15 @@ takes_over : story takes_over_calls
       (7, 1) ∷ [],
       (true, true) ∷ (true, false) ∷ [],
     )
-unfolding story takes_over_calls strength thresholds direction searching leg
+unfolding story strength thresholds direction searching leg
 takes_over = refl
 
 -- a direction that changes rows alone changes the active list
-changes_rows_calls : List Call
-changes_rows_calls =
-    Direct 5 (direction 0 0 (leg 7 0 20 ∷ []))
+changes_rows : story
+    (Direct 5 (direction 0 0 (leg 7 0 20 ∷ []))
     ∷ Due 6
     ∷ Step (strength 7 0 ∷ []) 0 6
-    ∷ []
-
-changes_rows : story changes_rows_calls
+    ∷ [])
     ≡ (
       (7, 20, 0) ∷ [],
       [],
@@ -354,22 +327,19 @@ changes_rows : story changes_rows_calls
       (7, 6) ∷ [],
       (true, false) ∷ [],
     )
-unfolding story changes_rows_calls strength thresholds direction searching leg
+unfolding story strength thresholds direction searching leg
 changes_rows = refl
 
 -- an active pilot that a direction leaves out becomes a candidate without a timer, and no report is
 -- due
-leaves_calls : List Call
-leaves_calls =
-    Parameters (thresholds 0 0 15 15)
+leaves : story
+    (Parameters (thresholds 0 0 15 15)
     ∷ Neighbors (8 ∷ [])
     ∷ Step (strength 7 5 ∷ strength 8 3 ∷ []) 1 1
     ∷ Direct 1 (direction 0 0 (leg 8 0 11 ∷ []))
     ∷ Due 2
     ∷ Step (strength 8 1024 ∷ strength 7 1024 ∷ []) 1 2
-    ∷ []
-
-leaves : story leaves_calls
+    ∷ [])
     ≡ (
       (8, 11, 0) ∷ [],
       7 ∷ [],
@@ -377,22 +347,19 @@ leaves : story leaves_calls
       [],
       (false, false) ∷ (true, false) ∷ [],
     )
-unfolding story leaves_calls strength thresholds direction searching leg
+unfolding story strength thresholds direction searching leg
 leaves = refl
 
 -- but where its timer has expired by the direction's own drop time, a neighbor
-leaves_late_calls : List Call
-leaves_late_calls =
-    Parameters (thresholds 0 0 15 15)
+leaves_late : story
+    (Parameters (thresholds 0 0 15 15)
     ∷ Neighbors (8 ∷ [])
     ∷ Step (strength 7 5 ∷ strength 8 0 ∷ []) 1 1
     ∷ Step (strength 7 5 ∷ strength 8 0 ∷ []) 1 2
     ∷ Direct 2 (searching 0 (direction 0 0 (leg 8 0 11 ∷ [])))
     ∷ Due 3
     ∷ Step (strength 8 1024 ∷ strength 7 0 ∷ []) 1 3
-    ∷ []
-
-leaves_late : story leaves_late_calls
+    ∷ [])
     ≡ (
       (8, 11, 0) ∷ [],
       [],
@@ -400,22 +367,19 @@ leaves_late : story leaves_late_calls
       [],
       (false, false) ∷ (false, false) ∷ (true, false) ∷ [],
     )
-unfolding story leaves_late_calls strength thresholds direction searching leg
+unfolding story strength thresholds direction searching leg
 leaves_late = refl
 
 -- and by a longer one not
-leaves_in_time_calls : List Call
-leaves_in_time_calls =
-    Parameters (thresholds 0 0 15 0)
+leaves_in_time : story
+    (Parameters (thresholds 0 0 15 0)
     ∷ Neighbors (8 ∷ [])
     ∷ Step (strength 7 5 ∷ strength 8 0 ∷ []) 1 1
     ∷ Step (strength 7 5 ∷ strength 8 0 ∷ []) 1 2
     ∷ Direct 2 (searching 1 (direction 0 0 (leg 8 0 11 ∷ [])))
     ∷ Due 3
     ∷ Step (strength 8 1024 ∷ strength 7 0 ∷ []) 1 3
-    ∷ []
-
-leaves_in_time : story leaves_in_time_calls
+    ∷ [])
     ≡ (
       (8, 11, 0) ∷ [],
       7 ∷ [],
@@ -423,20 +387,17 @@ leaves_in_time : story leaves_in_time_calls
       (7, 3) ∷ [],
       (false, false) ∷ (false, false) ∷ (true, false) ∷ [],
     )
-unfolding story leaves_in_time_calls strength thresholds direction searching leg
+unfolding story strength thresholds direction searching leg
 leaves_in_time = refl
 
 -- the first combination bit says nothing; each later one joins a pilot to the one before it
-subchannels_calls : List Call
-subchannels_calls =
-    Direct 0 (direction 0 0 (leg 1 1 1 ∷ leg 2 1 2 ∷ leg 3 0 3 ∷ leg 4 1 4 ∷ leg 5 0 5
+subchannels : story
+    (Direct 0 (direction 0 0 (leg 1 1 1 ∷ leg 2 1 2 ∷ leg 3 0 3 ∷ leg 4 1 4 ∷ leg 5 0 5
     ∷ leg 6 0 6 ∷ []))
     ∷ Due 1
     ∷ Step (strength 1 0 ∷ strength 2 0 ∷ strength 3 0 ∷ strength 4 0 ∷ strength 5 0
     ∷ strength 6 0 ∷ strength 7 0 ∷ []) 0 1
-    ∷ []
-
-subchannels : story subchannels_calls
+    ∷ [])
     ≡ (
       (1, 1, 0) ∷ (2, 2, 0) ∷ (3, 3, 1) ∷ (4, 4, 1) ∷ (5, 5, 2) ∷ (6, 6, 3) ∷ [],
       7 ∷ [],
@@ -444,21 +405,18 @@ subchannels : story subchannels_calls
       (1, 1) ∷ (2, 1) ∷ (3, 1) ∷ (4, 1) ∷ (5, 1) ∷ (6, 1) ∷ (7, 1) ∷ [],
       (true, false) ∷ [],
     )
-unfolding story subchannels_calls strength thresholds direction searching leg
+unfolding story strength thresholds direction searching leg
 subchannels = refl
 
 -- a direction waits for its action time
-action_time_calls : List Call
-action_time_calls =
-    Neighbors (8 ∷ [])
+action_time : story
+    (Neighbors (8 ∷ [])
     ∷ Direct 1008 (direction 1 49 (leg 8 0 20 ∷ []))
     ∷ Due 1008
     ∷ Step (strength 7 0 ∷ strength 8 0 ∷ []) 0 1008
     ∷ Due 1009
     ∷ Step (strength 8 0 ∷ strength 7 0 ∷ []) 0 1009
-    ∷ []
-
-action_time : story action_time_calls
+    ∷ [])
     ≡ (
       (8, 20, 0) ∷ [],
       7 ∷ [],
@@ -466,21 +424,18 @@ action_time : story action_time_calls
       (8, 1009) ∷ (7, 1009) ∷ [],
       (false, false) ∷ (true, false) ∷ [],
     )
-unfolding story action_time_calls strength thresholds direction searching leg
+unfolding story strength thresholds direction searching leg
 action_time = refl
 
 -- a later direction takes the place of one that waits
-replaced_calls : List Call
-replaced_calls =
-    Direct 10 (direction 1 20 (leg 8 0 20 ∷ []))
+replaced : story
+    (Direct 10 (direction 1 20 (leg 8 0 20 ∷ []))
     ∷ Direct 12 (direction 0 0 (leg 9 0 21 ∷ []))
     ∷ Due 13
     ∷ Step (strength 9 0 ∷ strength 7 0 ∷ []) 0 13
     ∷ Due 20
     ∷ Step (strength 9 0 ∷ strength 7 0 ∷ []) 0 20
-    ∷ []
-
-replaced : story replaced_calls
+    ∷ [])
     ≡ (
       (9, 21, 0) ∷ [],
       7 ∷ [],
@@ -488,19 +443,16 @@ replaced : story replaced_calls
       (9, 13) ∷ (7, 13) ∷ [],
       (true, false) ∷ (false, false) ∷ [],
     )
-unfolding story replaced_calls strength thresholds direction searching leg
+unfolding story strength thresholds direction searching leg
 replaced = refl
 
 -- a refused one doesn't
-refused_waits_calls : List Call
-refused_waits_calls =
-    Direct 10 (direction 0 0 (leg 8 0 20 ∷ []))
+refused_waits : story
+    (Direct 10 (direction 0 0 (leg 8 0 20 ∷ []))
     ∷ Direct 10 (direction 0 0 (leg 9 0 32 ∷ []))
     ∷ Due 11
     ∷ Step (strength 8 0 ∷ strength 7 0 ∷ []) 0 11
-    ∷ []
-
-refused_waits : story refused_waits_calls
+    ∷ [])
     ≡ (
       (8, 20, 0) ∷ [],
       7 ∷ [],
@@ -508,5 +460,5 @@ refused_waits : story refused_waits_calls
       (8, 11) ∷ (7, 11) ∷ [],
       (true, false) ∷ [],
     )
-unfolding story refused_waits_calls strength thresholds direction searching leg
+unfolding story strength thresholds direction searching leg
 refused_waits = refl
