@@ -1,5 +1,5 @@
 -- The bits of frames whose encoder goes on from one to the next.
-use Rattle.cell_plan.proofs.Common.{◌≡◌, ℕ, zero, suc, ◌+◌, ◌-◌, ◌*◌, ◌≤◌, Bool, List, ◌++◌, length, drop, refl, sym, ap, ◌∙◌, arith}
+use Rattle.cell_plan.proofs.Common.{◌≡◌, ℕ, zero, suc, ◌+◌, ◌-◌, ◌≤◌, Bool, List, ◌++◌, length, drop, refl, sym, ap, ◌∙◌, arith}
 use Rattle.cell_plan.proofs.Common.{add-one, drop-append-add, binary, length-binary, code_symbols, state_after, bits_before}
 use Rattle.cell_plan.proofs.Common.{continued_symbols}
 
@@ -27,7 +27,7 @@ last_before bits k start last frame is enough behind =
     behind ∙ last_eight (binary 8 start) frame (length-binary 8 start) enough
     ∙ ap (λ (b : List Bool). drop (length b - 8) b) is ∙ sym (before-next bits k)
 
-continued_is : (bits : ℕ → List Bool) (k : ℕ) →
+pub continued_is : (bits : ℕ → List Bool) (k : ℕ) →
     continued_symbols bits k ≡ code_symbols (bits_before bits k) (bits k)
 unfolding continued_symbols bits_before
 continued_is bits zero = refl

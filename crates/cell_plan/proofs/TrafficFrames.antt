@@ -17,14 +17,6 @@ tailed rate information bits is =
     ∙ ap (λ (r : List Bool). (information ++ quality_indicator (quality_of rate) information) ++ r)
     zeros
 
--- the encoder starts in state zero
-pub coded_from_zero : (bits codeword code : List Bool) → bits ≡ codeword →
-    code ≡ code_symbols (binary 8 0) bits → code ≡ code_symbols (replicate 8 false) codeword
-coded_from_zero bits codeword code is coded =
-    coded
-    ∙ ap (λ (start : List Bool). code_symbols start bits) zeros
-    ∙ ap (code_symbols (replicate 8 false)) is
-
 -- two symbols a bit fill a frame
 pub code_fills : (rate : Rate) (start bits code : List Bool) →
     length bits * repeats_of rate ≡ 192 → code ≡ code_symbols start bits →

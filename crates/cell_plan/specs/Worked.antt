@@ -1,5 +1,5 @@
 -- Worked values of what a cell sends, which the checker computes.
-use Rattle.std.specs.Prelude.{◌≡◌, [], refl, ◌^◌, replicate, false, pos, negsuc, Option, Some, None}
+use Rattle.std.specs.Prelude.{◌≡◌, [], refl, ◌^◌, pos, negsuc, Option, Some, None}
 use Rattle.chip_core.specs.Bits.{binary, places}
 use Rattle.chip_core.specs.declared.check_form.CheckForm.TheVariants.{Plain}
 use Rattle.long_code.specs.LongCode.{after}
@@ -12,6 +12,7 @@ use Rattle.walsh.specs.Walsh.{walsh}
 use Rattle.cell_plan.specs.declared.plan.CellPlan.{CellPlan}
 use Rattle.cell_plan.specs.declared.plan.SyncPlan.{SyncPlan}
 use Rattle.cell_plan.specs.Sendings.{message_of, sync_frame_bits, continued_symbols, sync_symbols}
+use Rattle.cell_plan.specs.SomeMessage.{some_sync}
 use Rattle.cell_plan.specs.Signal.{carriers, sent_chip, sample_of}
 
 cell : Option SyncPlan → CellPlan
@@ -24,32 +25,12 @@ cell sync = record {
   traffic = [];
 }
 
-channel : SyncPlan
-channel = record {
-  gain = 30;
-  message = record {
-    prev = 3;
-    min = 1;
-    sid = 1;
-    nid = 2;
-    pn = 0;
-    lc = 1;
-    time = 0;
-    lp = 13;
-    ltm = 0;
-    daylt = 0;
-    prat = 0;
-    freq = None;
-    rest = replicate 3 false;
-  };
-}
-
 pilot_alone : sample_of (cell None) 0 ≡ record { i = negsuc 299; q = pos 300 }
 unfolding cell sample_of carriers sent_chip chips_to walsh binary
 pilot_alone = refl
 
-with_sync : sample_of (cell (Some channel)) 0 ≡ record { i = negsuc 209; q = pos 210 }
-unfolding cell channel sample_of carriers sent_chip chips_to walsh binary sync_symbols
+with_sync : sample_of (cell (Some (some_sync 1))) 0 ≡ record { i = negsuc 209; q = pos 210 }
+unfolding cell sample_of carriers sent_chip chips_to walsh binary sync_symbols
     continued_symbols sync_frame_bits message_of after sync_capsule sync_body capsule check_bits
     places sent
 with_sync = refl

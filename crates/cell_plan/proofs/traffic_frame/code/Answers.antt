@@ -1,5 +1,6 @@
 use Rattle.cell_plan.proofs.Common.{arith, binary, traffic_codeword, repeated_most}
-use Rattle.cell_plan.proofs.TrafficFrames.{code_fills, coded_from_zero}
+use Rattle.cell_plan.proofs.TrafficFrames.{code_fills}
+use Rattle.symbol_path.proofs.CodewordsTwo.{coded_from_zero}
 use Rattle.cell_plan.proofs.traffic_frame.code.Goals as goal
 
 pub encode_into-requires : goal.encode_into-requires
