@@ -8,8 +8,8 @@ use Rattle.cell_script.proofs.Common.{field, numbers_in, past, value_of, cell_in
 use Rattle.cell_script.proofs.Common.{link_line, sync_behind, sync_fields, sync_in, frame_in, frame_key, frame_rate, frame2_in, frame_by}
 use Rattle.cell_script.proofs.Common.{frame2_key, frame2_rate, lawful_frame, traffic_in, traffic_line, lawful_message, lawful_page, page_in}
 use Rattle.cell_script.proofs.Common.{page_key, page_with, paging_in, paging_line, pilot_in, statement_in, sync_table, Page, PagingLine}
-use Rattle.cell_script.proofs.Common.{TrafficLine, TrafficFrame, TrafficFrame2, Rate2, IsTrafficFrame, IsTrafficFrame2, information_of}
-use Rattle.cell_script.proofs.Common.{Rate, Statement, HasMessage, is_body, FillsCapsule, M30, IsLawful, IsStatedCell, IsStatedLink}
+use Rattle.cell_script.proofs.Common.{TrafficLine, TrafficFrame, TrafficFrame2, IsTrafficFrame, IsTrafficFrame2, information_of}
+use Rattle.cell_script.proofs.Common.{Statement, HasMessage, is_body, FillsCapsule, M30, IsLawful, IsStatedCell, IsStatedLink}
 use Rattle.cell_script.proofs.Common.{as_state, begins_with, bits_in, hex_from, number_in, power_bits_in, number_up_to, serial_number_in}
 use Rattle.cell_script.proofs.Common.{signed_in, state_in, up_to}
 use Rattle.cell_script.proofs.ScriptMessages.{is_tail}

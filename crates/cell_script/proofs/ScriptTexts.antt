@@ -20,7 +20,7 @@ before-other mark byte bytes other = cond-false _ _ _ (differs (byte == mark) re
     differs true e = absurd (other (eqb-true byte mark e))
     differs false e = e
 
-before-none : (mark : ℕ) → length_before mark [] ≡ 0
+pub before-none : (mark : ℕ) → length_before mark [] ≡ 0
 unfolding length_before
 before-none mark = refl
 
@@ -80,7 +80,7 @@ unfolding hex_from
 hex_from-other number digit digits is =
     ap (option_and_then (λ (v : ℕ). hex_from (16 * number + v) digits)) is
 
-hex_from-none : (number : ℕ) → hex_from number [] ≡ Some number
+pub hex_from-none : (number : ℕ) → hex_from number [] ≡ Some number
 unfolding hex_from
 hex_from-none number = refl
 
@@ -109,10 +109,6 @@ hex_read_all text number k past before =
 pub few_hex_digits : (number k : ℕ) → number < 16 ^ k → k ≤ 11 → number < 16 ^ 11
 few_hex_digits number k below few = let most : 16 ^ k ≤ 16 ^ 11 =
     pow-le-pow_right (omega arith) few in omega (arith, below, most)
-
-pub all_hex_digits : (number k most : ℕ) → number < 16 ^ k → k ≤ most → number < 16 ^ most
-all_hex_digits number k most below few = let up : 16 ^ k ≤ 16 ^ most =
-    pow-le-pow_right (omega arith) few in omega (arith, below, up)
 
 pub hex_digit_more : (number next k : ℕ) → number < 16 ^ k → next ≤ 16 * number + 15 →
     next < 16 ^ (k + 1)

@@ -33,6 +33,22 @@ use Rattle.quality_bits.specs.declared.rate.Rate.TheVariants.{R9600, R4800, R240
 
 -- ---- statements
 
+-- a line of four numbers, of which the first two are read in the same way, and what is made of them
+abbrev pub four_in : {A X : Type 0} → (List StatementRow → ℕ → List ℕ → Option A) →
+    List StatementRow → (A → A → ℕ → ℕ → Option X) → List ℕ → Option X
+four_in first_two rows made text0 =
+    let text1 = past_at rows 0 text0 in
+    let text2 = past_at rows 1 text1 in
+    let text3 = past_at rows 2 text2 in
+    let text4 = past_at rows 3 text3 in
+    do
+      a ← first_two rows 0 text0
+      b ← first_two rows 1 text1
+      c ← unsigned_at rows 2 text2
+      d ← unsigned_at rows 3 text3
+      line ← made a b c d
+      at_end text4 line
+
 -- the form of checks: complemented where the bit is 1
 abbrev pub check_form : ℕ → CheckForm
 check_form bit = if bit == 1 then Complemented else Plain
@@ -57,17 +73,8 @@ cell_rows =
     ∷ []
 
 unfoldable pub cell_in : List ℕ → Option CellIdentity
-cell_in text0 =
-    let text1 = past_at cell_rows 0 text0 in
-    let text2 = past_at cell_rows 1 text1 in
-    let text3 = past_at cell_rows 2 text2 in
-    let text4 = past_at cell_rows 3 text3 in
-    do
-      pn ← unsigned_at cell_rows 0 text0
-      time ← unsigned_at cell_rows 1 text1
-      lc ← unsigned_at cell_rows 2 text2
-      checks ← unsigned_at cell_rows 3 text3
-      at_end text4 (cell_line pn time lc checks)
+cell_in =
+    four_in unsigned_at cell_rows (λ pn time lc checks. Some (cell_line pn time lc checks))
 
 -- `link re=A im=B start=S samples=N`: A and B aren't both 0, and neither is N
 abbrev pub is_link : ℤ → ℤ → ℕ → Bool
@@ -88,18 +95,7 @@ link_rows =
     ∷ []
 
 unfoldable pub link_in : List ℕ → Option LinkPlan
-link_in text0 =
-    let text1 = past_at link_rows 0 text0 in
-    let text2 = past_at link_rows 1 text1 in
-    let text3 = past_at link_rows 2 text2 in
-    let text4 = past_at link_rows 3 text3 in
-    do
-      re ← signed_at link_rows 0 text0
-      im ← signed_at link_rows 1 text1
-      start ← unsigned_at link_rows 2 text2
-      samples ← unsigned_at link_rows 3 text3
-      line ← link_line re im start samples
-      at_end text4 line
+link_in = four_in signed_at link_rows link_line
 
 -- `pilot gain=G`
 abbrev pub pilot_rows : List StatementRow
@@ -243,17 +239,9 @@ traffic_rows =
     ∷ []
 
 unfoldable pub traffic_in : List ℕ → Option TrafficLine
-traffic_in text0 =
-    let text1 = past_at traffic_rows 0 text0 in
-    let text2 = past_at traffic_rows 1 text1 in
-    let text3 = past_at traffic_rows 2 text2 in
-    let text4 = past_at traffic_rows 3 text3 in
-    do
-      row ← unsigned_at traffic_rows 0 text0
-      esn ← unsigned_at traffic_rows 1 text1
-      offset ← unsigned_at traffic_rows 2 text2
-      gain ← unsigned_at traffic_rows 3 text3
-      at_end text4 (traffic_line row esn offset gain)
+traffic_in =
+    four_in unsigned_at traffic_rows
+    (λ row esn offset gain. Some (traffic_line row esn offset gain))
 
 -- `frame RATE BITS COMMANDS`: as many bits as a frame of the rate has
 
@@ -264,14 +252,14 @@ frame_key R4800 = codes "frame 4800 "
 frame_key R2400 = codes "frame 2400 "
 frame_key R1200 = codes "frame 1200 "
 
--- the rate that a line begins with
+-- the first of these rates whose key a line begins with
+abbrev pub rate_by : {R : Type 0} → (R → List ℕ) → List R → List ℕ → Option R
+rate_by key [] text = None
+rate_by key (rate ∷ rates) text =
+    if begins_with text (key rate) then Some rate else rate_by key rates text
+
 abbrev pub frame_rate : List ℕ → Option Rate
-frame_rate text =
-    if begins_with text (codes "frame 9600 ") then Some R9600
-    else (if begins_with text (codes "frame 4800 ") then Some R4800
-    else (if begins_with text (codes "frame 2400 ") then Some R2400
-    else (if begins_with text (codes "frame 1200 ") then Some R1200
-    else None)))
+frame_rate = rate_by frame_key (R9600 ∷ R4800 ∷ R2400 ∷ R1200 ∷ [])
 
 -- a frame, where it has as many information bits as it is to have
 abbrev pub lawful_frame : {A : Type 0} → ℕ → List Bool → A → Option A
@@ -307,14 +295,8 @@ frame2_key R7200 = codes "frame2 7200 "
 frame2_key R3600 = codes "frame2 3600 "
 frame2_key R1800 = codes "frame2 1800 "
 
--- the rate that a line begins with
 abbrev pub frame2_rate : List ℕ → Option Rate2
-frame2_rate text =
-    if begins_with text (codes "frame2 14400 ") then Some R14400
-    else (if begins_with text (codes "frame2 7200 ") then Some R7200
-    else (if begins_with text (codes "frame2 3600 ") then Some R3600
-    else (if begins_with text (codes "frame2 1800 ") then Some R1800
-    else None)))
+frame2_rate = rate_by frame2_key (R14400 ∷ R7200 ∷ R3600 ∷ R1800 ∷ [])
 
 abbrev pub frame2_with : Rate2 → List ℕ → Option TrafficFrame2
 frame2_with rate = frame_by (frame2_key rate) (second.information_of rate)

@@ -1,6 +1,6 @@
 -- Worked values of scripts, which the checker computes.
-use Rattle.std.specs.Prelude.{ℕ, ◌≡◌, refl, ◌/◌, ◌^◌, ◌++◌, List, [], ◌∷◌, codes, replicate, false}
-use Rattle.std.specs.Prelude.{pos, negsuc, take, Some, None, Ok, Err}
+use Rattle.std.specs.Prelude.{ℕ, ◌≡◌, refl, ◌/◌, ◌^◌, ◌++◌, List, [], ◌∷◌, codes, map, false}
+use Rattle.std.specs.Prelude.{pos, negsuc, take, Some, Ok, Err}
 use Rattle.hex.specs.Hex.{decode_pairs}
 use Rattle.paging_message.specs.Admitted.{admits}
 use Rattle.paging_message.specs.HalfFrames.{bits_left}
@@ -10,11 +10,11 @@ use Rattle.chip_core.specs.Bits.{binary}
 use Rattle.chip_core.specs.declared.check_form.CheckForm.TheVariants.{Plain}
 use Rattle.chip_core.specs.declared.width.Width.TheVariants.{Sixteen}
 use Rattle.symbol_path.specs.declared.rate_two.Rate2.TheVariants.{R1800}
+use Rattle.cell_plan.specs.SomeMessage.{some_sync}
 use Rattle.cell_plan.specs.declared.frame_list.FrameList.TheVariants.{SetTwo}
 use Rattle.cell_plan.specs.declared.plan.CellPlan.{CellPlan}
 use Rattle.cell_plan.specs.declared.plan.Page.{Page}
 use Rattle.cell_plan.specs.declared.plan.PagingPlan.{PagingPlan}
-use Rattle.cell_plan.specs.declared.plan.SyncPlan.{SyncPlan}
 use Rattle.cell_plan.specs.declared.plan.TrafficPlan.{TrafficPlan}
 use Rattle.cell_script.specs.declared.script_fault.ScriptFault.TheVariants.{Line, TooLoud, TooLong}
 use Rattle.chip_core.specs.Decimals.{digits_from}
@@ -49,32 +49,12 @@ traffic_script behind =
     ++ codes "traffic row=10 esn=0000abcd offset=0 gain=40" ++ 10
     ∷ codes "frame2 1800 22:5a5a58 0101010101010101" ++ 10 ∷ behind
 
-sync_plan : SyncPlan
-sync_plan = record {
-  gain = 30;
-  message = record {
-    prev = 3;
-    min = 1;
-    sid = 1;
-    nid = 2;
-    pn = 0;
-    lc = 0;
-    time = 0;
-    lp = 13;
-    ltm = 0;
-    daylt = 0;
-    prat = 0;
-    freq = None;
-    rest = replicate 3 false;
-  };
-}
-
 plan : List PagingPlan → CellPlan
 plan paging = record {
   cell = record { pn = 511; time = 1000; lc = 2 ^ 41; check30 = Plain; check16 = Plain };
   link = record { factor = record { i = pos 0; q = negsuc 2 }; start = 0; samples = 1228800 };
   pilot = record { gain = 100 };
-  sync = Some sync_plan;
+  sync = Some (some_sync 0);
   paging = paging;
   traffic = [];
 }
@@ -103,84 +83,42 @@ empty : plan_named Sixteen [] ≡ Err (Line 1)
 unfolding plan_named stated_plan stated lines
 empty = refl
 
-whole : plan_named Sixteen (script (codes "re=0 im=-3 start=0 samples=1228800"))
-    ≡ Ok (plan [])
-unfolding script plan sync_plan plan_named stated_plan stated draft_after lines is_line with_line
-    with_next statement_in cell_in link_in pilot_in sync_in sync_behind freq_in past_freq numbers_in
+-- scripts with these links: the last three have a line that isn't one
+by_link : map (λ link. plan_named Sixteen (script link))
+    (codes "re=0 im=-3 start=0 samples=1228800"
+    ∷ codes "re=32767 im=-3 start=0 samples=1228800"
+    ∷ codes "re=0 im=-3 start=0 samples=33554433"
+    ∷ codes "re=0  im=-3 start=0 samples=1228800"
+    ∷ codes "re=-0 im=-3 start=0 samples=1228800"
+    ∷ codes "re=0 im=-3 start=0 samples=18446744073709551616"
+    ∷ [])
+    ≡ Ok (plan []) ∷ Err (TooLoud 4260100) ∷ Err (TooLong 33554433) ∷ Err (Line 2) ∷ Err (Line 2)
+    ∷ Err (Line 2) ∷ []
+unfolding script plan plan_named stated_plan stated draft_after lines is_line with_line with_next
+    statement_in cell_in link_in pilot_in sync_in sync_behind freq_in past_freq numbers_in
     past_numbers field past length_before number_up_to digits_from signed_in state_in hex_from
     bits_in hex_bits decode_pairs binary
-whole = refl
+by_link = refl
 
-paged : plan_named Sixteen (paging_script (codes "re=0 im=-3 start=0 samples=1228800"))
-    ≡ Ok (plan (paging_plan ∷ []))
-unfolding paging_script script plan sync_plan paging_plan page plan_named stated_plan stated
+paged : map (λ link. plan_named Sixteen (paging_script link))
+    (codes "re=0 im=-3 start=0 samples=1228800"
+    ∷ codes "re=32767 im=-3 start=0 samples=1228800"
+    ∷ [])
+    ≡ Ok (plan (paging_plan ∷ [])) ∷ Err (TooLoud 6226300) ∷ []
+unfolding paging_script script plan paging_plan page plan_named stated_plan stated
     draft_after lines is_line with_line with_next statement_in cell_in link_in pilot_in sync_in
     sync_behind freq_in past_freq paging_in page_in numbers_in past_numbers field past length_before
     number_up_to digits_from signed_in state_in hex_from bits_in hex_bits decode_pairs binary
     is_body admits pages_behind bits_left fill
 paged = refl
 
-paged_loud : plan_named Sixteen (paging_script (codes "re=32767 im=-3 start=0 samples=1228800"))
-    ≡ Err (TooLoud 6226300)
-unfolding paging_script script plan_named stated_plan stated draft_after lines is_line with_line
-    with_next statement_in cell_in link_in pilot_in sync_in sync_behind freq_in past_freq paging_in
-    page_in numbers_in past_numbers field past length_before number_up_to digits_from signed_in
-    state_in hex_from bits_in hex_bits decode_pairs binary is_body admits pages_behind bits_left
-    fill
-paged_loud = refl
-
-loud : plan_named Sixteen (script (codes "re=32767 im=-3 start=0 samples=1228800"))
-    ≡ Err (TooLoud 4260100)
-unfolding script plan_named stated_plan stated draft_after lines is_line with_line with_next
-    statement_in cell_in link_in pilot_in sync_in sync_behind freq_in past_freq numbers_in
-    past_numbers field past length_before number_up_to digits_from signed_in state_in hex_from
-    bits_in hex_bits decode_pairs binary
-loud = refl
-
-long : plan_named Sixteen (script (codes "re=0 im=-3 start=0 samples=33554433"))
-    ≡ Err (TooLong 33554433)
-unfolding script plan_named stated_plan stated draft_after lines is_line with_line with_next
-    statement_in cell_in link_in pilot_in sync_in sync_behind freq_in past_freq numbers_in
-    past_numbers field past length_before number_up_to digits_from signed_in state_in hex_from
-    bits_in hex_bits decode_pairs binary
-long = refl
-
-two_blanks : plan_named Sixteen (script (codes "re=0  im=-3 start=0 samples=1228800"))
-    ≡ Err (Line 2)
-unfolding script plan_named stated_plan stated draft_after lines is_line with_line with_next
-    statement_in cell_in link_in field past length_before number_up_to digits_from signed_in
-    state_in hex_from
-two_blanks = refl
-
-minus_zero : plan_named Sixteen (script (codes "re=-0 im=-3 start=0 samples=1228800"))
-    ≡ Err (Line 2)
-unfolding script plan_named stated_plan stated draft_after lines is_line with_line with_next
-    statement_in cell_in link_in field past length_before number_up_to digits_from signed_in
-    state_in hex_from
-minus_zero = refl
-
-past_64_bits : plan_named Sixteen (script (codes "re=0 im=-3 start=0 samples=18446744073709551616"))
-    ≡ Err (Line 2)
-unfolding script plan_named stated_plan stated draft_after lines is_line with_line with_next
-    statement_in cell_in link_in field past length_before number_up_to digits_from signed_in
-    state_in hex_from
-past_64_bits = refl
-
-of_rate_set_two : plan_named Sixteen (traffic_script [])
-    ≡ Ok (record (plan []) { traffic = traffic_plan ∷ [] })
-unfolding traffic_script script plan sync_plan traffic_plan plan_named stated_plan stated
+-- a frame of rate set 2 alone, and with one of rate set 1 behind it
+of_rate_set_two : map (λ behind. plan_named Sixteen (traffic_script behind))
+    ([] ∷ (codes "frame 1200 16:ffff 0101010101010101" ++ 10 ∷ []) ∷ [])
+    ≡ Ok (record (plan []) { traffic = traffic_plan ∷ [] }) ∷ Err (Line 7) ∷ []
+unfolding traffic_script script plan traffic_plan plan_named stated_plan stated
     draft_after lines is_line with_line with_next statement_in cell_in link_in pilot_in sync_in
-    sync_behind freq_in past_freq traffic_in frame2_in numbers_in past_numbers field past
+    sync_behind freq_in past_freq traffic_in frame_in frame2_in numbers_in past_numbers field past
     length_before number_up_to digits_from signed_in state_in serial_number_in hex_from bits_in
     hex_bits decode_pairs power_bits_in digits_behind binary
 of_rate_set_two = refl
-
--- a frame of rate set 1 behind one of rate set 2
-of_both : plan_named Sixteen
-    (traffic_script (codes "frame 1200 16:ffff 0101010101010101" ++ 10 ∷ [])) ≡ Err (Line 7)
-unfolding traffic_script script plan_named stated_plan stated draft_after lines is_line with_line
-    with_next statement_in cell_in link_in pilot_in sync_in sync_behind freq_in past_freq traffic_in
-    frame_in frame2_in numbers_in past_numbers field past length_before number_up_to digits_from
-    signed_in state_in serial_number_in hex_from bits_in hex_bits decode_pairs power_bits_in
-    digits_behind binary
-of_both = refl

@@ -3,11 +3,8 @@
 ghost use Rattle.std.specs.Prelude.{◌≡◌, ◌<◌, ◌≤◌, true};
 ghost use Rattle.paging_message.specs.HalfFrames.{bits_left, half_frame_body};
 ghost use Rattle.paging_message.specs.Laying.{fill};
-ghost use Rattle.cell_script.specs.ScriptStages.{after_cell, after_frame, after_link, after_frame2};
-ghost use Rattle.cell_script.specs.ScriptStages.{after_page, after_paging, after_pilot, after_sync};
-ghost use Rattle.cell_script.specs.ScriptStages.{after_traffic, behind_sync, count_behind};
-ghost use Rattle.cell_script.specs.ScriptStages.{is_complete, is_cycle, may_follow, next_stage};
-ghost use Rattle.cell_script.specs.ScriptStages.{pages_behind};
+ghost use Rattle.cell_script.specs.ScriptStages.{behind_sync, count_behind, is_complete, is_cycle};
+ghost use Rattle.cell_script.specs.ScriptStages.{may_follow, next_stage, pages_behind};
 
 use crate::statements::Statement;
 use cell_plan::{Page, SyncPlan};
@@ -151,107 +148,24 @@ impl Stage {
     pub fn after(self, statement: &Statement) -> Option<Stage>
         ensures { result ≡ next_stage self statement.now }
     {
-        match statement {
-            Statement::Cell(_) => self.after_cell(),
-            Statement::Link(_) => self.after_link(),
-            Statement::Pilot(_) => self.after_pilot(),
-            Statement::Sync(sync) => self.after_sync(sync),
-            Statement::Paging(_) => self.after_paging(),
-            Statement::Page(page) => self.after_page(page),
-            Statement::Traffic(_) => self.after_traffic(),
-            Statement::Frame(_) => self.after_frame(),
-            Statement::Frame2(_) => self.after_frame2(),
-        }
-    }
-
-    /// What may stand behind a `cell` line.
-    fn after_cell(self) -> Option<Stage>
-        ensures { result ≡ after_cell self }
-    {
-        match self {
-            Stage::Cell => Some(Stage::Link),
-            _ => None,
-        }
-    }
-
-    /// What may stand behind a `link` line.
-    fn after_link(self) -> Option<Stage>
-        ensures { result ≡ after_link self }
-    {
-        match self {
-            Stage::Link => Some(Stage::Pilot),
-            _ => None,
-        }
-    }
-
-    /// What may stand behind a `pilot` line.
-    fn after_pilot(self) -> Option<Stage>
-        ensures { result ≡ after_pilot self }
-    {
-        match self {
-            Stage::Pilot => Some(Stage::Sync),
-            _ => None,
-        }
-    }
-
-    /// What may stand behind a `sync` line.
-    fn after_sync(self, sync: &SyncPlan) -> Option<Stage>
-        ensures { result ≡ after_sync self sync.now }
-    {
-        match self {
-            Stage::Sync => Some(behind_sync(sync)),
-            _ => None,
-        }
-    }
-
-    /// What may stand behind a `paging` line.
-    fn after_paging(self) -> Option<Stage>
-        ensures { result ≡ after_paging self }
-    {
-        match self {
-            Stage::Paging(rate) | Stage::Pages { rate, .. } => Some(Stage::FirstPage(rate)),
-            _ => None,
-        }
-    }
-
-    /// What may stand behind a `page` line.
-    fn after_page(self, page: &Page) -> Option<Stage>
-        ensures { result ≡ after_page self page.now }
-    {
-        match self {
-            Stage::FirstPage(rate) => pages_behind(rate, 0, page),
-            Stage::Pages { rate, count } => pages_behind(rate, count, page),
-            _ => None,
-        }
-    }
-
-    /// What may stand behind a `traffic` line.
-    fn after_traffic(self) -> Option<Stage>
-        ensures { result ≡ after_traffic self }
-    {
-        match self {
-            Stage::Paging(_) | Stage::Pages { .. } | Stage::Traffic => Some(Stage::FirstFrame),
-            Stage::Frames | Stage::Frames2 => Some(Stage::FirstFrame),
-            _ => None,
-        }
-    }
-
-    /// What may stand behind a `frame` line.
-    fn after_frame(self) -> Option<Stage>
-        ensures { result ≡ after_frame self }
-    {
-        match self {
-            Stage::FirstFrame | Stage::Frames => Some(Stage::Frames),
-            _ => None,
-        }
-    }
-
-    /// What may stand behind a `frame2` line: the frames of a channel are all of one rate set.
-    fn after_frame2(self) -> Option<Stage>
-        ensures { result ≡ after_frame2 self }
-    {
-        match self {
-            Stage::FirstFrame | Stage::Frames2 => Some(Stage::Frames2),
+        match (self, statement) {
+            (Stage::Cell, Statement::Cell(_)) => Some(Stage::Link),
+            (Stage::Link, Statement::Link(_)) => Some(Stage::Pilot),
+            (Stage::Pilot, Statement::Pilot(_)) => Some(Stage::Sync),
+            (Stage::Sync, Statement::Sync(sync)) => Some(behind_sync(sync)),
+            (Stage::Paging(rate) | Stage::Pages { rate, .. }, Statement::Paging(_)) => {
+                Some(Stage::FirstPage(rate))
+            }
+            (Stage::FirstPage(rate), Statement::Page(page)) => pages_behind(rate, 0, page),
+            (Stage::Pages { rate, count }, Statement::Page(page)) => pages_behind(
+                rate, count, page,
+            ),
+            (Stage::Paging(_) | Stage::Pages { .. } | Stage::Traffic, Statement::Traffic(_)) => {
+                Some(Stage::FirstFrame)
+            }
+            (Stage::Frames | Stage::Frames2, Statement::Traffic(_)) => Some(Stage::FirstFrame),
+            (Stage::FirstFrame | Stage::Frames, Statement::Frame(_)) => Some(Stage::Frames),
+            (Stage::FirstFrame | Stage::Frames2, Statement::Frame2(_)) => Some(Stage::Frames2),
             _ => None,
         }
     }

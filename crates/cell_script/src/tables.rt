@@ -33,44 +33,27 @@ pub struct StatementField {
     pub form: FieldForm,
 }
 
+/// Fields of a statement, each with its key and the form of its value.
+macro_rules! statement_fields {
+    ($(($key:expr, $form:expr)),+ $(,)?) => {
+        [$(StatementField { key: $key, form: $form }),+]
+    };
+}
+
 /// The fields of a `cell` line, in their order.
-pub const CELL_FIELDS: [StatementField; 4] = [
-    StatementField {
-        key: b"cell pn=",
-        form: FieldForm::UpTo(511),
-    },
-    StatementField {
-        key: b" time=",
-        form: FieldForm::UpTo(34_359_738_368),
-    },
-    StatementField {
-        key: b" lc=",
-        form: FieldForm::State,
-    },
-    StatementField {
-        key: b" checks=",
-        form: FieldForm::UpTo(3),
-    },
+pub const CELL_FIELDS: [StatementField; 4] = statement_fields![
+    (b"cell pn=", FieldForm::UpTo(511)),
+    (b" time=", FieldForm::UpTo(34_359_738_368)),
+    (b" lc=", FieldForm::State),
+    (b" checks=", FieldForm::UpTo(3)),
 ];
 
 /// The fields of a `link` line, in their order.
-pub const LINK_FIELDS: [StatementField; 4] = [
-    StatementField {
-        key: b"link re=",
-        form: FieldForm::Signed,
-    },
-    StatementField {
-        key: b" im=",
-        form: FieldForm::Signed,
-    },
-    StatementField {
-        key: b" start=",
-        form: FieldForm::UpTo(4_294_967_295),
-    },
-    StatementField {
-        key: b" samples=",
-        form: FieldForm::UpTo(18_446_744_073_709_551_615),
-    },
+pub const LINK_FIELDS: [StatementField; 4] = statement_fields![
+    (b"link re=", FieldForm::Signed),
+    (b" im=", FieldForm::Signed),
+    (b" start=", FieldForm::UpTo(4_294_967_295)),
+    (b" samples=", FieldForm::UpTo(18_446_744_073_709_551_615)),
 ];
 
 /// The fields of a `pilot` line.
@@ -80,35 +63,17 @@ pub const PILOT_FIELDS: [StatementField; 1] = [StatementField {
 }];
 
 /// The fields of a `paging` line, in their order.
-pub const PAGING_FIELDS: [StatementField; 2] = [
-    StatementField {
-        key: b"paging channel=",
-        form: FieldForm::UpTo(7),
-    },
-    StatementField {
-        key: b" gain=",
-        form: FieldForm::UpTo(65_535),
-    },
+pub const PAGING_FIELDS: [StatementField; 2] = statement_fields![
+    (b"paging channel=", FieldForm::UpTo(7)),
+    (b" gain=", FieldForm::UpTo(65_535)),
 ];
 
 /// The fields of a `traffic` line, in their order.
-pub const TRAFFIC_FIELDS: [StatementField; 4] = [
-    StatementField {
-        key: b"traffic row=",
-        form: FieldForm::UpTo(63),
-    },
-    StatementField {
-        key: b" esn=",
-        form: FieldForm::SerialNumber,
-    },
-    StatementField {
-        key: b" offset=",
-        form: FieldForm::UpTo(15),
-    },
-    StatementField {
-        key: b" gain=",
-        form: FieldForm::UpTo(65_535),
-    },
+pub const TRAFFIC_FIELDS: [StatementField; 4] = statement_fields![
+    (b"traffic row=", FieldForm::UpTo(63)),
+    (b" esn=", FieldForm::SerialNumber),
+    (b" offset=", FieldForm::UpTo(15)),
+    (b" gain=", FieldForm::UpTo(65_535)),
 ];
 
 /// The numbers of a `sync` line that it always has, in their order: the channel's gain, and then

@@ -1,11 +1,6 @@
-use Rattle.cell_script.proofs.Common.{List, ap, sym, ◌∙◌, with_frame, with_one, TrafficPlan}
+use Rattle.cell_script.proofs.Common.{with_one}
 use Rattle.cell_script.proofs.ScriptFrames.{push_changed}
 use Rattle.cell_script.proofs.build.add_frame.Goals as goal
-
-pub returns-in_default : goal.returns-in_default
-returns-in_default c =
-    c.in_default.ensures.1
-    ∙ ap (λ (ts : List TrafficPlan). with_frame ts c.args.frame.now) (sym c.in_default.ensures.0)
 
 pub returns : goal.returns
 returns c =

@@ -1,11 +1,6 @@
-use Rattle.cell_script.proofs.Common.{List, ap, sym, ◌∙◌, with_frame2, with_two, TrafficPlan}
+use Rattle.cell_script.proofs.Common.{with_two}
 use Rattle.cell_script.proofs.ScriptFrames.{push_changed}
 use Rattle.cell_script.proofs.build.add_frame2.Goals as goal
-
-pub returns-in_default : goal.returns-in_default
-returns-in_default c =
-    c.in_default.ensures.1
-    ∙ ap (λ (ts : List TrafficPlan). with_frame2 ts c.args.frame.now) (sym c.in_default.ensures.0)
 
 pub returns : goal.returns
 returns c =

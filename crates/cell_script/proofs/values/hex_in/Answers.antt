@@ -1,5 +1,5 @@
 use Rattle.cell_script.proofs.Common.{sym, ◌∙◌, arith}
-use Rattle.cell_script.proofs.ScriptTexts.{hex_missing, hex_digit_more, hex_read, hex_read_all, all_hex_digits, few_hex_digits}
+use Rattle.cell_script.proofs.ScriptTexts.{hex_missing, hex_digit_more, hex_read, hex_read_all, few_hex_digits}
 use Rattle.cell_script.proofs.values.hex_in.Goals as goal
 
 pub returns-in_err-hex_digit-clause-value : goal.returns-in_err-hex_digit-clause-value
@@ -30,8 +30,3 @@ pub returns-clause-value : goal.returns-clause-value
 returns-clause-value c =
     hex_read_all c.args.text.now c.loop-digit.number c.loop-digit.digit-index
     (omega (arith, c.loop-digit-test.false)) c.loop-digit.invariant.left
-
-pub returns-clause-range : goal.returns-clause-range
-returns-clause-range c =
-    all_hex_digits c.loop-digit.number c.loop-digit.digit-index _ c.loop-digit.invariant.below
-    c.loop-digit.invariant.passed

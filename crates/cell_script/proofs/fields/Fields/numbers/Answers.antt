@@ -1,9 +1,6 @@
 use Rattle.cell_script.proofs.Common.{◌+◌, arith, sym, subst, List, ℕ, set}
-use Rattle.cell_script.proofs.ScriptTables.{AreRead, all_behind, all_read, none_read, not_read, one_read, rows_long}
+use Rattle.cell_script.proofs.ScriptTables.{AreRead, all_behind, all_read, not_read, one_read}
 use Rattle.cell_script.proofs.fields.Fields.numbers.Goals as goal
-
-pub loop-k-init : goal.loop-k-init
-loop-k-init c = none_read c.args.table.now c.args.self.now c.args.out.now c.requires
 
 pub returns-in_err-out-clause-value : goal.returns-in_err-out-clause-value
 returns-in_err-out-clause-value c =
@@ -24,10 +21,6 @@ pub returns-clause-value : goal.returns-clause-value
 returns-clause-value c =
     all_read c.args.table.now c.args.self.now c.loop-k.k c.loop-k.out c.loop-k.self
     (omega (arith, c.loop-k-test.false)) c.loop-k.invariant
-
-pub returns-clause-range : goal.returns-clause-range
-returns-clause-range c k inside =
-    c.loop-k.invariant.up k (omega (arith, inside, c.loop-k-test.false, rows_long c.args.table.now))
 
 pub returns-clause-rest : goal.returns-clause-rest
 returns-clause-rest c =
