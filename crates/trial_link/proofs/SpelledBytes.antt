@@ -100,10 +100,6 @@ pub before_mark : (mark : ℕ) (rest : List ℕ) → length_before mark (mark �
 unfolding length_before
 before_mark mark rest = cond-true _ _ _ (eq-eqb mark mark refl)
 
-pub before_none : (mark : ℕ) → length_before mark [] ≡ 0
-unfolding length_before
-before_none mark = refl
-
 -- ---- lines
 
 is_line-end : is_line (10 ∷ []) ≡ true

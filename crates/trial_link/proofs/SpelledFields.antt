@@ -2,7 +2,8 @@
 use Rattle.trial_link.proofs.Common.{◌≡◌, ℕ, ◌==◌, true, List, [], ◌∷◌, ◌++◌, length, refl, sym, ap, ◌∙◌, arith, take, drop, Option, nat_eq}
 use Rattle.trial_link.proofs.Common.{append-nil, pointwise, drop-append_seam, take-append_seam, and_from, cond-true, eq-eqb, field, keyed}
 use Rattle.trial_link.proofs.Common.{past, value_of, begins_with, length_before}
-use Rattle.trial_link.proofs.SpelledBytes.{are_within, before_low_mark, before_mark, before_none}
+use Rattle.trial_link.proofs.SpelledBytes.{are_within, before_low_mark, before_mark}
+use Rattle.cell_script.proofs.ScriptTexts.{before-none}
 
 same_bytes : (xs : List ℕ) → pointwise nat_eq xs xs ≡ true
 same_bytes [] = refl
@@ -30,7 +31,7 @@ fenced_by_space value more are =
 
 pub fenced_by_end : (value : List ℕ) → are_within 33 126 value ≡ true → IsFenced value []
 fenced_by_end value are =
-    omega (arith, before_low_mark 32 33 126 value [] (omega arith) are, before_none 32)
+    omega (arith, before_low_mark 32 33 126 value [] (omega arith) are, before-none 32)
 
 -- the value of a field, and what is behind it
 pub field-front : {A : Type 0} (key value rest : List ℕ) (read : List ℕ → Option A) →

@@ -12,6 +12,7 @@ use Rattle.trial_link.proofs.Common.{octets_in, serial_number_in, state_in, unpa
 use Rattle.std.proofs.lemmas.List.{length-drop}
 use Rattle.trial_link.proofs.SpelledBytes.{are_within, at_below, before_high_mark, before_mark, bytes_are, decimal_within, digits_of_long}
 use Rattle.trial_link.proofs.SpelledBytes.{octet_digits, octet_digits_long, octets_are, serial_long, state_long}
+use Rattle.cell_script.proofs.ScriptTexts.{hex_from-none}
 
 -- ---- numbers
 
@@ -40,10 +41,6 @@ unfolding hex_from
 from_digit n d digits below =
     ap (option_and_then (λ (v : ℕ). hex_from (16 * n + v) digits)) (digit_back d below)
 
-from_none : (n : ℕ) → hex_from n [] ≡ Some n
-unfolding hex_from
-from_none n = refl
-
 -- bytes behind a number, the highest first
 abbrev bytes_behind : ℕ → List ℕ → ℕ
 bytes_behind n [] = n
@@ -52,7 +49,7 @@ bytes_behind n (byte ∷ bytes) = bytes_behind (256 * n + byte) bytes
 from_bytes : (n : ℕ) (bytes : List ℕ) → IsBytes bytes →
     hex_from n (encode_lower bytes) ≡ Some (bytes_behind n bytes)
 unfolding encode_with
-from_bytes n [] are = from_none n
+from_bytes n [] are = hex_from-none n
 from_bytes n (byte ∷ bytes) are =
     let small : byte < 256 = are 0 in
     let low = slice_index lower_digits (byte % 16) in

@@ -1,14 +1,15 @@
 -- The lines of a traffic channel with its frames, and the draft that they lead to.
-use Rattle.trial_link.proofs.Common.{◌≡◌, ℕ, ◌+◌, ◌*◌, ◌%◌, ◌<◌, ◌≤◌, ◌==◌, List, [], ◌∷◌, ◌++◌, length, map, refl, sym, ap, ◌∙◌, arith}
+use Rattle.trial_link.proofs.Common.{◌≡◌, ℕ, ◌+◌, ◌*◌, ◌<◌, ◌≤◌, List, [], ◌∷◌, ◌++◌, length, map, refl, sym, ap, ◌∙◌, arith}
 use Rattle.trial_link.proofs.Common.{subst, Some, append_assoc, append-nil, length-append, option_map, length-map-range_with_len, places}
 use Rattle.trial_link.proofs.Common.{CellPlan, TrafficPlan, Stage, FirstFrame, Frames, TrafficLine, TrafficFrame, Draft, draft_at}
 use Rattle.trial_link.proofs.Common.{with_frame, with_next, with_one, IsTrafficFrame, after_frame, after_traffic, frame_text, traffic_text}
-use Rattle.trial_link.proofs.Common.{behind_draw, behind_draws, behind_frames, bits_drawn, bits_of_frame, channel_of, channel_text, drawn}
+use Rattle.trial_link.proofs.Common.{behind_draw, behind_draws, behind_frames, bits_of_frame, channel_of, channel_text}
 use Rattle.trial_link.proofs.Common.{ended, frame_drawn, frame_lines, frames_drawn, on_last-last}
 use Rattle.trial_link.proofs.SpelledLines.{IsStatedLine, frame_line_within, frame_spelled, frame_text_short, traffic_line_within}
 use Rattle.trial_link.proofs.SpelledLines.{traffic_spelled, traffic_text_short}
 use Rattle.trial_link.proofs.StatedLines.{Leads, both_lead, ended_long, none_leads, one_leads}
 use Rattle.cell_script.specs.declared.statements.Statement.TheVariants as statements
+use Rattle.trial_link.proofs.TrialDraws.{length-bits_drawn}
 
 -- frames that lines can tell
 abbrev pub AreToldFrames : List TrafficFrame → Type 0
@@ -126,18 +127,13 @@ channel_short line frames is are =
 
 -- ---- frames that are drawn
 
-bits_drawn-long : (state n : ℕ) → length (bits_drawn state n) ≡ n
-unfolding bits_drawn places
-bits_drawn-long state n =
-    length-map-range_with_len (λ k. drawn (behind_draws state k) % 2 == 1) 0 n
-
 drawn_are : (state : ℕ) (ks : List ℕ) →
     AreToldFrames (map (λ k. frame_drawn (behind_frames state k)) ks)
 drawn_are state [] = tt
 drawn_are state (k ∷ ks) =
     let from = behind_frames state k in (
-      bits_drawn-long (behind_draw from) (bits_of_frame from),
-      bits_drawn-long (behind_draws (behind_draw from) (bits_of_frame from)) 16,
+      length-bits_drawn (behind_draw from) (bits_of_frame from),
+      length-bits_drawn (behind_draws (behind_draw from) (bits_of_frame from)) 16,
       drawn_are state ks,
     )
 

@@ -1,13 +1,13 @@
 -- The script of a trial: a whole link that a number tells, by a generator of numbers.
 use Rattle.std.specs.Prelude.{ℕ, zero, suc, ◌+◌, ◌*◌, ◌/◌, ◌%◌, ◌^◌, ◌==◌, Bool, false}
-use Rattle.std.specs.Prelude.{if◌then◌else◌, List, [], ◌∷◌, ◌++◌, map, replicate, codes, pos, Some}
-use Rattle.std.specs.Prelude.{None}
+use Rattle.std.specs.Prelude.{if◌then◌else◌, List, [], ◌∷◌, ◌++◌, map, codes, pos, Some}
 use Rattle.std.specs.List.{flat_map}
 use Rattle.chip_core.specs.Bits.{binary, places}
 use Rattle.chip_core.specs.declared.check_form.CheckForm.TheVariants.{Complemented}
 use Rattle.quality_bits.specs.TrafficCodewords.{information_of}
 use Rattle.quality_bits.specs.declared.rate.Rate.{Rate}
 use Rattle.quality_bits.specs.declared.rate.Rate.TheVariants.{R9600, R4800, R2400, R1200}
+use Rattle.cell_plan.specs.SomeMessage.{some_sync}
 use Rattle.cell_plan.specs.declared.plan.CellIdentity.{CellIdentity}
 use Rattle.cell_plan.specs.declared.plan.CellPlan.{CellPlan}
 use Rattle.cell_plan.specs.declared.plan.Page.{Page}
@@ -162,24 +162,7 @@ trial_text number =
 -- ---- the plan that it names
 
 unfoldable pub trial_sync : SyncPlan
-trial_sync = record {
-  gain = 30;
-  message = record {
-    prev = 3;
-    min = 1;
-    sid = 1;
-    nid = 2;
-    pn = 0;
-    lc = 0;
-    time = 0;
-    lp = 13;
-    ltm = 0;
-    daylt = 0;
-    prat = 0;
-    freq = None;
-    rest = replicate 3 false;
-  };
-}
+trial_sync = some_sync 0
 
 abbrev pub channel_of : TrafficLine → List TrafficFrame → TrafficPlan
 channel_of line frames = record {
