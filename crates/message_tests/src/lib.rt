@@ -7,14 +7,12 @@
 #![tactic(auto)]
 
 #[cfg(test)]
+mod message_fault_tests;
+#[cfg(test)]
 mod message_layout_tests;
 #[cfg(test)]
 mod message_timing_tests;
 #[cfg(test)]
-mod paging_message_tests;
-#[cfg(test)]
 mod pilot_sets_tests;
-#[cfg(test)]
-mod sync_message_tests;
 #[cfg(test)]
 mod traffic_message_tests;

@@ -10,6 +10,18 @@ use traffic_message::TrafficMessage;
 /// How many times each test reads or writes its message.
 const TURNS: u32 = 10_000;
 
+/// In how many turns this is true.
+macro_rules! turns_with {
+    ($is_done:expr) => {{
+        let mut done: u32 = 0;
+        for _turn in 0..TURNS {
+            let is_done = $is_done;
+            done = done.saturating_add(u32::from(is_done));
+        }
+        done
+    }};
+}
+
 /// A body of so many bits: a message type, and zeros behind it.
 fn body_of(kind: u8, count: u16) -> Bits {
     let mut body = Bits::empty();
@@ -52,44 +64,28 @@ fn traffic_message(rt: &impl Abort, kind: u8) -> TrafficMessage {
 /// Reads a paging message.
 fn read_paging(rt: &impl Abort, kind: u8) {
     let capsule = paging_message(rt, kind).encode(CheckForm::Plain);
-    let mut read: u32 = 0;
-    for _turn in 0..TURNS {
-        let is_read = PagingMessage::decode(&capsule, CheckForm::Plain).is_ok();
-        read = read.saturating_add(u32::from(is_read));
-    }
+    let read = turns_with!(PagingMessage::decode(&capsule, CheckForm::Plain).is_ok());
     assert_eq!(rt; read, TURNS);
 }
 
 /// Writes a paging message.
 fn write_paging(rt: &impl Abort, kind: u8) {
     let message = paging_message(rt, kind);
-    let mut written: u32 = 0;
-    for _turn in 0..TURNS {
-        let is_whole = message.encode(CheckForm::Plain).len() == 320;
-        written = written.saturating_add(u32::from(is_whole));
-    }
+    let written = turns_with!(message.encode(CheckForm::Plain).len() == 320);
     assert_eq!(rt; written, TURNS);
 }
 
 /// Reads a message of a traffic channel.
 fn read_traffic(rt: &impl Abort, kind: u8) {
     let capsule = traffic_message(rt, kind).encode(CheckForm::Plain);
-    let mut read: u32 = 0;
-    for _turn in 0..TURNS {
-        let is_read = TrafficMessage::decode(&capsule, CheckForm::Plain).is_ok();
-        read = read.saturating_add(u32::from(is_read));
-    }
+    let read = turns_with!(TrafficMessage::decode(&capsule, CheckForm::Plain).is_ok());
     assert_eq!(rt; read, TURNS);
 }
 
 /// Writes a message of a traffic channel.
 fn write_traffic(rt: &impl Abort, kind: u8) {
     let message = traffic_message(rt, kind);
-    let mut written: u32 = 0;
-    for _turn in 0..TURNS {
-        let is_whole = message.encode(CheckForm::Plain).len() == 312;
-        written = written.saturating_add(u32::from(is_whole));
-    }
+    let written = turns_with!(message.encode(CheckForm::Plain).len() == 312);
     assert_eq!(rt; written, TURNS);
 }
 
@@ -102,22 +98,14 @@ fn a_message_is_written(rt: HostRuntime) {
 #[test]
 fn sync_is_read(rt: HostRuntime) {
     let capsule = sync_message(&rt).encode(CheckForm::Plain);
-    let mut read: u32 = 0;
-    for _turn in 0..TURNS {
-        let is_read = SyncMessage::decode(&capsule, CheckForm::Plain).is_ok();
-        read = read.saturating_add(u32::from(is_read));
-    }
+    let read = turns_with!(SyncMessage::decode(&capsule, CheckForm::Plain).is_ok());
     assert_eq!(rt; read, TURNS);
 }
 
 #[test]
 fn sync_is_written(rt: HostRuntime) {
     let message = sync_message(&rt);
-    let mut written: u32 = 0;
-    for _turn in 0..TURNS {
-        let is_whole = message.encode(CheckForm::Plain).len() == 208;
-        written = written.saturating_add(u32::from(is_whole));
-    }
+    let written = turns_with!(message.encode(CheckForm::Plain).len() == 208);
     assert_eq!(rt; written, TURNS);
 }
 

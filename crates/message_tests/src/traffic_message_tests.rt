@@ -1,10 +1,8 @@
-//! The printed texts of faults, which no clause says, and the names of fields as the standard has
-//! them.
+//! The names of fields as the standard has them, which no clause says.
 
-use std::test::Fail;
 use traffic_message::{
-    HEAD_FIELDS, IN_TRAFFIC_FIELDS, MessageFault, SEARCH_FIELDS, TIME_FIELDS, head_name,
-    in_traffic_name, search_name, time_name,
+    HEAD_FIELDS, IN_TRAFFIC_FIELDS, SEARCH_FIELDS, TIME_FIELDS, head_name, in_traffic_name,
+    search_name, time_name,
 };
 
 #[test]
@@ -16,16 +14,4 @@ fn names_of_fields(rt: HostRuntime) {
     );
     assert_eq!(rt; (TIME_FIELDS[0].0, time_name(2)), ("use", "hdm"));
     assert_eq!(rt; (SEARCH_FIELDS[4].0, search_name(0)), ("ttdrop", "wina"));
-}
-
-#[test]
-fn texts_of_faults(rt: HostRuntime) -> Result<(), Fail> {
-    for (fault, text) in [
-        (MessageFault::BadLength, "bad length"),
-        (MessageFault::BadCheck, "bad check"),
-        (MessageFault::BadBody, "bad body"),
-    ] {
-        assert_eq!(rt; fault.to_string(rt.alloc())?.as_str(), text);
-    }
-    Ok(())
 }

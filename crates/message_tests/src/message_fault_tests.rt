@@ -1,4 +1,5 @@
-//! The printed texts of faults, which no clause says.
+//! The printed texts of faults, which no clause says. The messages of all channels have these
+//! faults.
 
 use std::test::Fail;
 use sync_message::MessageFault;
