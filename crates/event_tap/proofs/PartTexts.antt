@@ -1,17 +1,16 @@
 -- Lemmas on what lines of messages have in common: items joined by commas, values behind their
 -- names, and the text of few bits.
-use Rattle.std.proofs.Common.{◌≡◌, ℕ, zero, suc, ◌+◌, ◌*◌, ◌^◌, ◌<◌, ◌≤◌, ◌&&◌, nat_lt, Bool, true, All, List, [], ◌∷◌, Some, slice_get}
+use Rattle.std.proofs.Common.{◌≡◌, ℕ, zero, suc, ◌+◌, ◌^◌, ◌<◌, ◌≤◌, ◌&&◌, nat_lt, Bool, true, All, List, [], ◌∷◌, Some, slice_get}
 use Rattle.std.proofs.Common.{◌++◌, length, get_or, map, take, drop, codes, decimal, refl, sym, ap, ◌∙◌, arith, rules, append_assoc}
 use Rattle.std.proofs.Common.{append-nil, length-append, subst}
 use Rattle.std.specs.List.{list_all}
 use Rattle.std.specs.Str.{IsAscii}
 use Rattle.std.proofs.lemmas.Bool.{and_parts}
 use Rattle.std.proofs.lemmas.Fmt.{length-decimal-le}
-use Rattle.std.proofs.lemmas.List.{flat_map_more, get_or-map}
+use Rattle.std.proofs.lemmas.List.{flat_map_more}
 use Rattle.std.proofs.lemmas.Option.{get_or_from_slice_get, slice_get_within}
 use Rattle.std.proofs.lemmas.List.Sums.{AllPass-from_list_all}
 use Rattle.std.proofs.lemmas.Str.Ascii.{IsAscii-from_all}
-use Rattle.std.proofs.Math.Nat.{mul-le-mul_left}
 use Rattle.hex.specs.Hex.{encode_lower, lower_digits}
 use Rattle.hex.proofs.HexLemmas.{length-encode_with}
 use Rattle.chip_core.specs.Fields.{field, FieldsFit, in_widths}
@@ -47,33 +46,11 @@ comma_item before text with_comma next items i item long is added behind =
     ∙ ap (λ (n : ℕ). before ++ ((commas items ++ comma_before n) ++ item)) (sym long)
     ∙ ap (λ (xs : List ℕ). before ++ xs) (sym (commas_push items item))
 
--- an item of a list that a call gave
-pub item_at : {X : Type 0} (text : X → List ℕ) (xs : List X) (i : ℕ) (x : X) →
-    slice_get xs i ≡ Some x → get_or (map text xs) i [] ≡ text x
-item_at text xs i x is =
-    get_or-map text xs i x [] (slice_get_within xs i x is)
-    ∙ ap text (get_or_from_slice_get xs i x x is)
-
--- a number that a call gave, in decimal
-pub number_at : (before after numbers : List ℕ) (i got given : ℕ) → slice_get numbers i ≡ Some got →
-    given ≡ got → after ≡ before ++ decimal given →
-    after ≡ before ++ get_or (map decimal numbers) i []
-number_at before after numbers i got given at_i same is =
-    is ∙ ap (λ (n : ℕ). before ++ decimal n) same
-    ∙ ap (λ (item : List ℕ). before ++ item) (sym (item_at decimal numbers i got at_i))
-
 pub below_of_all : (bound : ℕ) (numbers : List ℕ) (i number : ℕ) → All (λ n. n < bound) numbers →
     slice_get numbers i ≡ Some number → number < bound
 below_of_all bound numbers i number all is =
     subst (λ (n : ℕ). n < bound) (get_or_from_slice_get numbers i number 0 is)
     (all i 0 (slice_get_within numbers i number is))
-
--- the room for an item, where there is room for all
-pub item_room : (width i count old now : ℕ) → now ≤ old + width * i → i < count →
-    old + width * count + 40 ≤ 1024 → now + width + 40 ≤ 1024
-item_room width i count old now long within room =
-    let far : width * suc i ≤ width * count = mul-le-mul_left width within in
-    omega (arith, far, long, room)
 
 -- numbers of fields of one width
 pub fields-below : (width : ℕ) (numbers : List ℕ) → FieldsFit (map (field width) numbers) →

@@ -20,12 +20,3 @@ append_short-requires-2 c =
             c.requires.room,
           );
     }
-
-pub returns-clause-len : goal.returns-clause-len
-returns-clause-len c j k some few more least =
-    omega (
-      arith,
-      c.append_short.ensures.len j some (omega (arith, c.from.ensures, few)),
-      c.append_str.ensures.len,
-      c.append_short-2.ensures.len k more (omega (arith, c.from-2.ensures, least)),
-    )

@@ -20,12 +20,3 @@ append_short-requires c =
             c.requires.room,
           );
     }
-
-pub returns-clause-len : goal.returns-clause-len
-returns-clause-len c j k l some few more least last small =
-    omega (
-      arith,
-      c.append_pair.ensures.len j k some few more least,
-      c.append_str.ensures.len,
-      c.append_short.ensures.len l last (omega (arith, c.from.ensures, small)),
-    )

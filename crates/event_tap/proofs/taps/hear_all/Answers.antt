@@ -1,22 +1,11 @@
-use Rattle.std.proofs.Common.{rules, ◌≤◌, ◌<◌, arith, subst, sym, length, None}
-use Rattle.std.proofs.lemmas.List.Elements.{All-get_or}
+use Rattle.std.proofs.Common.{rules, ◌≤◌, ◌<◌, arith, length, None}
 use Rattle.std.proofs.lemmas.Result.{err_from_is_err_and}
-use Rattle.event_tap.specs.Taps.{IsKept}
-use Rattle.event_tap.proofs.TapLists.{has_heard, hearing_kept, hearing_done, hearing_failed, hearing_none, unwritten, All-seen-back, seen}
+use Rattle.event_tap.proofs.TapLists.{has_heard, hearing_kept, hearing_done, hearing_failed, hearing_none, unwritten, All-seen-back}
 use Rattle.event_tap.proofs.taps.hear_all.Goals.{in-Keep, in-Done}
 use Rattle.event_tap.proofs.taps.hear_all.Goals as goal
 
 pub loop-place-init : goal.loop-place-init
 loop-place-init g c = (hearing_none _ _ _ _ _ c.requires, omega arith)
-
-pub hear-heard-requires : goal.hear-heard-requires
-hear-heard-requires g c =
-    let index : c.loop-place.place < length c.loop-place.taps.items = search rules in
-    let kept =
-    All-get_or (λ (t : g.row.T.Denot). IsKept (seen g.T.Tap.shape g.T.Tap.left t))
-    c.loop-place.taps.items c.loop-place.place c.index_mut.result.now index
-    c.loop-place.invariant.0.kept in
-    subst (λ (t : g.row.T.Denot). 1 ≤ g.T.Tap.left t) (sym c.index_mut.ensures.value) kept.0
 
 pub loop-place-preserved : goal.loop-place-preserved
 loop-place-preserved g c =

@@ -2,12 +2,6 @@ use Rattle.std.proofs.Common.{◌++◌, sym, ap, ◌∙◌, arith}
 use Rattle.event_tap.proofs.TrafficTexts.{record_at}
 use Rattle.event_tap.proofs.items.DirectionFieldsItems.append_item.Goals as goal
 
-pub get-row-requires : goal.get-row-requires
-get-row-requires c = omega (arith, c.requires.within, c.requires.fit.rows)
-
-pub get-requires-2 : goal.get-requires-2
-get-requires-2 c = omega (arith, c.requires.within, c.requires.fit.combs)
-
 pub returns-clause-value : goal.returns-clause-value
 returns-clause-value c =
     let it = record_at c.args.self.now c.args.i c.get.result c.get-row.result c.get-2.result

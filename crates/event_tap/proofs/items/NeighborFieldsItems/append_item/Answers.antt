@@ -2,9 +2,6 @@ use Rattle.std.proofs.Common.{◌++◌, sym, ap, ◌∙◌, arith}
 use Rattle.event_tap.proofs.PagingTexts.{neighbor_at}
 use Rattle.event_tap.proofs.items.NeighborFieldsItems.append_item.Goals as goal
 
-pub get-requires-2 : goal.get-requires-2
-get-requires-2 c = omega (arith, c.requires.within, c.requires.fit.paired)
-
 pub returns-clause-value : goal.returns-clause-value
 returns-clause-value c =
     let it = neighbor_at c.args.self.now c.args.i c.get.result c.get-2.result c.requires.fit
