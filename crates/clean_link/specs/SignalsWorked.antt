@@ -3,6 +3,8 @@ use Rattle.std.specs.Prelude.{◌≡◌, ℕ, refl, Bool, true, false, List, [],
 use Rattle.std.specs.Prelude.{replicate}
 use Rattle.chip_core.specs.Bits.{binary, places}
 use Rattle.chip_core.specs.declared.check_form.CheckForm.TheVariants.{Complemented}
+use Rattle.message_layout.specs.Reading.{fields_at, group_at, number_part, octets_at, part_at}
+use Rattle.message_layout.specs.Reading.{presence_at, reading, records_at}
 use Rattle.quality_bits.specs.Capsules.{capsule, front_capsule, is_stated}
 use Rattle.quality_bits.specs.Pieces.{capsule_ending}
 use Rattle.quality_bits.specs.Quality.{check_bits}
@@ -57,19 +59,22 @@ cell samples = cell_of_frames 0 samples Complemented frames
 in_two_frames : messages_sent (cell 887808) 9 786432 ≡ Traffic 887808 spelled message ∷ []
 unfolding cell frames slow signaling spelled message messages_sent split split_9600 capsule_ending
     front_capsule is_stated traffic_reading traffic_capsule message_body body_reading is_body
-    head_at head_of part_reading capsule check_bits binary places
+    head_at head_of part_reading reading fields_at group_at presence_at octets_at number_part
+    part_at records_at capsule check_bits binary places
 in_two_frames = refl
 
 -- one sample less, and its last frame isn't in the file
 cut_short : messages_sent (cell 887807) 9 786432 ≡ []
 unfolding cell frames slow signaling spelled message messages_sent split split_9600 capsule_ending
     front_capsule is_stated traffic_reading traffic_capsule message_body body_reading is_body
-    head_at head_of part_reading capsule check_bits binary places
+    head_at head_of part_reading reading fields_at group_at presence_at octets_at number_part
+    part_at records_at capsule check_bits binary places
 cut_short = refl
 
 -- a mark behind the beginning of its first frame
 begun_before : messages_sent (cell 887808) 9 814081 ≡ []
 unfolding cell frames slow signaling spelled message messages_sent split split_9600 capsule_ending
     front_capsule is_stated traffic_reading traffic_capsule message_body body_reading is_body
-    head_at head_of part_reading capsule check_bits binary places
+    head_at head_of part_reading reading fields_at group_at presence_at octets_at number_part
+    part_at records_at capsule check_bits binary places
 begun_before = refl

@@ -1,14 +1,14 @@
 -- Bodies of messages, spelled and read again.
-use Rattle.traffic_message.proofs.Common.{◌≡◌, ◌≢◌, ◌⊎◌, ℕ, ◌+◌, ◌%◌, ◌^◌, ◌<◌, ◌≤◌, ◌==◌, ◌&&◌, Bool, true, false, List, [], ◌∷◌, ◌++◌}
-use Rattle.traffic_message.proofs.Common.{length, drop, refl, sym, ap, subst, ◌∙◌, arith, append_assoc, length-append, nat_le, inl, inr}
-use Rattle.traffic_message.proofs.Common.{Option, Some, None, and_from, and_parts, cases_Bool, eq-eqb, eqb-false, eqb-true, le-leb}
-use Rattle.traffic_message.proofs.Common.{leb-true, ne_eqb, drop_at, length-drop, binary, digit, spelled, in_widths, FieldsFit, number_at}
-use Rattle.traffic_message.proofs.Common.{values_at, digit_of, length-binary, behind_front, dropped, front, length-in_widths, number_front}
-use Rattle.traffic_message.proofs.Common.{values_again, values_there, FillsCapsule, M16, is_hard, head_widths, TrafficBody, Head, Form}
-use Rattle.traffic_message.proofs.Common.{HasFields, body_from, contents_of, form_at, form_in, shape_of, Contents, mapped, fields_at}
-use Rattle.traffic_message.proofs.Common.{mapped_some, number_part, some_is, reading_again, reading_there}
+use Rattle.traffic_message.proofs.Common.{◌≡◌, ◌≢◌, ◌⊎◌, ℕ, ◌+◌, ◌%◌, ◌^◌, ◌<◌, ◌≤◌, ◌==◌, ◌&&◌, Bool, true, false, List, ◌∷◌, ◌++◌, length}
+use Rattle.traffic_message.proofs.Common.{drop, refl, sym, ap, subst, ◌∙◌, arith, append_assoc, length-append, nat_le, inl, inr, Option}
+use Rattle.traffic_message.proofs.Common.{Some, None, and_from, and_parts, cases_Bool, eq-eqb, eqb-false, eqb-true, le-leb, leb-true}
+use Rattle.traffic_message.proofs.Common.{drop_at, binary, digit, spelled, in_widths, FieldsFit, number_at, values_at, digit_of}
+use Rattle.traffic_message.proofs.Common.{length-in_widths, values_again, values_there, FillsCapsule, M16, is_hard, head_widths}
+use Rattle.traffic_message.proofs.Common.{TrafficBody, Head, Form, HasFields, body_from, contents_of, form_at, form_in, shape_of, Contents}
+use Rattle.traffic_message.proofs.Common.{mapped, fields_at, mapped_some, some_is, reading_again, reading_there, not_both, get_or}
+use Rattle.traffic_message.proofs.Common.{head_contents, head_in, head_shape, typed_widths, spelling}
 use Rattle.message_layout.specs.Reading as layouts
-use Rattle.traffic_message.proofs.ByLayout.{laid, lawful, made_of, placed, spelled_as}
+use Rattle.traffic_message.proofs.ByLayout.{head_written, laid, lawful, made_of, spelled_as}
 use Rattle.traffic_message.proofs.Directions.{soft_bits}
 use Rattle.traffic_message.specs.Messages as messages
 use Rattle.traffic_message.specs.Reading as reading
@@ -20,7 +20,8 @@ use Rattle.traffic_message.specs.declared.layouts.Form.TheVariants as forms
 abbrev IsForm : Form → ℕ → ℕ → List Bool → Type 0
 IsForm forms.Parameters kind encryption bits = (encryption ≡ 0) × (kind ≡ 7)
 IsForm forms.Update kind encryption bits = (encryption ≡ 0) × (kind ≡ 8)
-IsForm forms.Direction kind encryption bits = (encryption ≡ 0) × (kind ≡ 17)
+IsForm forms.Direction kind encryption bits =
+    (encryption ≡ 0) × (kind ≡ 17) × (is_hard bits ≡ false)
 IsForm forms.Plain kind encryption bits =
     (encryption ≢ 0) ⊎ ((kind ≢ 7) × (kind ≢ 8) × ((kind ≢ 17) ⊎ (is_hard bits ≡ true)))
 
@@ -42,35 +43,24 @@ form_is kind encryption bits =
                     | inr d ↦ rw (t, a, b, d) (inr (not_7, not_8, inl (eqb-false kind 17 d)))
                     | inl d ↦ elim (cases_Bool (is_hard bits)) [
                       | inl hard ↦ rw (t, a, b, d, hard) (inr (not_7, not_8, inr hard))
-                      | inr soft ↦ rw (t, a, b, d, soft) (zero, eqb-true kind 17 d)
+                      | inr soft ↦ rw (t, a, b, d, soft) (zero, eqb-true kind 17 d, soft)
                     ]
                   ]
             ]
           ]
     ]
 
-other_form : (h : Head) (kind : ℕ) (bits : List Bool) →
-    messages.IsOfKind h (bodies.Other kind bits) →
-    form_at kind h.encryption bits ≡ forms.Plain
-other_form h kind bits (inl secret) = let f = ne_eqb h.encryption 0 secret in rw f refl
-other_form h kind bits (inr (a, b, inl c)) =
-    let x = ne_eqb kind 7 a in
-    let y = ne_eqb kind 8 b in
-    let z = ne_eqb kind 17 c in
-    elim (cases_Bool (h.encryption == 0)) [
-      | inl t ↦ rw (t, x, y, z) refl
-      | inr f ↦ rw f refl
-    ]
-other_form h kind bits (inr (a, b, inr hard)) =
-    let x = ne_eqb kind 7 a in
-    let y = ne_eqb kind 8 b in
-    elim (cases_Bool (h.encryption == 0)) [
-      | inl t ↦ elim (cases_Bool (kind == 17)) [
-        | inl z ↦ rw (t, x, y, z, hard) refl
-        | inr z ↦ rw (t, x, y, z) refl
-      ]
-      | inr f ↦ rw f refl
-    ]
+-- no other form says so of a type that has none of its own
+only_plain : (h : Head) (f : Form) (kind : ℕ) (bits : List Bool) →
+    IsForm f kind h.encryption bits → messages.IsOfKind h (bodies.Other kind bits) → f ≡ forms.Plain
+only_plain h forms.Parameters kind bits is (inl secret) = absurd (secret is.0)
+only_plain h forms.Parameters kind bits is (inr other) = absurd (other.0 is.1)
+only_plain h forms.Update kind bits is (inl secret) = absurd (secret is.0)
+only_plain h forms.Update kind bits is (inr other) = absurd (other.1 is.1)
+only_plain h forms.Direction kind bits is (inl secret) = absurd (secret is.0)
+only_plain h forms.Direction kind bits is (inr (a, b, inl other)) = absurd (other is.1)
+only_plain h forms.Direction kind bits is (inr (a, b, inr hard)) = absurd (not_both is.2 hard)
+only_plain h forms.Plain kind bits is of_kind = refl
 
 form_again : (h : Head) (b : TrafficBody) → messages.IsOfKind h b →
     form_at (messages.kind_of b) h.encryption (messages.bits_of b) ≡ form_in b
@@ -78,9 +68,10 @@ form_again h (bodies.System m) is = let t = eq-eqb h.encryption 0 is.0 in rw t r
 form_again h (bodies.Neighbors m) is = let t = eq-eqb h.encryption 0 is.0 in rw t refl
 form_again h (bodies.Handoff m) is =
     let t = eq-eqb h.encryption 0 is.0 in
-    let soft = soft_bits m is.1 in
+    let soft = soft_bits m in
     rw (t, soft) refl
-form_again h (bodies.Other kind bits) is = other_form h kind bits is
+form_again h (bodies.Other kind bits) is =
+    only_plain h (form_at kind h.encryption bits) kind bits (form_is kind h.encryption bits) is
 
 fields_of : (h : Head) (b : TrafficBody) → messages.IsOfKind h b → HasFields b
 fields_of h (bodies.System m) is = is.1
@@ -91,14 +82,13 @@ fields_of h (bodies.Other kind bits) is = tt
 -- what was spelled is read again
 pub part_again : (h : Head) (b : TrafficBody) → messages.IsOfKind h b →
     reading.part_reading (messages.kind_of b) h.encryption (messages.bits_of b) ≡ Some b
+unfolding reading.part_reading
 part_again h b is =
     let f = form_in b in
     let k = messages.kind_of b in
     let bits = messages.bits_of b in
     let own = laid b (fields_of h b is) in
-    placed k h.encryption bits
-    ∙ ap (λ (g : Form). mapped (body_from g k) (layouts.reading (shape_of g) bits))
-    (form_again h b is)
+    ap (λ (g : Form). mapped (body_from g k) (layouts.reading (shape_of g) bits)) (form_again h b is)
     ∙ ap (λ (r : List Bool). mapped (body_from f k) (layouts.reading (shape_of f) r)) (sym own.same)
     ∙ ap (mapped (body_from f k)) (reading_again (shape_of f) (contents_of b) (lawful f) own.is)
     ∙ ap Some own.made
@@ -131,11 +121,11 @@ of_kind forms.Plain kind encryption bits c h (inr plain) fields same e =
 -- what is read is spelled so
 pub part_there : (h : Head) (kind : ℕ) (bits : List Bool) (b : TrafficBody) →
     reading.part_reading kind h.encryption bits ≡ Some b → Says kind h.encryption bits b
+unfolding reading.part_reading
 part_there h kind bits b e =
     let f = form_at kind h.encryption bits in
     let is = form_is kind h.encryption bits in
-    let some = mapped_some (body_from f kind) (layouts.reading (shape_of f) bits) b
-    (sym (placed kind h.encryption bits) ∙ e) in
+    let some = mapped_some (body_from f kind) (layouts.reading (shape_of f) bits) b e in
     let there = reading_there (shape_of f) bits some.0 (lawful f) some.1 in
     let made = made_of f kind some.0 there.0 in
     let same = spelled_as f some.0 (body_from f kind some.0) bits made there.1 in
@@ -154,30 +144,33 @@ head_again : (h : Head) → reading.head_of (messages.head_values h) ≡ h
 unfolding reading.head_of
 head_again h = rw (bit_back h.ack_req) refl
 
-head_back : (vs : List ℕ) → length vs ≡ 4 → FieldsFit (in_widths head_widths vs) →
-    messages.head_values (reading.head_of vs) ≡ vs
+head_back : (w : List Bool) → FieldsFit (in_widths head_widths (values_at head_widths w)) →
+    messages.head_values (reading.head_of (values_at head_widths w)) ≡ values_at head_widths w
 unfolding reading.head_of
-head_back [] long fit = absurd (omega (arith, long))
-head_back (a ∷ []) long fit = absurd (omega (arith, long))
-head_back (a ∷ b ∷ []) long fit = absurd (omega (arith, long))
-head_back (a ∷ b ∷ c ∷ []) long fit = absurd (omega (arith, long))
-head_back (a ∷ b ∷ c ∷ d ∷ []) long fit =
+head_back w fit =
+    let c = number_at 0 1 (drop 3 (drop 3 w)) in
     let bit : digit (c == 1) ≡ c = digit_of c (omega (arith, fit.1.1.0)) in
     rw bit refl
-head_back (a ∷ b ∷ c ∷ d ∷ e ∷ vs) long fit = absurd (omega (arith, long))
+
+-- a body is its type and its head as fields of one table, and what stands behind them
+typed : (m : messages.Message) →
+    messages.message_body m
+    ≡ spelled (in_widths typed_widths (messages.kind_of m.body ∷ messages.head_values m.head))
+    ++ messages.bits_of m.body
+unfolding messages.message_body
+typed m =
+    sym (append_assoc (binary 8 (messages.kind_of m.body)) (spelled (messages.head_fields m.head))
+    (messages.bits_of m.body))
 
 pub length-message : (m : messages.Message) →
     length (messages.message_body m) ≡ 17 + length (messages.bits_of m.body)
-unfolding messages.message_body
 length-message m =
-    let head = spelled (messages.head_fields m.head) in
-    let bits = messages.bits_of m.body in
+    let vs = messages.kind_of m.body ∷ messages.head_values m.head in
     omega (
       arith,
-      length-append (binary 8 (messages.kind_of m.body)) (head ++ bits),
-      length-binary 8 (messages.kind_of m.body),
-      length-append head bits,
-      length-in_widths head_widths (messages.head_values m.head) refl,
+      ap length (typed m),
+      length-append (spelled (in_widths typed_widths vs)) (messages.bits_of m.body),
+      length-in_widths typed_widths vs refl,
     )
 
 -- BODIES
@@ -211,30 +204,27 @@ is_body_parts body h =
     )
 
 body_parts : (m : messages.Message) (body : List Bool) → messages.IsTrafficMessage m →
-    body ≡ binary 8 (messages.kind_of m.body)
-    ++ (spelled (messages.head_fields m.head) ++ messages.bits_of m.body) →
+    body ≡ messages.message_body m →
     (number_at 0 8 body ≡ messages.kind_of m.body) × (reading.head_at body ≡ m.head)
     × (drop 17 body ≡ messages.bits_of m.body)
 unfolding reading.head_at
 body_parts m body is same =
-    let k = messages.kind_of m.body in
-    let vs = messages.head_values m.head in
-    let head = spelled (messages.head_fields m.head) in
+    let vs = messages.kind_of m.body ∷ messages.head_values m.head in
     let bits = messages.bits_of m.body in
-    let eight : drop 8 body ≡ head ++ bits =
-    ap (drop 8) same ∙ behind_front 8 k (head ++ bits) in
-    let values : values_at head_widths (drop 8 body) ≡ vs =
-    ap (values_at head_widths) eight ∙ values_again head_widths vs bits refl is.head in (
-      ap (number_at 0 8) same ∙ number_front 8 k (head ++ bits) is.kind.0,
-      ap reading.head_of values ∙ head_again m.head,
-      sym (dropped 9 8 body) ∙ ap (drop 9) eight
-          ∙ drop_at head bits 9 (length-in_widths head_widths vs refl),
+    let parts = same ∙ typed m in
+    let values : values_at typed_widths body ≡ vs =
+    ap (values_at typed_widths) parts
+    ∙ values_again typed_widths vs bits refl (is.kind.0, is.head) in (
+      ap (λ (ns : List ℕ). get_or ns 0 0) values,
+      ap (λ (ns : List ℕ). reading.head_of (drop 1 ns)) values ∙ head_again m.head,
+      ap (drop 17) parts
+          ∙ drop_at (spelled (in_widths typed_widths vs)) bits 17 (length-in_widths typed_widths vs refl),
     )
 
 -- what was spelled is read again
 pub message_again : (m : messages.Message) → messages.IsTrafficMessage m →
     reading.body_reading (messages.message_body m) ≡ Some m
-unfolding reading.body_reading messages.message_body
+unfolding reading.body_reading
 message_again m is =
     let body = messages.message_body m in
     let p = body_parts m body is refl in
@@ -249,28 +239,24 @@ Spells body m = messages.IsTrafficMessage m × (body ≡ messages.message_body m
 spelled_from : (body : List Bool) (b : TrafficBody) → reading.is_body body ≡ true →
     Says (number_at 0 8 body) (reading.head_at body).encryption (drop 17 body) b →
     Spells body (record { head = reading.head_at body; body = b })
-unfolding reading.head_at messages.message_body
+unfolding reading.head_at
 spelled_from body b t says =
     let fits = is_body_parts body t in
-    let k = number_at 0 8 body in
-    let w = drop 8 body in
-    let vs = values_at head_widths w in
-    let one = front 8 body (omega (arith, fits.1)) in
-    let v = values_there head_widths w (omega (arith, fits.1, length-drop 8 body)) in
-    let head : messages.head_values (reading.head_of vs) ≡ vs = head_back vs v.0 v.1 in
-    let bits = messages.bits_of b in
-    let fs = spelled (in_widths head_widths (messages.head_values (reading.head_of vs))) in
-    let behind : w ≡ fs ++ bits =
-    v.2 ∙ ap (λ (r : List Bool). spelled (in_widths head_widths vs) ++ r)
-    (dropped 9 8 body ∙ sym says.1)
-    ∙ ap (λ (us : List ℕ). spelled (in_widths head_widths us) ++ bits) (sym head) in
-    let same : body ≡ binary 8 (messages.kind_of b) ++ (fs ++ bits) =
-    one.1 ∙ ap (λ (n : ℕ). binary 8 n ++ w) (sym says.0)
-    ∙ ap (λ (r : List Bool). binary 8 (messages.kind_of b) ++ r) behind in (
+    let m : messages.Message = record { head = reading.head_at body; body = b } in
+    let v = values_there typed_widths body fits.1 in
+    let head = head_back (drop 8 body) v.1.1 in
+    let same : body ≡ messages.message_body m =
+    v.2 ∙ ap (λ (ns : List ℕ). spelled (in_widths typed_widths (number_at 0 8 body ∷ ns)) ++ drop 17 body)
+    (sym head)
+    ∙ ap (λ (n : ℕ). spelled (in_widths typed_widths (n ∷ messages.head_values m.head)) ++ drop 17 body)
+    (sym says.0)
+    ∙ ap (λ (r : List Bool).
+    spelled (in_widths typed_widths (messages.kind_of b ∷ messages.head_values m.head)) ++ r)
+    (sym says.1) ∙ sym (typed m) in (
       record {
-        kind = (subst (λ (n : ℕ). n < 2 ^ 8) (sym says.0) one.0, tt);
-        head = subst (λ (us : List ℕ). FieldsFit (in_widths head_widths us)) (sym head) v.1;
-        says = says.2 (reading.head_of vs) refl;
+        kind = (subst (λ (n : ℕ). n < 2 ^ 8) (sym says.0) v.1.0, tt);
+        head = subst (λ (us : List ℕ). FieldsFit (in_widths head_widths us)) (sym head) v.1.1;
+        says = says.2 m.head refl;
         fills = subst (FillsCapsule M16) same fits.0;
       },
       same,
@@ -322,99 +308,67 @@ no_body body f = rw f refl
 abbrev pub message : Head → TrafficBody → messages.Message
 message h b = record { head = h; body = b }
 
--- the type, the values of the head and the bits behind it
-pub record AreParts (body : List Bool) (k : ℕ) (vs : List ℕ) (rest : List Bool) : Type 0 where
-  pub kind : k ≡ number_at 0 8 body
-  pub head : reading.head_of vs ≡ reading.head_at body
-  pub fit : FieldsFit (messages.head_fields (reading.head_of vs))
+-- the type, the head, and the bits behind them
+pub record AreParts (body : List Bool) (vs : List ℕ) (rest : List Bool) : Type 0 where
+  pub kind : get_or vs 0 0 ≡ number_at 0 8 body
+  pub small : get_or vs 0 0 < 2 ^ 8
+  pub head : head_in vs ≡ reading.head_at body
+  pub fit : FieldsFit (messages.head_fields (head_in vs))
   pub behind : rest ≡ drop 17 body
 
 abbrev head_said : List Bool → List ℕ × List Bool
-head_said body = (values_at head_widths (drop 8 body), drop 9 (drop 8 body))
+head_said body = (values_at typed_widths body, drop 17 body)
 
-pub kind_there : (body : List Bool) → reading.is_body body ≡ true →
-    number_part 8 body ≡ Some (number_at 0 8 body, drop 8 body)
-unfolding number_part
-kind_there body t =
-    let some = le-leb 8 (length body) (omega (arith, (is_body_parts body t).1)) in
-    rw some refl
-
-pub head_there : (body : List Bool) → reading.is_body body ≡ true →
-    fields_at head_widths (drop 8 body) ≡ Some (head_said body)
+head_there : (body : List Bool) → reading.is_body body ≡ true →
+    fields_at typed_widths body ≡ Some (head_said body)
 unfolding fields_at
 head_there body t =
-    let w = drop 8 body in
-    let some = le-leb 9 (length w)
-    (omega (arith, (is_body_parts body t).1, length-drop 8 body)) in
+    let some = le-leb 17 (length body) (is_body_parts body t).1 in
     rw some refl
 
-pub no_kind : (body : List Bool) → reading.is_body body ≡ true → ¬ (None ≡ number_part 8 body)
-no_kind body t none =
-    let first : ℕ × List Bool = (number_at 0 8 body, drop 8 body) in
-    let some : None ≡ Some first = none ∙ kind_there body t in
+pub no_head : (body : List Bool) → reading.is_body body ≡ true →
+    ¬ (None ≡ fields_at typed_widths body)
+no_head body t none =
+    let some : None ≡ Some (head_said body) = none ∙ head_there body t in
     absurd (cc)
 
-behind_kind : (body w : List Bool) (k : ℕ) → reading.is_body body ≡ true →
-    Some (k, w) ≡ number_part 8 body → (k ≡ number_at 0 8 body) × (w ≡ drop 8 body)
-behind_kind body w k t typed =
-    let first : ℕ × List Bool = (number_at 0 8 body, drop 8 body) in
-    let pair : (k, w) ≡ first = some_is (k, w) first (typed ∙ kind_there body t) in
-    (ap (λ (x : ℕ × List Bool). x.0) pair, ap (λ (x : ℕ × List Bool). x.1) pair)
-
-pub no_head : (body w : List Bool) (k : ℕ) → reading.is_body body ≡ true →
-    Some (k, w) ≡ number_part 8 body → ¬ (None ≡ fields_at head_widths w)
-no_head body w k t typed none =
-    let some : None ≡ Some (head_said body) =
-    none ∙ ap (fields_at head_widths) (behind_kind body w k t typed).1 ∙ head_there body t in
-    absurd (cc)
-
-pub are_parts : (body w : List Bool) (k : ℕ) (vs : List ℕ) (rest : List Bool) →
-    reading.is_body body ≡ true → Some (k, w) ≡ number_part 8 body →
-    Some (vs, rest) ≡ fields_at head_widths w → AreParts body k vs rest
-unfolding reading.head_at
-are_parts body w k vs rest t typed read =
-    let there = behind_kind body w k t typed in
+pub are_parts : (body : List Bool) (vs : List ℕ) (rest : List Bool) →
+    reading.is_body body ≡ true → Some (vs, rest) ≡ fields_at typed_widths body →
+    AreParts body vs rest
+unfolding reading.head_at reading.head_of
+are_parts body vs rest t read =
     let same : (vs, rest) ≡ head_said body =
-    some_is (vs, rest) (head_said body)
-    (read ∙ ap (fields_at head_widths) there.1 ∙ head_there body t) in
-    let us = values_at head_widths (drop 8 body) in
-    let values : vs ≡ us = ap (λ (x : List ℕ × List Bool). x.0) same in
-    let v = values_there head_widths (drop 8 body)
-    (omega (arith, (is_body_parts body t).1, length-drop 8 body)) in
+    some_is (vs, rest) (head_said body) (read ∙ head_there body t) in
+    let values : vs ≡ values_at typed_widths body = ap (λ (x : List ℕ × List Bool). x.0) same in
+    let v = values_there typed_widths body (is_body_parts body t).1 in
+    let fit = subst (λ (us : List ℕ). FieldsFit (in_widths head_widths us))
+    (sym (head_back (drop 8 body) v.1.1)) v.1.1 in
     record {
-      kind = there.0;
-      head = ap reading.head_of values;
-      fit = subst (λ (ns : List ℕ). FieldsFit (messages.head_fields (reading.head_of ns)))
-          (sym values) (subst (λ (ns : List ℕ). FieldsFit (in_widths head_widths ns))
-          (sym (head_back us v.0 v.1)) v.1);
-      behind = ap (λ (x : List ℕ × List Bool). x.1) same ∙ dropped 9 8 body;
+      kind = ap (λ (ns : List ℕ). get_or ns 0 0) values;
+      small = subst (λ (ns : List ℕ). get_or ns 0 0 < 2 ^ 8) (sym values) v.1.0;
+      head = ap head_in values;
+      fit = subst (λ (ns : List ℕ). FieldsFit (messages.head_fields (head_in ns))) (sym values) fit;
+      behind = ap (λ (x : List ℕ × List Bool). x.1) same;
     }
 
 -- what was read behind a head
-pub part_read : (body : List Bool) (k : ℕ) (vs : List ℕ) (rest : List Bool) (h : Head)
-    (read : Option TrafficBody) → reading.is_body body ≡ true → AreParts body k vs rest →
-    h ≡ reading.head_of vs → read ≡ reading.part_reading k h.encryption rest →
+pub part_read : (body : List Bool) (vs : List ℕ) (rest : List Bool) (k : ℕ) (h : Head)
+    (read : Option TrafficBody) → reading.is_body body ≡ true → AreParts body vs rest →
+    k ≡ get_or vs 0 0 → h ≡ head_in vs → read ≡ reading.part_reading k h.encryption rest →
     mapped (message h) read ≡ reading.body_reading body
 unfolding reading.body_reading
-part_read body k vs rest h read t parts head e =
+part_read body vs rest k h read t parts typed head e =
     let g = reading.head_at body in
     let n = number_at 0 8 body in
-    let all : mapped (message g) (reading.part_reading n g.encryption (drop 17 body))
-    ≡ reading.body_reading body = rw t refl in
-    ap (mapped (message h)) e
-    ∙ ap (λ (x : Head). mapped (message x) (reading.part_reading k x.encryption rest))
-    (head ∙ parts.head)
-    ∙ ap (λ (x : ℕ). mapped (message g) (reading.part_reading x g.encryption rest)) parts.kind
-    ∙ ap (λ (r : List Bool). mapped (message g) (reading.part_reading n g.encryption r))
-    parts.behind ∙ all
+    let kind = typed ∙ parts.kind in
+    let heads = head ∙ parts.head in
+    rw (t, ← kind, ← heads, ← parts.behind, e) refl
 
-pub message_written : (m : messages.Message) (one two after : List Bool) →
-    one ≡ binary 8 (messages.kind_of m.body) →
-    two ≡ one ++ spelled (messages.head_fields m.head) →
-    after ≡ two ++ messages.bits_of m.body → after ≡ messages.message_body m
-unfolding messages.message_body
-message_written m one two after a b c =
-    let head = spelled (messages.head_fields m.head) in
-    c ∙ ap (λ (r : List Bool). r ++ messages.bits_of m.body)
-    (b ∙ ap (λ (r : List Bool). r ++ head) a)
-    ∙ append_assoc (binary 8 (messages.kind_of m.body)) head (messages.bits_of m.body)
+pub message_written : (m : messages.Message) (c : Contents) (one after : List Bool) →
+    messages.IsTrafficMessage m → c ≡ head_contents (messages.kind_of m.body) m.head →
+    one ≡ spelling head_shape c → after ≡ one ++ messages.bits_of m.body →
+    after ≡ messages.message_body m
+message_written m c one after is contents a b =
+    b ∙ ap (λ (r : List Bool). r ++ messages.bits_of m.body)
+    (a ∙ (head_written (messages.kind_of m.body) m.head c is.kind.0 is.head contents).1)
+    ∙ sym (typed m)

@@ -14,7 +14,7 @@ pub use Rattle.chip_core.proofs.Places.{map-places-all}
 pub use Rattle.chip_core.proofs.ValueLists.{behind_front, dropped, front, length-in_widths, number_front, values_again, values_there}
 pub use Rattle.chip_core.specs.Bits.{digit, number}
 unfoldable pub use Rattle.chip_core.specs.Bits.{binary, places}
-pub use Rattle.chip_core.specs.Fields.{FieldsFit, field, in_widths, spelled}
+pub use Rattle.chip_core.specs.Fields.{FieldsFit, field, in_widths, spelled, total}
 pub use Rattle.chip_core.specs.Readings.{column_at, number_at, values_at}
 pub use Rattle.chip_core.specs.declared.check_form.CheckForm.{CheckForm}
 pub use Rattle.chip_core.specs.declared.field.Field.{Field}
@@ -25,7 +25,7 @@ pub use Rattle.message_layout.proofs.Plain.{fields_reading, list_reading, list_s
 pub use Rattle.message_layout.proofs.Plain.{record_map, rest_back}
 pub use Rattle.message_layout.proofs.Round.{reading_again, reading_there}
 pub use Rattle.message_layout.specs.Contents.{count_in, record_fields}
-pub use Rattle.message_layout.specs.Plain.{plain_contents}
+pub use Rattle.message_layout.specs.Plain.{plain_contents, plain_shape}
 pub use Rattle.message_layout.specs.Reading.{mapped, rest_at, ◌>>=◌}
 unfoldable pub use Rattle.message_layout.specs.Reading.{fields_at, group_at, number_part, octets_at, part_at, presence_at, reading}
 unfoldable pub use Rattle.message_layout.specs.Reading.{records_at}
@@ -41,18 +41,15 @@ pub use Rattle.quality_bits.specs.Capsules.{FillsCapsule, capsule}
 pub use Rattle.quality_bits.specs.declared.kind.Kind.TheVariants.{M16}
 pub use Rattle.traffic_message.specs.Admitted.{HasMessage}
 unfoldable pub use Rattle.traffic_message.specs.Admitted.{admits, part_admits}
-pub use Rattle.traffic_message.specs.Handoff.{direction_at, direction_records, has_records, is_hard}
-unfoldable pub use Rattle.traffic_message.specs.Handoff.{direction_reading}
-pub use Rattle.traffic_message.specs.InTraffic.{in_traffic_at}
-unfoldable pub use Rattle.traffic_message.specs.InTraffic.{in_traffic_reading}
-pub use Rattle.traffic_message.specs.Layouts.{HasFields, body_from, contents_of, form_at, form_in, shape_of}
+pub use Rattle.traffic_message.specs.Handoff.{direction_records, is_hard}
+pub use Rattle.traffic_message.specs.Layouts.{HasFields, body_from, contents_of, form_at, form_in, head_contents, head_in, head_shape}
+pub use Rattle.traffic_message.specs.Layouts.{shape_of, typed_widths}
 pub use Rattle.traffic_message.specs.Messages.{IsTrafficMessage, Message, bits_of, head_fields, head_values, kind_of, message_body}
 unfoldable pub use Rattle.traffic_message.specs.Messages.{traffic_capsule}
 pub use Rattle.traffic_message.specs.Multiplex.{joined, primary_bits}
 unfoldable pub use Rattle.traffic_message.specs.Multiplex.{split_9600}
-pub use Rattle.traffic_message.specs.Neighbors.{has_neighbors, update_at}
-unfoldable pub use Rattle.traffic_message.specs.Neighbors.{update_reading}
-pub use Rattle.traffic_message.specs.Reading.{body_reading, is_body, traffic_reading}
+unfoldable pub use Rattle.traffic_message.specs.Neighbors.{has_neighbors}
+pub use Rattle.traffic_message.specs.Reading.{body_reading, head_at, is_body, traffic_reading}
 unfoldable pub use Rattle.traffic_message.specs.Reading.{part_reading}
 pub use Rattle.traffic_message.specs.Widths.{head_widths, in_traffic_widths, search_widths, time_widths}
 pub use Rattle.traffic_message.specs.declared.body.TrafficBody.{TrafficBody}

@@ -1,9 +1,8 @@
 -- The Extended Handoff Direction Message (TIA/EIA-95-B, 7.7.3.3.2.17).
 use Rattle.std.specs.Prelude.{ℕ, ◌≡◌, ◌+◌, ◌-◌, ◌*◌, ◌≤◌, ◌/◌, ◌%◌, ◌==◌, ◌&&◌, if◌then◌else◌, Bool}
-use Rattle.std.specs.Prelude.{List, [], ◌∷◌, ◌++◌, length, take, drop, get_or, nat_le, Option, Some}
-use Rattle.std.specs.Prelude.{None}
+use Rattle.std.specs.Prelude.{List, [], ◌∷◌, ◌++◌, length, get_or, nat_le, Option, Some, None}
 use Rattle.chip_core.specs.Fields.{field, spelled, in_widths, FieldsFit}
-use Rattle.chip_core.specs.Readings.{number_at, values_at, column_at}
+use Rattle.chip_core.specs.Readings.{number_at}
 use Rattle.chip_core.specs.declared.field.Field.{Field}
 use Rattle.traffic_message.specs.Widths.{search_widths, time_widths}
 use Rattle.traffic_message.specs.declared.fields.DirectionFields.{DirectionFields}
@@ -88,11 +87,6 @@ search_of values = record {
   ttdrop = get_or values 4 0;
 }
 
-unfoldable pub search_at : List Bool → Option Search
-search_at bits =
-    if number_at 9 1 bits == 1 then Some (search_of (values_at search_widths (drop 10 bits)))
-    else None
-
 unfoldable pub direction_of : List ℕ → Option Search → List Bool → List ℕ → List ℕ → List ℕ →
     List Bool → DirectionFields
 direction_of times search extra pns combs rows rest = record {
@@ -107,22 +101,8 @@ direction_of times search extra pns combs rows rest = record {
   rest = rest;
 }
 
--- what stands at the places of the fields, with as many records as fit
-unfoldable pub direction_at : List Bool → DirectionFields
-direction_at bits =
-    let first = first_record bits in
-    let n = (length bits - first) / 18 in
-    direction_of (values_at time_widths bits) (search_at bits)
-    (take (8 * octets_at bits) (drop (hard_place bits + 4) bits))
-    (column_at 18 0 9 n (drop first bits)) (column_at 18 9 1 n (drop first bits))
-    (column_at 18 10 8 n (drop first bits)) (drop (first + 18 * n) bits)
-
 -- whether there is a record, and at most 7 bits are left
 unfoldable pub has_records : List Bool → Bool
 has_records bits =
     nat_le (first_record bits + 18) (length bits)
     && nat_le ((length bits - first_record bits) % 18) 7
-
--- what the bits say, where HARD_INCLUDED isn't 1
-unfoldable pub direction_reading : List Bool → Option DirectionFields
-direction_reading bits = if has_records bits then Some (direction_at bits) else None

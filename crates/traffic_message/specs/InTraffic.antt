@@ -1,8 +1,6 @@
 -- The In-Traffic System Parameters Message (TIA/EIA-95-B, 7.7.3.3.2.7).
-use Rattle.std.specs.Prelude.{ℕ, if◌then◌else◌, Bool, List, [], ◌∷◌, ◌++◌, length, drop, get_or}
-use Rattle.std.specs.Prelude.{nat_le, Option, Some, None}
+use Rattle.std.specs.Prelude.{ℕ, Bool, List, [], ◌∷◌, ◌++◌, get_or}
 use Rattle.chip_core.specs.Fields.{spelled, in_widths, FieldsFit}
-use Rattle.chip_core.specs.Readings.{values_at}
 use Rattle.chip_core.specs.declared.field.Field.{Field}
 use Rattle.traffic_message.specs.Widths.{in_traffic_widths}
 use Rattle.traffic_message.specs.declared.fields.InTrafficFields.{InTrafficFields}
@@ -38,11 +36,3 @@ in_traffic_of values rest = record {
   age = get_or values 9 0;
   rest = rest;
 }
-
--- what stands at the places of the fields
-unfoldable pub in_traffic_at : List Bool → InTrafficFields
-in_traffic_at bits = in_traffic_of (values_at in_traffic_widths bits) (drop 67 bits)
-
--- where all are there
-unfoldable pub in_traffic_reading : List Bool → Option InTrafficFields
-in_traffic_reading bits = if nat_le 67 (length bits) then Some (in_traffic_at bits) else None

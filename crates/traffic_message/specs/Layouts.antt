@@ -22,12 +22,24 @@ use Rattle.traffic_message.specs.declared.fields.UpdateFields.{UpdateFields}
 use Rattle.traffic_message.specs.declared.layouts.Form.{Form}
 use Rattle.traffic_message.specs.declared.layouts.Form.TheVariants as forms
 
--- THE HEAD
-abbrev pub head_shape : Shape
-head_shape = plain_shape head_widths [] 0 None
+-- THE TYPE AND THE HEAD
+abbrev pub typed_widths : List ℕ
+typed_widths = 8 ∷ head_widths
 
-abbrev pub head_contents : Head → Contents
-head_contents h = plain_contents (head_values h) ([] ∷ [] ∷ [] ∷ []) []
+abbrev pub head_shape : Shape
+head_shape = plain_shape typed_widths [] 0 None
+
+abbrev pub head_contents : ℕ → Head → Contents
+head_contents kind h = plain_contents (kind ∷ head_values h) ([] ∷ [] ∷ [] ∷ []) []
+
+-- the head behind the type
+abbrev pub head_in : List ℕ → Head
+head_in values = record {
+  ack_seq = get_or values 1 0;
+  msg_seq = get_or values 2 0;
+  ack_req = get_or values 3 0 == 1;
+  encryption = get_or values 4 0;
+}
 
 -- IN-TRAFFIC SYSTEM PARAMETERS
 abbrev pub in_traffic_shape : Shape

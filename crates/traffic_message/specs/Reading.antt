@@ -1,19 +1,16 @@
 -- The message that a body or a capsule spells, as a function of its bits: each field is the number
--- that stands at its place.
-use Rattle.std.specs.Prelude.{ℕ, ◌-◌, ◌%◌, ◌==◌, ◌&&◌, if◌then◌else◌, Bool, not, List, length, take}
-use Rattle.std.specs.Prelude.{drop, get_or, nat_le, Option, Some, None}
+-- that stands at its place, behind the head by the layout of the type.
+use Rattle.std.specs.Prelude.{ℕ, ◌-◌, ◌%◌, ◌==◌, ◌&&◌, if◌then◌else◌, Bool, List, length, take}
+use Rattle.std.specs.Prelude.{drop, get_or, nat_le, Option, None}
 use Rattle.chip_core.specs.Readings.{number_at, values_at}
 use Rattle.chip_core.specs.declared.check_form.CheckForm.{CheckForm}
-use Rattle.message_layout.specs.Reading.{mapped}
+use Rattle.message_layout.specs.Reading.{mapped, reading}
 use Rattle.quality_bits.specs.Capsules.{if_spelled}
 pub use Rattle.quality_bits.specs.Faults.{reading_of}
-use Rattle.traffic_message.specs.Handoff.{direction_reading, is_hard}
-use Rattle.traffic_message.specs.InTraffic.{in_traffic_reading}
+use Rattle.traffic_message.specs.Layouts.{body_from, form_at, shape_of}
 use Rattle.traffic_message.specs.Messages.{Message, traffic_capsule}
-use Rattle.traffic_message.specs.Neighbors.{update_reading}
 use Rattle.traffic_message.specs.Widths.{head_widths}
 use Rattle.traffic_message.specs.declared.body.TrafficBody.{TrafficBody}
-use Rattle.traffic_message.specs.declared.body.TrafficBody.TheVariants as bodies
 use Rattle.traffic_message.specs.declared.fields.Head.{Head}
 
 -- the head of these values
@@ -28,14 +25,11 @@ head_of values = record {
 unfoldable pub head_at : List Bool → Head
 head_at body = head_of (values_at head_widths (drop 8 body))
 
--- what stands behind the head says, by the type where nothing is encrypted
+-- what stands behind the head says, by the layout of its form
 unfoldable pub part_reading : ℕ → ℕ → List Bool → Option TrafficBody
 part_reading kind encryption bits =
-    if (encryption == 0) && (kind == 7) then mapped bodies.System (in_traffic_reading bits)
-    else (if (encryption == 0) && (kind == 8) then mapped bodies.Neighbors (update_reading bits)
-    else (if (encryption == 0) && ((kind == 17) && not (is_hard bits))
-    then mapped bodies.Handoff (direction_reading bits)
-    else Some (bodies.Other kind bits)))
+    let form = form_at kind encryption bits in
+    mapped (body_from form kind) (reading (shape_of form) bits)
 
 -- whether the length is that of a capsule's body, and the head is there
 unfoldable pub is_body : List Bool → Bool

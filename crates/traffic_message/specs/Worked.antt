@@ -3,17 +3,17 @@ use Rattle.std.specs.Prelude.{◌≡◌, refl, Bool, true, false, List, [], ◌�
 use Rattle.std.specs.Prelude.{take, drop, map, Some, None}
 use Rattle.chip_core.specs.Bits.{binary, places}
 use Rattle.chip_core.specs.declared.check_form.CheckForm.TheVariants.{Plain, Complemented}
+use Rattle.message_layout.specs.Reading.{fields_at, group_at, number_part, octets_at, part_at}
+use Rattle.message_layout.specs.Reading.{presence_at, reading, records_at}
 use Rattle.quality_bits.specs.Capsules.{capsule, front_capsule, is_stated}
 use Rattle.quality_bits.specs.Pieces.{piece, capsule_ending}
 use Rattle.quality_bits.specs.Quality.{check_bits}
 use Rattle.quality_bits.specs.declared.rate.Rate.TheVariants.{R9600, R4800}
-use Rattle.traffic_message.specs.Handoff.{added_bits, direction_at, direction_bits, direction_of}
-use Rattle.traffic_message.specs.Handoff.{direction_reading, first_record, hard_place, has_records}
-use Rattle.traffic_message.specs.Handoff.{is_hard, octets_at, search_at, search_of}
-use Rattle.traffic_message.specs.InTraffic.{in_traffic_at, in_traffic_of, in_traffic_reading}
+use Rattle.traffic_message.specs.Handoff.{added_bits, direction_bits, direction_of, hard_place}
+use Rattle.traffic_message.specs.Handoff.{is_hard, search_of}
+use Rattle.traffic_message.specs.InTraffic.{in_traffic_of}
 use Rattle.traffic_message.specs.Messages.{Message, message_body, traffic_capsule}
 use Rattle.traffic_message.specs.Multiplex.{split, split_9600}
-use Rattle.traffic_message.specs.Neighbors.{has_neighbors, update_at, update_reading}
 use Rattle.traffic_message.specs.Reading.{body_reading, head_at, head_of, is_body, part_reading}
 use Rattle.traffic_message.specs.Reading.{traffic_reading}
 use Rattle.traffic_message.specs.declared.body.TrafficBody.TheVariants.{Handoff, Neighbors, Other}
@@ -65,8 +65,8 @@ unfolding other first_head message_body binary
 other_spelled = refl
 
 other_read : body_reading (binary 24 0x014e00) ≡ Some other
-unfolding other first_head body_reading is_body head_at head_of part_reading is_hard hard_place
-    binary
+unfolding other first_head body_reading is_body head_at head_of part_reading reading fields_at
+    group_at presence_at octets_at number_part part_at records_at is_hard hard_place binary
 other_read = refl
 
 -- 16 bits have no head
@@ -78,7 +78,8 @@ too_short = refl
 other_again : (traffic_reading Complemented (traffic_capsule Complemented other) ≡ Some other)
     × (traffic_reading Plain (traffic_capsule Complemented other) ≡ None)
 unfolding other first_head traffic_reading traffic_capsule message_body body_reading is_body head_at
-    head_of part_reading is_hard hard_place capsule check_bits binary places
+    head_of part_reading reading fields_at group_at presence_at octets_at number_part part_at
+    records_at is_hard hard_place capsule check_bits binary places
 other_again = (refl, refl)
 
 -- HANDOFF DIRECTIONS
@@ -104,8 +105,8 @@ one_pilot = record {
 }
 
 one_pilot_read : body_reading (binary 56 0x11007101ff0a00) ≡ Some one_pilot
-unfolding one_pilot no_head body_reading is_body head_at head_of part_reading is_hard hard_place
-    direction_reading has_records first_record octets_at direction_at direction_of search_at
+unfolding one_pilot no_head body_reading is_body head_at head_of part_reading reading fields_at
+    group_at presence_at octets_at number_part part_at records_at is_hard hard_place direction_of
     binary
 one_pilot_read = refl
 
@@ -116,7 +117,8 @@ one_pilot_spelled = refl
 -- with HARD_INCLUDED 1 it is passed on as it is
 hard : body_reading (binary 56 0x11007111ff0a00)
     ≡ Some (record { head = no_head; body = Other 17 (drop 17 (binary 56 0x11007111ff0a00)) })
-unfolding no_head body_reading is_body head_at head_of part_reading is_hard hard_place binary
+unfolding no_head body_reading is_body head_at head_of part_reading reading fields_at group_at
+    presence_at octets_at number_part part_at records_at is_hard hard_place binary
 hard = refl
 
 -- with search parameters, an additional octet and two records; PWR_COMB_IND stands before the row
@@ -139,14 +141,14 @@ two_pilots = record {
 
 two_pilots_again : body_reading (message_body two_pilots) ≡ Some two_pilots
 unfolding two_pilots no_head message_body direction_bits added_bits body_reading is_body head_at
-    head_of part_reading is_hard hard_place direction_reading has_records first_record octets_at
-    direction_at direction_of search_at search_of binary
+    head_of part_reading reading fields_at group_at presence_at octets_at number_part part_at
+    records_at is_hard hard_place direction_of search_of binary
 two_pilots_again = refl
 
 -- without a record it is none
 no_pilot : body_reading (binary 32 0x11007100) ≡ None
-unfolding body_reading is_body head_at head_of part_reading is_hard hard_place direction_reading
-    has_records first_record octets_at binary
+unfolding body_reading is_body head_at head_of part_reading reading fields_at group_at presence_at
+    octets_at number_part part_at records_at is_hard hard_place binary
 no_pilot = refl
 
 -- NEIGHBORS
@@ -155,13 +157,14 @@ one_neighbor : body_reading (binary 32 0x080008ff)
       head = no_head;
       body = Neighbors (record { inc = 1; pns = 63 ∷ []; rest = true ∷ true ∷ [] });
     })
-unfolding no_head body_reading is_body head_at head_of part_reading update_reading has_neighbors
-    update_at binary
+unfolding no_head body_reading is_body head_at head_of part_reading reading fields_at group_at
+    presence_at octets_at number_part part_at records_at binary
 one_neighbor = refl
 
 -- without a neighbor it is none
 no_neighbor : body_reading (binary 24 0x080008) ≡ None
-unfolding body_reading is_body head_at head_of part_reading update_reading has_neighbors binary
+unfolding body_reading is_body head_at head_of part_reading reading fields_at group_at presence_at
+    octets_at number_part part_at records_at binary
 no_neighbor = refl
 
 -- encrypted, it is passed on as it is
@@ -170,7 +173,8 @@ secret : body_reading (binary 24 0x080088)
       head = record no_head { encryption = 1 };
       body = Other 8 (binary 7 8);
     })
-unfolding no_head body_reading is_body head_at head_of part_reading binary
+unfolding no_head body_reading is_body head_at head_of part_reading reading fields_at group_at
+    presence_at octets_at number_part part_at records_at binary
 secret = refl
 
 -- PARAMETERS
@@ -193,8 +197,8 @@ enough : (body_reading (binary 8 7 ++ replicate 80 false)
       });
     }))
     × (body_reading (binary 8 7 ++ replicate 72 false) ≡ None)
-unfolding no_head body_reading is_body head_at head_of part_reading in_traffic_reading in_traffic_at
-    in_traffic_of binary
+unfolding no_head body_reading is_body head_at head_of part_reading reading fields_at group_at
+    presence_at octets_at number_part part_at records_at in_traffic_of binary
 enough = (refl, refl)
 
 -- SIGNALING

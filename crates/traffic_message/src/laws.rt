@@ -18,7 +18,7 @@ pub fn spelling_has_one_message()
         m ≡ n }
 {}
 
-/// Reading a list by the places of the fields gives a message exactly where the list is the
+/// Reading a list by the layouts of its parts gives a message exactly where the list is the
 /// message's capsule, and likewise for its body.
 pub fn reading_turns_spelling_back()
     ensures capsule { (form : TheForm) (capsule : List Bool) (m : Message) →

@@ -1,4 +1,4 @@
-//! The layouts of the head, and of what stands behind it.
+//! The layouts of the type with the head, and of what stands behind them.
 
 ghost use Rattle.std.specs.Prelude.{◌≡◌, ◌≤◌, drop, length};
 ghost use Rattle.message_layout.specs.Shapes.{shape};
@@ -53,9 +53,15 @@ pub(crate) fn layout_of(form: Form) -> Layout
     }
 }
 
-/// The head, and all bits behind it.
+/// The message type, the head, and all bits behind them.
 pub(crate) const HEAD: Layout = Layout {
-    fixed: &HEAD_FIELDS,
+    fixed: &[
+        ("type", 8),
+        ("ack", HEAD_FIELDS[0].1),
+        ("seq", HEAD_FIELDS[1].1),
+        ("req", HEAD_FIELDS[2].1),
+        ("enc", HEAD_FIELDS[3].1),
+    ],
     group: NO_GROUP,
     octets: NO_OCTETS,
     records: NO_RECORDS,

@@ -5,17 +5,16 @@ ghost use Rattle.chip_core.specs.Fields.{FieldsFit};
 ghost use Rattle.quality_bits.specs.Capsules.{FillsCapsule, IsWhole};
 ghost use Rattle.quality_bits.specs.Kinds.{IsChecked};
 ghost use Rattle.quality_bits.specs.declared.kind.Kind.TheVariants.{M16};
-ghost use Rattle.traffic_message.specs.Layouts.{head_contents};
+ghost use Rattle.traffic_message.specs.Layouts.{head_contents, head_in};
 ghost use Rattle.traffic_message.specs.Messages.{head_fields, head_values, message_body};
 ghost use Rattle.traffic_message.specs.Messages.{traffic_capsule, IsTrafficMessage, Message};
-ghost use Rattle.traffic_message.specs.Reading.{body_reading, head_of, is_body, reading_of};
-ghost use Rattle.traffic_message.specs.Reading.{traffic_reading};
+ghost use Rattle.traffic_message.specs.Reading.{body_reading, is_body, reading_of, traffic_reading};
 
 use crate::body::TrafficBody;
 use crate::fields::Head;
 use crate::layouts::HEAD;
 use chip_core::{Bits, CheckForm, Numbers};
-use message_layout::{Contents, FieldValues, append, read_fields, read_kind};
+use message_layout::{Contents, FieldValues, append, read_fields};
 use quality_bits::{Kind, MessageFault, body_of, capsule_of};
 use std::marker::Model;
 
@@ -109,10 +108,9 @@ impl TrafficMessage {
         if !fills_capsule(body) {
             return None;
         }
-        let (kind, from) = read_kind(body)?;
-        let (values, from) = read_fields(HEAD.fixed, body, from)?;
+        let (values, from) = read_fields(HEAD.fixed, body, 0)?;
         let head = head_from(&values);
-        let body = TrafficBody::read(kind, head.encryption, body, from)?;
+        let body = TrafficBody::read(values.get(0) as u8, head.encryption, body, from)?;
         Some(TrafficMessage { head, body })
     }
 
@@ -122,8 +120,7 @@ impl TrafficMessage {
         ensures fills { FillsCapsule M16 result }
     {
         let mut body = Bits::empty();
-        body.append_number(8, u64::from(self.body.kind()));
-        append(&HEAD, &self.head.contents(), &mut body);
+        append(&HEAD, &self.head.contents(self.body.kind()), &mut body);
         self.body.append_to(&mut body);
         body
     }
@@ -137,17 +134,16 @@ fn fills_capsule(body: &Bits) -> bool
     body.len() % 8 == 0 && body.len() >= 17 && body.len() <= 1160
 }
 
-/// The head of these values.
-#[tactic(auto, unfolding(crate::specs::Reading::head_of))]
+/// The head of these values, of which the first is the type.
 fn head_from(values: &FieldValues) -> Head
-    requires { FieldsFit (head_fields (head_of values.now)) }
-    ensures { result ≡ head_of values.now }
+    requires { FieldsFit (head_fields (head_in values.now)) }
+    ensures { result ≡ head_in values.now }
 {
     Head {
-        ack_seq: values.get(0) as u8,
-        msg_seq: values.get(1) as u8,
-        ack_req: values.get(2) == 1,
-        encryption: values.get(3) as u8,
+        ack_seq: values.get(1) as u8,
+        msg_seq: values.get(2) as u8,
+        ack_req: values.get(3) == 1,
+        encryption: values.get(4) as u8,
     }
 }
 
@@ -164,11 +160,13 @@ impl Head {
         ]
     }
 
-    /// The head as its layout has it.
-    fn contents(&self) -> Contents
-        ensures { result ≡ head_contents self.now }
+    /// The head behind this type, as their layout has both.
+    fn contents(&self, kind: u8) -> Contents
+        ensures { result ≡ head_contents kind self.now }
     {
+        let [ack_seq, msg_seq, ack_req, encryption] = self.values();
+        let values = [u64::from(kind), ack_seq, msg_seq, ack_req, encryption];
         let columns = [Numbers::empty(), Numbers::empty(), Numbers::empty()];
-        Contents::plain(&self.values(), columns, Bits::empty())
+        Contents::plain(&values, columns, Bits::empty())
     }
 }

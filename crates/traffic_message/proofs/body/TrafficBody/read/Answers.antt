@@ -1,15 +1,9 @@
-use Rattle.traffic_message.proofs.Common.{◌≡◌, ◌≤◌, Some, None, drop, length, sym, ap, subst, ◌∙◌, count_in, Shape}
-use Rattle.traffic_message.proofs.ByLayout.{few_records, lawful, told, told_is}
+use Rattle.traffic_message.proofs.Common.{◌≡◌, Some, None, drop, ap, ◌∙◌}
+use Rattle.traffic_message.proofs.ByLayout.{lawful, told, told_is}
 use Rattle.traffic_message.proofs.body.TrafficBody.read.Goals as goal
 
 pub read_from-requires-clause-lawful : goal.read_from-requires-clause-lawful
 read_from-requires-clause-lawful c = rw c.layout_of.ensures (lawful c.form_of-form.result)
-
-pub read_from-requires-clause-room : goal.read_from-requires-clause-room
-read_from-requires-clause-room c =
-    let behind = drop c.args.from c.args.bits.now in
-    subst (λ (s : Shape). count_in s.records (length behind) ≤ 128) (sym c.layout_of.ensures)
-    (few_records c.form_of-form.result (length behind) c.requires.room)
 
 pub returns-in_err-contents : goal.returns-in_err-contents
 returns-in_err-contents c =

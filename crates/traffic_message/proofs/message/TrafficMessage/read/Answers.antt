@@ -1,67 +1,69 @@
-use Rattle.traffic_message.proofs.Common.{◌≡◌, true, None, Some, drop, length, sym, ap, ◌∙◌, arith, length-drop, is_body}
-use Rattle.traffic_message.proofs.Bodies.{are_parts, is_body_parts, message, message_there, no_body, no_head, no_kind, part_read}
+use Rattle.traffic_message.proofs.Common.{◌≡◌, ℕ, true, Option, None, Some, drop, length, get_or, sym, ap, ◌∙◌, arith}
+use Rattle.traffic_message.proofs.Common.{length-drop, is_body, body_reading, mapped, part_reading, TrafficBody}
+use Rattle.traffic_message.proofs.Bodies.{AreParts, are_parts, is_body_parts, message, message_there, no_body, no_head, part_read}
 use Rattle.traffic_message.proofs.message.TrafficMessage.read.Goals as goal
+use Rattle.traffic_message.proofs.message.TrafficMessage.read.Goals.{After-head_from-head}
+
+-- what is known behind the head
+tested : (c : After-head_from-head) → is_body c.args.body.now ≡ true
+tested c = sym c.fills_capsule.ensures ∙ c.if-not-fills_capsule.false
+
+parts : (c : After-head_from-head) →
+    AreParts c.args.body.now c.in_ok-values.values (drop c.in_ok-values.from c.args.body.now)
+parts c =
+    are_parts c.args.body.now c.in_ok-values.values (drop c.in_ok-values.from c.args.body.now)
+    (tested c) c.in_ok-values.ensures.values
+
+behind : (c : After-head_from-head) (k : ℕ) (read : Option TrafficBody) →
+    k ≡ get_or c.in_ok-values.values 0 0 →
+    read ≡ part_reading k c.head_from-head.result.encryption
+    (drop c.in_ok-values.from c.args.body.now) →
+    mapped (message c.head_from-head.result) read ≡ body_reading c.args.body.now
+behind c k read typed e =
+    part_read c.args.body.now c.in_ok-values.values (drop c.in_ok-values.from c.args.body.now) k
+    c.head_from-head.result read (tested c) (parts c) typed c.head_from-head.ensures e
 
 pub returns-then-not-fills_capsule : goal.returns-then-not-fills_capsule
 returns-then-not-fills_capsule c =
     no_body c.args.body.now (sym c.fills_capsule.ensures ∙ c.if-not-fills_capsule.true)
 
-pub returns-in_err-kind : goal.returns-in_err-kind
-returns-in_err-kind c =
-    absurd (no_kind c.args.body.now (sym c.fills_capsule.ensures ∙ c.if-not-fills_capsule.false)
-    c.in_err-kind.ensures.kind)
-
 pub returns-in_err-values : goal.returns-in_err-values
 returns-in_err-values c =
-    let body = c.args.body.now in
-    absurd (no_head body (drop c.in_ok-kind.from body) c.in_ok-kind.kind
-    (sym c.fills_capsule.ensures ∙ c.if-not-fills_capsule.false) c.in_ok-kind.ensures.kind
+    absurd (no_head c.args.body.now (sym c.fills_capsule.ensures ∙ c.if-not-fills_capsule.false)
     c.in_err-values.ensures.values)
 
 pub head_from-head-requires : goal.head_from-head-requires
 head_from-head-requires c =
-    let body = c.args.body.now in
-    (are_parts body (drop c.in_ok-kind.from body) c.in_ok-kind.kind c.in_ok-values.values
-    (drop c.in_ok-values.from body)
-    (sym c.fills_capsule.ensures ∙ c.if-not-fills_capsule.false) c.in_ok-kind.ensures.kind
-    c.in_ok-values.ensures.values).fit
+    (are_parts c.args.body.now c.in_ok-values.values (drop c.in_ok-values.from c.args.body.now)
+    (sym c.fills_capsule.ensures ∙ c.if-not-fills_capsule.false) c.in_ok-values.ensures.values).fit
+
+pub overflow_cast-get : goal.overflow_cast-get
+overflow_cast-get c =
+    omega (arith, c.get.ensures, (parts (goal.at.overflow_cast-get c).After-head_from-head).small)
 
 pub read-requires-clause-room : goal.read-requires-clause-room
 read-requires-clause-room c =
-    let body = c.args.body.now in
-    let t : is_body body ≡ true = sym c.fills_capsule.ensures ∙ c.if-not-fills_capsule.false in
-    let parts = are_parts body (drop c.in_ok-kind.from body) c.in_ok-kind.kind c.in_ok-values.values
-    (drop c.in_ok-values.from body) t c.in_ok-kind.ensures.kind c.in_ok-values.ensures.values in
-    omega (arith, ap length parts.behind, length-drop 17 body, (is_body_parts body t).2)
+    let d = (goal.at.read-requires-clause-room c).After-head_from-head in
+    omega (
+      arith,
+      ap length (parts d).behind,
+      length-drop 17 c.args.body.now,
+      (is_body_parts c.args.body.now (tested d)).2,
+    )
 
 pub returns-in_err-body : goal.returns-in_err-body
 returns-in_err-body c =
-    let body = c.args.body.now in
-    let t : is_body body ≡ true = sym c.fills_capsule.ensures ∙ c.if-not-fills_capsule.false in
-    let rest = drop c.in_ok-values.from body in
-    let parts = are_parts body (drop c.in_ok-kind.from body) c.in_ok-kind.kind c.in_ok-values.values
-    rest t c.in_ok-kind.ensures.kind c.in_ok-values.ensures.values in
     let none : c.from_residual-in_err-body.result ≡ None = cc in
-    none ∙ part_read body c.in_ok-kind.kind c.in_ok-values.values rest c.head_from-head.result None
-    t parts c.head_from-head.ensures c.in_err-body.ensures
+    none ∙ behind (goal.at.returns-in_err-body c).After-head_from-head c.get.result None
+    c.get.ensures c.in_err-body.ensures
 
 pub returns : goal.returns
 returns c =
-    let body = c.args.body.now in
-    let t : is_body body ≡ true = sym c.fills_capsule.ensures ∙ c.if-not-fills_capsule.false in
-    let rest = drop c.in_ok-values.from body in
-    let parts = are_parts body (drop c.in_ok-kind.from body) c.in_ok-kind.kind c.in_ok-values.values
-    rest t c.in_ok-kind.ensures.kind c.in_ok-values.ensures.values in
-    part_read body c.in_ok-kind.kind c.in_ok-values.values rest c.head_from-head.result
-    (Some c.in_ok-body.body) t parts c.head_from-head.ensures c.in_ok-body.ensures
+    behind (goal.at.returns c).After-head_from-head c.get.result (Some c.in_ok-body.body)
+    c.get.ensures c.in_ok-body.ensures
 
 pub invariant_of-result : goal.invariant_of-result
 invariant_of-result c =
-    let body = c.args.body.now in
-    let t : is_body body ≡ true = sym c.fills_capsule.ensures ∙ c.if-not-fills_capsule.false in
-    let rest = drop c.in_ok-values.from body in
-    let parts = are_parts body (drop c.in_ok-kind.from body) c.in_ok-kind.kind c.in_ok-values.values
-    rest t c.in_ok-kind.ensures.kind c.in_ok-values.ensures.values in
-    (message_there body (message c.head_from-head.result c.in_ok-body.body)
-    (sym (part_read body c.in_ok-kind.kind c.in_ok-values.values rest c.head_from-head.result
-    (Some c.in_ok-body.body) t parts c.head_from-head.ensures c.in_ok-body.ensures))).0
+    (message_there c.args.body.now (message c.head_from-head.result c.in_ok-body.body)
+    (sym (behind (goal.at.invariant_of-result c).After-head_from-head c.get.result
+    (Some c.in_ok-body.body) c.get.ensures c.in_ok-body.ensures))).0
