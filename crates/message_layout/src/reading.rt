@@ -2,6 +2,9 @@
 //!
 //! Each function reads what stands at a place of one list, counted from 0, and gives the place
 //! behind it; so nothing is copied but octets and a rest.
+//!
+//! The larger functions are put into their callers: a layout that is known there is gone by without
+//! a table, and what was read isn't copied from one call to the next.
 
 ghost use Rattle.std.specs.Prelude.{◌≡◌, ◌≤◌, ◌<◌, ◌+◌, ◌*◌, ◌^◌, ◌++◌, ◌∷◌, [], true, length, map};
 ghost use Rattle.std.specs.Prelude.{drop, IfSome, Some};
@@ -36,6 +39,7 @@ pub fn read(layout: &Layout, bits: &Bits) -> Option<Contents>
 
 /// What the bits from a place on say by a layout, with at most 128 records; `None` exactly where no
 /// contents of the layout are spelled so.
+#[inline(always)]
 pub fn read_from(layout: &Layout, bits: &Bits, from: u16) -> Option<Contents>
     requires lawful { is_lawful (shape layout.now) ≡ true }
     requires within { from ≤ length bits.now }
@@ -60,6 +64,7 @@ pub fn read_kind(bits: &Bits) -> Option<(u8, u16)>
 
 /// What the bits from a place on say, part by part.
 #[tactic(auto, unfolding(crate::specs::Reading::reading))]
+#[inline(always)]
 fn read_parts(layout: &Layout, bits: &Bits, from: u16) -> Option<Contents>
     requires lawful { is_lawful (shape layout.now) ≡ true }
     requires within { from ≤ length bits.now }
@@ -103,6 +108,7 @@ fn rest_of(bits: &Bits, from: u16) -> Bits
 
 /// The values of fields of a table from a place on, at most 48, and the place behind them; `None`
 /// exactly where there are fewer bits.
+#[inline(always)]
 pub fn read_fields(rows: &[FieldRow], bits: &Bits, from: u16) -> Option<(FieldValues, u16)>
     requires widths { AreWidths (map (λ row. row.1) rows.now) }
     requires room { length rows.now ≤ 48 }
@@ -123,6 +129,7 @@ pub fn read_fields(rows: &[FieldRow], bits: &Bits, from: u16) -> Option<(FieldVa
 
 /// The values of a group where it is there.
 #[tactic(auto, unfolding(crate::specs::Reading::group_at))]
+#[inline(always)]
 fn read_group(group: &Group, bits: &Bits, from: u16) -> Option<(Option<FieldValues>, u16)>
     requires widths { AreWidths (map (λ row. row.1) group.now.fields.now) }
     requires room { length group.now.fields.now ≤ 48 }
@@ -158,6 +165,7 @@ fn read_presence(presence: Presence, bits: &Bits, from: u16) -> Option<(bool, u1
 
 /// The octets that are counted.
 #[tactic(auto, unfolding(crate::specs::Reading::octets_at))]
+#[inline(always)]
 fn read_octets(octets: Octets, bits: &Bits, from: u16) -> Option<(Bits, u16)>
     requires zeros { octets.zeros ≤ 64 }
     requires width { octets.width ≤ 8 }
@@ -221,6 +229,7 @@ fn read_part(count: u64, bits: &Bits, from: u16) -> Option<(Bits, u16)>
 
 /// The numbers of as many records as fit, column by column.
 #[tactic(auto, unfolding(crate::specs::Reading::records_at))]
+#[inline(always)]
 fn read_records(records: &Records, bits: &Bits, from: u16) -> Option<([Numbers; 3], u16)>
     requires widths { AreWidths (map (λ row. row.1) records.now.fields.now) }
     requires narrow { AreNarrow (map (λ row. row.1) records.now.fields.now) }
