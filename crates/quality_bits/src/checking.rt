@@ -1,9 +1,10 @@
 //! The check that a list ends with.
 
-ghost use Rattle.std.specs.Prelude.{◌≡◌, ◌<◌, ◌≤◌, ◌+◌, ◌-◌, ◌^◌, ◌↔◌, ◌++◌, IsTrue, length, take};
-ghost use Rattle.std.specs.Prelude.{drop};
+ghost use Rattle.std.specs.Prelude.{◌≡◌, ◌<◌, ◌≤◌, ◌+◌, ◌*◌, ◌-◌, ◌^◌, ◌↔◌, ◌++◌, IsTrue, length};
+ghost use Rattle.std.specs.Prelude.{take, drop};
 ghost use Rattle.chip_core.specs.Bits.{number};
 ghost use Rattle.quality_bits.specs.Kinds.{generator_of, Checks, sent_check, IsChecked};
+ghost use Rattle.quality_bits.specs.declared.kind.Kind.{Kind as TheKind};
 
 use crate::kind::Kind;
 use crate::register::Register;
@@ -49,11 +50,39 @@ fn taken(kind: Kind, bits: &Bits, count: u16) -> Register
     requires { count ≤ length bits.now }
     ensures { Checks result kind (take count bits.now) }
 {
-    let mut register = Register::new(kind);
-    for i in 0..count {
+    let octets = count / 8;
+    let mut register = octets_taken(kind, bits, octets);
+    for i in 8 * octets..count {
         register.push(bits.get(i));
     }
     register
+}
+
+/// A register that took the first so many octets.
+fn octets_taken(kind: Kind, bits: &Bits, count: u16) -> Register
+    requires { 8 * count ≤ length bits.now }
+    ensures { Checks result kind (take (8 * count) bits.now) }
+{
+    let _most = bits.len();
+    let mut register = Register::new(kind);
+    for k in 0..count {
+        take_octet(&mut register, bits, 8 * k);
+    }
+    register
+}
+
+/// Takes the eight bits from a place on into a register that took all bits before them.
+///
+/// Where the place is a multiple of 8 they lie in one word of the list, which is fetched once.
+fn take_octet(register: &mut Register, bits: &Bits, from: u16)
+    requires { from + 8 ≤ length bits.now }
+    ensures { (kind : TheKind) → Checks register.old kind (take from bits.now) →
+        Checks register.new kind (take (from + 8) bits.now) }
+{
+    let _most = bits.len();
+    for j in 0..8 {
+        register.push(bits.get(from + j));
+    }
 }
 
 /// The number that the bits from a place on spell, the highest first: at most 31.

@@ -1,0 +1,6 @@
+use Rattle.std.proofs.Common.{◌*◌, take}
+use Rattle.quality_bits.specs.Kinds.{Checks}
+use Rattle.quality_bits.proofs.checking.octets_taken.Given as goal
+
+abbrev pub invariant-loop-k : goal.invariant-loop-k
+invariant-loop-k l = Checks l.register l.fn.kind (take (8 * l.k) l.bits)
