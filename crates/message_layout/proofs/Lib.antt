@@ -6,4 +6,5 @@ pub mod Messages
 pub mod Parts
 pub mod Plain
 pub mod Round
+pub mod Slices
 pub mod Written

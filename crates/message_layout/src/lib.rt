@@ -9,6 +9,7 @@ mod contents;
 pub mod laws;
 mod layout;
 mod reading;
+mod slice;
 mod values;
 mod writing;
 
@@ -18,5 +19,6 @@ pub use layout::{
     name_in, width_in,
 };
 pub use reading::{read, read_fields, read_from, read_kind};
+pub use slice::BitSlice;
 pub use values::FieldValues;
 pub use writing::append;

@@ -1,6 +1,6 @@
 //! Bits read by a layout.
 //!
-//! Each function reads what stands at a place of one list, counted from 0, and gives the place
+//! Each function reads what stands at a place of one slice, counted from 0, and gives the place
 //! behind it; so nothing is copied but octets and a rest.
 //!
 //! The larger functions are put into their callers: a layout that is known there is gone by without
@@ -20,6 +20,7 @@ ghost use Rattle.message_layout.specs.declared.contents.Contents.{Contents as Th
 
 use crate::contents::Contents;
 use crate::layout::{FieldRow, Group, Layout, Octets, Presence, Records, width_in};
+use crate::slice::BitSlice;
 use crate::values::FieldValues;
 use chip_core::{Bits, Numbers};
 
@@ -34,13 +35,13 @@ pub fn read(layout: &Layout, bits: &Bits) -> Option<Contents>
         bits.now ≡ spelling (shape layout.now) c → result ≡ Some c }
     ensures reading { result ≡ reading (shape layout.now) bits.now }
 {
-    read_from(layout, bits, 0)
+    read_from(layout, &BitSlice::whole(bits), 0)
 }
 
 /// What the bits from a place on say by a layout, with at most 128 records; `None` exactly where no
 /// contents of the layout are spelled so.
 #[inline(always)]
-pub fn read_from(layout: &Layout, bits: &Bits, from: u16) -> Option<Contents>
+pub fn read_from(layout: &Layout, bits: &BitSlice<'_>, from: u16) -> Option<Contents>
     requires lawful { is_lawful (shape layout.now) ≡ true }
     requires within { from ≤ length bits.now }
     requires room { count_in (shape layout.now).records (length (drop from bits.now)) ≤ 128 }
@@ -54,7 +55,7 @@ pub fn read_from(layout: &Layout, bits: &Bits, from: u16) -> Option<Contents>
 }
 
 /// The message type, 8 bits, and the place behind it; `None` exactly where there are fewer.
-pub fn read_kind(bits: &Bits) -> Option<(u8, u16)>
+pub fn read_kind(bits: &BitSlice<'_>) -> Option<(u8, u16)>
     ensures kind { behind bits.now result ≡ number_part 8 bits.now }
     ensures within { IfSome result (λ x. x.1 ≤ length bits.now) }
 {
@@ -65,7 +66,7 @@ pub fn read_kind(bits: &Bits) -> Option<(u8, u16)>
 /// What the bits from a place on say, part by part.
 #[tactic(auto, unfolding(crate::specs::Reading::reading))]
 #[inline(always)]
-fn read_parts(layout: &Layout, bits: &Bits, from: u16) -> Option<Contents>
+fn read_parts(layout: &Layout, bits: &BitSlice<'_>, from: u16) -> Option<Contents>
     requires lawful { is_lawful (shape layout.now) ≡ true }
     requires within { from ≤ length bits.now }
     requires room { count_in (shape layout.now).records (length (drop from bits.now)) ≤ 128 }
@@ -88,7 +89,7 @@ fn read_parts(layout: &Layout, bits: &Bits, from: u16) -> Option<Contents>
 }
 
 /// Whether no more bits are left than may be.
-fn is_rest_of(most: Option<u16>, bits: &Bits, from: u16) -> bool
+fn is_rest_of(most: Option<u16>, bits: &BitSlice<'_>, from: u16) -> bool
     requires { from ≤ length bits.now }
     ensures { result ≡ is_rest most (drop from bits.now) }
 {
@@ -99,7 +100,7 @@ fn is_rest_of(most: Option<u16>, bits: &Bits, from: u16) -> bool
 }
 
 /// The bits that are left.
-fn rest_of(bits: &Bits, from: u16) -> Bits
+fn rest_of(bits: &BitSlice<'_>, from: u16) -> Bits
     requires { from ≤ length bits.now }
     ensures { result ≡ drop from bits.now }
 {
@@ -109,7 +110,7 @@ fn rest_of(bits: &Bits, from: u16) -> Bits
 /// The values of fields of a table from a place on, at most 48, and the place behind them; `None`
 /// exactly where there are fewer bits.
 #[inline(always)]
-pub fn read_fields(rows: &[FieldRow], bits: &Bits, from: u16) -> Option<(FieldValues, u16)>
+pub fn read_fields(rows: &[FieldRow], bits: &BitSlice<'_>, from: u16) -> Option<(FieldValues, u16)>
     requires widths { AreWidths (map (λ row. row.1) rows.now) }
     requires room { length rows.now ≤ 48 }
     requires within { from ≤ length bits.now }
@@ -130,7 +131,7 @@ pub fn read_fields(rows: &[FieldRow], bits: &Bits, from: u16) -> Option<(FieldVa
 /// The values of a group where it is there.
 #[tactic(auto, unfolding(crate::specs::Reading::group_at))]
 #[inline(always)]
-fn read_group(group: &Group, bits: &Bits, from: u16) -> Option<(Option<FieldValues>, u16)>
+fn read_group(group: &Group, bits: &BitSlice<'_>, from: u16) -> Option<(Option<FieldValues>, u16)>
     requires widths { AreWidths (map (λ row. row.1) group.now.fields.now) }
     requires room { length group.now.fields.now ≤ 48 }
     requires within { from ≤ length bits.now }
@@ -148,7 +149,7 @@ fn read_group(group: &Group, bits: &Bits, from: u16) -> Option<(Option<FieldValu
 
 /// Whether a group is there.
 #[tactic(auto, unfolding(crate::specs::Reading::presence_at))]
-fn read_presence(presence: Presence, bits: &Bits, from: u16) -> Option<(bool, u16)>
+fn read_presence(presence: Presence, bits: &BitSlice<'_>, from: u16) -> Option<(bool, u16)>
     requires { from ≤ length bits.now }
     ensures presence { behind bits.now result ≡ presence_at presence (drop from bits.now) }
     ensures within { IfSome result (λ x. x.1 ≤ length bits.now) }
@@ -166,7 +167,7 @@ fn read_presence(presence: Presence, bits: &Bits, from: u16) -> Option<(bool, u1
 /// The octets that are counted.
 #[tactic(auto, unfolding(crate::specs::Reading::octets_at))]
 #[inline(always)]
-fn read_octets(octets: Octets, bits: &Bits, from: u16) -> Option<(Bits, u16)>
+fn read_octets(octets: Octets, bits: &BitSlice<'_>, from: u16) -> Option<(Bits, u16)>
     requires zeros { octets.zeros ≤ 64 }
     requires width { octets.width ≤ 8 }
     requires within { from ≤ length bits.now }
@@ -184,7 +185,7 @@ fn read_octets(octets: Octets, bits: &Bits, from: u16) -> Option<(Bits, u16)>
 
 /// A number of so many bits, which is 0 where there are none.
 #[tactic(auto, unfolding(crate::specs::Reading::number_part))]
-fn read_number(width: u8, bits: &Bits, from: u16) -> Option<(u64, u16)>
+fn read_number(width: u8, bits: &BitSlice<'_>, from: u16) -> Option<(u64, u16)>
     requires width { width ≤ 64 }
     requires within { from ≤ length bits.now }
     ensures value { behind bits.now result ≡ number_part width (drop from bits.now) }
@@ -198,7 +199,7 @@ fn read_number(width: u8, bits: &Bits, from: u16) -> Option<(u64, u16)>
 }
 
 /// The number that `width` bits from a place on spell.
-fn number_from(bits: &Bits, from: u16, width: u8) -> u64
+fn number_from(bits: &BitSlice<'_>, from: u16, width: u8) -> u64
     requires width { width ≤ 64 }
     requires within { from + width ≤ length bits.now }
     ensures value { result ≡ number_at from width bits.now }
@@ -215,7 +216,7 @@ fn number_from(bits: &Bits, from: u16, width: u8) -> u64
 
 /// So many bits.
 #[tactic(auto, unfolding(crate::specs::Reading::part_at))]
-fn read_part(count: u64, bits: &Bits, from: u16) -> Option<(Bits, u16)>
+fn read_part(count: u64, bits: &BitSlice<'_>, from: u16) -> Option<(Bits, u16)>
     requires { from ≤ length bits.now }
     ensures part { behind bits.now result ≡ part_at count (drop from bits.now) }
     ensures within { IfSome result (λ x. x.1 ≤ length bits.now) }
@@ -230,7 +231,7 @@ fn read_part(count: u64, bits: &Bits, from: u16) -> Option<(Bits, u16)>
 /// The numbers of as many records as fit, column by column.
 #[tactic(auto, unfolding(crate::specs::Reading::records_at))]
 #[inline(always)]
-fn read_records(records: &Records, bits: &Bits, from: u16) -> Option<([Numbers; 3], u16)>
+fn read_records(records: &Records, bits: &BitSlice<'_>, from: u16) -> Option<([Numbers; 3], u16)>
     requires widths { AreWidths (map (λ row. row.1) records.now.fields.now) }
     requires narrow { AreNarrow (map (λ row. row.1) records.now.fields.now) }
     requires few { length records.now.fields.now ≤ 3 }
@@ -279,7 +280,7 @@ pub(crate) fn size_of(fields: &[FieldRow]) -> u16
 }
 
 /// The numbers of field `j` of the first so many records from a place on; none past the last field.
-fn read_column(fields: &[FieldRow], j: usize, count: u8, bits: &Bits, from: u16) -> Numbers
+fn read_column(fields: &[FieldRow], j: usize, count: u8, bits: &BitSlice<'_>, from: u16) -> Numbers
     requires widths { AreWidths (map (λ row. row.1) fields.now) }
     requires narrow { AreNarrow (map (λ row. row.1) fields.now) }
     requires few { length fields.now ≤ 3 }
@@ -296,7 +297,7 @@ fn read_column(fields: &[FieldRow], j: usize, count: u8, bits: &Bits, from: u16)
 }
 
 /// The numbers at a place and at so many bits behind it each, `count` of them.
-fn read_places(bits: &Bits, first: u16, width: u8, size: u16, count: u8) -> Numbers
+fn read_places(bits: &BitSlice<'_>, first: u16, width: u8, size: u16, count: u8) -> Numbers
     requires width { (1 ≤ width) × (width ≤ 32) }
     requires size { size ≤ 192 }
     requires most { count ≤ 128 }

@@ -11,8 +11,8 @@ use crate::neighbors::NeighborList;
 use crate::other::OtherMessage;
 use crate::system::SystemParameters;
 use chip_core::{Bits, CheckForm};
-use message_layout::{Contents, append, read_from, read_kind};
-use quality_bits::{Kind, MessageFault, body_of, capsule_of};
+use message_layout::{BitSlice, Contents, append, read_from, read_kind};
+use quality_bits::{Kind, MessageFault, body_count, capsule_of};
 
 /// A message of the paging channel that has a spelling.
 ///
@@ -41,7 +41,7 @@ impl PagingMessage {
         ensures only { (m : TheMessage) → IsPagingMessage m → body.now ≡ message_body m →
             result ≡ Some m }
     {
-        PagingMessage::read(body)
+        PagingMessage::read(&BitSlice::whole(body))
     }
 
     /// The capsule that spells the message.
@@ -70,7 +70,8 @@ impl PagingMessage {
             (IsWhole capsule.now × IsChecked M30 form capsule.now
             × ((m : TheMessage) → IsPagingMessage m → ¬ (capsule.now ≡ paging_capsule form m))) }
     {
-        let body = body_of(Kind::M30, form, capsule)?;
+        let count = body_count(Kind::M30, form, capsule)?;
+        let body = BitSlice::of(capsule, 8, count);
         match PagingMessage::read(&body) {
             Some(message) => Ok(message),
             None => Err(MessageFault::BadBody),
@@ -78,7 +79,7 @@ impl PagingMessage {
     }
 
     /// The message that a body spells.
-    fn read(body: &Bits) -> Option<PagingMessage>
+    fn read(body: &BitSlice<'_>) -> Option<PagingMessage>
         ensures { result ≡ body_reading body.now }
     {
         if !fills_capsule(body) {
@@ -141,7 +142,7 @@ impl PagingMessage {
 }
 
 /// Whether a body's length is that of a capsule of 5 to 148 octets.
-fn fills_capsule(body: &Bits) -> bool
+fn fills_capsule(body: &BitSlice<'_>) -> bool
     ensures { IsTrue result ↔ FillsCapsule M30 body.now }
 {
     body.len() % 8 == 2 && body.len() <= 1146

@@ -4,7 +4,7 @@
 //! MSG_LENGTH counts octets, its own and the check's among them: 5 to 148.
 
 ghost use Rattle.std.specs.Prelude.{◌≡◌, ◌↔◌, ◌≤◌, ◌<◌, ◌+◌, Bool, List, length, IfOk, SomeIff};
-ghost use Rattle.std.specs.Prelude.{IsTrue};
+ghost use Rattle.std.specs.Prelude.{take, drop, IsTrue};
 ghost use Rattle.quality_bits.specs.Kinds.{IsChecked, generator_of};
 ghost use Rattle.quality_bits.specs.Capsules.{FillsCapsule, capsule, IsWhole, is_stated};
 ghost use Rattle.quality_bits.specs.Capsules.{stated_bits};
@@ -52,6 +52,24 @@ pub fn body_of(kind: Kind, form: CheckForm, bits: &Bits) -> Result<Bits, Capsule
     ensures only { (body : List Bool) → FillsCapsule kind body → bits.now ≡ capsule kind form body →
         result ≡ Ok body }
 {
+    let count = body_count(kind, form, bits)?;
+    Ok(bits.part(8, count))
+}
+
+/// How many bits the body of a capsule has, which stands behind the 8 bits of the length.
+///
+/// `BadLength` exactly where the list isn't as long as it says or that length isn't lawful; else
+/// `BadCheck` exactly where its last bits aren't the check of those before.
+pub fn body_count(kind: Kind, form: CheckForm, bits: &Bits) -> Result<u16, CapsuleFault>
+    ensures bad_length { (result ≡ Err CapsuleFault.BadLength) ↔ ¬ (IsWhole bits.now) }
+    ensures bad_check { (result ≡ Err CapsuleFault.BadCheck) ↔
+        (IsWhole bits.now × ¬ (IsChecked kind form bits.now)) }
+    ensures found { IfOk result (λ n. FillsCapsule kind (take n (drop 8 bits.now))
+        × (bits.now ≡ capsule kind form (take n (drop 8 bits.now)))) }
+    ensures within { IfOk result (λ n. 8 + n ≤ length bits.now) }
+    ensures only { (body : List Bool) → FillsCapsule kind body → bits.now ≡ capsule kind form body →
+        result ≡ Ok (length body) }
+{
     if !is_whole(bits) {
         return Err(CapsuleFault::BadLength);
     }
@@ -59,7 +77,7 @@ pub fn body_of(kind: Kind, form: CheckForm, bits: &Bits) -> Result<Bits, Capsule
         return Err(CapsuleFault::BadCheck);
     }
     let degree = kind.divisor().degree as u16;
-    Ok(bits.part(8, bits.len() - 8 - degree))
+    Ok(bits.len() - 8 - degree)
 }
 
 /// Whether a list is as long as it says, and that is a lawful length.

@@ -14,7 +14,7 @@ mod open_capsule;
 mod rate;
 mod register;
 
-pub use capsule::{CapsuleFault, body_of, capsule_of, stated_length};
+pub use capsule::{CapsuleFault, body_count, body_of, capsule_of, stated_length};
 pub use checking::{append_check, check};
 pub use framer::CapsuleFramer;
 pub use kind::Kind;

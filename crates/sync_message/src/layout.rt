@@ -11,7 +11,8 @@ use crate::fields::SyncFields;
 use crate::table::{FREQ_FIELD, SYNC_FIELDS};
 use chip_core::{Bits, Numbers};
 use message_layout::{
-    Contents, FieldValues, Group, Layout, NO_OCTETS, NO_RECORDS, Presence, read_from, read_kind,
+    BitSlice, Contents, FieldValues, Group, Layout, NO_OCTETS, NO_RECORDS, Presence, read_from,
+    read_kind,
 };
 
 /// The fields that each message has, and the frequency unless 3 bits are left, as at 25 octets.
@@ -28,7 +29,7 @@ pub(crate) const SYNC_CHANNEL: Layout = Layout {
 
 /// What a body says behind its type, which is 1.
 #[tactic(auto, unfolding(crate::specs::Layouts::body_reading))]
-pub(crate) fn read_body(body: &Bits) -> Option<SyncFields>
+pub(crate) fn read_body(body: &BitSlice<'_>) -> Option<SyncFields>
     ensures { result ≡ body_reading body.now }
 {
     let (kind, from) = read_kind(body)?;

@@ -14,8 +14,8 @@ use crate::fields::SyncFields;
 use crate::layout::{SYNC_CHANNEL, contents_of, read_body, values_of};
 use crate::table::{FREQ_FIELD, SYNC_FIELDS};
 use chip_core::{Bits, CheckForm};
-use message_layout::{FieldValues, append};
-use quality_bits::{Kind, MessageFault, body_of, capsule_of};
+use message_layout::{BitSlice, FieldValues, append};
+use quality_bits::{Kind, MessageFault, body_count, capsule_of};
 use std::marker::Model;
 
 /// A Sync Channel Message: fields that have a spelling. Contracts see the fields.
@@ -96,7 +96,8 @@ impl SyncMessage {
             (IsWhole capsule.now × IsChecked M30 form capsule.now
             × ((m : TheFields) → IsSyncMessage m → ¬ (capsule.now ≡ sync_capsule form m))) }
     {
-        let body = body_of(Kind::M30, form, capsule)?;
+        let count = body_count(Kind::M30, form, capsule)?;
+        let body = BitSlice::of(capsule, 8, count);
         match read_body(&body) {
             Some(fields) => Ok(SyncMessage { fields }),
             None => Err(MessageFault::BadBody),

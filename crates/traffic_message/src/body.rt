@@ -10,7 +10,7 @@ use crate::in_traffic::InTraffic;
 use crate::layouts::{Form, form_of, layout_of};
 use crate::neighbors::NeighborUpdate;
 use chip_core::{Bits, Numbers};
-use message_layout::{Contents, append, read_from};
+use message_layout::{BitSlice, Contents, append, read_from};
 
 /// What a message of the traffic channel says behind its head.
 ///
@@ -47,7 +47,12 @@ impl TrafficBody {
 
     /// Reads what stands behind the head, from a place on, by the type where nothing is encrypted;
     /// `None` where the fields of the type don't fit.
-    pub(crate) fn read(kind: u8, encryption: u8, bits: &Bits, from: u16) -> Option<TrafficBody>
+    pub(crate) fn read(
+        kind: u8,
+        encryption: u8,
+        bits: &BitSlice<'_>,
+        from: u16,
+    ) -> Option<TrafficBody>
         requires within { from ≤ length bits.now }
         requires room { length (drop from bits.now) ≤ 1143 }
         ensures { result ≡ part_reading kind encryption (drop from bits.now) }

@@ -11,8 +11,7 @@ ghost use Rattle.traffic_message.specs.Layouts.{search_group};
 ghost use Rattle.traffic_message.specs.Widths.{search_widths, time_widths};
 
 use crate::fields::{DirectionFields, Search};
-use chip_core::Bits;
-use message_layout::{Contents, FieldValues};
+use message_layout::{BitSlice, Contents, FieldValues};
 use std::marker::Model;
 
 /// What an Extended Handoff Direction Message says behind its head: fields that fit, and a record
@@ -93,7 +92,7 @@ impl HandoffDirection {
 
 /// Whether HARD_INCLUDED is there and set in the fields from a place on.
 #[tactic(auto, unfolding(crate::specs::Handoff::is_hard))]
-pub(crate) fn is_hard_handoff(bits: &Bits, from: u16) -> bool
+pub(crate) fn is_hard_handoff(bits: &BitSlice<'_>, from: u16) -> bool
     requires { from ≤ length bits.now }
     ensures { result ≡ is_hard (drop from bits.now) }
 {
@@ -101,7 +100,7 @@ pub(crate) fn is_hard_handoff(bits: &Bits, from: u16) -> bool
 }
 
 /// Whether the bit at a place of those from another on is there and set.
-fn is_set(bits: &Bits, from: u16, place: u16) -> bool
+fn is_set(bits: &BitSlice<'_>, from: u16, place: u16) -> bool
     requires { from ≤ length bits.now }
     ensures { result ≡ (number_at place 1 (drop from bits.now) == 1) }
 {
@@ -110,7 +109,7 @@ fn is_set(bits: &Bits, from: u16, place: u16) -> bool
 
 /// Where HARD_INCLUDED stands: behind the search parameters where SEARCH_INCLUDED is set.
 #[tactic(auto, unfolding(crate::specs::Handoff::hard_place))]
-fn hard_at(bits: &Bits, from: u16) -> u16
+fn hard_at(bits: &BitSlice<'_>, from: u16) -> u16
     requires { from ≤ length bits.now }
     ensures value { result ≡ hard_place (drop from bits.now) }
     ensures least { 10 ≤ result }

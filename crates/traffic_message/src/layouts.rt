@@ -6,9 +6,8 @@ ghost use Rattle.traffic_message.specs.Layouts.{form_at, shape_of};
 
 use crate::handoff::is_hard_handoff;
 use crate::table::{HEAD_FIELDS, IN_TRAFFIC_FIELDS, SEARCH_FIELDS, TIME_FIELDS, UPDATE_FIELDS};
-use chip_core::Bits;
 use message_layout::{
-    ALL_BITS, Group, Layout, NO_GROUP, NO_OCTETS, NO_RECORDS, Octets, Presence, Records,
+    ALL_BITS, BitSlice, Group, Layout, NO_GROUP, NO_OCTETS, NO_RECORDS, Octets, Presence, Records,
 };
 
 /// How what stands behind a head is laid out.
@@ -25,7 +24,7 @@ pub(crate) enum Form {
 }
 
 /// The form of what stands behind a head, by the type where nothing is encrypted.
-pub(crate) fn form_of(kind: u8, encryption: u8, bits: &Bits, from: u16) -> Form
+pub(crate) fn form_of(kind: u8, encryption: u8, bits: &BitSlice<'_>, from: u16) -> Form
     requires { from ≤ length bits.now }
     ensures { result ≡ form_at kind encryption (drop from bits.now) }
 {

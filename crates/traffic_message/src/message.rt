@@ -14,8 +14,8 @@ use crate::body::TrafficBody;
 use crate::fields::Head;
 use crate::layouts::HEAD;
 use chip_core::{Bits, CheckForm, Numbers};
-use message_layout::{Contents, FieldValues, append, read_fields};
-use quality_bits::{Kind, MessageFault, body_of, capsule_of};
+use message_layout::{BitSlice, Contents, FieldValues, append, read_fields};
+use quality_bits::{Kind, MessageFault, body_count, capsule_of};
 use std::marker::Model;
 
 /// A signaling message of the traffic channel that has a spelling: its head, and what it says.
@@ -65,7 +65,7 @@ impl TrafficMessage {
             result ≡ Some m }
         ensures reading { result ≡ body_reading body.now }
     {
-        TrafficMessage::read(body)
+        TrafficMessage::read(&BitSlice::whole(body))
     }
 
     /// The capsule that spells the message.
@@ -94,15 +94,16 @@ impl TrafficMessage {
             (IsWhole capsule.now × IsChecked M16 form capsule.now
             × ((m : Message) → IsTrafficMessage m → ¬ (capsule.now ≡ traffic_capsule form m))) }
     {
-        let body = body_of(Kind::M16, form, capsule)?;
-        match TrafficMessage::from_body(&body) {
+        let count = body_count(Kind::M16, form, capsule)?;
+        let body = BitSlice::of(capsule, 8, count);
+        match TrafficMessage::read(&body) {
             Some(message) => Ok(message),
             None => Err(MessageFault::BadBody),
         }
     }
 
     /// The message that a body spells.
-    fn read(body: &Bits) -> Option<TrafficMessage>
+    fn read(body: &BitSlice<'_>) -> Option<TrafficMessage>
         ensures { result ≡ body_reading body.now }
     {
         if !fills_capsule(body) {
@@ -128,7 +129,7 @@ impl TrafficMessage {
 
 /// Whether a body's length is that of a capsule of 5 to 148 octets, and has a head.
 #[tactic(auto, unfolding(crate::specs::Reading::is_body))]
-fn fills_capsule(body: &Bits) -> bool
+fn fills_capsule(body: &BitSlice<'_>) -> bool
     ensures { result ≡ is_body body.now }
 {
     body.len() % 8 == 0 && body.len() >= 17 && body.len() <= 1160

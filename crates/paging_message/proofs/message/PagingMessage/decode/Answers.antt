@@ -10,29 +10,29 @@ uncapsuled_at : (c : After-from_residual) →
 uncapsuled_at c =
     uncapsuled M30 c.args.form IsPagingMessage message_body body_reading (paging_reading c.args.form)
     c.args.capsule.now (are_read c.args.form)
-    (λ inside fills spelled. cc (c.in_err-body.ensures.only inside fills spelled))
+    (λ inside fills spelled. cc (c.in_err-count.ensures.only inside fills spelled))
 
 read_at : (c : In-Some) →
     IsDecoded M30 c.args.form IsPagingMessage message_body (paging_reading c.args.form)
     c.args.capsule.now c.in-Some.message
 read_at c =
     decoded M30 c.args.form IsPagingMessage message_body body_reading (paging_reading c.args.form)
-    c.args.capsule.now c.in_ok-body.body c.in-Some.message (are_read c.args.form)
-    c.in_ok-body.ensures.found c.in-Some.ensures
+    c.args.capsule.now c.of-body.result c.in-Some.message (are_read c.args.form)
+    (rw c.of-body.ensures c.in_ok-count.ensures.found) c.in-Some.ensures
 
 unread_at : (c : In-None) →
     IsNone M30 c.args.form IsPagingMessage message_body (paging_reading c.args.form) c.args.capsule.now
 unread_at c =
     undecoded M30 c.args.form IsPagingMessage message_body body_reading (paging_reading c.args.form)
-    c.args.capsule.now c.in_ok-body.body (are_read c.args.form) c.in_ok-body.ensures.found
+    c.args.capsule.now c.of-body.result (are_read c.args.form) (rw c.of-body.ensures c.in_ok-count.ensures.found)
     c.in-None.ensures
 
-pub returns-in_err-body-clause-only : goal.returns-in_err-body-clause-only
+pub returns-in_err-count-clause-only : goal.returns-in_err-count-clause-only
 unfolding paging_capsule
-returns-in_err-body-clause-only c m is same = absurd ((uncapsuled_at c).never m is same)
+returns-in_err-count-clause-only c m is same = absurd ((uncapsuled_at c).never m is same)
 
-pub returns-in_err-body-clause-reading : goal.returns-in_err-body-clause-reading
-returns-in_err-body-clause-reading c =
+pub returns-in_err-count-clause-reading : goal.returns-in_err-count-clause-reading
+returns-in_err-count-clause-reading c =
     fault_read c.from_residual.result (search rules) ∙ sym (uncapsuled_at c).reading
 
 pub returns-in-Some-clause-found : goal.returns-in-Some-clause-found
@@ -62,6 +62,6 @@ returns-in-None-clause-reading c = sym (unread_at c).reading
 pub returns-in-None-clause-bad_body : goal.returns-in-None-clause-bad_body
 unfolding paging_capsule
 returns-in-None-clause-bad_body c =
-    let told = whole_checked M30 c.args.form c.args.capsule.now c.in_ok-body.body
-    c.in_ok-body.ensures.found in
+    let told = whole_checked M30 c.args.form c.args.capsule.now c.of-body.result
+    (rw c.of-body.ensures c.in_ok-count.ensures.found) in
     (λ bad. (told.0, told.1, (unread_at c).never), λ none. refl)
