@@ -48,7 +48,7 @@ tail-some freq rest =
       length-binary 11 freq,
     )
 
-fills_from : (n : ℕ) (body : List Bool) → 25 ≤ n → n ≤ 148 → 8 * n ≡ 38 + length body →
+pub fills_from : (n : ℕ) (body : List Bool) → 25 ≤ n → n ≤ 148 → 8 * n ≡ 38 + length body →
     FillsCapsule M30 body
 fills_from n body least most whole =
     let count : octets M30 body ≡ n = omega (arith, whole) in

@@ -139,20 +139,26 @@ body_again m is =
     ap (number_part 8) (sync_spelled m) ∙ number_again 8 1 bits (omega arith) in
     rw front (read_again sync_shape sync_contents sync_from by_layout m (sync_of_message m is))
 
-pub body_there : (body : List Bool) (m : SyncFields) → FillsCapsule M30 body →
-    body_reading body ≡ Some m → IsSyncMessage m × (body ≡ sync_body m)
+pub body_is : (body : List Bool) (m : SyncFields) → body_reading body ≡ Some m →
+    IsOf sync_shape (sync_contents m) × (body ≡ sync_body m)
 unfolding body_reading
-body_there body m fills e =
+body_is body m e =
     let first = bind_some (number_part 8 body) (λ kind.
     cond (kind.0 == 1) (mapped sync_from (reading sync_shape kind.1)) None) m e in
     let test = guard_some (first.0.0 == 1) (mapped sync_from (reading sync_shape first.0.1)) m
     first.2 in
     let front = number_there 8 first.0.0 body first.0.1 first.1 in
-    let there = read_there sync_shape sync_contents sync_from by_layout first.0.1 m test.1 in
-    let same : body ≡ sync_body m =
-    front.1 ∙ ap (λ (k : ℕ). binary 8 k ++ first.0.1) (eqb-true first.0.0 1 test.0)
-    ∙ ap (λ (r : List Bool). binary 8 1 ++ r) there.1 ∙ sym (sync_spelled m) in
-    (sync_is m there.0 (subst (FillsCapsule M30) same fills), same)
+    let there = read_there sync_shape sync_contents sync_from by_layout first.0.1 m test.1 in (
+      there.0,
+      front.1 ∙ ap (λ (k : ℕ). binary 8 k ++ first.0.1) (eqb-true first.0.0 1 test.0)
+          ∙ ap (λ (r : List Bool). binary 8 1 ++ r) there.1 ∙ sym (sync_spelled m),
+    )
+
+pub body_there : (body : List Bool) (m : SyncFields) → FillsCapsule M30 body →
+    body_reading body ≡ Some m → IsSyncMessage m × (body ≡ sync_body m)
+body_there body m fills e =
+    let is = body_is body m e in
+    (sync_is m is.0 (subst (FillsCapsule M30) is.1 fills), is.1)
 
 -- WRITTEN
 pub body_written : (m : SyncFields) (one after : List Bool) → one ≡ binary 8 1 →

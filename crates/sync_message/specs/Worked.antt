@@ -2,9 +2,12 @@
 use Rattle.std.specs.Prelude.{◌≡◌, refl, ◌^◌, false, [], ◌∷◌, length, take, Some, None}
 use Rattle.chip_core.specs.Bits.{number, binary, places}
 use Rattle.chip_core.specs.declared.check_form.CheckForm.TheVariants.{Plain, Complemented}
+use Rattle.message_layout.specs.Reading.{fields_at, group_at, number_part, octets_at, part_at}
+use Rattle.message_layout.specs.Reading.{presence_at, reading, records_at}
 use Rattle.quality_bits.specs.Capsules.{capsule}
 use Rattle.quality_bits.specs.Quality.{check_bits}
-use Rattle.sync_message.specs.Reading.{fields_at, is_message, sync_reading}
+use Rattle.sync_message.specs.Layouts.{body_reading, sync_of}
+use Rattle.sync_message.specs.Reading.{sync_reading}
 use Rattle.sync_message.specs.SyncMessage.{sync_body, sync_capsule}
 use Rattle.sync_message.specs.declared.fields.SyncFields.{SyncFields}
 
@@ -49,17 +52,20 @@ with_freq_octets = refl
 
 -- what is read is what was spelled
 shortest_read : sync_reading Plain (sync_capsule Plain shortest) ≡ Some shortest
-unfolding shortest sync_reading fields_at is_message sync_capsule sync_body capsule binary
+unfolding shortest sync_reading body_reading sync_of reading fields_at group_at presence_at
+    octets_at records_at number_part part_at sync_capsule sync_body capsule binary
     check_bits places
 shortest_read = refl
 
 with_freq_read : sync_reading Plain (sync_capsule Plain with_freq) ≡ Some with_freq
-unfolding with_freq shortest sync_reading fields_at is_message sync_capsule sync_body capsule binary
+unfolding with_freq shortest sync_reading body_reading sync_of reading fields_at group_at presence_at
+    octets_at records_at number_part part_at sync_capsule sync_body capsule binary
     check_bits places
 with_freq_read = refl
 
 -- a capsule whose check is of the other form spells no message
 other_form_read : sync_reading Complemented (sync_capsule Plain shortest) ≡ None
-unfolding shortest sync_reading fields_at is_message sync_capsule sync_body capsule binary
+unfolding shortest sync_reading body_reading sync_of reading fields_at group_at presence_at
+    octets_at records_at number_part part_at sync_capsule sync_body capsule binary
     check_bits places
 other_form_read = refl
