@@ -9,6 +9,7 @@ mod contents;
 pub mod laws;
 mod layout;
 mod reading;
+mod rows;
 mod slice;
 mod values;
 mod writing;

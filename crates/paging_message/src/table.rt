@@ -3,51 +3,32 @@
 ghost use Rattle.std.specs.Prelude.{◌≡◌, ◌<◌, [], get_or};
 ghost use Rattle.paging_message.specs.Widths.{system_names};
 
-use message_layout::name_in;
+use message_layout::{field_rows, name_in};
+
+/// Hands a macro the fields of the System Parameters Message, in the order in which they are sent:
+/// of each its place, its name and its number of bits.
+macro_rules! system_fields {
+    ($made:ident $(, $($with:tt)+)?) => {
+        $made! {
+            [$($($with)+)?]
+            0 pn 9, 1 seq 6, 2 sid 15, 3 nid 16, 4 zone 12, 5 zones 3, 6 ztimer 3,
+            7 msids 1, 8 mnids 1, 9 base 16, 10 bclass 4, 11 pages 3, 12 cycle 3,
+            13 home 1, 14 fsid 1, 15 fnid 1, 16 up 1, 17 down 1, 18 param 1,
+            19 prd 7, 20 lat 22, 21 long 23, 22 dist 11, 23 wina 4, 24 winn 4,
+            25 winr 4, 26 age 4, 27 pthresh 5, 28 pframes 4, 29 pthen 1,
+            30 pperen 1, 31 pdelay 5, 32 rescan 1, 33 tadd 6, 34 tdrop 6,
+            35 tcomp 4, 36 ttdrop 4
+        }
+    };
+}
+
+pub(crate) use system_fields;
 
 /// The names of the fields of the System Parameters Message in the order in which they are sent,
 /// each with its number of bits. The message type, 8 bits, stands before them.
 ///
 /// TIA/EIA-95-B, 7.7.2.3.2.1. Whatever spells, reads or prints the message goes by this table.
-pub const SYSTEM_FIELDS: [(&str, u8); 37] = [
-    ("pn", 9),
-    ("seq", 6),
-    ("sid", 15),
-    ("nid", 16),
-    ("zone", 12),
-    ("zones", 3),
-    ("ztimer", 3),
-    ("msids", 1),
-    ("mnids", 1),
-    ("base", 16),
-    ("bclass", 4),
-    ("pages", 3),
-    ("cycle", 3),
-    ("home", 1),
-    ("fsid", 1),
-    ("fnid", 1),
-    ("up", 1),
-    ("down", 1),
-    ("param", 1),
-    ("prd", 7),
-    ("lat", 22),
-    ("long", 23),
-    ("dist", 11),
-    ("wina", 4),
-    ("winn", 4),
-    ("winr", 4),
-    ("age", 4),
-    ("pthresh", 5),
-    ("pframes", 4),
-    ("pthen", 1),
-    ("pperen", 1),
-    ("pdelay", 5),
-    ("rescan", 1),
-    ("tadd", 6),
-    ("tdrop", 6),
-    ("tcomp", 4),
-    ("ttdrop", 4),
-];
+pub const SYSTEM_FIELDS: [(&str, u8); 37] = system_fields!(field_rows);
 
 /// The names of the fields of the Neighbor List Message before its neighbors, each with its number
 /// of bits.

@@ -8,11 +8,11 @@ ghost use Rattle.sync_message.specs.Rows.{sync_values, sync_widths};
 ghost use Rattle.sync_message.specs.SyncMessage.{freq_fields};
 
 use crate::fields::SyncFields;
-use crate::table::{FREQ_FIELD, SYNC_FIELDS};
+use crate::table::{FREQ_FIELD, SYNC_FIELDS, sync_fields};
 use chip_core::{Bits, Numbers};
 use message_layout::{
-    BitSlice, Contents, FieldValues, Group, Layout, NO_OCTETS, NO_RECORDS, Presence, read_from,
-    read_kind,
+    BitSlice, Contents, FieldValues, Group, Layout, NO_OCTETS, NO_RECORDS, Presence,
+    fields_of_values, read_from, read_kind, values_of_fields,
 };
 
 /// The fields that each message has, and the frequency unless 3 bits are left, as at 25 octets.
@@ -57,19 +57,7 @@ pub(crate) fn contents_of(fields: &SyncFields) -> Contents
 pub(crate) fn values_of(fields: &SyncFields) -> [u64; 11]
     ensures { result ≡ sync_values fields.now }
 {
-    [
-        u64::from(fields.prev),
-        u64::from(fields.min),
-        u64::from(fields.sid),
-        u64::from(fields.nid),
-        u64::from(fields.pn),
-        fields.lc,
-        fields.time,
-        u64::from(fields.lp),
-        u64::from(fields.ltm),
-        u64::from(fields.daylt),
-        u64::from(fields.prat),
-    ]
+    sync_fields!(values_of_fields, fields)
 }
 
 /// The frequency as the layout has it.
@@ -89,22 +77,9 @@ fn fields_from(contents: &Contents) -> SyncFields
     requires freq { FieldsFit (freq_fields (freq_from contents.now.group)) }
     ensures { result ≡ sync_from contents.now }
 {
-    let values = &contents.fixed;
-    SyncFields {
-        prev: values.get(0) as u8,
-        min: values.get(1) as u8,
-        sid: values.get(2) as u16,
-        nid: values.get(3) as u16,
-        pn: values.get(4) as u16,
-        lc: values.get(5),
-        time: values.get(6),
-        lp: values.get(7) as u8,
-        ltm: values.get(8) as u8,
-        daylt: values.get(9) as u8,
-        prat: values.get(10) as u8,
-        freq: freq_in(&contents.group),
-        rest: contents.rest,
-    }
+    let freq = freq_in(&contents.group);
+    let rest = contents.rest;
+    sync_fields!(fields_of_values, SyncFields, contents.fixed, freq, rest)
 }
 
 /// The frequency that was read.

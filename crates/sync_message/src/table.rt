@@ -3,25 +3,27 @@
 ghost use Rattle.std.specs.Prelude.{◌≡◌, ◌<◌, [], get_or};
 ghost use Rattle.sync_message.specs.Rows.{sync_names, sync_widths};
 
-use message_layout::{FieldRow, name_in, width_in};
+use message_layout::{FieldRow, field_rows, name_in, width_in};
+
+/// Hands a macro the fields that each Sync Channel Message has, in the order in which they are sent:
+/// of each its place, its name and its number of bits.
+macro_rules! sync_fields {
+    ($made:ident $(, $($with:tt)+)?) => {
+        $made! {
+            [$($($with)+)?]
+            0 prev 8, 1 min 8, 2 sid 15, 3 nid 16, 4 pn 9, 5 lc 42,
+            6 time 36, 7 lp 8, 8 ltm 6, 9 daylt 1, 10 prat 2
+        }
+    };
+}
+
+pub(crate) use sync_fields;
 
 /// The names of the fields that each Sync Channel Message has, in the order in which they are sent,
 /// each with its number of bits. The message type, 8 bits, stands before them.
 ///
 /// TIA/EIA-95-B, 7.7.1.3. Whatever spells, reads or prints the message goes by this table.
-pub const SYNC_FIELDS: [FieldRow; 11] = [
-    ("prev", 8),
-    ("min", 8),
-    ("sid", 15),
-    ("nid", 16),
-    ("pn", 9),
-    ("lc", 42),
-    ("time", 36),
-    ("lp", 8),
-    ("ltm", 6),
-    ("daylt", 1),
-    ("prat", 2),
-];
+pub const SYNC_FIELDS: [FieldRow; 11] = sync_fields!(field_rows);
 
 /// CDMA_FREQ, which a message of more than 25 octets has behind those fields.
 pub const FREQ_FIELD: FieldRow = ("freq", 11);

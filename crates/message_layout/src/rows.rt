@@ -1,0 +1,32 @@
+//! Tables of fields that a struct holds under the same names.
+//!
+//! A message lists its fields once, in a macro of its own that hands the list to one of these: of
+//! each field its place in the table, counted from 0, its name, and in how many bits it is sent.
+
+/// The table: of each field its name and its number of bits.
+#[macro_export]
+macro_rules! field_rows {
+    ([] $($place:literal $name:ident $width:literal),*) => {
+        [$((stringify!($name), $width)),*]
+    };
+}
+
+/// The values of a struct's fields, in the table's order.
+#[macro_export]
+macro_rules! values_of_fields {
+    ([$fields:expr] $($place:literal $name:ident $width:literal),*) => {
+        [$(u64::from($fields.$name)),*]
+    };
+}
+
+/// The struct whose fields have these values, and others that are given beside them.
+#[macro_export]
+macro_rules! fields_of_values {
+    ([$type:ident, $values:expr, $($other:ident),*]
+        $($place:literal $name:ident $width:literal),*) => {
+        $type {
+            $($name: $values.get($place) as _,)*
+            $($other),*
+        }
+    };
+}
