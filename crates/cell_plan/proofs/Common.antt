@@ -19,6 +19,7 @@ pub use Rattle.cdma_io.specs.SampleFile.{HasBits, bits_of}
 pub use Rattle.chip_core.proofs.BitLists.{taken_more, zip_push}
 pub use Rattle.chip_core.proofs.FieldLists.{length-binary}
 pub use Rattle.chip_core.proofs.Places.{get_or-map-places, length-map-places, map-places-all, map-places-more, places-none}
+pub use Rattle.chip_core.proofs.Ranges.{flat_map-places-more}
 pub use Rattle.chip_core.proofs.Ring.{diff-same, diff-times, distrib_right, split}
 pub use Rattle.chip_core.specs.Bits.{parity, places, sign, xor, zip_with}
 unfoldable pub use Rattle.chip_core.specs.Bits.{binary}
@@ -32,7 +33,7 @@ pub use Rattle.chip_core.specs.declared.width.Width.TheVariants.{Eight, Sixteen}
 pub use Rattle.conv_code.proofs.Continued.{length-code_symbols}
 pub use Rattle.conv_code.specs.ConvCode.{code_symbols, state_after}
 pub use Rattle.paging_message.proofs.Carried.{laid_is_carried, rate_large}
-pub use Rattle.paging_message.proofs.Layings.{flat-more, flat-none, padded_framed}
+pub use Rattle.paging_message.proofs.Layings.{flat-none, padded_framed}
 pub use Rattle.paging_message.specs.Admitted.{HasMessage}
 pub use Rattle.paging_message.specs.HalfFrames.{bits_left, half_frame_body}
 pub use Rattle.quality_bits.proofs.TrafficCodewords.{checked_most, repeated_most, codeword_fills}

@@ -3,7 +3,7 @@ use Rattle.cell_plan.proofs.Common.{◌≡◌, ℕ, zero, suc, ◌+◌, ◌-◌,
 use Rattle.cell_plan.proofs.Common.{take, drop, map, get_or, replicate, refl, sym, ap, ◌∙◌, arith, length-append, length-drop, inl, inr}
 use Rattle.cell_plan.proofs.Common.{subst, flat_map, cases_lt, at_drop_more, length-replicate, length-take-le, map-append, take_all}
 use Rattle.cell_plan.proofs.Common.{take_more, div-mul-add, mod-mul-add, div-add-mod, mod-lt, mod_self, places, CheckForm, capsule, M30}
-use Rattle.cell_plan.proofs.Common.{length-capsule, Rate, half_frame_body, flat-more, flat-none, padded_framed, Page}
+use Rattle.cell_plan.proofs.Common.{length-capsule, Rate, half_frame_body, flat_map-places-more, flat-none, padded_framed, Page}
 use Rattle.quality_bits.specs.declared.rate.Rate.TheVariants as rates
 use Rattle.paging_message.specs.Laying as laying
 use Rattle.cell_plan.specs.Pages as specs
@@ -69,7 +69,7 @@ whole_halves size starts body (suc h) within =
     omega (
       arith,
       ap (λ (n : ℕ). length (flat_map f (places n))) next,
-      ap length (flat-more f h),
+      ap length (flat_map-places-more f h),
       length-append (flat_map f (places h)) (f h),
       whole_halves size starts body h (omega (arith, within, more)),
       here,
@@ -120,7 +120,7 @@ length-framed size l large =
           omega (
             arith,
             ap (λ (m : ℕ). length (flat_map f (places m))) count,
-            ap length (flat-more f q),
+            ap length (flat_map-places-more f q),
             length-append (flat_map f (places q)) (f q),
             front,
             own,

@@ -2,9 +2,10 @@
 use Rattle.message_layout.proofs.Common.{◌≡◌, ℕ, ◌+◌, ◌*◌, ◌/◌, ◌%◌, ◌≤◌, ◌&&◌, Bool, cond, List, [], ◌∷◌, ◌++◌, length, map, drop, refl}
 use Rattle.message_layout.proofs.Common.{sym, ap, ◌∙◌, nil_from_length, arith, nat_le, inl, inr, Option, Some, None, cases_Bool, le-leb}
 use Rattle.message_layout.proofs.Common.{div-add-mod', length-append, length-drop, length-in_widths, field, spelled, in_widths, total}
-use Rattle.message_layout.proofs.Common.{FieldsFit, values_at, Field, binary, height, record_fields, shares, columns_in, fields_at}
+use Rattle.message_layout.proofs.Common.{FieldsFit, values_at, Field, binary, height, record_fields, shares, fields_at}
 use Rattle.message_layout.proofs.Common.{group_at, number_part, octets_at, part_at, presence_at, reading, records_at, plain_contents}
 use Rattle.message_layout.proofs.Common.{plain_shape, spelling, HaveValues, IsOf, IsRest, Contents}
+pub use Rattle.message_layout.specs.Plain.{list_said}
 use Rattle.message_layout.proofs.Columns.{length-records}
 use Rattle.message_layout.proofs.Messages.{no_columns, no_octets}
 
@@ -88,12 +89,6 @@ fields_reading ws bits =
     ]
 
 -- fields, and as many records as fit behind them
-abbrev pub list_said : List ℕ → List ℕ → List Bool → Contents
-list_said ws rs bits =
-    let w = drop (total ws) bits in
-    let n = length w / total rs in
-    plain_contents (values_at ws bits) (columns_in rs n w) (drop (n * total rs) w)
-
 abbrev pub list_told : List ℕ → List ℕ → ℕ → ℕ → List Bool → Bool
 list_told ws rs least most bits =
     let w = drop (total ws) bits in

@@ -1,5 +1,8 @@
 -- Layouts without a group and without octets, and contents of these.
-use Rattle.std.specs.Prelude.{ℕ, Bool, List, [], Option, None}
+use Rattle.std.specs.Prelude.{ℕ, ◌*◌, Bool, List, [], length, drop, Option, None}
+use Rattle.chip_core.specs.Fields.{total}
+use Rattle.chip_core.specs.Readings.{values_at}
+use Rattle.message_layout.specs.Contents.{columns_in, count_in}
 use Rattle.message_layout.specs.Shapes.{Shape}
 use Rattle.message_layout.specs.declared.contents.Contents.{Contents}
 use Rattle.message_layout.specs.declared.layout.Presence.TheVariants.{Never}
@@ -25,3 +28,10 @@ plain_contents fixed columns rest = record {
   columns = columns;
   rest = rest;
 }
+
+-- what stands at the places of fields, of as many records as fit behind them, and behind these
+abbrev pub list_said : List ℕ → List ℕ → List Bool → Contents
+list_said fixed records bits =
+    let w = drop (total fixed) bits in
+    let n = count_in records (length w) in
+    plain_contents (values_at fixed bits) (columns_in records n w) (drop (n * total records) w)

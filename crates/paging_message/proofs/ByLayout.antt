@@ -2,8 +2,8 @@
 use Rattle.paging_message.proofs.Common.{◌≡◌, ◌≢◌, ℕ, zero, suc, ◌+◌, ◌-◌, ◌*◌, ◌/◌, ◌%◌, ◌^◌, ◌<◌, ◌≤◌, ◌==◌, ◌&&◌, Bool, true, false}
 use Rattle.paging_message.proofs.Common.{cond, List, [], ◌∷◌, ◌++◌, length, get_or, drop, refl, sym, ap, subst, ◌∙◌, arith, nat_le, inl}
 use Rattle.paging_message.proofs.Common.{inr, Option, Some, None, cases_Bool, cases_lt, eqb-false, eqb-true, ne_eqb, le-leb, lt-leb}
-use Rattle.paging_message.proofs.Common.{length-append, length-drop, mul_comm, append_assoc, length-binary, binary, places, field, spelled}
-use Rattle.paging_message.proofs.Common.{in_widths, FieldsFit, Field, map-places-all, dropped, spelled-append, values_at, FillsCapsule, M30}
+use Rattle.paging_message.proofs.Common.{length-append, length-drop, append_assoc, length-binary, binary, places, field, spelled}
+use Rattle.paging_message.proofs.Common.{in_widths, FieldsFit, Field, map-places-all, spelled-append, FillsCapsule, M30}
 use Rattle.paging_message.proofs.Common.{record_fields, count_in, height, both_columns, first_column, no_columns, fields_reading}
 use Rattle.paging_message.proofs.Common.{list_reading, list_said, list_told, plain_back, plain_length, plain_of, plain_spelled, record_map}
 use Rattle.paging_message.proofs.Common.{rest_back, mapped_cond, plain_contents, plain_shape, mapped, reading, is_lawful, Shape, spelling}
@@ -12,7 +12,7 @@ use Rattle.paging_message.proofs.Common.{IsPagingMessage, neighbor_body, neighbo
 use Rattle.paging_message.proofs.Common.{system_widths, IsSystem, ChannelFields, NeighborFields, OtherFields, SystemFields, PagingMessage}
 use Rattle.paging_message.proofs.Common.{contents_of, kind_of, message_from, shape_of, channel_contents, channels_from, neighbor_contents}
 use Rattle.paging_message.proofs.Common.{neighbors_from, other_contents, other_from, channel_values, channel_widths, neighbor_values}
-use Rattle.paging_message.proofs.Common.{neighbor_widths, system_contents, system_from, channels_at, message_at, neighbors_at}
+use Rattle.paging_message.proofs.Common.{neighbor_widths, system_contents, system_from, message_at}
 use Rattle.paging_message.specs.System as system
 use Rattle.paging_message.specs.declared.message.PagingMessage.TheVariants as messages
 
@@ -266,13 +266,6 @@ made_of =
     other_made
 
 -- READ BY PLACES
--- where a test holds
-chosen : {A B : Type 0} (f : A → B) (t u : Bool) (x : A) (y : B) → t ≡ u → f x ≡ y →
-    mapped f (cond t (Some x) None) ≡ cond u (Some y) None
-chosen f t u x y e same =
-    mapped_cond f t x ∙ ap (λ (b : Bool). cond b (Some (f x)) None) e
-    ∙ ap (λ z. cond u (Some z) None) same
-
 -- so many bits behind the type are eight more of the body
 le_behind : (a n : ℕ) → nat_le a n ≡ nat_le (8 + a) (8 + n)
 le_behind a n =
@@ -289,68 +282,51 @@ list_admits a size count w long =
     let cut : 8 + count - (8 + a) ≡ count - a = omega arith in
     rw (any, long, cut, le_behind a count) refl
 
--- behind the records
-behind_records : (a size n : ℕ) (bits : List Bool) →
-    drop (n * size) (drop a bits) ≡ drop (a + size * n) bits
-behind_records a size n bits =
-    dropped (n * size) a bits ∙ ap (λ (k : ℕ). drop (a + k) bits) (mul_comm n size)
-
 abbrev Placed : List Bool → ℕ → Type 0
 Placed bits k =
     mapped (message_from k) (reading (shape_of k) bits)
     ≡ cond (admits k (8 + length bits)) (Some (message_at k bits)) None
 
+-- where the layout's test is that of the body's length
+tested : (bits : List Bool) (k : ℕ) (t : Bool) (c : Contents) →
+    reading (shape_of k) bits ≡ cond t (Some c) None → t ≡ admits k (8 + length bits) →
+    message_from k c ≡ message_at k bits → Placed bits k
+tested bits k t c read same made =
+    ap (mapped (message_from k)) read ∙ mapped_cond (message_from k) t c
+    ∙ ap (λ (b : Bool). cond b (Some (message_from k c)) None) same
+    ∙ ap (λ (m : PagingMessage). cond (admits k (8 + length bits)) (Some m) None) made
+
 system_placed : (bits : List Bool) → Placed bits 1
 unfolding admits message_at
 system_placed bits =
-    let c = plain_contents (values_at system_widths bits) ([] ∷ [] ∷ [] ∷ []) (drop 214 bits) in
-    ap (mapped (message_from 1)) (fields_reading system_widths bits)
-    ∙ chosen (message_from 1) (nat_le 214 (length bits)) (nat_le 222 (8 + length bits)) c
-    (messages.System (system_from c)) (le_behind 214 (length bits)) refl
+    tested bits 1 (nat_le 214 (length bits)) (list_said system_widths [] bits)
+    (fields_reading system_widths bits) (le_behind 214 (length bits)) refl
 
 neighbors_placed : (bits : List Bool) → Placed bits 3
-unfolding admits message_at neighbors_at
+unfolding admits message_at
 neighbors_placed bits =
     let ws = neighbor_widths in
     let rs : List ℕ = 3 ∷ 9 ∷ [] in
-    let n = (length bits - 19) / 12 in
-    let long = length-drop 19 bits in
-    let read : neighbors_from (list_said ws rs bits) ≡ neighbors_at bits =
-    rw (dropped 6 9 bits, long, behind_records 19 12 n bits) refl in
-    ap (mapped (message_from 3)) (list_reading ws 3 (9 ∷ []) 0 7 bits)
-    ∙ chosen (message_from 3) (list_told ws rs 0 7 bits) (admits 3 (8 + length bits))
-    (list_said ws rs bits) (messages.Neighbors (neighbors_at bits))
-    (list_admits 19 12 (length bits) (drop 19 bits) long) (ap messages.Neighbors read)
+    tested bits 3 (list_told ws rs 0 7 bits) (list_said ws rs bits)
+    (list_reading ws 3 (9 ∷ []) 0 7 bits)
+    (list_admits 19 12 (length bits) (drop 19 bits) (length-drop 19 bits)) refl
 
 channels_placed : (bits : List Bool) → Placed bits 4
-unfolding admits message_at channels_at
+unfolding admits message_at
 channels_placed bits =
     let ws = channel_widths in
     let rs : List ℕ = 11 ∷ [] in
-    let n = (length bits - 15) / 11 in
-    let long = length-drop 15 bits in
-    let read : channels_from (list_said ws rs bits) ≡ channels_at bits =
-    rw (long, behind_records 15 11 n bits) refl in
-    ap (mapped (message_from 4)) (list_reading ws 11 [] 0 7 bits)
-    ∙ chosen (message_from 4) (list_told ws rs 0 7 bits) (admits 4 (8 + length bits))
-    (list_said ws rs bits) (messages.Channels (channels_at bits))
-    (list_admits 15 11 (length bits) (drop 15 bits) long) (ap messages.Channels read)
+    tested bits 4 (list_told ws rs 0 7 bits) (list_said ws rs bits)
+    (list_reading ws 11 [] 0 7 bits)
+    (list_admits 15 11 (length bits) (drop 15 bits) (length-drop 15 bits)) refl
 
 other_placed : (bits : List Bool) (k : ℕ) → (k == 1) ≡ false → (k == 3) ≡ false →
     (k == 4) ≡ false → Placed bits k
 unfolding admits message_at
 other_placed bits k a b d =
-    let none : List (List ℕ) = [] ∷ [] ∷ [] ∷ [] in
-    let read : reading (shape_of k) bits
-    ≡ cond (nat_le 0 (length bits)) (Some (plain_contents [] none bits)) None =
-    rw (a, b, d) (fields_reading [] bits) in
-    let test : nat_le 0 (length bits) ≡ admits k (8 + length bits) =
-    rw (a, b, d) (le_behind 0 (length bits)) in
-    let made : message_from k (plain_contents [] none bits) ≡ message_at k bits =
-    rw (a, b, d) refl in
-    ap (mapped (message_from k)) read
-    ∙ chosen (message_from k) (nat_le 0 (length bits)) (admits k (8 + length bits))
-    (plain_contents [] none bits) (message_at k bits) test made
+    let n = length bits in
+    tested bits k (nat_le 0 n) (list_said [] [] bits) (rw (a, b, d) (fields_reading [] bits))
+    (rw (a, b, d) (le_behind 0 n)) (rw (a, b, d) refl)
 
 -- what is read by a layout is what stands at the places of the fields
 pub placed : (bits : List Bool) (k : ℕ) → Placed bits k

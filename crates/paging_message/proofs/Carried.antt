@@ -1,11 +1,12 @@
 -- What laid capsules carry: a framer that takes what a layout lays.
-use Rattle.paging_message.proofs.Common.{◌≡◌, ℕ, zero, suc, ◌+◌, ◌-◌, ◌*◌, ◌%◌, ◌<◌, ◌≤◌, ◌==◌, if◌then◌else◌, Bool, true, false, cond}
+use Rattle.paging_message.proofs.Common.{◌≡◌, ℕ, zero, suc, ◌+◌, ◌-◌, ◌*◌, ◌/◌, ◌%◌, ◌<◌, ◌≤◌, ◌==◌, if◌then◌else◌, Bool, true, false, cond}
 use Rattle.paging_message.proofs.Common.{List, [], ◌∷◌, ◌++◌, length, map, take, replicate, refl, sym, ap, subst, ◌∙◌, arith, append_assoc}
 use Rattle.paging_message.proofs.Common.{length-append, nat_le, inl, inr, Option, Some, None, IsTrue, flat_map, option_to_list, cases_lt}
 use Rattle.paging_message.proofs.Common.{cases_Bool, ne_eqb, lt-ltb, le-leb, eqb-true, eqb-false, false_from_ne_true, append-nil}
 use Rattle.paging_message.proofs.Common.{take-append-le, take_all, replicate-append-replicate, number, places, stated_bits, is_stated}
 use Rattle.paging_message.proofs.Common.{front_capsule, awaits_more, still_open, continued, completed, IsWhole, Rate, R9600, R4800, R2400}
 use Rattle.paging_message.proofs.Common.{R1200, bits_left, capsules_in, half_frame_body, half_frame_capsule_ending, half_under_way}
+use Rattle.paging_message.proofs.Common.{flat_map_ext_places, flat_map-places-more}
 use Rattle.paging_message.proofs.Chains.{after}
 use Rattle.paging_message.proofs.Cutting.{sci_opens, sci_ends, body_step, place_more, place_over, nothing_open, nothing_placed}
 use Rattle.quality_bits.proofs.Opened as opened
@@ -41,9 +42,9 @@ capsules-more size bits b =
     (half_frame_capsule_ending size (take (i + 1) xs)) in
     let long : length more ≡ length bits + 1 = length-append bits (b ∷ []) in
     ap (λ (n : ℕ). flat_map (each more) (places n)) long
-    ∙ layings.flat-more (each more) (length bits)
+    ∙ flat_map-places-more (each more) (length bits)
     ∙ ap (λ (l : List (List Bool)). l ++ each more (length bits))
-    (layings.flat_same (each more) (each bits) (length bits)
+    (flat_map_ext_places (each more) (each bits) (length bits)
     (λ k lt. ap (λ (xs : List Bool). option_to_list (half_frame_capsule_ending size xs))
     (take-append-le (k + 1) bits (b ∷ []) (omega (arith, lt)))))
     ∙ ap (λ (xs : List Bool). flat_map (each bits) (places (length bits)) ++ option_to_list
@@ -254,48 +255,47 @@ behind_capsule size l = cond (nat_le 8 (bits_left size (length l.body))) (Some [
 abbrev pub bits_on : laying.Laid → List Bool → laying.Laid
 bits_on l bits = record { body = l.body ++ bits; starts = l.starts }
 
+-- a body bit, by what it completes and what is open behind it
+feed_as : (size : ℕ) (l : laying.Laid) (out : List Bool) (o whole open_bits : Option (List Bool))
+    (sci b : Bool) → 2 ≤ size → Feeding size l out o → (IsTrue sci → length l.body % size ≡ 0) →
+    completed (begins sci o) (b ∷ []) ≡ whole → continued (begins sci o) (b ∷ []) ≡ open_bits →
+    Fed size (laying.bit_on size l sci b) out
+    (after (bits_left size (length (l.body ++ b ∷ []))) whole open_bits) (option_to_list whole)
+feed_as size l out o whole open_bits sci b large f starts gives on =
+    let m = laying.bit_on size l sci b in
+    let left = bits_left size (length (l.body ++ b ∷ [])) in
+    let own = completed (begins sci o) (b ∷ []) in
+    subst (λ (w : Option (List Bool)). Fed size m out (after left w open_bits) (option_to_list w)) gives
+    (subst (λ (p : Option (List Bool)). Fed size m out (after left own p) (option_to_list own)) on
+    (feed size l out o sci b large f starts))
+
+-- bits that are laid behind others
+then_bits : (size : ℕ) (l : laying.Laid) (out xs ys : List Bool) (o : Option (List Bool))
+    (p : laying.Laid → Option (List Bool)) (cs ds : List (List Bool))
+    (a : Fed size (bits_on l xs) out o cs) →
+    Fed size (bits_on (bits_on l xs) ys) (out ++ a.more) (p (bits_on (bits_on l xs) ys)) ds →
+    Fed size (bits_on l (xs ++ ys)) out (p (bits_on l (xs ++ ys))) (cs ++ ds)
+then_bits size l out xs ys o p cs ds a b =
+    let last = bits_on (bits_on l xs) ys in
+    subst (λ (body : List Bool). Fed size (record { body = body; starts = l.starts }) out
+    (p (record { body = body; starts = l.starts })) (cs ++ ds)) (append_assoc l.body xs ys)
+    (then_fed size (bits_on l xs) last out o (p last) cs ds a b)
+
 -- its last bits, where the first ones are open
 feed_rest : (size : ℕ) (l : laying.Laid) (out w p c : List Bool) (b : Bool) → 2 ≤ size →
     IsWhole w → w ≡ p ++ b ∷ c → Feeding size l out (Some p) →
     Fed size (bits_on l (b ∷ c)) out (behind_capsule size (bits_on l (b ∷ c))) (w ∷ [])
 feed_rest size l out w p [] b large whole is f =
-    let one = feed size l out (Some p) false b large f (λ told. absurd (cc)) in
-    let gives : completed (Some p) (b ∷ []) ≡ Some w = ap front_capsule (sym is)
-    ∙ whole_front w whole in
-    let over : continued (Some p) (b ∷ []) ≡ None = ap still_open (sym is) ∙ whole_over w whole in
-    let state : fed_state size l (Some p) b ≡ behind_capsule size (bits_on l (b ∷ [])) =
-    ap (λ (g : Option (List Bool)). after (bits_left size (length (l.body ++ b ∷ []))) g
-    (continued (Some p) (b ∷ []))) gives
-    ∙ ap (λ (g : Option (List Bool)). after (bits_left size (length (l.body ++ b ∷ [])))
-    (Some w) g) over in
-    record {
-      more = one.more;
-      state = subst (Feeding size (bits_on l (b ∷ [])) (out ++ one.more)) state one.state;
-      gives = one.gives ∙ ap option_to_list gives;
-    }
+    feed_as size l out (Some p) (Some w) None false b large f (λ told. absurd (cc))
+    (ap front_capsule (sym is) ∙ whole_front w whole) (ap still_open (sym is) ∙ whole_over w whole)
 feed_rest size l out w p (d ∷ c) b large whole is f =
-    let one = feed size l out (Some p) false b large f (λ told. absurd (cc)) in
-    let moved : w ≡ (p ++ b ∷ []) ++ d ∷ c = is ∙ sym (append_assoc p (b ∷ []) (d ∷ c)) in
-    let waits = begins_so w (p ++ b ∷ []) c d whole moved in
-    let none : completed (Some p) (b ∷ []) ≡ None = opened.awaits-front (p ++ b ∷ []) waits in
-    let on : continued (Some p) (b ∷ []) ≡ Some (p ++ b ∷ []) =
-    opened.still_open-awaits (p ++ b ∷ []) waits in
-    let state : fed_state size l (Some p) b ≡ Some (p ++ b ∷ []) =
-    ap (λ (g : Option (List Bool)). after (bits_left size (length (l.body ++ b ∷ []))) g
-    (continued (Some p) (b ∷ []))) none ∙ on in
-    let next : Fed size (bits_on l (b ∷ [])) out (Some (p ++ b ∷ [])) [] = record {
-      more = one.more;
-      state = subst (Feeding size (bits_on l (b ∷ [])) (out ++ one.more)) state one.state;
-      gives = one.gives ∙ ap option_to_list none;
-    } in
-    let rest = feed_rest size (bits_on l (b ∷ [])) (out ++ one.more) w
-    (p ++ b ∷ []) c d large whole moved next.state in
-    let all = then_fed size (bits_on l (b ∷ [])) (bits_on (bits_on l (b ∷ [])) (d ∷ c)) out
-    (Some (p ++ b ∷ [])) (behind_capsule size (bits_on (bits_on l (b ∷ [])) (d ∷ c))) []
-    (w ∷ []) next rest in
-    subst (λ (body : List Bool). Fed size (record { body = body; starts = l.starts }) out
-    (behind_capsule size (record { body = body; starts = l.starts })) (w ∷ []))
-    (append_assoc l.body (b ∷ []) (d ∷ c)) all
+    let begun = p ++ b ∷ [] in
+    let moved : w ≡ begun ++ d ∷ c = is ∙ sym (append_assoc p (b ∷ []) (d ∷ c)) in
+    let waits = begins_so w begun c d whole moved in
+    let next = feed_as size l out (Some p) None (Some begun) false b large f
+    (λ told. absurd (cc)) (opened.awaits-front begun waits) (opened.still_open-awaits begun waits) in
+    then_bits size l out (b ∷ []) (d ∷ c) (Some begun) (behind_capsule size) [] (w ∷ []) next
+    (feed_rest size (bits_on l (b ∷ [])) (out ++ next.more) w begun c d large whole moved next.state)
 
 -- ZEROS
 -- what is open over zeros: nothing, or zeros
@@ -357,27 +357,16 @@ feed_zeros size zero l out o large over f =
       };
     }
 feed_zeros size (suc k) l out o large over f =
-    let one = feed size l out o false false large f (λ told. absurd (cc)) in
-    let none = zero_gives o over in
-    let state : fed_state size l o false ≡ continued o (false ∷ []) =
-    ap (λ (g : Option (List Bool)). after (bits_left size (length (l.body ++ false ∷ []))) g
-    (continued o (false ∷ []))) none in
-    let next : Fed size (bits_on l (false ∷ [])) out (continued o (false ∷ [])) [] = record {
-      more = one.more;
-      state = subst (Feeding size (bits_on l (false ∷ [])) (out ++ one.more)) state one.state;
-      gives = one.gives ∙ ap option_to_list none;
-    } in
-    let rest = feed_zeros size k (bits_on l (false ∷ [])) (out ++ one.more)
-    (continued o (false ∷ [])) large (zero_on o over) next.state in
-    let all = then_fed size (bits_on l (false ∷ []))
-    (bits_on (bits_on l (false ∷ [])) (replicate k false)) out
-    (continued o (false ∷ [])) rest.open_bits [] [] next rest.fed in
+    let on = continued o (false ∷ []) in
+    let next = feed_as size l out o None on false false large f (λ told. absurd (cc))
+    (zero_gives o over) refl in
+    let rest = feed_zeros size k (bits_on l (false ∷ [])) (out ++ next.more) on large
+    (zero_on o over) next.state in
     record {
       open_bits = rest.open_bits;
       over = rest.over;
-      fed = subst (λ (body : List Bool). Fed size
-          (record { body = body; starts = l.starts }) out rest.open_bits [])
-          (append_assoc l.body (false ∷ []) (replicate k false)) all;
+      fed = then_bits size l out (false ∷ []) (replicate k false) on (λ m. rest.open_bits) [] [] next
+          rest.fed;
     }
 
 behind_over : (size : ℕ) (l : laying.Laid) → OverZeros (behind_capsule size l)
@@ -412,31 +401,18 @@ feed_begins size l out b (d ∷ c) large whole f =
     (behind_capsule size l) large (behind_over size l) f in
     let front = laying.padded size l.body in
     let way : laying.Laid = record { body = front; starts = l.starts } in
-    let begun = laying.bit_on size way true b in
+    let base : laying.Laid =
+    record { body = front; starts = l.starts ++ length front / size ∷ [] } in
     let out' = out ++ zeros.fed.more in
-    let one = feed size way out' zeros.open_bits true b large zeros.fed.state
-    (λ told. layings.padded_whole size l.body (omega (arith, large))) in
     let waits : awaits_more (b ∷ []) ≡ true = opened.awaits_few (b ∷ []) (omega arith) in
-    let none : completed (Some []) (b ∷ []) ≡ None = opened.awaits-front (b ∷ []) waits in
-    let on : continued (Some []) (b ∷ []) ≡ Some (b ∷ []) =
-    opened.still_open-awaits (b ∷ []) waits in
-    let state : fed_state size way (Some []) b ≡ Some (b ∷ []) =
-    ap (λ (g : Option (List Bool)). after (bits_left size (length (front ++ b ∷ []))) g
-    (continued (Some []) (b ∷ []))) none ∙ on in
-    let first : Fed size begun out' (Some (b ∷ [])) [] = record {
-      more = one.more;
-      state = subst (Feeding size begun (out' ++ one.more)) state one.state;
-      gives = one.gives ∙ ap option_to_list none;
-    } in
-    let rest = feed_rest size begun (out' ++ one.more) w
-    (b ∷ []) c d large whole refl first.state in
-    let two = then_fed size begun (bits_on begun (d ∷ c)) out' (Some (b ∷ []))
-    (behind_capsule size (bits_on begun (d ∷ c))) [] (w ∷ []) first rest in
-    let all = then_fed size way (bits_on begun (d ∷ c)) out zeros.open_bits
-    (behind_capsule size (bits_on begun (d ∷ c))) [] (w ∷ []) zeros.fed two in
-    subst (λ (body : List Bool). Fed size (record { body = body; starts = begun.starts }) out
-    (behind_capsule size (record { body = body; starts = begun.starts })) (w ∷ []))
-    (append_assoc front (b ∷ []) (d ∷ c)) all
+    let first = feed_as size way out' zeros.open_bits None (Some (b ∷ [])) true b large
+    zeros.fed.state (λ told. layings.padded_whole size l.body (omega (arith, large)))
+    (opened.awaits-front (b ∷ []) waits) (opened.still_open-awaits (b ∷ []) waits) in
+    then_fed size way (bits_on base w) out zeros.open_bits (behind_capsule size (bits_on base w)) []
+    (w ∷ []) zeros.fed
+    (then_bits size base out' (b ∷ []) (d ∷ c) (Some (b ∷ [])) (behind_capsule size) [] (w ∷ []) first
+    (feed_rest size (bits_on base (b ∷ [])) (out' ++ first.more) w (b ∷ []) c d large whole refl
+    first.state))
 
 feed_capsule : (size : ℕ) (l : laying.Laid) (out w : List Bool) (follow : Bool) → 2 ≤ size →
     IsWhole w → (follow ≡ true → 8 ≤ bits_left size (length l.body)) →

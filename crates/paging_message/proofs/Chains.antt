@@ -151,21 +151,10 @@ ends_more (suc fuel) size count bits b =
           (ends_chain fuel size (count + n) (drop n more)) None) m.1
           ∙ ap (λ (xs : List Bool). cond left (ends_chain fuel size (count + st) xs) None)
           (drop-append-le st bits (b ∷ []) m.4) in
-          elim (cases_Bool left) [
-            | inl l ↦
-                there_now ∙ ap (λ (c : Bool). cond c
-                (ends_chain fuel size (count + st) (drop st bits ++ b ∷ [])) None) l
-                ∙ ends_more fuel size (count + st) (drop st bits) b
-                ∙ sym (ap gives (open-past fuel size count bits t
-                ∙ ap (λ (c : Bool). cond c
-                (open_chain fuel size (count + st) (drop st bits)) None) l))
-            | inr n ↦
-                there_now ∙ ap (λ (c : Bool). cond c
-                (ends_chain fuel size (count + st) (drop st bits ++ b ∷ [])) None) n
-                ∙ sym (ap gives (open-past fuel size count bits t
-                ∙ ap (λ (c : Bool). cond c
-                (open_chain fuel size (count + st) (drop st bits)) None) n))
-          ]
+          there_now ∙ ap (λ (e : Option (List Bool)). cond left e None)
+          (ends_more fuel size (count + st) (drop st bits) b)
+          ∙ gives_cond left (open_chain fuel size (count + st) (drop st bits))
+          ∙ sym (ap gives (open-past fuel size count bits t))
       | inr f ↦
           let before = open-short fuel size count bits f in
           elim (cases_Bool (awaits_more bits)) [
@@ -187,6 +176,11 @@ ends_more (suc fuel) size count bits b =
                 ∙ sym (ap gives (before ∙ opened.still_open-over bits over))
           ]
     ]
+  where
+    gives_cond : (left : Bool) (o : Option (List Bool)) →
+        cond left (completed o (b ∷ [])) None ≡ completed (cond left o None) (b ∷ [])
+    gives_cond true o = refl
+    gives_cond false o = refl
 
 -- what is open behind a bit that completed this, so many bits behind the start: a new capsule where
 -- 8 bits are left
@@ -200,6 +194,11 @@ follow size count whole open_bits = after (bits_left size count) whole open_bits
 abbrev pub step : ℕ → ℕ → Option (List Bool) → Bool → Option (List Bool)
 step size count open_bits b =
     follow size count (completed open_bits (b ∷ [])) (continued open_bits (b ∷ []))
+
+step_cond : (left : Bool) (size count : ℕ) (o : Option (List Bool)) (b : Bool) →
+    cond left (step size count o b) None ≡ step size count (cond left o None) b
+step_cond true size count o b = refl
+step_cond false size count o b = refl
 
 step-none : (size count : ℕ) (o : Option (List Bool)) (b : Bool) → o ≡ None →
     step size count o b ≡ None
@@ -228,30 +227,13 @@ open_more (suc fuel) size count bits b room =
           (drop-append-le st bits (b ∷ []) m.4) in
           let long : length rest ≡ length more - st =
           omega (arith, one (drop st bits) b, length-drop st bits, one bits b, m.4) in
-          elim (cases_Bool left) [
-            | inl l ↦
-                let own : open_chain (suc fuel) size count bits
-                ≡ open_chain fuel size (count + st) (drop st bits) =
-                open-past fuel size count bits t
-                ∙ ap (λ (c : Bool). cond c
-                (open_chain fuel size (count + st) (drop st bits)) None) l in
-                let same : count + st + length rest ≡ behind = omega (arith, long, m.2) in
-                there_now ∙ ap (λ (c : Bool). cond c
-                (open_chain fuel size (count + st) rest) None) l
-                ∙ open_more fuel size (count + st) (drop st bits) b
-                (omega (arith, room, long, m.3, m.2))
-                ∙ ap (λ (n : ℕ). step size n
-                (open_chain fuel size (count + st) (drop st bits)) b) same
-                ∙ ap (λ (o : Option (List Bool)). step size behind o b) (sym own)
-            | inr n ↦
-                let own : open_chain (suc fuel) size count bits ≡ None =
-                open-past fuel size count bits t
-                ∙ ap (λ (c : Bool). cond c
-                (open_chain fuel size (count + st) (drop st bits)) None) n in
-                there_now ∙ ap (λ (c : Bool). cond c
-                (open_chain fuel size (count + st) rest) None) n
-                ∙ sym (step-none size behind (open_chain (suc fuel) size count bits) b own)
-          ]
+          let same : count + st + length rest ≡ behind = omega (arith, long, m.2) in
+          let own = open_chain fuel size (count + st) (drop st bits) in
+          there_now ∙ ap (λ (o : Option (List Bool)). cond left o None)
+          (open_more fuel size (count + st) (drop st bits) b (omega (arith, room, long, m.3, m.2))
+          ∙ ap (λ (n : ℕ). step size n own b) same)
+          ∙ step_cond left size behind own b
+          ∙ ap (λ (o : Option (List Bool)). step size behind o b) (sym (open-past fuel size count bits t))
       | inr f ↦
           let before = open-short fuel size count bits f in
           elim (cases_Bool (awaits_more bits)) [

@@ -3,10 +3,9 @@ pub use Rattle.std.proofs.Common.{Bool, List, None, Ok, Option, Some, [], ap, ap
 pub use Rattle.std.proofs.Common.{inl, inr, length, length-append, length-drop, map, nat_le, nat_lt, not, refl, replicate, rules, subst}
 pub use Rattle.std.proofs.Common.{suc, sym, take, true, zero, ℕ, ◌%◌, ◌&&◌, ◌*◌, ◌++◌, ◌+◌, ◌-◌, ◌/◌, ◌<◌, ◌==◌, ◌^◌, ◌||◌, ◌∙◌, ◌∷◌, ◌≡◌}
 pub use Rattle.std.proofs.Common.{◌≢◌, ◌≤◌}
-pub use Rattle.std.proofs.Math.Nat.{div-add-mod, mod-lt, mod_self, mul-add-mod_self_left, mul-le-mul_left, mul_comm}
+pub use Rattle.std.proofs.Math.Nat.{div-add-mod, mod-eq_of_lt, mod-lt, mod_self, mul-add-mod_self_left, mul-le-mul_left}
 pub use Rattle.std.proofs.lemmas.Bool.{and_from, and_parts, cases_Bool, cases_lt, eq-eqb, eqb-false, eqb-true, false_from_ne_true, le-leb}
 pub use Rattle.std.proofs.lemmas.Bool.{leb-true, lt-leb, lt-ltb, ne_eqb}
-pub use Rattle.std.proofs.lemmas.Grind.{flat_map-append}
 pub use Rattle.std.proofs.lemmas.List.{append-nil, drop-append-le, drop_all, drop_at, length-replicate, length-take-le}
 pub use Rattle.std.proofs.lemmas.List.{replicate-append-replicate, take-append-drop, take-append-le, take_all}
 pub use Rattle.std.proofs.lemmas.List.Folds.{list_any-append}
@@ -15,12 +14,13 @@ pub use Rattle.std.specs.List.{flat_map, list_any}
 pub use Rattle.std.specs.Option.{option_to_list}
 pub use Rattle.std.specs.Prelude.{IfSome, IsSome, IsTrue, ◌↔◌}
 pub use Rattle.chip_core.proofs.FieldLists.{bits_more, length-binary, spelled-append}
-pub use Rattle.chip_core.proofs.Places.{map-places-all, map-places-more, places-more, places-none}
-pub use Rattle.chip_core.proofs.ValueLists.{behind_front, dropped, front, number_front}
+pub use Rattle.chip_core.proofs.Places.{map-places-all, map-places-more, places-none}
+pub use Rattle.chip_core.proofs.Ranges.{flat_map-places-more, flat_map_ext_places, map_ext_places}
+pub use Rattle.chip_core.proofs.ValueLists.{behind_front, front, number_front}
 pub use Rattle.chip_core.specs.Bits.{binary, number}
 unfoldable pub use Rattle.chip_core.specs.Bits.{places}
 pub use Rattle.chip_core.specs.Fields.{FieldsFit, field, in_widths, spelled}
-pub use Rattle.chip_core.specs.Readings.{number_at, values_at}
+pub use Rattle.chip_core.specs.Readings.{number_at}
 pub use Rattle.chip_core.specs.declared.check_form.CheckForm.{CheckForm}
 pub use Rattle.chip_core.specs.declared.field.Field.{Field}
 pub use Rattle.message_layout.proofs.Loops.{not_both}
@@ -57,7 +57,7 @@ pub use Rattle.paging_message.specs.Layouts.{neighbors_from, other_contents, oth
 pub use Rattle.paging_message.specs.Messages.{IsPagingMessage, message_body}
 unfoldable pub use Rattle.paging_message.specs.Messages.{paging_capsule}
 pub use Rattle.paging_message.specs.Neighbors.{IsNeighborList, neighbor_body, neighbor_records, neighbor_values}
-unfoldable pub use Rattle.paging_message.specs.Reading.{body_reading, channels_at, is_body, message_at, neighbors_at, paging_reading}
+unfoldable pub use Rattle.paging_message.specs.Reading.{body_reading, is_body, message_at, paging_reading}
 unfoldable pub use Rattle.paging_message.specs.Spelling.{body_of_fields}
 pub use Rattle.paging_message.specs.System.{IsSystem, system_values}
 pub use Rattle.paging_message.specs.Widths.{channel_widths, neighbor_widths, system_widths}

@@ -5,23 +5,13 @@ use Rattle.paging_message.proofs.Common.{nat_lt, nat_le, if◌then◌else◌, in
 use Rattle.paging_message.proofs.Common.{ne_eqb, append-nil, length-take-le, take-append-drop, take-append-le, drop-append-le, drop_at}
 use Rattle.paging_message.proofs.Common.{take_all, div-mul-add, mod-mul-add, div-add-mod, mod_self, mul-add-mod_self_left, mul-le-mul_left}
 use Rattle.paging_message.proofs.Common.{places, map-places-more, places-none, completed, continued, Piece, piece, bodies, from_last_start}
-use Rattle.paging_message.proofs.Common.{bodies-more, extended, from_last_start_more, from_last_start_new}
+use Rattle.paging_message.proofs.Common.{bodies-more, extended, from_last_start_more, from_last_start_new, map_ext_places, mod-eq_of_lt}
 use Rattle.paging_message.proofs.Chains.{ends_more, after, step, open_more, open_none, open_fuel}
 use Rattle.paging_message.specs.HalfFrames as halves
 
 -- HALF-FRAMES
 abbrev pub part : ℕ → List Bool → ℕ → Piece
 part size bits h = piece (take (size + 1) (drop ((size + 1) * h) bits))
-
-map_same : (f g : ℕ → Piece) (n : ℕ) → ((k : ℕ) → k < n → f k ≡ g k) →
-    map f (places n) ≡ map g (places n)
-map_same f g zero same = ap (map f) places-none ∙ sym (ap (map g) places-none)
-map_same f g (suc n) same =
-    let e : suc n ≡ n + 1 = omega arith in
-    ap (λ (k : ℕ). map f (places k)) e ∙ map-places-more f n
-    ∙ ap (λ (ps : List Piece). ps ++ f n ∷ []) (map_same f g n (λ k lt. same k (omega (arith, lt))))
-    ∙ ap (λ (p : Piece). map g (places n) ++ p ∷ []) (same n (omega arith))
-    ∙ sym (ap (λ (k : ℕ). map g (places k)) e ∙ map-places-more g n)
 
 -- a half-frame among whole ones, whatever follows
 part_front : (size n h : ℕ) (front more : List Bool) → length front ≡ (size + 1) * n → h < n →
@@ -59,7 +49,7 @@ halves_more size n front q long some most =
     ap (λ (k : ℕ). map (part size (front ++ q)) (places k)) count
     ∙ map-places-more (part size (front ++ q)) n
     ∙ ap (λ (ps : List Piece). ps ++ part size (front ++ q) n ∷ [])
-    (map_same (part size (front ++ q)) (part size front) n
+    (map_ext_places (part size (front ++ q)) (part size front) n
     (λ h lt. part_front size n h front q long lt))
     ∙ ap (λ (p : Piece). map (part size front) (places n) ++ p ∷ []) last
 
@@ -170,17 +160,13 @@ parts_long size n (suc m) front long le =
     (body_long size (take (size + 1) (drop ((size + 1) * m) front)) own))
 
 -- what is left of a half-frame
-small_mod : (x w : ℕ) → x < w → x % w ≡ x
-small_mod x w h = let e : x ≡ 0 * w + x = omega arith in ap (λ (n : ℕ). n % w) e
-    ∙ mod-mul-add 0 w x h
-
 left_of : (size k r : ℕ) → 0 < r → r ≤ size → halves.bits_left size (size * k + r) ≡ size - r
 unfolding halves.bits_left
 left_of size k r some most =
     ap (λ (n : ℕ). (size - n) % size) (mul-add-mod_self_left size k r)
     ∙ elim (cases_lt r size) [
-      | inl less ↦ ap (λ (n : ℕ). (size - n) % size) (small_mod r size less)
-          ∙ small_mod (size - r) size (omega (arith, some, less))
+      | inl less ↦ ap (λ (n : ℕ). (size - n) % size) (mod-eq_of_lt less)
+          ∙ mod-eq_of_lt (omega (arith, some, less))
       | inr whole ↦
           let same : r ≡ size = omega (arith, most, whole) in
           let none : r % size ≡ 0 = ap (λ (n : ℕ). n % size) same ∙ mod_self size in

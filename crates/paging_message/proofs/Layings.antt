@@ -1,34 +1,19 @@
 -- Bits laid in half-frames, one after another.
-use Rattle.paging_message.proofs.Common.{◌≡◌, ℕ, zero, suc, ◌+◌, ◌-◌, ◌*◌, ◌/◌, ◌%◌, ◌<◌, ◌≤◌, ◌==◌, ◌||◌, if◌then◌else◌, Bool, true, false}
+use Rattle.paging_message.proofs.Common.{◌≡◌, ℕ, suc, ◌+◌, ◌-◌, ◌*◌, ◌/◌, ◌%◌, ◌<◌, ◌≤◌, ◌==◌, ◌||◌, if◌then◌else◌, Bool, true, false}
 use Rattle.paging_message.proofs.Common.{cond, List, [], ◌∷◌, ◌++◌, length, take, drop, replicate, refl, sym, ap, ◌∙◌, arith, append_assoc}
 use Rattle.paging_message.proofs.Common.{length-append, length-drop, not, inl, inr, IsTrue, flat_map, list_any, cases_lt, cases_Bool}
-use Rattle.paging_message.proofs.Common.{eq-eqb, eqb-true, eqb-false, ne_eqb, flat_map-append, append-nil, length-take-le, take-append-drop}
+use Rattle.paging_message.proofs.Common.{eq-eqb, eqb-true, eqb-false, ne_eqb, append-nil, length-take-le, take-append-drop, mod-eq_of_lt}
 use Rattle.paging_message.proofs.Common.{take-append-le, drop-append-le, drop_at, take_all, length-replicate, replicate-append-replicate}
 use Rattle.paging_message.proofs.Common.{list_any-append, div-mul-add, mod-mul-add, div-add-mod, mod-lt, mod_self, mul-le-mul_left, places}
-use Rattle.paging_message.proofs.Common.{places-more, places-none, bits_left}
+use Rattle.paging_message.proofs.Common.{places-none, bits_left, flat_map_ext_places, flat_map-places-more}
 use Rattle.paging_message.specs.Laying as laying
 
--- LISTS BY NUMBER
+-- before any half-frame
 pub flat-none : {X : Type 0} (f : ℕ → List X) → flat_map f (places 0) ≡ []
 flat-none f = ap (flat_map f) places-none
 
-pub flat-more : {X : Type 0} (f : ℕ → List X) (n : ℕ) →
-    flat_map f (places (n + 1)) ≡ flat_map f (places n) ++ f n
-flat-more {X} f n = ap (flat_map f) (places-more n) ∙ flat_map-append f (places n) (n ∷ [])
-    ∙ ap (λ (l : List X). flat_map f (places n) ++ l) (append-nil (f n))
-
-pub flat_same : {X : Type 0} (f g : ℕ → List X) (n : ℕ) → ((k : ℕ) → k < n → f k ≡ g k) →
-    flat_map f (places n) ≡ flat_map g (places n)
-flat_same f g zero same = flat-none f ∙ sym (flat-none g)
-flat_same {X} f g (suc n) same =
-    let e : suc n ≡ n + 1 = omega arith in
-    ap (λ (k : ℕ). flat_map f (places k)) e ∙ flat-more f n
-    ∙ ap (λ (l : List X). l ++ f n) (flat_same f g n (λ k lt. same k (omega (arith, lt))))
-    ∙ ap (λ (l : List X). flat_map g (places n) ++ l) (same n (omega arith))
-    ∙ sym (ap (λ (k : ℕ). flat_map g (places k)) e ∙ flat-more g n)
-
 -- HALF-FRAMES
-half_front : (size n h : ℕ) (starts starts' : List ℕ) (front more : List Bool) →
+pub half_front : (size n h : ℕ) (starts starts' : List ℕ) (front more : List Bool) →
     length front ≡ size * n → h < n →
     list_any (λ s. s == h) starts' ≡ list_any (λ s. s == h) starts →
     laying.half_frame size starts' (front ++ more) h ≡ laying.half_frame size starts front h
@@ -68,12 +53,38 @@ framed_more size n starts starts' front q large long some most same =
     let last : take size (drop (size * n) (front ++ q)) ≡ q =
     ap (take size) (drop_at front q (size * n) long) ∙ take_all size q most in
     ap (λ (k : ℕ). flat_map half (places k)) count
-    ∙ flat-more half n
+    ∙ flat_map-places-more half n
     ∙ ap (λ (l : List Bool). l ++ half n)
-    (flat_same half (laying.half_frame size starts front) n
+    (flat_map_ext_places half (laying.half_frame size starts front) n
     (λ h lt. half_front size n h starts starts' front q long lt (same h lt)))
     ∙ ap (λ (l : List Bool). flat_map (laying.half_frame size starts front) (places n) ++
     (list_any (λ s. s == n) starts' ∷ l)) last
+
+-- where a half-frame is under way, bits behind what was laid go on with it, up to its end
+framed_on : (size : ℕ) (starts : List ℕ) (body more : List Bool) → 0 < length body % size →
+    length body % size + length more ≤ size →
+    laying.framed size (record { body = body ++ more; starts = starts })
+    ≡ laying.framed size (record { body = body; starts = starts }) ++ more
+framed_on size starts body more some most =
+    let n = length body / size in
+    let all = div-add-mod (length body) size in
+    let front = take (size * n) body in
+    let q = drop (size * n) body in
+    let large : 0 < size = omega (arith, some, most) in
+    let long : length front ≡ size * n = length-take-le (size * n) body (omega (arith, all)) in
+    let own : length q ≡ length body % size = omega (arith, length-drop (size * n) body, all) in
+    let split : body ≡ front ++ q = sym (take-append-drop (size * n) body) in
+    let of_body = λ (bits : List Bool). laying.framed size (record { body = bits; starts = starts }) in
+    let fronts = flat_map (laying.half_frame size starts front) (places n) in
+    let mark = list_any (λ s. s == n) starts in
+    let before : of_body body ≡ fronts ++ (mark ∷ q) =
+    ap of_body split ∙ framed_more size n starts starts front q large long
+    (omega (arith, own, some)) (omega (arith, own, most)) (λ h lt. refl) in
+    let both = length-append q more in
+    ap of_body (ap (λ (r : List Bool). r ++ more) split ∙ append_assoc front q more)
+    ∙ framed_more size n starts starts front (q ++ more) large long
+    (omega (arith, both, own, some)) (omega (arith, both, own, most)) (λ h lt. refl)
+    ∙ sym (ap (λ (r : List Bool). r ++ more) before ∙ append_assoc fronts (mark ∷ q) more)
 
 -- STARTS
 -- all starts lie before
@@ -97,7 +108,7 @@ pub below_push : (size count s : ℕ) (starts : List ℕ) → laying.HaveBegun s
 below_push size count s [] below lt = (lt, tt)
 below_push size count s (t ∷ starts) below lt = (below.0, below_push size count s starts below.1 lt)
 
-any_other : (h n : ℕ) (starts : List ℕ) → h < n →
+pub any_other : (h n : ℕ) (starts : List ℕ) → h < n →
     list_any (λ s. s == h) (starts ++ n ∷ []) ≡ list_any (λ s. s == h) starts
 any_other h n starts lt =
     let other : (n == h) ≡ false = ne_eqb n h (λ same. omega (arith, lt, same)) in
@@ -121,10 +132,6 @@ any_own n starts =
     or_true false = refl
 
 -- PLACES
-small_mod : (x w : ℕ) → x < w → x % w ≡ x
-small_mod x w h = let e : x ≡ 0 * w + x = omega arith in ap (λ (n : ℕ). n % w) e
-    ∙ mod-mul-add 0 w x h
-
 place-none : (size count : ℕ) → count % size ≡ 0 → laying.place_of size count ≡ 0
 unfolding laying.place_of
 place-none size count e = let t = eq-eqb (count % size) 0 e in rw t refl
@@ -233,29 +240,8 @@ bit_next size place l bits true b large some laid whole =
     absurd (omega (arith, whole refl, within.1))
 bit_next size place l bits false b large some laid whole =
     let within = place_within size (length l.body) place laid.placed some in
-    let n = length l.body / size in
-    let all = div-add-mod (length l.body) size in
-    let front = take (size * n) l.body in
-    let q = drop (size * n) l.body in
-    let long : length front ≡ size * n = length-take-le (size * n) l.body (omega (arith, all)) in
-    let own : length q ≡ length l.body % size = omega (arith, length-drop (size * n) l.body, all) in
-    let split : l.body ≡ front ++ q = sym (take-append-drop (size * n) l.body) in
     let room : length l.body % size < size = mod-lt (length l.body) (omega (arith, large)) in
     let grown = length-append l.body (b ∷ []) in
-    let mark = list_any (λ s. s == n) l.starts in
-    let fronts = flat_map (laying.half_frame size l.starts front) (places n) in
-    let before : bits ≡ fronts ++ (mark ∷ q) =
-    laid.spelled ∙ ap (λ (body : List Bool). laying.framed size
-    (record { body = body; starts = l.starts })) split
-    ∙ framed_more size n l.starts l.starts front q (omega (arith, large)) long
-    (omega (arith, own, within.1)) (omega (arith, own, room)) (λ h lt. refl) in
-    let now : laying.framed size (record { body = l.body ++ b ∷ []; starts = l.starts })
-    ≡ fronts ++ (mark ∷ (q ++ b ∷ [])) =
-    ap (λ (body : List Bool). laying.framed size (record { body = body; starts = l.starts }))
-    (ap (λ (r : List Bool). r ++ b ∷ []) split ∙ append_assoc front q (b ∷ []))
-    ∙ framed_more size n l.starts l.starts front (q ++ b ∷ []) (omega (arith, large)) long
-    (omega (arith, length-append q (b ∷ []))) (omega (arith, length-append q (b ∷ []), own, room))
-    (λ h lt. refl) in
     record {
       placed = elim (cases_Bool (place == size)) [
         | inl last ↦
@@ -272,36 +258,42 @@ bit_next size place l bits false b large some laid whole =
             ∙ sym (place-some size (length (l.body ++ b ∷ [])) (omega (arith, next))
             ∙ ap (λ (k : ℕ). 1 + k) next ∙ omega (arith, within.0))
       ];
-      spelled = ap (λ (r : List Bool). r ++ b ∷ []) before
-          ∙ append_assoc fronts (mark ∷ q) (b ∷ []) ∙ sym now;
+      spelled = ap (λ (r : List Bool). r ++ b ∷ []) laid.spelled
+          ∙ sym (framed_on size l.starts l.body (b ∷ []) within.1 (omega (arith, room)));
       begun = below_more size (length l.body) (length (l.body ++ b ∷ [])) l.starts laid.begun
           (omega (arith, grown));
     }
 
 -- PADDING
+fill-some : (size count : ℕ) → 0 < count % size → 0 < size →
+    laying.fill size count ≡ size - count % size
+unfolding laying.fill
+fill-some size count some large = mod-eq_of_lt (omega (arith, some, large))
+
+fill-none : (size count : ℕ) → count % size ≡ 0 → laying.fill size count ≡ 0
+unfolding laying.fill
+fill-none size count none = let full : size - count % size ≡ size =
+    omega (arith, none) in ap (λ (k : ℕ). k % size) full ∙ mod_self size
+
 -- what is left of the half-frame under way
 pub left_is : (layout : laying.Place) (l : laying.Laid) (bits : List Bool) → 0 < layout.size →
     layout.place ≤ layout.size → laying.HasLaid layout l bits →
     laying.left_in layout ≡ laying.fill layout.size (length l.body)
-unfolding laying.fill
 left_is layout l bits large most laid =
     let size = layout.size in
-    let r = length l.body % size in
     elim (cases_lt 0 layout.place) [
       | inl some ↦
           let within = place_within size (length l.body) layout.place laid.placed some in
           let f : (layout.place == 0) ≡ false =
           ne_eqb layout.place 0 (λ e. omega (arith, some, e)) in
-          let inner : size - r < size = omega (arith, within.1, large) in
           ap (λ (t : Bool). if t then 0 else size + 1 - layout.place) f ∙ omega (arith, within.0)
-          ∙ sym (small_mod (size - r) size inner)
+          ∙ sym (fill-some size (length l.body) within.1 large)
       | inr none ↦
           let zero_place : layout.place ≡ 0 = omega (arith, none) in
           let t : (layout.place == 0) ≡ true = eq-eqb layout.place 0 zero_place in
-          let r_none = place_zero size (length l.body) (sym zero_place ∙ laid.placed) in
-          let all : size - r ≡ size = omega (arith, r_none) in
+          let whole = place_zero size (length l.body) (sym zero_place ∙ laid.placed) in
           ap (λ (t : Bool). if t then 0 else size + 1 - layout.place) t
-          ∙ sym (ap (λ (k : ℕ). k % size) all ∙ mod_self size)
+          ∙ sym (fill-none size (length l.body) whole)
     ]
 
 pub same_left : (size count : ℕ) → laying.fill size count ≡ bits_left size count
@@ -311,28 +303,23 @@ same_left size count = refl
 -- padded bits fill whole half-frames
 pub padded_whole : (size : ℕ) (bits : List Bool) → 0 < size →
     length (laying.padded size bits) % size ≡ 0
-unfolding laying.fill
 padded_whole size bits large =
     let count = length bits in
-    let r = count % size in
     let n = count / size in
     let all = div-add-mod count size in
-    let below : r < size = mod-lt count large in
-    let long : length (laying.padded size bits) ≡ count + (size - r) % size =
-    length-append bits (replicate ((size - r) % size) false)
-    ∙ ap (λ (k : ℕ). count + k) (length-replicate ((size - r) % size) false) in
-    elim (cases_lt 0 r) [
+    let below : count % size < size = mod-lt count large in
+    let zeros = laying.fill size count in
+    let long : length (laying.padded size bits) ≡ count + zeros =
+    length-append bits (replicate zeros false)
+    ∙ ap (λ (k : ℕ). count + k) (length-replicate zeros false) in
+    elim (cases_lt 0 (count % size)) [
       | inl some ↦
-          let inner : (size - r) % size ≡ size - r =
-          small_mod (size - r) size (omega (arith, some, large)) in
           let turned : length (laying.padded size bits) ≡ suc n * size + 0 =
-          omega (arith, long, inner, all, below) in
+          omega (arith, long, fill-some size count some large, all, below) in
           ap (λ (k : ℕ). k % size) turned ∙ mod-mul-add (suc n) size 0 large
       | inr none ↦
-          let full : size - r ≡ size = omega (arith, none) in
-          let inner : (size - r) % size ≡ 0 = ap (λ (k : ℕ). k % size) full ∙ mod_self size in
           let turned : length (laying.padded size bits) ≡ n * size + 0 =
-          omega (arith, long, inner, all, none) in
+          omega (arith, long, fill-none size count (omega (arith, none)), all, none) in
           ap (λ (k : ℕ). k % size) turned ∙ mod-mul-add n size 0 large
     ]
 
@@ -395,7 +382,7 @@ pub none_laid : (size : ℕ) → 0 < size →
 none_laid size large =
     let none : 0 ≡ size * 0 = omega arith in
     record {
-      placed = sym (place-none size 0 (small_mod 0 size large));
+      placed = sym (place-none size 0 (mod-eq_of_lt large));
       spelled = sym (framed_whole size 0 [] [] large none
           ∙ flat-none (laying.half_frame size [] []));
       begun = tt;
@@ -420,16 +407,6 @@ left_most layout false k most is =
     ]
 
 -- WHOLE HALF-FRAMES
-fill-some : (size count : ℕ) → 0 < count % size → 0 < size →
-    laying.fill size count ≡ size - count % size
-unfolding laying.fill
-fill-some size count some large = small_mod (size - count % size) size (omega (arith, some, large))
-
-fill-none : (size count : ℕ) → count % size ≡ 0 → laying.fill size count ≡ 0
-unfolding laying.fill
-fill-none size count none = let full : size - count % size ≡ size =
-    omega (arith, none) in ap (λ (k : ℕ). k % size) full ∙ mod_self size
-
 -- what is laid, and zeros behind it
 pub padded_framed : (size : ℕ) (l : laying.Laid) → 0 < size →
     laying.half_frames_of size l
@@ -437,36 +414,18 @@ pub padded_framed : (size : ℕ) (l : laying.Laid) → 0 < size →
 unfolding laying.half_frames_of
 padded_framed size l large =
     let count = length l.body in
-    let n = count / size in
-    let all = div-add-mod count size in
     let zeros = replicate (laying.fill size count) false in
-    let of_body = λ (body : List Bool). laying.framed size
-    (record { body = body; starts = l.starts }) in
     elim (cases_lt 0 (count % size)) [
       | inr none ↦
           let nothing : zeros ≡ [] =
           ap (λ (k : ℕ). replicate k false) (fill-none size count (omega (arith, none))) in
-          ap of_body (ap (λ (r : List Bool). l.body ++ r) nothing ∙ append-nil l.body)
+          ap (λ (body : List Bool). laying.framed size (record { body = body; starts = l.starts }))
+          (ap (λ (r : List Bool). l.body ++ r) nothing ∙ append-nil l.body)
           ∙ sym (ap (λ (r : List Bool). laying.framed size l ++ r) nothing
           ∙ append-nil (laying.framed size l))
       | inl some ↦
-          let front = take (size * n) l.body in
-          let q = drop (size * n) l.body in
-          let long : length front ≡ size * n =
-          length-take-le (size * n) l.body (omega (arith, all)) in
-          let own : length q ≡ count % size = omega (arith, length-drop (size * n) l.body, all) in
           let below : count % size < size = mod-lt count large in
-          let split : l.body ≡ front ++ q = sym (take-append-drop (size * n) l.body) in
-          let fronts = flat_map (laying.half_frame size l.starts front) (places n) in
-          let mark = list_any (λ s. s == n) l.starts in
           let many : length zeros ≡ size - count % size =
           length-replicate (laying.fill size count) false ∙ fill-some size count some large in
-          let before : laying.framed size l ≡ fronts ++ (mark ∷ q) =
-          ap of_body split ∙ framed_more size n l.starts l.starts front q large long
-          (omega (arith, own, some)) (omega (arith, own, below)) (λ h lt. refl) in
-          ap of_body (ap (λ (r : List Bool). r ++ zeros) split ∙ append_assoc front q zeros)
-          ∙ framed_more size n l.starts l.starts front (q ++ zeros) large long
-          (omega (arith, length-append q zeros, own, some))
-          (omega (arith, length-append q zeros, own, many, below)) (λ h lt. refl)
-          ∙ sym (ap (λ (r : List Bool). r ++ zeros) before ∙ append_assoc fronts (mark ∷ q) zeros)
+          framed_on size l.starts l.body zeros some (omega (arith, many, below))
     ]

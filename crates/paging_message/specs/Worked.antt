@@ -12,7 +12,7 @@ use Rattle.paging_message.specs.HalfFrames.{half_frame_capsule_ending}
 use Rattle.paging_message.specs.Laying.{Laid, laid_on, nothing_laid, half_frames_of, framed, fill}
 use Rattle.paging_message.specs.Messages.{paging_capsule}
 use Rattle.paging_message.specs.Admitted.{admits}
-use Rattle.paging_message.specs.Reading.{body_reading, channels_at, is_body, message_at}
+use Rattle.paging_message.specs.Reading.{body_reading, is_body, message_at}
 use Rattle.paging_message.specs.Reading.{paging_reading}
 use Rattle.paging_message.specs.Spelling.{body_of_fields}
 use Rattle.paging_message.specs.declared.fields.ChannelFields.{ChannelFields}
@@ -34,7 +34,7 @@ channel_octets = (refl, refl)
 -- what is read is what was spelled
 channel_read :
     paging_reading Plain (paging_capsule Plain (Channels one_channel)) ≡ Some (Channels one_channel)
-unfolding one_channel paging_reading body_reading is_body admits message_at channels_at
+unfolding one_channel paging_reading body_reading is_body admits message_at
     paging_capsule body_of_fields capsule check_bits binary places
 channel_read = refl
 

@@ -5,9 +5,21 @@ ghost use Rattle.paging_message.specs.Channels.{channel_values, IsChannelList};
 ghost use Rattle.paging_message.specs.Layouts.{channel_contents, channels_from};
 
 use crate::fields::ChannelFields;
+use crate::table::CHANNEL_FIELDS;
 use chip_core::{Bits, Numbers};
-use message_layout::Contents;
+use message_layout::{ALL_BITS, Contents, Layout, Records};
 use std::marker::Model;
+
+/// What stands behind the type: the fields, and CDMA_FREQ of each channel.
+pub(crate) const CHANNEL_LIST: Layout = Layout {
+    fixed: &CHANNEL_FIELDS,
+    records: Records {
+        fields: &[("freq", 11)],
+        least: 0,
+    },
+    most: Some(7),
+    ..ALL_BITS
+};
 
 /// A CDMA Channel List Message: fields that have a spelling. Contracts see the fields.
 ///

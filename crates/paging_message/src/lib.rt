@@ -8,7 +8,6 @@ mod half_bits;
 mod half_framer;
 pub mod laws;
 mod layout;
-mod layouts;
 mod message;
 mod neighbors;
 mod other;

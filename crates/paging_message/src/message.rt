@@ -1,17 +1,18 @@
 //! The messages, to and from their bodies and capsules.
 
 ghost use Rattle.std.specs.Prelude.{◌≡◌, ◌↔◌, IfOk, IfSome, IsTrue, Some};
+ghost use Rattle.message_layout.specs.Shapes.{shape};
 ghost use Rattle.quality_bits.specs.Capsules.{FillsCapsule, IsWhole};
 ghost use Rattle.quality_bits.specs.Kinds.{IsChecked};
 ghost use Rattle.quality_bits.specs.declared.kind.Kind.TheVariants.{M30};
+ghost use Rattle.paging_message.specs.Layouts.{shape_of};
 
-use crate::channels::ChannelList;
-use crate::layouts::layout_of;
-use crate::neighbors::NeighborList;
+use crate::channels::{CHANNEL_LIST, ChannelList};
+use crate::neighbors::{NEIGHBOR_LIST, NeighborList};
 use crate::other::OtherMessage;
-use crate::system::SystemParameters;
+use crate::system::{SYSTEM_PARAMETERS, SystemParameters};
 use chip_core::{Bits, CheckForm};
-use message_layout::{BitSlice, Contents, append, read_from, read_kind};
+use message_layout::{ALL_BITS, BitSlice, Contents, Layout, append, read_from, read_kind};
 use quality_bits::{Kind, MessageFault, body_count, capsule_of};
 
 /// A message of the paging channel that has a spelling.
@@ -138,6 +139,18 @@ impl PagingMessage {
             PagingMessage::Channels(message) => message.contents(),
             PagingMessage::Other(message) => message.contents(),
         }
+    }
+}
+
+/// The layout of what stands behind a message type.
+fn layout_of(kind: u8) -> Layout
+    ensures { shape result ≡ shape_of kind }
+{
+    match kind {
+        1 => SYSTEM_PARAMETERS,
+        3 => NEIGHBOR_LIST,
+        4 => CHANNEL_LIST,
+        _ => ALL_BITS,
     }
 }
 

@@ -5,9 +5,21 @@ ghost use Rattle.paging_message.specs.Layouts.{neighbor_contents, neighbors_from
 ghost use Rattle.paging_message.specs.Neighbors.{neighbor_values, IsNeighborList};
 
 use crate::fields::NeighborFields;
+use crate::table::NEIGHBOR_FIELDS;
 use chip_core::{Bits, Numbers};
-use message_layout::Contents;
+use message_layout::{ALL_BITS, Contents, Layout, Records};
 use std::marker::Model;
+
+/// What stands behind the type: the fields, and of each neighbor NGHBR_CONFIG and NGHBR_PN.
+pub(crate) const NEIGHBOR_LIST: Layout = Layout {
+    fixed: &NEIGHBOR_FIELDS,
+    records: Records {
+        fields: &[("config", 3), ("pn", 9)],
+        least: 0,
+    },
+    most: Some(7),
+    ..ALL_BITS
+};
 
 /// A Neighbor List Message: fields that have a spelling. Contracts see the fields.
 ///

@@ -7,10 +7,16 @@ ghost use Rattle.paging_message.specs.System.{system_of, system_values, IsSystem
 ghost use Rattle.paging_message.specs.Widths.{in_widths, system_widths};
 
 use crate::fields::SystemFields;
-use crate::table::system_fields;
+use crate::table::{SYSTEM_FIELDS, system_fields};
 use chip_core::{Bits, Numbers};
-use message_layout::{Contents, FieldValues, fields_of_values, values_of_fields};
+use message_layout::{ALL_BITS, Contents, FieldValues, Layout, fields_of_values, values_of_fields};
 use std::marker::Model;
+
+/// What stands behind the type: the fields, and all bits behind them.
+pub(crate) const SYSTEM_PARAMETERS: Layout = Layout {
+    fixed: &SYSTEM_FIELDS,
+    ..ALL_BITS
+};
 
 /// A System Parameters Message: fields that have a spelling. Contracts see the fields.
 ///

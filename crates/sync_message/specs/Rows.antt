@@ -1,6 +1,6 @@
 -- The fields that each Sync Channel Message has (TIA/EIA-95-B, 7.7.1.3), by name and width.
-use Rattle.std.specs.Prelude.{ℕ, List, [], ◌∷◌, codes, map, take}
-pub use Rattle.chip_core.specs.Fields.{in_widths, total}
+use Rattle.std.specs.Prelude.{ℕ, List, [], ◌∷◌, codes, map}
+pub use Rattle.chip_core.specs.Fields.{in_widths}
 use Rattle.sync_message.specs.declared.fields.SyncFields.{SyncFields}
 
 -- a field: its name in lines of text, and in how many bits it is sent
@@ -41,7 +41,3 @@ sync_widths = map (λ (r : Row). r.width) sync_rows
 abbrev pub sync_values : SyncFields → List ℕ
 sync_values m =
     m.prev ∷ m.min ∷ m.sid ∷ m.nid ∷ m.pn ∷ m.lc ∷ m.time ∷ m.lp ∷ m.ltm ∷ m.daylt ∷ m.prat ∷ []
-
--- at which bit of the fields field i begins, counted from 0
-abbrev pub sync_place : ℕ → ℕ
-sync_place i = total (take i sync_widths)

@@ -11,8 +11,8 @@ use crate::fields::SyncFields;
 use crate::table::{FREQ_FIELD, SYNC_FIELDS, sync_fields};
 use chip_core::{Bits, Numbers};
 use message_layout::{
-    BitSlice, Contents, FieldValues, Group, Layout, NO_OCTETS, NO_RECORDS, Presence,
-    fields_of_values, read_from, read_kind, values_of_fields,
+    ALL_BITS, BitSlice, Contents, FieldValues, Group, Layout, Presence, fields_of_values, read_from,
+    read_kind, values_of_fields,
 };
 
 /// The fields that each message has, and the frequency unless 3 bits are left, as at 25 octets.
@@ -22,9 +22,7 @@ pub(crate) const SYNC_CHANNEL: Layout = Layout {
         presence: Presence::UnlessLeft(3),
         fields: &[FREQ_FIELD],
     },
-    octets: NO_OCTETS,
-    records: NO_RECORDS,
-    most: None,
+    ..ALL_BITS
 };
 
 /// What a body says behind its type, which is 1.
