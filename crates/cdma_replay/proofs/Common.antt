@@ -93,8 +93,8 @@ pub use Rattle.listed_frame.proofs.Choice.{decoded_by_one_codeword}
 pub use Rattle.listed_frame.proofs.SentFrames.{sent_frame_listed}
 pub use Rattle.long_code.specs.LongCode.{traffic_mask}
 pub use Rattle.heard_events.proofs.EventsGrown.{events_at_by, events_sooner}
-pub use Rattle.heard_events.proofs.FingerTimes.{timed_of}
-pub use Rattle.heard_events.proofs.FrameTimes.{known_between}
+pub use Rattle.heard_events.proofs.SyncTimes.{timed_of}
+pub use Rattle.rake_finger.proofs.FrameTimes.{known_between}
 pub use Rattle.heard_events.proofs.FramesAlone.{decoded_alone, power_alone}
 pub use Rattle.heard_events.proofs.FollowedEvents.{told_unset}
 pub use Rattle.heard_events.proofs.Growth.{KnownFrom, left_all, left_none}
@@ -105,18 +105,20 @@ unfoldable pub use Rattle.heard_events.specs.Events.{heard_within}
 pub use Rattle.heard_events.specs.FramesAlone.{reference_alone, traffic_channel}
 pub use Rattle.heard_events.specs.Given.{listed}
 pub use Rattle.heard_events.specs.Marks.{mark}
-pub use Rattle.heard_events.specs.Near.{AreNear, all_near, is_near, low_of}
+pub use Rattle.rake_finger.specs.Near.{AreNear, all_near, is_near}
+pub use Rattle.heard_events.specs.Near.{low_of}
 pub use Rattle.heard_events.specs.PagingStreams.{paging_bound}
 pub use Rattle.heard_events.specs.SoftFrames.{soft_frame, soft_frames}
 unfoldable pub use Rattle.heard_events.specs.SoftFrames.{frames_within}
 pub use Rattle.mobile_core.specs.Standing.{IsStep, StandsFor, Steps, events_left, has_room, parts, steps_left}
-pub use Rattle.heard_events.specs.Streams.{is_in_file, known_at, known_by}
+pub use Rattle.rake_finger.specs.Streams.{is_in_file, known_at, known_by}
 pub use Rattle.heard_events.specs.SyncEvents.{sync_events_at}
-pub use Rattle.heard_events.specs.Timing.{IsTimed}
+pub use Rattle.rake_finger.specs.Timing.{IsTimed}
 pub use Rattle.heard_events.specs.TrafficEvents.{power_bits_at, decoded_at, frame_event}
 pub use Rattle.mobile_core.specs.BehindMark.{IsSoundAssignment}
 pub use Rattle.heard_events.specs.TrafficStreams.{replaced_in}
-pub use Rattle.heard_events.specs.Tuning.{Tuning, fingers_of, sync_stream, tuning_by}
+pub use Rattle.heard_events.specs.Tuning.{Tuning, sync_stream, tuning_by}
+pub use Rattle.rake_finger.specs.Paths.{fingers_of}
 pub use Rattle.heard_events.specs.declared.channel.Channel.{Channel}
 pub use Rattle.heard_events.specs.declared.channel.Channel.TheVariants.{Paging}
 pub use Rattle.heard_events.specs.declared.event.Event.{Event}

@@ -108,15 +108,15 @@ pub use Rattle.long_code.proofs.Period.{IsState-after, IsState-before, after-inj
 pub use Rattle.long_code.specs.LongCode.{IsState, after, paging_mask}
 unfoldable pub use Rattle.long_code.specs.LongCode.{long_chip, traffic_mask}
 pub use Rattle.heard_events.proofs.EventPlaces.{AreAt, messages_at_end, paging_at, sets_at_end, sync_at, traffic_at}
-pub use Rattle.heard_events.proofs.FingerTimes.{timed_in}
+pub use Rattle.rake_finger.proofs.FingerTimes.{timed_in}
 pub use Rattle.heard_events.proofs.FrameBounds.{AreCloseAll}
 pub use Rattle.heard_events.proofs.TrafficGrowth.{frames_sooner, messages_sooner}
-pub use Rattle.heard_events.proofs.FrameTimes.{known_between, known_le}
+pub use Rattle.rake_finger.proofs.FrameTimes.{known_between, known_le}
 pub use Rattle.heard_events.proofs.LegParts.{map_same}
 pub use Rattle.heard_events.proofs.MarkGrowth.{mark_is}
 pub use Rattle.heard_events.proofs.MarkStays.{frames_by_one_mark, messages_by_one_mark, pages_by_one_mark, pilot_alone}
 pub use Rattle.heard_events.proofs.MomentGrowth.{kept_new, kept_old}
-pub use Rattle.heard_events.specs.Close.{AreClose}
+pub use Rattle.rake_finger.specs.Near.{AreClose}
 pub use Rattle.heard_events.specs.Events.{events}
 unfoldable pub use Rattle.heard_events.specs.Events.{events_at, frame_events_at, heard_within, message_events_at, paging_events_at}
 unfoldable pub use Rattle.heard_events.specs.Events.{sets_events_at}
@@ -128,28 +128,30 @@ unfoldable pub use Rattle.heard_events.specs.Marks.{frames_open, mark, mark_befo
 pub use Rattle.heard_events.specs.Moments.{changed, frames_at, legs_at, legs_by, messages_at, messages_behind, moment_events, moment_of}
 pub use Rattle.heard_events.specs.Moments.{moment_place, moments_before}
 unfoldable pub use Rattle.heard_events.specs.Moments.{heard_from, kept_to, passed, sets_at, told_by}
-pub use Rattle.heard_events.specs.Near.{AreNear}
+pub use Rattle.rake_finger.specs.Near.{AreNear}
 pub use Rattle.heard_events.specs.Noted.{all_noted, body_noted, in_traffic_thresholds, noted, noted_with, page_noted, system_thresholds}
 pub use Rattle.heard_events.specs.PagingEvents.{page_event, page_in, pages_behind, with_page}
 unfoldable pub use Rattle.heard_events.specs.PagingEvents.{bits_up_to, page_at, pages_at, pages_from}
 pub use Rattle.heard_events.specs.PagingStreams.{paging_bound, paging_stream}
-pub use Rattle.heard_events.specs.Scrambled.{Scrambles, descrambled, unscrambled}
+pub use Rattle.rake_finger.specs.Scrambled.{Scrambles, descrambled, unscrambled}
 pub use Rattle.heard_events.specs.Signaling.{capsule_with, message_events, message_heard, signal_in, signal_of}
 unfoldable pub use Rattle.heard_events.specs.Signaling.{message_at, messages_by, signal_at, signals_before}
 pub use Rattle.heard_events.specs.SoftFrames.{soft_frame, soft_frames, raw_at}
 unfoldable pub use Rattle.heard_events.specs.SoftFrames.{frames_within}
-pub use Rattle.heard_events.specs.Streams.{Stream, frame_end, frame_softs, frame_start, is_in_file, is_within, known_at, known_by}
-pub use Rattle.heard_events.specs.Streams.{known_now, span_first, span_frames}
+pub use Rattle.heard_events.specs.Streams.{Stream}
+pub use Rattle.rake_finger.specs.Streams.{frame_end, frame_softs, frame_start, is_in_file, is_within, known_at, known_by}
+pub use Rattle.rake_finger.specs.Streams.{known_now, span_first, span_frames}
 unfoldable pub use Rattle.heard_events.specs.Streams.{frame_own_bits}
 pub use Rattle.heard_events.specs.SyncEvents.{events_of, heard_in, with_message}
 unfoldable pub use Rattle.heard_events.specs.SyncEvents.{frames_before, heard_at, sync_capsule_at, sync_events_at}
-pub use Rattle.heard_events.specs.Timing.{IsTimed}
+pub use Rattle.rake_finger.specs.Timing.{IsTimed}
 pub use Rattle.heard_events.specs.TrafficEvents.{all_sums, frame_event, frame_heard, if_followed, subchannel_sums, raw_by}
 pub use Rattle.heard_events.specs.TrafficEvents.{raw_softs}
 unfoldable pub use Rattle.heard_events.specs.TrafficEvents.{power_bits_at, decoded_at, frames_by}
 pub use Rattle.heard_events.specs.TrafficStreams.{ends_now, frame_state, frames_bound, frames_now, has_frame, replaced_in, stream_of}
 pub use Rattle.heard_events.specs.TrafficStreams.{traffic_start, traffic_stream}
-pub use Rattle.heard_events.specs.Tuning.{Tuning, fingers_of, modulo_code, sync_bound, sync_stream}
+pub use Rattle.heard_events.specs.Tuning.{Tuning, sync_bound, sync_stream}
+pub use Rattle.rake_finger.specs.Paths.{fingers_of, modulo_code}
 pub use Rattle.heard_events.specs.declared.event.Event.{Event}
 pub use Rattle.heard_events.specs.declared.event.Event.TheVariants.{Pilot}
 pub use Rattle.heard_events.specs.declared.leg.Leg.{Leg}

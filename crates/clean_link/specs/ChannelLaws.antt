@@ -11,8 +11,9 @@ use Rattle.cell_plan.specs.Sampled.{made_samples}
 use Rattle.cell_plan.specs.Sendings.{continued_symbols}
 use Rattle.cell_plan.specs.Signal.{Carrier, carriers}
 use Rattle.cell_plan.specs.declared.plan.CellPlan.{CellPlan}
-use Rattle.heard_events.specs.Streams.{Stream, frame_own_bits, frame_softs, is_in_file, span_first}
-use Rattle.heard_events.specs.Streams.{span_frames}
+use Rattle.heard_events.specs.Streams.{Stream, frame_own_bits}
+use Rattle.rake_finger.specs.Streams.{frame_softs, is_in_file, span_first}
+use Rattle.rake_finger.specs.Streams.{span_frames}
 use Rattle.cell_plan.specs.Stated.{IsReceivable}
 use Rattle.clean_link.specs.CleanLink.{soft_strength}
 use Rattle.clean_link.specs.SentCodewords.{AreReadBy, IsOnlyBest, span_codeword}

@@ -11,8 +11,9 @@ use Rattle.cell_plan.specs.Sendings.{sync_frame_bits, sync_symbols}
 use Rattle.cell_plan.specs.declared.plan.CellPlan.{CellPlan}
 use Rattle.cell_plan.specs.declared.plan.SyncPlan.{SyncPlan}
 use Rattle.heard_events.specs.Marks.{mark}
-use Rattle.heard_events.specs.Streams.{frame_own_bits, frame_softs, is_in_file, span_first}
-use Rattle.heard_events.specs.Streams.{span_frames}
+use Rattle.heard_events.specs.Streams.{frame_own_bits}
+use Rattle.rake_finger.specs.Streams.{frame_softs, is_in_file, span_first}
+use Rattle.rake_finger.specs.Streams.{span_frames}
 use Rattle.heard_events.specs.SyncEvents.{sync_events_at}
 use Rattle.heard_events.specs.Tuning.{Tuning, sync_stream}
 use Rattle.heard_events.specs.declared.mark.Mark.{Mark}

@@ -17,7 +17,7 @@ use Rattle.cell_plan.specs.declared.plan.CellPlan.{CellPlan}
 use Rattle.cell_plan.specs.declared.plan.TrafficPlan.{TrafficPlan}
 use Rattle.cell_plan.specs.declared.traffic_frame.TrafficFrame.{TrafficFrame}
 use Rattle.cell_plan.specs.declared.traffic_frame2.TrafficFrame2.{TrafficFrame2}
-use Rattle.heard_events.specs.Streams.{frame_softs}
+use Rattle.rake_finger.specs.Streams.{frame_softs}
 use Rattle.heard_events.specs.TrafficStreams.{replaced_in, stream_of}
 use Rattle.heard_events.specs.Tuning.{Tuning}
 use Rattle.heard_events.specs.declared.leg.Leg.{Leg}

@@ -18,8 +18,9 @@ use Rattle.cell_plan.specs.declared.plan.PagingPlan.{PagingPlan}
 use Rattle.cell_plan.specs.declared.plan.SyncPlan.{SyncPlan}
 use Rattle.heard_events.specs.Marks.{mark}
 use Rattle.heard_events.specs.PagingStreams.{paging_stream}
-use Rattle.heard_events.specs.Streams.{frame_own_bits, frame_softs, is_in_file, span_first}
-use Rattle.heard_events.specs.Streams.{span_frames}
+use Rattle.heard_events.specs.Streams.{frame_own_bits}
+use Rattle.rake_finger.specs.Streams.{frame_softs, is_in_file, span_first}
+use Rattle.rake_finger.specs.Streams.{span_frames}
 use Rattle.heard_events.specs.Tuning.{Tuning}
 use Rattle.heard_events.specs.declared.mark.Mark.{Mark}
 use Rattle.clean_link.specs.CleanLink.{IsOnPath, IsTrueMark, soft_strength}

@@ -13,8 +13,9 @@ use Rattle.viterbi.specs.declared.codeword.Ends.TheVariants.{Free}
 use Rattle.frame_decoder.specs.Spans.{Channel, score, sending}
 use Rattle.cell_plan.specs.Sendings.{bits_before, continued_symbols}
 use Rattle.cell_plan.specs.Signal.{Carrier}
-use Rattle.heard_events.specs.Scrambled.{Scrambles}
-use Rattle.heard_events.specs.Streams.{Stream, frame_softs, span_first, span_frames}
+use Rattle.rake_finger.specs.Scrambled.{Scrambles}
+use Rattle.heard_events.specs.Streams.{Stream}
+use Rattle.rake_finger.specs.Streams.{frame_softs, span_first, span_frames}
 
 -- symbols as they are sent under a frame's scrambling bits, where there are any (TIA/EIA-95-B,
 -- 7.1.3.1.6)

@@ -14,7 +14,7 @@ use Rattle.cell_plan.specs.declared.plan.CellPlan.{CellPlan}
 use Rattle.cell_plan.specs.declared.plan.TrafficPlan.{TrafficPlan}
 use Rattle.cell_plan.specs.declared.traffic_frame.TrafficFrame.{TrafficFrame}
 use Rattle.heard_events.specs.Moments.{frames_at, legs_at, messages_at}
-use Rattle.heard_events.specs.Streams.{frame_softs}
+use Rattle.rake_finger.specs.Streams.{frame_softs}
 use Rattle.heard_events.specs.TrafficEvents.{power_bits_at, decoded_at, frame_heard, raw_softs}
 use Rattle.heard_events.specs.TrafficStreams.{has_frame, replaced_in, stream_of}
 use Rattle.heard_events.specs.Tuning.{Tuning}

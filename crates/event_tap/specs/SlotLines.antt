@@ -14,7 +14,8 @@ use Rattle.paging_message.specs.declared.message.PagingMessage.{PagingMessage}
 use Rattle.heard_events.specs.Channels.{channel_stream}
 use Rattle.heard_events.specs.Marks.{mark}
 use Rattle.heard_events.specs.PagingStreams.{paging_rate}
-use Rattle.heard_events.specs.Streams.{Stream, frame_end, frame_softs, frame_start, is_in_file}
+use Rattle.heard_events.specs.Streams.{Stream}
+use Rattle.rake_finger.specs.Streams.{frame_end, frame_softs, frame_start, is_in_file}
 use Rattle.heard_events.specs.Tuning.{Tuning}
 use Rattle.heard_events.specs.declared.channel.Channel.TheVariants.{Paging}
 use Rattle.heard_events.specs.declared.mark.Mark.{Mark}

@@ -6,7 +6,7 @@ use Rattle.heard_events.proofs.Common.{cases_lt, eqb-true, eq-eqb, false_from_ne
 use Rattle.heard_events.proofs.Common.{known_at, filter-places-more, filter_ext_places, filter_none_places, filter_first_places}
 use Rattle.heard_events.proofs.Common.{flat_map_ext_filter, zero, suc, sym, cases_Bool, places-more, filter-append, IsTimed, stream_end}
 use Rattle.std.specs.List.{filter}
-use Rattle.heard_events.proofs.FrameTimes.{known_between, known_le}
+use Rattle.rake_finger.proofs.FrameTimes.{known_between, known_le}
 use Rattle.std.proofs.lemmas.List.{append-nil}
 use Rattle.chip_core.proofs.Ranges as ranges
 

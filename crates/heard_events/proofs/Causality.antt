@@ -4,7 +4,7 @@ use Rattle.heard_events.proofs.Common.{pos, All, Some, slice_get, IsTrue, flat_m
 use Rattle.heard_events.proofs.Common.{Sample, events_at, events_within, heard_within, mark, is_near, all_near, has_reference, AreNear}
 use Rattle.heard_events.proofs.Common.{IsTuned, low_of, Tuning, fingers_of, sync_stream, Event, Pilot, flat_map_ext_places}
 use Rattle.heard_events.proofs.EventsGrown.{events_sooner}
-use Rattle.heard_events.proofs.FingerTimes.{timed_of}
+use Rattle.heard_events.proofs.SyncTimes.{timed_of}
 use Rattle.heard_events.proofs.Growth.{IsSyncTimed}
 use Rattle.heard_events.proofs.MarkStays.{mark_sooner}
 

@@ -6,7 +6,7 @@ use Rattle.heard_events.proofs.Common.{has_power_control, mask_of, offset_of, ro
 use Rattle.heard_events.proofs.Common.{power_of, soft_frame, Stream, frame_end, frame_start, is_in_file, known_at, known_by, IsTimed}
 use Rattle.heard_events.proofs.Common.{stream_end, Tuning, fingers_of, Channel, Paging, Mark, PowerControl, SoftFrame, ◌-◌, AgreeIn}
 use Rattle.heard_events.specs.declared.channel.Channel.TheVariants.{Traffic}
-use Rattle.heard_events.proofs.Sooner.{all_fit, softs_sooner, softs_same}
+use Rattle.rake_finger.proofs.Sooner.{all_fit, softs_sooner, softs_same}
 use Rattle.heard_events.proofs.Arrivals.{frames_in, frames_ordered, known_is, by_parts, is_by}
 use Rattle.chip_core.proofs.Ranges as ranges
 

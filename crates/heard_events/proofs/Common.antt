@@ -57,11 +57,11 @@ pub use Rattle.sync_message.specs.declared.fields.SyncFields.{SyncFields}
 pub use Rattle.viterbi.specs.Codewords.{Codeword, best_codeword}
 pub use Rattle.viterbi.specs.declared.codeword.Ends.TheVariants.{Free}
 pub use Rattle.heard_events.specs.Channels.{channel_stream, has_power_control, mask_of, offset_of, row_of, state_at}
-pub use Rattle.heard_events.specs.Close.{AreClose, all_close, is_close}
+pub use Rattle.rake_finger.specs.Near.{AreClose, all_close, is_close}
 pub use Rattle.heard_events.specs.Events.{events_within}
 unfoldable pub use Rattle.heard_events.specs.Events.{events_at, frame_events_at, heard_within, message_events_at, paging_events_at}
 unfoldable pub use Rattle.heard_events.specs.Events.{sets_events_at}
-pub use Rattle.heard_events.specs.FrameSamples.{AgreeIn}
+pub use Rattle.rake_finger.specs.FrameSamples.{AgreeIn}
 pub use Rattle.heard_events.specs.FramesAlone.{reference_alone, traffic_channel}
 pub use Rattle.heard_events.specs.Given.{at_of}
 unfoldable pub use Rattle.heard_events.specs.Left.{frames_left_of, messages_left_of, pages_left, sync_events_left}
@@ -71,29 +71,32 @@ unfoldable pub use Rattle.heard_events.specs.Marks.{frames_open, mark, mark_befo
 pub use Rattle.heard_events.specs.Moments.{frames_at, frames_behind, legs_at, legs_by, messages_at, messages_behind, moment_events}
 pub use Rattle.heard_events.specs.Moments.{moment_place, moments_before, sets_behind, sets_events}
 unfoldable pub use Rattle.heard_events.specs.Moments.{changed, heard_from, kept_to, passed, sets_at, told_by}
-pub use Rattle.heard_events.specs.Near.{AreBegun, AreNear, IsTuned, all_begun, all_near, has_reference, is_near, low_in, low_of}
+pub use Rattle.rake_finger.specs.Near.{AreBegun, AreNear, all_begun, all_near, has_reference, is_near, low_in}
+pub use Rattle.heard_events.specs.Near.{IsTuned, low_of}
 pub use Rattle.heard_events.specs.Noted.{all_noted, noted}
 pub use Rattle.heard_events.specs.PagingEvents.{page_event, page_in, pages_behind}
 unfoldable pub use Rattle.heard_events.specs.PagingEvents.{bits_before, bits_up_to, page_at, pages_at, pages_from}
 pub use Rattle.heard_events.specs.PagingStreams.{paging_bound, paging_rate, paging_stream}
-pub use Rattle.heard_events.specs.Scrambled.{unscrambled}
+pub use Rattle.rake_finger.specs.Scrambled.{unscrambled}
 pub use Rattle.heard_events.specs.Signaling.{capsule_with, message_events, message_heard, signal_in, signal_of}
 unfoldable pub use Rattle.heard_events.specs.Signaling.{message_at, messages_by, signal_at, signals_before}
 pub use Rattle.heard_events.specs.SoftFrames.{power_of, soft_frame, raw_at}
 unfoldable pub use Rattle.heard_events.specs.SoftFrames.{frames_within}
 pub use Rattle.heard_events.specs.SpelledMessages.{SpelledMessage, SpelledPage, SpelledSignal}
-pub use Rattle.heard_events.specs.Streams.{Stream, frame_end, frame_softs, frame_start, is_in_file, is_within, known_at, known_by}
-pub use Rattle.heard_events.specs.Streams.{known_now, span_first, span_frames}
+pub use Rattle.heard_events.specs.Streams.{Stream}
+pub use Rattle.rake_finger.specs.Streams.{frame_end, frame_softs, frame_start, is_in_file, is_within, known_at, known_by}
+pub use Rattle.rake_finger.specs.Streams.{known_now, span_first, span_frames}
 unfoldable pub use Rattle.heard_events.specs.Streams.{frame_own_bits}
 pub use Rattle.heard_events.specs.SyncEvents.{events_of, heard_in, with_message}
 unfoldable pub use Rattle.heard_events.specs.SyncEvents.{frames_before, heard_at, sync_capsule_at, sync_events_at}
-pub use Rattle.heard_events.specs.Timing.{IsTimed}
-unfoldable pub use Rattle.heard_events.specs.Timing.{stream_end}
+pub use Rattle.rake_finger.specs.Timing.{IsTimed}
+unfoldable pub use Rattle.rake_finger.specs.Timing.{stream_end}
 pub use Rattle.heard_events.specs.TrafficEvents.{all_sums, frame_event, if_followed, subchannel_sums}
 unfoldable pub use Rattle.heard_events.specs.TrafficEvents.{power_bits_at, decoded_at, frames_by}
 pub use Rattle.heard_events.specs.TrafficStreams.{ends_now, frame_known, frames_bound, frames_now, has_frame, replaced_in, stream_of}
 pub use Rattle.heard_events.specs.TrafficStreams.{traffic_start, traffic_stream}
-pub use Rattle.heard_events.specs.Tuning.{Tuning, fingers_of, sync_bound, sync_stream}
+pub use Rattle.heard_events.specs.Tuning.{Tuning, sync_bound, sync_stream}
+pub use Rattle.rake_finger.specs.Paths.{fingers_of}
 pub use Rattle.heard_events.specs.declared.channel.Channel.{Channel}
 pub use Rattle.heard_events.specs.declared.channel.Channel.TheVariants.{Paging}
 pub use Rattle.heard_events.specs.declared.event.Event.{Event}

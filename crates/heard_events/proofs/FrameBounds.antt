@@ -2,8 +2,8 @@
 use Rattle.heard_events.proofs.Common.{◌≡◌, ℕ, ◌+◌, ◌^◌, ◌<◌, ◌≤◌, true, ◌&&◌, List, refl, ap, ◌∙◌, arith, nat_le, Bool, le-leb, Data}
 use Rattle.heard_events.proofs.Common.{AreClose, all_fingers, all_begun, frame_end, frame_known, frames_bound, has_frame, traffic_start}
 use Rattle.heard_events.proofs.Common.{Tuning, Leg, Mark, Traffic}
-use Rattle.heard_events.proofs.CloseFingers.{close_begun, close_ends}
-use Rattle.heard_events.proofs.FingerTimes.{within_is}
+use Rattle.rake_finger.proofs.CloseFingers.{close_begun, close_ends}
+use Rattle.rake_finger.proofs.FingerTimes.{within_is}
 
 -- each frame is heard on close fingers
 abbrev pub AreCloseAll : Tuning → (ℕ → List Leg) → Type 0

@@ -9,7 +9,7 @@ use Rattle.heard_events.specs.TrafficEvents.{frame_heard}
 use Rattle.heard_events.proofs.Arrivals.{Arrivals, given_more}
 use Rattle.heard_events.proofs.FrameBounds.{AreCloseAll, known_later}
 use Rattle.heard_events.proofs.LegParts.{fit_on, map_same}
-use Rattle.heard_events.proofs.Sooner.{AllFit, all_fit, softs_sooner}
+use Rattle.rake_finger.proofs.Sooner.{AllFit, all_fit, softs_sooner}
 
 -- the frames, whatever pilots each is heard from
 abbrev pub frames_of : Tuning → Traffic → Mark → (ℕ → List Leg) → Arrivals

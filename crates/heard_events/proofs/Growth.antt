@@ -5,8 +5,8 @@ use Rattle.heard_events.proofs.Common.{frame_own_bits, frames_before, sync_capsu
 use Rattle.heard_events.proofs.Common.{IsTimed, Tuning, sync_stream, sync_bound, filter_none_places, map_ext_filter_places}
 use Rattle.heard_events.proofs.Common.{filter-places-more, flat_map}
 use Rattle.std.specs.List.{filter}
-use Rattle.heard_events.proofs.FrameTimes.{outside_low, known_between, known_le}
-use Rattle.heard_events.proofs.Spans.{own_bits_sooner}
+use Rattle.rake_finger.proofs.FrameTimes.{outside_low, known_between, known_le}
+use Rattle.heard_events.proofs.OwnBits.{own_bits_sooner}
 use Rattle.heard_events.proofs.Arrivals.{Arrivals, NoneBefore, NoneNow, all_left, frames_in, gives_same, next_left, none_left, none_now}
 use Rattle.heard_events.proofs.Arrivals.{AreOrdered, frames_ordered}
 

@@ -1,7 +1,7 @@
 -- The fingers of some of the active pilots are among those of all.
 use Rattle.heard_events.proofs.Common.{◌≡◌, ℕ, List, [], ◌∷◌, ◌++◌, inl, inr, map, refl, ℤ, cases_Bool, Finger, Form, all_fingers}
 use Rattle.heard_events.proofs.Common.{leg_fingers, on_subchannel, is_on, Leg}
-use Rattle.heard_events.proofs.Sooner.{AllFit}
+use Rattle.rake_finger.proofs.Sooner.{AllFit}
 
 fit-append : (n : ℕ) (form : Form) (u : ℕ) (xs ys : List Finger) → AllFit n form u (xs ++ ys) →
     AllFit n form u xs × AllFit n form u ys

@@ -1,11 +1,8 @@
 pub mod Common
-pub mod FrameTimes
-pub mod Sooner
-pub mod Spans
+pub mod OwnBits
+pub mod SyncTimes
 pub mod Arrivals
 pub mod Growth
-pub mod CloseFingers
-pub mod FingerTimes
 pub mod Opened
 pub mod MarkGrowth
 pub mod MarkLater

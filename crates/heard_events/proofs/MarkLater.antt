@@ -11,8 +11,8 @@ use Rattle.heard_events.proofs.Common.{span_first, span_frames, frames_before, h
 use Rattle.heard_events.proofs.Common.{stream_end, Tuning, sync_stream, Mark, SpelledMessage}
 use Rattle.std.specs.List.{filter}
 use Rattle.frame_decoder.specs.Spans.{Channel}
-use Rattle.heard_events.proofs.FingerTimes.{ends_bounds}
-use Rattle.heard_events.proofs.FrameTimes.{known_between}
+use Rattle.rake_finger.proofs.FingerTimes.{ends_bounds}
+use Rattle.rake_finger.proofs.FrameTimes.{known_between}
 
 -- THE BITS OF A FRAME
 span_first_most : (count : ℕ) (s : Stream) (k : ℕ) → span_first count s k ≤ k

@@ -13,12 +13,13 @@ use Rattle.heard_events.proofs.Common.{map, message_heard, messages_by, option_o
 use Rattle.std.specs.List.{filter}
 use Rattle.heard_events.proofs.FollowedEvents.{unrated}
 use Rattle.heard_events.specs.TrafficEvents.{frame_heard}
-use Rattle.heard_events.proofs.CloseFingers.{near_are_close}
-use Rattle.heard_events.proofs.FingerTimes.{ends_bounds, timed_in, timed_of}
+use Rattle.rake_finger.proofs.CloseFingers.{near_are_close}
+use Rattle.rake_finger.proofs.FingerTimes.{ends_bounds, timed_in}
+use Rattle.heard_events.proofs.SyncTimes.{timed_of}
 use Rattle.heard_events.proofs.FrameBounds.{known_low}
 use Rattle.heard_events.proofs.FrameGrowth.{frames_of}
 use Rattle.heard_events.proofs.Arrivals.{none_now, parted, by_parts, is_by}
-use Rattle.heard_events.proofs.FrameTimes.{known_between}
+use Rattle.rake_finger.proofs.FrameTimes.{known_between}
 use Rattle.heard_events.proofs.Growth.{IsSyncTimed, KnownBefore, sync_in_file, sync_known, known_with, sync_frames, sync_ordered}
 use Rattle.heard_events.proofs.MarkGrowth.{marks_at_sooner, mark_before_kept, mark_before_more, mark_is}
 use Rattle.heard_events.proofs.MarkLater.{mark_later}

@@ -8,7 +8,7 @@ use Rattle.heard_events.proofs.Common.{frames_open, marks_at, sets_mark, frame_s
 use Rattle.heard_events.proofs.Common.{sync_bound, sync_stream, Event, Mark, Option, None, marks_of, SpelledMessage}
 use Rattle.std.specs.List.{filter}
 use Rattle.heard_events.proofs.EventPlaces.{AreAt, all_at}
-use Rattle.heard_events.proofs.FrameTimes.{known_between}
+use Rattle.rake_finger.proofs.FrameTimes.{known_between}
 use Rattle.heard_events.proofs.Growth.{IsSyncTimed, sync_in_file, sync_known, sync_frames}
 use Rattle.heard_events.proofs.Arrivals.{every, given_less, given_more, is_now}
 

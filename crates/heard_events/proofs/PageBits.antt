@@ -2,9 +2,9 @@
 use Rattle.heard_events.proofs.Common.{◌≡◌, ℕ, ◌+◌, ◌<◌, ◌≤◌, true, List, [], ◌++◌, length, ap, ◌∙◌, arith, if◌then◌else◌, flat_map, places}
 use Rattle.heard_events.proofs.Common.{Sample, AreBegun, AreNear, low_in, bits_before, Stream, frame_own_bits, is_in_file, known_at}
 use Rattle.heard_events.proofs.Common.{IsTimed, filter_ext_places, filter_none_places, flat_map_ext_filter_places}
-use Rattle.heard_events.proofs.FingerTimes.{timed_in}
-use Rattle.heard_events.proofs.FrameTimes.{ends_lt, inside_from, inside_to, outside_low}
-use Rattle.heard_events.proofs.Spans.{own_bits_sooner}
+use Rattle.rake_finger.proofs.FingerTimes.{timed_in}
+use Rattle.rake_finger.proofs.FrameTimes.{ends_lt, inside_from, inside_to, outside_low}
+use Rattle.heard_events.proofs.OwnBits.{own_bits_sooner}
 use Rattle.heard_events.proofs.Arrivals.{given_more, every}
 
 -- those of one frame more

@@ -6,9 +6,9 @@ use Rattle.heard_events.proofs.Common.{Tuning, Mark, SpelledPage, take, Option, 
 use Rattle.heard_events.proofs.Common.{bits_up_to, page_in, pages_at, paging_rate, flat_map_ext_range}
 use Rattle.heard_events.proofs.Arrivals.{Arrivals, NoneBefore, NoneNow, all_left, frames_in, gives_same, left, left_same, next_left}
 use Rattle.heard_events.proofs.Arrivals.{none_left, none_now}
-use Rattle.heard_events.proofs.FrameTimes.{known_between, known_le}
+use Rattle.rake_finger.proofs.FrameTimes.{known_between, known_le}
 use Rattle.heard_events.proofs.PageBits.{bits_before_sooner}
-use Rattle.heard_events.proofs.Spans.{own_bits_sooner}
+use Rattle.heard_events.proofs.OwnBits.{own_bits_sooner}
 
 either_way : (b : Bool) (i : ℕ) → (if b then i else i) ≡ i
 either_way true i = refl

@@ -4,7 +4,8 @@ use Rattle.long_code.specs.LongCode.{after, paging_mask, traffic_mask}
 use Rattle.heard_events.specs.PagingStreams.{paging_stream}
 use Rattle.heard_events.specs.Streams.{Stream}
 use Rattle.heard_events.specs.TrafficStreams.{frame_state, traffic_stream}
-use Rattle.heard_events.specs.Tuning.{Tuning, fingers_of}
+use Rattle.heard_events.specs.Tuning.{Tuning}
+use Rattle.rake_finger.specs.Paths.{fingers_of}
 use Rattle.heard_events.specs.declared.channel.Channel.{Channel}
 use Rattle.heard_events.specs.declared.channel.Channel.TheVariants.{Paging, Traffic}
 use Rattle.heard_events.specs.declared.mark.Mark.{Mark}

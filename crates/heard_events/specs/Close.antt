@@ -3,19 +3,8 @@ use Rattle.std.specs.Prelude.{◌≡◌, ℕ, ◌+◌, ◌≤◌, Bool, true, Li
 use Rattle.std.specs.Prelude.{nat_le, nat_lt, if◌then◌else◌, Option, Some, None}
 use Rattle.std.specs.List.{list_all}
 use Rattle.rake_finger.specs.declared.finger.Finger.{Finger}
+use Rattle.rake_finger.specs.Near.{is_close}
 use Rattle.heard_events.specs.declared.leg.Leg.{Leg}
-
--- no more chips than half the widest search window
-abbrev pub is_close : Finger → Bool
-is_close f = nat_le (unsigned_abs f.delta) 226
-
-abbrev pub all_close : List Finger → Bool
-all_close fingers = list_all is_close fingers
-
--- fingers, each of them close
-pub record AreClose (fingers : List Finger) : Type 0 where
-  pub some : 1 ≤ length fingers
-  pub close : all_close fingers ≡ true
 
 -- a list of fingers that may have none
 abbrev pub fingers_in : Option (List Finger) → List Finger

@@ -10,7 +10,8 @@ use Rattle.heard_events.specs.Moments.{heard_from, kept_to, moment_place, sets_e
 use Rattle.heard_events.specs.PagingEvents.{pages_from}
 use Rattle.heard_events.specs.PagingStreams.{paging_bound, paging_stream}
 use Rattle.heard_events.specs.Signaling.{message_heard}
-use Rattle.heard_events.specs.Streams.{Stream, is_in_file, known_at}
+use Rattle.heard_events.specs.Streams.{Stream}
+use Rattle.rake_finger.specs.Streams.{is_in_file, known_at}
 use Rattle.heard_events.specs.SyncEvents.{heard_at, events_of}
 use Rattle.heard_events.specs.TrafficEvents.{frame_heard}
 use Rattle.heard_events.specs.TrafficStreams.{ends_now, frames_bound}

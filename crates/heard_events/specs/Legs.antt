@@ -6,7 +6,7 @@ use Rattle.chip_core.specs.Bits.{places}
 use Rattle.pilot_sets.specs.Standing.{Standing, shown}
 use Rattle.pilot_sets.specs.declared.lists.Active.{Active}
 use Rattle.rake_finger.specs.declared.finger.Finger.{Finger}
-use Rattle.heard_events.specs.Tuning.{fingers_of, modulo_code}
+use Rattle.rake_finger.specs.Paths.{fingers_of, modulo_code}
 use Rattle.heard_events.specs.declared.leg.Leg.{Leg}
 use Rattle.heard_events.specs.declared.mark.Mark.{Mark}
 

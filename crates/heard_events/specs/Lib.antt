@@ -1,6 +1,4 @@
-pub mod Scrambled
 pub mod Streams
-pub mod Timing
 pub mod Tuning
 pub mod SpelledMessages
 pub mod SyncEvents
@@ -20,6 +18,5 @@ pub mod Noted
 pub mod Moments
 pub mod Channels
 pub mod SoftFrames
-pub mod FrameSamples
 pub mod FramesAlone
 mod Worked

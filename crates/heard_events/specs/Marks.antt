@@ -6,7 +6,7 @@ use Rattle.chip_core.specs.Bits.{places}
 use Rattle.chip_core.specs.declared.sample.Sample.{Sample}
 use Rattle.quality_bits.specs.Pieces.{piece, from_last_start}
 use Rattle.sync_message.specs.Framing.{superframes_of}
-use Rattle.heard_events.specs.Streams.{frame_start, is_in_file, known_by}
+use Rattle.rake_finger.specs.Streams.{frame_start, is_in_file, known_by}
 use Rattle.heard_events.specs.SyncEvents.{frames_before, heard_at}
 use Rattle.heard_events.specs.Tuning.{Tuning, sync_stream, sync_bound}
 use Rattle.heard_events.specs.declared.event.Event.{Event}

@@ -10,7 +10,8 @@ use Rattle.paging_message.specs.HalfFrames.{half_frame_body, half_frame_capsule_
 use Rattle.paging_message.specs.Reading.{paging_reading}
 use Rattle.paging_message.specs.declared.message.PagingMessage.{PagingMessage}
 use Rattle.heard_events.specs.PagingStreams.{paging_rate, paging_stream, paging_bound}
-use Rattle.heard_events.specs.Streams.{Stream, is_in_file, frame_own_bits, known_now}
+use Rattle.heard_events.specs.Streams.{Stream, frame_own_bits}
+use Rattle.rake_finger.specs.Streams.{is_in_file, known_now}
 use Rattle.heard_events.specs.Tuning.{Tuning}
 use Rattle.heard_events.specs.declared.event.Event.{Event}
 use Rattle.heard_events.specs.declared.event.Event.TheVariants.{Paging}

@@ -7,7 +7,8 @@ use Rattle.symbol_path.specs.Scrambling.{scrambling}
 use Rattle.quality_bits.specs.declared.rate.Rate.{Rate}
 use Rattle.quality_bits.specs.declared.rate.Rate.TheVariants.{R9600, R4800}
 use Rattle.heard_events.specs.Streams.{Stream}
-use Rattle.heard_events.specs.Tuning.{Tuning, fingers_of}
+use Rattle.heard_events.specs.Tuning.{Tuning}
+use Rattle.rake_finger.specs.Paths.{fingers_of}
 use Rattle.heard_events.specs.declared.mark.Mark.{Mark}
 
 -- PRAT 0 stands for 9,600 bits a second, and 1 for 4,800

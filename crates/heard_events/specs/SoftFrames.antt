@@ -6,7 +6,7 @@ use Rattle.frame_decoder.specs.TrafficFrames.{power_bit, group_sums}
 use Rattle.rake_finger.specs.Soft.{softs}
 use Rattle.heard_events.specs.Channels.{channel_stream}
 use Rattle.heard_events.specs.PagingStreams.{paging_bound}
-use Rattle.heard_events.specs.Streams.{frame_end, frame_softs, frame_start, known_by}
+use Rattle.rake_finger.specs.Streams.{frame_end, frame_softs, frame_start, known_by}
 use Rattle.heard_events.specs.TrafficStreams.{replaced_in}
 use Rattle.heard_events.specs.Tuning.{Tuning}
 use Rattle.heard_events.specs.declared.channel.Channel.{Channel}

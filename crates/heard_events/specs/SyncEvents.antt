@@ -7,7 +7,8 @@ use Rattle.chip_core.specs.declared.sample.Sample.{Sample}
 use Rattle.quality_bits.specs.Pieces.{piece, capsule_ending}
 use Rattle.sync_message.specs.Reading.{sync_reading}
 use Rattle.sync_message.specs.declared.fields.SyncFields.{SyncFields}
-use Rattle.heard_events.specs.Streams.{is_in_file, frame_own_bits, known_now}
+use Rattle.rake_finger.specs.Streams.{is_in_file, known_now}
+use Rattle.heard_events.specs.Streams.{frame_own_bits}
 use Rattle.heard_events.specs.Tuning.{Tuning, sync_stream, sync_bound}
 use Rattle.heard_events.specs.declared.event.Event.{Event}
 use Rattle.heard_events.specs.declared.event.Event.TheVariants.{Sync}

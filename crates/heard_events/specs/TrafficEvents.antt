@@ -7,7 +7,7 @@ use Rattle.frame_decoder.specs.declared.traffic.Decoded.{Decoded}
 use Rattle.rake_finger.specs.Soft.{softs}
 use Rattle.rake_finger.specs.declared.form.Form.TheVariants.{Data}
 use Rattle.heard_events.specs.Legs.{all_fingers, on_subchannel, subchannels}
-use Rattle.heard_events.specs.Streams.{frame_softs}
+use Rattle.rake_finger.specs.Streams.{frame_softs}
 use Rattle.heard_events.specs.TrafficStreams.{frames_now, replaced_in, stream_of, traffic_start}
 use Rattle.heard_events.specs.Tuning.{Tuning}
 use Rattle.heard_events.specs.declared.event.Event.{Event}

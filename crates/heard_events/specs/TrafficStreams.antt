@@ -8,7 +8,8 @@ use Rattle.rake_finger.specs.declared.form.Form.TheVariants.{Data}
 use Rattle.symbol_path.specs.Scrambling.{power_places, scrambling}
 use Rattle.quality_bits.specs.declared.rate.Rate.TheVariants.{R9600}
 use Rattle.heard_events.specs.Legs.{all_fingers}
-use Rattle.heard_events.specs.Streams.{Stream, frame_start, is_in_file, known_at}
+use Rattle.heard_events.specs.Streams.{Stream}
+use Rattle.rake_finger.specs.Streams.{frame_start, is_in_file, known_at}
 use Rattle.heard_events.specs.Tuning.{Tuning}
 use Rattle.heard_events.specs.declared.leg.Leg.{Leg}
 use Rattle.heard_events.specs.declared.mark.Mark.{Mark}

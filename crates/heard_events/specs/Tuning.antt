@@ -1,12 +1,10 @@
 -- What a handset is tuned to.
-use Rattle.std.specs.Prelude.{ℕ, ◌+◌, ◌-◌, ◌/◌, ◌%◌, true, List, [], map, take, ℤ, pos, ◌+ℤ◌}
-use Rattle.std.specs.Prelude.{unsigned_abs, Option}
-use Rattle.std.specs.Int.{int_rem_euclid}
+use Rattle.std.specs.Prelude.{ℕ, ◌+◌, ◌-◌, ◌/◌, ◌%◌, true, List, [], take, ℤ, Option}
 use Rattle.chip_core.specs.declared.check_form.CheckForm.{CheckForm}
 use Rattle.frame_decoder.specs.Spans.{sync_channel}
 use Rattle.pilot_search.specs.declared.paths.Near.{Near}
 use Rattle.pilot_search.specs.declared.sweeping.Best.{Best}
-use Rattle.rake_finger.specs.declared.finger.Finger.{Finger}
+use Rattle.rake_finger.specs.Paths.{fingers_of}
 use Rattle.rake_finger.specs.declared.form.Form.TheVariants.{Sync}
 use Rattle.heard_events.specs.Streams.{Stream}
 use Rattle.heard_events.specs.declared.settings.Settings.{Settings}
@@ -38,17 +36,6 @@ tuning_by settings best near =
       paging = settings.paging;
       traffic = settings.traffic;
     }
-
-abbrev pub modulo_code : ℤ → ℕ
-modulo_code x = unsigned_abs (int_rem_euclid x (pos 32768))
-
--- a finger so much earlier than a phase
-abbrev pub finger_of : ℕ → ℕ → ℤ → Finger
-finger_of row phase delta =
-    record { phase = modulo_code (pos phase +ℤ delta); delta = delta; row = row }
-
-abbrev pub fingers_of : ℕ → ℕ → List ℤ → List Finger
-fingers_of row phase deltas = map (finger_of row phase) deltas
 
 -- The sync channel is Walsh row 32, and its frames begin where the pilot's code does (TIA/EIA-95-B,
 -- 7.1.3.3).

@@ -20,11 +20,12 @@ use Rattle.heard_events.specs.Near.{low_of}
 use Rattle.heard_events.specs.Noted.{body_noted, moment_from, page_noted}
 use Rattle.heard_events.specs.PagingEvents.{pages_behind}
 use Rattle.heard_events.specs.PagingStreams.{paging_stream}
-use Rattle.heard_events.specs.Scrambled.{unscrambled}
+use Rattle.rake_finger.specs.Scrambled.{unscrambled}
 use Rattle.heard_events.specs.Signaling.{signal_of}
-use Rattle.heard_events.specs.Streams.{is_in_file, known_at, span_frames}
+use Rattle.rake_finger.specs.Streams.{is_in_file, known_at, span_frames}
 use Rattle.heard_events.specs.TrafficStreams.{traffic_stream}
-use Rattle.heard_events.specs.Tuning.{Tuning, fingers_of, modulo_code, sync_stream}
+use Rattle.heard_events.specs.Tuning.{Tuning, sync_stream}
+use Rattle.rake_finger.specs.Paths.{fingers_of, modulo_code}
 use Rattle.heard_events.specs.declared.mark.Mark.{Mark}
 use Rattle.chip_core.specs.declared.assignment.Traffic.{Traffic}
 

@@ -35,7 +35,8 @@ unfoldable pub use Rattle.frame_decoder.specs.TrafficFrames.{decoded}
 pub use Rattle.frame_decoder.specs.declared.power.PowerSofts.{PowerSofts}
 pub use Rattle.frame_decoder.specs.declared.traffic.Decoded.{Decoded}
 pub use Rattle.heard_events.specs.Channels.{channel_stream, has_power_control, mask_of, row_of, state_at}
-pub use Rattle.heard_events.specs.Close.{AreClose, all_close, fingers_in, is_close, legs_close, legs_rows, paths_close, places_for}
+pub use Rattle.rake_finger.specs.Near.{AreClose, all_close, is_close}
+pub use Rattle.heard_events.specs.Close.{fingers_in, legs_close, legs_rows, paths_close, places_for}
 pub use Rattle.heard_events.specs.Close.{places_in}
 pub use Rattle.heard_events.specs.Events.{events}
 unfoldable pub use Rattle.heard_events.specs.Events.{events_at, heard_within}
@@ -49,28 +50,30 @@ unfoldable pub use Rattle.heard_events.specs.Marks.{frames_open, mark, mark_befo
 pub use Rattle.heard_events.specs.Moments.{frames_at, legs_at, legs_by, messages_at, moment_events, moment_of, moment_place, moments_before}
 pub use Rattle.heard_events.specs.Moments.{pilot_strength, power_at, sets_events, strengths_at}
 unfoldable pub use Rattle.heard_events.specs.Moments.{changed, heard_from, kept_to, passed, sets_at, told_by}
-pub use Rattle.heard_events.specs.Near.{AreBegun, AreNear, all_begun, all_near, has_reference, have_rows, is_near}
+pub use Rattle.rake_finger.specs.Near.{AreBegun, AreNear, all_begun, all_near, has_reference, have_rows, is_near}
 pub use Rattle.heard_events.specs.Noted.{all_noted, body_noted, moment_from, noted, noted_with, page_noted, system_thresholds}
 pub use Rattle.heard_events.specs.PagingEvents.{page_event, page_in, pages_behind}
 unfoldable pub use Rattle.heard_events.specs.PagingEvents.{bits_before, bits_up_to, page_at, pages_from}
 pub use Rattle.heard_events.specs.PagingStreams.{paging_rate, paging_stream}
-pub use Rattle.heard_events.specs.Scrambled.{descrambled, unscrambled}
+pub use Rattle.rake_finger.specs.Scrambled.{descrambled, unscrambled}
 pub use Rattle.heard_events.specs.Signaling.{capsule_with, message_events, signal_in, signal_of}
 unfoldable pub use Rattle.heard_events.specs.Signaling.{message_at, signal_at, signals_before}
 pub use Rattle.heard_events.specs.SoftFrames.{power_of, soft_frame, soft_frames, raw_at}
 unfoldable pub use Rattle.heard_events.specs.SoftFrames.{frames_within}
 pub use Rattle.heard_events.specs.SpelledMessages.{SpelledMessage, SpelledPage, SpelledSignal}
-pub use Rattle.heard_events.specs.Streams.{Stream, finger_end, frame_end, frame_softs, frame_start, is_in_file, known_at, span_first}
-pub use Rattle.heard_events.specs.Streams.{span_frames}
+pub use Rattle.heard_events.specs.Streams.{Stream}
+pub use Rattle.rake_finger.specs.Streams.{finger_end, frame_end, frame_softs, frame_start, is_in_file, known_at, span_first}
+pub use Rattle.rake_finger.specs.Streams.{span_frames}
 unfoldable pub use Rattle.heard_events.specs.Streams.{frame_own_bits}
 pub use Rattle.heard_events.specs.SyncEvents.{events_of, heard_in}
 unfoldable pub use Rattle.heard_events.specs.SyncEvents.{frames_before, heard_at, sync_capsule_at, sync_events_at}
-pub use Rattle.heard_events.specs.Timing.{IsTimed}
-unfoldable pub use Rattle.heard_events.specs.Timing.{stream_end}
+pub use Rattle.rake_finger.specs.Timing.{IsTimed}
+unfoldable pub use Rattle.rake_finger.specs.Timing.{stream_end}
 pub use Rattle.heard_events.specs.TrafficEvents.{all_sums, frame_event, if_followed, raw_softs}
 unfoldable pub use Rattle.heard_events.specs.TrafficEvents.{power_bits_at, decoded_at}
 pub use Rattle.heard_events.specs.TrafficStreams.{chips_behind, frame_known, frame_state, has_frame, replaced_in, traffic_start}
-pub use Rattle.heard_events.specs.Tuning.{Tuning, finger_of, fingers_of, sync_stream, tuning_by}
+pub use Rattle.heard_events.specs.Tuning.{Tuning, sync_stream, tuning_by}
+pub use Rattle.rake_finger.specs.Paths.{finger_of, fingers_of}
 pub use Rattle.heard_events.specs.declared.channel.Channel.{Channel}
 pub use Rattle.heard_events.specs.declared.event.Event.{Event}
 pub use Rattle.heard_events.specs.declared.event.Event.TheVariants.{Pilot}
@@ -120,30 +123,30 @@ pub use Rattle.traffic_message.specs.declared.multiplex.Mux.{Mux}
 pub use borrow.Rule.Slice.PartMut.{post_of}
 pub use mir.Syntax.{w64, w8}
 pub use mir.Val.{SFits}
-pub use Rattle.mobile_core.specs.Clocks.{IsAt, IsDueAt, clock_from, first_frame, frame_come, frame_heard, span_from}
+pub use Rattle.reception.specs.Clocks.{IsAt, IsDueAt, clock_from, first_frame, frame_come, frame_heard, span_from}
 pub use Rattle.mobile_core.specs.BehindMark.{FollowsPages, FollowsTraffic, IsUnheard, IsUnpaged, SetsMark, paging_due, paging_left}
 pub use Rattle.mobile_core.specs.BehindMark.{traffic_left}
 pub use Rattle.mobile_core.specs.FollowedChannels.{EndFrom, HearsFollowed, HearsFrames, HearsPages, IsFollowedDue, IsSoundFollowed}
 pub use Rattle.mobile_core.specs.FollowedChannels.{WaitFrom, followed_events_left, followed_heard, paging_events_left, traffic_events_left}
-pub use Rattle.mobile_core.specs.FrameReceiving.{HasGiven}
+pub use Rattle.mobile_core.specs.FrameReceiving.{HasGiven, frame_passed}
 pub use Rattle.mobile_core.specs.LegSofts.{sums_on}
 pub use Rattle.mobile_core.specs.PagingReceiving.{HearsBit, HearsPaging, IsSoundPaging, bit_passed, bits_heard}
-pub use Rattle.mobile_core.specs.Progress.{IsDue, IsReached}
-pub use Rattle.mobile_core.specs.Receiving.{Receives}
+pub use Rattle.reception.specs.Progress.{IsDue, IsReached}
+pub use Rattle.reception.specs.Receiving.{Receives}
 pub use Rattle.mobile_core.specs.SetsKeeping.{IsSoundKeeper, coming_place}
-pub use Rattle.mobile_core.specs.Softs.{AreSmall, frame_most, last_softs}
+pub use Rattle.reception.specs.Softs.{AreSmall, frame_most, last_softs}
 pub use Rattle.mobile_core.specs.Sound.{IsSoundSync}
 pub use Rattle.mobile_core.specs.Standing.{Parts, Stands, Steps, due_parts, events_left, parts}
 pub use Rattle.mobile_core.specs.SyncReceiving.{HearsNext, HearsSync}
 pub use Rattle.mobile_core.specs.TrafficReceiving.{HasTold, HearsTraffic, HearsWith, IsSoundTraffic, IsTrafficDue, WaitsAt, kept_by}
 pub use Rattle.mobile_core.specs.TrafficReceiving.{kept_in, next_end, noted_by, told_left_with, traffic_heard, traffic_left_of}
-pub use Rattle.mobile_core.specs.declared.continued.Continued.{Continued}
+pub use Rattle.reception.specs.declared.continued.Continued.{Continued}
 pub use Rattle.mobile_core.specs.declared.followed.Followed.{Followed}
-pub use Rattle.mobile_core.specs.declared.frame_clock.FrameClock.{FrameClock}
-pub use Rattle.mobile_core.specs.declared.frame_receiver.FrameReceiver.{FrameReceiver}
+pub use Rattle.reception.specs.declared.frame_clock.FrameClock.{FrameClock}
+pub use Rattle.mobile_core.specs.declared.channel_receiver.ChannelReceiver.{ChannelReceiver}
 pub use Rattle.mobile_core.specs.declared.mobile.Mobile.{Mobile}
 pub use Rattle.mobile_core.specs.declared.paging_receiver.PagingReceiver.{PagingReceiver}
-pub use Rattle.mobile_core.specs.declared.scrambling.Scrambling.{Scrambling}
+pub use Rattle.reception.specs.declared.scrambling.Scrambling.{Scrambling}
 pub use Rattle.mobile_core.specs.declared.sets_keeper.SetsKeeper.{SetsKeeper}
 pub use Rattle.mobile_core.specs.declared.sync_receiver.SyncReceiver.{SyncReceiver}
 pub use Rattle.mobile_core.specs.declared.traffic_receiver.TrafficReceiver.{TrafficReceiver}

@@ -2,11 +2,11 @@
 use Rattle.mobile_core.proofs.Common.{◌≡◌, ℕ, ◌+◌, ◌*◌, ◌<◌, ◌≤◌, Bool, true, false, List, [], ◌∷◌, ◌++◌, map, filter, length, refl, sym}
 use Rattle.mobile_core.proofs.Common.{ap, ◌∙◌, arith, ℤ, Option, length-append, map-append, places, Sample, after, frame_chips, scrambling}
 use Rattle.mobile_core.proofs.Common.{channel_stream, has_power_control, mask_of, state_at, IsAt, IsDueAt, clock_from, first_frame}
-use Rattle.mobile_core.proofs.Common.{frame_come, frame_heard, HasGiven, AreNear, unscrambled, frames_within, power_of, soft_frame}
-use Rattle.mobile_core.proofs.Common.{soft_frames, raw_at, is_in_file, stream_end, Tuning, Channel, FrameReceiver, Mark, PowerControl}
+use Rattle.mobile_core.proofs.Common.{frame_come, frame_heard, frame_passed, HasGiven, Form, Data, Finger, softs, frame_start, AreNear, unscrambled, frames_within, power_of, soft_frame}
+use Rattle.mobile_core.proofs.Common.{soft_frames, raw_at, is_in_file, stream_end, Tuning, Channel, ChannelReceiver, Mark, PowerControl}
 use Rattle.mobile_core.proofs.Common.{SoftFrame}
-use Rattle.mobile_core.proofs.ClockSteps.{before_next, clock_come, clock_heard, clock_more, clock_new, due_inside, from_next}
-use Rattle.heard_events.proofs.FrameTimes.{known_between, outside_low}
+use Rattle.reception.proofs.ClockSteps.{before_next, clock_come, clock_heard, clock_more, clock_new, due_inside, from_next}
+use Rattle.rake_finger.proofs.FrameTimes.{known_between, outside_low}
 use Rattle.heard_events.proofs.ChannelFrames.{form_by, waits_by, scrambled_by, known_before, frame_sooner}
 use Rattle.chip_core.proofs.Ranges as ranges
 
@@ -21,25 +21,35 @@ frame_by number end descrambled' power = record {
 
 module _ (t : Tuning) (channel : Channel) (m : Mark) where
   -- it is made of these parts
-  module _ {r : FrameReceiver} {n : ℕ} (has : HasGiven t channel m r n) where
+  module _ {r : ChannelReceiver} {n : ℕ} (has : HasGiven t channel m r n) where
+    pub raw_is : (samples : List Sample) →
+        softs samples r.frames.fingers Data r.frames.clock.start
+        ≡ raw_at t channel m samples r.frames.clock.have
+    raw_is samples =
+        let s = channel_stream t channel m in
+        let u : ℕ = frame_start s r.frames.clock.have in
+        ap (softs samples r.frames.fingers Data) has.clocked.start_is
+        ∙ ap (λ (fs : List Finger). softs samples fs Data u) has.fingers_are
+        ∙ ap (λ (f : Form). softs samples s.fingers f u) (sym (form_by t channel m))
+
     pub frame_is : (samples : List Sample) (number end : ℕ) (raw descrambled' : List ℤ)
-        (power : Option PowerControl) → number ≡ r.clock.have → end ≡ r.clock.end →
-        raw ≡ raw_at t channel m samples r.clock.have →
+        (power : Option PowerControl) → number ≡ r.frames.clock.have → end ≡ r.frames.clock.end →
+        raw ≡ raw_at t channel m samples r.frames.clock.have →
         descrambled'
         ≡ unscrambled
-        (scrambling (after r.scrambling.state (24576 * number)) r.scrambling.mask) raw →
+        (scrambling (after r.frames.scrambling.state (24576 * number)) r.frames.scrambling.mask) raw →
         power ≡ power_of channel m number raw →
-        frame_by number end descrambled' power ≡ soft_frame t channel m samples r.clock.have
+        frame_by number end descrambled' power ≡ soft_frame t channel m samples r.frames.clock.have
     unfolding stream_end
     frame_is samples number end raw descrambled' power number_is end_is soft descrambled_is power_is =
         let s = channel_stream t channel m in
-        let k : ℕ = r.clock.have in
+        let k : ℕ = r.frames.clock.have in
         let heard : List ℤ = raw_at t channel m samples k in
-        let bits : scrambling (after r.scrambling.state (24576 * number)) r.scrambling.mask
+        let bits : scrambling (after r.frames.scrambling.state (24576 * number)) r.frames.scrambling.mask
         ≡ s.scrambling k =
-        ap (λ (i : ℕ). scrambling (after r.scrambling.state (24576 * i)) r.scrambling.mask)
+        ap (λ (i : ℕ). scrambling (after r.frames.scrambling.state (24576 * i)) r.frames.scrambling.mask)
         number_is
-        ∙ ap (λ (state : ℕ). scrambling state r.scrambling.mask) (has.state_is k)
+        ∙ ap (λ (state : ℕ). scrambling state r.frames.scrambling.mask) (has.state_is k)
         ∙ ap (scrambling (state_at channel m k)) has.mask_is
         ∙ scrambled_by t channel m k in
         let turn = descrambled_is
@@ -55,26 +65,26 @@ module _ (t : Tuning) (channel : Channel) (m : Mark) where
         ∙ ap (frame_by k (stream_end s k) (unscrambled (s.scrambling k) heard)) powered
 
   -- ONE FRAME AFTER ANOTHER
-  module _ {r : FrameReceiver} {n : ℕ} (has : HasGiven t channel m r n)
-      (given : r.clock.have ≡ r.clock.next) where
-    none_due : ¬ IsDueAt t.count r.clock
+  module _ {r : ChannelReceiver} {n : ℕ} (has : HasGiven t channel m r n)
+      (given : r.frames.clock.have ≡ r.frames.clock.next) where
+    none_due : ¬ IsDueAt t.count r.frames.clock
     none_due = λ d. omega (arith, d.0, given)
 
     -- where the next frame ends later, all that end within these samples were given
-    all_given : (samples : List Sample) → n < r.clock.end →
+    all_given : (samples : List Sample) → n < r.frames.clock.end →
         frames_within t channel m samples n
         ≡ map (soft_frame t channel m samples)
-        (filter (is_in_file t.count (channel_stream t channel m)) (places r.clock.next))
+        (filter (is_in_file t.count (channel_stream t channel m)) (places r.frames.clock.next))
     unfolding frames_within
     all_given samples waits =
         let s = channel_stream t channel m in
         let is = has.clocked in
         ap (map (soft_frame t channel m samples))
-        (known_before s is.timed (form_by t channel m) n r.clock.next (before_next is)
+        (known_before s is.timed (form_by t channel m) n r.frames.clock.next (before_next is)
         (from_next is (n + 1) none_due (omega (arith, waits))))
 
     -- so many more samples, up to the end of the next frame
-    given_more : (n' : ℕ) → n ≤ n' → n' ≤ t.count → n' ≤ r.clock.end →
+    given_more : (n' : ℕ) → n ≤ n' → n' ≤ t.count → n' ≤ r.frames.clock.end →
         HasGiven t channel m r n'
     given_more n' more most ends = record {
       clocked = clock_more has.clocked n' none_due more most ends;
@@ -87,24 +97,24 @@ module _ (t : Tuning) (channel : Channel) (m : Mark) where
     -- the frames given stay where more samples follow
     given_sooner : (xs ys : List Sample) → n ≡ length xs →
         map (soft_frame t channel m (xs ++ ys))
-        (filter (is_in_file t.count (channel_stream t channel m)) (places r.clock.next))
+        (filter (is_in_file t.count (channel_stream t channel m)) (places r.frames.clock.next))
         ≡ map (soft_frame t channel m xs)
-        (filter (is_in_file t.count (channel_stream t channel m)) (places r.clock.next))
+        (filter (is_in_file t.count (channel_stream t channel m)) (places r.frames.clock.next))
     given_sooner xs ys long =
         let s = channel_stream t channel m in
         let is = has.clocked in
         ranges.map_ext_filter_places (is_in_file t.count s) (soft_frame t channel m (xs ++ ys))
-        (soft_frame t channel m xs) r.clock.next
+        (soft_frame t channel m xs) r.frames.clock.next
         (λ k below inside.
         let known = before_next is k below inside in
         let between = known_between s is.timed k inside in
         frame_sooner t channel m xs ys k inside (omega (arith, known, between.low, long)))
 
-module _ {t : Tuning} {channel : Channel} {m : Mark} {r : FrameReceiver} {n : ℕ}
-    (has : HasGiven t channel m r n) (given : r.clock.have ≡ r.clock.next) where
+module _ {t : Tuning} {channel : Channel} {m : Mark} {r : ChannelReceiver} {n : ℕ}
+    (has : HasGiven t channel m r n) (given : r.frames.clock.have ≡ r.frames.clock.next) where
   -- more samples, in which no frame ends
   pub none_more : (xs ys : List Sample) (n' : ℕ) → n ≡ length xs → n ≤ n' → n' ≤ t.count →
-      n' < r.clock.end →
+      n' < r.frames.clock.end →
       frames_within t channel m (xs ++ ys) n' ≡ frames_within t channel m xs n
   none_more xs ys n' long more most waits =
       let on = given_more t channel m has given n' more most (omega (arith, waits)) in
@@ -112,7 +122,7 @@ module _ {t : Tuning} {channel : Channel} {m : Mark} {r : FrameReceiver} {n : �
       ∙ given_sooner t channel m has given xs ys long
       ∙ sym (all_given t channel m has given xs (omega (arith, more, waits)))
 
-  come_due : IsDueAt t.count (frame_come r.clock)
+  come_due : IsDueAt t.count (frame_come r.frames.clock)
   come_due = (
     omega (arith, given),
     λ w.
@@ -121,8 +131,8 @@ module _ {t : Tuning} {channel : Channel} {m : Mark} {r : FrameReceiver} {n : �
   )
 
   -- the next frame has ended, and is given
-  pub frame_given : r.clock.end ≡ n →
-      HasGiven t channel m (record r { clock = frame_heard (frame_come r.clock) }) n
+  pub frame_given : r.frames.clock.end ≡ n →
+      HasGiven t channel m (frame_passed r) n
   frame_given ended = record {
     clocked = clock_heard (clock_come has.clocked (none_due t channel m has given) ended) come_due;
     fingers_are = has.fingers_are;
@@ -131,28 +141,28 @@ module _ {t : Tuning} {channel : Channel} {m : Mark} {r : FrameReceiver} {n : �
     power_is = has.power_is;
   }
 
-  here_inside : r.clock.end ≡ n →
-      is_in_file t.count (channel_stream t channel m) r.clock.next ≡ true
+  here_inside : r.frames.clock.end ≡ n →
+      is_in_file t.count (channel_stream t channel m) r.frames.clock.next ≡ true
   here_inside ended =
       due_inside (clock_come has.clocked (none_due t channel m has given) ended) come_due
 
-module _ {t : Tuning} {channel : Channel} {m : Mark} {r : FrameReceiver} {n : ℕ}
-    (has : HasGiven t channel m r n) (given : r.clock.have ≡ r.clock.next) where
+module _ {t : Tuning} {channel : Channel} {m : Mark} {r : ChannelReceiver} {n : ℕ}
+    (has : HasGiven t channel m r n) (given : r.frames.clock.have ≡ r.frames.clock.next) where
   -- more samples, up to the end of the next frame
-  pub one_more : (xs ys : List Sample) → n ≡ length xs → n < r.clock.end →
-      r.clock.end ≤ t.count →
-      frames_within t channel m (xs ++ ys) r.clock.end
-      ≡ frames_within t channel m xs n ++ soft_frame t channel m (xs ++ ys) r.clock.have ∷ []
+  pub one_more : (xs ys : List Sample) → n ≡ length xs → n < r.frames.clock.end →
+      r.frames.clock.end ≤ t.count →
+      frames_within t channel m (xs ++ ys) r.frames.clock.end
+      ≡ frames_within t channel m xs n ++ soft_frame t channel m (xs ++ ys) r.frames.clock.have ∷ []
   one_more xs ys long waits most =
       let s = channel_stream t channel m in
-      let end : ℕ = r.clock.end in
-      let next : ℕ = r.clock.next in
+      let end : ℕ = r.frames.clock.end in
+      let next : ℕ = r.frames.clock.next in
       let frame : ℕ → SoftFrame = soft_frame t channel m (xs ++ ys) in
       let on = given_more t channel m has given end (omega (arith, waits)) most (omega arith) in
       let behind = frame_given on given refl in
       let some = has.clocked.timed.some in
       let chips = ap frame_chips has.clocked.form_is in
-      let later : end < r.clock.end + frame_chips r.clock.form = omega (arith, some, chips) in
+      let later : end < r.frames.clock.end + frame_chips r.frames.clock.form = omega (arith, some, chips) in
       all_given t channel m behind (ap (λ (k : ℕ). k + 1) given) (xs ++ ys) later
       ∙ ap (map frame)
       (ranges.filter-places-more (is_in_file t.count s) next (here_inside on given refl))
@@ -163,31 +173,31 @@ module _ {t : Tuning} {channel : Channel} {m : Mark} {r : FrameReceiver} {n : �
       ∙ ap (λ (k : ℕ). frames_within t channel m xs n ++ frame k ∷ []) (sym given)
 
   -- no frame was given before the first ends
-  pub none_within : r.clock.next ≡ r.clock.low → n < r.clock.end → (samples : List Sample) →
+  pub none_within : r.frames.clock.next ≡ r.frames.clock.low → n < r.frames.clock.end → (samples : List Sample) →
       frames_within t channel m samples n ≡ []
   none_within first waits samples =
       let s = channel_stream t channel m in
       all_given t channel m has given samples waits
       ∙ ap (map (soft_frame t channel m samples))
-      (ranges.filter_none_places (is_in_file t.count s) r.clock.next
+      (ranges.filter_none_places (is_in_file t.count s) r.frames.clock.next
       (λ k below. outside_low s has.clocked.timed k (omega (arith, below, first))))
 
 -- BEFORE ANY FRAME ENDS
-pub none_given : (t : Tuning) (channel : Channel) (m : Mark) (r : FrameReceiver) (taken : ℕ) →
+pub none_given : (t : Tuning) (channel : Channel) (m : Mark) (r : ChannelReceiver) (taken : ℕ) →
     AreNear (channel_stream t channel m).fingers →
-    r.clock
+    r.frames.clock
     ≡ clock_from (channel_stream t channel m).fingers (channel_stream t channel m).form
     (channel_stream t channel m).waits (channel_stream t channel m).first
     (first_frame (channel_stream t channel m).fingers (channel_stream t channel m).first) →
-    r.fingers ≡ (channel_stream t channel m).fingers →
-    ((k : ℕ) → after r.scrambling.state (24576 * k) ≡ state_at channel m k) →
-    r.scrambling.mask ≡ mask_of channel m → r.power ≡ has_power_control channel →
-    taken ≤ t.count → taken ≤ r.clock.end → HasGiven t channel m r taken
+    r.frames.fingers ≡ (channel_stream t channel m).fingers →
+    ((k : ℕ) → after r.frames.scrambling.state (24576 * k) ≡ state_at channel m k) →
+    r.frames.scrambling.mask ≡ mask_of channel m → r.power ≡ has_power_control channel →
+    taken ≤ t.count → taken ≤ r.frames.clock.end → HasGiven t channel m r taken
 none_given t channel m r taken near clock fingers state mask power within most =
     let s = channel_stream t channel m in
-    let same : r.clock.next ≡ r.clock.have = rw clock refl in
-    let none : ¬ IsDueAt t.count r.clock = λ d. omega (arith, same, d.0) in
-    let new : IsAt t.count s r.clock 0 = rw clock (clock_new t.count s near) in
+    let same : r.frames.clock.next ≡ r.frames.clock.have = rw clock refl in
+    let none : ¬ IsDueAt t.count r.frames.clock = λ d. omega (arith, same, d.0) in
+    let new : IsAt t.count s r.frames.clock 0 = rw clock (clock_new t.count s near) in
     record {
       clocked = clock_more new taken none (omega arith) within most;
       fingers_are = fingers;
@@ -197,34 +207,34 @@ none_given t channel m r taken near clock fingers state mask power within most =
     }
 
 -- A STEP
-module _ {t : Tuning} {channel : Channel} {m : Mark} {r : FrameReceiver} (heard more : List Sample)
-    (has : HasGiven t channel m r (length heard)) (given : r.clock.have ≡ r.clock.next)
+module _ {t : Tuning} {channel : Channel} {m : Mark} {r : ChannelReceiver} (heard more : List Sample)
+    (has : HasGiven t channel m r (length heard)) (given : r.frames.clock.have ≡ r.frames.clock.next)
     (most : length heard + length more ≤ t.count) where
   long : length (heard ++ more) ≡ length heard + length more
   long = length-append heard more
 
   -- without a frame
-  pub step_none : length heard + length more < r.clock.end →
+  pub step_none : length heard + length more < r.frames.clock.end →
       HasGiven t channel m r (length (heard ++ more))
       × (soft_frames t channel m (heard ++ more) ≡ soft_frames t channel m heard)
   step_none waits =
       let low : length heard ≤ length (heard ++ more) = omega (arith, long) in
       let high : length (heard ++ more) ≤ t.count = omega (arith, long, most) in
-      let before : length (heard ++ more) < r.clock.end = omega (arith, long, waits) in (
+      let before : length (heard ++ more) < r.frames.clock.end = omega (arith, long, waits) in (
         given_more t channel m has given (length (heard ++ more)) low high
             (omega (arith, before)),
         none_more has given heard more (length (heard ++ more)) refl low high before,
       )
 
   -- with the frame that ends there
-  pub step_frame : length heard < r.clock.end → length heard + length more ≡ r.clock.end →
+  pub step_frame : length heard < r.frames.clock.end → length heard + length more ≡ r.frames.clock.end →
       HasGiven t channel m r (length (heard ++ more))
-      × HasGiven t channel m (record r { clock = frame_heard (frame_come r.clock) })
+      × HasGiven t channel m (frame_passed r)
       (length (heard ++ more))
       × (soft_frames t channel m (heard ++ more)
-      ≡ soft_frames t channel m heard ++ soft_frame t channel m (heard ++ more) r.clock.have ∷ [])
+      ≡ soft_frames t channel m heard ++ soft_frame t channel m (heard ++ more) r.frames.clock.have ∷ [])
   step_frame waits ended =
-      let all : length (heard ++ more) ≡ r.clock.end = long ∙ ended in
+      let all : length (heard ++ more) ≡ r.frames.clock.end = long ∙ ended in
       let on = given_more t channel m has given (length (heard ++ more))
       (omega (arith, all, waits)) (omega (arith, long, most)) (omega (arith, all)) in (
         on,

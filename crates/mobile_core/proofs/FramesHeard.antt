@@ -9,7 +9,7 @@ use Rattle.mobile_core.proofs.Common.{raw_softs, HasTold, HearsWith, IsSoundTraf
 use Rattle.mobile_core.proofs.Common.{chips_behind, frame_known, frame_state, has_frame, replaced_in, traffic_start, Tuning, Event, Leg}
 use Rattle.mobile_core.proofs.Common.{Mark, SetsKeeper, Traffic, SpelledSignal, TrafficReceiver}
 use Rattle.mobile_core.specs.TrafficReceiving.{fingers_in}
-use Rattle.heard_events.proofs.CloseFingers.{close_ends}
+use Rattle.rake_finger.proofs.CloseFingers.{close_ends}
 use Rattle.heard_events.proofs.FrameBounds.{AreCloseAll, has_here, known_high, known_is, known_later, known_low}
 use Rattle.heard_events.proofs.FrameGrowth.{signals_sooner}
 use Rattle.heard_events.proofs.TrafficGrowth.{heard_grown, heard_none, told_at, told_first, told_is, told_left, told_left_all}

@@ -1,10 +1,4 @@
 pub mod Common
-pub mod Progresses
-pub mod SoftSums
-pub mod Descrambled
-pub mod FingerLists
-pub mod ClockSteps
-pub mod Received
 pub mod SyncHeard
 pub mod PagesHeard
 pub mod LegLists

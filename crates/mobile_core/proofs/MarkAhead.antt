@@ -4,7 +4,7 @@ use Rattle.mobile_core.proofs.Common.{nat_le, Some, flat_map, list_all, list_any
 use Rattle.mobile_core.proofs.Common.{Sample, events_at, at_of, first_of, mark, marks_at, sets_mark, AreNear, Parts, Stands, events_left}
 use Rattle.mobile_core.proofs.Common.{Tuning, sync_stream, Event, Pilot, Mark, subst, Option, None, option_or, IsDueAt, mark_before}
 use Rattle.mobile_core.proofs.Common.{IsSoundSync, HearsSync, SyncReceiver}
-use Rattle.mobile_core.proofs.ClockSteps.{before_next, due_inside, due_known}
+use Rattle.reception.proofs.ClockSteps.{before_next, due_inside, due_known}
 use Rattle.heard_events.proofs.Growth.{sync_known}
 use Rattle.heard_events.proofs.MarkLater.{mark_later}
 use Rattle.heard_events.proofs.MarkStays.{mark_set, mark_told}

@@ -4,7 +4,7 @@ use Rattle.mobile_core.proofs.Common.{Some, None, IfSome, is_some, nat_lt, ForSo
 use Rattle.mobile_core.proofs.Common.{page_event, pages_behind, FollowsPages, HearsPages, IsUnpaged, paging_due, paging_left}
 use Rattle.mobile_core.proofs.Common.{paging_events_left, HearsBit, HearsPaging, IsSoundPaging, IsSomeAnd, bits_heard, length-append, subst}
 use Rattle.mobile_core.proofs.Common.{pages_left, Tuning, Event, FrameClock, Mark, PagingReceiver, SpelledPage}
-use Rattle.mobile_core.proofs.ClockSteps.{before_next, from_next}
+use Rattle.reception.proofs.ClockSteps.{before_next, from_next}
 use Rattle.mobile_core.proofs.GoesOn.{GoesOn, never}
 use Rattle.heard_events.proofs.PageGrowth.{pages_left_all, pages_left_none, pages_none}
 use Rattle.mobile_core.proofs.PagesHeard as pages

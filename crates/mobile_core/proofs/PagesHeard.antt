@@ -7,10 +7,10 @@ use Rattle.mobile_core.proofs.Common.{bits_up_to, page_at, page_in, pages_from, 
 use Rattle.mobile_core.proofs.Common.{paging_stream, Receives, Stream, frame_own_bits, Tuning, Continued, Mark, PagingReceiver, SpelledPage}
 use Rattle.std.proofs.lemmas.List.{append-nil}
 use Rattle.paging_message.specs.HalfFrames.{StandsFor}
-use Rattle.mobile_core.proofs.ClockSteps.{due_inside, due_known, before_next}
+use Rattle.reception.proofs.ClockSteps.{due_inside, due_known, before_next}
 use Rattle.heard_events.proofs.PageBits.{bits_before_more, bits_before_none, bits_before_sooner}
 use Rattle.heard_events.proofs.PageGrowth.{left_next, pages_behind_last, pages_next}
-use Rattle.mobile_core.proofs.Received.{receives_heard, receives_more, receives_new}
+use Rattle.reception.proofs.Received.{receives_heard, receives_more, receives_new}
 
 take-none : (bits : List Bool) → take 0 bits ≡ []
 take-none [] = refl

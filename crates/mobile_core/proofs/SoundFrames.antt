@@ -6,7 +6,7 @@ use Rattle.mobile_core.proofs.Common.{IsSoundKeeper, coming_place, frame_end, He
 use Rattle.mobile_core.proofs.Common.{SetsKeeper, Traffic, SpelledSignal, TrafficReceiver}
 use Rattle.mobile_core.specs.LegSofts.{IsHeldFrom}
 use Rattle.mobile_core.specs.TrafficReceiving.{fingers_in}
-use Rattle.heard_events.proofs.CloseFingers.{close_ends, close_in_ring, close_later}
+use Rattle.rake_finger.proofs.CloseFingers.{close_ends, close_in_ring, close_later}
 use Rattle.mobile_core.proofs.LegFingers.{all_some, legs_are_close}
 
 module _ {r : TrafficReceiver} (is : IsSoundTraffic r) where

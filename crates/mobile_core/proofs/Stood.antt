@@ -10,10 +10,10 @@ use Rattle.mobile_core.proofs.Common.{Followed, Mark, SyncReceiver, flat_map-pla
 use Rattle.std.proofs.lemmas.List.{append-nil}
 use Rattle.mobile_core.proofs.ChannelsFollowed.{ends_later, followed_more, goes_on}
 use Rattle.heard_events.proofs.FollowedEvents.{followed_behind, told_unset}
-use Rattle.mobile_core.proofs.ClockSteps.{before_next, from_next, due_inside}
+use Rattle.reception.proofs.ClockSteps.{before_next, from_next, due_inside}
 use Rattle.heard_events.proofs.EventsGrown.{events_at_by}
 use Rattle.mobile_core.proofs.EventsCome.{events_grown}
-use Rattle.heard_events.proofs.FrameTimes.{known_between, outside_low}
+use Rattle.rake_finger.proofs.FrameTimes.{known_between, outside_low}
 use Rattle.heard_events.proofs.Growth.{left_all, left_none}
 use Rattle.heard_events.proofs.MarkGrowth.{mark_before_more, mark_before_none, mark_is}
 use Rattle.mobile_core.proofs.MarkAhead.{opens_later}

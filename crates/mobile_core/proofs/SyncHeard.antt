@@ -6,15 +6,15 @@ use Rattle.mobile_core.proofs.Common.{frames_with, first_of, marks_of, marks_at,
 use Rattle.mobile_core.proofs.Common.{frame_start, frame_own_bits, is_in_file, frames_before, sync_capsule_at, heard_in, heard_at}
 use Rattle.mobile_core.proofs.Common.{events_of, HearsSync, HearsNext, IsTimed, stream_end, Tuning, sync_stream, Continued, Event, Mark}
 use Rattle.mobile_core.proofs.Common.{SpelledMessage, SyncReceiver}
-use Rattle.mobile_core.proofs.ClockSteps.{due_inside, due_known, before_next}
-use Rattle.heard_events.proofs.FrameTimes.{outside_low}
+use Rattle.reception.proofs.ClockSteps.{due_inside, due_known, before_next}
+use Rattle.rake_finger.proofs.FrameTimes.{outside_low}
 use Rattle.heard_events.proofs.Growth.{frames_before_sooner, frames_before_more, frames_before_none, left_next}
 use Rattle.heard_events.proofs.MarkGrowth.{mark_is, mark_before_none, mark_before_more, mark_before_sooner}
 use Rattle.heard_events.proofs.Opened.{frames_open-none, frames_open-more}
-use Rattle.mobile_core.proofs.Received.{receives_more, receives_heard}
+use Rattle.reception.proofs.Received.{receives_more, receives_heard}
 use Rattle.heard_events.proofs.MarkTold.{noted_event}
 use Rattle.sync_message.specs.Framing as framing
-use Rattle.mobile_core.proofs.Progresses as progress
+use Rattle.reception.proofs.Progresses as progress
 
 either : (m n : Option Mark) → is_some (option_or m n) ≡ (is_some m || is_some n)
 either None n = refl

@@ -1,10 +1,6 @@
-pub mod Progress
-pub mod Softs
-pub mod Clocks
 pub mod Sound
 pub mod LegSofts
 pub mod SetsKeeping
-pub mod Receiving
 pub mod SyncReceiving
 pub mod PagingReceiving
 pub mod TrafficReceiving

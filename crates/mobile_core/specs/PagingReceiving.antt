@@ -6,12 +6,12 @@ use Rattle.chip_core.specs.declared.sample.Sample.{Sample}
 use Rattle.long_code.specs.LongCode.{paging_mask}
 use Rattle.paging_message.specs.HalfFrames as half_frames
 use Rattle.rake_finger.specs.declared.form.Form.TheVariants.{Data}
-use Rattle.mobile_core.specs.Clocks.{IsDueAt, frame_heard}
+use Rattle.reception.specs.Clocks.{IsDueAt, frame_heard}
 use Rattle.heard_events.specs.Left.{pages_left}
 use Rattle.heard_events.specs.PagingEvents.{bits_before}
 use Rattle.heard_events.specs.PagingStreams.{paging_rate, paging_stream}
-use Rattle.mobile_core.specs.Receiving.{Receives}
-use Rattle.mobile_core.specs.Sound.{IsSoundChannel}
+use Rattle.reception.specs.Receiving.{Receives}
+use Rattle.reception.specs.Sound.{IsSoundChannel}
 use Rattle.heard_events.specs.Streams.{frame_own_bits}
 use Rattle.heard_events.specs.Tuning.{Tuning}
 use Rattle.heard_events.specs.declared.mark.Mark.{Mark}

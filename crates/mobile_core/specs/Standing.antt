@@ -7,7 +7,7 @@ use Rattle.chip_core.specs.declared.check_form.CheckForm.{CheckForm}
 use Rattle.chip_core.specs.declared.sample.Sample.{Sample}
 use Rattle.pilot_search.specs.declared.sweeping.Best.{Best}
 use Rattle.rake_finger.specs.Held.{Held, HoldsLast}
-use Rattle.mobile_core.specs.Clocks.{IsDueAt}
+use Rattle.reception.specs.Clocks.{IsDueAt}
 use Rattle.heard_events.specs.Events.{events}
 use Rattle.heard_events.specs.Given.{listed, at_of}
 use Rattle.heard_events.specs.Left.{pilot_left, sync_events_left}

@@ -7,7 +7,7 @@ use Rattle.sync_message.specs.Framing as framing
 use Rattle.heard_events.specs.Given.{listed}
 use Rattle.heard_events.specs.Left.{sync_events_left}
 use Rattle.heard_events.specs.Marks.{frames_open, mark_before, sets_mark}
-use Rattle.mobile_core.specs.Receiving.{Receives}
+use Rattle.reception.specs.Receiving.{Receives}
 use Rattle.heard_events.specs.SyncEvents.{frames_before}
 use Rattle.heard_events.specs.Tuning.{Tuning, sync_stream}
 use Rattle.heard_events.specs.declared.event.Event.{Event}

@@ -11,14 +11,15 @@ use Rattle.quality_bits.specs.Pieces.{StandsFor}
 use Rattle.rake_finger.specs.declared.finger.Finger.{Finger}
 use Rattle.rake_finger.specs.declared.form.Form.TheVariants.{Data}
 use Rattle.heard_events.specs.Close as closes
-use Rattle.heard_events.specs.Close.{AreClose, paths_close, places_in}
+use Rattle.rake_finger.specs.Near.{AreClose}
+use Rattle.heard_events.specs.Close.{paths_close, places_in}
 use Rattle.heard_events.specs.Left.{frames_left_of, messages_left_of, sets_left_of}
 use Rattle.heard_events.specs.Legs.{all_fingers, legs_of}
 use Rattle.heard_events.specs.Moments.{heard_from, kept_to, legs_by, moment_of, moment_place}
 use Rattle.heard_events.specs.Noted.{all_noted, noted_with}
 use Rattle.mobile_core.specs.SetsKeeping.{IsSoundKeeper, coming_place}
 use Rattle.heard_events.specs.Signaling.{message_events, signals_before}
-use Rattle.heard_events.specs.Streams.{frame_end}
+use Rattle.rake_finger.specs.Streams.{frame_end}
 use Rattle.heard_events.specs.TrafficEvents.{all_sums, raw_softs}
 use Rattle.heard_events.specs.TrafficStreams.{frame_known, frame_state, traffic_start}
 use Rattle.heard_events.specs.Tuning.{Tuning}
@@ -27,7 +28,7 @@ use Rattle.heard_events.specs.declared.mark.Mark.{Mark}
 use Rattle.heard_events.specs.declared.leg.Leg.{Leg}
 use Rattle.chip_core.specs.declared.assignment.Traffic.{Traffic}
 use Rattle.heard_events.specs.SpelledMessages.{SpelledSignal}
-use Rattle.mobile_core.specs.declared.scrambling.Scrambling.{Scrambling}
+use Rattle.reception.specs.declared.scrambling.Scrambling.{Scrambling}
 use Rattle.mobile_core.specs.declared.traffic_receiver.TrafficReceiver.{TrafficReceiver}
 
 -- THE EVENTS THAT ARE LEFT

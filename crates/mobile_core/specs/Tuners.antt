@@ -6,7 +6,7 @@ use Rattle.chip_core.specs.declared.sample.Sample.{Sample}
 use Rattle.rake_finger.specs.Held.{HoldsLast}
 use Rattle.mobile_core.specs.FrameReceiving.{HasGiven}
 use Rattle.heard_events.specs.SoftFrames.{soft_frames}
-use Rattle.mobile_core.specs.Softs.{frame_most}
+use Rattle.reception.specs.Softs.{frame_most}
 use Rattle.heard_events.specs.Tuning.{Tuning}
 use Rattle.heard_events.specs.declared.channel.Channel.{Channel}
 use Rattle.heard_events.specs.declared.mark.Mark.{Mark}

@@ -1,130 +1,17 @@
-//! The fingers that receive a channel of the reference base station, and where their frames lie.
+//! The fingers that receive a traffic channel from active pilots.
 
-ghost use Rattle.std.specs.Prelude.{◌≡◌, ◌<◌, ◌≤◌, ◌+◌, ◌^◌, ◌++◌, ◌∷◌, [], true, pos, ◌+ℤ◌};
-ghost use Rattle.std.specs.Prelude.{int_le, slice_get, Some, length, take};
-ghost use Rattle.heard_events.specs.Close.{all_close, fingers_in, is_close, legs_close, legs_rows};
+ghost use Rattle.std.specs.Prelude.{◌≡◌, ◌<◌, ◌≤◌, ◌+◌, ◌++◌, ◌∷◌, [], true, length, take};
+ghost use Rattle.rake_finger.specs.Near.{all_close, have_rows, is_close};
+ghost use Rattle.heard_events.specs.Close.{fingers_in, legs_close, legs_rows};
 ghost use Rattle.heard_events.specs.Close.{places_for, places_in};
 ghost use Rattle.heard_events.specs.Legs.{all_fingers, leg_fingers};
-ghost use Rattle.heard_events.specs.Near.{is_near, AreNear, have_rows, all_begun};
-ghost use Rattle.heard_events.specs.Streams.{finger_end, frame_end};
-ghost use Rattle.heard_events.specs.Tuning.{finger_of, fingers_of, modulo_code};
-ghost use Rattle.rake_finger.specs.Soft.{frame_chips, symbols};
 
 use crate::legs::Legs;
 use chip_core::Phase;
-use chip_core::air::{DATA_FRAME_CHIPS, DATA_SYMBOLS, SYNC_FRAME_CHIPS, SYNC_SYMBOLS};
 use heard_events::Leg;
 use pilot_search::Near;
-use rake_finger::{Finger, Fingers, Form};
-
-/// How many chips a frame has.
-pub(crate) fn frame_chips(form: Form) -> u64
-    ensures value { result ≡ frame_chips form }
-    ensures least { 256 ≤ result }
-    ensures most { result ≤ 32768 }
-{
-    match form {
-        Form::Sync => SYNC_FRAME_CHIPS,
-        Form::Data => DATA_FRAME_CHIPS,
-    }
-}
-
-/// How many symbols a frame has.
-pub(crate) fn frame_symbols(form: Form) -> usize
-    ensures value { result ≡ symbols form }
-    ensures most { result ≤ 384 }
-{
-    match form {
-        Form::Sync => SYNC_SYMBOLS,
-        Form::Data => DATA_SYMBOLS,
-    }
-}
-
-/// The phase so many chips above another, modulo the period of the codes.
-fn phase_above(phase: Phase, delta: i8) -> Phase
-    ensures { result ≡ modulo_code (pos phase +ℤ delta) }
-{
-    let number = (i32::from(phase.get()) + i32::from(delta)).rem_euclid(32768);
-    Phase::new(number as u16).unwrap()
-}
-
-/// The finger that receives a row so many chips earlier than at a phase.
-fn finger_at(row: u8, phase: Phase, delta: i8) -> Finger
-    ensures value { result ≡ finger_of row phase delta }
-    ensures near { is_near result.delta ≡ true }
-    ensures row { result.row ≡ row }
-{
-    Finger {
-        phase: phase_above(phase, delta),
-        delta: i16::from(delta),
-        row,
-    }
-}
-
-/// The fingers that receive a row at a phase and near it.
-pub(crate) fn reference_fingers(row: u8, phase: Phase, near: &Near) -> Fingers
-    requires row { row < 64 }
-    requires least { 1 ≤ near.now.count }
-    requires most { near.now.count ≤ 3 }
-    requires first { slice_get near.now.deltas 0 ≡ Some (pos 0) }
-    ensures value { result ≡ fingers_of row phase (take near.now.count near.now.deltas) }
-    ensures near { AreNear result }
-    ensures rows { have_rows result ≡ true }
-    ensures most { length result ≤ 3 }
-{
-    let mut fingers = Fingers::one(finger_at(row, phase, near.deltas[0]));
-    for i in 1..near.count {
-        let finger = finger_at(row, phase, near.deltas[usize::from(i)]);
-        if fingers.push(finger).is_err() {
-            unreachable!()
-        }
-    }
-    fingers
-}
-
-/// Whether a finger's frame that begins at a reference sample doesn't begin before the file.
-fn has_begun(finger: &Finger, start: u64) -> bool
-    requires { start < 2 ^ 30 }
-    ensures { result ≡ int_le finger.now.delta (pos start) }
-{
-    i64::from(finger.delta) <= start as i64
-}
-
-/// Whether no finger's frame that begins at a reference sample begins before the file.
-pub(crate) fn are_begun(fingers: &Fingers, start: u64) -> bool
-    requires { start < 2 ^ 30 }
-    ensures { result ≡ all_begun start fingers.now }
-{
-    for i in 0..fingers.len() {
-        if !has_begun(&fingers.get(i), start) {
-            return false;
-        }
-    }
-    true
-}
-
-/// Where one finger's frame ends that begins at a reference sample.
-fn end_of(finger: &Finger, form: Form, start: u64) -> u64
-    requires close { is_close finger.now ≡ true }
-    requires start { start < 2 ^ 30 }
-    ensures { result ≡ finger_end form start finger.now }
-{
-    let reference = (start + frame_chips(form)) as i64;
-    (reference - i64::from(finger.delta)) as u64
-}
-
-/// Where the last of the fingers' frames ends that begin at a reference sample.
-pub(crate) fn frames_end(fingers: &Fingers, form: Form, start: u64) -> u64
-    requires close { all_close fingers.now ≡ true }
-    requires start { start < 2 ^ 30 }
-    ensures { result ≡ frame_end fingers.now form start }
-{
-    let mut end = 0;
-    for i in 0..fingers.len() {
-        end = end_of(&fingers.get(i), form, start).max(end);
-    }
-    end
-}
+use rake_finger::{Finger, Fingers};
+use reception::finger_at;
 
 /// A list with one finger more; `None` stands for no finger.
 fn with_finger(fingers: Option<Fingers>, finger: Finger) -> Option<Fingers>

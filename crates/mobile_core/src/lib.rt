@@ -1,11 +1,9 @@
 //! The handset: samples go in, and what it hears comes out as events.
 #![tactic(auto)]
 
-mod continued;
+mod channel_receiver;
 mod fingers;
 mod followed;
-mod frame_clock;
-mod frame_receiver;
 mod hearing;
 mod legs;
 mod measuring;
@@ -15,7 +13,6 @@ mod receive;
 mod scrambling;
 mod sets_keeper;
 mod sets_notes;
-mod softs;
 mod sync_receiver;
 mod traffic_receiver;
 mod traffic_softs;

@@ -72,7 +72,7 @@ impl Mobile {
     ghost use Rattle.mobile_core.specs.Sound.{IsSoundMark};
     ghost use Rattle.mobile_core.specs.FollowedChannels.{EndFrom, IsFollowedDue};
     ghost use Rattle.mobile_core.specs.BehindMark.{IsSoundAssignment};
-    ghost use Rattle.mobile_core.specs.Clocks.{IsDueAt};
+    ghost use Rattle.reception.specs.Clocks.{IsDueAt};
     ghost use Rattle.mobile_core.specs.Standing.{IsDueFor, IsStep, StandsFor, Steps, due_parts};
     ghost use Rattle.mobile_core.specs.Standing.{has_room, ring_room};
     ghost use Rattle.heard_events.specs.Tuning.{Tuning, tuning_by};

@@ -1,16 +1,15 @@
 //! A paging channel as it is received.
 
-use crate::continued::Continued;
-use crate::fingers::reference_fingers;
 use crate::hearing::{event_of_page, page_in};
 use crate::receive::Receive;
-use crate::scrambling::Scrambling;
+use crate::scrambling::paging_scrambling;
 use chip_core::{Bits, CheckForm, Phase};
 use frame_decoder::FrameKind;
 use heard_events::{Event, Mark, Spelled};
 use paging_message::{HalfFramer, PagingMessage};
 use pilot_search::Near;
 use rake_finger::{Form, SampleRing};
+use reception::{Continued, Scrambling, reference_fingers};
 use short_code::Codes;
 use symbol_path::Rate;
 use viterbi::Decoder;
@@ -33,7 +32,7 @@ impl PagingReceiver {
     ghost use Rattle.std.specs.Prelude.{◌≡◌, ◌<◌, ◌≤◌, ◌+◌, List, length};
     ghost use Rattle.std.specs.Prelude.{take, slice_get, Some, pos, is_some, IfSome, nat_lt, ℕ};
     ghost use Rattle.chip_core.specs.declared.sample.Sample.{Sample};
-    ghost use Rattle.mobile_core.specs.Clocks.{IsDueAt};
+    ghost use Rattle.reception.specs.Clocks.{IsDueAt};
     ghost use Rattle.mobile_core.specs.PagingReceiving.{HearsBit, HearsPaging, IsSoundPaging};
     ghost use Rattle.mobile_core.specs.PagingReceiving.{bit_passed, bits_heard};
     ghost use Rattle.heard_events.specs.PagingStreams.{paging_rate, paging_stream};
@@ -89,7 +88,7 @@ impl PagingReceiver {
         PagingReceiver {
             received: Continued::new(fingers, Form::Data, mark.sample),
             rate,
-            scrambling: Scrambling::of_channel(channel, mark),
+            scrambling: paging_scrambling(channel, mark),
             framer: HalfFramer::new(rate),
             frame: Bits::empty(),
             place: 0,
@@ -164,7 +163,7 @@ impl Receive for PagingReceiver {
     ghost use Rattle.std.specs.Prelude.{◌<◌, ◌≤◌};
     ghost use Rattle.mobile_core.specs.BehindMark.{FollowsPages, IsUnpaged, paging_due};
     ghost use Rattle.mobile_core.specs.BehindMark.{paging_left};
-    ghost use Rattle.mobile_core.specs.Clocks.{IsDueAt};
+    ghost use Rattle.reception.specs.Clocks.{IsDueAt};
     ghost use Rattle.mobile_core.specs.PagingReceiving.{IsSoundPaging, bits_heard};
 
     ghost sound = { IsSoundPaging };

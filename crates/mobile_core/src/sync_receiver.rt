@@ -1,7 +1,5 @@
 //! The sync channel as it is received.
 
-use crate::continued::Continued;
-use crate::fingers::reference_fingers;
 use crate::hearing::{event_of, mark_with, message_in, with_frame};
 use chip_core::air::{CODE_CHIPS, SYNC_ROW};
 use chip_core::{CheckForm, Phase};
@@ -9,6 +7,7 @@ use frame_decoder::FrameKind;
 use heard_events::{Event, Mark};
 use pilot_search::Near;
 use rake_finger::{Form, SampleRing};
+use reception::{Continued, reference_fingers};
 use short_code::Codes;
 use sync_message::CapsuleFramer;
 use viterbi::Decoder;
@@ -28,7 +27,7 @@ impl SyncReceiver {
     ghost use Rattle.std.specs.Prelude.{◌≡◌, ◌<◌, ◌≤◌, ◌+◌, ◌^◌, ◌↔◌, IsTrue, List, [], length};
     ghost use Rattle.std.specs.Prelude.{take, slice_get, None, Some, pos, is_some, IfSome};
     ghost use Rattle.chip_core.specs.declared.sample.Sample.{Sample};
-    ghost use Rattle.mobile_core.specs.Clocks.{IsDueAt, frame_heard};
+    ghost use Rattle.reception.specs.Clocks.{IsDueAt, frame_heard};
     ghost use Rattle.heard_events.specs.Given.{at_of};
     ghost use Rattle.mobile_core.specs.Sound.{IsSoundSync};
     ghost use Rattle.mobile_core.specs.SyncReceiving.{HearsNext, HearsSync, message_start};

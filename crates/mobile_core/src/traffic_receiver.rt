@@ -1,12 +1,11 @@
 //! A traffic channel as it is received.
 
-use crate::fingers::{frames_end, leg_fingers};
+use crate::fingers::leg_fingers;
 use crate::hearing::{frame_event, hear_signal, message_event};
 use crate::legs::Legs;
 use crate::receive::Receive;
-use crate::scrambling::Scrambling;
+use crate::scrambling::traffic_scrambling;
 use crate::sets_keeper::SetsKeeper;
-use crate::softs::unscramble;
 use crate::traffic_softs::{leg_softs, power_softs};
 use chip_core::air::{DATA_FRAME_CHIPS, DATA_SYMBOLS, FRAME_OFFSET_CHIPS};
 use chip_core::{CheckForm, Phase, PowerBits, Traffic};
@@ -14,6 +13,7 @@ use frame_decoder::{Decoded, FrameSofts, PowerSofts, commands, traffic_frame};
 use heard_events::{Event, Mark, Spelled};
 use pilot_search::Near;
 use rake_finger::{Form, SampleRing};
+use reception::{Scrambling, frames_end, unscramble};
 use short_code::Codes;
 use symbol_path::power_places;
 use traffic_message::{SignalFramer, TrafficMessage};
@@ -116,7 +116,7 @@ impl TrafficReceiver {
             legs,
             phase,
             near: *near,
-            scrambling: Scrambling::of_traffic(traffic, mark),
+            scrambling: traffic_scrambling(traffic, mark),
             softs: [0; DATA_SYMBOLS],
             power: PowerSofts::empty(),
             framer: SignalFramer::new(),

@@ -2,7 +2,7 @@
 
 ghost use Rattle.mobile_core.specs.Tuned.{IsSoundTuner};
 
-use crate::frame_receiver::FrameReceiver;
+use crate::channel_receiver::ChannelReceiver;
 use chip_core::{Phase, Sample};
 use heard_events::{Channel, Mark, SoftFrame};
 use pilot_search::Near;
@@ -32,7 +32,7 @@ pub struct Tuner {
     /// The last samples.
     ring: SampleRing,
     codes: Codes,
-    receiver: FrameReceiver,
+    receiver: ChannelReceiver,
     ghost sound: { IsSoundTuner count ring receiver },
 }
 
@@ -78,7 +78,7 @@ impl Tuner {
             t.deltas ≡ take near.now.count near.now.deltas → HoldsLast ring heard →
             soft_frames t channel.now mark.now heard ≡ [] }
     {
-        let receiver = FrameReceiver::open(mark, channel, phase, near);
+        let receiver = ChannelReceiver::open(mark, channel, phase, near);
         Tuner {
             count,
             ring,

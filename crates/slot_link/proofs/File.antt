@@ -15,7 +15,8 @@ use Rattle.cell_plan.specs.declared.plan.PagingPlan.{PagingPlan}
 use Rattle.cell_plan.specs.declared.plan.SyncPlan.{SyncPlan}
 use Rattle.heard_events.specs.Channels.{channel_stream}
 use Rattle.heard_events.specs.Marks.{mark}
-use Rattle.heard_events.specs.Streams.{is_in_file, Stream}
+use Rattle.rake_finger.specs.Streams.{is_in_file}
+use Rattle.heard_events.specs.Streams.{Stream}
 use Rattle.heard_events.specs.Tuning.{Tuning}
 use Rattle.heard_events.specs.declared.channel.Channel.TheVariants.{Paging}
 use Rattle.heard_events.specs.declared.mark.Mark.{Mark}

@@ -31,29 +31,33 @@ pub use Rattle.event_tap.specs.PagingLines.{paging_line, slot_line}
 pub use Rattle.event_tap.specs.SlotLines.{frame_of_slot, frame_of_slot_end, is_heard, is_slot_within, lines_behind, lines_by_times}
 pub use Rattle.event_tap.specs.SlotLines.{lines_of_slot, lines_of_slots, slot_bound, slot_lines}
 unfoldable pub use Rattle.event_tap.specs.SlotLines.{slot_pages}
-pub use Rattle.heard_events.proofs.CloseFingers.{close_begun, near_are_close, near_parts}
-pub use Rattle.heard_events.proofs.FingerTimes.{timed_in, timed_of}
+pub use Rattle.rake_finger.proofs.CloseFingers.{close_begun, near_are_close, near_parts}
+pub use Rattle.rake_finger.proofs.FingerTimes.{timed_in}
+pub use Rattle.heard_events.proofs.SyncTimes.{timed_of}
 pub use Rattle.heard_events.proofs.ChannelFrames.{frame_same, form_by, frames_of_first}
-pub use Rattle.heard_events.proofs.FrameTimes.{ends_lt, inside_from, inside_to, known_between, known_le, known_own}
+pub use Rattle.rake_finger.proofs.FrameTimes.{ends_lt, inside_from, inside_to, known_between, known_le, known_own}
 pub use Rattle.heard_events.proofs.MarkLater.{mark_later}
 pub use Rattle.heard_events.proofs.MarkStays.{mark_behind, mark_pilot, mark_set, mark_sooner, mark_stays, paging_near}
 pub use Rattle.mobile_core.proofs.Stood.{marked_all}
 pub use Rattle.heard_events.specs.Channels.{IsLawful, channel_stream}
 pub use Rattle.heard_events.specs.Events.{events}
-pub use Rattle.heard_events.specs.FrameSamples.{AgreeIn}
+pub use Rattle.rake_finger.specs.FrameSamples.{AgreeIn}
 pub use Rattle.heard_events.specs.Given.{at_of, listed}
 pub use Rattle.heard_events.specs.Marks.{first_of, marks_at, sets_mark}
 unfoldable pub use Rattle.heard_events.specs.Marks.{mark}
-pub use Rattle.heard_events.specs.Near.{AreNear, all_begun, all_near, has_reference, low_in, low_of}
+pub use Rattle.rake_finger.specs.Near.{AreNear, all_begun, all_near, has_reference, low_in}
+pub use Rattle.heard_events.specs.Near.{low_of}
 pub use Rattle.heard_events.specs.PagingStreams.{paging_bound, paging_rate}
 pub use Rattle.heard_events.specs.SoftFrames.{soft_frame, soft_frames}
 unfoldable pub use Rattle.heard_events.specs.SoftFrames.{frames_within}
-pub use Rattle.mobile_core.specs.Softs.{frame_most}
+pub use Rattle.reception.specs.Softs.{frame_most}
 pub use Rattle.mobile_core.specs.Standing.{Steps, has_room, parts, steps_left}
-pub use Rattle.heard_events.specs.Streams.{Stream, frame_softs, frame_start, is_in_file, known_at}
-pub use Rattle.heard_events.specs.Timing.{IsTimed, stream_end}
+pub use Rattle.heard_events.specs.Streams.{Stream}
+pub use Rattle.rake_finger.specs.Streams.{frame_softs, frame_start, is_in_file, known_at}
+pub use Rattle.rake_finger.specs.Timing.{IsTimed, stream_end}
 pub use Rattle.mobile_core.specs.Tuners.{IsTunedTo, IsTunerStep, samples_left, samples_taken}
-pub use Rattle.heard_events.specs.Tuning.{Tuning, finger_of, fingers_of, sync_bound, sync_stream}
+pub use Rattle.heard_events.specs.Tuning.{Tuning, sync_bound, sync_stream}
+pub use Rattle.rake_finger.specs.Paths.{finger_of, fingers_of}
 pub use Rattle.heard_events.specs.declared.channel.Channel.{Channel}
 pub use Rattle.heard_events.specs.declared.channel.Channel.TheVariants.{Paging, Traffic}
 pub use Rattle.heard_events.specs.declared.event.Event.{Event}

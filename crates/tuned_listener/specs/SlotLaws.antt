@@ -4,7 +4,7 @@ use Rattle.std.specs.Prelude.{◌-ℤ◌, unsigned_abs, Some, None}
 use Rattle.chip_core.specs.declared.sample.Sample.{Sample}
 use Rattle.heard_events.specs.Channels.{channel_stream}
 use Rattle.heard_events.specs.Marks.{mark}
-use Rattle.heard_events.specs.Near.{AreNear}
+use Rattle.rake_finger.specs.Near.{AreNear}
 use Rattle.heard_events.specs.Tuning.{Tuning, sync_stream}
 use Rattle.heard_events.specs.declared.channel.Channel.TheVariants.{Paging}
 use Rattle.heard_events.specs.declared.mark.Mark.{Mark}

@@ -4,7 +4,7 @@ use Rattle.std.specs.Prelude.{sum_by, unsigned_abs, Option, None, Some}
 use Rattle.std.specs.List.{flat_map}
 use Rattle.std.specs.Option.{option_to_list}
 use Rattle.chip_core.specs.declared.check_form.CheckForm.{CheckForm}
-use Rattle.mobile_core.specs.Softs.{frame_most}
+use Rattle.reception.specs.Softs.{frame_most}
 use Rattle.heard_events.specs.declared.soft_frame.SoftFrame.{SoftFrame}
 use Rattle.paging_message.specs.HalfFrames.{half_frame_capsule_ending}
 use Rattle.paging_message.specs.Reading.{paging_reading}

@@ -4,7 +4,7 @@ use Rattle.std.specs.Io.{StartsWith}
 use Rattle.std.specs.Io.KnownBytes.{Appends}
 use Rattle.chip_core.specs.declared.sample.Sample.{Sample}
 use Rattle.heard_events.specs.Marks.{mark}
-use Rattle.heard_events.specs.Near.{AreNear}
+use Rattle.rake_finger.specs.Near.{AreNear}
 use Rattle.mobile_core.specs.Standing.{has_room}
 use Rattle.mobile_core.specs.Tuners.{IsTunedTo, samples_left}
 use Rattle.heard_events.specs.Tuning.{Tuning, sync_stream}

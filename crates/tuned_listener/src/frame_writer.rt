@@ -7,7 +7,7 @@ ghost use Rattle.cdma_io.specs.Outside.{AppendsPrefix, HasCause};
 ghost use Rattle.chip_core.specs.declared.check_form.CheckForm.{CheckForm as TheCheck};
 ghost use Rattle.chip_core.specs.declared.sample.Sample.{Sample as TheSample};
 ghost use Rattle.heard_events.specs.SoftFrames.{soft_frames};
-ghost use Rattle.mobile_core.specs.Softs.{frame_most};
+ghost use Rattle.reception.specs.Softs.{frame_most};
 ghost use Rattle.mobile_core.specs.Sound.{IsSoundMark};
 ghost use Rattle.mobile_core.specs.Tuners.{IsTunedTo, samples_left};
 ghost use Rattle.heard_events.specs.Tuning.{Tuning};

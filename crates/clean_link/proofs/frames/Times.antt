@@ -3,7 +3,7 @@ use Rattle.clean_link.proofs.Common.{◌≡◌, ℕ, ◌+◌, ◌≤◌, ◌&&�
 use Rattle.clean_link.proofs.Common.{unsigned_abs, ◌+ℤ◌, ◌-ℤ◌, if◌then◌else◌, int_le, List, le-leb, leb-true, ints, frame_chips, Finger}
 use Rattle.clean_link.proofs.Common.{Form, Stream, frame_end, frame_start, is_in_file, is_within, known_at, IsTimed, timed_in, heard_behind}
 use Rattle.clean_link.proofs.Common.{reference_finger}
-use Rattle.heard_events.specs.Near as near
+use Rattle.rake_finger.specs.Near as near
 
 -- ---- one finger
 

@@ -1,7 +1,7 @@
 use Rattle.mobile_core.proofs.Common.{◌≡◌, ◌++◌, ◌∷◌, [], ◌∙◌, sym, ap, arith, rules, length, length-append, pos, take, get_or, ℤ}
 use Rattle.mobile_core.proofs.Common.{to_z-of_z, append_assoc, SFits, w8, all_close, fingers_in, finger_of, fingers_of}
-use Rattle.heard_events.proofs.CloseFingers.{near_one}
-use Rattle.mobile_core.proofs.FingerLists.{fingers_more}
+use Rattle.rake_finger.proofs.CloseFingers.{near_one}
+use Rattle.reception.proofs.FingerLists.{fingers_more}
 use Rattle.mobile_core.proofs.LegFingers.{close_more}
 use Rattle.mobile_core.proofs.fingers.with_leg.Goals as goal
 

@@ -1,5 +1,5 @@
 use Rattle.mobile_core.proofs.Common.{◌∙◌, List, All, ap, sym, subst, arith, IsInRing, softs, Finger, Data}
-use Rattle.mobile_core.proofs.FingerLists.{rows_all}
+use Rattle.reception.proofs.FingerLists.{rows_all}
 use Rattle.mobile_core.proofs.LegSubsets.{eight_small}
 use Rattle.mobile_core.proofs.traffic_softs.leg_softs.Goals as goal
 

@@ -1,5 +1,5 @@
 use Rattle.mobile_core.proofs.Common.{◌∙◌, length, subst, sym, arith, AreNear, parts}
-use Rattle.mobile_core.proofs.ClockSteps.{before_next}
+use Rattle.reception.proofs.ClockSteps.{before_next}
 use Rattle.mobile_core.proofs.MarkAhead.{mark_ahead}
 use Rattle.heard_events.proofs.MarkStays.{mark_told}
 use Rattle.mobile_core.proofs.Stood.{marked_all}

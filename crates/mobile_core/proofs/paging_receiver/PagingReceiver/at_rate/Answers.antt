@@ -23,7 +23,7 @@ returns-clause-hears c = λ t heard phase deltas within early.
     let most : length heard ≤ received.clock.end = omega (arith, early, starts, ends) in
     let receives = receives_later t.count s received refl near (c.new.ensures.fingers ∙ fingers_are)
     c.new.ensures.sound.whole clock_is heard within most in
-    let scrambling = c.of_channel.ensures in
+    let scrambling = c.paging_scrambling.ensures in
     hears_none t c.args.channel m _ heard receives (rw clock_is refl) scrambling.state
     scrambling.mask c.requires.rate
     (c.new-2.ensures.size ∙ ap half_frame_body c.requires.rate) refl c.new-2.ensures.stands

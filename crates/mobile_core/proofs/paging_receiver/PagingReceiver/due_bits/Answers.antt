@@ -1,10 +1,11 @@
-use Rattle.mobile_core.proofs.Common.{ap, rules, paging_channel, paging_stream}
+use Rattle.mobile_core.proofs.Common.{ap, rules, paging_channel, paging_stream, frame_own_bits}
 use Rattle.mobile_core.proofs.paging_receiver.PagingReceiver.due_bits.Goals as goal
 
 pub returns-then-self-gt0-clause-value : goal.returns-then-self-gt0-clause-value
 returns-then-self-gt0-clause-value c = λ t channel m heard d st. (st.under_way (search rules)).own
 
 pub returns-clause-value : goal.returns-clause-value
+unfolding frame_own_bits
 returns-clause-value c = λ t channel m heard d st.
     c.own_bits.ensures.value t.count (paging_stream t channel m) heard st.receives
     (ap paging_channel st.rate_is) d

@@ -1,10 +1,11 @@
 use Rattle.mobile_core.proofs.Common.{◌≡◌, ℕ, ◌+◌, ◌-◌, ◌∙◌, sym, ap, refl, arith, rules, Some, None, frames_with, frame_start}
-use Rattle.mobile_core.proofs.Common.{frames_before, heard_in, events_of, sync_stream, FrameClock}
-use Rattle.mobile_core.proofs.ClockSteps.{start_before}
+use Rattle.mobile_core.proofs.Common.{frames_before, heard_in, events_of, sync_stream, frame_own_bits, FrameClock}
+use Rattle.reception.proofs.ClockSteps.{start_before}
 use Rattle.mobile_core.proofs.SyncHeard.{hears_next, starts_is, or_none}
 use Rattle.mobile_core.proofs.sync_receiver.SyncReceiver.hear_next.Goals as goal
 
 pub returns-in_err-told-clause-hears : goal.returns-in_err-told-clause-hears
+unfolding frame_own_bits
 returns-in_err-told-clause-hears c = λ t heard at' check d st.
     let r = c.args.self.now in
     let s = sync_stream t in
@@ -27,6 +28,7 @@ returns-in_err-told-clause-hears c = λ t heard at' check d st.
     (missing ∙ ap (λ form. heard_in form capsule) check) refl (sym (or_none r.mark)) refl)
 
 pub returns-clause-hears : goal.returns-clause-hears
+unfolding frame_own_bits
 returns-clause-hears c = λ t heard at' check d st.
     let r = c.args.self.now in
     let s = sync_stream t in

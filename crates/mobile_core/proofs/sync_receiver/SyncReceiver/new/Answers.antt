@@ -1,7 +1,7 @@
 use Rattle.mobile_core.proofs.Common.{◌≡◌, ℕ, ◌+◌, ◌-◌, ◌*◌, ◌%◌, ◌∙◌, sym, ap, subst, refl, true, arith, frame_chips, Sync, clock_from}
 use Rattle.mobile_core.proofs.Common.{first_frame, AreNear, frame_end, sync_stream, FrameClock}
-use Rattle.mobile_core.proofs.ClockSteps.{first_end}
-use Rattle.mobile_core.proofs.Received.{receives_new}
+use Rattle.reception.proofs.ClockSteps.{first_end}
+use Rattle.reception.proofs.Received.{receives_new}
 use Rattle.mobile_core.proofs.SyncHeard.{hears_new}
 use Rattle.mobile_core.proofs.sync_receiver.SyncReceiver.new.Goals as goal
 

@@ -32,7 +32,7 @@ returns-clause-sound c =
           paths_some near.deltas (pos 0) c.requires.first,
         );
         paths = first_paths m row c.args.phase (take near.count near.deltas) first;
-        masked = c.of_traffic.ensures.below;
+        masked = c.traffic_scrambling.ensures.below;
       };
       legs = record {
         some = legs.some;
@@ -59,10 +59,10 @@ returns-clause-hears c = λ t heard phase deltas within early.
     let near = c.args.near.now in
     let fingers = c.leg_fingers.ensures in
     let keeper = c.new-sets.ensures in
-    let scrambling = c.of_traffic.ensures in
+    let scrambling = c.traffic_scrambling.ensures in
     let legs_is = c.legs-legs.ensures.value
     ∙ ap (λ (k : SetsKeeper). legs_of k.mark k.sets) keeper.value in
-    let shape = opened_is t traffic m _ c.frames_end.result near c.of_traffic.result _
+    let shape = opened_is t traffic m _ c.frames_end.result near c.traffic_scrambling.result _
     c.empty.result c.new.result heard c.legs-legs.result c.args.phase c.new-sets.result legs_is
     (sym phase) keeper.value in
     let first : List Leg = legs_of m (new_standing m.pilot traffic.row) in
@@ -73,9 +73,9 @@ returns-clause-hears c = λ t heard phase deltas within early.
     let close = subst AreClose fingers_are
     (record { some = fingers.least; close = fingers.close }) in
     subst (λ (r : TrafficReceiver). HearsTraffic t traffic m r heard []) (sym shape)
-    (hears_new t traffic m _ c.frames_end.result near c.of_traffic.result _ c.empty.result
+    (hears_new t traffic m _ c.frames_end.result near c.traffic_scrambling.result _ c.empty.result
     c.new.result heard
-    (hears_opened t traffic m _ c.frames_end.result near c.of_traffic.result _ c.empty.result
+    (hears_opened t traffic m _ c.frames_end.result near c.traffic_scrambling.result _ c.empty.result
     c.new.result heard (sym deltas) scrambling.state scrambling.mask c.requires.offset
     (omega (arith, c.from.ensures)) close within early c.new.ensures))
 

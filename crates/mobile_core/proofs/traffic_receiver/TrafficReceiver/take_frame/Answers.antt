@@ -1,6 +1,6 @@
 use Rattle.mobile_core.proofs.Common.{◌≡◌, ◌∙◌, arith, sym, ap, length, subst, kept_to, HearsWith, SetsKeeper, TrafficReceiver}
 use Rattle.mobile_core.specs.TrafficReceiving.{fingers_in}
-use Rattle.heard_events.proofs.CloseFingers.{close_ends}
+use Rattle.rake_finger.proofs.CloseFingers.{close_ends}
 use Rattle.mobile_core.proofs.FramesHeard.{hears_taken, power_here, softs_here, told_by_end}
 use Rattle.mobile_core.proofs.SoundFrames.{sound_come}
 use Rattle.mobile_core.proofs.traffic_receiver.TrafficReceiver.take_frame.Goals as goal

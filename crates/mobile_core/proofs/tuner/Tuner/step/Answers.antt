@@ -1,5 +1,5 @@
 use Rattle.mobile_core.proofs.Common.{◌≡◌, ◌∙◌, ℕ, ◌-◌, ◌++◌, ◌∷◌, [], append-nil, ap, arith, length, length-take, refl, subst, sym, take}
-use Rattle.mobile_core.proofs.Common.{take_all, HasGiven, soft_frames, FrameReceiver, SoftFrame}
+use Rattle.mobile_core.proofs.Common.{take_all, HasGiven, soft_frames, ChannelReceiver, SoftFrame}
 use Rattle.mobile_core.proofs.FramesGiven.{step_frame, step_none}
 use Rattle.mobile_core.proofs.tuner.Tuner.step.Goals as goal
 
@@ -88,7 +88,7 @@ returns c =
           record {
             count_is = count;
             ring = c.push_all-2.ensures.holds heard st.ring;
-            given = subst (λ (x : FrameReceiver). HasGiven t channel m x (length (heard ++ more)))
+            given = subst (λ (x : ChannelReceiver). HasGiven t channel m x (length (heard ++ more)))
                 (sym frame.ensures.same) step.1;
           };
       gives = λ t channel m heard st.

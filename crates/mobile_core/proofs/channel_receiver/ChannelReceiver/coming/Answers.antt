@@ -1,0 +1,13 @@
+use Rattle.mobile_core.proofs.Common.{◌∙◌, arith}
+use Rattle.mobile_core.proofs.FramesGiven.{frame_is, raw_is}
+use Rattle.reception.proofs.SoftSums.{frame_small}
+use Rattle.rake_finger.specs.declared.form.Form.TheVariants.{Data}
+use Rattle.mobile_core.proofs.channel_receiver.ChannelReceiver.coming.Goals as goal
+
+pub returns-clause-value : goal.returns-clause-value
+returns-clause-value c = λ t channel m heard taken holds has.
+    let raw = c.raw-softs in
+    frame_is t channel m has heard _ _ raw.result c.descramble.new.softs c.power_in-power.result
+    c.coming-number.ensures c.end.ensures
+    (raw.ensures.value heard holds ∙ raw_is t channel m has heard) c.descramble.ensures.value
+    (c.power_in-power.ensures t channel m taken has)

@@ -1,5 +1,0 @@
-use Rattle.mobile_core.proofs.Common.{◌≡◌, drop, all_begun}
-use Rattle.mobile_core.proofs.fingers.are_begun.Given as goal
-
-abbrev pub invariant-loop-i : goal.invariant-loop-i
-invariant-loop-i l = all_begun l.start (drop l.i l.fingers) ≡ all_begun l.start l.fingers

@@ -1,0 +1,9 @@
+use Rattle.mobile_core.proofs.Common.{◌∙◌, ap, sym, state_at, Channel}
+use Rattle.mobile_core.proofs.FramesHeard.{state_on}
+use Rattle.mobile_core.proofs.scrambling.scrambling_of.Goals as goal
+
+pub returns-in-Traffic-clause-state : goal.returns-in-Traffic-clause-state
+returns-in-Traffic-clause-state c = λ k.
+    state_on c.in-Traffic.traffic c.args.mark.now c.traffic_scrambling.result.state k
+    c.traffic_scrambling.ensures.state
+    ∙ ap (λ (channel : Channel). state_at channel c.args.mark.now k) (sym c.in-Traffic.is)

@@ -1,0 +1,195 @@
+-- What the clock of a channel's frames stands for, step by step, over any stream.
+use Rattle.reception.proofs.Common.{◌≡◌, ℕ, ◌+◌, ◌-◌, ◌*◌, ◌<◌, ◌≤◌, true, refl, sym, ap, ◌∙◌, arith, ◌⊎◌, inl, inr, nat_lt, false}
+use Rattle.reception.proofs.Common.{cases_lt, lt-ltb, le-ltb, frame_chips, Form, Sync, Data, IsAt, IsDueAt, clock_from, first_frame}
+use Rattle.reception.proofs.Common.{frame_come, frame_heard, span_from, AreNear, IsDue, Stream, frame_start, is_in_file, known_at}
+use Rattle.reception.proofs.Common.{span_first, span_frames, stream_end, FrameClock, Bool, List, if◌then◌else◌, Finger, all_begun}
+use Rattle.reception.proofs.Common.{frame_end}
+use Rattle.rake_finger.proofs.FingerTimes.{start_step, timed_in, ends_bounds, times_one}
+use Rattle.reception.proofs.Progresses as progress
+use Rattle.rake_finger.proofs.Spans as spans
+
+-- a span begins with the frame before, where that is in the file
+abbrev BeginsSpan : FrameClock → ℕ → Type 0
+BeginsSpan c first =
+    ((c.low < c.next) × (first + 1 ≡ c.next)) ⊎ ((c.next ≤ c.low) × (first ≡ c.next))
+
+begins_span : (c : FrameClock) → BeginsSpan c (span_from c)
+begins_span c =
+    elim (cases_lt c.low c.next) [
+      | inl less ↦
+          let e : nat_lt c.low c.next ≡ true = lt-ltb c.low c.next less in
+          inl (less, rw e (omega arith))
+      | inr more ↦
+          let e : nat_lt c.low c.next ≡ false = le-ltb c.low c.next more in
+          inr (more, rw e refl)
+    ]
+
+-- where it begins, on the way from its first frame to the one that comes next
+pub span_bounds : (c : FrameClock) → c.next < c.have →
+    (span_from c ≤ c.next) × (c.next ≤ span_from c + 1) × (c.low ≤ c.next → c.low ≤ span_from c)
+span_bounds c come =
+    elim (begins_span c) [
+      | inl a ↦ (omega (arith, a.1), omega (arith, a.1), λ h. omega (arith, a.0, a.1))
+      | inr b ↦ (omega (arith, b.1), omega (arith, b.1), λ h. omega (arith, b.1, h))
+    ]
+
+-- before any sample is taken
+pub clock_new : {C : Type 0} (count : ℕ) (s : Stream C) → AreNear s.fingers →
+    IsAt count s (clock_from s.fingers s.form s.waits s.first (first_frame s.fingers s.first)) 0
+unfolding stream_end
+clock_new count s near =
+    let timed = timed_in count s near in
+    record {
+      timed = timed;
+      reached = progress.reached_none s timed;
+      form_is = refl;
+      waits_is = refl;
+      start_is = refl;
+      end_is = refl;
+    }
+
+starts_before : (form : Form) (first have frame : ℕ) → frame ≤ have →
+    first + frame_chips form * have - frame_chips form * (have - frame)
+    ≡ first + frame_chips form * frame
+starts_before Sync first have frame h = omega arith
+starts_before Data first have frame h = omega arith
+
+module _ {C : Type 0} {count : ℕ} {s : Stream C} {c : FrameClock} {n : ℕ} (is : IsAt count s c n) where
+  pub due : IsDueAt count c → IsDue count s c.next c.have
+  due d = record {
+    ended = d.0;
+    known =
+        λ w.
+        elim (d.1 (is.waits_is ∙ w)) [ inl a ↦ inl a | inr b ↦ inr (rw (← is.end_is) b) ];
+  }
+
+  pub not_due : ¬ IsDueAt count c → ¬ IsDue count s c.next c.have
+  not_due none d =
+      none (
+        d.ended,
+        λ w.
+            elim (d.known (sym is.waits_is ∙ w)) [ inl a ↦ inl a | inr b ↦ inr (rw is.end_is b) ],
+      )
+
+  -- a frame that is due is known just now
+  pub due_inside : IsDueAt count c → is_in_file count s c.next ≡ true
+  due_inside d = progress.due_inside s is.timed c.next c.have n is.reached (due d)
+
+  pub due_known : IsDueAt count c → known_at count s c.next ≡ n
+  due_known d = progress.due_known s is.timed c.next c.have n is.reached (due d)
+
+  -- frames before the next one have been known
+  pub before_next : (k : ℕ) → k < c.next → is_in_file count s k ≡ true → known_at count s k ≤ n
+  before_next k less inside =
+      progress.before_next s is.timed c.next c.have n is.reached k less inside
+
+  -- where it isn't due, those from it on are known when the frame ends that comes next, or later
+  pub from_next : (m : ℕ) → ¬ IsDueAt count c → m ≤ c.end →
+      (k : ℕ) → c.next ≤ k → is_in_file count s k ≡ true → m ≤ known_at count s k
+  from_next m none most k low inside =
+      let end = is.end_is in
+      progress.from_next s is.timed c.next c.have n m is.reached (not_due none)
+      (omega (arith, most, end)) k low inside
+
+  -- more samples, up to the end of the frame that comes next
+  pub clock_more : (m : ℕ) → ¬ IsDueAt count c → n ≤ m → m ≤ count → m ≤ c.end → IsAt count s c m
+  clock_more m none more most ends =
+      let end = is.end_is in
+      record {
+        timed = is.timed;
+        reached = progress.reached_more s is.timed c.next c.have n m is.reached (not_due none)
+            more most (omega (arith, ends, end));
+        form_is = is.form_is;
+        waits_is = is.waits_is;
+        start_is = is.start_is;
+        end_is = is.end_is;
+      }
+
+  -- one frame more has come
+  pub clock_come : ¬ IsDueAt count c → c.end ≡ n → IsAt count s (frame_come c) n
+  clock_come none ended =
+      let form = is.form_is in
+      let start = is.start_is in
+      let end = is.end_is in
+      let next = start_step s.form s.first c.have in
+      let step = is.timed.step c.have in
+      let chips : frame_chips c.form ≡ frame_chips s.form = ap frame_chips form in
+      record {
+        timed = is.timed;
+        reached = progress.reached_frame s is.timed c.next c.have n is.reached (not_due none)
+            (sym end ∙ ended);
+        form_is = form;
+        waits_is = is.waits_is;
+        start_is = omega (arith, start, chips, next);
+        end_is = omega (arith, end, chips, step);
+      }
+
+  -- one frame more has been heard
+  pub clock_heard : IsDueAt count c → IsAt count s (frame_heard c) n
+  clock_heard d = record {
+    timed = is.timed;
+    reached = progress.reached_next s is.timed c.next c.have n is.reached (due d);
+    form_is = is.form_is;
+    waits_is = is.waits_is;
+    start_is = is.start_is;
+    end_is = is.end_is;
+  }
+
+  -- where a frame began that has come
+  pub start_before : (frame : ℕ) → frame ≤ c.have →
+      c.start - frame_chips c.form * (c.have - frame) ≡ frame_start s frame
+  start_before frame h =
+      rw (is.start_is, is.form_is) (starts_before s.form s.first c.have frame h)
+
+  -- the span of a frame that is due
+  pub span_is : s.waits ≡ true → IsDueAt count c → (span_from c ≡ span_first count s c.next)
+      × (c.have - span_from c ≡ span_frames count s c.next)
+  span_is waits d =
+      let first : ℕ = span_from c in
+      let r = is.reached in
+      let inside = due_inside d in
+      let is_first : first ≡ span_first count s c.next =
+      elim (begins_span c) [
+        | inl a ↦
+            let f = spans.span_first_more s is.timed c.next a.0 inside in omega (arith, f, a.1)
+        | inr b ↦
+            let same : c.next ≡ c.low = omega (arith, b.0, r.low_next) in
+            let f = spans.span_first_low s is.timed c.next same in
+            omega (arith, f, b.1)
+      ] in
+      let with_next : c.next + 1 < c.have → c.have - first ≡ span_frames count s c.next = λ a.
+      let two : c.have ≡ c.next + 2 = omega (arith, a, r.have_most) in
+      let ended = r.ended (c.next + 1) (omega (arith, r.low_next)) a in
+      let within = r.within in
+      let f = spans.span_frames_more s is.timed c.next r.low_next (omega (arith, ended, within)) in
+      rw (two, is_first) (sym f) in
+      let without_next : c.have ≤ c.next + 1 → count < stream_end s c.have →
+      c.have - first ≡ span_frames count s c.next = λ a over.
+      let one : c.have ≡ c.next + 1 = omega (arith, a, d.0) in
+      let f = spans.span_frames_last s is.timed c.next (rw one at over) in
+      rw (one, is_first) (sym f) in (
+        is_first,
+        elim ((due d).known waits) [
+          | inl a ↦ with_next a
+          | inr over ↦
+              elim (cases_lt (c.next + 1) c.have) [
+                | inl a ↦ with_next a
+                | inr b ↦ without_next b over
+              ]
+        ],
+      )
+
+-- THE FIRST FRAME IN THE FILE
+one_most : (b : Bool) → (if b then 0 else 1) ≤ 1
+one_most true = omega arith
+one_most false = omega arith
+
+-- it ends early
+pub first_end : (form : Form) (first : ℕ) (fingers : List Finger) → AreNear fingers →
+    frame_end fingers form (first + frame_chips form * first_frame fingers first)
+    ≤ first + 2 * frame_chips form + 128
+first_end form first fingers near =
+    let frame : ℕ = first_frame fingers first in
+    let bounds = ends_bounds form (first + frame_chips form * frame) fingers near in
+    let moved = times_one (frame_chips form) frame (one_most (all_begun first fingers)) in
+    omega (arith, bounds.1, moved)

@@ -1,0 +1,7 @@
+pub mod Common
+pub mod Progresses
+pub mod SoftSums
+pub mod Descrambled
+pub mod FingerLists
+pub mod ClockSteps
+pub mod Received

@@ -1,0 +1,51 @@
+use Rattle.reception.proofs.Common.{◌≡◌, ℕ, ◌+◌, length, List, ℤ, ◌∙◌, sym, ap, refl, rules, frame_chips, softs, symbols, unscrambled}
+use Rattle.reception.proofs.Common.{frame_softs, frame_start}
+use Rattle.rake_finger.proofs.FingerTimes.{in_ring, ends_step, begun_on}
+use Rattle.reception.proofs.Received.{receives_frame}
+use Rattle.reception.proofs.continued.Continued.take_frame.Goals as goal
+
+pub combine_into-requires-clause-ring : goal.combine_into-requires-clause-ring
+combine_into-requires-clause-ring c =
+    let sound = c.requires.sound in
+    let k = c.args.self.now in
+    rw (c.form-2.ensures, c.start.ensures)
+    (in_ring c.args.ring.now k.clock.form k.clock.start k.fingers sound.near sound.begun
+    c.requires.room (c.requires.ended ∙ sound.ends))
+
+pub returns-clause-sound : goal.returns-clause-sound
+returns-clause-sound c =
+    let sound = c.requires.sound in
+    let k = c.args.self.now in
+    let chips : ℕ = frame_chips k.clock.form in
+    let come = c.advance.ensures.value in
+    let many : length c.unscramble.new.softs ≡ symbols k.clock.form = search rules in
+    rw come (record {
+      clocked = rw come at c.advance.ensures.sound;
+      near = sound.near;
+      begun = begun_on k.clock.start chips k.fingers sound.begun;
+      ends = ap (λ n. n + chips) sound.ends
+          ∙ sym (ends_step k.clock.form k.clock.start k.fingers sound.near);
+      few = sound.few;
+      rows = sound.rows;
+      whole = c.shift_in.ensures.whole;
+      small = rw many at c.shift_in.ensures.small;
+    })
+
+pub returns-clause-stands : goal.returns-clause-stands
+returns-clause-stands c = λ count s heard holds bits none r.
+    let k = c.args.self.now in
+    let is = r.clocked in
+    let fresh : List ℤ = c.unscramble.new.softs in
+    let out : List ℤ = c.combine_into.new.out in
+    let combined : out ≡ softs heard s.fingers s.form (frame_start s k.clock.have) =
+    c.combine_into.ensures.value heard holds
+    ∙ rw (c.form-2.ensures, c.start.ensures, r.fingers_are, is.form_is, is.start_is) refl in
+    let fresh_is : fresh ≡ frame_softs heard s k.clock.have =
+    c.unscramble.ensures.value
+    ∙ ap (λ b. unscrambled b out) bits
+    ∙ ap (unscrambled (s.scrambling k.clock.have)) combined in
+    let long : length fresh ≡ symbols k.clock.form = search rules in
+    let many : length fresh ≡ symbols s.form = long ∙ ap symbols is.form_is in
+    let ended : k.clock.end ≡ length heard = sym c.requires.ended ∙ holds.taken in
+    rw (c.advance.ensures.value, c.shift_in.ensures.value, many)
+    (receives_frame r fresh none ended fresh_is c.requires.sound.whole many)

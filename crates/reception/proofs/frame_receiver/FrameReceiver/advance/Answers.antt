@@ -1,0 +1,29 @@
+use Rattle.reception.proofs.Common.{◌∙◌, ◌+◌, ap, arith, sym, frame_chips}
+use Rattle.rake_finger.proofs.CloseFingers.{later_by, some_chips}
+use Rattle.rake_finger.proofs.FingerTimes.{begun_on}
+use Rattle.reception.proofs.frame_receiver.FrameReceiver.advance.Goals as goal
+
+pub returns-clause-waits : goal.returns-clause-waits
+returns-clause-waits c =
+    let some = some_chips c.args.self.now.clock.form in
+    rw c.advance.ensures.value (omega (arith, some))
+
+pub returns-clause-sound : goal.returns-clause-sound
+returns-clause-sound c =
+    let r = c.args.self.now in
+    let sound = c.requires.sound in
+    let chips = frame_chips r.clock.form in
+    let form = ap frame_chips sound.form_is in
+    let later = later_by _ r.clock.start 24576 r.fingers sound.close in
+    let come = c.advance.ensures.value in
+    let end = sound.ends in
+    rw come (record {
+      clocked = rw come at c.advance.ensures.sound;
+      form_is = sound.form_is;
+      close = sound.close;
+      begun = begun_on r.clock.start chips r.fingers sound.begun;
+      ends = ap (λ n. n + chips) end
+          ∙ rw form (sym later);
+      rows = sound.rows;
+      masked = sound.masked;
+    })

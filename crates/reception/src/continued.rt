@@ -1,0 +1,112 @@
+//! A continued channel as it is received: a sync or a paging channel.
+
+use crate::fingers::frame_symbols;
+use crate::frame_clock::FrameClock;
+use crate::softs::{MOST_SOFTS, shift_in, unscramble};
+use chip_core::Bits;
+use chip_core::air::DATA_SYMBOLS;
+use frame_decoder::{FrameKind, span_bits};
+use rake_finger::{Fingers, Form, SampleRing, combine_into};
+use short_code::Codes;
+use viterbi::Decoder;
+
+/// A channel whose encoder goes on from frame to frame, as it is received: each of its frames is
+/// decoded together with the frame before it and the frame behind it, where these lie in the file
+/// (TIA/EIA-95-B, 7.1.3.1.3).
+#[derive(Drop)]
+pub struct Continued {
+    /// Where the frames lie, and how far they have come.
+    pub clock: FrameClock,
+    /// The paths that it is received on.
+    pub fingers: Fingers,
+    /// The soft values of the last three frames, the last at the end. A sync frame has 128 of them,
+    /// and a frame of a paging channel 384.
+    pub softs: [i64; MOST_SOFTS],
+}
+
+impl Continued {
+    ghost use Rattle.std.specs.Prelude.{◌≡◌, ◌<◌, ◌≤◌, ◌+◌, ◌*◌, ◌^◌, ℕ, true, List, length};
+    ghost use Rattle.chip_core.specs.declared.sample.Sample.{Sample};
+    ghost use Rattle.frame_decoder.specs.Spans.{Channel, channel_for};
+    ghost use Rattle.reception.specs.Clocks.{IsDueAt, clock_from, first_frame, frame_come};
+    ghost use Rattle.rake_finger.specs.Near.{AreNear, have_rows};
+    ghost use Rattle.reception.specs.Receiving.{Receives, own_bits_in};
+    ghost use Rattle.rake_finger.specs.Scrambled.{Scrambles};
+    ghost use Rattle.reception.specs.Sound.{IsSoundChannel};
+    ghost use Rattle.rake_finger.specs.Streams.{Stream};
+    ghost use Rattle.rake_finger.specs.Held.{HoldsLast};
+    ghost use Rattle.rake_finger.specs.Soft.{symbols};
+    ghost use Rattle.symbol_path.specs.SentOrder.{size};
+
+    /// A channel whose frame 0 begins at a reference sample, before any frame has come.
+    pub fn new(fingers: Fingers, form: Form, first: u64) -> Continued
+        requires near { AreNear fingers }
+        requires rows { have_rows fingers ≡ true }
+        requires few { length fingers ≤ 3 }
+        requires first { first < 2 ^ 29 }
+        ensures clock { result.clock
+            ≡ clock_from fingers form true first (first_frame fingers first) }
+        ensures fingers { result.fingers ≡ fingers }
+        ensures sound { IsSoundChannel result }
+    {
+        let clock = FrameClock::new(&fingers, form, true, first);
+        Continued {
+            clock,
+            fingers,
+            softs: [0; MOST_SOFTS],
+        }
+    }
+
+    /// Takes the soft values of the frame whose last sample has just come. `scrambling` has a bit
+    /// for each of its symbols, or none where the channel isn't scrambled.
+    pub fn take_frame(&mut self, ring: &SampleRing, codes: &Codes, scrambling: &[bool])
+        requires sound { IsSoundChannel self.old }
+        requires near { self.old.clock.have ≤ self.old.clock.next + 1 }
+        requires few { self.old.clock.end ≤ 2 ^ 29 }
+        requires room { ring.now.room ≡ 65536 }
+        requires ended { ring.now.taken ≡ self.old.clock.end }
+        requires bits { Scrambles scrambling.now (symbols self.old.clock.form) }
+        ensures clock { self.new.clock ≡ frame_come self.old.clock }
+        ensures sound { IsSoundChannel self.new }
+        ensures stands { (count : ℕ) (s : Stream Channel) (heard : List Sample) →
+            HoldsLast ring.now heard → scrambling.now ≡ s.scrambling self.old.clock.have →
+            ¬ IsDueAt count self.old.clock →
+            Receives count s self.old heard → Receives count s self.new heard }
+    {
+        let Continued {
+            clock,
+            fingers,
+            softs,
+        } = self;
+        let mut room = [0i64; DATA_SYMBOLS];
+        let fresh = &mut room[..frame_symbols(clock.form())];
+        combine_into(ring, codes, fingers, clock.form(), clock.start(), fresh);
+        unscramble(scrambling, fresh);
+        shift_in(softs, fresh);
+        clock.advance();
+    }
+
+    /// The own bits of the next frame, where it has come.
+    pub fn own_bits(&self, decoder: &mut Decoder, kind: FrameKind) -> Bits
+        requires sound { IsSoundChannel self.now }
+        requires come { self.now.clock.next < self.now.clock.have }
+        requires kind { size (channel_for kind).shape ≡ symbols self.now.clock.form }
+        requires room { decoder.old ≡ 576 }
+        ensures value { (count : ℕ) (s : Stream Channel) (heard : List Sample) →
+            Receives count s self.now heard → channel_for kind ≡ s.channel →
+            IsDueAt count self.now.clock →
+            result ≡ own_bits_in count heard s self.now.clock.next }
+        ensures count { length result ≡ (channel_for kind).bits }
+        ensures kept { decoder.new ≡ decoder.old }
+    {
+        let span = self.clock.span();
+        let kept = frame_symbols(self.clock.form()) * usize::from(span.frames);
+        span_bits(
+            decoder,
+            kind,
+            span.frames,
+            &self.softs[MOST_SOFTS - kept..],
+            span.own,
+        )
+    }
+}

@@ -1,0 +1,188 @@
+//! Where the frames of a channel lie in a file, and how far they have come.
+
+use crate::fingers::{are_begun, frame_chips, frames_end};
+use rake_finger::{Fingers, Form};
+
+/// Where the frames of a channel lie in a file, and how far they have come.
+#[derive(Clone, Copy)]
+pub struct FrameClock {
+    /// How the channel's frames are cut.
+    pub form: Form,
+    /// Whether a frame waits for the one behind it, with which it is decoded.
+    pub waits: bool,
+    /// The number of the first frame in the file.
+    pub low: u64,
+    /// The number of the frame that is heard next.
+    pub next: u64,
+    /// The number of the frame whose samples come next.
+    pub have: u64,
+    /// The reference sample at which that frame begins.
+    pub start: u64,
+    /// How many samples have been taken when that frame ends on every finger.
+    pub end: u64,
+}
+
+/// The frames that a frame is decoded with.
+#[derive(Clone, Copy)]
+pub struct Span {
+    /// How many there are, 1 to 3.
+    pub frames: u8,
+    /// Which of them the frame is, counted from 0.
+    pub own: u8,
+}
+
+impl FrameClock {
+    ghost use Rattle.std.specs.Prelude.{◌≡◌, ◌<◌, ◌≤◌, ◌+◌, ◌-◌, ◌*◌, ◌^◌, ◌↔◌, IsTrue};
+    ghost use Rattle.reception.specs.Clocks.{IsDueAt, clock_from, first_frame};
+    ghost use Rattle.reception.specs.Clocks.{frame_come, frame_heard, span_from};
+    ghost use Rattle.rake_finger.specs.Near.{AreBegun, AreClose};
+    ghost use Rattle.reception.specs.Sound.{IsSoundClock};
+    ghost use Rattle.rake_finger.specs.Soft.{frame_chips};
+
+    /// The clock of a channel whose frame 0 begins at a reference sample, before any has come.
+    ///
+    /// The first frame in the file is the first that begins in it on each finger.
+    pub fn new(fingers: &Fingers, form: Form, waits: bool, first: u64) -> FrameClock
+        requires close { AreClose fingers.now }
+        requires first { first < 2 ^ 29 + 2 ^ 15 }
+        ensures value { result
+            ≡ clock_from fingers.now form waits first (first_frame fingers.now first) }
+        ensures begun { AreBegun result.start fingers.now }
+        ensures sound { IsSoundClock result }
+    {
+        if are_begun(fingers, first) {
+            return FrameClock::from_frame(fingers, form, waits, first, 0);
+        }
+        FrameClock::from_frame(fingers, form, waits, first, 1)
+    }
+
+    /// The clock from frame 0 or 1 on.
+    fn from_frame(fingers: &Fingers, form: Form, waits: bool, first: u64, frame: u64) -> FrameClock
+        requires close { AreClose fingers.now }
+        requires first { first < 2 ^ 29 + 2 ^ 15 }
+        requires frame { frame ≤ 1 }
+        ensures value { result ≡ clock_from fingers.now form waits first frame }
+        ensures sound { IsSoundClock result }
+    {
+        let start = first + frame_chips(form) * frame;
+        FrameClock {
+            form,
+            waits,
+            low: frame,
+            next: frame,
+            have: frame,
+            start,
+            end: frames_end(fingers, form, start),
+        }
+    }
+
+    /// How the channel's frames are cut.
+    pub fn form(&self) -> Form
+        ensures { result ≡ self.now.form }
+    {
+        self.form
+    }
+
+    /// The reference sample at which the frame begins that comes next.
+    pub fn start(&self) -> u64
+        ensures { result ≡ self.now.start }
+    {
+        self.start
+    }
+
+    /// How many samples have been taken when the frame ends that comes next.
+    pub fn end(&self) -> u64
+        ensures { result ≡ self.now.end }
+    {
+        self.end
+    }
+
+    /// The number of the frame whose samples come next.
+    pub fn coming(&self) -> u64
+        ensures { result ≡ self.now.have }
+    {
+        self.have
+    }
+
+    /// The number of the frame that is heard next.
+    pub fn next(&self) -> u64
+        ensures { result ≡ self.now.next }
+    {
+        self.next
+    }
+
+    /// Whether that frame is known, in a file of so many samples: it has come, and where it waits
+    /// the frame behind it has come, or isn't in the file.
+    pub fn is_due(&self, count: u64) -> bool
+        requires { IsSoundClock self.now }
+        ensures { IsTrue result ↔ IsDueAt count self.now }
+    {
+        self.next < self.have && (!self.waits || self.next + 1 < self.have || count < self.end)
+    }
+
+    /// One frame more has come.
+    pub fn advance(&mut self)
+        requires sound { IsSoundClock self.old }
+        requires near { self.old.have ≤ self.old.next + 1 }
+        requires few { self.old.end ≤ 2 ^ 29 }
+        ensures value { self.new ≡ frame_come self.old }
+        ensures sound { IsSoundClock self.new }
+    {
+        let chips = frame_chips(self.form);
+        self.start += chips;
+        self.end += chips;
+        self.have += 1;
+    }
+
+    /// One frame more has been heard.
+    pub fn hear(&mut self)
+        requires sound { IsSoundClock self.old }
+        requires come { self.old.next < self.old.have }
+        ensures value { self.new ≡ frame_heard self.old }
+        ensures sound { IsSoundClock self.new }
+    {
+        self.next += 1;
+    }
+
+    /// The number of the first frame of the next frame's span.
+    fn span_first(&self) -> u64
+        requires { IsSoundClock self.now }
+        ensures value { result ≡ span_from self.now }
+        ensures early { result ≤ self.now.next }
+        ensures late { self.now.next ≤ result + 1 }
+    {
+        if self.low < self.next {
+            self.next - 1
+        } else {
+            self.next
+        }
+    }
+
+    /// The frames that the next frame is decoded with: the frame before it, where it is in the
+    /// file, and the frame behind it, where that has come.
+    pub fn span(&self) -> Span
+        requires sound { IsSoundClock self.now }
+        requires come { self.now.next < self.now.have }
+        ensures frames { result.frames ≡ self.now.have - span_from self.now }
+        ensures own { result.own ≡ self.now.next - span_from self.now }
+        ensures most { result.frames ≤ 3 }
+        ensures within { result.own < result.frames }
+    {
+        let first = self.span_first();
+        Span {
+            frames: (self.have - first) as u8,
+            own: (self.next - first) as u8,
+        }
+    }
+
+    /// The reference sample at which a frame begins that has come.
+    pub fn start_of(&self, frame: u64) -> u64
+        requires sound { IsSoundClock self.now }
+        requires come { frame ≤ self.now.have }
+        ensures value { result
+            ≡ self.now.start - frame_chips self.now.form * (self.now.have - frame) }
+        ensures most { result ≤ 2 ^ 30 }
+    {
+        self.start - frame_chips(self.form) * (self.have - frame)
+    }
+}
