@@ -1,29 +1,23 @@
 -- What the proofs of this crate cite of what lies below, and of its own definitions, passed on from one place.
 pub use Rattle.std.proofs.Common.{All, Bool, List, None, Option, Some, [], ap, append-nil, arith, cond, drop, false, filter, get_or, inl}
-pub use Rattle.std.proofs.Common.{inr, length, length-append, length-drop, length-take, map, max, nat_le, nat_lt, negsuc, pos, refl}
-pub use Rattle.std.proofs.Common.{slice_get, slice_index_or, subst, suc, sym, take, true, zero, ℕ, ℤ, ◌&&◌, ◌*◌, ◌++◌, ◌+ℤ◌, ◌+◌, ◌-ℤ◌, ◌-◌}
-pub use Rattle.std.proofs.Common.{◌/◌, ◌<◌, ◌==◌, ◌^◌, ◌||◌, ◌∙◌, ◌∷◌, ◌≡◌, ◌≤ℤ◌, ◌≤◌, ◌⊎◌}
-pub use Rattle.std.proofs.lemmas.Bool.{and_from, and_left, and_parts, and_right, cases_Bool, cases_lt, cases_order, eq-eqb, eqb-true}
-pub use Rattle.std.proofs.lemmas.Bool.{false_from_ne_true, le-leb, leb-false, leb-true, lt-leb, lt-ltb, ne_eqb, or_cases, or_left, or_right}
-pub use Rattle.std.proofs.lemmas.Bool.Decides.{nat_tests}
+pub use Rattle.std.proofs.Common.{inr, length, length-append, length-drop, length-take, map, nat_le, nat_lt, pos, refl, slice_get, subst}
+pub use Rattle.std.proofs.Common.{suc, sym, take, true, zero, ℕ, ℤ, ◌&&◌, ◌*◌, ◌++◌, ◌+◌, ◌-◌, ◌/◌, ◌<◌, ◌==◌, ◌^◌, ◌||◌, ◌∙◌, ◌∷◌, ◌≡◌}
+pub use Rattle.std.proofs.Common.{◌≤◌}
+pub use Rattle.std.proofs.lemmas.Bool.{and_from, and_left, and_parts, and_right, cases_Bool, cases_lt, eq-eqb, eqb-true, false_from_ne_true}
+pub use Rattle.std.proofs.lemmas.Bool.{le-leb, leb-false, leb-true, lt-leb, lt-ltb, ne_eqb, or_cases, or_left, or_right}
 pub use Rattle.std.proofs.lemmas.Grind.{flat_map-append}
-pub use Rattle.std.proofs.lemmas.Int.{ints}
-pub use Rattle.std.proofs.lemmas.List.{append_assoc, drop-append-le, drop-drop, drop-take, length-take-le, map-append, take-append-drop}
-pub use Rattle.std.proofs.lemmas.List.{take-append-le, take-take}
+pub use Rattle.std.proofs.lemmas.List.{append_assoc, length-take-le, map-append, take-append-drop, take-append-le}
 pub use Rattle.std.proofs.lemmas.List.Folds.{list_all-append, list_any-append}
 pub use Rattle.std.specs.List.{flat_map, list_all, list_any, range_with_len}
 pub use Rattle.std.specs.Option.{option_or, option_to_list}
-pub use Rattle.std.specs.Ordering.{int_eq}
-pub use Rattle.std.specs.Prelude.{IsTrue, if◌then◌else◌, int_le, is_some, unsigned_abs}
+pub use Rattle.std.specs.Prelude.{IsTrue, if◌then◌else◌, is_some}
 pub use Rattle.std.proofs.lemmas.List.Elements.{filter-append}
 pub use Rattle.chip_core.proofs.Places.{places-more}
 pub use Rattle.chip_core.proofs.Ranges.{filter-places-more, filter_ext_places, filter_first_places, filter_none_places}
 pub use Rattle.chip_core.proofs.Ranges.{flat_map-places-more, flat_map_ext_filter, flat_map_ext_filter_places, flat_map_ext_places}
-pub use Rattle.chip_core.proofs.Ranges.{flat_map_ext_range, map_ext_filter_places, map_ext_places}
+pub use Rattle.chip_core.proofs.Ranges.{flat_map_ext_range, map_ext_filter_places}
 unfoldable pub use Rattle.chip_core.specs.Bits.{places}
-pub use Rattle.chip_core.specs.Complex.{sum_of}
 pub use Rattle.chip_core.specs.Fields.{FieldsFit}
-pub use Rattle.chip_core.specs.Sums.{total}
 pub use Rattle.chip_core.specs.declared.assignment.Traffic.{Traffic}
 pub use Rattle.chip_core.specs.declared.check_form.CheckForm.{CheckForm}
 pub use Rattle.chip_core.specs.declared.sample.Sample.{Sample}
@@ -40,14 +34,11 @@ pub use Rattle.quality_bits.specs.Capsules.{is_stated, stated_bits}
 unfoldable pub use Rattle.quality_bits.specs.Capsules.{front_capsule}
 pub use Rattle.quality_bits.specs.Pieces.{Piece, bodies, but_last, from_last_start, piece}
 unfoldable pub use Rattle.quality_bits.specs.Pieces.{capsule_ending}
-pub use Rattle.rake_finger.specs.Held.{Held}
-pub use Rattle.rake_finger.specs.InRing.{IsInRing}
-pub use Rattle.rake_finger.specs.Soft.{covered_from, despread_at, finger_place, frame_chips, symbol_chips, symbols, window_chips}
-unfoldable pub use Rattle.rake_finger.specs.Soft.{pilot_sum, soft, softs, symbol_sum}
+pub use Rattle.rake_finger.specs.Soft.{frame_chips}
+unfoldable pub use Rattle.rake_finger.specs.Soft.{softs}
 pub use Rattle.rake_finger.specs.declared.finger.Finger.{Finger}
 pub use Rattle.rake_finger.specs.declared.form.Form.{Form}
 pub use Rattle.rake_finger.specs.declared.form.Form.TheVariants.{Data, Sync}
-pub use Rattle.short_code.specs.Despread.{despread}
 pub use Rattle.symbol_path.specs.Scrambling.{power_places, scrambling}
 pub use Rattle.sync_message.proofs.Bodies.{fixed_fit}
 pub use Rattle.sync_message.proofs.Readings.{reading_is_message}
@@ -57,7 +48,7 @@ pub use Rattle.sync_message.specs.declared.fields.SyncFields.{SyncFields}
 pub use Rattle.viterbi.specs.Codewords.{Codeword, best_codeword}
 pub use Rattle.viterbi.specs.declared.codeword.Ends.TheVariants.{Free}
 pub use Rattle.heard_events.specs.Channels.{channel_stream, has_power_control, mask_of, offset_of, row_of, state_at}
-pub use Rattle.rake_finger.specs.Near.{AreClose, all_close, is_close}
+pub use Rattle.rake_finger.specs.Near.{AreClose, AreBegun, AreNear, all_begun, all_near, has_reference, is_near, low_in}
 pub use Rattle.heard_events.specs.Events.{events_within}
 unfoldable pub use Rattle.heard_events.specs.Events.{events_at, frame_events_at, heard_within, message_events_at, paging_events_at}
 unfoldable pub use Rattle.heard_events.specs.Events.{sets_events_at}
@@ -71,7 +62,6 @@ unfoldable pub use Rattle.heard_events.specs.Marks.{frames_open, mark, mark_befo
 pub use Rattle.heard_events.specs.Moments.{frames_at, frames_behind, legs_at, legs_by, messages_at, messages_behind, moment_events}
 pub use Rattle.heard_events.specs.Moments.{moment_place, moments_before, sets_behind, sets_events}
 unfoldable pub use Rattle.heard_events.specs.Moments.{changed, heard_from, kept_to, passed, sets_at, told_by}
-pub use Rattle.rake_finger.specs.Near.{AreBegun, AreNear, all_begun, all_near, has_reference, is_near, low_in}
 pub use Rattle.heard_events.specs.Near.{IsTuned, low_of}
 pub use Rattle.heard_events.specs.Noted.{all_noted, noted}
 pub use Rattle.heard_events.specs.PagingEvents.{page_event, page_in, pages_behind}
@@ -84,8 +74,8 @@ pub use Rattle.heard_events.specs.SoftFrames.{power_of, soft_frame, raw_at}
 unfoldable pub use Rattle.heard_events.specs.SoftFrames.{frames_within}
 pub use Rattle.heard_events.specs.SpelledMessages.{SpelledMessage, SpelledPage, SpelledSignal}
 pub use Rattle.heard_events.specs.Streams.{Stream}
-pub use Rattle.rake_finger.specs.Streams.{frame_end, frame_softs, frame_start, is_in_file, is_within, known_at, known_by}
-pub use Rattle.rake_finger.specs.Streams.{known_now, span_first, span_frames}
+pub use Rattle.rake_finger.specs.Streams.{frame_end, frame_softs, frame_start, is_in_file, known_at, known_by, known_now, span_first}
+pub use Rattle.rake_finger.specs.Streams.{span_frames}
 unfoldable pub use Rattle.heard_events.specs.Streams.{frame_own_bits}
 pub use Rattle.heard_events.specs.SyncEvents.{events_of, heard_in, with_message}
 unfoldable pub use Rattle.heard_events.specs.SyncEvents.{frames_before, heard_at, sync_capsule_at, sync_events_at}

@@ -94,7 +94,7 @@ module _ {t : Tuning} {traffic : Traffic} {m : Mark} {r : TrafficReceiver} {hear
       ∙ ap (λ (x : Mark). moment_place x (r.sets.passed + 1)) st.tuned.mark_is
 
   ends_at : (n : ℕ) → n ≤ next_end r →
-      (n ≤ r.end) × (n ≤ moment_place m (r.sets.passed + 1))
+      (n ≤ r.frames.clock.end) × (n ≤ moment_place m (r.sets.passed + 1))
   ends_at n h = let place = place_is in (omega (arith, h), omega (arith, h, place))
 
   moments_here : (n : ℕ) → length heard < n → n ≤ moment_place m (r.sets.passed + 1) →
@@ -121,7 +121,7 @@ module _ {t : Tuning} {traffic : Traffic} {m : Mark} {r : TrafficReceiver} {hear
       GoesOn (all_told t traffic m) (λ samples. traffic_left_of t traffic m samples r) heard end
   receiver_goes end ends = both told_goes sets_goes
     where
-      parts : (end ≤ r.end) × (end ≤ moment_place m (r.sets.passed + 1))
+      parts : (end ≤ r.frames.clock.end) × (end ≤ moment_place m (r.sets.passed + 1))
       parts = ends_at end ends
 
       told_goes : GoesOn
@@ -216,7 +216,7 @@ frames_noted {heard = heard} {pages = pages} event st here =
 pub told_few : (r : TrafficReceiver) → IsSoundTraffic r → traffic_heard r < 2 ^ 40
 told_few r is =
     let few = is.keeper.few in
-    omega (arith, is.start_least, is.start_most, is.next_have, few)
+    omega (arith, is.start_least, is.start_most, is.frames.clocked.next_have, few)
 
 -- what an event of the paging channel tells leaves what waits
 pub noted_waits : (n : ℕ) (r : TrafficReceiver) (event : Event) → WaitsAt n r →
@@ -280,7 +280,7 @@ module _ (t : Tuning) (mark : Option Mark) (heard : List Sample) (pages : List E
 
 -- WHERE A MARK IS SET
 -- nothing is due of a receiver that has heard nothing
-none_opened : (r : TrafficReceiver) → r.have ≡ r.next → r.kept ≡ None → r.sets.due ≡ false →
+none_opened : (r : TrafficReceiver) → r.frames.clock.have ≡ r.frames.clock.next → r.kept ≡ None → r.sets.due ≡ false →
     ¬ IsTrafficDue r
 none_opened r fresh empty idle = λ due.
     elim due [
@@ -294,7 +294,7 @@ none_opened r fresh empty idle = λ due.
 
 -- a receiver that is open now has heard nothing
 pub frames_opened : (t : Tuning) (heard : List Sample) (traffic : Traffic) (m : Mark)
-    (r : TrafficReceiver) → t.traffic ≡ Some traffic → IsSoundTraffic r → r.have ≡ r.next →
+    (r : TrafficReceiver) → t.traffic ≡ Some traffic → IsSoundTraffic r → r.frames.clock.have ≡ r.frames.clock.next →
     r.kept ≡ None → r.sets.due ≡ false → length heard < next_end r →
     HearsTraffic t traffic m r heard [] →
     FollowsTraffic t (Some m) r heard [] × (traffic_left t (Some m) heard r ≡ [])

@@ -4,11 +4,11 @@ use Rattle.mobile_core.proofs.Common.{length-append, ap, ◌∙◌, arith, inl, 
 use Rattle.mobile_core.proofs.Common.{cases_order, take_all, places, Sample, power_bit, decoded, PowerSofts, Decoded, after, traffic_mask}
 use Rattle.mobile_core.proofs.Common.{after-after, Standing, StandsFor, softs, Finger, Data, power_places, scrambling, sums_on, all_fingers}
 use Rattle.mobile_core.proofs.Common.{legs_of, subchannels, heard_from, legs_by, moment_of, moment_place, told_by, all_noted, page_event}
-use Rattle.mobile_core.proofs.Common.{pages_behind, unscrambled, message_events, frame_end, all_sums, power_bits_at, decoded_at}
-use Rattle.mobile_core.proofs.Common.{raw_softs, HasTold, HearsWith, IsSoundTraffic, IsTrafficDue, kept_by, told_left_with}
-use Rattle.mobile_core.proofs.Common.{chips_behind, frame_known, frame_state, has_frame, replaced_in, traffic_start, Tuning, Event, Leg}
-use Rattle.mobile_core.proofs.Common.{Mark, SetsKeeper, Traffic, SpelledSignal, TrafficReceiver}
-use Rattle.mobile_core.specs.TrafficReceiving.{fingers_in}
+use Rattle.mobile_core.proofs.Common.{pages_behind, unscrambled, message_events, frame_end, all_sums, power_bits_at, decoded_at, raw_softs}
+use Rattle.mobile_core.proofs.Common.{HasTold, HearsWith, IsSoundTraffic, IsTrafficDue, kept_by, told_left_with, chips_behind, frame_known}
+use Rattle.mobile_core.proofs.Common.{frame_state, has_frame, replaced_in, traffic_start, Tuning, Event, Leg, frame_chips, Mark, SetsKeeper}
+use Rattle.mobile_core.proofs.Common.{Traffic, SpelledSignal, TrafficReceiver}
+use Rattle.mobile_core.specs.TrafficReceiving.{frame_taken, tuned_to}
 use Rattle.rake_finger.proofs.CloseFingers.{close_ends}
 use Rattle.heard_events.proofs.FrameBounds.{AreCloseAll, has_here, known_high, known_is, known_later, known_low}
 use Rattle.heard_events.proofs.FrameGrowth.{signals_sooner}
@@ -39,18 +39,18 @@ untold_kept r none = by_kept r.kept (λ some. none (inl some))
     by_kept (Some message) h = absurd (h refl)
 
 -- and no frame has come
-pub untold_come : (r : TrafficReceiver) → IsSoundTraffic r → ¬ HasTold r → r.have ≡ r.next
+pub untold_come : (r : TrafficReceiver) → IsSoundTraffic r → ¬ HasTold r → r.frames.clock.have ≡ r.frames.clock.next
 untold_come r sound none =
-    elim (cases_lt r.next r.have) [
+    elim (cases_lt r.frames.clock.next r.frames.clock.have) [
       | inl less ↦ absurd (none (inr less))
-      | inr more ↦ let order = sound.next_have in omega (arith, more, order)
+      | inr more ↦ let order = sound.frames.clocked.next_have in omega (arith, more, order)
     ]
 
 -- so where nothing is due
 pub none_kept : (r : TrafficReceiver) → ¬ IsTrafficDue r → r.kept ≡ None
 none_kept r none = untold_kept r (λ told. none (inl told))
 
-pub none_come : (r : TrafficReceiver) → IsSoundTraffic r → ¬ IsTrafficDue r → r.have ≡ r.next
+pub none_come : (r : TrafficReceiver) → IsSoundTraffic r → ¬ IsTrafficDue r → r.frames.clock.have ≡ r.frames.clock.next
 none_come r sound none = untold_come r sound (λ told. none (inl told))
 
 -- a frame begins at the moment that tells its pilots, or behind it
@@ -62,10 +62,10 @@ start_moment traffic m k = omega arith
 pub left_unkept : (t : Tuning) (traffic : Traffic) (m : Mark) (samples : List Sample)
     (r : TrafficReceiver) (kept : ℕ → Standing) → r.kept ≡ None →
     told_left_with t traffic m samples r kept
-    ≡ told_left t traffic m (legs_by traffic m kept) samples r.next
+    ≡ told_left t traffic m (legs_by traffic m kept) samples r.frames.clock.next
 left_unkept t traffic m samples r kept empty =
     ap (λ (k : Option SpelledSignal). message_events (length samples) k
-    ++ told_left t traffic m (legs_by traffic m kept) samples r.next) empty
+    ++ told_left t traffic m (legs_by traffic m kept) samples r.frames.clock.next) empty
 
 module _ {t : Tuning} {traffic : Traffic} {m : Mark} {r : TrafficReceiver} {heard : List Sample}
     {pages : List Event} {kept : ℕ → Standing}
@@ -78,54 +78,55 @@ module _ {t : Tuning} {traffic : Traffic} {m : Mark} {r : TrafficReceiver} {hear
   closes k = st.close (moment_of traffic k)
 
   -- THE FRAME THAT COMES NEXT
-  pub fingers_are : moment_of traffic r.have ≤ r.sets.passed →
-      fingers_in r ≡ all_fingers t.phase t.deltas (legs_by traffic m kept r.have)
+  pub fingers_are : moment_of traffic r.frames.clock.have ≤ r.sets.passed →
+      r.frames.fingers ≡ all_fingers t.phase t.deltas (legs_by traffic m kept r.frames.clock.have)
   fingers_are told =
-      ap (λ (p : ℕ). all_fingers p (take r.near.count r.near.deltas) r.legs) st.tuned.phase_is
+      sound.fingers_are
+      ∙ ap (λ (p : ℕ). all_fingers p (take r.near.count r.near.deltas) r.legs) st.tuned.phase_is
       ∙ ap (λ (ds : List ℤ). all_fingers t.phase ds r.legs) st.tuned.deltas_are
       ∙ ap (all_fingers t.phase t.deltas) (st.legs_are told)
 
-  pub end_is : moment_of traffic r.have ≤ r.sets.passed →
-      r.end ≡ frame_known t traffic m (legs_by traffic m kept) r.have
+  pub end_is : moment_of traffic r.frames.clock.have ≤ r.sets.passed →
+      r.frames.clock.end ≡ frame_known t traffic m (legs_by traffic m kept) r.frames.clock.have
   end_is told =
-      sound.ends
-      ∙ ap (λ (fs : List Finger). frame_end fs Data r.start) (fingers_are told)
-      ∙ ap (frame_end (all_fingers t.phase t.deltas (legs_by traffic m kept r.have)) Data)
+      sound.frames.ends
+      ∙ ap (λ (fs : List Finger). frame_end fs Data r.frames.clock.start) (fingers_are told)
+      ∙ ap (frame_end (all_fingers t.phase t.deltas (legs_by traffic m kept r.frames.clock.have)) Data)
       st.start_is
-      ∙ sym (known_is t traffic m (legs_by traffic m kept) r.have)
+      ∙ sym (known_is t traffic m (legs_by traffic m kept) r.frames.clock.have)
 
   -- where it ends up to the next moment, a moment that has passed told its pilots
-  pub told_by_end : r.end ≤ moment_place m (r.sets.passed + 1) →
-      moment_of traffic r.have ≤ r.sets.passed
+  pub told_by_end : r.frames.clock.end ≤ moment_place m (r.sets.passed + 1) →
+      moment_of traffic r.frames.clock.have ≤ r.sets.passed
   told_by_end ends =
-      elim (cases_lt r.sets.passed (moment_of traffic r.have)) [
+      elim (cases_lt r.sets.passed (moment_of traffic r.frames.clock.have)) [
         | inl later ↦
-            let low = (close_ends r.start (fingers_in r) sound.legs.fingers_close).0 in
-            let end = sound.ends in
+            let low = (close_ends r.frames.clock.start r.frames.fingers sound.frames.close).0 in
+            let end = sound.frames.ends in
             let start = st.start_is in
-            let behind = start_moment traffic m r.have in
+            let behind = start_moment traffic m r.frames.clock.have in
             absurd (omega (arith, later, low, end, start, behind, ends))
         | inr told ↦ told
       ]
 
   -- where no frame is due, those from the next on end when the next one does, or later
-  pub from_next : r.have ≡ r.next → (n : ℕ) → n ≤ r.end →
-      n ≤ moment_place m (r.sets.passed + 1) + 24350 → (k : ℕ) → r.next ≤ k →
+  pub from_next : r.frames.clock.have ≡ r.frames.clock.next → (n : ℕ) → n ≤ r.frames.clock.end →
+      n ≤ moment_place m (r.sets.passed + 1) + 24350 → (k : ℕ) → r.frames.clock.next ≤ k →
       n ≤ frame_known t traffic m (legs_by traffic m kept) k
   from_next idle n ends early k above =
       let low = known_low t traffic m (legs_by traffic m kept) closes k in
-      elim (cases_lt r.sets.passed (moment_of traffic r.have)) [
+      elim (cases_lt r.sets.passed (moment_of traffic r.frames.clock.have)) [
         | inl later ↦
-            let behind = start_moment traffic m r.have in
+            let behind = start_moment traffic m r.frames.clock.have in
             omega (arith, later, behind, low, early, above, idle)
         | inr told ↦
             let end = end_is told in
-            elim (cases_order r.have k) [
+            elim (cases_order r.frames.clock.have k) [
               | inl same ↦
                   let here = ap (frame_known t traffic m (legs_by traffic m kept)) same in
                   omega (arith, ends, end, here)
               | inr (inl less) ↦
-                  let more = known_later t traffic m (legs_by traffic m kept) closes r.have k less
+                  let more = known_later t traffic m (legs_by traffic m kept) closes r.frames.clock.have k less
                   in
                   omega (arith, ends, end, more)
               | inr (inr more) ↦ absurd (omega (arith, more, above, idle))
@@ -133,24 +134,24 @@ module _ {t : Tuning} {traffic : Traffic} {m : Mark} {r : TrafficReceiver} {hear
       ]
 
   -- so nothing is left to tell
-  pub told_given : r.have ≡ r.next → r.kept ≡ None → length heard < r.end →
+  pub told_given : r.frames.clock.have ≡ r.frames.clock.next → r.kept ≡ None → length heard < r.frames.clock.end →
       told_left_with t traffic m heard r kept ≡ []
   told_given idle empty ends =
       let early = st.coming in
       left_unkept t traffic m heard r kept empty
-      ∙ told_left_none t traffic m (legs_by traffic m kept) heard r.next
+      ∙ told_left_none t traffic m (legs_by traffic m kept) heard r.frames.clock.next
       (λ k above.
       from_next idle (length heard + 1) (omega (arith, ends)) (omega (arith, early)) k above)
 
   -- before the next frame ends none is heard
   pub told_quiet : ¬ IsTrafficDue r → (samples : List Sample) (n later : ℕ) →
-      length heard < n → n < later → later ≤ r.end →
+      length heard < n → n < later → later ≤ r.frames.clock.end →
       later ≤ moment_place m (r.sets.passed + 1) →
       told_at t traffic m (legs_by traffic m kept) samples n ≡ []
   told_quiet none samples n later past before ends early =
       told_none t traffic m (legs_by traffic m kept) samples n
       (λ k inside e.
-      elim (cases_lt k r.next) [
+      elim (cases_lt k r.frames.clock.next) [
         | inl less ↦ let ended = st.ended k less in omega (arith, ended, e, past)
         | inr more ↦
             let known = from_next (none_come r sound none) later ends (omega (arith, early)) k more
@@ -164,14 +165,14 @@ module _ {t : Tuning} {traffic : Traffic} {m : Mark} {r : TrafficReceiver} {hear
       ≡ told_at t traffic m (legs_by traffic m kept) samples (length samples)
   told_come none samples past =
       left_unkept t traffic m samples r kept (none_kept r none)
-      ∙ told_left_all t traffic m (legs_by traffic m kept) samples r.next
+      ∙ told_left_all t traffic m (legs_by traffic m kept) samples r.frames.clock.next
       (λ k less inside e. let ended = st.ended k less in omega (arith, ended, e, past))
 
   -- MORE SAMPLES, UP TO THE END OF THE FRAME THAT COMES NEXT
   module _ (more : List Sample) (none : ¬ IsTrafficDue r) (some : 0 < length more)
-      (ends : length heard + length more ≤ r.end)
+      (ends : length heard + length more ≤ r.frames.clock.end)
       (early : length heard + length more ≤ moment_place m (r.sets.passed + 1))
-      (waits : length heard < r.end) (within : length heard + length more ≤ t.count)
+      (waits : length heard < r.frames.clock.end) (within : length heard + length more ≤ t.count)
       (given : pages ≡ []) (later : List Event)
       (later_is : later ≡ map (page_event (length (heard ++ more)))
       (pages_behind t t.paging (Some m) (heard ++ more) (length (heard ++ more))))
@@ -300,7 +301,7 @@ module _ {t : Tuning} {traffic : Traffic} {m : Mark} {r : TrafficReceiver} {hear
           softs_are = λ come. absurd (omega (arith, come, idle));
           power_is = λ come. absurd (omega (arith, come, idle));
           framed = subst (StandsFor r.framer)
-              (sym (signals_sooner t traffic m (legs_by traffic m kept) heard more r.next
+              (sym (signals_sooner t traffic m (legs_by traffic m kept) heard more r.frames.clock.next
               (λ k less inside. st.ended k less))) st.framed;
           sets_are = elim (cases_lt (moment_place m r.sets.passed) (length heard + length more)) [
             | inl behind ↦ sets_grown behind
@@ -309,65 +310,62 @@ module _ {t : Tuning} {traffic : Traffic} {m : Mark} {r : TrafficReceiver} {hear
         }
 
   -- what is heard of the frame that has just come
-  pub softs_here : moment_of traffic r.have ≤ r.sets.passed →
-      softs heard (fingers_in r) Data r.start
-      ≡ raw_softs t traffic m (legs_by traffic m kept) heard r.have
+  pub softs_here : moment_of traffic r.frames.clock.have ≤ r.sets.passed →
+      softs heard r.frames.fingers Data r.frames.clock.start
+      ≡ raw_softs t traffic m (legs_by traffic m kept) heard r.frames.clock.have
   softs_here told =
-      ap (λ (fs : List Finger). softs heard fs Data r.start) (fingers_are told)
-      ∙ ap (softs heard (all_fingers t.phase t.deltas (legs_by traffic m kept r.have)) Data)
+      ap (λ (fs : List Finger). softs heard fs Data r.frames.clock.start) (fingers_are told)
+      ∙ ap (softs heard (all_fingers t.phase t.deltas (legs_by traffic m kept r.frames.clock.have)) Data)
       st.start_is
 
-  coming_places : power_places (after r.scrambling.state (24576 * r.have)) r.scrambling.mask
-      ≡ replaced_in traffic m r.have
-  coming_places =
-      ap (λ (n : ℕ). power_places n r.scrambling.mask)
-      (state_on traffic m r.scrambling.state r.have st.tuned.state_is)
-      ∙ ap (power_places (frame_state traffic m r.have)) st.tuned.mask_is
+  -- the places of a frame's power control bits
+  pub places_at : (k : ℕ) →
+      power_places (after r.frames.scrambling.state (24576 * k)) r.frames.scrambling.mask
+      ≡ replaced_in traffic m k
+  places_at k =
+      ap (λ (n : ℕ). power_places n r.frames.scrambling.mask)
+      (state_on traffic m r.frames.scrambling.state k st.tuned.state_is)
+      ∙ ap (power_places (frame_state traffic m k)) st.tuned.mask_is
 
-  pub power_here : moment_of traffic r.have ≤ r.sets.passed →
+  pub power_here : moment_of traffic r.frames.clock.have ≤ r.sets.passed →
       map
-      (sums_on heard r.phase (take r.near.count r.near.deltas) r.legs r.start
-      (power_places (after r.scrambling.state (24576 * r.have)) r.scrambling.mask))
+      (sums_on heard r.phase (take r.near.count r.near.deltas) r.legs r.frames.clock.start
+      (power_places (after r.frames.scrambling.state (24576 * r.frames.clock.have)) r.frames.scrambling.mask))
       (subchannels r.legs)
-      ≡ all_sums t traffic m (legs_by traffic m kept) heard r.have
+      ≡ all_sums t traffic m (legs_by traffic m kept) heard r.frames.clock.have
   power_here told =
-      let replaced = power_places (after r.scrambling.state (24576 * r.have)) r.scrambling.mask in
+      let replaced = power_places (after r.frames.scrambling.state (24576 * r.frames.clock.have)) r.frames.scrambling.mask in
       let of : ℕ → List ℤ → List Leg → ℕ → List ℕ → List (List ℤ) =
       λ p ds ls u ps. map (sums_on heard p ds ls u ps) (subchannels ls) in
-      let legs = legs_by traffic m kept r.have in
-      ap (λ (p : ℕ). of p (take r.near.count r.near.deltas) r.legs r.start replaced) st.tuned.phase_is
-      ∙ ap (λ (ds : List ℤ). of t.phase ds r.legs r.start replaced) st.tuned.deltas_are
-      ∙ ap (λ (ls : List Leg). of t.phase t.deltas ls r.start replaced) (st.legs_are told)
+      let legs = legs_by traffic m kept r.frames.clock.have in
+      ap (λ (p : ℕ). of p (take r.near.count r.near.deltas) r.legs r.frames.clock.start replaced) st.tuned.phase_is
+      ∙ ap (λ (ds : List ℤ). of t.phase ds r.legs r.frames.clock.start replaced) st.tuned.deltas_are
+      ∙ ap (λ (ls : List Leg). of t.phase t.deltas ls r.frames.clock.start replaced) (st.legs_are told)
       ∙ ap (λ (u : ℕ). of t.phase t.deltas legs u replaced) st.start_is
-      ∙ ap (of t.phase t.deltas legs (traffic_start traffic m r.have)) coming_places
+      ∙ ap (of t.phase t.deltas legs (traffic_start traffic m r.frames.clock.have)) (places_at r.frames.clock.have)
 
   -- A FRAME
   -- The soft values of the frame whose last sample has just come, with the pilots that are told to
   -- the one behind it.
-  pub hears_come : (fresh : List ℤ) (power : PowerSofts) (start end : ℕ) (legs : List Leg) →
-      r.have ≡ r.next → r.end ≡ length heard → start ≡ r.start + 24576 →
-      fresh ≡ raw_softs t traffic m (legs_by traffic m kept) heard r.have →
-      frames.subchannels power ≡ all_sums t traffic m (legs_by traffic m kept) heard r.have →
-      (moment_of traffic (r.have + 1) ≡ r.sets.passed →
+  pub hears_come : (fresh : List ℤ) (power : PowerSofts) (end : ℕ) (fingers : List Finger)
+      (legs : List Leg) → r.frames.clock.have ≡ r.frames.clock.next →
+      r.frames.clock.end ≡ length heard →
+      fresh ≡ raw_softs t traffic m (legs_by traffic m kept) heard r.frames.clock.have →
+      frames.subchannels power
+      ≡ all_sums t traffic m (legs_by traffic m kept) heard r.frames.clock.have →
+      (moment_of traffic (r.frames.clock.have + 1) ≡ r.sets.passed →
       legs ≡ legs_of r.sets.mark r.sets.sets) →
-      HearsWith t traffic m
-      (record r {
-        have = r.have + 1;
-        start = start;
-        end = end;
-        legs = legs;
-        softs = fresh;
-        power = power;
-      }) heard pages kept
-  hears_come fresh power start end legs idle ended start_is softs_is power_is tuned =
+      HearsWith t traffic m (tuned_to legs end fingers (frame_taken fresh power r)) heard pages kept
+  hears_come fresh power end fingers legs idle ended softs_is power_is tuned =
       let coming = st.coming in
       let told = told_by_end (omega (arith, ended, coming)) in
       let known = end_is told in
-      let high = known_high t traffic m (legs_by traffic m kept) closes r.have in
+      let high = known_high t traffic m (legs_by traffic m kept) closes r.frames.clock.have in
       let was = st.start_is in
+      let form : frame_chips r.frames.clock.form ≡ 24576 = ap frame_chips sound.frames.form_is in
       let here = ap (frame_known t traffic m (legs_by traffic m kept)) idle in
       let offset = st.tuned.offset in
-      let behind : r.sets.passed ≤ moment_of traffic (r.have + 1) =
+      let behind : r.sets.passed ≤ moment_of traffic (r.frames.clock.have + 1) =
       elim (cases_lt 0 r.sets.passed) [
         | inl some ↦
             let b = st.begun some in omega (arith, b, ended, known, high, offset)
@@ -375,10 +373,10 @@ module _ {t : Tuning} {traffic : Traffic} {m : Mark} {r : TrafficReceiver} {hear
       ] in
       record {
         tuned = st.tuned;
-        start_is = omega (arith, start_is, was);
+        start_is = omega (arith, was, form);
         close = st.close;
         legs_are = λ early.
-            let at' : moment_of traffic (r.have + 1) ≡ r.sets.passed =
+            let at' : moment_of traffic (r.frames.clock.have + 1) ≡ r.sets.passed =
             omega (arith, behind, early) in
             tuned at'
             ∙ ap (λ (x : Mark). legs_of x r.sets.sets) st.tuned.mark_is
@@ -401,42 +399,33 @@ module _ {t : Tuning} {traffic : Traffic} {m : Mark} {r : TrafficReceiver} {hear
       }
 
   -- the same, as it goes on: its soft values are taken, and the next frame is tuned
-  pub hears_taken : (r1 r2 : TrafficReceiver) →
-      r1 ≡ record r { softs = r1.softs; power = r1.power } →
-      r2 ≡ record (record r1 {
-        have = r1.have + 1;
-        start = r1.start + 24576;
-        end = r1.end + 24576;
-      }) { legs = r2.legs; end = r2.end } →
-      r.have ≡ r.next → r.end ≡ length heard →
-      r1.softs ≡ raw_softs t traffic m (legs_by traffic m kept) heard r.have →
-      frames.subchannels r1.power ≡ all_sums t traffic m (legs_by traffic m kept) heard r.have →
-      ((r1.start + 24576 - r1.sets.mark.sample) / 98304 ≡ r1.sets.passed →
+  pub hears_taken : (r1 r2 : TrafficReceiver) → r1 ≡ frame_taken r1.softs r1.power r →
+      r2 ≡ tuned_to r2.legs r2.frames.clock.end r2.frames.fingers r1 →
+      r.frames.clock.have ≡ r.frames.clock.next → r.frames.clock.end ≡ length heard →
+      r1.softs ≡ raw_softs t traffic m (legs_by traffic m kept) heard r.frames.clock.have →
+      frames.subchannels r1.power
+      ≡ all_sums t traffic m (legs_by traffic m kept) heard r.frames.clock.have →
+      ((r1.frames.clock.start - r1.sets.mark.sample) / 98304 ≡ r1.sets.passed →
       r2.legs ≡ legs_of r1.sets.mark r1.sets.sets) →
       HearsWith t traffic m r2 heard pages kept
   hears_taken r1 r2 is1 is2 idle ended softs power tuned =
-      let start = ap (λ (x : TrafficReceiver). x.start) is1 in
+      let begins = ap (λ (x : TrafficReceiver). x.frames.clock.start) is1 in
       let sets = ap (λ (x : TrafficReceiver). x.sets) is1 in
       let sample = ap (λ (x : SetsKeeper). x.mark.sample) sets in
       let passed = ap (λ (x : SetsKeeper). x.passed) sets in
       let here = ap (λ (x : Mark). x.sample) st.tuned.mark_is in
       let was = st.start_is in
-      let told : moment_of traffic (r.have + 1) ≡ r.sets.passed →
+      let form : frame_chips r.frames.clock.form ≡ 24576 = ap frame_chips sound.frames.form_is in
+      let told : moment_of traffic (r.frames.clock.have + 1) ≡ r.sets.passed →
       r2.legs ≡ legs_of r.sets.mark r.sets.sets = λ e.
-      tuned (omega (arith, e, start, sample, passed, here, was))
+      tuned (omega (arith, e, begins, sample, passed, here, was, form))
       ∙ ap (λ (x : SetsKeeper). legs_of x.mark x.sets) sets in
-      subst (λ (x : TrafficReceiver). HearsWith t traffic m x heard pages kept) (sym is2)
-      (subst
-      (λ (x : TrafficReceiver).
-      HearsWith t traffic m
-      (record (record x {
-        have = x.have + 1;
-        start = x.start + 24576;
-        end = x.end + 24576;
-      }) { legs = r2.legs; end = r2.end }) heard pages kept)
-      (sym is1)
-      (hears_come r1.softs r1.power (r.start + 24576) r2.end r2.legs idle ended refl softs power
-      told))
+      let shape : r2 ≡ tuned_to r2.legs r2.frames.clock.end r2.frames.fingers
+      (frame_taken r1.softs r1.power r) =
+      is2 ∙ ap (tuned_to r2.legs r2.frames.clock.end r2.frames.fingers) is1 in
+      subst (λ (x : TrafficReceiver). HearsWith t traffic m x heard pages kept) (sym shape)
+      (hears_come r1.softs r1.power r2.frames.clock.end r2.frames.fingers r2.legs idle ended softs
+      power told)
 
   -- a moment has come
   pub hears_due : (due : Bool) → (due ≡ true → length heard ≡ moment_place m (r.sets.passed + 1)) →
@@ -461,52 +450,48 @@ module _ {t : Tuning} {traffic : Traffic} {m : Mark} {r : TrafficReceiver} {hear
   }
 
   -- a frame that is due lies in the file
-  pub due_inside : r.next < r.have →
-      has_frame t traffic m (legs_by traffic m kept) r.next ≡ true
+  pub due_inside : r.frames.clock.next < r.frames.clock.have →
+      has_frame t traffic m (legs_by traffic m kept) r.frames.clock.next ≡ true
   due_inside come =
       let known = st.known come in
       let within = st.within in
-      has_here t traffic m (legs_by traffic m kept) closes far r.next
+      has_here t traffic m (legs_by traffic m kept) closes far r.frames.clock.next
       (omega (arith, known, within))
 
-  -- the places and the scrambling bits of the frame that is heard next
-  pub places_are : power_places (after r.scrambling.state (24576 * r.next)) r.scrambling.mask
-      ≡ replaced_in traffic m r.next
-  places_are =
-      ap (λ (n : ℕ). power_places n r.scrambling.mask)
-      (state_on traffic m r.scrambling.state r.next st.tuned.state_is)
-      ∙ ap (power_places (frame_state traffic m r.next)) st.tuned.mask_is
-
-  pub bits_are : scrambling (after r.scrambling.state (24576 * r.next)) r.scrambling.mask
-      ≡ scrambling (frame_state traffic m r.next) (traffic_mask traffic.esn)
+  -- the scrambling bits of the frame that is heard next
+  pub bits_are : scrambling (after r.frames.scrambling.state (24576 * r.frames.clock.next)) r.frames.scrambling.mask
+      ≡ scrambling (frame_state traffic m r.frames.clock.next) (traffic_mask traffic.esn)
   bits_are =
-      ap (λ (n : ℕ). scrambling n r.scrambling.mask)
-      (state_on traffic m r.scrambling.state r.next st.tuned.state_is)
-      ∙ ap (scrambling (frame_state traffic m r.next)) st.tuned.mask_is
+      ap (λ (n : ℕ). scrambling n r.frames.scrambling.mask)
+      (state_on traffic m r.frames.scrambling.state r.frames.clock.next st.tuned.state_is)
+      ∙ ap (scrambling (frame_state traffic m r.frames.clock.next)) st.tuned.mask_is
 
-  module _ (come : r.next < r.have) where
+  module _ (come : r.frames.clock.next < r.frames.clock.have) where
     -- what is decoded of the frame that is due
-    pub frame_here : (replaced : List ℕ) (bits : List Bool) (descrambled : List ℤ) (frame : Decoded) →
+    pub frame_here : (replaced : List ℕ) (descrambled : List ℤ) (frame : Decoded) →
         replaced
-        ≡ power_places (after r.scrambling.state (24576 * r.next)) r.scrambling.mask →
-        bits ≡ scrambling (after r.scrambling.state (24576 * r.next)) r.scrambling.mask →
-        descrambled ≡ unscrambled bits r.softs → frame ≡ decoded replaced descrambled →
-        frame ≡ decoded_at t traffic m (legs_by traffic m kept) heard r.next
+        ≡ power_places (after r.frames.scrambling.state (24576 * r.frames.clock.next)) r.frames.scrambling.mask →
+        descrambled
+        ≡ unscrambled
+        (scrambling (after r.frames.scrambling.state (24576 * r.frames.clock.next))
+        r.frames.scrambling.mask) r.softs →
+        frame ≡ decoded replaced descrambled →
+        frame ≡ decoded_at t traffic m (legs_by traffic m kept) heard r.frames.clock.next
     unfolding decoded_at
-    frame_here replaced bits descrambled frame replaced_is bits_is descrambled_is frame_is =
-        let k : ℕ = r.next in
+    frame_here replaced descrambled frame replaced_is descrambled_is frame_is =
+        let k : ℕ = r.frames.clock.next in
         frame_is
-        ∙ ap (λ (ps : List ℕ). decoded ps descrambled) (replaced_is ∙ places_are)
+        ∙ ap (λ (ps : List ℕ). decoded ps descrambled) (replaced_is ∙ places_at k)
         ∙ ap (decoded (replaced_in traffic m k))
         (descrambled_is
-        ∙ ap (λ (b : List Bool). unscrambled b r.softs) (bits_is ∙ bits_are)
+        ∙ ap (λ (b : List Bool). unscrambled b r.softs) bits_are
         ∙ ap (unscrambled (scrambling (frame_state traffic m k) (traffic_mask traffic.esn)))
         (st.softs_are come))
 
     -- and its power control bits
     pub power_bits_here : (told : List Bool) →
         told ≡ map (power_bit (frames.subchannels r.power)) (places 16) →
-        told ≡ power_bits_at t traffic m (legs_by traffic m kept) heard r.next
+        told ≡ power_bits_at t traffic m (legs_by traffic m kept) heard r.frames.clock.next
     unfolding power_bits_at
     power_bits_here told told_is =
         told_is

@@ -6,7 +6,7 @@ use Rattle.mobile_core.proofs.Common.{with_neighbors, with_thresholds, Direction
 use Rattle.mobile_core.proofs.Common.{legs_by, moment_place, all_noted, body_noted, moment_from, noted, noted_with, page_noted}
 use Rattle.mobile_core.proofs.Common.{system_thresholds, capsule_with, message_at, message_events, signal_at, signal_in, signal_of}
 use Rattle.mobile_core.proofs.Common.{signals_before, HasTold, HearsWith, IsSoundTraffic, noted_by, told_left_with, frame_known, Tuning}
-use Rattle.mobile_core.proofs.Common.{Event, Mark, Traffic, SpelledSignal, TrafficReceiver}
+use Rattle.mobile_core.proofs.Common.{frame_heard, Event, Mark, Traffic, SpelledSignal, TrafficReceiver}
 use Rattle.heard_events.proofs.FrameGrowth.{signals_more}
 use Rattle.mobile_core.proofs.FramesHeard.{closes, due_inside}
 use Rattle.heard_events.proofs.TrafficGrowth.{told_left, told_next}
@@ -16,7 +16,7 @@ use Rattle.traffic_message.specs.declared.body.TrafficBody.TheVariants as bodies
 use Rattle.heard_events.specs.declared.event.Event.TheVariants as events
 
 -- where no message is kept a frame has come
-pub told_come : (r : TrafficReceiver) → HasTold r → r.kept ≡ None → r.next < r.have
+pub told_come : (r : TrafficReceiver) → HasTold r → r.kept ≡ None → r.frames.clock.next < r.frames.clock.have
 told_come r due empty =
     elim due [
       | inl some ↦
@@ -113,7 +113,7 @@ module _ {t : Tuning} {traffic : Traffic} {m : Mark} {heard : List Sample} {kept
         event ∷ [] ≡ message_events (length heard) (Some message) →
         HearsWith t traffic m (record r { kept = None }) heard (event ∷ []) kept
     hears_given {r} event message st is event_is =
-        let rest = told_left t traffic m (legs_by traffic m kept) heard r.next in
+        let rest = told_left t traffic m (legs_by traffic m kept) heard r.frames.clock.next in
         let left : told_left_with t traffic m heard r kept ≡ event ∷ rest =
         ap (λ (k : Option SpelledSignal). message_events (length heard) k ++ rest) is
         ∙ ap (λ (es : List Event). es ++ rest) (sym event_is) in
@@ -143,15 +143,15 @@ module _ {t : Tuning} {traffic : Traffic} {m : Mark} {heard : List Sample} {kept
         event ∷ told_left_with t traffic m heard (record r { kept = None }) kept
         ≡ told_left_with t traffic m heard r kept
     left_given r event message st is event_is =
-        let rest = told_left t traffic m (legs_by traffic m kept) heard r.next in
+        let rest = told_left t traffic m (legs_by traffic m kept) heard r.frames.clock.next in
         ap (λ (es : List Event). es ++ rest) event_is
         ∙ sym (ap (λ (k : Option SpelledSignal). message_events (length heard) k ++ rest) is)
 
     -- THE FRAME THAT IS DUE
     module _ {r : TrafficReceiver} (st : HearsWith t traffic m r heard [] kept)
-        (sound : IsSoundTraffic r) (come : r.next < r.have) (frame : Decoded)
-        (frame_is : frame ≡ decoded_at t traffic m (legs_by traffic m kept) heard r.next) where
-      signal_here : signal_of frame ≡ signal_at t traffic m (legs_by traffic m kept) heard r.next
+        (sound : IsSoundTraffic r) (come : r.frames.clock.next < r.frames.clock.have) (frame : Decoded)
+        (frame_is : frame ≡ decoded_at t traffic m (legs_by traffic m kept) heard r.frames.clock.next) where
+      signal_here : signal_of frame ≡ signal_at t traffic m (legs_by traffic m kept) heard r.frames.clock.next
       unfolding signal_at
       signal_here = ap (λ (f : Decoded). signal_of f) frame_is
 
@@ -160,9 +160,9 @@ module _ {t : Tuning} {traffic : Traffic} {m : Mark} {heard : List Sample} {kept
           ((signals : List (List Bool)) → StandsFor r.framer signals →
           StandsFor framer (signals ++ option_to_list (signal_of frame))) →
           StandsFor framer
-          (signals_before t traffic m (legs_by traffic m kept) heard (r.next + 1))
+          (signals_before t traffic m (legs_by traffic m kept) heard (r.frames.clock.next + 1))
       framed_here framer takes =
-          let k : ℕ = r.next in
+          let k : ℕ = r.frames.clock.next in
           let legs = legs_by traffic m kept in
           let before = signals_before t traffic m legs heard k in
           subst (StandsFor framer)
@@ -174,10 +174,10 @@ module _ {t : Tuning} {traffic : Traffic} {m : Mark} {heard : List Sample} {kept
       message_here : (message : Option SpelledSignal) (check : CheckForm) → check ≡ t.check16 →
           ((signals : List (List Bool)) → StandsFor r.framer signals →
           message ≡ signal_in check (capsule_with signals (signal_of frame))) →
-          message ≡ message_at t traffic m (legs_by traffic m kept) heard r.next
+          message ≡ message_at t traffic m (legs_by traffic m kept) heard r.frames.clock.next
       unfolding message_at
       message_here message check check_is gives =
-          let before = signals_before t traffic m (legs_by traffic m kept) heard r.next in
+          let before = signals_before t traffic m (legs_by traffic m kept) heard r.frames.clock.next in
           gives before st.framed
           ∙ ap (λ (c : CheckForm). signal_in c (capsule_with before (signal_of frame))) check_is
           ∙ ap (λ (s : Option (List Bool)). signal_in t.check16 (capsule_with before s)) signal_here
@@ -185,15 +185,15 @@ module _ {t : Tuning} {traffic : Traffic} {m : Mark} {heard : List Sample} {kept
       -- the frame's event is the first of those left, and what it completes follows
       pub told_here : (event : Event) (told : List Bool) (message : Option SpelledSignal)
           (check : CheckForm) → event ≡ frame_event (length heard) frame told →
-          told ≡ power_bits_at t traffic m (legs_by traffic m kept) heard r.next →
+          told ≡ power_bits_at t traffic m (legs_by traffic m kept) heard r.frames.clock.next →
           check ≡ t.check16 →
           ((signals : List (List Bool)) → StandsFor r.framer signals →
           message ≡ signal_in check (capsule_with signals (signal_of frame))) → r.kept ≡ None →
           event ∷ (message_events (length heard) message
-          ++ told_left t traffic m (legs_by traffic m kept) heard (r.next + 1))
+          ++ told_left t traffic m (legs_by traffic m kept) heard (r.frames.clock.next + 1))
           ≡ told_left_with t traffic m heard r kept
       told_here event told message check event_is told_is check_is gives empty =
-          let k : ℕ = r.next in
+          let k : ℕ = r.frames.clock.next in
           let n : ℕ = length heard in
           let legs = legs_by traffic m kept in
           let close = closes st sound in
@@ -217,19 +217,23 @@ module _ {t : Tuning} {traffic : Traffic} {m : Mark} {heard : List Sample} {kept
           ((signals : List (List Bool)) → StandsFor r.framer signals →
           StandsFor framer (signals ++ option_to_list (signal_of frame))) →
           event ≡ frame_event (length heard) frame told →
-          told ≡ power_bits_at t traffic m (legs_by traffic m kept) heard r.next →
+          told ≡ power_bits_at t traffic m (legs_by traffic m kept) heard r.frames.clock.next →
           check ≡ t.check16 →
           ((signals : List (List Bool)) → StandsFor r.framer signals →
           message ≡ signal_in check (capsule_with signals (signal_of frame))) → r.kept ≡ None →
           HearsWith t traffic m
-          (record r { next = r.next + 1; framer = framer; kept = message }) heard (event ∷ []) kept
+          (record r {
+            frames = record r.frames { clock = frame_heard r.frames.clock };
+            framer = framer;
+            kept = message;
+          }) heard (event ∷ []) kept
       hears_heard framer message event told check takes event_is told_is check_is gives empty =
           let most = sound.have_most in
           let known = st.known come in
-          let order : r.have ≡ r.next + 1 = omega (arith, most, come) in
+          let order : r.frames.clock.have ≡ r.frames.clock.next + 1 = omega (arith, most, come) in
           let left = told_here event told message check event_is told_is check_is gives empty in
           let rest = message_events (length heard) message
-          ++ told_left t traffic m (legs_by traffic m kept) heard (r.next + 1) in
+          ++ told_left t traffic m (legs_by traffic m kept) heard (r.frames.clock.next + 1) in
           record {
             tuned = st.tuned;
             start_is = st.start_is;
@@ -242,10 +246,10 @@ module _ {t : Tuning} {traffic : Traffic} {m : Mark} {heard : List Sample} {kept
             coming = st.coming;
             due_is = st.due_is;
             ended = λ k less.
-                elim (cases_lt k r.next) [
+                elim (cases_lt k r.frames.clock.next) [
                   | inl below ↦ st.ended k below
                   | inr above ↦
-                      let here : k ≡ r.next = omega (arith, less, above) in
+                      let here : k ≡ r.frames.clock.next = omega (arith, less, above) in
                       let same = ap (frame_known t traffic m (legs_by traffic m kept)) here in
                       omega (arith, same, known)
                 ];

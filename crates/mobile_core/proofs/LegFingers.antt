@@ -45,6 +45,21 @@ all_some phase deltas (leg ∷ legs) some paths =
 pub length-paths : (count : ℕ) (deltas : List ℤ) → count ≤ 3 → length (take count deltas) ≤ 3
 length-paths count deltas most = omega (arith, length-take count deltas, most)
 
+-- pilots have room for their fingers
+pub fingers_few : (phase count : ℕ) (deltas : List ℤ) (legs : List Leg) → count ≤ 3 →
+    length (all_fingers phase (take count deltas) legs) ≤ places_in legs
+fingers_few phase count deltas [] most = omega arith
+fingers_few phase count deltas (leg ∷ legs) most =
+    let paths = take count deltas in
+    let one = leg_few phase paths leg (length-paths count deltas most) in
+    let rest = fingers_few phase count deltas legs most in
+    omega (
+      arith,
+      one,
+      rest,
+      length-append (leg_fingers phase paths leg) (all_fingers phase paths legs),
+    )
+
 -- ROWS
 rows_of : (row phase : ℕ) (deltas : List ℤ) → nat_lt row 64 ≡ true →
     have_rows (fingers_of row phase deltas) ≡ true
@@ -105,7 +120,7 @@ leg_close_at (x ∷ legs) (suc i) leg h read =
     leg_close_at legs i leg (and_parts (is_close x.finger) (legs_close legs) h).1 read
 
 -- pilots that are close have close fingers, where the reference's paths are
-paths_fingers : (row phase : ℕ) (deltas : List ℤ) →
+pub paths_fingers : (row phase : ℕ) (deltas : List ℤ) →
     all_close (fingers_of row phase deltas) ≡ paths_close deltas
 paths_fingers row phase [] = refl
 paths_fingers row phase (d ∷ deltas) =

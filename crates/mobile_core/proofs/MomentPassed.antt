@@ -5,7 +5,8 @@ use Rattle.mobile_core.proofs.Common.{take_all, Sample, filter_ext_places, flat_
 use Rattle.mobile_core.proofs.Common.{listed, all_fingers, legs_of, heard_from, kept_to, legs_by, moment_of, moment_place, passed}
 use Rattle.mobile_core.proofs.Common.{sets_events, all_noted, signal_at, signals_before, decoded_at, HearsWith, IsSoundTraffic, kept_in}
 use Rattle.mobile_core.proofs.Common.{sets_left_of, told_left_with, traffic_left_of, frame_known, has_frame, Tuning, Event, Leg, Mark}
-use Rattle.mobile_core.proofs.Common.{SetsKeeper, Traffic, TrafficReceiver}
+use Rattle.mobile_core.proofs.Common.{Finger, SetsKeeper, Traffic, TrafficReceiver}
+use Rattle.mobile_core.specs.TrafficReceiving.{tuned_to}
 use Rattle.std.proofs.lemmas.List.{append-nil}
 use Rattle.heard_events.proofs.FrameBounds.{known_low}
 use Rattle.mobile_core.proofs.FramesHeard.{closes, from_next, left_unkept, start_moment, told_given}
@@ -43,8 +44,8 @@ module _ (t : Tuning) (traffic : Traffic) (m : Mark) (legs legs' : ℕ → List 
 
 module _ {t : Tuning} {traffic : Traffic} {m : Mark} {r : TrafficReceiver} {heard : List Sample}
     (st : HearsWith t traffic m r heard [] (kept_in t traffic m r heard))
-    (sound : IsSoundTraffic r) (idle : r.have ≡ r.next) (empty : r.kept ≡ None)
-    (waits : length heard < r.end)
+    (sound : IsSoundTraffic r) (idle : r.frames.clock.have ≡ r.frames.clock.next) (empty : r.kept ≡ None)
+    (waits : length heard < r.frames.clock.end)
     (here : length heard ≡ moment_place m (r.sets.passed + 1)) where
   -- the sets are those of the definition
   pub sets_now : r.sets.sets ≡ heard_from t traffic m (kept_in t traffic m r heard) heard
@@ -70,11 +71,18 @@ module _ {t : Tuning} {traffic : Traffic} {m : Mark} {r : TrafficReceiver} {hear
       passed m xs (j + 1) (heard_from t traffic m (kept_to t traffic m heard j) xs j 98304)) whole
       ∙ ap (passed m heard (j + 1)) (sym sets_now)
 
-  module _ (sets : Standing) (legs : List Leg) (end : ℕ)
+  module _ (sets : Standing) (legs : List Leg) (end : ℕ) (fingers : List Finger)
       (sets_is : sets ≡ passed m heard (r.sets.passed + 1) r.sets.sets)
       (close : AreClose (all_fingers t.phase t.deltas (legs_of m sets)))
-      (tuned : moment_of traffic r.have ≡ r.sets.passed + 1 → legs ≡ legs_of m sets)
-      (stays : ¬ (moment_of traffic r.have ≡ r.sets.passed + 1) → legs ≡ r.legs) where
+      (tuned : moment_of traffic r.frames.clock.have ≡ r.sets.passed + 1 → legs ≡ legs_of m sets)
+      (stays : ¬ (moment_of traffic r.frames.clock.have ≡ r.sets.passed + 1) → legs ≡ r.legs) where
+    -- the receiver then
+    abbrev then : TrafficReceiver
+    then =
+        record (tuned_to legs end fingers r) {
+          sets = record { sets = sets; mark = r.sets.mark; passed = r.sets.passed + 1; due = false };
+        }
+
     old_here : (k : ℕ) → moment_of traffic k ≤ r.sets.passed →
         legs_by traffic m (kept_to t traffic m heard (r.sets.passed + 1)) k
         ≡ legs_by traffic m (kept_in t traffic m r heard) k
@@ -98,7 +106,7 @@ module _ {t : Tuning} {traffic : Traffic} {m : Mark} {r : TrafficReceiver} {hear
         ]
 
     -- frames that have been heard began before the moment
-    heard_early : (k : ℕ) → k < r.next → moment_of traffic k ≤ r.sets.passed
+    heard_early : (k : ℕ) → k < r.frames.clock.next → moment_of traffic k ≤ r.sets.passed
     heard_early k less =
         let ended = st.ended k less in
         let low = known_low t traffic m (legs_by traffic m (kept_in t traffic m r heard))
@@ -110,7 +118,7 @@ module _ {t : Tuning} {traffic : Traffic} {m : Mark} {r : TrafficReceiver} {hear
         ]
 
     -- no frame ends at the moment that hasn't been heard
-    none_ends : (k : ℕ) → r.next ≤ k →
+    none_ends : (k : ℕ) → r.frames.clock.next ≤ k →
         length heard + 1
         ≤ frame_known t traffic m
         (legs_by traffic m (kept_to t traffic m heard (r.sets.passed + 1))) k
@@ -130,41 +138,29 @@ module _ {t : Tuning} {traffic : Traffic} {m : Mark} {r : TrafficReceiver} {hear
         ]
 
     told_none : told_left_with t traffic m heard
-        (record r {
-          legs = legs;
-          end = end;
-          sets = record { sets = sets; mark = r.sets.mark; passed = r.sets.passed + 1; due = false };
-        }) (kept_to t traffic m heard (r.sets.passed + 1)) ≡ []
+        then (kept_to t traffic m heard (r.sets.passed + 1)) ≡ []
     told_none =
         left_unkept t traffic m heard
-        (record r {
-          legs = legs;
-          end = end;
-          sets = record { sets = sets; mark = r.sets.mark; passed = r.sets.passed + 1; due = false };
-        }) (kept_to t traffic m heard (r.sets.passed + 1)) empty
+        then (kept_to t traffic m heard (r.sets.passed + 1)) empty
         ∙ told_left_none t traffic m
-        (legs_by traffic m (kept_to t traffic m heard (r.sets.passed + 1))) heard r.next none_ends
+        (legs_by traffic m (kept_to t traffic m heard (r.sets.passed + 1))) heard r.frames.clock.next none_ends
 
-    legs_here : moment_of traffic r.have ≤ r.sets.passed + 1 →
-        legs ≡ legs_by traffic m (kept_to t traffic m heard (r.sets.passed + 1)) r.have
+    legs_here : moment_of traffic r.frames.clock.have ≤ r.sets.passed + 1 →
+        legs ≡ legs_by traffic m (kept_to t traffic m heard (r.sets.passed + 1)) r.frames.clock.have
     legs_here most =
-        elim (cases_lt r.sets.passed (moment_of traffic r.have)) [
+        elim (cases_lt r.sets.passed (moment_of traffic r.frames.clock.have)) [
           | inl later ↦
-              let at' : moment_of traffic r.have ≡ r.sets.passed + 1 =
+              let at' : moment_of traffic r.frames.clock.have ≡ r.sets.passed + 1 =
               omega (arith, later, most) in
-              tuned at' ∙ sym (new_here (moment_of traffic r.have) later)
+              tuned at' ∙ sym (new_here (moment_of traffic r.frames.clock.have) later)
           | inr early ↦
               stays (λ at'. omega (arith, at', early))
               ∙ st.legs_are early
-              ∙ sym (old_here r.have early)
+              ∙ sym (old_here r.frames.clock.have early)
         ]
 
     pub hears_passed : HearsWith t traffic m
-        (record r {
-          legs = legs;
-          end = end;
-          sets = record { sets = sets; mark = r.sets.mark; passed = r.sets.passed + 1; due = false };
-        }) heard [] (kept_to t traffic m heard (r.sets.passed + 1))
+        then heard [] (kept_to t traffic m heard (r.sets.passed + 1))
     hears_passed =
         let j : ℕ = r.sets.passed in
         let kept' = kept_to t traffic m heard (j + 1) in
@@ -195,7 +191,7 @@ module _ {t : Tuning} {traffic : Traffic} {m : Mark} {r : TrafficReceiver} {hear
           framed = subst (StandsFor r.framer)
               (sym (signals_same t traffic m
               (legs_by traffic m (kept_in t traffic m r heard)) (legs_by traffic m kept') heard
-              r.next (λ k less. old_here k (heard_early k less)))) st.framed;
+              r.frames.clock.next (λ k less. old_here k (heard_early k less)))) st.framed;
           sets_are = ap (λ (es : List Event). all_noted m es sets) told_none
               ∙ sets_is
               ∙ sym (kept_here (j + 1) (omega arith))
@@ -225,11 +221,7 @@ module _ {t : Tuning} {traffic : Traffic} {m : Mark} {r : TrafficReceiver} {hear
     pub left_passed : (event : Option Event) →
         listed event ≡ sets_events m heard (r.sets.passed + 1) r.sets.sets →
         listed event ++ traffic_left_of t traffic m heard
-        (record r {
-          legs = legs;
-          end = end;
-          sets = record { sets = sets; mark = r.sets.mark; passed = r.sets.passed + 1; due = false };
-        })
+        then
         ≡ traffic_left_of t traffic m heard r
     left_passed event event_is =
         let was = told_given st sound idle empty waits in
@@ -250,12 +242,12 @@ module _ {t : Tuning} {traffic : Traffic} {m : Mark} {r : TrafficReceiver} {hear
         passed = r.sets.passed + 1;
         due = false;
       })
-      (r2_is : r2 ≡ record (record r { sets = k }) { legs = r2.legs; end = r2.end })
+      (r2_is : r2 ≡ tuned_to r2.legs r2.frames.clock.end r2.frames.fingers (record r { sets = k }))
       (sets_is : k.sets ≡ passed m heard (r.sets.passed + 1) r.sets.sets)
       (close : AreClose (all_fingers t.phase t.deltas (legs_of m k.sets)))
-      (tuned : (r.start - k.mark.sample) / 98304 ≡ k.passed → r2.legs ≡ legs_of k.mark k.sets)
-      (stays : ¬ ((r.start - k.mark.sample) / 98304 ≡ k.passed) → r2.legs ≡ r.legs) where
-    moment_is : (r.start - k.mark.sample) / 98304 ≡ moment_of traffic r.have
+      (tuned : (r.frames.clock.start - k.mark.sample) / 98304 ≡ k.passed → r2.legs ≡ legs_of k.mark k.sets)
+      (stays : ¬ ((r.frames.clock.start - k.mark.sample) / 98304 ≡ k.passed) → r2.legs ≡ r.legs) where
+    moment_is : (r.frames.clock.start - k.mark.sample) / 98304 ≡ moment_of traffic r.frames.clock.have
     moment_is =
         let mark = ap (λ (x : SetsKeeper). x.mark.sample) k_is in
         let here' = ap (λ (x : Mark). x.sample) st.tuned.mark_is in
@@ -265,29 +257,27 @@ module _ {t : Tuning} {traffic : Traffic} {m : Mark} {r : TrafficReceiver} {hear
     passed_is : k.passed ≡ r.sets.passed + 1
     passed_is = ap (λ (x : SetsKeeper). x.passed) k_is
 
-    tuned_here : moment_of traffic r.have ≡ r.sets.passed + 1 → r2.legs ≡ legs_of m k.sets
+    tuned_here : moment_of traffic r.frames.clock.have ≡ r.sets.passed + 1 → r2.legs ≡ legs_of m k.sets
     tuned_here e =
         tuned (moment_is ∙ e ∙ sym passed_is)
         ∙ ap (λ (x : Mark). legs_of x k.sets)
         (ap (λ (x : SetsKeeper). x.mark) k_is ∙ st.tuned.mark_is)
 
-    stays_here : ¬ (moment_of traffic r.have ≡ r.sets.passed + 1) → r2.legs ≡ r.legs
+    stays_here : ¬ (moment_of traffic r.frames.clock.have ≡ r.sets.passed + 1) → r2.legs ≡ r.legs
     stays_here other = stays (λ e. other (sym moment_is ∙ e ∙ passed_is))
 
-    shape : r2 ≡ record r {
-      legs = r2.legs;
-      end = r2.end;
-      sets = record { sets = k.sets; mark = r.sets.mark; passed = r.sets.passed + 1; due = false };
-    }
+    shape : r2 ≡ then k.sets r2.legs r2.frames.clock.end r2.frames.fingers sets_is close tuned_here
+        stays_here
     shape =
         r2_is
-        ∙ ap (λ (x : SetsKeeper). record r { legs = r2.legs; end = r2.end; sets = x }) k_is
+        ∙ ap (λ (x : SetsKeeper).
+        tuned_to r2.legs r2.frames.clock.end r2.frames.fingers (record r { sets = x })) k_is
 
     pub hears_tuned : HearsWith t traffic m r2 heard [] (kept_in t traffic m r2 heard)
     hears_tuned =
         subst (λ (x : TrafficReceiver).
         HearsWith t traffic m x heard [] (kept_in t traffic m x heard)) (sym shape)
-        (hears_passed k.sets r2.legs r2.end sets_is close tuned_here stays_here)
+        (hears_passed k.sets r2.legs r2.frames.clock.end r2.frames.fingers sets_is close tuned_here stays_here)
 
     pub left_tuned : (event : Option Event) →
         listed event ≡ sets_events m heard (r.sets.passed + 1) r.sets.sets →
@@ -297,4 +287,4 @@ module _ {t : Tuning} {traffic : Traffic} {m : Mark} {r : TrafficReceiver} {hear
         subst (λ (x : TrafficReceiver).
         listed event ++ traffic_left_of t traffic m heard x
         ≡ traffic_left_of t traffic m heard r) (sym shape)
-        (left_passed k.sets r2.legs r2.end sets_is close tuned_here stays_here event event_is)
+        (left_passed k.sets r2.legs r2.frames.clock.end r2.frames.fingers sets_is close tuned_here stays_here event event_is)

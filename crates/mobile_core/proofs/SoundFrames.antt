@@ -1,108 +1,95 @@
 -- What always holds of the receiver of a traffic channel, as it goes on.
 use Rattle.mobile_core.proofs.Common.{◌≡◌, ℕ, ◌+◌, ◌*◌, ◌^◌, ◌<◌, ◌≤◌, true, List, Bool, length, take, ℤ, sym, ap, ◌∙◌, arith, Option, None}
 use Rattle.mobile_core.proofs.Common.{subst, false, Held, sum_by, unsigned_abs, if◌then◌else◌, PowerSofts, Finger, Data, Sample, Standing}
-use Rattle.mobile_core.proofs.Common.{AreClose, legs_close, legs_rows, paths_close, places_in, all_fingers, legs_of, moment_place}
-use Rattle.mobile_core.proofs.Common.{IsSoundKeeper, coming_place, frame_end, HearsWith, IsSoundTraffic, Tuning, Event, Leg, Mark}
-use Rattle.mobile_core.proofs.Common.{SetsKeeper, Traffic, SpelledSignal, TrafficReceiver}
+use Rattle.mobile_core.proofs.Common.{AreClose, legs_close, legs_rows, paths_close, all_fingers, legs_of, moment_place, IsSoundKeeper}
+use Rattle.mobile_core.proofs.Common.{coming_place, frame_end, HearsWith, IsSoundTraffic, Tuning, Event, Leg, Mark, SetsKeeper, Traffic}
+use Rattle.mobile_core.proofs.Common.{SpelledSignal, TrafficReceiver, All, IsInRing, frame_chips, frame_heard}
 use Rattle.mobile_core.specs.LegSofts.{IsHeldFrom}
-use Rattle.mobile_core.specs.TrafficReceiving.{fingers_in}
-use Rattle.rake_finger.proofs.CloseFingers.{close_ends, close_in_ring, close_later}
+use Rattle.mobile_core.specs.TrafficReceiving.{HasSoundLegs, frame_taken, tuned_to}
+use Rattle.reception.specs.Sound.{IsSoundReceiver}
+use Rattle.rake_finger.proofs.CloseFingers.{begun_in_ring, close_ends}
 use Rattle.mobile_core.proofs.LegFingers.{all_some, legs_are_close}
 
 module _ {r : TrafficReceiver} (is : IsSoundTraffic r) where
   -- other pilots, with the end of their frame
-  pub sound_tuned : (legs : List Leg) (end : ℕ) → 1 ≤ length legs → places_in legs ≤ 8 →
-      legs_close legs ≡ true → legs_rows legs ≡ true →
-      AreClose (all_fingers r.phase (take r.near.count r.near.deltas) legs) →
-      end ≡ frame_end (all_fingers r.phase (take r.near.count r.near.deltas) legs) Data r.start →
-      IsSoundTraffic (record r { legs = legs; end = end })
-  sound_tuned legs end some few close rows fingers ends = record {
+  pub sound_tuned : (legs : List Leg) (end : ℕ) (fingers : List Finger) → HasSoundLegs legs →
+      fingers ≡ all_fingers r.phase (take r.near.count r.near.deltas) legs →
+      IsSoundReceiver (tuned_to legs end fingers r).frames →
+      IsSoundTraffic (tuned_to legs end fingers r)
+  sound_tuned legs end fingers sound fingers_are frames = record {
     set = is.set;
-    legs = record {
-      some = some;
-      few = few;
-      legs_close = close;
-      legs_rows = rows;
-      fingers_close = fingers;
-    };
     keeper = is.keeper;
-    next_have = is.next_have;
+    frames = frames;
+    fingers_are = fingers_are;
     have_most = is.have_most;
     start_least = is.start_least;
     start_most = is.start_most;
-    ends = ends;
+    legs = sound;
     small = is.small;
     subchannels = is.subchannels;
   }
 
   -- the samples of its fingers are in the ring when the frame has just ended
-  pub legs_held : (ring : Held) → ring.room ≡ 65536 → ring.taken ≡ r.end →
-      IsHeldFrom ring r.legs r.phase r.near r.start
-  legs_held ring room ended = record {
-    some = is.legs.some;
-    few = is.legs.few;
-    least = is.set.least;
-    most = is.set.most;
-    close = is.legs.legs_close;
-    rows = is.legs.legs_rows;
-    held = close_in_ring ring r.start _ is.legs.fingers_close.close
-        (omega (arith, is.start_least, is.keeper.marked.late)) room (ended ∙ is.ends);
-  }
-
-  -- a frame's soft values
-  pub sound_softs : (softs : List ℤ) (power : PowerSofts) →
-      sum_by unsigned_abs softs ≤ 3 * 2 ^ 60 → power.count ≤ 6 →
-      IsSoundTraffic (record r { softs = softs; power = power })
-  sound_softs softs power small few = record {
-    keeper = is.keeper;
-    next_have = is.next_have;
-    have_most = is.have_most;
-    start_least = is.start_least;
-    start_most = is.start_most;
-    set = is.set;
-    legs = is.legs;
-    ends = is.ends;
-    small = small;
-    subchannels = few;
-  }
-
-  -- on to the frame behind one that ends in a file
-  pub sound_come : r.have ≡ r.next → r.end ≤ 2 ^ 26 →
-      IsSoundTraffic
-      (record r { have = r.have + 1; start = r.start + 24576; end = r.end + 24576 })
-  sound_come idle few =
-      let ends = is.ends in
-      let low = (close_ends r.start (fingers_in r) is.legs.fingers_close).0 in
-      let later = close_later r.start 24576 (fingers_in r) is.legs.fingers_close in
-      let least = is.start_least in
+  pub legs_held : (ring : Held) → ring.room ≡ 65536 → ring.taken ≡ r.frames.clock.end →
+      IsHeldFrom ring r.legs r.phase r.near r.frames.clock.start
+  legs_held ring room ended =
+      let frames = is.frames in
       record {
-        keeper = is.keeper;
-        next_have = omega (arith, idle);
-        have_most = omega (arith, idle);
-        start_least = omega (arith, least);
-        start_most = omega (arith, ends, low, few);
+        some = is.legs.some;
+        few = is.legs.few;
+        least = is.set.least;
+        most = is.set.most;
+        close = is.legs.legs_close;
+        rows = is.legs.legs_rows;
+        held = subst (All (IsInRing ring Data r.frames.clock.start)) is.fingers_are
+            (begun_in_ring ring Data r.frames.clock.start r.frames.fingers frames.close.close
+            frames.begun room (ended ∙ frames.ends));
+      }
+
+  -- a frame's soft values, and on to the frame behind it, in a file
+  pub sound_taken : (softs : List ℤ) (power : PowerSofts) →
+      sum_by unsigned_abs softs ≤ 3 * 2 ^ 60 → power.count ≤ 6 →
+      r.frames.clock.have ≡ r.frames.clock.next → r.frames.clock.end ≤ 2 ^ 26 →
+      IsSoundReceiver (frame_taken softs power r).frames →
+      IsSoundTraffic (frame_taken softs power r)
+  sound_taken softs power small few idle early frames =
+      let ends = is.frames.ends in
+      let low = (close_ends r.frames.clock.start r.frames.fingers is.frames.close).0 in
+      let least = is.start_least in
+      let chips = ap frame_chips is.frames.form_is in
+      record {
         set = is.set;
+        keeper = is.keeper;
+        frames = frames;
+        fingers_are = is.fingers_are;
+        have_most = omega (arith, idle);
+        start_least = omega (arith, least, chips);
+        start_most = omega (arith, ends, low, early, chips);
         legs = is.legs;
-        ends = omega (arith, ends, later);
-        small = is.small;
-        subchannels = is.subchannels;
+        small = small;
+        subchannels = few;
       }
 
   -- the frame that is due has been heard
   pub sound_heard : (framer : Option (List Bool)) (kept : Option SpelledSignal) →
-      r.next < r.have →
-      IsSoundTraffic (record r { next = r.next + 1; framer = framer; kept = kept })
-  sound_heard framer kept come =
+      IsSoundReceiver (record r.frames { clock = frame_heard r.frames.clock }) →
+      IsSoundTraffic
+      (record r {
+        frames = record r.frames { clock = frame_heard r.frames.clock };
+        framer = framer;
+        kept = kept;
+      })
+  sound_heard framer kept frames =
       let most = is.have_most in
       record {
+        set = is.set;
         keeper = is.keeper;
-        next_have = omega (arith, come);
+        frames = frames;
+        fingers_are = is.fingers_are;
         have_most = omega (arith, most);
         start_least = is.start_least;
         start_most = is.start_most;
-        set = is.set;
         legs = is.legs;
-        ends = is.ends;
         small = is.small;
         subchannels = is.subchannels;
       }
@@ -110,14 +97,14 @@ module _ {r : TrafficReceiver} (is : IsSoundTraffic r) where
   -- the message that was kept has been given
   pub sound_given : IsSoundTraffic (record r { kept = None })
   sound_given = record {
+    set = is.set;
     keeper = is.keeper;
-    next_have = is.next_have;
+    frames = is.frames;
+    fingers_are = is.fingers_are;
     have_most = is.have_most;
     start_least = is.start_least;
     start_most = is.start_most;
-    set = is.set;
     legs = is.legs;
-    ends = is.ends;
     small = is.small;
     subchannels = is.subchannels;
   }
@@ -129,14 +116,14 @@ module _ {r : TrafficReceiver} (is : IsSoundTraffic r) where
       let place = ap (λ (m : Mark). m.sample) same in
       let least = is.start_least in
       record {
+        set = is.set;
         keeper = sound;
-        next_have = is.next_have;
+        frames = is.frames;
+        fingers_are = is.fingers_are;
         have_most = is.have_most;
         start_least = omega (arith, place, least);
         start_most = is.start_most;
-        set = is.set;
         legs = is.legs;
-        ends = is.ends;
         small = is.small;
         subchannels = is.subchannels;
       }

@@ -1,15 +1,15 @@
 -- What the receiver of a traffic channel stands for.
 use Rattle.std.specs.Prelude.{◌≡◌, ◌⊎◌, ℕ, ◌+◌, ◌-◌, ◌*◌, ◌<◌, ◌≤◌, ◌^◌, true, List, ◌∷◌, ◌++◌}
 use Rattle.std.specs.Prelude.{length, take, sum_by, unsigned_abs, IsTrue, Option, Some, None}
-use Rattle.std.specs.Prelude.{is_some, min, if◌then◌else◌}
+use Rattle.std.specs.Prelude.{is_some, min, if◌then◌else◌, ℤ}
 use Rattle.chip_core.specs.declared.sample.Sample.{Sample}
 use Rattle.frame_decoder.specs.TrafficFrames as frames
+use Rattle.frame_decoder.specs.declared.power.PowerSofts.{PowerSofts}
 use Rattle.long_code.specs.LongCode.{traffic_mask}
 use Rattle.pilot_search.specs.declared.paths.Near.{Near}
 use Rattle.pilot_sets.specs.Standing.{Standing}
 use Rattle.quality_bits.specs.Pieces.{StandsFor}
 use Rattle.rake_finger.specs.declared.finger.Finger.{Finger}
-use Rattle.rake_finger.specs.declared.form.Form.TheVariants.{Data}
 use Rattle.heard_events.specs.Close as closes
 use Rattle.rake_finger.specs.Near.{AreClose}
 use Rattle.heard_events.specs.Close.{paths_close, places_in}
@@ -19,7 +19,6 @@ use Rattle.heard_events.specs.Moments.{heard_from, kept_to, legs_by, moment_of, 
 use Rattle.heard_events.specs.Noted.{all_noted, noted_with}
 use Rattle.mobile_core.specs.SetsKeeping.{IsSoundKeeper, coming_place}
 use Rattle.heard_events.specs.Signaling.{message_events, signals_before}
-use Rattle.rake_finger.specs.Streams.{frame_end}
 use Rattle.heard_events.specs.TrafficEvents.{all_sums, raw_softs}
 use Rattle.heard_events.specs.TrafficStreams.{frame_known, frame_state, traffic_start}
 use Rattle.heard_events.specs.Tuning.{Tuning}
@@ -28,6 +27,8 @@ use Rattle.heard_events.specs.declared.mark.Mark.{Mark}
 use Rattle.heard_events.specs.declared.leg.Leg.{Leg}
 use Rattle.chip_core.specs.declared.assignment.Traffic.{Traffic}
 use Rattle.heard_events.specs.SpelledMessages.{SpelledSignal}
+use Rattle.reception.specs.Clocks.{frame_come}
+use Rattle.reception.specs.Sound.{IsSoundReceiver}
 use Rattle.reception.specs.declared.scrambling.Scrambling.{Scrambling}
 use Rattle.mobile_core.specs.declared.traffic_receiver.TrafficReceiver.{TrafficReceiver}
 
@@ -38,8 +39,8 @@ abbrev pub told_left_with : Tuning → Traffic → Mark → List Sample → Traf
     (ℕ → Standing) → List Event
 told_left_with t traffic m samples r kept =
     message_events (length samples) r.kept
-    ++ (frames_left_of t traffic m (legs_by traffic m kept) samples r.next
-    ++ messages_left_of t traffic m (legs_by traffic m kept) samples r.next)
+    ++ (frames_left_of t traffic m (legs_by traffic m kept) samples r.frames.clock.next
+    ++ messages_left_of t traffic m (legs_by traffic m kept) samples r.frames.clock.next)
 
 -- what is kept behind the moments that have passed
 abbrev pub kept_in : Tuning → Traffic → Mark → TrafficReceiver → List Sample → (ℕ → Standing)
@@ -52,14 +53,14 @@ traffic_left_of t traffic m samples r =
     ++ sets_left_of t traffic m samples r.sets.passed
 
 -- WHAT A RECEIVER STANDS FOR
--- the fingers of the frame that comes next
+-- the fingers of the pilots that the frame is heard from which comes next
 abbrev pub fingers_in : TrafficReceiver → List Finger
 fingers_in r = all_fingers r.phase (take r.near.count r.near.deltas) r.legs
 
 -- how many samples have been taken when that frame ends, or at the next moment, where that comes
 -- first
 abbrev pub next_end : TrafficReceiver → ℕ
-next_end r = min r.end (coming_place r.sets)
+next_end r = min r.frames.clock.end (coming_place r.sets)
 
 -- the frame that comes next ends later than so many samples, and so lies the next moment; one that
 -- has come lies there
@@ -84,12 +85,12 @@ pub record IsTunedIn (t : Tuning) (traffic : Traffic) (m mark : Mark) (phase : �
 -- what is still to be told, and a moment passes where nothing is.
 pub record HearsWith (t : Tuning) (traffic : Traffic) (m : Mark) (r : TrafficReceiver)
     (heard : List Sample) (pages : List Event) (kept : ℕ → Standing) : Type 0 where
-  pub tuned : IsTunedIn t traffic m r.sets.mark r.phase r.near r.scrambling
-  pub start_is : r.start ≡ traffic_start traffic m r.have
+  pub tuned : IsTunedIn t traffic m r.sets.mark r.phase r.near r.frames.scrambling
+  pub start_is : r.frames.clock.start ≡ traffic_start traffic m r.frames.clock.have
   pub close : (i : ℕ) →
       AreClose (all_fingers t.phase t.deltas (legs_of m (kept i)))
-  pub legs_are : moment_of traffic r.have ≤ r.sets.passed →
-      r.legs ≡ legs_by traffic m kept r.have
+  pub legs_are : moment_of traffic r.frames.clock.have ≤ r.sets.passed →
+      r.legs ≡ legs_by traffic m kept r.frames.clock.have
   pub pilots_are : legs_of m r.sets.sets ≡ legs_of m (kept r.sets.passed)
   pub within : length heard ≤ t.count
   pub begun : 0 < r.sets.passed → moment_place m r.sets.passed ≤ length heard
@@ -98,16 +99,16 @@ pub record HearsWith (t : Tuning) (traffic : Traffic) (m : Mark) (r : TrafficRec
       0 < r.sets.passed → moment_place m r.sets.passed < length heard
   pub coming : length heard ≤ moment_place m (r.sets.passed + 1)
   pub due_is : r.sets.due ≡ true → length heard ≡ moment_place m (r.sets.passed + 1)
-  pub ended : (k : ℕ) → k < r.next →
+  pub ended : (k : ℕ) → k < r.frames.clock.next →
       frame_known t traffic m (legs_by traffic m kept) k ≤ length heard
-  pub known : r.next < r.have →
-      frame_known t traffic m (legs_by traffic m kept) r.next ≡ length heard
-  pub softs_are : r.next < r.have →
-      r.softs ≡ raw_softs t traffic m (legs_by traffic m kept) heard r.next
-  pub power_is : r.next < r.have → frames.subchannels r.power
-      ≡ all_sums t traffic m (legs_by traffic m kept) heard r.next
+  pub known : r.frames.clock.next < r.frames.clock.have →
+      frame_known t traffic m (legs_by traffic m kept) r.frames.clock.next ≡ length heard
+  pub softs_are : r.frames.clock.next < r.frames.clock.have →
+      r.softs ≡ raw_softs t traffic m (legs_by traffic m kept) heard r.frames.clock.next
+  pub power_is : r.frames.clock.next < r.frames.clock.have → frames.subchannels r.power
+      ≡ all_sums t traffic m (legs_by traffic m kept) heard r.frames.clock.next
   pub framed : StandsFor r.framer
-      (signals_before t traffic m (legs_by traffic m kept) heard r.next)
+      (signals_before t traffic m (legs_by traffic m kept) heard r.frames.clock.next)
   pub sets_are : all_noted m (pages ++ told_left_with t traffic m heard r kept) r.sets.sets
       ≡ heard_from t traffic m kept heard r.sets.passed
       (length heard - moment_place m r.sets.passed)
@@ -119,7 +120,7 @@ HearsTraffic t traffic m r heard pages =
 
 -- whether a message is kept, or a frame has come that hasn't been heard
 abbrev pub HasTold : TrafficReceiver → Type 0
-HasTold r = IsTrue (is_some r.kept) ⊎ (r.next < r.have)
+HasTold r = IsTrue (is_some r.kept) ⊎ (r.frames.clock.next < r.frames.clock.have)
 
 -- or a moment has come that hasn't passed
 abbrev pub IsTrafficDue : TrafficReceiver → Type 0
@@ -133,10 +134,12 @@ kept_by (Some message) = 1
 -- how much has been heard, where each frame counts as two, itself and what it completes; and how
 -- much has come that hasn't been heard
 abbrev pub traffic_heard : TrafficReceiver → ℕ
-traffic_heard r = 2 * r.next + 1 - kept_by r.kept + r.sets.passed
+traffic_heard r = 2 * r.frames.clock.next + 1 - kept_by r.kept + r.sets.passed
 
 abbrev pub traffic_due : TrafficReceiver → ℕ
-traffic_due r = 2 * (r.have - r.next) + kept_by r.kept + (if r.sets.due then 1 else 0)
+traffic_due r =
+    let clock = r.frames.clock in
+    2 * (clock.have - clock.next) + kept_by r.kept + (if r.sets.due then 1 else 0)
 
 -- the sets have taken what an event tells
 abbrev pub noted_by : Event → TrafficReceiver → TrafficReceiver
@@ -148,31 +151,49 @@ noted_by event r =
       };
     }
 
--- one to eight fingers close to the reference path
-pub record HasSoundLegs (phase : ℕ) (near : Near) (legs : List Leg) : Type 0 where
+-- other pilots for the frame that comes next, with its end on their fingers
+abbrev pub tuned_to : List Leg → ℕ → List Finger → TrafficReceiver → TrafficReceiver
+tuned_to legs end fingers r =
+    record r {
+      frames = record r.frames {
+        clock = record r.frames.clock { end = end };
+        fingers = fingers;
+      };
+      legs = legs;
+    }
+
+-- the frame whose soft values these are has come
+abbrev pub frame_taken : List ℤ → PowerSofts → TrafficReceiver → TrafficReceiver
+frame_taken softs power r =
+    record r {
+      frames = record r.frames { clock = frame_come r.frames.clock };
+      softs = softs;
+      power = power;
+    }
+
+-- one to six pilots, which have room for their fingers
+pub record HasSoundLegs (legs : List Leg) : Type 0 where
   pub some : 1 ≤ length legs
   pub few : places_in legs ≤ 8
   pub legs_close : closes.legs_close legs ≡ true
   pub legs_rows : closes.legs_rows legs ≡ true
-  pub fingers_close : AreClose (all_fingers phase (take near.count near.deltas) legs)
 
--- near paths, and a mask of 42 bits
-pub record IsSoundlySet (near : Near) (turns : Scrambling) : Type 0 where
+-- near paths
+pub record IsSoundlySet (near : Near) : Type 0 where
   pub least : 1 ≤ near.count
   pub most : near.count ≤ 3
   pub path_some : 1 ≤ length (take near.count near.deltas)
   pub paths : paths_close (take near.count near.deltas) ≡ true
-  pub masked : turns.mask < 2 ^ 42
 
--- such fingers, and soft values that a decoder takes
+-- fingers of these pilots, and soft values that a decoder takes
 pub record IsSoundTraffic (r : TrafficReceiver) : Type 0 where
-  pub set : IsSoundlySet r.near r.scrambling
+  pub set : IsSoundlySet r.near
   pub keeper : IsSoundKeeper r.sets
-  pub next_have : r.next ≤ r.have
-  pub have_most : r.have ≤ r.next + 1
-  pub start_least : r.sets.mark.sample + 24576 * r.have ≤ r.start
-  pub start_most : r.start ≤ 2 ^ 29 + 2 ^ 16
-  pub legs : HasSoundLegs r.phase r.near r.legs
-  pub ends : r.end ≡ frame_end (fingers_in r) Data r.start
+  pub frames : IsSoundReceiver r.frames
+  pub fingers_are : r.frames.fingers ≡ fingers_in r
+  pub have_most : r.frames.clock.have ≤ r.frames.clock.next + 1
+  pub start_least : r.sets.mark.sample + 24576 * r.frames.clock.have ≤ r.frames.clock.start
+  pub start_most : r.frames.clock.start ≤ 2 ^ 29 + 2 ^ 16
+  pub legs : HasSoundLegs r.legs
   pub small : sum_by unsigned_abs r.softs ≤ 3 * 2 ^ 60
   pub subchannels : r.power.count ≤ 6

@@ -34,12 +34,7 @@ impl ChannelReceiver {
     ghost use Rattle.reception.specs.Softs.{frame_most};
 
     /// The receiver of a channel, for a base station at a phase and near it, before any frame ends.
-    pub(crate) fn open(
-        mark: &Mark,
-        channel: &Channel,
-        phase: Phase,
-        near: &Near,
-    ) -> ChannelReceiver
+    pub(crate) fn open(mark: &Mark, channel: &Channel, phase: Phase, near: &Near) -> ChannelReceiver
         requires mark { IsSoundMark mark.now }
         requires lawful { IsLawful channel.now }
         requires least { 1 ≤ near.now.count }

@@ -6,14 +6,14 @@ use crate::legs::Legs;
 use crate::receive::Receive;
 use crate::scrambling::traffic_scrambling;
 use crate::sets_keeper::SetsKeeper;
-use crate::traffic_softs::{leg_softs, power_softs};
-use chip_core::air::{DATA_FRAME_CHIPS, DATA_SYMBOLS, FRAME_OFFSET_CHIPS};
+use crate::traffic_softs::power_softs;
+use chip_core::air::{DATA_SYMBOLS, FRAME_OFFSET_CHIPS};
 use chip_core::{CheckForm, Phase, PowerBits, Traffic};
 use frame_decoder::{Decoded, FrameSofts, PowerSofts, commands, traffic_frame};
 use heard_events::{Event, Mark, Spelled};
 use pilot_search::Near;
-use rake_finger::{Form, SampleRing};
-use reception::{Scrambling, frames_end, unscramble};
+use rake_finger::SampleRing;
+use reception::FrameReceiver;
 use short_code::Codes;
 use symbol_path::power_places;
 use traffic_message::{SignalFramer, TrafficMessage};
@@ -26,22 +26,16 @@ use viterbi::Decoder;
 /// that are active behind the last moment at or before its first sample.
 #[derive(Drop)]
 pub(crate) struct TrafficReceiver {
-    /// The number of the frame that is heard next.
-    next: u64,
-    /// The number of the frame whose samples come next: the same, or where that has come the one
-    /// behind it.
-    have: u64,
-    /// The reference sample at which it begins.
-    start: u64,
-    /// How many samples have been taken when it ends on every finger.
-    end: u64,
-    /// The pilots that it is heard from, once the moment has passed that tells them.
+    /// Its frames: where they lie, and the fingers of the one that comes next. The frame that is
+    /// heard next is that one, or where that has come the one before it.
+    frames: FrameReceiver,
+    /// The pilots that the frame is heard from which comes next, once the moment has passed that
+    /// tells them.
     legs: Legs,
     /// The phase of the reference base station's codes.
     phase: Phase,
     /// The paths near it.
     near: Near,
-    scrambling: Scrambling,
     /// The soft values of the frame that is heard next, where it has come, as the fingers hear
     /// them: no scrambling has turned them.
     softs: FrameSofts,
@@ -72,7 +66,8 @@ impl TrafficReceiver {
     ghost use Rattle.mobile_core.specs.Sound.{IsSoundMark};
     ghost use Rattle.heard_events.specs.TrafficEvents.{power_bits_at, decoded_at};
     ghost use Rattle.mobile_core.specs.TrafficReceiving.{HasTold, HearsTraffic, IsSoundTraffic};
-    ghost use Rattle.mobile_core.specs.TrafficReceiving.{HearsWith, fingers_in, next_end, noted_by};
+    ghost use Rattle.mobile_core.specs.TrafficReceiving.{HearsWith, frame_taken, next_end};
+    ghost use Rattle.mobile_core.specs.TrafficReceiving.{noted_by, tuned_to};
     ghost use Rattle.mobile_core.specs.TrafficReceiving.{told_left_with, traffic_due};
     ghost use Rattle.mobile_core.specs.TrafficReceiving.{traffic_heard};
     ghost use Rattle.mobile_core.specs.TrafficReceiving.{traffic_left_of};
@@ -96,7 +91,7 @@ impl TrafficReceiver {
         requires most { near.now.count ≤ 3 }
         requires first { slice_get near.now.deltas 0 ≡ Some (pos 0) }
         ensures begins { mark.now.sample < next_end result }
-        ensures fresh { result.have ≡ result.next }
+        ensures fresh { result.frames.clock.have ≡ result.frames.clock.next }
         ensures empty { result.kept ≡ None }
         ensures idle { result.sets.due ≡ false }
         ensures sound { IsSoundTraffic result }
@@ -107,16 +102,14 @@ impl TrafficReceiver {
     {
         let sets = SetsKeeper::new(mark, traffic.row);
         let legs = sets.legs();
+        let fingers = leg_fingers(&legs, phase, near);
         let start = mark.sample + FRAME_OFFSET_CHIPS * u64::from(traffic.offset);
+        let frames = FrameReceiver::new(fingers, traffic_scrambling(traffic, mark), start);
         TrafficReceiver {
-            next: 0,
-            have: 0,
-            start,
-            end: frames_end(&leg_fingers(&legs, phase, near), Form::Data, start),
+            frames,
             legs,
             phase,
             near: *near,
-            scrambling: traffic_scrambling(traffic, mark),
             softs: [0; DATA_SYMBOLS],
             power: PowerSofts::empty(),
             framer: SignalFramer::new(),
@@ -129,73 +122,71 @@ impl TrafficReceiver {
     fn has_told(&self) -> bool
         ensures { IsTrue result ↔ HasTold self.now }
     {
-        self.kept.is_some() || self.next < self.have
+        self.kept.is_some() || self.frames.clock.next < self.frames.clock.have
     }
 
     /// Takes the soft values of the frame whose last sample has come, where one has, and goes on to
     /// the frame behind it.
     fn take_frame(&mut self, ring: &SampleRing, codes: &Codes)
         requires sound { IsSoundTraffic self.old }
-        requires idle { self.old.have ≡ self.old.next }
+        requires idle { self.old.frames.clock.have ≡ self.old.frames.clock.next }
         requires few { ring.now.taken ≤ 67108864 }
         requires room { ring.now.room ≡ 65536 }
-        requires ended { ring.now.taken ≤ self.old.end }
-        ensures next { self.new.next ≡ self.old.next }
+        requires ended { ring.now.taken ≤ self.old.frames.clock.end }
+        ensures next { self.new.frames.clock.next ≡ self.old.frames.clock.next }
         ensures kept { self.new.kept ≡ self.old.kept }
         ensures sets { self.new.sets ≡ self.old.sets }
-        ensures waits { ring.now.taken < self.new.end }
+        ensures waits { ring.now.taken < self.new.frames.clock.end }
         ensures sound { IsSoundTraffic self.new }
         ensures stands { (t : Tuning) (traffic : TheTraffic) (m : TheMark)
             (heard : List Sample) (pages : List TheEvent) → HoldsLast ring.now heard →
             HearsTraffic t traffic m self.old heard pages →
             HearsTraffic t traffic m self.new heard pages }
     {
-        if self.end != ring.taken() {
+        if self.frames.clock.end != ring.taken() {
             return;
         }
         self.take_softs(ring, codes);
-        self.have += 1;
-        self.start += DATA_FRAME_CHIPS;
-        self.end += DATA_FRAME_CHIPS;
         self.tune();
     }
 
     /// Takes the soft values of the frame whose last sample has just come, and those of its power
-    /// control bits.
+    /// control bits, and goes on to the frame behind it.
     fn take_softs(&mut self, ring: &SampleRing, codes: &Codes)
         requires sound { IsSoundTraffic self.old }
+        requires idle { self.old.frames.clock.have ≡ self.old.frames.clock.next }
         requires few { ring.now.taken ≤ 67108864 }
         requires room { ring.now.room ≡ 65536 }
-        requires ended { ring.now.taken ≡ self.old.end }
-        ensures same { self.new ≡ record self.old {
-          softs = self.new.softs;
-          power = self.new.power;
-        } }
+        requires ended { ring.now.taken ≡ self.old.frames.clock.end }
+        ensures same { self.new ≡ frame_taken self.new.softs self.new.power self.old }
         ensures softs { (heard : List Sample) → HoldsLast ring.now heard → self.new.softs
-            ≡ softs heard (fingers_in self.old) Data self.old.start }
+            ≡ softs heard self.old.frames.fingers Data self.old.frames.clock.start }
         ensures power { (heard : List Sample) → HoldsLast ring.now heard →
             subchannels self.new.power ≡ map
             (sums_on heard self.old.phase
-            (take self.old.near.count self.old.near.deltas) self.old.legs self.old.start
-            (power_places (after self.old.scrambling.state (24576 * self.old.have))
-            self.old.scrambling.mask))
+            (take self.old.near.count self.old.near.deltas) self.old.legs
+            self.old.frames.clock.start
+            (power_places
+            (after self.old.frames.scrambling.state (24576 * self.old.frames.clock.have))
+            self.old.frames.scrambling.mask))
             (subchannels_of self.old.legs) }
         ensures sound { IsSoundTraffic self.new }
     {
         let TrafficReceiver {
-            have,
-            start,
+            frames,
             legs,
             phase,
             near,
-            scrambling,
             softs,
             power,
             ..
         } = self;
-        let replaced = power_places(&scrambling.state_at(*have), scrambling.mask);
-        leg_softs(ring, codes, legs, *phase, near, *start, softs);
-        *power = power_softs(ring, codes, legs, *phase, near, *start, &replaced, softs);
+        let scrambling = frames.scrambling;
+        let replaced = power_places(&scrambling.state_at(frames.clock.have), scrambling.mask);
+        *softs = frames.raw(ring, codes);
+        let start = frames.clock.start;
+        *power = power_softs(ring, codes, legs, *phase, near, start, &replaced, softs);
+        frames.advance();
     }
 
     /// Takes what an event of the paging channel tells of the sets.
@@ -210,15 +201,15 @@ impl TrafficReceiver {
     /// Lets the moment that has come pass, and gives its event, where it has one.
     fn pass_moment(&mut self, ring: &SampleRing, codes: &Codes) -> Option<Event>
         requires sound { IsSoundTraffic self.old }
-        requires idle { self.old.have ≡ self.old.next }
+        requires idle { self.old.frames.clock.have ≡ self.old.frames.clock.next }
         requires empty { self.old.kept ≡ None }
         requires due { self.old.sets.due ≡ true }
         requires room { ring.now.room ≡ 65536 }
         requires here { ring.now.taken
             ≡ moment_place self.old.sets.mark (self.old.sets.passed + 1) }
-        requires waits { ring.now.taken < self.old.end }
-        ensures next { self.new.next ≡ self.old.next }
-        ensures have { self.new.have ≡ self.old.have }
+        requires waits { ring.now.taken < self.old.frames.clock.end }
+        ensures next { self.new.frames.clock.next ≡ self.old.frames.clock.next }
+        ensures have { self.new.frames.clock.have ≡ self.old.frames.clock.have }
         ensures empty { self.new.kept ≡ None }
         ensures passed { self.new.sets.passed ≡ self.old.sets.passed + 1 }
         ensures due { self.new.sets.due ≡ false }
@@ -248,7 +239,7 @@ impl TrafficReceiver {
         requires due { HasTold self.old }
         requires room { decoder.old ≡ 576 }
         ensures same { self.new.sets ≡ self.old.sets }
-        ensures waits { self.new.end ≡ self.old.end }
+        ensures waits { self.new.frames.clock.end ≡ self.old.frames.clock.end }
         ensures further { traffic_heard self.old < traffic_heard self.new }
         ensures nearer { traffic_due self.new < traffic_due self.old }
         ensures sound { IsSoundTraffic self.new }
@@ -271,7 +262,7 @@ impl TrafficReceiver {
         }
         let (frame, power_bits) = self.next_frame(decoder);
         self.kept = hear_signal(&mut self.framer, &frame, check);
-        self.next += 1;
+        self.frames.hear();
         frame_event(&frame, power_bits, at)
     }
 
@@ -279,28 +270,26 @@ impl TrafficReceiver {
     /// is the one that tells them.
     fn tune(&mut self)
         requires sound { IsSoundTraffic self.old }
-        ensures same { self.new ≡ record self.old {
-          legs = self.new.legs;
-          end = self.new.end;
-        } }
-        ensures tuned { (self.old.start - self.old.sets.mark.sample) / 98304
+        ensures same { self.new ≡ tuned_to self.new.legs self.new.frames.clock.end
+            self.new.frames.fingers self.old }
+        ensures tuned { (self.old.frames.clock.start - self.old.sets.mark.sample) / 98304
             ≡ self.old.sets.passed →
             self.new.legs ≡ legs_of self.old.sets.mark self.old.sets.sets }
-        ensures stays { ¬ ((self.old.start - self.old.sets.mark.sample) / 98304
+        ensures stays { ¬ ((self.old.frames.clock.start - self.old.sets.mark.sample) / 98304
             ≡ self.old.sets.passed) → self.new.legs ≡ self.old.legs }
-        ensures waits { (n : ℕ) → n < self.old.end →
-            ((self.old.start - self.old.sets.mark.sample) / 98304 ≡ self.old.sets.passed →
-            n ≤ self.old.start + 226) → n < self.new.end }
+        ensures waits { (n : ℕ) → n < self.old.frames.clock.end →
+            ((self.old.frames.clock.start - self.old.sets.mark.sample) / 98304
+            ≡ self.old.sets.passed →
+            n ≤ self.old.frames.clock.start + 226) → n < self.new.frames.clock.end }
         ensures some { 1 ≤ length (legs_of self.old.sets.mark self.old.sets.sets) }
         ensures close { legs_close (legs_of self.old.sets.mark self.old.sets.sets) ≡ true }
         ensures sound { IsSoundTraffic self.new }
     {
         let legs = self.sets.legs();
-        if self.sets.moment_at(self.start) != self.sets.passed() {
+        if self.sets.moment_at(self.frames.clock.start) != self.sets.passed() {
             return;
         }
-        let fingers = leg_fingers(&legs, self.phase, &self.near);
-        self.end = frames_end(&fingers, Form::Data, self.start);
+        self.frames.tune(leg_fingers(&legs, self.phase, &self.near));
         self.legs = legs;
     }
 
@@ -310,18 +299,22 @@ impl TrafficReceiver {
         requires room { decoder.old ≡ 576 }
         ensures frame { (t : Tuning) (traffic : TheTraffic) (m : TheMark)
             (heard : List Sample) (pages : List TheEvent) (told : ℕ → Standing) →
-            self.now.next < self.now.have → HearsWith t traffic m self.now heard pages told →
-            result.0 ≡ decoded_at t traffic m (legs_by traffic m told) heard self.now.next }
+            self.now.frames.clock.next < self.now.frames.clock.have →
+            HearsWith t traffic m self.now heard pages told → result.0
+            ≡ decoded_at t traffic m (legs_by traffic m told) heard self.now.frames.clock.next }
         ensures power_bits { (t : Tuning) (traffic : TheTraffic) (m : TheMark)
             (heard : List Sample) (pages : List TheEvent) (told : ℕ → Standing) →
-            self.now.next < self.now.have → HearsWith t traffic m self.now heard pages told →
-            result.1 ≡ power_bits_at t traffic m (legs_by traffic m told) heard self.now.next }
+            self.now.frames.clock.next < self.now.frames.clock.have →
+            HearsWith t traffic m self.now heard pages told → result.1
+            ≡ power_bits_at t traffic m (legs_by traffic m told) heard self.now.frames.clock.next }
         ensures long { length result.0.bits ≡ information_of result.0.rate }
         ensures kept { decoder.new ≡ decoder.old }
     {
-        let replaced = power_places(&self.scrambling.state_at(self.next), self.scrambling.mask);
+        let number = self.frames.clock.next;
+        let scrambling = self.frames.scrambling;
+        let replaced = power_places(&scrambling.state_at(number), scrambling.mask);
         let mut descrambled = self.softs;
-        unscramble(&self.scrambling.frame_bits(self.next), &mut descrambled);
+        self.frames.descramble(number, &mut descrambled);
         let decoded = traffic_frame(decoder, &descrambled, &replaced);
         (decoded, commands(&self.power))
     }
@@ -354,7 +347,7 @@ impl Receive for TrafficReceiver {
     ghost left = { traffic_left };
 
     fn end_before(&self, end: u64) -> u64 {
-        self.end.min(self.sets.end()).min(end)
+        self.frames.clock.end.min(self.sets.end()).min(end)
     }
 
     fn is_due(&self, _count: u64) -> bool {

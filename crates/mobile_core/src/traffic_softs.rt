@@ -27,7 +27,7 @@ use symbol_path::PowerPlaces;
 
 /// Computes the soft values of the frame that begins at a reference sample, as the fingers of these
 /// pilots hear them; no scrambling turns them.
-pub(crate) fn leg_softs(
+fn leg_softs(
     ring: &SampleRing,
     codes: &Codes,
     legs: &Legs,

@@ -95,10 +95,6 @@ pub later_by : (form : Form) (u n : ℕ) (fingers : List Finger) → AreClose fi
 later_by form u n [] h = absurd (omega (arith, h.some))
 later_by form u n (f ∷ fingers) h = later_more form u n f fingers h.close
 
-pub close_later : (u n : ℕ) (fingers : List Finger) → AreClose fingers →
-    frame_end fingers Data (u + n) ≡ frame_end fingers Data u + n
-close_later u n fingers h = later_by Data u n fingers h
-
 -- it doesn't begin before the file
 pub close_begun : (u : ℕ) (fingers : List Finger) → all_close fingers ≡ true → 226 ≤ u →
     all_begun u fingers ≡ true
@@ -144,12 +140,6 @@ pub begun_in_ring : (ring : Held) (form : Form) (u : ℕ) (fingers : List Finger
 begun_in_ring ring form u fingers h begun room e =
     in_ring_at ring form u fingers room h begun (omega (arith, e))
     (omega (arith, e, ends_high form u fingers h))
-
-pub close_in_ring : (ring : Held) (u : ℕ) (fingers : List Finger) → all_close fingers ≡ true →
-    226 ≤ u → ring.room ≡ 65536 → ring.taken ≡ frame_end fingers Data u →
-    All (IsInRing ring Data u) fingers
-close_in_ring ring u fingers h l =
-    begun_in_ring ring Data u fingers h (close_begun u fingers h l)
 
 -- NEAR FINGERS ARE CLOSE
 pub near_one : (f : Finger) → is_near f.delta ≡ true → is_close f ≡ true

@@ -1,7 +1,7 @@
 -- When frames end and are known, over any stream.
 use Rattle.rake_finger.proofs.Common.{◌≡◌, ◌⊎◌, ℕ, zero, suc, ◌+◌, ◌-◌, ◌<◌, ◌≤◌, true, false, refl, sym, ◌∙◌, arith, nat_le, inl, inr}
-use Rattle.rake_finger.proofs.Common.{and_parts, and_from, and_left, and_right, leb-true, le-leb, lt-leb, cases_lt, cases_order}
-use Rattle.rake_finger.proofs.Common.{cases_Bool, Stream, is_in_file, known_at, frame_chips, stream_end, IsTimed}
+use Rattle.rake_finger.proofs.Common.{and_parts, and_from, and_left, and_right, leb-true, le-leb, lt-leb, cases_lt, cases_order, cases_Bool}
+use Rattle.rake_finger.proofs.Common.{Stream, is_in_file, known_at, frame_chips, stream_end, IsTimed}
 
 -- what the time at which a frame is known is
 pub record KnownBetween {C : Type 0} (count : ℕ) (s : Stream C) (k : ℕ) : Type 0 where

@@ -1,7 +1,7 @@
 -- Where a frame's span begins and ends, and what is read of it, over any stream.
 use Rattle.rake_finger.proofs.Common.{◌≡◌, ℕ, zero, suc, ◌+◌, ◌-◌, ◌<◌, ◌≤◌, true, List, ◌++◌, length, refl, sym, ap, arith, inl, inr}
-use Rattle.rake_finger.proofs.Common.{cases_lt, cases_order, Sample, unscrambled, Stream, frame_start, is_in_file, known_at}
-use Rattle.rake_finger.proofs.Common.{span_first, span_frames, frame_softs, span_softs, stream_end, IsTimed, flat_map_ext_places}
+use Rattle.rake_finger.proofs.Common.{cases_lt, cases_order, Sample, unscrambled, Stream, frame_start, is_in_file, known_at, span_first}
+use Rattle.rake_finger.proofs.Common.{span_frames, frame_softs, span_softs, stream_end, IsTimed, flat_map_ext_places}
 use Rattle.rake_finger.proofs.Sooner.{softs_sooner, all_fit}
 use Rattle.rake_finger.proofs.FrameTimes as times
 

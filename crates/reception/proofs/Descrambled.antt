@@ -1,6 +1,6 @@
 -- Soft values descrambled one by one.
-use Rattle.reception.proofs.Common.{◌≡◌, ℕ, zero, suc, ◌+◌, ◌<◌, Bool, false, List, [], ◌∷◌, ◌++◌, length, take, drop, refl, ap, ◌∙◌}
-use Rattle.reception.proofs.Common.{arith, ℤ, pos, ◌*ℤ◌, get_or, slice_set, sign, descrambled}
+use Rattle.reception.proofs.Common.{◌≡◌, ℕ, zero, suc, ◌+◌, ◌<◌, Bool, false, List, [], ◌∷◌, ◌++◌, length, take, drop, refl, ap, ◌∙◌, arith}
+use Rattle.reception.proofs.Common.{ℤ, pos, ◌*ℤ◌, get_or, slice_set, sign, descrambled}
 
 -- the value at a place, where those before it have been descrambled
 pub still : (bits : List Bool) (old : List ℤ) (i : ℕ) → i < length bits → i < length old →

@@ -1,6 +1,6 @@
 -- What a continued channel stands for, step by step, over any stream.
-use Rattle.reception.proofs.Common.{◌≡◌, ℕ, zero, suc, ◌+◌, ◌-◌, ◌*◌, ◌≤◌, List, [], ◌++◌, length, length-append, take, drop, refl, sym}
-use Rattle.reception.proofs.Common.{ap, ◌∙◌, arith, true, ℤ, flat_map, drop_all, take_all, places-none, places, Sample, own_bits, symbols}
+use Rattle.reception.proofs.Common.{◌≡◌, ℕ, zero, suc, ◌+◌, ◌-◌, ◌*◌, ◌≤◌, List, [], ◌++◌, length, length-append, take, drop, refl, sym, ap}
+use Rattle.reception.proofs.Common.{◌∙◌, arith, true, ℤ, flat_map, drop_all, take_all, places-none, places, Sample, own_bits, symbols}
 use Rattle.reception.proofs.Common.{IsDueAt, clock_from, first_frame, frame_come, frame_heard, span_from, AreNear, Receives, last_softs}
 use Rattle.reception.proofs.Common.{Stream, Channel, frame_softs, own_bits_in, Continued, flat_map_ext_places, flat_map-places-more}
 use Rattle.std.proofs.lemmas.List.{length-drop}

@@ -13,7 +13,8 @@ use Rattle.reception.specs.declared.continued.Continued.{Continued}
 
 -- The stream's fingers have taken these samples of a file: the clock is there, and the soft values
 -- of the last frames, up to three, are those of the stream.
-pub record Receives {C : Type 0} (count : ℕ) (s : Stream C) (c : Continued) (heard : List Sample) : Type 0 where
+pub record Receives {C : Type 0} (count : ℕ) (s : Stream C) (c : Continued)
+    (heard : List Sample) : Type 0 where
   pub waits : s.waits ≡ true
   pub clocked : IsAt count s c.clock (length heard)
   pub fingers_are : c.fingers ≡ s.fingers

@@ -1,5 +1,5 @@
-//! How the frames of a channel are received: the clock that says where they lie in a file, the fingers
-//! that hear them, their soft values, and how these are descrambled.
+//! How the frames of a channel are received: the clock that says where they lie in a file, the
+//! fingers that hear them, their soft values, and how these are descrambled.
 #![tactic(auto)]
 
 mod continued;

@@ -18,11 +18,3 @@ returns-clause-rows c =
     let paths = take c.args.near.now.count c.args.near.now.deltas in
     ap have_rows c.in-Some.ensures.value
     ∙ all_rows c.args.phase paths c.args.legs.now c.requires.rows
-
-pub returns-clause-least : goal.returns-clause-least
-returns-clause-least c =
-    let count = c.args.near.now.count in
-    let deltas = c.args.near.now.deltas in
-    let some = all_some c.args.phase (take count deltas) c.args.legs.now c.requires.some
-    (omega (arith, length-take count deltas, c.requires.least)) in
-    omega (arith, some, ap length c.in-Some.ensures.value)

@@ -4,9 +4,6 @@ use Rattle.mobile_core.proofs.LegSubsets.{first_subchannels, sums_more, sums_non
 use Rattle.mobile_core.proofs.traffic_softs.power_softs.Goals.{then-has_subchannel, else-has_subchannel}
 use Rattle.mobile_core.proofs.traffic_softs.power_softs.Goals as goal
 
-pub subchannel_softs-requires-clause-has : goal.subchannel_softs-requires-clause-has
-subchannel_softs-requires-clause-has c = sym c.has_subchannel.ensures ∙ c.if-has_subchannel.true
-
 pub loop-subchannel-init : goal.loop-subchannel-init
 loop-subchannel-init c =
     let legs = c.args.legs.now in

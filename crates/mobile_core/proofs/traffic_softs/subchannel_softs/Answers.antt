@@ -33,10 +33,3 @@ returns-then-len-clause-value c = λ heard holds.
     c.requires.all heard holds
     ∙ ap (λ (ls : List Leg). softs heard (all_fingers c.args.phase paths ls) Data c.args.start)
     (sym all)
-
-pub returns-clause-value : goal.returns-clause-value
-returns-clause-value c = λ heard holds.
-    let paths = take c.args.near.now.count c.args.near.now.deltas in
-    c.leg_softs.ensures.value heard holds
-    ∙ ap (λ (ls : List Leg). softs heard (all_fingers c.args.phase paths ls) Data c.args.start)
-    c.on_subchannel-on.ensures

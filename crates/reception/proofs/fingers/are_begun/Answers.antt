@@ -9,11 +9,3 @@ returns-then-not-has_begun c =
     let here = begun_at u c.args.fingers.now c.loop-i.i c.get.result c.get.ensures in
     let none = sym c.has_begun.ensures ∙ c.if-not-has_begun.true in
     sym (sym c.loop-i.invariant ∙ here ∙ ap (λ b. b && rest) none)
-
-pub loop-i-preserved : goal.loop-i-preserved
-loop-i-preserved c =
-    let u = c.args.start in
-    let rest = all_begun u (drop (c.loop-i.i + 1) c.args.fingers.now) in
-    let here = begun_at u c.args.fingers.now c.loop-i.i c.get.result c.get.ensures in
-    let some = sym c.has_begun.ensures ∙ c.if-not-has_begun.false in
-    sym (here ∙ ap (λ b. b && rest) some) ∙ c.loop-i.invariant

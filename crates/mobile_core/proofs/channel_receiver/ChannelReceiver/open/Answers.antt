@@ -1,6 +1,5 @@
-use Rattle.mobile_core.proofs.Common.{◌≡◌, ◌∙◌, ℕ, ◌+◌, ◌*◌, ◌≤◌, List, ap, arith, false, refl, subst, sym, take, ℤ, Finger, Form, Data}
-use Rattle.mobile_core.proofs.Common.{Bool, channel_stream, row_of, clock_from, first_frame, AreNear, fingers_of, FrameClock, Scrambling}
-use Rattle.mobile_core.proofs.Common.{after, mask_of, state_at}
+use Rattle.mobile_core.proofs.Common.{◌≡◌, ◌∙◌, ℕ, ◌+◌, ◌*◌, ◌≤◌, List, ap, arith, false, subst, sym, take, ℤ, Finger, Form, Data, Bool}
+use Rattle.mobile_core.proofs.Common.{channel_stream, row_of, clock_from, first_frame, AreNear, fingers_of, FrameClock, Scrambling, after}
 use Rattle.heard_events.proofs.ChannelFrames.{fingers_by, first_by, form_by, waits_by}
 use Rattle.rake_finger.proofs.CloseFingers.{near_are_close}
 use Rattle.mobile_core.proofs.FramesGiven.{none_given}
@@ -9,26 +8,6 @@ use Rattle.mobile_core.proofs.channel_receiver.ChannelReceiver.open.Goals as goa
 pub new-frames-requires-clause-close : goal.new-frames-requires-clause-close
 new-frames-requires-clause-close c =
     near_are_close c.reference_fingers-fingers.result c.reference_fingers-fingers.ensures.near
-
-pub returns-clause-begins : goal.returns-clause-begins
-returns-clause-begins c =
-    let first : ℕ = c.args.mark.now.sample + c.offset.result in
-    let fingers = c.reference_fingers-fingers.result in
-    let starts : c.new-frames.result.clock.start ≡ first + 24576 * first_frame fingers first =
-    ap (λ (k : FrameClock). k.start) c.new-frames.ensures.clock in
-    omega (arith, starts, c.new-frames.ensures.sound.clocked.start_end)
-
-pub returns-clause-first : goal.returns-clause-first
-returns-clause-first c = rw c.new-frames.ensures.clock refl
-
-pub returns-clause-sound : goal.returns-clause-sound
-returns-clause-sound c =
-    let frames = c.new-frames.ensures in
-    record {
-      frames = frames.sound;
-      given = rw frames.clock refl;
-      few = rw frames.fingers c.reference_fingers-fingers.ensures.most;
-    }
 
 pub returns-clause-given : goal.returns-clause-given
 returns-clause-given c = λ t taken phase deltas within early.

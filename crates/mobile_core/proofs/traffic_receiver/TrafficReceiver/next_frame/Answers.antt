@@ -6,11 +6,11 @@ use Rattle.mobile_core.proofs.traffic_receiver.TrafficReceiver.next_frame.Goals 
 pub returns-clause-frame : goal.returns-clause-frame
 returns-clause-frame c = λ t traffic m heard pages told come st.
     let r = c.args.self.now in
-    frame_here st c.requires.sound come c.power_places-replaced.result c.frame_bits.result
-    c.unscramble.new.softs c.traffic_frame-decoded.result
+    frame_here st c.requires.sound come c.power_places-replaced.result c.descramble.new.softs
+    c.traffic_frame-decoded.result
     (c.power_places-replaced.ensures.value
-    ∙ ap (λ (n : ℕ). power_places n r.scrambling.mask) c.state_at.ensures)
-    c.frame_bits.ensures.value c.unscramble.ensures.value c.traffic_frame-decoded.ensures.value
+    ∙ ap (λ (n : ℕ). power_places n r.frames.scrambling.mask) c.state_at.ensures)
+    c.descramble.ensures.value c.traffic_frame-decoded.ensures.value
 
 pub returns-clause-power_bits : goal.returns-clause-power_bits
 returns-clause-power_bits c = λ t traffic m heard pages told come st.
@@ -19,4 +19,4 @@ returns-clause-power_bits c = λ t traffic m heard pages told come st.
 pub returns-clause-long : goal.returns-clause-long
 returns-clause-long c =
     rw (c.traffic_frame-decoded.ensures.value)
-    (decoded_long c.power_places-replaced.result c.unscramble.new.softs)
+    (decoded_long c.power_places-replaced.result c.descramble.new.softs)

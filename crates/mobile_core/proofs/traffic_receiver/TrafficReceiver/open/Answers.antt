@@ -1,25 +1,56 @@
-use Rattle.mobile_core.proofs.Common.{◌≡◌, ◌∙◌, ℕ, ℤ, List, true, ap, sym, subst, arith, take, length-take, [], pos, new_standing, AreClose}
-use Rattle.mobile_core.proofs.Common.{all_close, all_fingers, legs_of, HearsTraffic, Leg, SetsKeeper, TrafficReceiver, coming_place}
-use Rattle.mobile_core.proofs.FramesOpened.{ends_same, first_paths, hears_new, hears_opened, opened_is, paths_some, zeros_few}
-use Rattle.mobile_core.proofs.SoundFrames.{waits_tuned}
+use Rattle.mobile_core.proofs.Common.{◌≡◌, ◌+◌, ◌*◌, ◌∙◌, ℕ, ℤ, List, true, false, ap, sym, subst, arith, refl, take, length-take, pos}
+use Rattle.mobile_core.proofs.Common.{new_standing, AreClose, all_begun, all_close, all_fingers, legs_of, FrameClock, Leg, Scrambling}
+use Rattle.mobile_core.proofs.Common.{SetsKeeper, clock_from, Data, if◌then◌else◌}
+use Rattle.mobile_core.proofs.FramesOpened.{first_paths, hears_opened, paths_some, zeros_few}
+use Rattle.rake_finger.proofs.CloseFingers.{close_begun}
+use Rattle.mobile_core.proofs.traffic_receiver.TrafficReceiver.open.Goals.{After-new-frames}
 use Rattle.mobile_core.proofs.traffic_receiver.TrafficReceiver.open.Goals as goal
+
+-- the fingers are those of the reference's pilot alone
+are_close : (c : After-new-frames) → AreClose c.leg_fingers-fingers.result
+are_close c =
+    let fingers = c.leg_fingers-fingers.ensures in
+    record { some = fingers.least; close = fingers.close }
+
+legs_first : (c : After-new-frames) →
+    c.legs-legs.result ≡ legs_of c.args.mark.now (new_standing c.args.mark.now.pilot c.args.traffic.now.row)
+legs_first c =
+    c.legs-legs.ensures.value
+    ∙ ap (λ (k : SetsKeeper). legs_of k.mark k.sets) c.new-sets.ensures.value
+
+-- frame 0 begins in the file
+first_clock : (c : After-new-frames) →
+    c.new-frames.result.clock
+    ≡ clock_from c.leg_fingers-fingers.result Data false
+    (c.args.mark.now.sample + 1536 * c.from.result) 0
+first_clock c =
+    let start : ℕ = c.args.mark.now.sample + 1536 * c.from.result in
+    let late = c.requires.mark.late in
+    let begun : all_begun start c.leg_fingers-fingers.result ≡ true =
+    close_begun start c.leg_fingers-fingers.result (are_close c).close (omega (arith, late)) in
+    c.new-frames.ensures.clock
+    ∙ ap {B = FrameClock} (λ b. clock_from c.leg_fingers-fingers.result Data false start
+    (if b then 0 else 1)) begun
 
 pub returns-clause-sound : goal.returns-clause-sound
 returns-clause-sound c =
+    let here = (goal.at.returns-clause-sound c).After-new-frames in
     let m = c.args.mark.now in
     let row = c.args.traffic.now.row in
     let near = c.args.near.now in
+    let paths = take near.count near.deltas in
     let legs = c.legs-legs.ensures in
-    let fingers = c.leg_fingers.ensures in
+    let fingers = c.leg_fingers-fingers.ensures in
     let marked = c.requires.mark in
     let keeper = c.new-sets.ensures in
-    let legs_is : c.legs-legs.result ≡ legs_of m c.new-sets.result.sets =
-    legs.value ∙ ap (λ (k : SetsKeeper). legs_of k.mark c.new-sets.result.sets) keeper.value in
-    let first : all_close (all_fingers c.args.phase (take near.count near.deltas)
+    let clock = first_clock here in
+    let start = ap (λ (k : FrameClock). k.start) clock in
+    let have = ap (λ (k : FrameClock). k.have) clock in
+    let next = ap (λ (k : FrameClock). k.next) clock in
+    let place = ap (λ (k : SetsKeeper). k.mark.sample) keeper.value in
+    let first : all_close (all_fingers c.args.phase paths
     (legs_of m (new_standing m.pilot row))) ≡ true =
-    sym (ap all_close (fingers.value
-    ∙ ap (all_fingers c.args.phase (take near.count near.deltas))
-    (legs_is ∙ ap (λ (k : SetsKeeper). legs_of m k.sets) keeper.value)))
+    sym (ap all_close (fingers.value ∙ ap (all_fingers c.args.phase paths) (legs_first here)))
     ∙ fingers.close in
     record {
       set = record {
@@ -31,58 +62,49 @@ returns-clause-sound c =
           c.requires.least,
           paths_some near.deltas (pos 0) c.requires.first,
         );
-        paths = first_paths m row c.args.phase (take near.count near.deltas) first;
-        masked = c.traffic_scrambling.ensures.below;
+        paths = first_paths m row c.args.phase paths first;
       };
+      keeper = keeper.sound;
+      frames = c.new-frames.ensures.sound;
+      fingers_are = c.new-frames.ensures.fingers ∙ fingers.value;
+      have_most = omega (arith, have);
+      start_least = omega (arith, start, have, place);
+      start_most = omega (arith, start, marked.early, c.requires.offset, c.from.ensures);
       legs = record {
         some = legs.some;
         few = legs.few;
         legs_close = legs.close;
         legs_rows = legs.rows;
-        fingers_close = subst AreClose fingers.value
-            (record { some = fingers.least; close = fingers.close });
       };
-      keeper = keeper.sound;
-      next_have = omega arith;
-      have_most = omega arith;
-      start_least = rw keeper.value (omega arith);
-      start_most = omega (arith, marked.early, c.requires.offset, c.from.ensures);
-      ends = ends_same _ _ _ _ c.frames_end.ensures fingers.value;
       small = omega (arith, zeros_few);
       subchannels = omega (arith, c.empty.ensures.count);
     }
 
 pub returns-clause-hears : goal.returns-clause-hears
 returns-clause-hears c = λ t heard phase deltas within early.
+    let here = (goal.at.returns-clause-hears c).After-new-frames in
     let m = c.args.mark.now in
-    let traffic = c.args.traffic.now in
     let near = c.args.near.now in
-    let fingers = c.leg_fingers.ensures in
+    let paths = take near.count near.deltas in
     let keeper = c.new-sets.ensures in
     let scrambling = c.traffic_scrambling.ensures in
-    let legs_is = c.legs-legs.ensures.value
-    ∙ ap (λ (k : SetsKeeper). legs_of k.mark k.sets) keeper.value in
-    let shape = opened_is t traffic m _ c.frames_end.result near c.traffic_scrambling.result _
-    c.empty.result c.new.result heard c.legs-legs.result c.args.phase c.new-sets.result legs_is
-    (sym phase) keeper.value in
-    let first : List Leg = legs_of m (new_standing m.pilot traffic.row) in
-    let fingers_are = fingers.value
-    ∙ ap (all_fingers c.args.phase (take near.count near.deltas)) legs_is
-    ∙ ap (λ (p : ℕ). all_fingers p (take near.count near.deltas) first) (sym phase)
+    let same = c.new-frames.ensures.scrambling in
+    let clock = first_clock here in
+    let start = ap (λ (k : FrameClock). k.start) clock in
+    let first : List Leg = legs_of m (new_standing m.pilot c.args.traffic.now.row) in
+    let fingers_are = c.leg_fingers-fingers.ensures.value
+    ∙ ap (all_fingers c.args.phase paths) (legs_first here)
+    ∙ ap (λ (p : ℕ). all_fingers p paths first) (sym phase)
     ∙ ap (λ (ds : List ℤ). all_fingers t.phase ds first) (sym deltas) in
-    let close = subst AreClose fingers_are
-    (record { some = fingers.least; close = fingers.close }) in
-    subst (λ (r : TrafficReceiver). HearsTraffic t traffic m r heard []) (sym shape)
-    (hears_new t traffic m _ c.frames_end.result near c.traffic_scrambling.result _ c.empty.result
-    c.new.result heard
-    (hears_opened t traffic m _ c.frames_end.result near c.traffic_scrambling.result _ c.empty.result
-    c.new.result heard (sym deltas) scrambling.state scrambling.mask c.requires.offset
-    (omega (arith, c.from.ensures)) close within early c.new.ensures))
-
-pub returns-clause-begins : goal.returns-clause-begins
-returns-clause-begins c =
-    let fingers = c.leg_fingers.ensures in
-    let ends = waits_tuned _ c.frames_end.result c.args.mark.now.sample c.leg_fingers.result
-    (record { some = fingers.least; close = fingers.close }) c.frames_end.ensures (omega arith) in
-    let place = ap coming_place c.new-sets.ensures.value in
-    omega (arith, ends, place)
+    hears_opened
+    (record {
+      mark_is = ap (λ (k : SetsKeeper). k.mark) keeper.value;
+      phase_is = sym phase;
+      deltas_are = sym deltas;
+      state_is = ap (λ (x : Scrambling). x.state) same ∙ scrambling.state;
+      mask_is = ap (λ (x : Scrambling). x.mask) same ∙ scrambling.mask;
+      offset = c.requires.offset;
+    })
+    (ap (λ (k : FrameClock). k.next) clock) (ap (λ (k : FrameClock). k.have) clock) refl
+    keeper.value (legs_first here) (subst AreClose fingers_are (are_close here)) within early
+    (omega (arith, start, c.from.ensures)) c.new.ensures

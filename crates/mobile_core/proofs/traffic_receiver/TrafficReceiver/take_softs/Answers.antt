@@ -1,26 +1,31 @@
-use Rattle.mobile_core.proofs.Common.{◌∙◌, ℕ, List, ap, map, take, power_places, sums_on, subchannels}
-use Rattle.mobile_core.proofs.SoundFrames.{legs_held, sound_softs}
+use Rattle.mobile_core.proofs.Common.{◌≤◌, ◌*◌, ◌^◌, ap, arith, length, sum_by, unsigned_abs}
+use Rattle.mobile_core.proofs.LegFingers.{fingers_few}
+use Rattle.mobile_core.proofs.LegSubsets.{eight_small}
+use Rattle.mobile_core.proofs.SoundFrames.{legs_held, sound_taken}
+use Rattle.mobile_core.proofs.traffic_receiver.TrafficReceiver.take_softs.Goals.{After-raw}
 use Rattle.mobile_core.proofs.traffic_receiver.TrafficReceiver.take_softs.Goals as goal
 
-pub leg_softs-requires : goal.leg_softs-requires
-leg_softs-requires c =
-    record { legs = legs_held c.requires.sound c.args.ring.now c.requires.room c.requires.ended }
+raw_small : (c : After-raw) → sum_by unsigned_abs c.raw.result ≤ 3 * 2 ^ 60
+raw_small c =
+    let r = c.args.self.now in
+    let is = c.requires.sound in
+    let few = fingers_few r.phase r.near.count r.near.deltas r.legs is.set.most in
+    let long = ap length is.fingers_are in
+    let many = eight_small (length r.frames.fingers) (omega (arith, few, long, is.legs.few)) in
+    omega (arith, many, c.raw.ensures.small)
+
+pub power_softs-requires-clause-small : goal.power_softs-requires-clause-small
+power_softs-requires-clause-small c = raw_small (goal.at.power_softs-requires-clause-small c).After-raw
 
 pub power_softs-requires-clause-legs : goal.power_softs-requires-clause-legs
 power_softs-requires-clause-legs c =
     legs_held c.requires.sound c.args.ring.now c.requires.room c.requires.ended
 
-pub returns-clause-power : goal.returns-clause-power
-returns-clause-power c = λ heard holds.
-    let r = c.args.self.now in
-    let replaced = c.power_places-replaced.ensures.value
-    ∙ ap (λ (n : ℕ). power_places n r.scrambling.mask) c.state_at.ensures in
-    c.power_softs.ensures.value heard holds
-    ∙ ap (λ (places : List ℕ).
-    map (sums_on heard r.phase (take r.near.count r.near.deltas) r.legs r.start places)
-    (subchannels r.legs)) replaced
-
 pub returns-clause-sound : goal.returns-clause-sound
 returns-clause-sound c =
-    sound_softs c.requires.sound c.leg_softs.new.out c.power_softs.result
-    c.leg_softs.ensures.small c.power_softs.ensures.most
+    let value = c.advance.ensures.value in
+    let few = c.requires.few in
+    let ended = c.requires.ended in
+    rw value (sound_taken c.requires.sound c.raw.result c.power_softs.result
+    (raw_small (goal.at.returns-clause-sound c).After-raw) c.power_softs.ensures.most
+    c.requires.idle (omega (arith, few, ended)) (rw value at c.advance.ensures.sound))

@@ -3,25 +3,6 @@ use Rattle.mobile_core.proofs.Common.{take_all, HasGiven, soft_frames, ChannelRe
 use Rattle.mobile_core.proofs.FramesGiven.{step_frame, step_none}
 use Rattle.mobile_core.proofs.tuner.Tuner.step.Goals as goal
 
-pub invariant_of-self : goal.invariant_of-self
-invariant_of-self c =
-    let r = c.args.self.now in
-    let pushed = c.push_all.ensures in
-    let room = c.requires in
-    let few = c.if-samples-left.true in
-    let within = r.sound.within in
-    let end = c.end.ensures in
-    let taken = c.taken.ensures.value in
-    record {
-      sound = record {
-        few = r.sound.few;
-        within = omega (arith, pushed.taken, room, within);
-        room = pushed.room ∙ r.sound.room;
-        receives = r.sound.receives;
-        waits = omega (arith, pushed.taken, few, end, taken);
-      };
-    }
-
 pub returns-then-samples-left : goal.returns-then-samples-left
 returns-then-samples-left c =
     let r = c.args.self.now in

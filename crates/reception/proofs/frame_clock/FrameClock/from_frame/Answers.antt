@@ -3,9 +3,6 @@ use Rattle.rake_finger.proofs.CloseFingers.{ends_high, ends_low, some_chips, mos
 use Rattle.rake_finger.proofs.FingerTimes.{times_one}
 use Rattle.reception.proofs.frame_clock.FrameClock.from_frame.Goals as goal
 
-pub frames_end-requires-clause-close : goal.frames_end-requires-clause-close
-frames_end-requires-clause-close c = c.requires.close.close
-
 pub returns-clause-sound : goal.returns-clause-sound
 returns-clause-sound c =
     let form = c.args.form in

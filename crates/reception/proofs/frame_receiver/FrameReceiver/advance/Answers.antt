@@ -1,12 +1,7 @@
-use Rattle.reception.proofs.Common.{◌∙◌, ◌+◌, ap, arith, sym, frame_chips}
-use Rattle.rake_finger.proofs.CloseFingers.{later_by, some_chips}
+use Rattle.reception.proofs.Common.{◌∙◌, ◌+◌, ap, sym, frame_chips}
+use Rattle.rake_finger.proofs.CloseFingers.{later_by}
 use Rattle.rake_finger.proofs.FingerTimes.{begun_on}
 use Rattle.reception.proofs.frame_receiver.FrameReceiver.advance.Goals as goal
-
-pub returns-clause-waits : goal.returns-clause-waits
-returns-clause-waits c =
-    let some = some_chips c.args.self.now.clock.form in
-    rw c.advance.ensures.value (omega (arith, some))
 
 pub returns-clause-sound : goal.returns-clause-sound
 returns-clause-sound c =
