@@ -1,22 +1,8 @@
 use Rattle.mobile_core.proofs.Common.{◌≡◌, ◌∙◌, rules, Some, sym, arith}
-use Rattle.mobile_core.proofs.ChannelsFollowed.{closed, opened, unassigned, unmoved}
+use Rattle.mobile_core.proofs.ChannelsFollowed.{opened, unassigned}
 use Rattle.mobile_core.proofs.FramesFollowed.{frames_opened}
 use Rattle.mobile_core.proofs.PagesFollowed.{pages_opened}
 use Rattle.mobile_core.proofs.followed.Followed.follow.Goals as goal
-
-pub returns-in_default-clause-hears : goal.returns-in_default-clause-hears
-returns-in_default-clause-hears c = λ t before heard taken within sets st.
-    unmoved st c.args.mark.now c.args.taken sets (λ unset later. search rules)
-
-pub returns-then-not-opens-clause-hears : goal.returns-then-not-opens-clause-hears
-returns-then-not-opens-clause-hears c = λ t before heard taken within sets st.
-    let set : c.args.mark.now ≡ Some c.in-Some.mark = search rules in
-    unmoved st c.args.mark.now c.args.taken sets
-    (λ unset later.
-    let none = closed st unset in
-    let e = c.opens.ensures.1 (later c.in-Some.mark set, none) in
-    let e' = c.if-not-opens.true in
-    absurd (cc))
 
 pub returns-in_default-assigned-clause-hears : goal.returns-in_default-assigned-clause-hears
 returns-in_default-assigned-clause-hears c = λ t before heard taken within sets st.
@@ -57,11 +43,3 @@ returns-clause-hears c = λ t before heard taken within sets st.
     (omega (arith, taken, early))) in
     rw set
     (opened st c.open-self.result (Some c.open-receiver.result) m opens.1.0 opens.1.1 pages frames)
-
-pub open-receiver-requires-clause-row : goal.open-receiver-requires-clause-row
-open-receiver-requires-clause-row c =
-    (c.requires.sound.assigned c.in-Some-assigned.traffic (search rules)).row
-
-pub open-receiver-requires-clause-offset : goal.open-receiver-requires-clause-offset
-open-receiver-requires-clause-offset c =
-    (c.requires.sound.assigned c.in-Some-assigned.traffic (search rules)).offset

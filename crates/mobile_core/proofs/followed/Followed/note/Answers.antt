@@ -2,9 +2,6 @@ use Rattle.mobile_core.proofs.Common.{◌≡◌, ◌∙◌, ◌∷◌, ◌++◌,
 use Rattle.mobile_core.proofs.FramesFollowed.{frames_noted, noted_waits}
 use Rattle.mobile_core.proofs.followed.Followed.note.Goals as goal
 
-pub note-requires : goal.note-requires
-note-requires c = c.requires c.in-Some-traffic.receiver (search rules)
-
 pub returns-in-Some-traffic-clause-waits : goal.returns-in-Some-traffic-clause-waits
 returns-in-Some-traffic-clause-waits c = λ n before x e.
     let is : c.args.traffic.now ≡ Some c.in-Some-traffic.receiver = search rules in

@@ -1,13 +1,6 @@
-use Rattle.mobile_core.proofs.Common.{◌≡◌, ℕ, IfSome, inl, inr, subst, at_of, IsSomeAnd, IsDueAt}
-use Rattle.mobile_core.proofs.ChannelsFollowed.{heard_other, heard_page}
+use Rattle.mobile_core.proofs.Common.{ℕ, subst, IsSomeAnd, IsDueAt}
+use Rattle.mobile_core.proofs.ChannelsFollowed.{heard_other}
 use Rattle.mobile_core.proofs.followed.FollowedReceive.hear_next.Goals as goal
-
-pub hear_next-requires-clause-due : goal.hear_next-requires-clause-due
-hear_next-requires-clause-due c =
-    elim c.requires.due [
-      | inl d ↦ let e = c.is_due.ensures.1 d in let e' = c.if-not-is_due.true in absurd (cc)
-      | inr d ↦ d
-    ]
 
 pub returns-then-not-is_due-clause-hears : goal.returns-then-not-is_due-clause-hears
 returns-then-not-is_due-clause-hears c = λ t mark heard holds check count st.
@@ -16,14 +9,6 @@ returns-then-not-is_due-clause-hears c = λ t mark heard holds check count st.
     (λ d. let e = c.is_due.ensures.1 d in let e' = c.if-not-is_due.true in absurd (cc)) in
     heard_other st none holds.taken c.requires.waits c.hear_next.new.self c.hear_next.result
     (c.hear_next.ensures.hears t mark heard holds st.check_is count)
-
-pub returns-clause-hears : goal.returns-clause-hears
-returns-clause-hears c = λ t mark heard holds check count st.
-    let paging = c.hear_next-event.ensures in
-    heard_page st c.hear_next-event.new.self c.note.new.traffic c.hear_next-event.result
-    (paging.hears t mark heard holds check count st.paging)
-    (λ pages. c.note.ensures.hears t mark heard pages
-    (subst (λ n. IfSome c.hear_next-event.result (λ event. at_of event ≡ n)) holds.taken paging.ends))
 
 pub returns-clause-waits : goal.returns-clause-waits
 returns-clause-waits c = record {

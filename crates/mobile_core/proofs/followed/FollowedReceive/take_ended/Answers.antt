@@ -3,12 +3,6 @@ use Rattle.mobile_core.proofs.ChannelsFollowed.{moved}
 use Rattle.mobile_core.proofs.GoesOn.{joined}
 use Rattle.mobile_core.proofs.followed.FollowedReceive.take_ended.Goals as goal
 
-pub take_ended-requires-clause-idle : goal.take_ended-requires-clause-idle
-take_ended-requires-clause-idle c = (c.requires.idle.0, λ d. c.requires.idle.1 (inl d))
-
-pub take_ended-requires-2-clause-idle : goal.take_ended-requires-2-clause-idle
-take_ended-requires-2-clause-idle c = (c.requires.idle.0, λ d. c.requires.idle.1 (inr d))
-
 pub returns-clause-hears : goal.returns-clause-hears
 returns-clause-hears c = λ t mark heard pages holds idle st.
     let left = paging_events_left t mark heard c.args.self.now.paging in

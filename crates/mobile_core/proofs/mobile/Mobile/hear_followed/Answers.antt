@@ -1,25 +1,8 @@
-use Rattle.mobile_core.proofs.Common.{◌∙◌, arith, append-nil}
+use Rattle.mobile_core.proofs.Common.{arith, append-nil}
 use Rattle.mobile_core.proofs.ChannelsFollowed.{followed_few}
 use Rattle.mobile_core.proofs.StepJoins.{ends_here, one_or_none}
 use Rattle.mobile_core.proofs.Stood.{stands_followed}
 use Rattle.mobile_core.proofs.mobile.Mobile.hear_followed.Goals as goal
-
-pub invariant_of-self : goal.invariant_of-self
-invariant_of-self c =
-    let m = c.args.self.now in
-    let next = c.hear_next.ensures in
-    record {
-      sound = record {
-        few = m.sound.few;
-        within = m.sound.within;
-        room = m.sound.room;
-        decodes = next.kept ∙ m.sound.decodes;
-        hears = m.sound.hears;
-        waits = m.sound.waits;
-        follows = next.sound;
-        others_wait = next.waits;
-      };
-    }
 
 pub returns-clause-steps : goal.returns-clause-steps
 returns-clause-steps c =

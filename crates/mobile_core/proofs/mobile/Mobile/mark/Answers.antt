@@ -19,9 +19,6 @@ returns-clause-mark c = λ t heard st.
     let taken = st.ring.taken in
     c.mark.ensures ∙ sym (marked_all t (parts m) heard st (omega arith))
 
-pub returns-clause-sound : goal.returns-clause-sound
-returns-clause-sound c = λ m e. c.args.self.now.sound.hears.marked m (sym c.mark.ensures ∙ e)
-
 pub returns-clause-ahead : goal.returns-clause-ahead
 returns-clause-ahead c = λ t heard given event st here none m e.
     let self' = c.args.self.now in

@@ -1,12 +1,6 @@
 use Rattle.mobile_core.proofs.Common.{◌++◌, ◌∙◌, ℕ, List, ap, option_to_list, map, subst, page_event, IsDueAt, paging_left, Event}
-use Rattle.mobile_core.proofs.PagesFollowed.{bit_left, bits_left, follows_on}
+use Rattle.mobile_core.proofs.PagesFollowed.{bit_left, follows_on}
 use Rattle.mobile_core.proofs.paging_receiver.PagingReceiverReceive.hear_next.Goals as goal
-
-pub returns-clause-nearer : goal.returns-clause-nearer
-returns-clause-nearer c =
-    let hear = c.hear_bit-page.ensures in
-    bits_left c.args.self.now c.hear_bit-page.new.self c.args._count c.requires.sound c.requires.due
-    hear.have hear.further
 
 pub returns-clause-hears : goal.returns-clause-hears
 returns-clause-hears c = λ t mark heard holds check count behind.

@@ -1,11 +1,7 @@
 use Rattle.mobile_core.proofs.Common.{◌∙◌, ap, refl, paging_stream, FrameClock}
-use Rattle.mobile_core.proofs.PagesFollowed.{come_left, come_once, follows_on}
+use Rattle.mobile_core.proofs.PagesFollowed.{come_left, follows_on}
 use Rattle.mobile_core.proofs.PagesHeard.{hears_come}
 use Rattle.mobile_core.proofs.paging_receiver.PagingReceiverReceive.take_ended.Goals as goal
-
-pub take_frame-requires-clause-near : goal.take_frame-requires-clause-near
-take_frame-requires-clause-near c =
-    come_once c.requires.idle.0 c.args.self.now.received.clock c.requires.idle.1
 
 pub returns-then-end-taken-clause-hears : goal.returns-then-end-taken-clause-hears
 returns-then-end-taken-clause-hears c = λ t mark heard pages holds none behind.

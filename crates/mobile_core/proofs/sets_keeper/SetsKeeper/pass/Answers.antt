@@ -4,34 +4,6 @@ use Rattle.mobile_core.proofs.ActiveLegs.{deltas_close, due_deltas}
 use Rattle.mobile_core.proofs.MomentMeasured.{changed_is, passed_is}
 use Rattle.mobile_core.proofs.sets_keeper.SetsKeeper.pass.Goals as goal
 
-pub measure-strengths-requires-clause-ring : goal.measure-strengths-requires-clause-ring
-measure-strengths-requires-clause-ring c =
-    let late = c.requires.sound.marked.late in
-    let here = c.requires.here in
-    let room = c.requires.room in
-    let taken = c.taken-place.ensures.value in
-    record {
-      begun = omega (arith, late, here, taken);
-      held = record {
-        kept = omega (arith, late, here, taken, room);
-        taken = omega (arith, late, here, taken);
-      };
-    }
-
-pub power-requires : goal.power-requires
-power-requires c =
-    let late = c.requires.sound.marked.late in
-    let here = c.requires.here in
-    let room = c.requires.room in
-    let taken = c.taken-place.ensures.value in
-    record {
-      begun = omega (arith, late, here, taken);
-      held = record {
-        kept = omega (arith, late, here, taken, room);
-        taken = omega (arith, late, here, taken);
-      };
-    }
-
 pub returns-clause-sets : goal.returns-clause-sets
 returns-clause-sets c = λ heard holds.
     let k = c.args.self.now in
