@@ -55,8 +55,8 @@ unfoldable pub use Rattle.cell_script.specs.Script.{plan_named}
 pub use Rattle.cell_script.specs.declared.script_fault.ScriptFault.{ScriptFault}
 pub use Rattle.cell_script.specs.declared.script_fault.ScriptFault.TheVariants.{OutOfMemory, TooBig}
 pub use Rattle.chip_core.proofs.Greatest.{first_greatest-is}
-pub use Rattle.chip_core.proofs.Places.{get_or-map-places, length-map-places, places-more, places-none}
-pub use Rattle.chip_core.proofs.Ranges.{flat_map-places-more, flat_map_ext_filter, flat_map_ext_places}
+pub use Rattle.chip_core.proofs.Places.{get_or-map-places, length-map-places, places-more}
+pub use Rattle.chip_core.proofs.Ranges.{flat_map_ext_filter, flat_map_ext_places}
 pub use Rattle.chip_core.specs.Bits.{places, sign}
 pub use Rattle.chip_core.specs.Complex.{of_sample, point, times}
 pub use Rattle.chip_core.specs.Sums.{first_greatest}
@@ -95,9 +95,10 @@ pub use Rattle.long_code.specs.LongCode.{traffic_mask}
 pub use Rattle.heard_events.proofs.EventsGrown.{events_at_by, events_sooner}
 pub use Rattle.heard_events.proofs.SyncTimes.{timed_of}
 pub use Rattle.rake_finger.proofs.FrameTimes.{known_between}
+pub use Rattle.heard_events.proofs.EventsGrown.{events_sooner, heard_none}
+pub use Rattle.heard_events.proofs.SyncTimes.{timed_of}
+pub use Rattle.rake_finger.proofs.FrameTimes.{known_between}
 pub use Rattle.heard_events.proofs.FramesAlone.{decoded_alone, power_alone}
-pub use Rattle.heard_events.proofs.FollowedEvents.{told_unset}
-pub use Rattle.heard_events.proofs.Growth.{KnownFrom, left_all, left_none}
 pub use Rattle.heard_events.proofs.MarkStays.{mark_set}
 pub use Rattle.heard_events.specs.Channels.{channel_stream}
 pub use Rattle.heard_events.specs.Events.{events, events_at}
@@ -113,6 +114,8 @@ unfoldable pub use Rattle.heard_events.specs.SoftFrames.{frames_within}
 pub use Rattle.mobile_core.specs.Standing.{IsStep, StandsFor, Steps, events_left, has_room, parts, steps_left}
 pub use Rattle.rake_finger.specs.Streams.{is_in_file, known_at, known_by}
 pub use Rattle.heard_events.specs.SyncEvents.{sync_events_at}
+pub use Rattle.rake_finger.specs.Timing.{IsTimed}
+pub use Rattle.rake_finger.specs.Streams.{is_in_file, known_at, known_by}
 pub use Rattle.rake_finger.specs.Timing.{IsTimed}
 pub use Rattle.heard_events.specs.TrafficEvents.{power_bits_at, decoded_at, frame_event}
 pub use Rattle.mobile_core.specs.BehindMark.{IsSoundAssignment}
@@ -148,7 +151,7 @@ pub use Rattle.tuned_listener.proofs.Prefixes.{begins_more, front_begins, on_err
 pub use Rattle.tuned_listener.proofs.Prefixes.{taken_begins}
 pub use Rattle.tuned_listener.proofs.Sleep.{same_mark, sleeps}
 pub use Rattle.tuned_listener.proofs.SlotTimes.{mark_is_late, written_of_slots}
-pub use Rattle.tuned_listener.proofs.TunedMarks.{none_marked, stands_near}
+pub use Rattle.tuned_listener.proofs.TunedMarks.{stands_near}
 pub use Rattle.tuned_listener.proofs.TunedTexts.{listed_texts, rate2_texts, text_of_nothing}
 pub use Rattle.tuned_listener.specs.TunedListening.{ListensTuned, TellsTuned, TellsTunedPart, tuned_room}
 pub use Rattle.tuned_listener.specs.TunedTexts.{decoded_line, frames_text, listed_text, rate2_text, text_behind, text_from}

@@ -2,18 +2,17 @@
 use Rattle.cdma_replay.proofs.Common.{◌≡◌, ℕ, zero, suc, ◌+◌, ◌-◌, ◌≤◌, ◌++◌, ◌∷◌, [], List, length, take, drop, refl, sym, ap, ◌∙◌, subst}
 use Rattle.cdma_replay.proofs.Common.{arith, append_assoc, append-nil, length-append, true, ℤ, pos, replicate, Option, None, Some, Result}
 use Rattle.cdma_replay.proofs.Common.{Ok, Err, IfOk, OnOk, length-replicate, take_all, take_at, take_rest, flat_map-append, flat_map}
-use Rattle.cdma_replay.proofs.Common.{range_with_len, StartsWith, Appends, Appends-nil, Appends-trans, places, places-more, places-none}
-use Rattle.cdma_replay.proofs.Common.{flat_map-places-more, flat_map_ext_places, Sample, AppendsPrefix, events, events_at, heard_within}
-use Rattle.cdma_replay.proofs.Common.{listed, ForSome, Traffic, IsLawfulTraffic, IsSoundAssignment, AreNear, low_of, IsStep, StandsFor}
-use Rattle.cdma_replay.proofs.Common.{Steps, events_left, has_room, parts, IsTimed, Tuning, sync_stream, tuning_by, Channel, Event, Pilot}
-use Rattle.cdma_replay.proofs.Common.{Mobile, Step, KeptTap, heard_text, run_taps, run_text, taps_behind, run_taps-append, run_taps-more}
-use Rattle.cdma_replay.proofs.Common.{run_text-append, run_text-more, run_text-none, begins_more, front_begins, prefix_before}
-use Rattle.cdma_replay.proofs.Common.{prefix_behind, taken_begins, ListensTuned, TellsTuned, TellsTunedPart, tuned_room, none_marked}
-use Rattle.cdma_replay.proofs.Common.{stands_near, text_of_nothing, TunedListener, TunedText, HandsetOptions, sync_events_at, events_at_by}
-use Rattle.cdma_replay.proofs.Common.{events_sooner, known_between, timed_of, told_unset, KnownFrom, left_all, left_none, Header, IsBestIn}
-use Rattle.cdma_replay.proofs.Common.{near_deltas, Near, Best, best_energy-only, best_phase-only, Settings, AreNearTo, AreReady}
-use Rattle.cdma_replay.proofs.Common.{BeginsBehind, ByFrames, ByTaps, HasRoom, HasRoomFor, HasTold, IsFresh, Listening, Listens, Nobody}
-use Rattle.cdma_replay.proofs.Common.{Tells, TellsMore, TellsPart, is_told, told, tuning_for, Listener}
+use Rattle.cdma_replay.proofs.Common.{range_with_len, StartsWith, Appends, Appends-nil, Appends-trans, places, places-more}
+use Rattle.cdma_replay.proofs.Common.{flat_map_ext_places, Sample, AppendsPrefix, events, events_at, heard_within, listed, ForSome, Traffic}
+use Rattle.cdma_replay.proofs.Common.{IsLawfulTraffic, IsSoundAssignment, AreNear, low_of, IsStep, StandsFor, Steps, events_left, has_room}
+use Rattle.cdma_replay.proofs.Common.{parts, IsTimed, Tuning, sync_stream, tuning_by, Channel, Event, Pilot, Mobile, Step, KeptTap}
+use Rattle.cdma_replay.proofs.Common.{heard_text, run_taps, run_text, taps_behind, run_taps-append, run_taps-more, run_text-append}
+use Rattle.cdma_replay.proofs.Common.{run_text-more, run_text-none, begins_more, front_begins, prefix_before, prefix_behind, taken_begins}
+use Rattle.cdma_replay.proofs.Common.{ListensTuned, TellsTuned, TellsTunedPart, tuned_room, stands_near, text_of_nothing, TunedListener}
+use Rattle.cdma_replay.proofs.Common.{TunedText, HandsetOptions, events_sooner, timed_of, Header, IsBestIn, near_deltas, Near, Best}
+use Rattle.cdma_replay.proofs.Common.{best_energy-only, best_phase-only, Settings, AreNearTo, AreReady, BeginsBehind, ByFrames, ByTaps}
+use Rattle.cdma_replay.proofs.Common.{HasRoom, HasRoomFor, HasTold, IsFresh, Listening, Listens, Nobody, Tells, TellsMore, TellsPart}
+use Rattle.cdma_replay.proofs.Common.{is_told, told, tuning_for, Listener, heard_none}
 use Rattle.std.proofs.lemmas.List.{take-append-drop}
 use Rattle.pilot_search.specs.Search.{best_phase, energy as energy_at}
 use Rattle.cdma_replay.specs.declared.listener.Listener.TheVariants as by
@@ -257,25 +256,8 @@ told_part t taps one other kept heard samples taken n event old mid new so_far s
 -- before any sample is taken the pilot is told, and nothing is heard
 events_none : (t : Tuning) → AreNear (sync_stream t).fingers →
     events t [] ≡ Pilot t.phase t.energy ∷ []
-unfolding heard_within
 events_none t near =
-    let low = low_of t in
-    let timed = timed_of t near in
-    let later : KnownFrom t 0 1 =
-    λ (k : ℕ) above inside.
-    let early = timed.early k in
-    let least = (known_between (sync_stream t) timed k inside).low in
-    let some = timed.some in
-    omega (arith, early, least, some) in
-    let silent : sync_events_at t [] 0 ≡ [] =
-    sym (left_all t low timed [] 0 (λ k less. absurd (omega (arith, less))))
-    ∙ left_none t low timed [] 0 later in
-    ap (λ (es : List Event). Pilot t.phase t.energy ∷ es)
-    (flat_map-places-more (events_at t []) 0
-    ∙ ap (λ (ks : List ℕ). flat_map (events_at t []) ks ++ events_at t [] 0) places-none
-    ∙ events_at_by t [] 0 None (none_marked t near)
-    ∙ ap (λ (es : List Event). sync_events_at t [] 0 ++ es) (told_unset t t.traffic [] 0)
-    ∙ append-nil (sync_events_at t [] 0) ∙ silent)
+    ap (λ (es : List Event). Pilot t.phase t.energy ∷ es) (heard_none t (low_of t) (timed_of t near) near)
 
 same_head : {A : Type 0} (x y : A) (xs ys : List A) → x ∷ xs ≡ y ∷ ys → x ≡ y
 same_head x y xs ys e = cc

@@ -114,7 +114,7 @@ pub use Rattle.heard_events.proofs.TrafficGrowth.{frames_sooner, messages_sooner
 pub use Rattle.rake_finger.proofs.FrameTimes.{known_between, known_le}
 pub use Rattle.heard_events.proofs.LegParts.{map_same}
 pub use Rattle.heard_events.proofs.MarkGrowth.{mark_is}
-pub use Rattle.heard_events.proofs.MarkStays.{frames_by_one_mark, messages_by_one_mark, pages_by_one_mark, pilot_alone}
+pub use Rattle.heard_events.proofs.MarkStays.{by_one_mark, frames_from_mark, messages_from_mark, pages_from_mark, pilot_alone}
 pub use Rattle.heard_events.proofs.MomentGrowth.{kept_new, kept_old}
 pub use Rattle.rake_finger.specs.Near.{AreClose}
 pub use Rattle.heard_events.specs.Events.{events}

@@ -131,6 +131,15 @@ AreKnown a next n = (k : ℕ) → k < next → a.inside k ≡ true → a.known k
 abbrev pub AreLater : Arrivals → ℕ → ℕ → Type 0
 AreLater a next n = (k : ℕ) → next ≤ k → a.inside k ≡ true → n ≤ a.known k
 
+-- so none is known between the two
+pub none_between : (a : Arrivals) (next low high n : ℕ) → AreKnown a next low →
+    AreLater a next high → low < n → n < high → NoneNow a n
+none_between a next low high n before behind past less k inside e =
+    elim (cases_lt k next) [
+      | inl below ↦ let known = before k below inside in omega (arith, known, e, past)
+      | inr above ↦ let known = behind k above inside in omega (arith, known, e, less)
+    ]
+
 -- whether thing k is known by n
 abbrev pub is_by : Arrivals → ℕ → ℕ → Bool
 is_by a n k = a.inside k && nat_le (a.known k) n

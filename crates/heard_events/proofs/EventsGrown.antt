@@ -2,11 +2,15 @@
 use Rattle.heard_events.proofs.Common.{◌≡◌, ℕ, ◌+◌, ◌≤◌, List, [], ◌++◌, length, refl, sym, ap, ◌∙◌, arith, map, Option, Some, None, nat_lt}
 use Rattle.heard_events.proofs.Common.{if◌then◌else◌, append_assoc, Sample, events_at, frame_events_at, message_events_at, paging_events_at}
 use Rattle.heard_events.proofs.Common.{sets_events_at, mark, AreNear, frames_behind, messages_behind, moments_before, sets_behind}
-use Rattle.heard_events.proofs.Common.{page_event, pages_at, pages_behind, sync_events_at, Tuning, sync_stream, Event, Mark, Traffic}
-use Rattle.heard_events.proofs.FollowedEvents.{followed_behind, unrated, told_behind, told_unset}
+use Rattle.heard_events.proofs.Common.{page_event, pages_behind, sync_events_at, Tuning, sync_stream, Event, Mark, Traffic, flat_map}
+use Rattle.heard_events.proofs.Common.{flat_map-places-more, heard_within}
+use Rattle.heard_events.proofs.FollowedEvents.{followed_behind, told_behind}
 use Rattle.heard_events.proofs.Growth.{IsSyncTimed}
 use Rattle.heard_events.proofs.PageGrowth.{pages_sooner}
+use Rattle.heard_events.proofs.GoesOn.{joined}
+use Rattle.heard_events.proofs.MarkGrowth.{none_marked}
 use Rattle.heard_events.proofs.MomentGrowth.{first_same, kept_sooner, sets_sooner}
+use Rattle.chip_core.proofs.Places.{places-none}
 use Rattle.heard_events.proofs.Growth as growth
 use Rattle.heard_events.proofs.MarkStays as stays
 
@@ -70,13 +74,15 @@ module _ (t : Tuning) (low : ℕ) (timed : IsSyncTimed t low)
   pub behind_before : (xs : List Sample) (n : ℕ) →
       followed_behind t (mark t xs n) xs (n + 1) ≡ followed_behind t (mark t xs (n + 1)) xs (n + 1)
   behind_before xs n =
-      stays.by_one_mark t near xs n (n + 1) (λ set. followed_behind t set xs (n + 1))
-      (omega arith) (told_unset t t.traffic xs (n + 1))
-      (λ m later.
-      let early : n + 1 ≤ m.sample = omega (arith, later) in
-      let none = stays.pages_later t near t.paging xs (n + 1) m early in
-      let pages = unrated (nat_lt m.prat 2) (pages_at t t.paging m xs (n + 1)) none in
-      let frames = stays.frames_before_mark t near t.traffic xs (n + 1) m early in
-      let messages = stays.messages_before_mark t near t.traffic xs (n + 1) m early in
-      let sets = stays.sets_before_mark t near t.traffic xs (n + 1) m early in
-      rw (pages, frames, messages, sets) refl)
+      stays.by_one_mark t near xs n (n + 1) (n + 1) (λ mark. followed_behind t mark xs (n + 1))
+      (omega arith) (omega arith) (stays.all_from_mark t near xs (n + 1))
+
+  -- before any sample is taken nothing is heard
+  pub heard_none : heard_within t [] 0 ≡ []
+  unfolding heard_within
+  heard_none =
+      let all = events_at t [] in
+      flat_map-places-more all 0
+      ∙ ap (λ (ks : List ℕ). flat_map all ks ++ all 0) places-none
+      ∙ events_at_by t [] 0 None (none_marked t near)
+      ∙ joined (growth.sync_events_none t low timed) (stays.all_from_mark t near [] 0).unset

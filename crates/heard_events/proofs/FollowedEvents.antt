@@ -1,18 +1,12 @@
 -- What is heard of the channels that are followed from the mark on.
-use Rattle.heard_events.proofs.Common.{◌≡◌, ℕ, ◌+◌, List, [], ◌++◌, refl, Option, Some, None, map, true, false, Bool, if◌then◌else◌, Sample}
-use Rattle.heard_events.proofs.Common.{frames_behind, messages_behind, sets_behind, page_event, pages_behind, Tuning, Event, Mark, Traffic}
+use Rattle.heard_events.proofs.Common.{◌≡◌, ℕ, List, [], ◌++◌, refl, Option, map, true, false, Bool, if◌then◌else◌, Sample, frames_behind}
+use Rattle.heard_events.proofs.Common.{messages_behind, sets_behind, page_event, pages_behind, Tuning, Event, Mark, Traffic}
 
 -- of the traffic channel: frames first, the moment last
 abbrev pub told_behind : Tuning → Option Traffic → Option Mark → List Sample → ℕ → List Event
 told_behind t followed mark samples n =
     (frames_behind t followed mark samples n ++ messages_behind t followed mark samples n)
     ++ sets_behind t followed mark samples n
-
--- where no mark is set nothing is heard
-pub told_unset : (t : Tuning) (followed : Option Traffic) (xs : List Sample) (n : ℕ) →
-    told_behind t followed None xs n ≡ []
-told_unset t None xs n = refl
-told_unset t (Some traffic) xs n = refl
 
 -- what is heard of both when just n samples have been taken, behind a mark that may be set
 abbrev pub followed_behind : Tuning → Option Mark → List Sample → ℕ → List Event

@@ -1,13 +1,13 @@
 -- How the events of a file's sync channel grow with its samples.
-use Rattle.heard_events.proofs.Common.{◌≡◌, ℕ, ◌+◌, ◌<◌, ◌≤◌, Bool, true, List, [], ◌∷◌, ◌++◌, map, length, refl, ap, ◌∙◌, arith}
-use Rattle.heard_events.proofs.Common.{map-append, places, Sample, piece, capsule_ending, sync_events_left, is_in_file, known_at}
-use Rattle.heard_events.proofs.Common.{frame_own_bits, frames_before, sync_capsule_at, heard_in, heard_at, events_of, sync_events_at}
-use Rattle.heard_events.proofs.Common.{IsTimed, Tuning, sync_stream, sync_bound, filter_none_places, map_ext_filter_places}
-use Rattle.heard_events.proofs.Common.{filter-places-more, flat_map}
+use Rattle.heard_events.proofs.Common.{◌≡◌, ℕ, ◌+◌, ◌≤◌, Bool, true, List, [], ◌∷◌, ◌++◌, map, length, refl, ap, ◌∙◌, arith, map-append}
+use Rattle.heard_events.proofs.Common.{places, Sample, piece, capsule_ending, sync_events_left, is_in_file, known_at, frame_own_bits}
+use Rattle.heard_events.proofs.Common.{frames_before, sync_capsule_at, heard_in, heard_at, events_of, sync_events_at, IsTimed, Tuning}
+use Rattle.heard_events.proofs.Common.{sync_stream, sync_bound, filter_none_places, map_ext_filter_places, filter-places-more, flat_map}
 use Rattle.std.specs.List.{filter}
 use Rattle.rake_finger.proofs.FrameTimes.{outside_low, known_between, known_le}
 use Rattle.heard_events.proofs.OwnBits.{own_bits_sooner}
-use Rattle.heard_events.proofs.Arrivals.{Arrivals, NoneBefore, NoneNow, all_left, frames_in, gives_same, next_left, none_left, none_now}
+use Rattle.heard_events.proofs.Arrivals.{AreKnown, AreLater, Arrivals, frames_in, gives_same, next_left, none_now}
+use Rattle.heard_events.proofs.GoesOn.{GoesOn, things_go}
 use Rattle.heard_events.proofs.Arrivals.{AreOrdered, frames_ordered}
 
 -- FRAMES OF THE SYNC CHANNEL
@@ -29,14 +29,6 @@ sync_ordered t timed =
     frames_ordered (sync_stream t) timed sync_bound
     (λ k n ends. let early = timed.early k in omega (arith, early, ends))
 
--- each before `next` that lies in the file is known within so many samples
-abbrev pub KnownBefore : Tuning → ℕ → ℕ → Type 0
-KnownBefore t next n = (k : ℕ) → k < next → sync_in_file t k ≡ true → sync_known t k ≤ n
-
--- each from `next` on that lies in the file is known at so many samples or later
-abbrev pub KnownFrom : Tuning → ℕ → ℕ → Type 0
-KnownFrom t next n = (k : ℕ) → next ≤ k → sync_in_file t k ≡ true → n ≤ sync_known t k
-
 pub frames_before_more : (t : Tuning) (xs : List Sample) (k : ℕ) → sync_in_file t k ≡ true →
     frames_before t xs (k + 1)
     ≡ frames_before t xs k ++ frame_own_bits t.count xs (sync_stream t) k ∷ []
@@ -55,7 +47,7 @@ frames_before_none t xs low k timed h =
     (λ j below. outside_low (sync_stream t) timed j (omega arith)))
 
 pub frames_before_sooner : {low : ℕ} (t : Tuning) → IsSyncTimed t low → (xs ys : List Sample)
-    (k : ℕ) → KnownBefore t k (length xs) → frames_before t (xs ++ ys) k ≡ frames_before t xs k
+    (k : ℕ) → AreKnown (sync_frames t) k (length xs) → frames_before t (xs ++ ys) k ≡ frames_before t xs k
 unfolding frames_before
 frames_before_sooner t timed xs ys k known =
     let s = sync_stream t in
@@ -65,7 +57,7 @@ frames_before_sooner t timed xs ys k known =
 
 -- a frame is known no later than those behind it
 pub known_with : {low : ℕ} (t : Tuning) → IsSyncTimed t low → (k n : ℕ) →
-    sync_in_file t k ≡ true → sync_known t k ≤ n → KnownBefore t (k + 1) n
+    sync_in_file t k ≡ true → sync_known t k ≤ n → AreKnown (sync_frames t) (k + 1) n
 known_with t timed k n h known = λ j below inside.
     let le = known_le (sync_stream t) timed j k inside h (omega arith) in
     omega arith
@@ -88,27 +80,29 @@ module _ (t : Tuning) (low : ℕ) (timed : IsSyncTimed t low) where
       (λ k inside known.
       ap (events_of n) (heard_sooner xs ys k inside (omega (arith, known, h))))
 
-  pub sync_events_none : (xs : List Sample) (n : ℕ) → NoneNow (sync_frames t) n →
-      sync_events_at t xs n ≡ []
-  unfolding sync_events_at
-  sync_events_none xs n none =
-      ap (flat_map (λ k. events_of n (heard_at t xs k))) (none_now (sync_frames t) n none)
-
-  -- where no frame before `next` is known just now, all of this moment's events are left
-  pub left_all : (xs : List Sample) (next : ℕ) → NoneBefore (sync_frames t) next (length xs) →
-      sync_events_left t xs next ≡ sync_events_at t xs (length xs)
+  -- how they go on with the samples
+  pub sync_goes : (next : ℕ) (heard : List Sample) (end : ℕ) →
+      AreKnown (sync_frames t) next (length heard) → AreLater (sync_frames t) next end →
+      GoesOn (sync_events_at t) (λ xs. sync_events_left t xs next) heard end
   unfolding sync_events_at sync_events_left
-  left_all xs next none =
-      ap (flat_map (λ k. events_of (length xs) (heard_at t xs k)))
-      (all_left (sync_frames t) next (length xs) none)
+  sync_goes next =
+      things_go (sync_frames t) next (λ xs n. flat_map (λ k. events_of n (heard_at t xs k)))
+      (λ xs n. refl)
 
-  pub left_none : (xs : List Sample) (next : ℕ) → KnownFrom t next (length xs + 1) →
-      sync_events_left t xs next ≡ []
-  unfolding sync_events_left
-  left_none xs next h =
-      ap (flat_map (λ k. events_of (length xs) (heard_at t xs k)))
-      (none_left (sync_frames t) next (length xs)
-      (λ k low inside e. let later = h k low inside in omega arith))
+  -- before any sample is taken no frame is known
+  pub none_known : AreLater (sync_frames t) 0 1
+  none_known k above inside =
+      let early = timed.early k in
+      let least = (known_between (sync_stream t) timed k inside).low in
+      let some = timed.some in
+      omega (arith, early, least, some)
+
+  pub sync_events_none : sync_events_at t [] 0 ≡ []
+  unfolding sync_events_at
+  sync_events_none =
+      ap (flat_map (λ k. events_of 0 (heard_at t [] k)))
+      (none_now (sync_frames t) 0
+      (λ k inside e. let later = none_known k (omega arith) inside in omega (arith, later, e)))
 
   -- the next frame's events are the first of those left
   pub left_next : (xs : List Sample) (next : ℕ) → sync_in_file t next ≡ true →

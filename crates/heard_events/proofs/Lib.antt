@@ -2,6 +2,7 @@ pub mod Common
 pub mod OwnBits
 pub mod SyncTimes
 pub mod Arrivals
+pub mod GoesOn
 pub mod Growth
 pub mod Opened
 pub mod MarkGrowth

@@ -1,11 +1,12 @@
 -- The mark, as frames are heard.
 use Rattle.heard_events.proofs.Common.{◌≡◌, ℕ, ◌+◌, ◌<◌, ◌≤◌, true, false, List, [], ◌∷◌, ◌++◌, refl, length, ap, ◌∙◌, arith, inl, inr}
 use Rattle.heard_events.proofs.Common.{None, flat_map, option_or, cases_Bool, places, Sample, frames_open, marks_at, first_of, mark}
-use Rattle.heard_events.proofs.Common.{mark_before, Tuning, zero, suc, Option, Some, Mark}
+use Rattle.heard_events.proofs.Common.{mark_before, Tuning, zero, suc, Option, Some, Mark, AreNear, sync_stream}
 use Rattle.std.specs.List.{filter}
-use Rattle.heard_events.proofs.Growth.{IsSyncTimed, KnownBefore, KnownFrom, sync_in_file, sync_known, frames_before_sooner, heard_sooner}
+use Rattle.heard_events.proofs.SyncTimes.{timed_of}
+use Rattle.heard_events.proofs.Growth.{IsSyncTimed, none_known, sync_in_file, sync_known, frames_before_sooner, heard_sooner}
 use Rattle.heard_events.proofs.Growth.{known_with, sync_frames, sync_ordered}
-use Rattle.heard_events.proofs.Arrivals.{given_more, known_is, given_less}
+use Rattle.heard_events.proofs.Arrivals.{AreKnown, AreLater, given_more, known_is, given_less}
 use Rattle.chip_core.proofs.Ranges as ranges
 
 first_of-append : {A : Type 0} (xs ys : List A) →
@@ -14,7 +15,7 @@ first_of-append [] ys = refl
 first_of-append (x ∷ xs) ys = refl
 
 pub mark_is : {low : ℕ} (t : Tuning) → IsSyncTimed t low → (samples : List Sample)
-    (n next : ℕ) → KnownBefore t next n → KnownFrom t next (n + 1) →
+    (n next : ℕ) → AreKnown (sync_frames t) next n → AreLater (sync_frames t) next (n + 1) →
     mark t samples n ≡ mark_before t samples next
 unfolding mark mark_before
 mark_is t timed samples n next before behind =
@@ -27,6 +28,13 @@ unfolding mark_before
 mark_before_none t samples next none =
     ap (λ ks. first_of (flat_map (marks_at t samples) ks))
     (ranges.filter_none_places (sync_in_file t) next none)
+
+-- before any sample is taken none is set
+pub none_marked : (t : Tuning) → AreNear (sync_stream t).fingers → mark t [] 0 ≡ None
+none_marked t near =
+    let timed = timed_of t near in
+    mark_is t timed [] 0 0 (λ k less inside. absurd (omega (arith, less))) (none_known t _ timed)
+    ∙ mark_before_none t [] 0 (λ k less. absurd (omega (arith, less)))
 
 pub mark_before_more : (t : Tuning) (samples : List Sample) (next : ℕ) →
     sync_in_file t next ≡ true →
@@ -71,7 +79,7 @@ marks_at_sooner t low timed xs ys k inside known =
     rw (frames, heard) refl
 
 pub mark_before_sooner : (t : Tuning) (low : ℕ) → IsSyncTimed t low → (xs ys : List Sample)
-    (next : ℕ) → KnownBefore t next (length xs) →
+    (next : ℕ) → AreKnown (sync_frames t) next (length xs) →
     mark_before t (xs ++ ys) next ≡ mark_before t xs next
 unfolding mark_before
 mark_before_sooner t low timed xs ys next known =

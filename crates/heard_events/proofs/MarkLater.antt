@@ -1,14 +1,15 @@
 -- The mark lies behind the samples within which its message is known, so a channel that begins
 -- there hasn't begun.
 use Rattle.heard_events.proofs.Common.{◌≡◌, ℕ, zero, suc, ◌+◌, ◌-◌, ◌*◌, ◌/◌, ◌<◌, ◌≤◌, ◌==◌, ◌&&◌, Bool, true, false, cond, List, [], ◌∷◌}
-use Rattle.heard_events.proofs.Common.{length, length-append, map, take, drop, length-take, length-drop, refl, sym, ap, ◌∙◌, subst, arith}
-use Rattle.heard_events.proofs.Common.{inl, inr, nat_le, nat_lt, Option, Some, None, ℤ, if◌then◌else◌, flat_map, and_parts, cases_Bool}
-use Rattle.heard_events.proofs.Common.{leb-true, leb-false, places, CheckForm, Sample, own_bits, score, sending, length-best_codeword}
-use Rattle.heard_events.proofs.Common.{within, front_capsule, is_stated, stated_bits, Piece, piece, bodies, but_last, capsule_ending}
+use Rattle.heard_events.proofs.Common.{length, length-append, map, take, drop, length-take, length-drop, refl, sym, ap, subst, arith, inl}
+use Rattle.heard_events.proofs.Common.{inr, nat_le, nat_lt, Option, Some, None, ℤ, if◌then◌else◌, flat_map, and_parts, cases_Bool, leb-true}
+use Rattle.heard_events.proofs.Common.{leb-false, places, CheckForm, Sample, own_bits, score, sending, length-best_codeword, within}
+use Rattle.heard_events.proofs.Common.{front_capsule, is_stated, stated_bits, Piece, piece, bodies, but_last, capsule_ending}
 use Rattle.heard_events.proofs.Common.{from_last_start, Sync, SyncFields, Codeword, best_codeword, Free, first_of, frames_open, marks_at}
 use Rattle.heard_events.proofs.Common.{marks_of, mark_at, AreNear, Stream, frame_own_bits, frame_softs, frame_start, is_in_file, known_at}
 use Rattle.heard_events.proofs.Common.{span_first, span_frames, frames_before, heard_at, heard_in, sync_capsule_at, with_message, IsTimed}
-use Rattle.heard_events.proofs.Common.{stream_end, Tuning, sync_stream, Mark, SpelledMessage}
+use Rattle.heard_events.proofs.Common.{stream_end, Tuning, sync_stream, Mark, SpelledMessage, ◌^◌, FieldsFit, sync_reading, fixed_fit}
+use Rattle.heard_events.proofs.Common.{reading_is_message, fixed_fields}
 use Rattle.std.specs.List.{filter}
 use Rattle.frame_decoder.specs.Spans.{Channel}
 use Rattle.rake_finger.proofs.FingerTimes.{ends_bounds}
@@ -141,19 +142,37 @@ marks_told first None m e = absurd (cc)
 marks_told first (Some heard) m e =
     (heard, (refl, picked (heard.message.lc == 0) (mark_at first heard) m e))
 
-with_capsule : (capsule : List Bool) (r : Option SyncFields) (heard : SpelledMessage) →
-    with_message capsule r ≡ Some heard → capsule ≡ heard.capsule
-with_capsule capsule None heard e = absurd (cc)
-with_capsule capsule (Some message) heard e =
+pn_fits : (m : SyncFields) → FieldsFit (fixed_fields m) → m.pn ≤ 511
+pn_fits m fits = let low : m.pn < 2 ^ 9 = fits.1.1.1.1.1.0 in omega (arith, low)
+
+-- a message has its capsule, and its pilot one of the numbers that a message can tell
+read_is : (form : CheckForm) (capsule : List Bool) (read : Option SyncFields) →
+    read ≡ sync_reading form capsule → (heard : SpelledMessage) →
+    with_message capsule read ≡ Some heard →
+    (Some capsule ≡ Some heard.capsule) × (heard.message.pn ≤ 511)
+read_is form capsule None is heard e = absurd (cc)
+read_is form capsule (Some message) is heard e =
+    let said = (reading_is_message form capsule message (sym is)).0 in
     let told : SpelledMessage = record { capsule = capsule; message = message } in
     let same : told ≡ heard = cc in
-    ap (λ (h : SpelledMessage). h.capsule) same
+    subst (λ (x : SpelledMessage). (Some capsule ≡ Some x.capsule) × (x.message.pn ≤ 511)) same
+    (refl, pn_fits message (fixed_fit message said))
 
-told_capsule : (form : CheckForm) (c : Option (List Bool)) (heard : SpelledMessage) →
-    heard_in form c ≡ Some heard → c ≡ Some heard.capsule
-told_capsule form None heard e = absurd (cc)
-told_capsule form (Some capsule) heard e = ap (λ (bits : List Bool). Some bits)
-    (with_capsule capsule _ heard e)
+told_is : (form : CheckForm) (c : Option (List Bool)) (heard : SpelledMessage) →
+    heard_in form c ≡ Some heard → (c ≡ Some heard.capsule) × (heard.message.pn ≤ 511)
+told_is form None heard e = absurd (cc)
+told_is form (Some capsule) heard e = read_is form capsule _ refl heard e
+
+-- a mark is that of a message
+mark_of : (t : Tuning) (samples : List Sample) (k : ℕ) (m : Mark) →
+    first_of (marks_at t samples k) ≡ Some m → (heard : SpelledMessage)
+    × ((mark_at (frame_start (sync_stream t) (k + 1 - frames_open t samples (k + 1))) heard ≡ m)
+    × ((sync_capsule_at t samples k ≡ Some heard.capsule) × (heard.message.pn ≤ 511)))
+unfolding marks_at heard_at
+mark_of t samples k m e =
+    let first : ℕ = frame_start (sync_stream t) (k + 1 - frames_open t samples (k + 1)) in
+    let got = marks_told first (heard_at t samples k) m e in
+    (got.0, (got.1.1, told_is t.check30 (sync_capsule_at t samples k) got.0 got.1.0))
 
 -- a capsule's frames are at most three for each of its superframes, and the time that it tells lies
 -- four superframes behind these
@@ -177,29 +196,14 @@ module _ (t : Tuning) (samples : List Sample) (k low : ℕ) (near : AreNear (syn
       let ends = (ends_bounds Sync (frame_start s (k + 1)) s.fingers near).1 in
       omega (arith, high, ends)
 
-  told_later : (m : Mark) → m.pilot ≤ 511 → (told : Option SpelledMessage) →
-      told ≡ heard_at t samples k →
-      first_of
-      (marks_of (frame_start (sync_stream t) (k + 1 - frames_open t samples (k + 1))) told)
-      ≡ Some m →
+  pub mark_later : (m : Mark) → first_of (marks_at t samples k) ≡ Some m →
       known_at t.count (sync_stream t) k < m.sample
-  unfolding heard_at
-  told_later m pilot told told_is e =
+  mark_later m e =
       let s = sync_stream t in
       let frames : ℕ = frames_open t samples (k + 1) in
       let first : ℕ = frame_start s (k + 1 - frames) in
-      let got = marks_told first told m e in
-      let heard = got.0 in
-      let capsule = told_capsule t.check30 (sync_capsule_at t samples k) heard
-      (sym told_is ∙ got.1.0) in
-      let few = frames_few t samples k heard.capsule capsule in
-      let same = got.1.1 in
-      let pn : heard.message.pn ≡ m.pilot = ap (λ (x : Mark). x.pilot) same in
+      let (heard, is) = mark_of t samples k m e in
+      let few = frames_few t samples k heard.capsule is.1.0 in
       let late = late_enough first frames (length heard.capsule) heard.message.pn
-      (known_at t.count s k) few (known_most frames) (omega (arith, pilot, pn)) in
-      subst (λ (x : Mark). known_at t.count s k < x.sample) same late
-
-  pub mark_later : (m : Mark) → m.pilot ≤ 511 → first_of (marks_at t samples k) ≡ Some m →
-      known_at t.count (sync_stream t) k < m.sample
-  unfolding marks_at
-  mark_later m pilot e = told_later m pilot (heard_at t samples k) refl e
+      (known_at t.count s k) few (known_most frames) is.1.1 in
+      subst (λ (x : Mark). known_at t.count s k < x.sample) is.0 late

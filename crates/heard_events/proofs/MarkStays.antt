@@ -1,26 +1,25 @@
 -- The mark stays where more samples are taken, and before it nothing is heard of other channels.
-use Rattle.heard_events.proofs.Common.{◌≡◌, ℕ, ◌+◌, ◌-◌, ◌^◌, ◌<◌, ◌≤◌, ◌==◌, Bool, true, false, List, [], ◌∷◌, ◌++◌, length, refl, sym, ap}
-use Rattle.heard_events.proofs.Common.{◌∙◌, subst, arith, inl, inr, nat_lt, Option, Some, None, ℤ, pos, take, get_or, append-nil}
-use Rattle.heard_events.proofs.Common.{if◌then◌else◌, flat_map, and_parts, and_from, cases_Bool, cases_lt, eq-eqb, ne_eqb, new_standing}
-use Rattle.heard_events.proofs.Common.{places, FieldsFit, CheckForm, Sample, Finger, Data, sync_reading, fixed_fields, SyncFields}
-use Rattle.heard_events.proofs.Common.{fixed_fit, reading_is_message, AreClose, all_fingers, legs_of, pilot_finger, first_of, frames_open}
-use Rattle.heard_events.proofs.Common.{mark, mark_at, mark_before, marks_at, marks_of, frames_at, frames_behind, kept_to, legs_at, legs_by}
-use Rattle.heard_events.proofs.Common.{messages_at, messages_behind, moment_place, moments_before, sets_at, sets_behind, AreNear, all_near}
-use Rattle.heard_events.proofs.Common.{has_reference, low_in, pages_at, pages_behind, paging_stream, frame_start, is_in_file, known_at}
-use Rattle.heard_events.proofs.Common.{heard_at, heard_in, sync_capsule_at, with_message, IsTimed, stream_end, if_followed, frame_known}
-use Rattle.heard_events.proofs.Common.{Tuning, fingers_of, sync_bound, sync_stream, Event, Leg, Mark, Traffic, SpelledMessage, frames_by}
-use Rattle.heard_events.proofs.Common.{map, message_heard, messages_by, option_or}
+use Rattle.heard_events.proofs.Common.{◌≡◌, ℕ, ◌+◌, ◌-◌, ◌<◌, ◌≤◌, ◌==◌, Bool, true, false, List, [], ◌∷◌, ◌++◌, length, refl, sym, ap, ◌∙◌}
+use Rattle.heard_events.proofs.Common.{subst, arith, inl, inr, nat_lt, Option, Some, None, ℤ, pos, take, get_or, append-nil, flat_map}
+use Rattle.heard_events.proofs.Common.{and_parts, and_from, cases_Bool, cases_lt, eq-eqb, ne_eqb, new_standing, places, Sample, Finger}
+use Rattle.heard_events.proofs.Common.{Data, AreClose, all_fingers, legs_of, pilot_finger, first_of, mark, mark_before, marks_at, frames_at}
+use Rattle.heard_events.proofs.Common.{frames_behind, kept_to, legs_at, legs_by, messages_at, messages_behind, moment_place, moments_before}
+use Rattle.heard_events.proofs.Common.{sets_at, sets_behind, AreNear, all_near, has_reference, low_in, pages_at, pages_behind}
+use Rattle.heard_events.proofs.Common.{paging_stream, frame_start, is_in_file, known_at, IsTimed, stream_end, if_followed, frame_known}
+use Rattle.heard_events.proofs.Common.{Tuning, fingers_of, sync_bound, sync_stream, Event, Leg, Mark, Traffic, frames_by, map}
+use Rattle.heard_events.proofs.Common.{message_heard, messages_by, option_or, page_event}
 use Rattle.std.specs.List.{filter}
-use Rattle.heard_events.proofs.FollowedEvents.{unrated}
+use Rattle.heard_events.proofs.FollowedEvents.{followed_behind, unrated}
 use Rattle.heard_events.specs.TrafficEvents.{frame_heard}
 use Rattle.rake_finger.proofs.CloseFingers.{near_are_close}
 use Rattle.rake_finger.proofs.FingerTimes.{ends_bounds, timed_in}
 use Rattle.heard_events.proofs.SyncTimes.{timed_of}
 use Rattle.heard_events.proofs.FrameBounds.{known_low}
 use Rattle.heard_events.proofs.FrameGrowth.{frames_of}
-use Rattle.heard_events.proofs.Arrivals.{none_now, parted, by_parts, is_by}
+use Rattle.heard_events.proofs.GoesOn.{joined}
+use Rattle.heard_events.proofs.Arrivals.{AreKnown, none_now, parted, by_parts, is_by}
 use Rattle.rake_finger.proofs.FrameTimes.{known_between}
-use Rattle.heard_events.proofs.Growth.{IsSyncTimed, KnownBefore, sync_in_file, sync_known, known_with, sync_frames, sync_ordered}
+use Rattle.heard_events.proofs.Growth.{IsSyncTimed, sync_in_file, sync_known, known_with, sync_frames, sync_ordered}
 use Rattle.heard_events.proofs.MarkGrowth.{marks_at_sooner, mark_before_kept, mark_before_more, mark_is}
 use Rattle.heard_events.proofs.MarkLater.{mark_later}
 use Rattle.heard_events.proofs.PageGrowth.{pages_none}
@@ -67,7 +66,7 @@ mark_set t samples n m h =
 
 module _ (t : Tuning) (low : ℕ) (timed : IsSyncTimed t low) where
   -- it is set by a message of frames that are known within these samples
-  pub mark_told : (samples : List Sample) (n next : ℕ) (m : Mark) → KnownBefore t next n →
+  pub mark_told : (samples : List Sample) (n next : ℕ) (m : Mark) → AreKnown (sync_frames t) next n →
       mark_before t samples next ≡ Some m → mark t samples n ≡ Some m
   mark_told samples n next m known h =
       let (last, parts) = parted (sync_frames t) (sync_ordered t timed) n in
@@ -116,65 +115,33 @@ module _ (t : Tuning) (low : ℕ) (timed : IsSyncTimed t low) where
 
   -- It lies behind the samples within which it isn't set yet.
   pub mark_behind : AreNear (sync_stream t).fingers → (samples : List Sample) (n n' : ℕ)
-      (m : Mark) → m.pilot ≤ 511 → mark t samples n ≡ None → mark t samples n' ≡ Some m → n < m.sample
-  mark_behind near samples n n' m pilot none h =
+      (m : Mark) → mark t samples n ≡ None → mark t samples n' ≡ Some m → n < m.sample
+  mark_behind near samples n n' m none h =
       let (k, set) = mark_set t samples n' m h in
-      let later = mark_later t samples k low near timed set.inside m pilot set.sets in
+      let later = mark_later t samples k low near timed set.inside m set.sets in
       elim (cases_lt n (sync_known t k)) [
         | inl less ↦ omega (arith, less, later)
         | inr most ↦ absurd (unset samples n k m none set.inside most set.sets)
       ]
 
--- THE PILOT'S NUMBER
-pn_fits : (m : SyncFields) → FieldsFit (fixed_fields m) → m.pn ≤ 511
-pn_fits m fits = let low : m.pn < 2 ^ 9 = fits.1.1.1.1.1.0 in omega (arith, low)
+-- WHAT A MARK OPENS
+-- what is told behind a mark that may be set, of samples that don't reach it: nothing
+pub record OpensBehind {E : Type 0} (n : ℕ) (heard : Option Mark → List E) : Type 0 where
+  pub unset : heard None ≡ []
+  pub early : (m : Mark) → n ≤ m.sample → heard (Some m) ≡ []
 
-read_pn : (form : CheckForm) (capsule : List Bool) (read : Option SyncFields) →
-    read ≡ sync_reading form capsule → (heard : SpelledMessage) →
-    with_message capsule read ≡ Some heard → heard.message.pn ≤ 511
-read_pn form capsule None is heard e = absurd (cc)
-read_pn form capsule (Some message) is heard e =
-    let said = (reading_is_message form capsule message (sym is)).0 in
-    let told : SpelledMessage = record { capsule = capsule; message = message } in
-    let same : told ≡ heard = cc in
-    subst (λ (x : SpelledMessage). x.message.pn ≤ 511) same
-    (pn_fits message (fixed_fit message said))
+pub opens_both : {E : Type 0} {n : ℕ} {f g : Option Mark → List E} → OpensBehind n f →
+    OpensBehind n g → OpensBehind n (λ mark. f mark ++ g mark)
+opens_both one other = record {
+  unset = joined one.unset other.unset;
+  early = λ m before. joined (one.early m before) (other.early m before);
+}
 
-heard_pn : (form : CheckForm) (capsule : Option (List Bool)) (heard : SpelledMessage) →
-    heard_in form capsule ≡ Some heard → heard.message.pn ≤ 511
-heard_pn form None heard e = absurd (cc)
-heard_pn form (Some capsule) heard e = read_pn form capsule _ refl heard e
-
-picked_pn : (b : Bool) (x m : Mark) → first_of (if b then [] else x ∷ []) ≡ Some m →
-    x.pilot ≤ 511 → m.pilot ≤ 511
-picked_pn true x m e low = absurd (cc)
-picked_pn false x m e low =
-    let same : x ≡ m = cc in
-    subst (λ (y : Mark). y.pilot ≤ 511) same low
-
-marks_pn : (first : ℕ) (told : Option SpelledMessage) (m : Mark) →
-    ((heard : SpelledMessage) → told ≡ Some heard → heard.message.pn ≤ 511) →
-    first_of (marks_of first told) ≡ Some m → m.pilot ≤ 511
-marks_pn first None m low e = absurd (cc)
-marks_pn first (Some heard) m low e =
-    picked_pn (heard.message.lc == 0) (mark_at first heard) m e (low heard refl)
-
--- a mark's pilot has one of the numbers that a message can tell
-pub mark_pilot : (t : Tuning) (samples : List Sample) (n : ℕ) (m : Mark) →
-    mark t samples n ≡ Some m → m.pilot ≤ 511
-unfolding marks_at heard_at
-mark_pilot t samples n m h =
-    let (k, set) = mark_set t samples n m h in
-    marks_pn (frame_start (sync_stream t) (k + 1 - frames_open t samples (k + 1)))
-    (heard_at t samples k) m (λ heard e. heard_pn t.check30 (sync_capsule_at t samples k) heard e)
-    set.sets
-
--- What is heard at n samples, and not before the mark, is told by any later mark.
+-- What is heard at n samples, or at the next one, is told by any later mark.
 pub by_one_mark : {E : Type 0} (t : Tuning) → AreNear (sync_stream t).fingers →
-    (samples : List Sample) (n n' : ℕ) (heard : Option Mark → List E) → n ≤ n' →
-    heard None ≡ [] → ((m : Mark) → n < m.sample → heard (Some m) ≡ []) →
-    heard (mark t samples n) ≡ heard (mark t samples n')
-by_one_mark t near samples n n' heard more none early =
+    (samples : List Sample) (n n' at' : ℕ) (heard : Option Mark → List E) → n ≤ n' →
+    at' ≤ n + 1 → OpensBehind at' heard → heard (mark t samples n) ≡ heard (mark t samples n')
+by_one_mark t near samples n n' at' heard more here opens =
     by_marks (mark t samples n) (mark t samples n') refl refl
   where
     by_marks : (now later : Option Mark) → mark t samples n ≡ now → mark t samples n' ≡ later →
@@ -183,9 +150,8 @@ by_one_mark t near samples n n' heard more none early =
         ap heard (sym (mark_stays t _ (timed_of t near) samples n n' m more e) ∙ e')
     by_marks None None e e' = refl
     by_marks None (Some m) e e' =
-        let pilot = mark_pilot t samples n' m e' in
-        let before = mark_behind t _ (timed_of t near) near samples n n' m pilot e e' in
-        none ∙ sym (early m before)
+        let before = mark_behind t _ (timed_of t near) near samples n n' m e e' in
+        opens.unset ∙ sym (opens.early m (omega (arith, here, before)))
 
 -- PAGING CHANNELS
 -- fingers are as near on one Walsh row as on another
@@ -233,15 +199,13 @@ module _ (t : Tuning) (near : AreNear (sync_stream t).fingers) (channel : ℕ) w
       pages_none t channel m samples n
       (λ k inside e. let later = paging_later m k inside in omega (arith, later, e, before))
 
-  -- What is heard at n samples is told by any later mark.
-  pub pages_by_one_mark : (samples : List Sample) (n n' : ℕ) → n ≤ n' →
-      pages_behind t channel (mark t samples n) samples n
-      ≡ pages_behind t channel (mark t samples n') samples n
-  pages_by_one_mark samples n n' more =
-      by_one_mark t near samples n n' (λ set. pages_behind t channel set samples n) more refl
-      (λ m before.
-      unrated (nat_lt m.prat 2) (pages_at t channel m samples n)
-      (pages_later samples n m (omega (arith, before))))
+  pub pages_from_mark : (samples : List Sample) (n : ℕ) →
+      OpensBehind n (λ mark. pages_behind t channel mark samples n)
+  pages_from_mark samples n = record {
+    unset = refl;
+    early = λ m before.
+        unrated (nat_lt m.prat 2) (pages_at t channel m samples n) (pages_later samples n m before);
+  }
 
 -- TRAFFIC CHANNELS
 -- one active pilot, the reference's, has the reference's fingers
@@ -302,52 +266,39 @@ module _ (t : Tuning) (near : AreNear (sync_stream t).fingers) (traffic : Traffi
         ne_eqb (moment_place m (moments_before m n + 1)) n (λ e. omega (arith, e, before)) in
         rw elsewhere refl
 
--- what is heard of no channel before a mark, and of none where no mark is set
-unfollowed : (heard : Traffic → Mark → List Event) (followed : Option Traffic) (m : Mark) →
-    ((traffic : Traffic) → heard traffic m ≡ []) → if_followed heard followed (Some m) ≡ []
-unfollowed heard None m none = refl
-unfollowed heard (Some traffic) m none = none traffic
-
-unmarked : (heard : Traffic → Mark → List Event) (followed : Option Traffic) →
-    if_followed heard followed None ≡ []
-unmarked heard None = refl
-unmarked heard (Some traffic) = refl
+opens_followed : (heard : Traffic → Mark → List Event) (n : ℕ) →
+    ((traffic : Traffic) (m : Mark) → n ≤ m.sample → heard traffic m ≡ []) →
+    (followed : Option Traffic) → OpensBehind n (if_followed heard followed)
+opens_followed heard n none None = record { unset = refl; early = λ m before. refl }
+opens_followed heard n none (Some traffic) = record { unset = refl; early = none traffic }
 
 module _ (t : Tuning) (near : AreNear (sync_stream t).fingers) (followed : Option Traffic)
-    (samples : List Sample) where
-  -- before the mark no frame is heard, nor a message, nor anything of the pilot sets
-  pub frames_before_mark : (n : ℕ) (m : Mark) → n ≤ m.sample →
-      frames_behind t followed (Some m) samples n ≡ []
-  frames_before_mark n m before =
-      unfollowed (λ traffic m'. frames_at t traffic m' samples n) followed m
-      (λ traffic. frames_later t near traffic m samples n before)
+    (samples : List Sample) (n : ℕ) where
+  pub frames_from_mark : OpensBehind n (λ mark. frames_behind t followed mark samples n)
+  frames_from_mark =
+      opens_followed (λ traffic m. frames_at t traffic m samples n) n
+      (λ traffic m. frames_later t near traffic m samples n) followed
 
-  pub messages_before_mark : (n : ℕ) (m : Mark) → n ≤ m.sample →
-      messages_behind t followed (Some m) samples n ≡ []
-  messages_before_mark n m before =
-      unfollowed (λ traffic m'. messages_at t traffic m' samples n) followed m
-      (λ traffic. messages_later t near traffic m samples n before)
+  pub messages_from_mark : OpensBehind n (λ mark. messages_behind t followed mark samples n)
+  messages_from_mark =
+      opens_followed (λ traffic m. messages_at t traffic m samples n) n
+      (λ traffic m. messages_later t near traffic m samples n) followed
 
-  pub sets_before_mark : (n : ℕ) (m : Mark) → n ≤ m.sample →
-      sets_behind t followed (Some m) samples n ≡ []
-  sets_before_mark n m before =
-      unfollowed (λ traffic m'. sets_at t traffic m' samples n) followed m
-      (λ traffic. sets_later t near traffic m samples n before)
+  pub sets_from_mark : OpensBehind n (λ mark. sets_behind t followed mark samples n)
+  sets_from_mark =
+      opens_followed (λ traffic m. sets_at t traffic m samples n) n
+      (λ traffic m. sets_later t near traffic m samples n) followed
 
-  -- the frame that is heard at n samples is told by any later mark, and so is the message that it
-  -- completes
-  pub frames_by_one_mark : (n n' : ℕ) → n ≤ n' →
-      frames_behind t followed (mark t samples n) samples n
-      ≡ frames_behind t followed (mark t samples n') samples n
-  frames_by_one_mark n n' more =
-      by_one_mark t near samples n n' (λ set. frames_behind t followed set samples n) more
-      (unmarked (λ traffic m. frames_at t traffic m samples n) followed)
-      (λ m before. frames_before_mark n m (omega (arith, before)))
-
-  pub messages_by_one_mark : (n n' : ℕ) → n ≤ n' →
-      messages_behind t followed (mark t samples n) samples n
-      ≡ messages_behind t followed (mark t samples n') samples n
-  messages_by_one_mark n n' more =
-      by_one_mark t near samples n n' (λ set. messages_behind t followed set samples n) more
-      (unmarked (λ traffic m. messages_at t traffic m samples n) followed)
-      (λ m before. messages_before_mark n m (omega (arith, before)))
+-- all that is heard of the channels that are followed
+pub all_from_mark : (t : Tuning) → AreNear (sync_stream t).fingers → (samples : List Sample)
+    (n : ℕ) → OpensBehind n (λ mark. followed_behind t mark samples n)
+all_from_mark t near samples n =
+    let pages = pages_from_mark t near t.paging samples n in
+    opens_both
+    (record {
+      unset = ap (map (page_event n)) pages.unset;
+      early = λ m before. ap (map (page_event n)) (pages.early m before);
+    })
+    (opens_both
+    (opens_both (frames_from_mark t near t.traffic samples n) (messages_from_mark t near t.traffic samples n))
+    (sets_from_mark t near t.traffic samples n))

@@ -4,8 +4,9 @@ use Rattle.heard_events.proofs.Common.{arith, if◌then◌else◌, flat_map, ran
 use Rattle.heard_events.proofs.Common.{pages_from, pages_left, paging_bound, paging_stream, frame_own_bits, is_in_file, known_at, IsTimed}
 use Rattle.heard_events.proofs.Common.{Tuning, Mark, SpelledPage, take, Option, half_frame_body, half_frame_capsule_ending, bits_before}
 use Rattle.heard_events.proofs.Common.{bits_up_to, page_in, pages_at, paging_rate, flat_map_ext_range}
-use Rattle.heard_events.proofs.Arrivals.{Arrivals, NoneBefore, NoneNow, all_left, frames_in, gives_same, left, left_same, next_left}
-use Rattle.heard_events.proofs.Arrivals.{none_left, none_now}
+use Rattle.heard_events.proofs.Arrivals.{AreKnown, AreLater, Arrivals, NoneNow, frames_in, gives_same, left, left_same, next_left}
+use Rattle.heard_events.proofs.Arrivals.{none_now}
+use Rattle.heard_events.proofs.GoesOn.{GoesOn, goes_as, things_go}
 use Rattle.rake_finger.proofs.FrameTimes.{known_between, known_le}
 use Rattle.heard_events.proofs.PageBits.{bits_before_sooner}
 use Rattle.heard_events.proofs.OwnBits.{own_bits_sooner}
@@ -44,29 +45,21 @@ module _ (t : Tuning) (channel : ℕ) (m : Mark) (heard : List Sample) where
 
 -- WHAT IS LEFT
 module _ (t : Tuning) (channel : ℕ) (m : Mark) where
-  -- where no frame before `next` is known just now, all of this moment's messages are left
-  pub pages_left_all : (xs : List Sample) (next : ℕ) →
-      NoneBefore (page_frames t channel m) next (length xs) →
-      pages_left t channel m xs next 0 ≡ pages_at t channel m xs (length xs)
+  -- how they go on with the samples, where no frame is under way
+  pub pages_go : (next : ℕ) (heard : List Sample) (end : ℕ) →
+      AreKnown (page_frames t channel m) next (length heard) →
+      AreLater (page_frames t channel m) next end →
+      GoesOn (pages_at t channel m) (λ xs. pages_left t channel m xs next 0) heard end
   unfolding pages_left pages_at
-  pages_left_all xs next none =
-      left_same (page_frames t channel m)
+  pages_go next heard end before behind =
+      goes_as
+      (things_go (page_frames t channel m) next
+      (λ xs n. flat_map (λ k. pages_from t channel m xs k 0)) (λ xs n. refl) heard end before behind)
+      (λ xs n. refl)
+      (λ xs. left_same (page_frames t channel m)
       (λ k. pages_from t channel m xs k (if k == next then 0 else 0))
       (λ k. pages_from t channel m xs k 0) next (length xs)
-      (λ k above inside known. ap (pages_from t channel m xs k) (either_way (k == next) 0))
-      ∙ ap (flat_map (λ k. pages_from t channel m xs k 0))
-      (all_left (page_frames t channel m) next (length xs) none)
-
-  -- where each from `next` on is known later, nothing is left
-  pub pages_left_none : (xs : List Sample) (next place : ℕ) →
-      ((k : ℕ) → next ≤ k → is_in_file t.count (paging_stream t channel m) k ≡ true →
-      length xs + 1 ≤ known_at t.count (paging_stream t channel m) k) →
-      pages_left t channel m xs next place ≡ []
-  unfolding pages_left
-  pages_left_none xs next place h =
-      ap (flat_map (λ k. pages_from t channel m xs k (if k == next then place else 0)))
-      (none_left (page_frames t channel m) next (length xs)
-      (λ k low inside e. let later = h k low inside in omega arith))
+      (λ k above inside known. ap (pages_from t channel m xs k) (either_way (k == next) 0)))
 
   -- where no frame is known just now, there is no message
   pub pages_none : (xs : List Sample) (n : ℕ) → NoneNow (page_frames t channel m) n →

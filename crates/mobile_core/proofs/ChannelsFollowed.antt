@@ -1,15 +1,15 @@
 -- What the channels behind the mark have still to give, as samples come.
 use Rattle.mobile_core.proofs.Common.{◌≡◌, ℕ, ◌+◌, ◌^◌, ◌<◌, ◌≤◌, List, [], ◌++◌, length, refl, sym, ap, subst, ◌∙◌, inl, inr, Option, Some}
-use Rattle.mobile_core.proofs.Common.{None, ForSome, option_map_or, arith, length-append, nat_lt, Sample, HearsFollowed, HearsFrames}
-use Rattle.mobile_core.proofs.Common.{HearsPages, IsFollowedDue, IsSoundFollowed, EndFrom, WaitFrom, followed_events_left, followed_heard}
-use Rattle.mobile_core.proofs.Common.{paging_events_left, AreNear, SetsMark, Tuning, sync_stream, Event, Followed, Mark, PagingReceiver}
+use Rattle.mobile_core.proofs.Common.{None, ForSome, option_map_or, arith, length-append, Sample, HearsFollowed, HearsFrames, HearsPages}
+use Rattle.mobile_core.proofs.Common.{IsFollowedDue, IsSoundFollowed, EndFrom, WaitFrom, followed_events_left, followed_heard}
+use Rattle.mobile_core.proofs.Common.{paging_events_left, AreNear, Tuning, sync_stream, Event, Followed, Mark, PagingReceiver}
 use Rattle.mobile_core.proofs.Common.{TrafficReceiver, IsSomeAnd, IsSoundPaging, IsSoundTraffic, IsTrafficDue, IsDueAt, IsUnheard, Traffic}
-use Rattle.mobile_core.proofs.Common.{append_assoc, bits_heard, listed, traffic_heard, traffic_events_left}
-use Rattle.heard_events.proofs.FollowedEvents.{followed_behind, unrated}
-use Rattle.mobile_core.proofs.FramesFollowed.{frames_closed, frames_go, frames_more, told_few}
-use Rattle.mobile_core.proofs.GoesOn.{GoesOn, both, joined}
-use Rattle.heard_events.proofs.MarkStays.{pages_later}
-use Rattle.mobile_core.proofs.PagesFollowed.{bits_few, pages_closed, pages_go, pages_more, pages_quiet}
+use Rattle.mobile_core.proofs.Common.{bits_heard, listed, traffic_heard, traffic_events_left}
+use Rattle.heard_events.proofs.FollowedEvents.{followed_behind}
+use Rattle.mobile_core.proofs.FramesFollowed.{frames_go, frames_more, told_few}
+use Rattle.heard_events.proofs.GoesOn.{GoesOn, both, joined}
+use Rattle.heard_events.proofs.MarkStays.{pages_from_mark}
+use Rattle.mobile_core.proofs.PagesFollowed.{bits_few, pages_go, pages_more, pages_quiet}
 
 -- what waits ends later
 pub ends_later : (n : ℕ) (f : Followed) → WaitFrom n f → EndFrom (n + 1) f
@@ -64,27 +64,6 @@ module _ {t : Tuning} {f : Followed} {mark : Option Mark} {heard : List Sample}
     traffic = subst (HearsFrames t after traffic samples) left tells;
   }
 
-  -- where no mark is set no receiver is open
-  pub closed : mark ≡ None → (f.paging ≡ None) × (f.traffic ≡ None)
-  closed unset = (
-    pages_closed t mark heard f.paging st.paging unset,
-    frames_closed t mark heard (paging_events_left t mark heard f.paging) f.traffic st.traffic unset,
-  )
-
-  -- a mark that opens no receiver was there before
-  pub unmoved : (after : Option Mark) (n : ℕ) → SetsMark n mark after →
-      (mark ≡ None → ForSome after (λ m. n < m.sample) → after ≡ None) →
-      HearsFollowed t f after heard
-      × (followed_events_left t after heard f ≡ followed_events_left t mark heard f)
-  unmoved after n sets unset =
-      let same : after ≡ mark = elim sets [
-        | inl same ↦ same
-        | inr later ↦ unset later.0 later.1 ∙ sym later.0
-      ] in (
-        subst (λ (x : Option Mark). HearsFollowed t f x heard) (sym same) st,
-        ap (λ (x : Option Mark). followed_events_left t x heard f) same,
-      )
-
   -- receivers are opened that have heard nothing
   pub opened : (paging : Option PagingReceiver) (traffic : Option TrafficReceiver) (m : Mark) →
       f.paging ≡ None → f.traffic ≡ None →
@@ -110,26 +89,6 @@ module _ {t : Tuning} {f : Followed} {mark : Option Mark} {heard : List Sample}
         (subst (λ (x : Option Traffic). IsUnheard x (Some m)) (sym none ∙ st.assigned_is) tt),
     ap (traffic_events_left t (Some m) heard) closed,
   )
-
-  -- what was due of the paging channel has been heard, and the pilot sets took what it tells
-  pub heard_page : (paging : Option PagingReceiver) (traffic : Option TrafficReceiver)
-      (event : Option Event) → HearsPages t mark paging heard
-      × (listed event ++ paging_events_left t mark heard paging
-      ≡ paging_events_left t mark heard f.paging) →
-      ((pages : List Event) → HearsFrames t mark f.traffic heard (listed event ++ pages) →
-      HearsFrames t mark traffic heard pages
-      × (traffic_events_left t mark heard traffic ≡ traffic_events_left t mark heard f.traffic)) →
-      HearsFollowed t (record f { paging = paging; traffic = traffic }) mark heard
-      × (listed event ++ (paging_events_left t mark heard paging
-      ++ traffic_events_left t mark heard traffic) ≡ followed_events_left t mark heard f)
-  heard_page paging traffic event hears notes =
-      let pages = paging_events_left t mark heard paging in
-      let noted = notes pages
-      (subst (HearsFrames t mark f.traffic heard) (sym hears.1) st.traffic) in (
-        moved paging traffic mark heard pages refl hears.0 noted.0,
-        sym (append_assoc (listed event) pages (traffic_events_left t mark heard traffic))
-            ∙ joined hears.1 noted.1,
-      )
 
   -- where nothing is due of it, what was due of the traffic channel has been heard
   pub heard_other : {n : ℕ} →
@@ -176,5 +135,4 @@ module _ {t : Tuning} {f : Followed} {mark : Option Mark} {heard : List Sample}
         (λ samples n past less.
         pages_quiet t mark heard f.paging st.paging (λ d. idle (inl d)) samples n end past less
         ends.paging)
-        (λ m n before. unrated (nat_lt m.prat 2) _
-        (pages_later t near t.paging (heard ++ more) n m before)))
+        (λ m n. (pages_from_mark t near t.paging (heard ++ more) n).early m))

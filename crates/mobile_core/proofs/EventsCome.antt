@@ -1,21 +1,22 @@
 -- What a handset has still to tell where more samples come, up to the end of the next frame.
 use Rattle.mobile_core.proofs.Common.{◌≡◌, ℕ, suc, ◌+◌, ◌-◌, ◌<◌, ◌≤◌, List, [], ◌++◌, length, length-append, refl, sym, ap, ◌∙◌, arith}
-use Rattle.mobile_core.proofs.Common.{inl, inr, cases_lt, Sample, events, events_at, heard_within, EndFrom, HearsFollowed, IsFollowedDue}
-use Rattle.mobile_core.proofs.Common.{IsSoundFollowed, followed_events_left, sync_events_left, mark, mark_before, AreNear, sync_events_at}
-use Rattle.mobile_core.proofs.Common.{Tuning, sync_stream, Event, Followed, Mark, Option, flat_map_grown}
+use Rattle.mobile_core.proofs.Common.{Sample, events, events_at, heard_within, EndFrom, HearsFollowed, IsFollowedDue, IsSoundFollowed}
+use Rattle.mobile_core.proofs.Common.{followed_events_left, sync_events_left, mark, mark_before, AreNear, sync_events_at, Tuning}
+use Rattle.mobile_core.proofs.Common.{sync_stream, Event, Followed, Mark, Option, flat_map_grown}
 use Rattle.mobile_core.proofs.ChannelsFollowed.{goes_on}
 use Rattle.heard_events.proofs.FollowedEvents.{followed_behind}
-use Rattle.heard_events.proofs.Growth.{IsSyncTimed, KnownBefore, KnownFrom}
+use Rattle.heard_events.proofs.Arrivals.{AreKnown, AreLater}
+use Rattle.heard_events.proofs.GoesOn.{GoesOn, both}
+use Rattle.heard_events.proofs.Growth.{IsSyncTimed, sync_frames, sync_goes}
 use Rattle.heard_events.proofs.MarkGrowth.{mark_before_sooner, mark_is}
 use Rattle.heard_events.proofs.EventsGrown.{behind_before, events_at_by, events_sooner}
-use Rattle.heard_events.proofs.Growth as growth
 
 module _ (t : Tuning) (low : ℕ) (timed : IsSyncTimed t low)
     (near : AreNear (sync_stream t).fingers) where
   -- more samples, at whose end alone a frame may be known
   module _ (xs ys : List Sample) (next : ℕ) (f : Followed) (some : 0 < length ys)
-      (before : KnownBefore t next (length xs))
-      (from : KnownFrom t next (length xs + length ys))
+      (before : AreKnown (sync_frames t) next (length xs))
+      (from : AreLater (sync_frames t) next (length xs + length ys))
       (behind : HearsFollowed t f (mark_before t xs next) xs) (sound : IsSoundFollowed f)
       (none : ¬ IsFollowedDue t.count f) (ends : EndFrom (length xs + length ys) f) where
     -- up to their last but one the mark is that of the frames before
@@ -27,43 +28,35 @@ module _ (t : Tuning) (low : ℕ) (timed : IsSyncTimed t low)
         (λ k above inside. let known = from k above inside in omega (arith, known, less))
         ∙ mark_before_sooner t low timed xs ys next before
 
+    goes : GoesOn
+        (λ samples n. sync_events_at t samples n ++ followed_behind t (mark_before t xs next) samples n)
+        (λ samples. sync_events_left t samples next
+        ++ followed_events_left t (mark_before t xs next) samples f) xs (length xs + length ys)
+    goes =
+        both (sync_goes t low timed next xs (length xs + length ys) before from)
+        (goes_on behind sound none (length xs + length ys) ends)
+
     quiet : (n : ℕ) → length xs < n → n < length xs + length ys →
         events_at t (xs ++ ys) n ≡ []
     quiet n past less =
-        let set = mark_before t xs next in
-        let sync = growth.sync_events_none t low timed (xs ++ ys) n
-        (λ k inside e.
-        elim (cases_lt k next) [
-          | inl below ↦ let b = before k below inside in omega (arith, b, e, past)
-          | inr above ↦ let b = from k above inside in omega (arith, b, e, less)
-        ]) in
-        let others = (goes_on behind sound none (length xs + length ys) ends).quiet ys n past less in
-        events_at_by t (xs ++ ys) n set (mark_here n (omega (arith, past)) less)
-        ∙ ap (λ (es : List Event). es ++ followed_behind t set (xs ++ ys) n) sync
-        ∙ others
+        events_at_by t (xs ++ ys) n (mark_before t xs next) (mark_here n (omega (arith, past)) less)
+        ∙ goes.quiet ys n past less
 
     last_events : events_at t (xs ++ ys) (length (xs ++ ys))
         ≡ sync_events_left t (xs ++ ys) next
         ++ followed_events_left t (mark_before t xs next) (xs ++ ys) f
     last_events =
+        let all = xs ++ ys in
         let n : ℕ = length xs + length ys - 1 in
         let long : length (xs ++ ys) ≡ n + 1 = omega (arith, length-append xs ys, some) in
-        let set = mark_before t xs next in
-        let sync = growth.left_all t low timed (xs ++ ys) next
-        (λ k less inside e.
-        let b = before k less inside in omega (arith, b, e, length-append xs ys, some)) in
-        let later = sym (behind_before t low timed near (xs ++ ys) n)
-        ∙ ap (λ (x : Option Mark). followed_behind t x (xs ++ ys) (n + 1))
+        let later = sym (behind_before t low timed near all n)
+        ∙ ap (λ (x : Option Mark). followed_behind t x all (n + 1))
         (mark_here n (omega (arith, some)) (omega (arith, some))) in
-        let here = sync_events_at t (xs ++ ys) (length (xs ++ ys)) in
-        let others : followed_behind t (mark t (xs ++ ys) (length (xs ++ ys))) (xs ++ ys)
-        (length (xs ++ ys))
-        ≡ followed_behind t set (xs ++ ys) (length (xs ++ ys)) = rw long later in
-        let come = (goes_on behind sound none (length xs + length ys) ends).come ys some
-        (omega (arith, length-append xs ys)) in
-        events_at_by t (xs ++ ys) (length (xs ++ ys)) (mark t (xs ++ ys) (length (xs ++ ys))) refl
-        ∙ ap (λ (es : List Event). here ++ es) (others ∙ sym come)
-        ∙ ap (λ (es : List Event). es ++ followed_events_left t set (xs ++ ys) f) (sym sync)
+        let others : followed_behind t (mark t all (length (xs ++ ys))) all (length (xs ++ ys))
+        ≡ followed_behind t (mark_before t xs next) all (length (xs ++ ys)) = rw long later in
+        events_at_by t all (length (xs ++ ys)) (mark t all (length (xs ++ ys))) refl
+        ∙ ap (λ (es : List Event). sync_events_at t all (length (xs ++ ys)) ++ es) others
+        ∙ sym (goes.come ys some (omega (arith, length-append xs ys)))
 
     pub events_grown : events t (xs ++ ys)
         ≡ events t xs ++ (sync_events_left t (xs ++ ys) next

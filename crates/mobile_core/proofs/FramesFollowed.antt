@@ -1,16 +1,16 @@
 -- What a handset's traffic channel has still to give, as samples come.
 use Rattle.mobile_core.proofs.Common.{◌≡◌, ℕ, ◌+◌, ◌^◌, ◌<◌, ◌≤◌, ◌==◌, List, [], ◌++◌, length, refl, sym, ap, subst, ◌∙◌, arith, inl, inr}
 use Rattle.mobile_core.proofs.Common.{Option, Some, None, take, true, false, length-append, Bool, is_some, if◌then◌else◌, ForSome}
-use Rattle.mobile_core.proofs.Common.{IsSomeAnd, cases_lt, false_from_ne_true, ne_eqb, take_all, Sample, listed, frames_at, heard_from}
-use Rattle.mobile_core.proofs.Common.{kept_to, legs_at, legs_by, messages_at, moment_place, moments_before, sets_at, sets_events}
-use Rattle.mobile_core.proofs.Common.{pages_behind, coming_place, FollowsTraffic, HearsFrames, IsUnheard, traffic_left, traffic_events_left}
-use Rattle.mobile_core.proofs.Common.{if_followed, HearsTraffic, HearsWith, IsSoundTraffic, IsTrafficDue, at_of, ◌∷◌, kept_in, next_end}
-use Rattle.mobile_core.proofs.Common.{noted_by, sets_left_of, traffic_heard, WaitsAt, traffic_left_of, told_left_with, Tuning, Event, Leg}
-use Rattle.mobile_core.proofs.Common.{Mark, Traffic, TrafficReceiver}
+use Rattle.mobile_core.proofs.Common.{IsSomeAnd, cases_lt, false_from_ne_true, ne_eqb, take_all, Sample, listed, frames_at, kept_to}
+use Rattle.mobile_core.proofs.Common.{legs_at, legs_by, messages_at, moment_place, moments_before, sets_at, pages_behind, coming_place}
+use Rattle.mobile_core.proofs.Common.{FollowsTraffic, HearsFrames, IsUnheard, traffic_left, traffic_events_left, if_followed, HearsTraffic}
+use Rattle.mobile_core.proofs.Common.{HearsWith, IsSoundTraffic, IsTrafficDue, at_of, ◌∷◌, kept_in, next_end, noted_by, sets_left_of}
+use Rattle.mobile_core.proofs.Common.{traffic_heard, WaitsAt, traffic_left_of, told_left_with, Tuning, Event, Leg, Mark, Traffic}
+use Rattle.mobile_core.proofs.Common.{TrafficReceiver}
 use Rattle.heard_events.proofs.FollowedEvents.{told_behind}
 use Rattle.mobile_core.proofs.FramesHeard.{none_come, none_kept, told_come, told_given, told_quiet}
 use Rattle.mobile_core.proofs.FramesTold.{hears_noted}
-use Rattle.mobile_core.proofs.GoesOn.{GoesOn, both, goes_as, never}
+use Rattle.heard_events.proofs.GoesOn.{GoesOn, both, goes_as, never}
 use Rattle.heard_events.proofs.MomentGrowth.{kept_sooner}
 use Rattle.mobile_core.proofs.PagesFollowed.{paged_behind}
 use Rattle.heard_events.proofs.TrafficGrowth.{told_at}
@@ -44,19 +44,7 @@ set_there : (t : Tuning) (traffic : Traffic) (m : Mark) (samples : List Sample) 
     moments_before m n ≡ j → take n samples ≡ samples → length samples ≡ n →
     sets_at t traffic m samples n ≡ sets_left_of t traffic m samples j
 unfolding sets_at sets_left_of
-set_there t traffic m samples n j moments whole long =
-    ap (λ (i : ℕ). if moment_place m (i + 1) == n
-    then sets_events m (take n samples) (i + 1)
-    (heard_from t traffic m (kept_to t traffic m samples i) (take n samples) i 98304)
-    else []) moments
-    ∙ ap (λ (xs : List Sample). if moment_place m (j + 1) == n
-    then sets_events m xs (j + 1)
-    (heard_from t traffic m (kept_to t traffic m samples j) xs j 98304)
-    else []) whole
-    ∙ ap (λ (k : ℕ). if moment_place m (j + 1) == k
-    then sets_events m samples (j + 1)
-    (heard_from t traffic m (kept_to t traffic m samples j) samples j 98304)
-    else []) (sym long)
+set_there t traffic m samples n j moments whole long = rw (moments, whole, long) refl
 
 no_set : (t : Tuning) (traffic : Traffic) (m : Mark) (samples : List Sample) (n j : ℕ) →
     moments_before m n ≡ j → ¬ (moment_place m (j + 1) ≡ n) →
@@ -269,14 +257,6 @@ module _ (t : Tuning) (mark : Option Mark) (heard : List Sample) (pages : List E
       tells_on behind r (heard ++ more) later
       (subst (HearsWith t behind.traffic m r (heard ++ more) later)
       (sym (kept_more st known none more)) grown)
-
-  -- where no mark is set no receiver is open
-  pub frames_closed : (receiver : Option TrafficReceiver) →
-      HearsFrames t mark receiver heard pages → mark ≡ None → receiver ≡ None
-  frames_closed None behind unset = refl
-  frames_closed (Some r) behind unset =
-      let both : None ≡ Some behind.set = sym unset ∙ behind.set_is in
-      absurd (cc)
 
 -- WHERE A MARK IS SET
 -- nothing is due of a receiver that has heard nothing

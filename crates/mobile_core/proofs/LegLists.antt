@@ -1,7 +1,7 @@
 -- Lists of active pilots, gone over one by one.
-use Rattle.mobile_core.proofs.Common.{◌≡◌, ℕ, ◌+◌, true, false, ◌||◌, List, [], ◌∷◌, ◌++◌, take, drop, refl, sym, ap, ◌∙◌, Some, slice_get}
+use Rattle.mobile_core.proofs.Common.{◌≡◌, ℕ, ◌+◌, true, false, List, [], ◌∷◌, ◌++◌, take, drop, refl, sym, ap, ◌∙◌, Some, slice_get}
 use Rattle.mobile_core.proofs.Common.{append-nil, list_any, eq-eqb, ne_eqb, at_drop_more, take_more, filter-append, get_or_from_slice_get}
-use Rattle.mobile_core.proofs.Common.{slice_get_within, has_subchannel, is_on, on_subchannel, Leg}
+use Rattle.mobile_core.proofs.Common.{slice_get_within, has_subchannel, is_on, on_subchannel, Leg, ◌||◌}
 
 -- one step over any list
 pub drop_at : {X : Type 0} (xs : List X) (i : ℕ) (x : X) → slice_get xs i ≡ Some x →
@@ -28,14 +28,6 @@ has_here legs i leg c read is before =
     let rest = list_any (is_on c) (drop (i + 1) legs) in
     let on : is_on c leg ≡ true = eq-eqb leg.subchannel c is in
     sym (sym before ∙ on_at legs i leg c read ∙ ap (λ b. b || rest) on)
-
-pub has_later : (legs : List Leg) (i : ℕ) (leg : Leg) (c : ℕ) → slice_get legs i ≡ Some leg →
-    ¬ (leg.subchannel ≡ c) → list_any (is_on c) (drop i legs) ≡ has_subchannel legs c →
-    list_any (is_on c) (drop (i + 1) legs) ≡ has_subchannel legs c
-has_later legs i leg c read not before =
-    let rest = list_any (is_on c) (drop (i + 1) legs) in
-    let off : is_on c leg ≡ false = ne_eqb leg.subchannel c not in
-    sym (on_at legs i leg c read ∙ ap (λ b. b || rest) off) ∙ before
 
 one_kept : (c : ℕ) (leg : Leg) → is_on c leg ≡ true → on_subchannel c (leg ∷ []) ≡ leg ∷ []
 one_kept c leg on = rw on refl

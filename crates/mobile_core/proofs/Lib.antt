@@ -12,10 +12,8 @@ pub mod FramesTold
 pub mod FramesOpened
 pub mod SoundFrames
 pub mod MomentMeasured
-pub mod Windows
 pub mod MomentPassed
 pub mod FramesGiven
-pub mod GoesOn
 pub mod PagesFollowed
 pub mod FramesFollowed
 pub mod ChannelsFollowed

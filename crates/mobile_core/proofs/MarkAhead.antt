@@ -1,9 +1,9 @@
--- A handset that has just told a mark has taken no sample behind it.
-use Rattle.mobile_core.proofs.Common.{◌≡◌, ℕ, ◌+◌, ◌-◌, ◌<◌, ◌≤◌, true, false, List, [], ◌∷◌, ◌++◌, length, sym, ap, ◌∙◌, arith, inl, inr}
+-- A handset that has just told a mark has taken no sample behind it, and one that has told all has the mark of all samples.
+use Rattle.mobile_core.proofs.Common.{◌≡◌, ℕ, ◌+◌, ◌<◌, ◌≤◌, true, false, List, [], ◌∷◌, ◌++◌, length, sym, ap, ◌∙◌, arith, inl, inr}
 use Rattle.mobile_core.proofs.Common.{nat_le, Some, flat_map, list_all, list_any, and_from, cases_lt, le-leb, lt-leb, append_assoc, places}
 use Rattle.mobile_core.proofs.Common.{Sample, events_at, at_of, first_of, mark, marks_at, sets_mark, AreNear, Parts, Stands, events_left}
 use Rattle.mobile_core.proofs.Common.{Tuning, sync_stream, Event, Pilot, Mark, subst, Option, None, option_or, IsDueAt, mark_before}
-use Rattle.mobile_core.proofs.Common.{IsSoundSync, HearsSync, SyncReceiver}
+use Rattle.mobile_core.proofs.Common.{IsSoundSync, HearsSync, SyncReceiver, refl, is_some, events, heard_within, IsTimed}
 use Rattle.reception.proofs.ClockSteps.{before_next, due_inside, due_known}
 use Rattle.heard_events.proofs.Growth.{sync_known}
 use Rattle.heard_events.proofs.MarkLater.{mark_later}
@@ -16,8 +16,8 @@ module _ {t : Tuning} {p : Parts} {heard : List Sample} (given : List Event) (ev
   -- Where the event given last ends at the last sample taken, and none before it sets a mark, the
   -- mark lies there or behind.
   pub mark_ahead : at_of event ≡ length heard → list_any sets_mark given ≡ false → (m : Mark) →
-      m.pilot ≤ 511 → p.sync.mark ≡ Some m → length heard ≤ m.sample
-  mark_ahead here none m pilot marked =
+      p.sync.mark ≡ Some m → length heard ≤ m.sample
+  mark_ahead here none m marked =
       let clock = p.sync.received.clock in
       let is = st.sync.receives.clocked in
       let n : ℕ = length heard in
@@ -25,7 +25,7 @@ module _ {t : Tuning} {p : Parts} {heard : List Sample} (given : List Event) (ev
       mark_told t clock.low is.timed heard n clock.next m (before_next is)
       (sym st.sync.marked ∙ marked) in
       let (k, set) = mark_set t heard n m told in
-      let later = mark_later t heard k clock.low near is.timed set.inside m pilot set.sets in
+      let later = mark_later t heard k clock.low near is.timed set.inside m set.sets in
       elim (cases_lt (sync_known t k) n) [
         | inl less ↦
             let left = events_left t p heard in
@@ -49,6 +49,34 @@ module _ {t : Tuning} {p : Parts} {heard : List Sample} (given : List Event) (ev
         | inr more ↦ omega (arith, more, later)
       ]
 
+-- a mark that is set was told
+told_in : (t : Tuning) (low : ℕ) → IsTimed t.count (sync_stream t) low → (heard : List Sample)
+    (m : Mark) → mark t heard (length heard) ≡ Some m → list_any sets_mark (events t heard) ≡ true
+unfolding heard_within
+told_in t low timed heard m set =
+    let (k, by) = mark_set t heard (length heard) m set in
+    among_before t heard k low timed by.inside m by.sets (length heard + 1) (omega (arith, by.known))
+
+-- where all events have been given, the mark is that of all samples
+pub marked_all : (t : Tuning) (p : Parts) (heard : List Sample) →
+    Stands t p heard (events t heard) → mark t heard (length heard) ≡ p.sync.mark
+marked_all t p heard st = by_marks p.sync.mark (mark t heard (length heard)) refl refl
+  where
+    by_marks : (set found : Option Mark) → p.sync.mark ≡ set →
+        mark t heard (length heard) ≡ found → mark t heard (length heard) ≡ p.sync.mark
+    by_marks (Some m) found is is' =
+        let clock = p.sync.received.clock in
+        let on = st.sync.receives.clocked in
+        mark_told t clock.low on.timed heard (length heard) clock.next m (before_next on)
+        (sym st.sync.marked ∙ is)
+        ∙ sym is
+    by_marks None None is is' = is' ∙ sym is
+    by_marks None (Some m) is is' =
+        let clock = p.sync.received.clock in
+        let told = told_in t clock.low st.sync.receives.clocked.timed heard m is' in
+        let none : true ≡ false = sym told ∙ sym st.noted ∙ ap is_some is in
+        absurd (cc)
+
 -- when a receiver sets its mark, the samples taken don't reach it
 pub opens_later : (t : Tuning) (heard : List Sample) (before after : SyncReceiver) (m : Mark) →
     HearsSync t before heard → HearsSync t after heard → IsSoundSync after →
@@ -71,6 +99,5 @@ opens_later t heard before after m was now sound d next unmarked marked =
     ∙ sym (ap (mark_before t heard) next)
     ∙ sym now.marked
     ∙ marked in
-    let later = mark_later t heard k before.received.clock.low near is.timed inside m
-    (sound.marked m marked).pilot first in
+    let later = mark_later t heard k before.received.clock.low near is.timed inside m first in
     omega (arith, later, known)

@@ -13,6 +13,12 @@ use Rattle.mobile_core.proofs.FramesHeard.{closes, from_next, left_unkept, start
 use Rattle.heard_events.proofs.MomentGrowth.{kept_new, kept_old}
 use Rattle.heard_events.proofs.TrafficGrowth.{heard_none, told_left_none}
 
+-- a receiver whose moment has passed
+abbrev behind_moment : TrafficReceiver → Standing → List Leg → ℕ → List Finger → TrafficReceiver
+behind_moment r sets legs end fingers = record (tuned_to legs end fingers r) {
+  sets = record { sets = sets; mark = r.sets.mark; passed = r.sets.passed + 1; due = false };
+}
+
 -- FRAMES ARE HEARD FROM THE PILOTS OF THEIR OWN NUMBER ALONE
 module _ (t : Tuning) (traffic : Traffic) (m : Mark) (legs legs' : ℕ → List Leg) where
   pub known_same : (k : ℕ) → legs' k ≡ legs k →
@@ -47,6 +53,16 @@ module _ {t : Tuning} {traffic : Traffic} {m : Mark} {r : TrafficReceiver} {hear
     (sound : IsSoundTraffic r) (idle : r.frames.clock.have ≡ r.frames.clock.next) (empty : r.kept ≡ None)
     (waits : length heard < r.frames.clock.end)
     (here : length heard ≡ moment_place m (r.sets.passed + 1)) where
+  -- what is kept with the moment, and the pilots of each frame before it and behind it
+  abbrev kept_then : ℕ → Standing
+  kept_then = kept_to t traffic m heard (r.sets.passed + 1)
+
+  abbrev legs_now : ℕ → List Leg
+  legs_now = legs_by traffic m (kept_in t traffic m r heard)
+
+  abbrev legs_then : ℕ → List Leg
+  legs_then = legs_by traffic m kept_then
+
   -- the sets are those of the definition
   pub sets_now : r.sets.sets ≡ heard_from t traffic m (kept_in t traffic m r heard) heard
       r.sets.passed 98304
@@ -60,8 +76,7 @@ module _ {t : Tuning} {traffic : Traffic} {m : Mark} {r : TrafficReceiver} {hear
 
   -- behind the moment those that pass it are kept
   kept_here : (i : ℕ) → r.sets.passed < i →
-      kept_to t traffic m heard (r.sets.passed + 1) i
-      ≡ passed m heard (r.sets.passed + 1) r.sets.sets
+      kept_then i ≡ passed m heard (r.sets.passed + 1) r.sets.sets
   kept_here i less =
       let j : ℕ = r.sets.passed in
       let whole : take (moment_place m (j + 1)) heard ≡ heard =
@@ -76,25 +91,15 @@ module _ {t : Tuning} {traffic : Traffic} {m : Mark} {r : TrafficReceiver} {hear
       (close : AreClose (all_fingers t.phase t.deltas (legs_of m sets)))
       (tuned : moment_of traffic r.frames.clock.have ≡ r.sets.passed + 1 → legs ≡ legs_of m sets)
       (stays : ¬ (moment_of traffic r.frames.clock.have ≡ r.sets.passed + 1) → legs ≡ r.legs) where
-    -- the receiver then
-    abbrev then : TrafficReceiver
-    then =
-        record (tuned_to legs end fingers r) {
-          sets = record { sets = sets; mark = r.sets.mark; passed = r.sets.passed + 1; due = false };
-        }
-
-    old_here : (k : ℕ) → moment_of traffic k ≤ r.sets.passed →
-        legs_by traffic m (kept_to t traffic m heard (r.sets.passed + 1)) k
-        ≡ legs_by traffic m (kept_in t traffic m r heard) k
+    old_here : (k : ℕ) → moment_of traffic k ≤ r.sets.passed → legs_then k ≡ legs_now k
     old_here k early =
         ap (legs_of m) (kept_old t traffic m heard r.sets.passed (moment_of traffic k) early)
 
     new_here : (i : ℕ) → r.sets.passed < i →
-        legs_of m (kept_to t traffic m heard (r.sets.passed + 1) i) ≡ legs_of m sets
+        legs_of m (kept_then i) ≡ legs_of m sets
     new_here i less = ap (legs_of m) (kept_here i less ∙ sym sets_is)
 
-    new_close : (i : ℕ) → AreClose (all_fingers t.phase t.deltas
-        (legs_of m (kept_to t traffic m heard (r.sets.passed + 1) i)))
+    new_close : (i : ℕ) → AreClose (all_fingers t.phase t.deltas (legs_of m (kept_then i)))
     new_close i =
         elim (cases_lt r.sets.passed i) [
           | inl less ↦
@@ -109,8 +114,7 @@ module _ {t : Tuning} {traffic : Traffic} {m : Mark} {r : TrafficReceiver} {hear
     heard_early : (k : ℕ) → k < r.frames.clock.next → moment_of traffic k ≤ r.sets.passed
     heard_early k less =
         let ended = st.ended k less in
-        let low = known_low t traffic m (legs_by traffic m (kept_in t traffic m r heard))
-        (closes st sound) k in
+        let low = known_low t traffic m legs_now (closes st sound) k in
         let behind = start_moment traffic m k in
         elim (cases_lt r.sets.passed (moment_of traffic k)) [
           | inl later ↦ absurd (omega (arith, later, behind, low, ended, here))
@@ -119,12 +123,8 @@ module _ {t : Tuning} {traffic : Traffic} {m : Mark} {r : TrafficReceiver} {hear
 
     -- no frame ends at the moment that hasn't been heard
     none_ends : (k : ℕ) → r.frames.clock.next ≤ k →
-        length heard + 1
-        ≤ frame_known t traffic m
-        (legs_by traffic m (kept_to t traffic m heard (r.sets.passed + 1))) k
+        length heard + 1 ≤ frame_known t traffic m legs_then k
     none_ends k above =
-        let legs_then = legs_by traffic m (kept_to t traffic m heard (r.sets.passed + 1)) in
-        let legs_now = legs_by traffic m (kept_in t traffic m r heard) in
         elim (cases_lt r.sets.passed (moment_of traffic k)) [
           | inl later ↦
               let low = known_low t traffic m legs_then (λ i. new_close (moment_of traffic i)) k in
@@ -137,16 +137,13 @@ module _ {t : Tuning} {traffic : Traffic} {m : Mark} {r : TrafficReceiver} {hear
               omega (arith, same, last)
         ]
 
-    told_none : told_left_with t traffic m heard
-        then (kept_to t traffic m heard (r.sets.passed + 1)) ≡ []
+    told_none : told_left_with t traffic m heard (behind_moment r sets legs end fingers) kept_then ≡ []
     told_none =
-        left_unkept t traffic m heard
-        then (kept_to t traffic m heard (r.sets.passed + 1)) empty
-        ∙ told_left_none t traffic m
-        (legs_by traffic m (kept_to t traffic m heard (r.sets.passed + 1))) heard r.frames.clock.next none_ends
+        left_unkept t traffic m heard (behind_moment r sets legs end fingers) kept_then empty
+        ∙ told_left_none t traffic m legs_then heard r.frames.clock.next none_ends
 
     legs_here : moment_of traffic r.frames.clock.have ≤ r.sets.passed + 1 →
-        legs ≡ legs_by traffic m (kept_to t traffic m heard (r.sets.passed + 1)) r.frames.clock.have
+        legs ≡ legs_then r.frames.clock.have
     legs_here most =
         elim (cases_lt r.sets.passed (moment_of traffic r.frames.clock.have)) [
           | inl later ↦
@@ -159,11 +156,9 @@ module _ {t : Tuning} {traffic : Traffic} {m : Mark} {r : TrafficReceiver} {hear
               ∙ sym (old_here r.frames.clock.have early)
         ]
 
-    pub hears_passed : HearsWith t traffic m
-        then heard [] (kept_to t traffic m heard (r.sets.passed + 1))
+    pub hears_passed : HearsWith t traffic m (behind_moment r sets legs end fingers) heard [] kept_then
     hears_passed =
         let j : ℕ = r.sets.passed in
-        let kept' = kept_to t traffic m heard (j + 1) in
         let zero_count : length heard - moment_place m (j + 1) ≡ 0 = omega (arith, here) in
         record {
           tuned = st.tuned;
@@ -180,23 +175,20 @@ module _ {t : Tuning} {traffic : Traffic} {m : Mark} {r : TrafficReceiver} {hear
           coming = omega (arith, here);
           due_is = λ due. absurd (cc);
           ended = λ k less.
-              let same = known_same t traffic m
-              (legs_by traffic m (kept_in t traffic m r heard)) (legs_by traffic m kept') k
-              (old_here k (heard_early k less)) in
+              let same = known_same t traffic m legs_now legs_then k (old_here k (heard_early k less)) in
               let was = st.ended k less in
               omega (arith, same, was);
           known = λ come. absurd (omega (arith, come, idle));
           softs_are = λ come. absurd (omega (arith, come, idle));
           power_is = λ come. absurd (omega (arith, come, idle));
           framed = subst (StandsFor r.framer)
-              (sym (signals_same t traffic m
-              (legs_by traffic m (kept_in t traffic m r heard)) (legs_by traffic m kept') heard
-              r.frames.clock.next (λ k less. old_here k (heard_early k less)))) st.framed;
+              (sym (signals_same t traffic m legs_now legs_then heard r.frames.clock.next
+              (λ k less. old_here k (heard_early k less)))) st.framed;
           sets_are = ap (λ (es : List Event). all_noted m es sets) told_none
               ∙ sets_is
               ∙ sym (kept_here (j + 1) (omega arith))
-              ∙ sym (heard_none t traffic m kept' (j + 1) heard [])
-              ∙ sym (ap (heard_from t traffic m kept' heard (j + 1)) zero_count);
+              ∙ sym (heard_none t traffic m kept_then (j + 1) heard [])
+              ∙ sym (ap (heard_from t traffic m kept_then heard (j + 1)) zero_count);
         }
 
     -- its event was the last that was left
@@ -220,8 +212,7 @@ module _ {t : Tuning} {traffic : Traffic} {m : Mark} {r : TrafficReceiver} {hear
 
     pub left_passed : (event : Option Event) →
         listed event ≡ sets_events m heard (r.sets.passed + 1) r.sets.sets →
-        listed event ++ traffic_left_of t traffic m heard
-        then
+        listed event ++ traffic_left_of t traffic m heard (behind_moment r sets legs end fingers)
         ≡ traffic_left_of t traffic m heard r
     left_passed event event_is =
         let was = told_given st sound idle empty waits in
@@ -266,8 +257,7 @@ module _ {t : Tuning} {traffic : Traffic} {m : Mark} {r : TrafficReceiver} {hear
     stays_here : ¬ (moment_of traffic r.frames.clock.have ≡ r.sets.passed + 1) → r2.legs ≡ r.legs
     stays_here other = stays (λ e. other (sym moment_is ∙ e ∙ passed_is))
 
-    shape : r2 ≡ then k.sets r2.legs r2.frames.clock.end r2.frames.fingers sets_is close tuned_here
-        stays_here
+    shape : r2 ≡ behind_moment r k.sets r2.legs r2.frames.clock.end r2.frames.fingers
     shape =
         r2_is
         ∙ ap (λ (x : SetsKeeper).

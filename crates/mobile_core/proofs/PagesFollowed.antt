@@ -1,12 +1,14 @@
 -- What a handset's paging channel has still to give, as samples come.
 use Rattle.mobile_core.proofs.Common.{◌≡◌, ℕ, ◌+◌, ◌^◌, ◌<◌, ◌≤◌, List, [], ◌++◌, length, map, refl, sym, ap, ◌∙◌, arith, inl, inr, Option}
 use Rattle.mobile_core.proofs.Common.{Some, None, IfSome, is_some, nat_lt, ForSome, option_to_list, cases_lt, map-append, Sample, IsDueAt}
-use Rattle.mobile_core.proofs.Common.{page_event, pages_behind, FollowsPages, HearsPages, IsUnpaged, paging_due, paging_left}
-use Rattle.mobile_core.proofs.Common.{paging_events_left, HearsBit, HearsPaging, IsSoundPaging, IsSomeAnd, bits_heard, length-append, subst}
-use Rattle.mobile_core.proofs.Common.{pages_left, Tuning, Event, FrameClock, Mark, PagingReceiver, SpelledPage}
+use Rattle.mobile_core.proofs.Common.{page_event, pages_behind, FollowsPages, HearsPages, IsUnpaged, paging_left, paging_events_left}
+use Rattle.mobile_core.proofs.Common.{HearsBit, HearsPaging, IsSoundPaging, IsSomeAnd, bits_heard, subst, pages_left, Tuning, Event, Mark}
+use Rattle.mobile_core.proofs.Common.{PagingReceiver, SpelledPage}
 use Rattle.reception.proofs.ClockSteps.{before_next, from_next}
-use Rattle.mobile_core.proofs.GoesOn.{GoesOn, never}
-use Rattle.heard_events.proofs.PageGrowth.{pages_left_all, pages_left_none, pages_none}
+use Rattle.heard_events.proofs.Arrivals.{none_between}
+use Rattle.heard_events.proofs.GoesOn.{GoesOn, goes_as, mapped, never}
+use Rattle.heard_events.proofs.PageGrowth.{page_frames, pages_none}
+use Rattle.heard_events.proofs.PageGrowth as growth
 use Rattle.mobile_core.proofs.PagesHeard as pages
 
 -- the events of the messages that are known when just n samples have been taken
@@ -17,15 +19,6 @@ unpaged : (t : Tuning) (mark : Option Mark) → IsUnpaged mark → (samples : Li
     pages_behind t t.paging mark samples n ≡ []
 unpaged t None h samples n = refl
 unpaged t (Some m) h samples n = rw h refl
-
--- where no frame is due at most one has come that hasn't been heard
-pub come_once : (count : ℕ) (clock : FrameClock) → ¬ IsDueAt count clock →
-    clock.have ≤ clock.next + 1
-come_once count clock none =
-    elim (cases_lt (clock.next + 1) clock.have) [
-      | inl more ↦ absurd (none (omega (arith, more), λ waits. inl more))
-      | inr most ↦ omega (arith, most)
-    ]
 
 -- THE RECEIVER, AS IT GOES ON
 module _ {t : Tuning} {mark : Option Mark} {r : PagingReceiver} {heard : List Sample}
@@ -60,13 +53,6 @@ within_frame r sound =
       | inr none ↦ omega (arith, none)
     ]
 
-pub bits_left : (r after : PagingReceiver) (count : ℕ) → IsSoundPaging r →
-    IsDueAt count r.received.clock → after.received.clock.have ≡ r.received.clock.have →
-    bits_heard r < bits_heard after → paging_due after < paging_due r
-bits_left r after count sound due have more =
-    let come = due.0 in
-    omega (arith, come, within_frame r sound, have, more)
-
 -- what has been heard is a small number
 pub bits_few : (r : PagingReceiver) → IsSoundPaging r → bits_heard r < 2 ^ 40
 bits_few r sound =
@@ -84,15 +70,10 @@ module _ (t : Tuning) (mark : Option Mark) (heard : List Sample) where
   pages_quiet None behind none samples n end past before ends = unpaged t mark behind samples n
   pages_quiet (Some r) behind none samples n end past before ends =
       let is = behind.hears.receives.clocked in
-      let most = ends r refl in
       rw (behind.set_is, behind.rate)
       (pages_none t t.paging behind.set samples n
-      (λ k inside e.
-      elim (cases_lt k r.received.clock.next) [
-        | inl less ↦ let known = before_next is k less inside in omega (arith, known, e, past)
-        | inr more ↦
-            let known = from_next is end none most k more inside in omega (arith, known, e, before)
-      ]))
+      (none_between (page_frames t t.paging behind.set) r.received.clock.next (length heard) end n
+      (before_next is) (from_next is end none (ends r refl)) past before))
 
   pub pages_go : (receiver : Option PagingReceiver) → HearsPages t mark receiver heard →
       ¬ IsSomeAnd receiver (λ r. IsDueAt t.count r.received.clock) → (end : ℕ) →
@@ -104,25 +85,11 @@ module _ (t : Tuning) (mark : Option Mark) (heard : List Sample) where
   pages_go (Some r) behind none end ends =
       let is = behind.hears.receives.clocked in
       let start = pages.idle behind.hears none in
-      let most = ends r refl in
-      record {
-        given = λ early.
-            rw behind.set_is
-            (ap (map (page_event (length heard)))
-            (pages_left_none t t.paging behind.set heard r.received.clock.next r.place
-            (from_next is (length heard + 1) none (omega (arith, early, most)))));
-        quiet = λ more n past before.
-            ap (map (page_event n))
-            (pages_quiet (Some r) behind none (heard ++ more) n end past before ends);
-        come = λ more some within.
-            let samples = heard ++ more in
-            rw (behind.set_is, behind.rate, start)
-            (ap (map (page_event (length samples)))
-            (pages_left_all t t.paging behind.set samples r.received.clock.next
-            (λ k less inside e.
-            let known = before_next is k less inside in
-            omega (arith, known, e, length-append heard more, some))));
-      }
+      mapped page_event
+      (goes_as
+      (growth.pages_go t t.paging behind.set r.received.clock.next heard end (before_next is)
+      (from_next is end none (ends r refl))) (λ samples n. rw (behind.set_is, behind.rate) refl)
+      (λ samples. rw (behind.set_is, start) refl))
 
   -- more samples, up to the end of the frame that comes next
   pub pages_more : (receiver : Option PagingReceiver) → HearsPages t mark receiver heard →
@@ -145,19 +112,12 @@ pub pages_opened : (t : Tuning) (heard : List Sample) (m : Mark) (channel : ℕ)
 pages_opened t heard m channel same early None is begins fresh hears = (sym is, refl)
 pages_opened t heard m channel same early (Some r) is begins fresh hears =
     let hears' = subst (λ (n : ℕ). HearsPaging t n m r heard) same hears in
-    let clocked = hears'.receives.clocked in (
-      record { set = m; set_is = refl; rate = sym is; hears = hears' },
-      ap (map (page_event (length heard)))
-          (pages_left_none t t.paging m heard r.received.clock.next r.place
-          (from_next clocked (length heard + 1) (λ d. omega (arith, fresh, d.0))
-          (omega (arith, begins, early)))),
+    let behind : HearsPages t (Some m) (Some r) heard =
+    record { set = m; set_is = refl; rate = sym is; hears = hears' } in (
+      behind,
+      (pages_go t (Some m) heard (Some r) behind (λ d. omega (arith, fresh, d.0)) (length heard + 1)
+          (λ x e.
+          let same : r ≡ x = cc in
+          let end = ap (λ (y : PagingReceiver). y.received.clock.end) same in
+          omega (arith, end, begins, early))).given (omega arith),
     )
-
--- where no mark is set no receiver is open
-pub pages_closed : (t : Tuning) (before : Option Mark) (heard : List Sample)
-    (receiver : Option PagingReceiver) → HearsPages t before receiver heard → before ≡ None →
-    receiver ≡ None
-pages_closed t before heard None behind unset = refl
-pages_closed t before heard (Some r) behind unset =
-    let both : None ≡ Some behind.set = sym unset ∙ behind.set_is in
-    absurd (cc)

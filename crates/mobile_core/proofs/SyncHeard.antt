@@ -1,20 +1,18 @@
 -- What the receiver of the sync channel stands for, step by step.
-use Rattle.mobile_core.proofs.Common.{◌≡◌, ℕ, zero, suc, ◌+◌, ◌-◌, ◌<◌, ◌≤◌, Bool, true, false, ◌||◌, List, [], ◌∷◌, ◌++◌, map, length}
-use Rattle.mobile_core.proofs.Common.{refl, sym, ap, ◌∙◌, arith, ◌⊎◌, inl, inr, Option, Some, None, slice_get, is_some, list_any, option_or}
-use Rattle.mobile_core.proofs.Common.{cases_lt, Sample, piece, capsule_ending, IsDueAt, frame_heard, listed, sync_events_left, frames_open}
-use Rattle.mobile_core.proofs.Common.{frames_with, first_of, marks_of, marks_at, mark, mark_before, sets_mark, IsReached, IsDue, Receives}
-use Rattle.mobile_core.proofs.Common.{frame_start, frame_own_bits, is_in_file, frames_before, sync_capsule_at, heard_in, heard_at}
-use Rattle.mobile_core.proofs.Common.{events_of, HearsSync, HearsNext, IsTimed, stream_end, Tuning, sync_stream, Continued, Event, Mark}
-use Rattle.mobile_core.proofs.Common.{SpelledMessage, SyncReceiver}
+use Rattle.mobile_core.proofs.Common.{◌≡◌, ℕ, ◌+◌, ◌-◌, ◌<◌, ◌≤◌, Bool, false, ◌||◌, List, [], ◌∷◌, ◌++◌, map, length, refl, sym, ap, ◌∙◌}
+use Rattle.mobile_core.proofs.Common.{arith, Option, Some, None, slice_get, is_some, list_any, option_or, Sample, piece, capsule_ending}
+use Rattle.mobile_core.proofs.Common.{IsDueAt, frame_heard, listed, sync_events_left, frames_open, frames_with, first_of, marks_of}
+use Rattle.mobile_core.proofs.Common.{marks_at, mark, sets_mark, Receives, frame_start, frame_own_bits, is_in_file, frames_before}
+use Rattle.mobile_core.proofs.Common.{sync_capsule_at, heard_in, heard_at, events_of, HearsSync, HearsNext, Tuning, sync_stream, Continued}
+use Rattle.mobile_core.proofs.Common.{Event, Mark, SpelledMessage, SyncReceiver}
 use Rattle.reception.proofs.ClockSteps.{due_inside, due_known, before_next}
 use Rattle.rake_finger.proofs.FrameTimes.{outside_low}
 use Rattle.heard_events.proofs.Growth.{frames_before_sooner, frames_before_more, frames_before_none, left_next}
-use Rattle.heard_events.proofs.MarkGrowth.{mark_is, mark_before_none, mark_before_more, mark_before_sooner}
+use Rattle.heard_events.proofs.MarkGrowth.{mark_before_none, mark_before_more, mark_before_sooner}
 use Rattle.heard_events.proofs.Opened.{frames_open-none, frames_open-more}
 use Rattle.reception.proofs.Received.{receives_more, receives_heard}
 use Rattle.heard_events.proofs.MarkTold.{noted_event}
 use Rattle.sync_message.specs.Framing as framing
-use Rattle.reception.proofs.Progresses as progress
 
 either : (m n : Option Mark) → is_some (option_or m n) ≡ (is_some m || is_some n)
 either None n = refl
@@ -139,89 +137,3 @@ module _ {t : Tuning} {r : SyncReceiver} {heard : List Sample} (st : HearsSync t
             ∙ ap (λ b. is_some r.mark || b) (noted_event told first (length heard))
             ∙ ap (λ (es : List Event). is_some r.mark || list_any sets_mark es) (sym event_is);
       }
-
--- THE MARK
-no_event : (told : Option SpelledMessage) (n : ℕ) (rest : List Event) →
-    events_of n told ++ rest ≡ [] → (told ≡ None) × (rest ≡ [])
-no_event None n rest e = (refl, e)
-no_event (Some told) n rest e = absurd (cc)
-
--- a frame that completes nothing sets no mark
-mark_unheard : (t : Tuning) (samples : List Sample) (k : ℕ) →
-    is_in_file t.count (sync_stream t) k ≡ true → heard_at t samples k ≡ None →
-    mark_before t samples (k + 1) ≡ mark_before t samples k
-unfolding marks_at
-mark_unheard t samples k inside none =
-    let start = frame_start (sync_stream t) (k + 1 - frames_open t samples (k + 1)) in
-    let before = mark_before t samples k in
-    mark_before_more t samples k inside
-    ∙ ap (λ h. option_or before (first_of (marks_of start h))) none
-    ∙ or_none before
-
-module _ (t : Tuning) (heard : List Sample) (low have : ℕ)
-    (timed : IsTimed t.count (sync_stream t) low)
-    (waits : length heard < stream_end (sync_stream t) have) where
-  settled : (next : ℕ) → IsReached t.count (sync_stream t) low next have (length heard) →
-      ¬ IsDue t.count (sync_stream t) next have →
-      mark t heard (length heard) ≡ mark_before t heard next
-  settled next r none =
-      let s = sync_stream t in
-      let n : ℕ = length heard in
-      mark_is t timed heard n next
-      (λ k below inside. progress.before_next s timed next have n r k below inside)
-      (λ k h inside.
-      let after = progress.from_next s timed next have n (n + 1) r none (omega arith) k h inside in
-      omega arith)
-
-  due_or_not : (next : ℕ) → IsDue t.count (sync_stream t) next have
-      ⊎ (¬ IsDue t.count (sync_stream t) next have)
-  due_or_not next =
-      elim (cases_lt next have) [
-        | inl less ↦
-            elim (cases_lt (next + 1) have) [
-              | inl a ↦ inl (record { ended = less; known = λ w. inl a })
-              | inr b ↦
-                  elim (cases_lt t.count (stream_end (sync_stream t) have)) [
-                    | inl over ↦ inl (record { ended = less; known = λ w. inr over })
-                    | inr fits ↦
-                        inr (λ d.
-                        elim (d.known refl) [ inl a ↦ omega arith | inr over ↦ omega arith ])
-                  ]
-            ]
-        | inr more ↦ inr (λ d. omega (arith, d.ended))
-      ]
-
-  -- where the frames that are known but not heard yet complete nothing, the mark is that of the
-  -- frames heard
-  mark_of_left : (fuel next : ℕ) → have ≤ next + fuel →
-      IsReached t.count (sync_stream t) low next have (length heard) →
-      sync_events_left t heard next ≡ [] →
-      mark t heard (length heard) ≡ mark_before t heard next
-  mark_of_left zero next most r none = settled next r (λ d. omega (arith, d.ended))
-  mark_of_left (suc fuel) next most r none =
-      let s = sync_stream t in
-      let n : ℕ = length heard in
-      elim (due_or_not next) [
-        | inl d ↦
-            let inside = progress.due_inside s timed next have n r d in
-            let known = progress.due_known s timed next have n r d in
-            let left = left_next t low timed heard next inside known in
-            let parted = no_event (heard_at t heard next) n (sync_events_left t heard (next + 1))
-            (sym left ∙ none) in
-            mark_of_left fuel (next + 1) (omega arith)
-            (progress.reached_next s timed next have n r d) parted.1
-            ∙ mark_unheard t heard next inside parted.0
-        | inr d ↦ settled next r d
-      ]
-
--- where nothing is left to give, the mark that is set is that of all samples
-pub marked_all : (t : Tuning) (r : SyncReceiver) (heard : List Sample) → HearsSync t r heard →
-    sync_events_left t heard r.received.clock.next ≡ [] → length heard < r.received.clock.end →
-    mark t heard (length heard) ≡ r.mark
-marked_all t r heard st none waits =
-    let clock = r.received.clock in
-    let is = st.receives.clocked in
-    let end = is.end_is in
-    mark_of_left t heard clock.low clock.have is.timed (omega arith) (clock.have - clock.next)
-    clock.next (omega arith) is.reached none
-    ∙ sym st.marked

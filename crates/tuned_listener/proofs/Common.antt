@@ -37,8 +37,8 @@ pub use Rattle.heard_events.proofs.SyncTimes.{timed_of}
 pub use Rattle.heard_events.proofs.ChannelFrames.{frame_same, form_by, frames_of_first}
 pub use Rattle.rake_finger.proofs.FrameTimes.{ends_lt, inside_from, inside_to, known_between, known_le, known_own}
 pub use Rattle.heard_events.proofs.MarkLater.{mark_later}
-pub use Rattle.heard_events.proofs.MarkStays.{mark_behind, mark_pilot, mark_set, mark_sooner, mark_stays, paging_near}
-pub use Rattle.mobile_core.proofs.Stood.{marked_all}
+pub use Rattle.heard_events.proofs.MarkStays.{mark_behind, mark_set, mark_sooner, mark_stays, paging_near}
+pub use Rattle.mobile_core.proofs.MarkAhead.{marked_all}
 pub use Rattle.heard_events.specs.Channels.{IsLawful, channel_stream}
 pub use Rattle.heard_events.specs.Events.{events}
 pub use Rattle.rake_finger.specs.FrameSamples.{AgreeIn}

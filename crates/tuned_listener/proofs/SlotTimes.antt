@@ -6,10 +6,10 @@ use Rattle.tuned_listener.proofs.Common.{false_from_ne_true, le-leb, leb-true, l
 use Rattle.tuned_listener.proofs.Common.{channel_stream, mark, AreNear, all_begun, low_in, paging_bound, paging_rate, frames_within}
 use Rattle.tuned_listener.proofs.Common.{soft_frame, soft_frames, Stream, is_in_file, known_at, IsTimed, stream_end, Tuning, sync_stream}
 use Rattle.tuned_listener.proofs.Common.{Paging, Mark, SoftFrame, close_begun, near_are_close, timed_in, timed_of, ends_lt, inside_from}
-use Rattle.tuned_listener.proofs.Common.{inside_to, known_between, known_own, mark_later, mark_pilot, mark_set, paging_near, slot_bits}
-use Rattle.tuned_listener.proofs.Common.{is_monitored, frame_of_slot, frame_of_slot_end, is_heard, is_slot_within, lines_behind}
-use Rattle.tuned_listener.proofs.Common.{lines_by_times, lines_of_slot, lines_of_slots, slot_bound, slot_lines, slot_pages}
-use Rattle.tuned_listener.proofs.Common.{IsWrittenByTimes, NeedsMark, slot_more, slot_text, frames_text, text_behind, tuned_text, Slots}
+use Rattle.tuned_listener.proofs.Common.{inside_to, known_between, known_own, mark_later, mark_set, paging_near, slot_bits, is_monitored}
+use Rattle.tuned_listener.proofs.Common.{frame_of_slot, frame_of_slot_end, is_heard, is_slot_within, lines_behind, lines_by_times}
+use Rattle.tuned_listener.proofs.Common.{lines_of_slot, lines_of_slots, slot_bound, slot_lines, slot_pages, IsWrittenByTimes, NeedsMark}
+use Rattle.tuned_listener.proofs.Common.{slot_more, slot_text, frames_text, text_behind, tuned_text, Slots}
 use Rattle.std.specs.List.{flat_map}
 use Rattle.chip_core.proofs.Ranges as ranges
 
@@ -244,8 +244,7 @@ module _ (t : Tuning) (near : AreNear (sync_stream t).fingers) (samples : List S
   mark_is_late =
       let (k, set) = mark_set t samples (length samples) m marked in
       let timed = timed_of t near in
-      let pilot = mark_pilot t samples (length samples) m marked in
-      let later = mark_later t samples k _ near timed set.inside m pilot set.sets in
+      let later = mark_later t samples k _ near timed set.inside m set.sets in
       let known = (known_between (sync_stream t) timed k set.inside).low in
       let early = timed.early k in
       omega (arith, later, known, early)

@@ -8,7 +8,8 @@ use Rattle.tuned_listener.proofs.Common.{ListensBehind, ListensFrom, ListensTune
 use Rattle.tuned_listener.proofs.Common.{behind_mark, frames_from, text_from, tuned_text, FrameWriter, SlotWriter, Behind, TunedListener}
 use Rattle.tuned_listener.proofs.Common.{TunedText}
 use Rattle.tuned_listener.proofs.FrameTexts.{kept_behind_none}
-use Rattle.tuned_listener.proofs.TunedMarks.{mark_kept, none_marked, there_eq, there_le}
+use Rattle.heard_events.proofs.MarkGrowth.{none_marked}
+use Rattle.tuned_listener.proofs.TunedMarks.{mark_kept, there_eq, there_le}
 use Rattle.tuned_listener.proofs.TunedTexts.{text_at_mark, text_marked, text_unmarked}
 use Rattle.tuned_listener.specs.declared.frame_writer.FrameWriter.TheVariants as writers
 

@@ -1,12 +1,10 @@
 -- A handset ahead of the mark, step by step, and the mark of samples that go on.
-use Rattle.tuned_listener.proofs.Common.{◌≡◌, ℕ, ◌+◌, ◌≤◌, ◌&&◌, true, false, List, [], ◌∷◌, ◌++◌, length, refl, sym, ap, ◌∙◌, subst, arith}
-use Rattle.tuned_listener.proofs.Common.{inl, inr, Option, Some, None, append-nil, append_assoc, drop, length-append, length-take-le}
-use Rattle.tuned_listener.proofs.Common.{nat_le, take, ∥∥₁_map, IfSome, is_some, list_any, and_parts, cases_lt, false_from_ne_true}
-use Rattle.tuned_listener.proofs.Common.{leb-true, not_there, take-append-drop, take_all, Sample, events, at_of, listed, first_of, mark}
-use Rattle.tuned_listener.proofs.Common.{marks_at, sets_mark, AreNear, low_of, Steps, parts, is_in_file, known_at, samples_taken, Tuning}
-use Rattle.tuned_listener.proofs.Common.{sync_bound, sync_stream, Event, Mark, Mobile, Step, timed_of, known_between, mark_sooner}
-use Rattle.tuned_listener.proofs.Common.{mark_stays, marked_all, HasNoMark, HearsUntold, IsMarkedAt, IsUntold, ListensAhead}
-use Rattle.std.specs.List.{flat_map}
+use Rattle.tuned_listener.proofs.Common.{◌≡◌, ℕ, ◌+◌, ◌≤◌, true, false, List, [], ◌∷◌, ◌++◌, length, refl, sym, ap, ◌∙◌, subst, arith, inl}
+use Rattle.tuned_listener.proofs.Common.{inr, Option, Some, None, append-nil, append_assoc, drop, length-append, length-take-le, take}
+use Rattle.tuned_listener.proofs.Common.{∥∥₁_map, IfSome, is_some, list_any, cases_lt, not_there, take-append-drop, take_all, Sample}
+use Rattle.tuned_listener.proofs.Common.{events, at_of, listed, mark, sets_mark, AreNear, low_of, Steps, parts, samples_taken, Tuning}
+use Rattle.tuned_listener.proofs.Common.{sync_stream, Event, Mark, Mobile, Step, timed_of, mark_sooner, mark_stays, marked_all, HasNoMark}
+use Rattle.tuned_listener.proofs.Common.{HearsUntold, IsMarkedAt, IsUntold, ListensAhead}
 use Rattle.mobile_core.specs.Standing.{StandsFor}
 use Rattle.tuned_listener.proofs.TunedFrames.{step_joined}
 use Rattle.chip_core.proofs.Ranges as ranges
@@ -44,31 +42,6 @@ module _ (t : Tuning) (near : AreNear (sync_stream t).fingers) where
       mark_stays t (low_of t) timed (xs ++ ys) (length xs) (length (xs ++ ys)) m more
       (mark_sooner t (low_of t) timed xs ys (length xs) (omega arith) ∙ is)
 
-  -- no frame is known before any sample is taken
-  not_known : (k : ℕ) →
-      (is_in_file t.count (sync_stream t) k && nat_le (known_at t.count (sync_stream t) k) 0)
-      ≡ false
-  not_known k =
-      let s = sync_stream t in
-      let timed = timed_of t near in
-      false_from_ne_true (is_in_file t.count s k && nat_le (known_at t.count s k) 0)
-      (λ h.
-      let parts = and_parts (is_in_file t.count s k) (nat_le (known_at t.count s k) 0) h in
-      let known = leb-true (known_at t.count s k) 0 parts.1 in
-      let between = known_between s timed k parts.0 in
-      let early = timed.early k in
-      omega (arith, early, between.low, known))
-
-  -- and so no mark is set
-  pub none_marked : mark t [] 0 ≡ None
-  unfolding mark
-  none_marked =
-      let s = sync_stream t in
-      ap (λ (ks : List ℕ). first_of (flat_map (marks_at t []) ks))
-      (ranges.filter_none_places
-      (λ k. is_in_file t.count s k && nat_le (known_at t.count s k) 0) (sync_bound 0)
-      (λ k below. not_known k))
-
 none_of : {A : Type 0} (x : Option A) → is_some x ≡ false → x ≡ None
 none_of None h = refl
 none_of (Some x) h = absurd (cc)
@@ -79,9 +52,7 @@ pub unmarked_all : (t : Tuning) (mobile : Mobile) (heard : List Sample) (given :
     given ≡ events t heard → mark t heard (length heard) ≡ None
 unmarked_all t mobile heard given stands unset all =
     let is = subst (StandsFor t mobile heard) all stands in
-    let waits = mobile.sound.waits in
-    let taken = stands.ring.taken in
-    marked_all t (parts mobile) heard is (omega (arith, waits, taken))
+    marked_all t (parts mobile) heard is
     ∙ none_of mobile.sync.mark (stands.noted ∙ unset)
 
 -- ---- a step

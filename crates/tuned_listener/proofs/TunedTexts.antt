@@ -2,7 +2,7 @@
 use Rattle.tuned_listener.proofs.Common.{◌≡◌, List, [], length, ap, ◌∙◌, Some, None, Sample, mark, AreNear, soft_frames, Tuning}
 use Rattle.tuned_listener.proofs.Common.{sync_stream, Channel, Mark, frames_text, text_behind, text_from, tuned_text, TunedText}
 use Rattle.tuned_listener.proofs.FrameTexts.{text_of_none}
-use Rattle.tuned_listener.proofs.TunedMarks.{none_marked}
+use Rattle.heard_events.proofs.MarkGrowth.{none_marked}
 pub use Rattle.tuned_listener.proofs.FrameTexts.{listed_texts, rate2_texts, texts_by_frame}
 
 module _ (form : TunedText) (t : Tuning) (channel : Channel) (heard : List Sample) where

@@ -5,11 +5,11 @@ use Rattle.clean_link.proofs.Common.{places, Sample, Width, flat_map_ext_places,
 use Rattle.clean_link.proofs.Common.{cycled_frame, CellPlan, PagingPlan, TrafficPlan, TrafficFrame, events, events_at, frame_events_at}
 use Rattle.clean_link.proofs.Common.{heard_within, message_events_at, paging_events_at, mark, frames_at, messages_at, is_in_file}
 use Rattle.clean_link.proofs.Common.{sync_events_at, power_bits_at, decoded_at, frame_event, frame_heard, if_followed, replaced_in, Tuning}
-use Rattle.clean_link.proofs.Common.{Event, Pilot, Leg, Mark, Traffic, frames_by_one_mark, messages_by_one_mark, soft_strength, sync_sent}
-use Rattle.clean_link.proofs.Common.{IsNotDirected, IsOnPath, IsTunedTo, IsReceivable, is_frame, is_message, is_page, is_sync, AreEventsOf}
-use Rattle.clean_link.proofs.Common.{AreFramesBehind, AreMessagesBehind, EachChannelComesBack, FollowsOne, IsEventOf, frame_ends}
-use Rattle.clean_link.proofs.Common.{is_received, received_frames, AreDistinct, IsDistinctFrame, SendsSetOne, messages_of_channel}
-use Rattle.clean_link.proofs.Common.{paging_sent, told_with_sync, HearsTraffic, IsHeardAs}
+use Rattle.clean_link.proofs.Common.{Event, Pilot, Leg, Mark, Traffic, by_one_mark, frames_from_mark, messages_from_mark, soft_strength}
+use Rattle.clean_link.proofs.Common.{sync_sent, IsNotDirected, IsOnPath, IsTunedTo, IsReceivable, is_frame, is_message, is_page, is_sync}
+use Rattle.clean_link.proofs.Common.{AreEventsOf, AreFramesBehind, AreMessagesBehind, EachChannelComesBack, FollowsOne, IsEventOf}
+use Rattle.clean_link.proofs.Common.{frame_ends, is_received, received_frames, AreDistinct, IsDistinctFrame, SendsSetOne}
+use Rattle.clean_link.proofs.Common.{messages_of_channel, paging_sent, told_with_sync, HearsTraffic, IsHeardAs}
 use Rattle.clean_link.proofs.marks.MarksTrue.{marks_true}
 use Rattle.clean_link.proofs.messages.Kinds.{frames_of_all, messages_of_all, pages_of_all, sync_of_all}
 use Rattle.clean_link.proofs.messages.MessagesBack.{pages_all}
@@ -181,7 +181,9 @@ module _ (width : Width) (plan : CellPlan) (t : Tuning) (is : IsReceivable width
   unfolding frame_events_at
   frames_each =
       each_behind (AreFramesBehind plan p) (λ n traffic m. frames_at t traffic m all_samples n)
-      (λ n most. frames_by_one_mark t (one_near t plan tuned) t.traffic all_samples n t.count most)
+      (λ n most.
+      by_one_mark t (one_near t plan tuned) all_samples n t.count n _ most (omega arith)
+      (frames_from_mark t (one_near t plan tuned) t.traffic all_samples n))
       (λ es none. none) frames_behind
 
   -- and its messages
@@ -202,7 +204,9 @@ module _ (width : Width) (plan : CellPlan) (t : Tuning) (is : IsReceivable width
   unfolding message_events_at
   messages_each =
       each_behind (AreMessagesBehind plan p) (λ n traffic m. messages_at t traffic m all_samples n)
-      (λ n most. messages_by_one_mark t (one_near t plan tuned) t.traffic all_samples n t.count most)
+      (λ n most.
+      by_one_mark t (one_near t plan tuned) all_samples n t.count n _ most (omega arith)
+      (messages_from_mark t (one_near t plan tuned) t.traffic all_samples n))
       (λ es none. none) messages_behind
 
 -- ---- all channels

@@ -6,7 +6,7 @@ use Rattle.clean_link.proofs.Common.{inr, nat_lt, Option, None, Some, ℤ, pos, 
 use Rattle.clean_link.proofs.Common.{map-append, places, CheckForm, Sample, Width, made_samples, told_superframes, phase_at, CellPlan}
 use Rattle.clean_link.proofs.Common.{SyncPlan, events, events_at, frame_events_at, heard_within, message_events_at, paging_events_at}
 use Rattle.clean_link.proofs.Common.{sets_events_at, mark, page_event, pages_at, pages_behind, sync_events_at, Tuning, Event, Pilot, Mark}
-use Rattle.clean_link.proofs.Common.{AreAt, messages_at_end, paging_at, sets_at_end, sync_at, traffic_at, pages_by_one_mark}
+use Rattle.clean_link.proofs.Common.{AreAt, messages_at_end, paging_at, sets_at_end, sync_at, traffic_at, by_one_mark, pages_from_mark}
 use Rattle.clean_link.proofs.Common.{flat_map_ext_places, IsNotDirected, IsOnPath, IsTunedTo, sync_sent, tuning_to, whole_sendings}
 use Rattle.clean_link.proofs.Common.{IsReceivable, ReadPage, known_page, pages_sent, pages_within, FollowsSent, WholeMessagesComeBack}
 use Rattle.clean_link.proofs.Common.{known_event, paging_sent, pages_behind_mark, pages_with_sync, sent_events, by_places, sets_heard}
@@ -77,8 +77,9 @@ module _ (width : Width) (plan : CellPlan) (t : Tuning) (is : IsReceivable width
       (λ n. map (page_event n) (pages_behind t t.paging last samples n)) (plan.link.samples + 1)
       (λ n below.
       ap (map (page_event n))
-      (pages_by_one_mark t (one_near t plan tuned.path) t.paging samples n t.count
-      (omega (arith, below, count))))
+      (by_one_mark t (one_near t plan tuned.path) samples n t.count n _
+      (omega (arith, below, count)) (omega arith)
+      (pages_from_mark t (one_near t plan tuned.path) t.paging samples n)))
       ∙ gathered_known (λ n. pages_behind t t.paging last samples n)
       (places (plan.link.samples + 1))
 

@@ -1,8 +1,8 @@
 -- None of a handset's events directs a handoff where no message does that is sent to it.
-use Rattle.clean_link.proofs.Common.{◌≡◌, ℕ, ◌+◌, ◌≤◌, List, [], ◌++◌, length, refl, sym, arith, All-weaker, ◌≢◌, Option, Some, All}
-use Rattle.clean_link.proofs.Common.{All-append, All-cons, All-nil, All-same, places, Sample, Width, made_samples, CellPlan, events_at}
-use Rattle.clean_link.proofs.Common.{frame_events_at, heard_within, message_events_at, paging_events_at, sets_events_at, mark, messages_at}
-use Rattle.clean_link.proofs.Common.{sync_events_at, if_followed, Tuning, Event, Pilot, Mark, Traffic, messages_by_one_mark, IsNotDirected}
+use Rattle.clean_link.proofs.Common.{◌≡◌, ℕ, ◌+◌, ◌≤◌, List, ◌++◌, length, refl, sym, arith, All-weaker, ◌≢◌, Option, Some, All, All-append}
+use Rattle.clean_link.proofs.Common.{All-cons, All-nil, All-same, places, Sample, Width, made_samples, CellPlan, events_at, frame_events_at}
+use Rattle.clean_link.proofs.Common.{heard_within, message_events_at, paging_events_at, sets_events_at, mark, messages_at, sync_events_at}
+use Rattle.clean_link.proofs.Common.{if_followed, Tuning, Event, Pilot, Mark, Traffic, by_one_mark, messages_from_mark, IsNotDirected}
 use Rattle.clean_link.proofs.Common.{IsOnPath, IsReceivable, messages_of_channel, messages_sent, FollowsSent, NoEventIsDirected}
 use Rattle.clean_link.proofs.Common.{signaling_sent}
 use Rattle.heard_events.specs.declared.event.Event.TheVariants.{Traffic as OnTraffic}
@@ -52,8 +52,8 @@ module _ (width : Width) (plan : CellPlan) (t : Tuning) (is : IsReceivable width
     messages_undirected n most =
         let count = tuned.count in
         All-same IsNotDirected _ _
-        (messages_by_one_mark t (one_near t plan tuned) t.traffic samples n t.count
-        (omega (arith, most, count)))
+        (by_one_mark t (one_near t plan tuned) samples n t.count n _ (omega (arith, most, count))
+        (omega arith) (messages_from_mark t (one_near t plan tuned) t.traffic samples n))
         (behind_last t.traffic (mark t samples t.count) refl follows none n most)
 
     all_undirected : (n : ℕ) → n ≤ plan.link.samples → All IsNotDirected (events_at t samples n)

@@ -4,10 +4,10 @@ use Rattle.clean_link.proofs.Common.{◌≡◌, ℕ, zero, suc, ◌+◌, ◌*◌
 use Rattle.clean_link.proofs.Common.{Option, None, Some, ◌≢◌, All, Contains, flat_map, eq-eqb, ne_eqb, All-contains, places, Width}
 use Rattle.clean_link.proofs.Common.{HaveOwnTrafficRows, made_samples, told_superframes, CellPlan, SyncPlan, TrafficPlan, events}
 use Rattle.clean_link.proofs.Common.{frame_events_at, message_events_at, mark, AreNear, frames_at, messages_at, if_followed, Tuning}
-use Rattle.clean_link.proofs.Common.{sync_stream, Event, Mark, Traffic, frames_by_one_mark, messages_by_one_mark, flat_map_ext_places}
-use Rattle.clean_link.proofs.Common.{IsNotDirected, IsOnPath, IsReceivable, frames_of_channel, frames_sent, told_on, AreDistinct}
-use Rattle.clean_link.proofs.Common.{SendsSetOne, messages_of_channel, messages_sent, signaling_sent, told_by_first, told_followed}
-use Rattle.clean_link.proofs.Common.{told_with_sync, traffic_sent, FollowsSent, HearsTraffic, IsUndirected}
+use Rattle.clean_link.proofs.Common.{sync_stream, Event, Mark, Traffic, by_one_mark, frames_from_mark, messages_from_mark}
+use Rattle.clean_link.proofs.Common.{flat_map_ext_places, IsNotDirected, IsOnPath, IsReceivable, frames_of_channel, frames_sent, told_on}
+use Rattle.clean_link.proofs.Common.{AreDistinct, SendsSetOne, messages_of_channel, messages_sent, signaling_sent, told_by_first}
+use Rattle.clean_link.proofs.Common.{told_followed, told_with_sync, traffic_sent, FollowsSent, HearsTraffic, IsUndirected}
 use Rattle.clean_link.proofs.marks.FirstMark.{mark_of_first, unset_without}
 use Rattle.clean_link.proofs.marks.MarksTrue.{marks_true, time_of, unmarked}
 use Rattle.clean_link.proofs.traffic.Frames.{sent_frames_back}
@@ -202,7 +202,8 @@ module _ (width : Width) (plan : CellPlan) (t : Tuning) (is : IsReceivable width
       (frames_of_channel plan)
       (record {
         once = λ n most.
-            frames_by_one_mark t (one_near t plan tuned) t.traffic samples n t.count most;
+            by_one_mark t (one_near t plan tuned) samples n t.count n _ most (omega arith)
+            (frames_from_mark t (one_near t plan tuned) t.traffic samples n);
         back = λ p traffic m superframes assigned set hears one.
             sent_frames_back width plan p t traffic m superframes hears one
             (undirected traffic m assigned set);
@@ -219,7 +220,8 @@ module _ (width : Width) (plan : CellPlan) (t : Tuning) (is : IsReceivable width
       (messages_of_channel plan)
       (record {
         once = λ n most.
-            messages_by_one_mark t (one_near t plan tuned) t.traffic samples n t.count most;
+            by_one_mark t (one_near t plan tuned) samples n t.count n _ most (omega arith)
+            (messages_from_mark t (one_near t plan tuned) t.traffic samples n);
         back = λ p traffic m superframes assigned set hears one.
             sent_messages_back width plan p t traffic m superframes hears one
             (undirected traffic m assigned set);

@@ -3,8 +3,8 @@ use Rattle.clean_link.proofs.Common.{◌≡◌, ℕ, ◌+◌, ◌≤◌, List, �
 use Rattle.clean_link.proofs.Common.{All-tail, length-take-le, take-append-drop, places, Sample, new_standing, events, events_at}
 use Rattle.clean_link.proofs.Common.{heard_within, message_events_at, frame_events_at, paging_events_at, sets_events_at, legs_of, mark}
 use Rattle.clean_link.proofs.Common.{frames_at, legs_at, messages_at, messages_behind, AreNear, messages_by, sync_events_at, frames_by}
-use Rattle.clean_link.proofs.Common.{if_followed, Tuning, sync_stream, Event, Pilot, Leg, Mark, Traffic, frames_sooner}
-use Rattle.clean_link.proofs.Common.{messages_by_one_mark, messages_sooner, IsNotDirected, IsOnePilot, IsUndirected}
+use Rattle.clean_link.proofs.Common.{if_followed, Tuning, sync_stream, Event, Pilot, Leg, Mark, Traffic, frames_sooner, by_one_mark}
+use Rattle.clean_link.proofs.Common.{messages_from_mark, messages_sooner, IsNotDirected, IsOnePilot, IsUndirected}
 use Rattle.clean_link.proofs.frames.SyncTimes.{one_path}
 use Rattle.clean_link.proofs.traffic.OnePilot.{one_close, same_frames, same_messages}
 use Rattle.clean_link.proofs.traffic.Steady.{each_of_all, first_steady, left_all, right_all, steady_pilot}
@@ -77,7 +77,8 @@ module _ (t : Tuning) (near : AreNear (sync_stream t).fingers) (samples : List S
       let heard : Traffic → Mark → List Event = λ traffic m. messages_at t traffic m samples n in
       let is : messages_behind t t.traffic (mark t samples n) samples n
       ≡ messages_at t traffic m samples n =
-      messages_by_one_mark t near t.traffic samples n (length samples) few
+      by_one_mark t near samples n (length samples) n _ few (omega arith)
+      (messages_from_mark t near t.traffic samples n)
       ∙ ap (λ (last : Option Mark). if_followed heard t.traffic last) set
       ∙ ap (λ (channel : Option Traffic). if_followed heard channel (Some m)) followed in
       subst (All IsNotDirected) is (there n few)

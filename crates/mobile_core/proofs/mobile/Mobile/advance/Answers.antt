@@ -94,7 +94,6 @@ returns-clause-steps c =
           let come = sync.stands t (heard ++ more) holds (due_here on none) on.sync in
           let follows = others.hears t m.sync.mark (heard ++ more) [] holds
           (others_due_here on idle) on.followed in
-          rw (append-nil given)
-          (stands_come on c.take_ended.new.self c.take_ended-2.new.self come sync.next sync.mark
-          follows.0 follows.1);
+          stands_come on c.take_ended.new.self c.take_ended-2.new.self told come sync.next sync.mark
+          follows.0 follows.1;
     }

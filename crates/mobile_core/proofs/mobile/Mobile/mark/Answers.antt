@@ -1,8 +1,7 @@
-use Rattle.mobile_core.proofs.Common.{◌∙◌, length, subst, sym, arith, AreNear, parts}
+use Rattle.mobile_core.proofs.Common.{◌∙◌, length, subst, sym, AreNear, parts}
 use Rattle.reception.proofs.ClockSteps.{before_next}
-use Rattle.mobile_core.proofs.MarkAhead.{mark_ahead}
+use Rattle.mobile_core.proofs.MarkAhead.{mark_ahead, marked_all}
 use Rattle.heard_events.proofs.MarkStays.{mark_told}
-use Rattle.mobile_core.proofs.Stood.{marked_all}
 use Rattle.mobile_core.proofs.mobile.Mobile.mark.Goals as goal
 
 pub returns-clause-set : goal.returns-clause-set
@@ -14,14 +13,11 @@ returns-clause-set c = λ t heard given st m e.
 
 pub returns-clause-mark : goal.returns-clause-mark
 returns-clause-mark c = λ t heard st.
-    let m = c.args.self.now in
-    let waits = m.sound.waits in
-    let taken = st.ring.taken in
-    c.mark.ensures ∙ sym (marked_all t (parts m) heard st (omega arith))
+    c.mark.ensures ∙ sym (marked_all t (parts c.args.self.now) heard st)
 
 pub returns-clause-ahead : goal.returns-clause-ahead
 returns-clause-ahead c = λ t heard given event st here none m e.
     let self' = c.args.self.now in
     let marked = sym c.mark.ensures ∙ e in
     let near = subst AreNear st.sync.receives.fingers_are self'.sound.hears.channel.near in
-    mark_ahead given event st near here none m (self'.sound.hears.marked m marked).pilot marked
+    mark_ahead given event st near here none m marked

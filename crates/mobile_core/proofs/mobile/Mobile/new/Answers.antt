@@ -8,4 +8,4 @@ returns-clause-stands c =
     let sync = c.new-3.ensures in
     let followed = c.new-4.ensures in
     stands_new t _ refl refl refl c.in_ok-new.ensures.holds (sync.hears t refl refl)
-    (followed.hears t [] refl refl refl refl refl) sync.fresh sync.unmarked followed.closed
+    (followed.hears t [] refl refl refl refl refl) sync.sound sync.unmarked followed.closed

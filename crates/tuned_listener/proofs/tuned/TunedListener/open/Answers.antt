@@ -1,6 +1,7 @@
 use Rattle.tuned_listener.proofs.Common.{[], refl}
 use Rattle.tuned_listener.proofs.TunedListeners.{holds_nothing}
-use Rattle.tuned_listener.proofs.TunedMarks.{none_marked, stands_near}
+use Rattle.heard_events.proofs.MarkGrowth.{none_marked}
+use Rattle.tuned_listener.proofs.TunedMarks.{stands_near}
 use Rattle.tuned_listener.proofs.tuned.TunedListener.open.Goals as goal
 
 pub returns-clause-listens : goal.returns-clause-listens
