@@ -75,36 +75,32 @@ pub struct OptionRule {
     pub default: Option<u128>,
 }
 
+/// An option of this name whose numbers are from the least to the most, with the number that stands
+/// where it isn't given.
+macro_rules! numbered {
+    ($name:literal, $least:literal, $most:literal, $default:expr) => {
+        OptionRule {
+            name: $name,
+            form: ValueForm::Between {
+                least: $least,
+                most: $most,
+            },
+            default: $default,
+        }
+    };
+}
+
 /// `--span`: how many samples the pilot is searched in.
-pub const SPAN: OptionRule = OptionRule {
-    name: "span",
-    form: ValueForm::Between {
-        least: 64,
-        most: 32768,
-    },
-    default: Some(2048),
-};
+pub const SPAN: OptionRule = numbered!("span", 64, 32768, Some(2048));
 
 /// `--workers`: how many workers search it.
-pub const WORKERS: OptionRule = OptionRule {
-    name: "workers",
-    form: ValueForm::Between { least: 1, most: 64 },
-    default: Some(4),
-};
+pub const WORKERS: OptionRule = numbered!("workers", 1, 64, Some(4));
 
 /// `--fingers`: how many paths are followed.
-pub const FINGERS: OptionRule = OptionRule {
-    name: "fingers",
-    form: ValueForm::Between { least: 1, most: 3 },
-    default: Some(1),
-};
+pub const FINGERS: OptionRule = numbered!("fingers", 1, 3, Some(1));
 
 /// `--paging`: which paging channel is followed.
-pub const PAGING: OptionRule = OptionRule {
-    name: "paging",
-    form: ValueForm::Between { least: 1, most: 7 },
-    default: Some(1),
-};
+pub const PAGING: OptionRule = numbered!("paging", 1, 7, Some(1));
 
 /// `--key`: the key that tells a handset's slots.
 pub const KEY: OptionRule = OptionRule {
@@ -114,11 +110,7 @@ pub const KEY: OptionRule = OptionRule {
 };
 
 /// `--cycle`: the index of its slot cycle.
-pub const CYCLE: OptionRule = OptionRule {
-    name: "cycle",
-    form: ValueForm::Between { least: 0, most: 7 },
-    default: Some(0),
-};
+pub const CYCLE: OptionRule = numbered!("cycle", 0, 7, Some(0));
 
 /// `--esn`: the handset's electronic serial number.
 pub const SERIAL_NUMBER: OptionRule = OptionRule {
@@ -128,92 +120,34 @@ pub const SERIAL_NUMBER: OptionRule = OptionRule {
 };
 
 /// `--row`: the Walsh row of its traffic channel.
-pub const ROW: OptionRule = OptionRule {
-    name: "row",
-    form: ValueForm::Between { least: 1, most: 63 },
-    default: None,
-};
+pub const ROW: OptionRule = numbered!("row", 1, 63, None);
 
 /// `--offset`: FRAME_OFFSET of that channel.
-pub const OFFSET: OptionRule = OptionRule {
-    name: "offset",
-    form: ValueForm::Between { least: 0, most: 15 },
-    default: None,
-};
+pub const OFFSET: OptionRule = numbered!("offset", 0, 15, None);
 
 /// `--k`: how many of the best codewords of a rate are listed.
-pub const LIST_LENGTH: OptionRule = OptionRule {
-    name: "k",
-    form: ValueForm::Between { least: 1, most: 16 },
-    default: None,
-};
+pub const LIST_LENGTH: OptionRule = numbered!("k", 1, 16, None);
 
 /// `--pilots`: how many pilot lines are written.
-pub const PILOTS: OptionRule = OptionRule {
-    name: "pilots",
-    form: ValueForm::Between {
-        least: 0,
-        most: 4294967295,
-    },
-    default: Some(4294967295),
-};
+pub const PILOTS: OptionRule = numbered!("pilots", 0, 4294967295, Some(4294967295));
 
 /// `--messages`: how many messages' lines are written.
-pub const MESSAGES: OptionRule = OptionRule {
-    name: "messages",
-    form: ValueForm::Between {
-        least: 0,
-        most: 4294967295,
-    },
-    default: Some(4294967295),
-};
+pub const MESSAGES: OptionRule = numbered!("messages", 0, 4294967295, Some(4294967295));
 
 /// `--frames`: how many frames' lines are written.
-pub const FRAMES: OptionRule = OptionRule {
-    name: "frames",
-    form: ValueForm::Between {
-        least: 0,
-        most: 4294967295,
-    },
-    default: Some(4294967295),
-};
+pub const FRAMES: OptionRule = numbered!("frames", 0, 4294967295, Some(4294967295));
 
 /// `--raw`: how many lines of raw capsules are written.
-pub const RAW: OptionRule = OptionRule {
-    name: "raw",
-    form: ValueForm::Between {
-        least: 0,
-        most: 4294967295,
-    },
-    default: Some(0),
-};
+pub const RAW: OptionRule = numbered!("raw", 0, 4294967295, Some(0));
 
 /// `--base`: the phase of the pilot of offset 0.
-pub const BASE: OptionRule = OptionRule {
-    name: "base",
-    form: ValueForm::Between {
-        least: 0,
-        most: 32767,
-    },
-    default: Some(0),
-};
+pub const BASE: OptionRule = numbered!("base", 0, 32767, Some(0));
 
 /// `--width`: how many chips round its own phase each pilot is measured.
-pub const WIDTH: OptionRule = OptionRule {
-    name: "width",
-    form: ValueForm::Between { least: 0, most: 31 },
-    default: Some(10),
-};
+pub const WIDTH: OptionRule = numbered!("width", 0, 31, Some(10));
 
 /// `--top`: how many ranks are written.
-pub const TOP: OptionRule = OptionRule {
-    name: "top",
-    form: ValueForm::Between {
-        least: 1,
-        most: 512,
-    },
-    default: Some(512),
-};
+pub const TOP: OptionRule = numbered!("top", 1, 512, Some(512));
 
 /// `--bits`: how wide the parts of samples are.
 pub const BITS: OptionRule = OptionRule {
@@ -223,14 +157,7 @@ pub const BITS: OptionRule = OptionRule {
 };
 
 /// `--number`: which link a trial makes.
-pub const NUMBER: OptionRule = OptionRule {
-    name: "number",
-    form: ValueForm::Between {
-        least: 0,
-        most: 18446744073709551615,
-    },
-    default: None,
-};
+pub const NUMBER: OptionRule = numbered!("number", 0, 18446744073709551615, None);
 
 /// The number that 1 to 20 decimal digits spell, leading zeros among them.
 fn number_in(text: &str) -> Option<u128>
