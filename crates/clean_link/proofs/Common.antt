@@ -247,9 +247,8 @@ unfoldable pub use Rattle.clean_link.specs.CleanLink.{sync_sent}
 pub use Rattle.clean_link.specs.DistinctFrames.{FullRateFramesAreDistinct, full_rate_symbols, is_hidden, is_kept, is_seen, lost_symbols}
 pub use Rattle.clean_link.specs.DistinctFrames.{shows_full_rate, tells_all_bits}
 unfoldable pub use Rattle.clean_link.specs.DistinctFrames.{stays_apart}
-pub use Rattle.clean_link.specs.DistinctPlan.{channel_on, HasMark, HasSetOne, HasSetTwo, bits_1200, bits_14400, bits_1800, bits_2400}
-pub use Rattle.clean_link.specs.DistinctPlan.{bits_3600, bits_4800, bits_7200, bits_9600, distinct_plan, first_channel, frame2_at, frame_at}
-pub use Rattle.clean_link.specs.DistinctPlan.{on_row, second_channel, told_message}
+pub use Rattle.clean_link.specs.DistinctPlan.{channel_on, HasMark, HasSetOne, HasSetTwo, bits_of, bits_of2, distinct_plan, first_channel}
+pub use Rattle.clean_link.specs.DistinctPlan.{frame2_at, frame_at, on_row, second_channel, told_message}
 pub use Rattle.clean_link.specs.DistinctWorked.{AFullRateFrameIsDistinct, ZerosAreShared, replaced_places, some_information}
 pub use Rattle.clean_link.specs.HeardEach.{AreEventsOf, AreFramesBehind, AreMessagesBehind, EachChannelComesBack, FollowsOne, IsEventOf}
 pub use Rattle.clean_link.specs.HeardEach.{is_frame, is_message, is_page, is_sync}
@@ -274,7 +273,7 @@ pub use Rattle.clean_link.specs.SentEvents.{FollowsSent, NoEventIsDirected, Whol
 pub use Rattle.clean_link.specs.SentEvents.{pages_behind_mark, pages_with_sync, told_by_first, told_followed, told_with_sync}
 unfoldable pub use Rattle.clean_link.specs.SentEvents.{paging_sent, sent_events, sets_heard, signaling_sent, traffic_sent}
 pub use Rattle.clean_link.specs.SentCodewords.{AreReadBy, IsOnlyBest, IsWholeChannel, scrambled, span_softs, span_codeword}
-pub use Rattle.clean_link.specs.SharedCodewords.{AreDistinctBySharing, AreDistinctBySharing2, SharesNone, SharesNone2, gives, is_known2}
+pub use Rattle.clean_link.specs.SharedCodewords.{AreDistinctBySharing, AreDistinctBySharing2, SharesNone, gives, is_known2}
 pub use Rattle.clean_link.specs.SharedCodewords.{lost_symbols2, sharing, sharing2, shown_of}
 unfoldable pub use Rattle.clean_link.specs.SharedCodewords.{codewords_giving}
 pub use Rattle.clean_link.specs.Signals.{AreApart, HaveOwnRows, IsAligned, IsFrameAt, IsFrameOf, IsHeardBy, level_at, path_finger}

@@ -1,6 +1,6 @@
 -- A clean link: a file that holds what one cell sends over one path, without noise, and what a
 -- handset has to hear in it.
-use Rattle.std.specs.Prelude.{ℕ, ◌+◌, ◌-◌, ◌*◌, ◌/◌, ◌%◌, ◌<◌, ◌≤◌, ◌≡◌, ◌&&◌, Bool, if◌then◌else◌}
+use Rattle.std.specs.Prelude.{ℕ, ◌+◌, ◌-◌, ◌*◌, ◌/◌, ◌%◌, ◌≤◌, ◌≡◌, ◌&&◌, Bool, if◌then◌else◌}
 use Rattle.std.specs.Prelude.{nat_le, List, [], ◌∷◌, length, map, take, filter, pos, Option, None}
 use Rattle.std.specs.Prelude.{Some}
 use Rattle.chip_core.specs.Bits.{places}

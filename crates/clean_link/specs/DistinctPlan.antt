@@ -1,6 +1,6 @@
 -- A cell with a mark, and behind it a distinct frame of each rate of both rate sets.
-use Rattle.std.specs.Prelude.{◌≡◌, ℕ, true, false, All, Bool, List, [], ◌∷◌, ◌++◌, map, replicate}
-use Rattle.std.specs.Prelude.{pos, negsuc, Some, None}
+use Rattle.std.specs.Prelude.{◌≡◌, ℕ, true, All, Bool, List, [], ◌∷◌, ◌++◌, map, replicate}
+use Rattle.std.specs.Prelude.{pos, negsuc, Some}
 use Rattle.std.specs.List.{Contains, flat_map}
 use Rattle.chip_core.specs.Bits.{binary}
 use Rattle.chip_core.specs.declared.check_form.CheckForm.TheVariants.{Plain}
@@ -12,6 +12,7 @@ use Rattle.symbol_path.specs.declared.rate_two.Rate2.{Rate2}
 use Rattle.symbol_path.specs.declared.rate_two.Rate2.TheVariants.{R14400, R7200, R3600, R1800}
 use Rattle.sync_message.specs.declared.fields.SyncFields.{SyncFields}
 use Rattle.cell_plan.specs.Signal.{frames_of}
+use Rattle.cell_plan.specs.SomeMessage.{some_message, some_sync}
 use Rattle.cell_plan.specs.TrafficFrames.{cycled_frame}
 use Rattle.cell_plan.specs.declared.frame_list.FrameList.{FrameList}
 use Rattle.cell_plan.specs.declared.frame_list.FrameList.TheVariants.{SetOne, SetTwo}
@@ -21,6 +22,7 @@ use Rattle.cell_plan.specs.declared.traffic_frame.TrafficFrame.{TrafficFrame}
 use Rattle.cell_plan.specs.declared.traffic_frame2.TrafficFrame2.{TrafficFrame2}
 use Rattle.chip_core.specs.declared.assignment.Traffic.{Traffic}
 use Rattle.cell_plan.specs.Stated.{IsReceivable}
+use Rattle.clean_link.specs.DistinctWorked.{frame_with}
 use Rattle.clean_link.specs.HeardFrames.{is_received, received_frames, replaced_of, IsAssigned}
 use Rattle.clean_link.specs.HeardFrames.{SendsSetTwo}
 use Rattle.clean_link.specs.ReceivedFrames.{cycled_frame2, IsDistinctFrame2}
@@ -30,64 +32,31 @@ use Rattle.clean_link.specs.SentEvents.{signaling_sent, told_with_sync, IsFollow
 
 -- a sync message of 25 octets, whose first transmission tells the time of superframe 7
 abbrev pub told_message : SyncFields
-told_message = record {
-  prev = 3;
-  min = 1;
-  sid = 1;
-  nid = 2;
-  pn = 0;
-  lc = 1;
-  time = 0;
-  lp = 13;
-  ltm = 0;
-  daylt = 0;
-  prat = 0;
-  freq = None;
-  rest = replicate 3 false;
-}
-
--- frames that tell a handset to lower its power
-abbrev pub frame_at : Rate → List Bool → TrafficFrame
-frame_at rate information = record {
-  rate = rate;
-  information = information;
-  power_bits = replicate 16 true;
-}
-
-abbrev pub frame2_at : Rate2 → List Bool → TrafficFrame2
-frame2_at rate information = record {
-  rate = rate;
-  information = information;
-  power_bits = replicate 16 true;
-}
+told_message = some_message 1
 
 -- information bits of each rate; those at 9,600 bits a second are primary traffic alone
-abbrev pub bits_9600 : List Bool
-bits_9600 =
+abbrev pub bits_of : Rate → List Bool
+bits_of R9600 =
     binary 64 0x66ead69800f6c1c5 ++ binary 64 0xa65d1b54066a284c ++ binary 44 0x6547829256
+bits_of R4800 = binary 64 0x6f0dbecf19b63b60 ++ binary 16 0xdc17
+bits_of R2400 = binary 40 0x6afb64b799
+bits_of R1200 = binary 16 0x6060
 
-abbrev pub bits_4800 : List Bool
-bits_4800 = binary 64 0x6f0dbecf19b63b60 ++ binary 16 0xdc17
-
-abbrev pub bits_2400 : List Bool
-bits_2400 = binary 40 0x6afb64b799
-
-abbrev pub bits_1200 : List Bool
-bits_1200 = binary 16 0x6060
-
-abbrev pub bits_14400 : List Bool
-bits_14400 =
+abbrev pub bits_of2 : Rate2 → List Bool
+bits_of2 R14400 =
     binary 64 0x15e08e4b2708292f ++ binary 64 0xcc0a97475591f043 ++ binary 64 0x7e7539761e440232
     ++ binary 64 0xaf40c2e43a5b249d ++ binary 12 0x96f
+bits_of2 R7200 = binary 64 0x6ab5c5ac7d237d8d ++ binary 62 0x1221de457012e2f5
+bits_of2 R3600 = binary 56 0x7f7f6ad5e9ac66
+bits_of2 R1800 = binary 22 0xa13a0
 
-abbrev pub bits_7200 : List Bool
-bits_7200 = binary 64 0x6ab5c5ac7d237d8d ++ binary 62 0x1221de457012e2f5
+-- frames of them that tell a handset to lower its power
+abbrev pub frame_at : Rate → TrafficFrame
+frame_at rate = frame_with rate (bits_of rate)
 
-abbrev pub bits_3600 : List Bool
-bits_3600 = binary 56 0x7f7f6ad5e9ac66
-
-abbrev pub bits_1800 : List Bool
-bits_1800 = binary 22 0xa13a0
+abbrev pub frame2_at : Rate2 → TrafficFrame2
+frame2_at rate =
+    record { rate = rate; information = bits_of2 rate; power_bits = replicate 16 true }
 
 -- a channel with these frames
 abbrev pub channel_on : ℕ → FrameList → TrafficPlan
@@ -96,14 +65,12 @@ channel_on row frames =
 
 -- channels with a frame of each rate of their rate set, the highest first
 abbrev pub first_channel : TrafficPlan
-first_channel = channel_on 8 (SetOne (
-    frame_at R9600 bits_9600 ∷ frame_at R4800 bits_4800
-    ∷ frame_at R2400 bits_2400 ∷ frame_at R1200 bits_1200 ∷ []))
+first_channel =
+    channel_on 8 (SetOne (map frame_at (R9600 ∷ R4800 ∷ R2400 ∷ R1200 ∷ [])))
 
 abbrev pub second_channel : TrafficPlan
-second_channel = channel_on 9 (SetTwo (
-    frame2_at R14400 bits_14400 ∷ frame2_at R7200 bits_7200
-    ∷ frame2_at R3600 bits_3600 ∷ frame2_at R1800 bits_1800 ∷ []))
+second_channel =
+    channel_on 9 (SetTwo (map frame2_at (R14400 ∷ R7200 ∷ R3600 ∷ R1800 ∷ [])))
 
 -- The cell sends both, and the file has eight superframes. The long code's state is 1 at chip
 -- 686,592, a power control group before superframe 7.
@@ -116,7 +83,7 @@ distinct_plan = record {
     samples = 786432;
   };
   pilot = record { gain = 100 };
-  sync = Some (record { gain = 30; message = told_message });
+  sync = Some (some_sync 1);
   paging = [];
   traffic = first_channel ∷ second_channel ∷ [];
 }

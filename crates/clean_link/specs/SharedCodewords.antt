@@ -49,6 +49,12 @@ abbrev pub codewords_sharing : (ℕ → Bool) → List Bool → ℕ → ℕ → 
 codewords_sharing known symbols repeats others n =
     codewords_giving (shown_of known symbols repeats others) n 0 (replicate 8 false)
 
+-- Of the codewords of each rate that share a frame's symbols, only its own does.
+pub record SharesNone {R : Type 0} (sharing : R → List (List Bool)) (rate : R) (bits : List Bool) :
+    Type 0 where
+  pub own : sharing rate ≡ bits ∷ []
+  pub others : (r : R) → r ≢ rate → sharing r ≡ []
+
 -- ---- rate set 1
 
 -- those of rate r, where a frame of some rate has these bits, and these code symbols are lost
@@ -57,15 +63,11 @@ sharing lost rate bits r =
     codewords_sharing (is_kept lost) (code_symbols (replicate 8 false) bits)
     (repeats_of rate) (repeats_of r) (frame_bits r)
 
--- only the frame's own codeword shares its symbols
-pub record SharesNone (lost : List ℕ) (rate : Rate) (bits : List Bool) : Type 0 where
-  pub own : sharing lost rate bits rate ≡ bits ∷ []
-  pub others : (r : Rate) → r ≢ rate → sharing lost rate bits r ≡ []
-
--- then the frame is distinct
+-- where it has none but its own the frame is distinct
 abbrev pub AreDistinctBySharing : Type 0
 AreDistinctBySharing = (replaced : List ℕ) (rate : Rate) (information : List Bool) →
-    SharesNone (lost_symbols replaced) rate (traffic_codeword rate information) →
+    SharesNone (sharing (lost_symbols replaced) rate (traffic_codeword rate information)) rate
+    (traffic_codeword rate information) →
     IsUnshared replaced rate (frame_codeword rate information)
 
 -- ---- rate set 2
@@ -83,11 +85,8 @@ sharing2 lost rate bits r =
     codewords_sharing (is_known2 lost) (code_symbols (replicate 8 false) bits)
     (rates_two.repeats_of rate) (rates_two.repeats_of r) (rates_two.frame_bits r)
 
-pub record SharesNone2 (lost : List ℕ) (rate : Rate2) (bits : List Bool) : Type 0 where
-  pub own : sharing2 lost rate bits rate ≡ bits ∷ []
-  pub others : (r : Rate2) → r ≢ rate → sharing2 lost rate bits r ≡ []
-
 abbrev pub AreDistinctBySharing2 : Type 0
 AreDistinctBySharing2 = (replaced : List ℕ) (rate : Rate2) (information : List Bool) →
-    SharesNone2 (lost_symbols2 replaced) rate (codeword_bits rate information) →
+    SharesNone (sharing2 (lost_symbols2 replaced) rate (codeword_bits rate information)) rate
+    (codeword_bits rate information) →
     laws_two.IsUnshared replaced rate (frames_two.frame_codeword rate information)

@@ -121,25 +121,26 @@ EachFrameIsHeard = (width : Width) (plan : CellPlan) (p : TrafficPlan) (t : Tuni
     (frame - 4 * superframes))
     (received_frames plan p (plan.link.start + m.sample))
 
--- And where each of them is distinct, they are the frames that were sent, and nothing else.
-abbrev pub SentFramesComeBack : Type 0
-SentFramesComeBack = (width : Width) (plan : CellPlan) (p : TrafficPlan) (t : Tuning)
+-- what holds of every channel with frames of rate set 1, each of which is distinct, where no
+-- handoff is directed
+abbrev pub HoldsOfDistinct : (CellPlan → TrafficPlan → Tuning → Traffic → Mark → Type 0) → Type 0
+HoldsOfDistinct P = (width : Width) (plan : CellPlan) (p : TrafficPlan) (t : Tuning)
     (traffic : Traffic) (m : Mark) (superframes : ℕ) →
     HearsTraffic width plan p t traffic m superframes → SendsSetOne p →
     IsUndirected t traffic m (made_samples plan) plan.link.samples →
-    AreDistinct plan p (plan.link.start + m.sample) →
+    AreDistinct plan p (plan.link.start + m.sample) → P plan p t traffic m
+
+-- And where each of them is distinct, they are the frames that were sent, and nothing else.
+abbrev pub SentFramesComeBack : Type 0
+SentFramesComeBack = HoldsOfDistinct (λ plan p t traffic m.
     flat_map (frames_at t traffic m (made_samples plan)) (places (plan.link.samples + 1)) ≡
-    frames_of_channel plan p (plan.link.start + m.sample)
+    frames_of_channel plan p (plan.link.start + m.sample))
 
 -- So are the messages those that the signaling in these frames spells.
 abbrev pub SentMessagesComeBack : Type 0
-SentMessagesComeBack = (width : Width) (plan : CellPlan) (p : TrafficPlan) (t : Tuning)
-    (traffic : Traffic) (m : Mark) (superframes : ℕ) →
-    HearsTraffic width plan p t traffic m superframes → SendsSetOne p →
-    IsUndirected t traffic m (made_samples plan) plan.link.samples →
-    AreDistinct plan p (plan.link.start + m.sample) →
+SentMessagesComeBack = HoldsOfDistinct (λ plan p t traffic m.
     flat_map (messages_at t traffic m (made_samples plan)) (places (plan.link.samples + 1)) ≡
-    messages_of_channel plan p (plan.link.start + m.sample)
+    messages_of_channel plan p (plan.link.start + m.sample))
 
 -- Nor is a handoff directed, where each of these is distinct, and where no message directs one that
 -- the signaling in these frames spells, as they are sent.

@@ -7,6 +7,7 @@ use Rattle.chip_core.specs.Bits.{binary, places}
 use Rattle.rake_finger.specs.declared.form.Form.TheVariants.{Sync, Data}
 use Rattle.sync_message.specs.SyncMessage.{sync_body, sync_capsule}
 use Rattle.cell_plan.specs.declared.plan.CellPlan.{CellPlan}
+use Rattle.cell_plan.specs.SomeMessage.{some_sync}
 use Rattle.clean_link.specs.CleanLink.{first_sync_frame, heard_behind, sending_ends, soft_strength}
 use Rattle.clean_link.specs.CleanLink.{whole_sendings}
 use Rattle.clean_link.specs.DistinctPlan.{told_message}
@@ -16,7 +17,7 @@ use Rattle.clean_link.specs.WorkedCells.{cell_with}
 -- which seven have bits of it
 cell : ℕ → ℕ → CellPlan
 cell start samples =
-    cell_with start samples Plain (Some (record { gain = 30; message = told_message })) [] []
+    cell_with start samples Plain (Some (some_sync 1)) [] []
 
 -- when the whole transmissions have been heard
 heard : CellPlan → List ℕ

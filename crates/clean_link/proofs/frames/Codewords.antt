@@ -6,6 +6,7 @@ use Rattle.clean_link.proofs.Common.{length-code_symbols, length-state_after, st
 use Rattle.clean_link.proofs.Common.{sending, sent_symbols, within, frames-none, frames-more, length-frames, bits_before, continued_symbols}
 use Rattle.clean_link.proofs.Common.{last_eight, flat_map_ext_places, span_codeword}
 use Rattle.std.proofs.lemmas.List.{length-drop}
+use Rattle.cell_plan.proofs.SentBits.{continued_is}
 
 -- frame k of frames that follow one another
 pub frame_at : {A : Type 0} (f : ℕ → List A) (b m k : ℕ) → ((j : ℕ) → length (f j) ≡ b) → k < m →
@@ -39,13 +40,6 @@ signed-frames strength f (x ∷ xs) =
     ap (λ (r : List ℤ). signed strength (f x) ++ r) (signed-frames strength f xs)
 
 -- ---- the encoder goes on
-
--- a frame's symbols, from the bits before it
-continued_is : (bits_of : ℕ → List Bool) (k : ℕ) →
-    continued_symbols bits_of k ≡ code_symbols (bits_before bits_of k) (bits_of k)
-unfolding continued_symbols bits_before
-continued_is bits_of zero = refl
-continued_is bits_of (suc k) = refl
 
 pub length-before : (bits_of : ℕ → List Bool) (n k : ℕ) → 8 ≤ n →
     ((j : ℕ) → length (bits_of j) ≡ n) → length (bits_before bits_of k) ≡ 8

@@ -1,11 +1,11 @@
 -- The codeword that clean soft values show has the greatest score alone, and so it is decoded.
-use Rattle.clean_link.proofs.Common.{◌≡◌, ◌≢◌, ℕ, zero, suc, ◌+◌, ◌-◌, ◌*◌, ◌/◌, ◌<◌, ◌≤◌, Bool, true, false, List, [], ◌∷◌, ◌++◌, length}
+use Rattle.clean_link.proofs.Common.{◌≡◌, ◌≢◌, ℕ, zero, suc, ◌+◌, ◌-◌, ◌*◌, ◌/◌, ◌<◌, ◌≤◌, Bool, false, List, ◌++◌, length}
 use Rattle.clean_link.proofs.Common.{get_or, take, drop, replicate, refl, sym, ap, subst, ◌∙◌, arith, inl, ℤ, ◌<ℤ◌, ◌*ℤ◌, pos, flat_map}
 use Rattle.clean_link.proofs.Common.{mul-le-mul_right, div-eq_of_eq-mul_left, by_lt_z, ints, ext_get_or, length-map, length-replicate}
 use Rattle.clean_link.proofs.Common.{length-take-le, drop-replicate, take-replicate, take_all, places, sign, code_symbols}
 use Rattle.clean_link.proofs.Common.{length-code_symbols, distinct, Shape, place, sent, shape_of, size, repeats_of, Kind, Rate, R9600}
 use Rattle.clean_link.proofs.Common.{R4800, R2400, R1200, FrameKind, Paging, length-sent, get_or-sent, repeats_some, size_some, place_lt}
-use Rattle.clean_link.proofs.Common.{address-place, IsAllowed, IsBestCodeword, signed, Codeword, best_codeword, correlation, score_of, Free}
+use Rattle.clean_link.proofs.Common.{address-place, IsAllowed, IsBestCodeword, signed, Codeword, best_codeword, score_of, Free}
 use Rattle.clean_link.proofs.Common.{agrees_alone, codewords_same, zero_codeword_best, by_definition, Channel, channel_for, gathered_span}
 use Rattle.clean_link.proofs.Common.{own_bits, score, sending, sent_symbols, best_codeword-same, own_is, length-gathered_span, within}
 use Rattle.clean_link.proofs.Common.{frames-none, frames-more, length-frames, take-frames, score_is, flat_map_ext_places, IsWholeChannel}
@@ -13,6 +13,7 @@ use Rattle.std.proofs.lemmas.List.{length-drop}
 use Rattle.frame_decoder.specs.declared.span_format.FrameKind.TheVariants.{Sync}
 use Rattle.clean_link.proofs.frames.Codewords.{frame_at}
 use Rattle.symbol_path.specs.declared.kinds.Kind as kinds
+use Rattle.frame_decoder.proofs.MaskedScores.{zeros_score}
 
 -- ---- equal sent symbols come from equal codewords
 
@@ -187,13 +188,6 @@ kind_own kind bits repeats n own strength best fills enough some lt p =
 
 -- ---- soft values of 0
 
--- under them every codeword has the same score
-no_score : (m : ℕ) (symbols : List Bool) → correlation (replicate m (pos 0)) symbols ≡ pos 0
-no_score zero symbols = refl
-no_score (suc m) [] = refl
-no_score (suc m) (true ∷ symbols) = rw (no_score m symbols)
-no_score (suc m) (false ∷ symbols) = rw (no_score m symbols)
-
 -- so the bits of each frame are zeros
 pub silent_own : (c : Channel) (m n own : ℕ) → 8 ≤ c.bits → own < n →
     own_bits c n own (replicate m (pos 0)) ≡ replicate c.bits false
@@ -205,8 +199,8 @@ silent_own c m n own enough lt =
     let best : best_codeword (score (replicate m (pos 0)) (sending c n)) Free bits ≡ zeros =
     best_codeword-same (score (replicate m (pos 0)) (sending c n))
     (score_of (replicate (2 * bits) (pos 0))) bits
-    (λ w size. no_score m (sent_symbols (sending c n) w) ∙
-    sym (no_score (2 * bits) (code_symbols w.start w.bits)))
+    (λ w size. zeros_score m (sent_symbols (sending c n) w) ∙
+    sym (zeros_score (2 * bits) (code_symbols w.start w.bits)))
     ∙ sym (by_definition (replicate (2 * bits) (pos 0)) Free bits zeros long
     (length-replicate (2 * bits) (pos 0)) (zero_codeword_best Free bits long)) in
     ap (λ (w : Codeword). take c.bits (drop (c.bits * own) w.bits)) best

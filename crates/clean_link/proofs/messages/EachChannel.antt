@@ -15,7 +15,8 @@ use Rattle.clean_link.proofs.messages.Kinds.{frames_of_all, messages_of_all, pag
 use Rattle.clean_link.proofs.messages.MessagesBack.{pages_all}
 use Rattle.clean_link.proofs.sendings.Back.{sendings_back}
 use Rattle.clean_link.proofs.signal.Samples.{length-made}
-use Rattle.clean_link.proofs.traffic.Back.{none_known, one_near, told_behind_mark, undirected, untold}
+use Rattle.clean_link.proofs.sendings.Back.{none_known}
+use Rattle.clean_link.proofs.traffic.Back.{one_near, told_behind_mark, undirected, untold}
 use Rattle.clean_link.proofs.traffic.PowerBits.{power_bits_back}
 use Rattle.clean_link.proofs.traffic.Frames.{each_frame_heard, frame_back, frame_there, heard_as, heard_there, inside_at, same_places}
 use Rattle.clean_link.proofs.traffic.OnePilot.{one_stream}

@@ -10,7 +10,7 @@ use Rattle.clean_link.proofs.Common.{flat_map_ext_places, known_page, KnownPage,
 use Rattle.clean_link.proofs.Common.{frame_capsules}
 use Rattle.heard_events.specs.PagingEvents.{bits_before}
 use Rattle.heard_events.specs.PagingStreams.{paging_rate}
-use Rattle.clean_link.proofs.sendings.Order.{at_key, below_key, in_order, IsRising}
+use Rattle.clean_link.proofs.sendings.Order.{all_kept, at_key, below_key, in_order, IsRising}
 
 -- ---- lists of lists
 
@@ -27,15 +27,6 @@ flat_map-flat_map g f [] = refl
 flat_map-flat_map {A} {B} {C} g f (x ∷ xs) =
     flat_map-append g (f x) (flat_map f xs)
     ∙ ap (λ (l : List C). flat_map g (f x) ++ l) (flat_map-flat_map g f xs)
-
--- a test that all pass
-every : (xs : List ℕ) → filter (λ k. true) xs ≡ xs
-every [] = refl
-every (x ∷ xs) = ap (λ (ys : List ℕ). x ∷ ys) (every xs)
-
-all_kept : (p : ℕ → Bool) (n : ℕ) → ((k : ℕ) → k < n → p k ≡ true) →
-    filter p (places n) ≡ places n
-all_kept p n all = filter_ext_places p (λ k. true) n all ∙ every (places n)
 
 -- ---- the frames of any stream, in the order in which they are known
 

@@ -175,9 +175,11 @@ channel_back back width plan sync t is sends tuned =
     (late_sending plan m (c + i) (omega arith)))
     ∙ sym (map-filter (is_whole plan m) (sending_event plan m) (places c))
 
-flat_map-none : (ks : List ℕ) → flat_map (λ (k : ℕ). let none : List Event = [] in none) ks ≡ []
-flat_map-none [] = refl
-flat_map-none (k ∷ ks) = flat_map-none ks
+-- numbers at which nothing is known
+pub none_known : (ks : List ℕ) →
+    flat_map (λ (n : ℕ). let none : List Event = [] in none) ks ≡ []
+none_known [] = refl
+none_known (k ∷ ks) = none_known ks
 
 silence_back : FramesAreZeros → (width : Width) (plan : CellPlan) (t : Tuning) →
     IsReceivable width plan → plan.sync ≡ None → IsOnPath plan t →
@@ -186,7 +188,7 @@ silence_back zeros width plan t is silent tuned =
     flat_map_ext_filter (in_file t) (frame_events t (made_samples plan)) (λ k. []) (frames_of t)
     (λ k there. ap (events_of (known t k))
     (none_heard zeros width plan t k is silent tuned there))
-    ∙ flat_map-none (filter (in_file t) (frames_of t))
+    ∙ none_known (filter (in_file t) (frames_of t))
 
 by_frames : FramesComeBack → FramesAreZeros →
     (width : Width) (plan : CellPlan) (t : Tuning) (channel : Option SyncPlan) →

@@ -1,29 +1,21 @@
 -- What a handset hears in each sync frame of a clean link.
-use Rattle.clean_link.proofs.Common.{◌≡◌, ℕ, zero, suc, ◌+◌, ◌*◌, ◌^◌, ◌<◌, ◌≤◌, ◌&&◌, Bool, true, false, List, [], ◌∷◌, ◌++◌, length, map}
-use Rattle.clean_link.proofs.Common.{filter, replicate, refl, sym, ap, ◌∙◌, arith, nat_lt, nat_le, subst, Some, None, if◌then◌else◌}
-use Rattle.clean_link.proofs.Common.{mul-le-mul_left, map-map, places, places-none, places-more, CheckForm, Sample, most_samples, Width}
+use Rattle.clean_link.proofs.Common.{◌≡◌, ℕ, suc, ◌+◌, ◌*◌, ◌^◌, ◌<◌, ◌≤◌, ◌&&◌, Bool, true, false, List, [], length, map}
+use Rattle.clean_link.proofs.Common.{filter, replicate, refl, ap, ◌∙◌, arith, nat_lt, nat_le, Some, None, if◌then◌else◌}
+use Rattle.clean_link.proofs.Common.{mul-le-mul_left, map-map, places, CheckForm, Sample, most_samples, Width}
 use Rattle.clean_link.proofs.Common.{Eight, Sixteen, after, after_lt, Piece, piece, from_last_start, capsule_ending, IsSyncMessage}
 use Rattle.clean_link.proofs.Common.{sync_capsule, SyncFields, IsLawfulPlan, IsSyncPlan, message_of, told_superframes}
 use Rattle.clean_link.proofs.Common.{superframes_a_sending, sync_frame_bits, IsSendable, CellPlan, SyncPlan, length-sync, refilled_is}
 use Rattle.clean_link.proofs.Common.{superframes_few, told_early, frame_own_bits, frames_before, sync_capsule_at, heard_in, heard_at}
-use Rattle.clean_link.proofs.Common.{with_message, Tuning, sync_stream, map_ext_filter_places, filter-places-more, FramesAreZeros}
+use Rattle.clean_link.proofs.Common.{with_message, Tuning, sync_stream, map_ext_filter_places, FramesAreZeros}
 use Rattle.clean_link.proofs.Common.{FramesComeBack, IsOnPath, first_sync_frame, IsReceivable, made_samples}
 use Rattle.sync_message.proofs.Readings.{reads_capsule}
 use Rattle.clean_link.proofs.sendings.Pieces.{run, run-places, none_starts}
 use Rattle.clean_link.proofs.sendings.Capsules.{IsSentAt, piece_of, pieces_end, sending_frames}
 use Rattle.clean_link.proofs.frames.SyncTimes.{frames_begin, in_file_from, in_file_to, one_path}
 use Rattle.clean_link.proofs.sendings.Events.{in_file}
+use Rattle.clean_link.proofs.sendings.Order.{all_kept}
 
 -- ---- the pieces
-filter_all : (P : ℕ → Bool) (n : ℕ) → ((j : ℕ) → j < n → P j ≡ true) →
-    filter P (places n) ≡ places n
-filter_all P zero all = ap (filter P) places-none ∙ sym places-none
-filter_all P (suc n) all =
-    let e : n + 1 ≡ suc n = omega arith in
-    subst (λ i. filter P (places i) ≡ places i) e
-    (filter-places-more P n (all n (omega arith)) ∙
-    ap (λ ks. ks ++ n ∷ []) (filter_all P n (λ j lt. all j (omega (arith, lt)))) ∙
-    sym (places-more n))
 
 -- an earlier frame lies in the file too
 pub earlier_there : (t : Tuning) (j k : ℕ) → t.deltas ≡ one_path → j ≤ k → in_file t k ≡ true →
@@ -47,7 +39,7 @@ pieces_from t samples bits k alone there back =
     ∙ map_ext_filter_places (in_file t) (frame_own_bits t.count samples (sync_stream t)) bits
     (k + 1) (λ j lt here. back j here)
     ∙ ap (map bits)
-    (filter_all (in_file t) (k + 1)
+    (all_kept (in_file t) (k + 1)
     (λ j lt. earlier_there t j k alone (omega (arith, lt)) there)))
     ∙ map-map piece bits (places (k + 1))
     ∙ run-places (λ j. piece (bits j)) (k + 1)

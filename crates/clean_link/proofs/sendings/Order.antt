@@ -1,8 +1,9 @@
 -- What is gathered number by number comes in order.
-use Rattle.clean_link.proofs.Common.{◌≡◌, ℕ, zero, suc, ◌+◌, ◌-◌, ◌*◌, ◌<◌, ◌≤◌, ◌&&◌, ◌==◌, ◌≢◌, ⊎_elim, ◌⊎◌, Bool, true, false, cond}
-use Rattle.clean_link.proofs.Common.{List, [], ◌∷◌, ◌++◌, map, filter, refl, sym, ap, ◌∙◌, arith, nat_lt, append_assoc, flat_map, lt-ltb}
-use Rattle.clean_link.proofs.Common.{le-ltb, ne_eqb, eq-eqb, cases_order, cases_Bool, append-nil, filter-append, flat_map-append, places}
-use Rattle.clean_link.proofs.Common.{places-none, places-more, filter_none_places, flat_map-places-more}
+use Rattle.clean_link.proofs.Common.{filter_ext_places, ◌≡◌, ℕ, zero, suc, ◌+◌, ◌-◌, ◌*◌, ◌<◌, ◌≤◌, ◌&&◌, ◌==◌, ◌≢◌, ⊎_elim, ◌⊎◌, Bool}
+use Rattle.clean_link.proofs.Common.{true, false, cond, List, [], ◌∷◌, ◌++◌, map, filter, refl, sym, ap, ◌∙◌, arith, nat_lt, append_assoc}
+use Rattle.clean_link.proofs.Common.{flat_map, lt-ltb, le-ltb, ne_eqb, eq-eqb, cases_order, cases_Bool, append-nil, filter-append}
+use Rattle.clean_link.proofs.Common.{flat_map-append, places, places-none, places-more, filter_none_places}
+use Rattle.chip_core.proofs.Counted.{flat_map-next, flat_map-zero}
 
 -- ---- by key
 abbrev pub at_key : (ℕ → Bool) → (ℕ → ℕ) → ℕ → ℕ → Bool
@@ -97,12 +98,14 @@ split_key P key n (suc b) rising =
     (ends_none a c))))
     (cases_Bool (P b))
 
-flat_map-next : {X : Type 0} (f : ℕ → List X) (n : ℕ) →
-    flat_map f (places (suc n)) ≡ flat_map f (places n) ++ f n
-flat_map-next f n = let e : n + 1 ≡ suc n = omega arith in rw e at (flat_map-places-more f n)
+-- a test that all pass
+every : (xs : List ℕ) → filter (λ k. true) xs ≡ xs
+every [] = refl
+every (x ∷ xs) = ap (λ (ys : List ℕ). x ∷ ys) (every xs)
 
-flat_map-zero : {X : Type 0} (f : ℕ → List X) → flat_map f (places 0) ≡ []
-flat_map-zero f = ap (flat_map f) places-none
+pub all_kept : (p : ℕ → Bool) (n : ℕ) → ((k : ℕ) → k < n → p k ≡ true) →
+    filter p (places n) ≡ places n
+all_kept p n all = filter_ext_places p (λ k. true) n all ∙ every (places n)
 
 -- all events, number by number
 pub in_order : {X : Type 0} (P : ℕ → Bool) (key : ℕ → ℕ) (g : ℕ → List X) (b n : ℕ) →

@@ -14,16 +14,11 @@ use Rattle.clean_link.proofs.traffic.Frames.{sent_frames_back}
 use Rattle.clean_link.proofs.traffic.Signaling.{sent_messages_back}
 use Rattle.clean_link.proofs.signal.Samples.{length-made}
 use Rattle.clean_link.proofs.traffic.Undirected.{undirected_behind}
+use Rattle.clean_link.proofs.sendings.Back.{none_known}
 
 pub one_near : (t : Tuning) (plan : CellPlan) → IsOnPath plan t →
     AreNear (sync_stream t).fingers
 one_near t plan tuned = rw tuned.alone refl
-
--- numbers of samples at which nothing is known
-pub none_known : (ks : List ℕ) →
-    flat_map (λ (n : ℕ). let none : List Event = [] in none) ks ≡ []
-none_known [] = refl
-none_known (k ∷ ks) = none_known ks
 
 -- ---- the channel on a row
 

@@ -7,11 +7,11 @@ use Rattle.clean_link.proofs.Common.{R2400, R1200, codeword_bits, power_places, 
 use Rattle.clean_link.proofs.Common.{sync_capsule, IsSyncMessage, split_9600, loudness, AreLawfulBeside, IsFreeOf, IsLawfulPlan}
 use Rattle.clean_link.proofs.Common.{IsPagingPlan, IsTrafficPlan, paging_rate, IsStatedPaging, IsReceivable, frames_of, cycled_frame}
 use Rattle.clean_link.proofs.Common.{IsTrafficFrame, IsTrafficFrame2, PagingPlan, TrafficPlan, TrafficFrame, TrafficFrame2, lost_symbols}
-use Rattle.clean_link.proofs.Common.{bits_1200, bits_14400, bits_1800, bits_2400, bits_3600, bits_4800, bits_7200, bits_9600, distinct_plan}
+use Rattle.clean_link.proofs.Common.{bits_of, bits_of2, distinct_plan}
 use Rattle.clean_link.proofs.Common.{first_channel, frame2_at, frame_at, on_row, second_channel, told_message, HasMark, HasSetOne}
 use Rattle.clean_link.proofs.Common.{HasSetTwo, frame_chip, is_received, received_frames, replaced_of, AreDistinct, IsDistinctFrame}
 use Rattle.clean_link.proofs.Common.{end_chip, messages_sent, cycled_frame2, IsDistinctFrame2, signaling_sent, told_with_sync}
-use Rattle.clean_link.proofs.Common.{lost_symbols2, sharing, sharing2, codewords_giving, SharesNone, SharesNone2}
+use Rattle.clean_link.proofs.Common.{lost_symbols2, sharing, sharing2, codewords_giving}
 use Rattle.cell_plan.specs.TrafficFrames.{AreTrafficFrames, frame_count}
 use Rattle.long_code.specs.LongCode.{before}
 use Rattle.traffic_message.specs.Multiplex.{split}
@@ -124,120 +124,80 @@ places_3 =
     places_by (after (before 1 686592) 761856) 1907663947772 starts_3 (omega arith)
     (state_at 73728 1907663947772 state_3) starts_are_3
 
--- ---- frames of rate set 1
+-- ---- frames of each rate
 
--- what is true of each rate
-by_rate : (P : Rate → Type 0) → P R9600 → P R4800 → P R2400 → P R1200 → (r : Rate) → P r
-by_rate P a b c d R9600 = a
-by_rate P a b c d R4800 = b
-by_rate P a b c d R2400 = c
-by_rate P a b c d R1200 = d
+-- the places of the frame of each rate
+abbrev starts_of : Rate → List ℕ
+starts_of R9600 = starts_0
+starts_of R4800 = starts_1
+starts_of R2400 = starts_2
+starts_of R1200 = starts_3
 
--- no codeword of another rate shares the symbols of a frame
-abbrev IsApart : List ℕ → Rate → List Bool → Rate → Type 0
-IsApart found rate bits r = r ≢ rate → sharing (lost_symbols (pairs_by found)) rate bits r ≡ []
+abbrev starts_of2 : Rate2 → List ℕ
+starts_of2 R14400 = starts_0
+starts_of2 R7200 = starts_1
+starts_of2 R3600 = starts_2
+starts_of2 R1800 = starts_3
 
-abbrev IsAlone : List ℕ → Rate → List Bool → Type 0
-IsAlone found rate information =
-    SharesNone (lost_symbols (pairs_by found)) rate (traffic_codeword rate information)
+-- the codewords of rate r that share the symbols of that frame
+abbrev shared : Rate → Rate → List (List Bool)
+shared rate r =
+    sharing (lost_symbols (pairs_by (starts_of rate))) rate (traffic_codeword rate (bits_of rate)) r
 
-alone_9600 : IsAlone starts_0 R9600 bits_9600
+abbrev shared2 : Rate2 → Rate2 → List (List Bool)
+shared2 rate r =
+    sharing2 (lost_symbols2 (pairs_by (starts_of2 rate))) rate (codeword_bits rate (bits_of2 rate)) r
+
+-- its own,
+own : (rate : Rate) → shared rate rate ≡ traffic_codeword rate (bits_of rate) ∷ []
 unfolding binary places check_bits codewords_giving
-alone_9600 = record {
-  own = refl;
-  others = by_rate (IsApart starts_0 R9600 (traffic_codeword R9600 bits_9600))
-      (λ other. absurd (other refl)) (λ other. refl) (λ other. refl) (λ other. refl);
-}
+own R9600 = refl
+own rate = refl
 
-alone_4800 : IsAlone starts_1 R4800 bits_4800
+own2 : (rate : Rate2) → shared2 rate rate ≡ codeword_bits rate (bits_of2 rate) ∷ []
 unfolding binary places check_bits codewords_giving
-alone_4800 = record {
-  own = refl;
-  others = by_rate (IsApart starts_1 R4800 (traffic_codeword R4800 bits_4800))
-      (λ other. refl) (λ other. absurd (other refl)) (λ other. refl) (λ other. refl);
-}
+own2 R14400 = refl
+own2 rate = refl
 
-alone_2400 : IsAlone starts_2 R2400 bits_2400
+-- and none of another rate
+apart : (rate r : Rate) → r ≢ rate → shared rate r ≡ []
 unfolding binary places check_bits codewords_giving
-alone_2400 = record {
-  own = refl;
-  others = by_rate (IsApart starts_2 R2400 (traffic_codeword R2400 bits_2400))
-      (λ other. refl) (λ other. refl) (λ other. absurd (other refl)) (λ other. refl);
-}
+apart R9600 R9600 other = absurd (other refl)
+apart R4800 R4800 other = absurd (other refl)
+apart R2400 R2400 other = absurd (other refl)
+apart R1200 R1200 other = absurd (other refl)
+apart rate r other = refl
 
-alone_1200 : IsAlone starts_3 R1200 bits_1200
+apart2 : (rate r : Rate2) → r ≢ rate → shared2 rate r ≡ []
 unfolding binary places check_bits codewords_giving
-alone_1200 = record {
-  own = refl;
-  others = by_rate (IsApart starts_3 R1200 (traffic_codeword R1200 bits_1200))
-      (λ other. refl) (λ other. refl) (λ other. refl) (λ other. absurd (other refl));
-}
+apart2 R14400 R14400 other = absurd (other refl)
+apart2 R7200 R7200 other = absurd (other refl)
+apart2 R3600 R3600 other = absurd (other refl)
+apart2 R1800 R1800 other = absurd (other refl)
+apart2 rate r other = refl
 
--- one of them is distinct where power control bits replace these places
-distinct_at : (replaced found : List ℕ) (rate : Rate) (information : List Bool) →
-    replaced ≡ pairs_by found → IsAlone found rate information →
-    All (IsDistinctFrame replaced) (frame_at rate information ∷ [])
-distinct_at replaced found rate information are alone =
-    All-cons (IsDistinctFrame replaced) (frame_at rate information) []
-    (subst (λ (ps : List ℕ). IsDistinctFrame ps (frame_at rate information)) (sym are)
-    (distinct_by_sharing (pairs_by found) rate information alone))
-    (All-nil (IsDistinctFrame replaced))
+-- what is true of the frame of each rate is so of the one that is sent from this chip on
+one_frame : {R F : Type 0} (P : List ℕ → F → Type 0) (found : R → List ℕ) (frame : R → F) →
+    ((rate : R) → P (pairs_by (found rate)) (frame rate)) →
+    (rate : R) (chip : ℕ) → places_in chip ≡ pairs_by (found rate) →
+    All (P (places_in chip)) (frame rate ∷ [])
+one_frame P found frame each rate chip are =
+    All-cons (P (places_in chip)) (frame rate) []
+    (subst (λ (ps : List ℕ). P ps (frame rate)) (sym are) (each rate)) (All-nil (P (places_in chip)))
 
--- ---- frames of rate set 2
+distinct_at : (rate : Rate) (chip : ℕ) → places_in chip ≡ pairs_by (starts_of rate) →
+    All (IsDistinctFrame (places_in chip)) (frame_at rate ∷ [])
+distinct_at =
+    one_frame IsDistinctFrame starts_of frame_at
+    (λ rate. distinct_by_sharing (pairs_by (starts_of rate)) rate (bits_of rate)
+    (record { own = own rate; others = apart rate }))
 
-by_rate2 : (P : Rate2 → Type 0) → P R14400 → P R7200 → P R3600 → P R1800 → (r : Rate2) → P r
-by_rate2 P a b c d R14400 = a
-by_rate2 P a b c d R7200 = b
-by_rate2 P a b c d R3600 = c
-by_rate2 P a b c d R1800 = d
-
-abbrev IsApart2 : List ℕ → Rate2 → List Bool → Rate2 → Type 0
-IsApart2 found rate bits r = r ≢ rate → sharing2 (lost_symbols2 (pairs_by found)) rate bits r ≡ []
-
-abbrev IsAlone2 : List ℕ → Rate2 → List Bool → Type 0
-IsAlone2 found rate information =
-    SharesNone2 (lost_symbols2 (pairs_by found)) rate (codeword_bits rate information)
-
-alone_14400 : IsAlone2 starts_0 R14400 bits_14400
-unfolding binary places check_bits codewords_giving
-alone_14400 = record {
-  own = refl;
-  others = by_rate2 (IsApart2 starts_0 R14400 (codeword_bits R14400 bits_14400))
-      (λ other. absurd (other refl)) (λ other. refl) (λ other. refl) (λ other. refl);
-}
-
-alone_7200 : IsAlone2 starts_1 R7200 bits_7200
-unfolding binary places check_bits codewords_giving
-alone_7200 = record {
-  own = refl;
-  others = by_rate2 (IsApart2 starts_1 R7200 (codeword_bits R7200 bits_7200))
-      (λ other. refl) (λ other. absurd (other refl)) (λ other. refl) (λ other. refl);
-}
-
-alone_3600 : IsAlone2 starts_2 R3600 bits_3600
-unfolding binary places check_bits codewords_giving
-alone_3600 = record {
-  own = refl;
-  others = by_rate2 (IsApart2 starts_2 R3600 (codeword_bits R3600 bits_3600))
-      (λ other. refl) (λ other. refl) (λ other. absurd (other refl)) (λ other. refl);
-}
-
-alone_1800 : IsAlone2 starts_3 R1800 bits_1800
-unfolding binary places check_bits codewords_giving
-alone_1800 = record {
-  own = refl;
-  others = by_rate2 (IsApart2 starts_3 R1800 (codeword_bits R1800 bits_1800))
-      (λ other. refl) (λ other. refl) (λ other. refl) (λ other. absurd (other refl));
-}
-
-distinct2_at : (replaced found : List ℕ) (rate : Rate2) (information : List Bool) →
-    replaced ≡ pairs_by found → IsAlone2 found rate information →
-    All (IsDistinctFrame2 replaced) (frame2_at rate information ∷ [])
-distinct2_at replaced found rate information are alone =
-    All-cons (IsDistinctFrame2 replaced) (frame2_at rate information) []
-    (subst (λ (ps : List ℕ). IsDistinctFrame2 ps (frame2_at rate information)) (sym are)
-    (distinct_by_sharing2 (pairs_by found) rate information alone))
-    (All-nil (IsDistinctFrame2 replaced))
+distinct2_at : (rate : Rate2) (chip : ℕ) → places_in chip ≡ pairs_by (starts_of2 rate) →
+    All (IsDistinctFrame2 (places_in chip)) (frame2_at rate ∷ [])
+distinct2_at =
+    one_frame IsDistinctFrame2 starts_of2 frame2_at
+    (λ rate. distinct_by_sharing2 (pairs_by (starts_of2 rate)) rate (bits_of2 rate)
+    (record { own = own2 rate; others = apart2 rate }))
 
 -- ---- which frames are received
 
@@ -275,10 +235,10 @@ distinct_one =
     received_four first_channel refl
     (λ frame. All (IsDistinctFrame (replaced_of distinct_plan first_channel frame))
     (cycled_frame (frames_of distinct_plan first_channel) frame))
-    (distinct_at (places_in 688128) starts_0 R9600 bits_9600 places_0 alone_9600)
-    (distinct_at (places_in 712704) starts_1 R4800 bits_4800 places_1 alone_4800)
-    (distinct_at (places_in 737280) starts_2 R2400 bits_2400 places_2 alone_2400)
-    (distinct_at (places_in 761856) starts_3 R1200 bits_1200 places_3 alone_1200)
+    (distinct_at R9600 688128 places_0)
+    (distinct_at R4800 712704 places_1)
+    (distinct_at R2400 737280 places_2)
+    (distinct_at R1200 761856 places_3)
 
 distinct_two : (frame : ℕ) → is_received distinct_plan second_channel 688128 frame ≡ true →
     All (IsDistinctFrame2 (replaced_of distinct_plan second_channel frame))
@@ -287,10 +247,10 @@ distinct_two =
     received_four second_channel refl
     (λ frame. All (IsDistinctFrame2 (replaced_of distinct_plan second_channel frame))
     (cycled_frame2 (frames_of distinct_plan second_channel) frame))
-    (distinct2_at (places_in 688128) starts_0 R14400 bits_14400 places_0 alone_14400)
-    (distinct2_at (places_in 712704) starts_1 R7200 bits_7200 places_1 alone_7200)
-    (distinct2_at (places_in 737280) starts_2 R3600 bits_3600 places_2 alone_3600)
-    (distinct2_at (places_in 761856) starts_3 R1800 bits_1800 places_3 alone_1800)
+    (distinct2_at R14400 688128 places_0)
+    (distinct2_at R7200 712704 places_1)
+    (distinct2_at R3600 737280 places_2)
+    (distinct2_at R1800 761856 places_3)
 
 -- ---- the cell
 
@@ -324,14 +284,14 @@ all_four P a b c d is_a is_b is_c is_d =
 sized_one : All IsTrafficFrame (set_one first_channel.frames)
 unfolding binary
 sized_one =
-    all_four IsTrafficFrame (frame_at R9600 bits_9600) (frame_at R4800 bits_4800)
-    (frame_at R2400 bits_2400) (frame_at R1200 bits_1200) refl refl refl refl
+    all_four IsTrafficFrame (frame_at R9600) (frame_at R4800)
+    (frame_at R2400) (frame_at R1200) refl refl refl refl
 
 sized_two : All IsTrafficFrame2 (set_two second_channel.frames)
 unfolding binary
 sized_two =
-    all_four IsTrafficFrame2 (frame2_at R14400 bits_14400) (frame2_at R7200 bits_7200)
-    (frame2_at R3600 bits_3600) (frame2_at R1800 bits_1800) refl refl refl refl
+    all_four IsTrafficFrame2 (frame2_at R14400) (frame2_at R7200)
+    (frame2_at R3600) (frame2_at R1800) refl refl refl refl
 
 channel_lawful : (row : ℕ) (frames : FrameList) → 8 ≤ row → row ≤ 9 → 1 ≤ frame_count frames →
     AreTrafficFrames frames → IsTrafficPlan (channel_on row frames)

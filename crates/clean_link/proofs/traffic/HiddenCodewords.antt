@@ -17,6 +17,11 @@ get_or_add (x ∷ xs) [] i h = absurd (omega (arith, h))
 get_or_add (x ∷ xs) (y ∷ ys) zero h = refl
 get_or_add (x ∷ xs) (y ∷ ys) (suc i) h = get_or_add xs ys i (omega (arith, h))
 
+-- what is true of both bits
+pub either_bit : (on : Bool → Bool) (b : Bool) → on false ≡ true → on true ≡ true → on b ≡ true
+either_bit on true h k = k
+either_bit on false h k = h
+
 -- four bits may be added up in either order
 crossed : (a b p q : Bool) → xor (xor a b) (xor p q) ≡ xor (xor a p) (xor b q)
 crossed true true true true = refl
@@ -201,10 +206,6 @@ apart_ends lost (suc n) j eight (bit ∷ bits) long size apart are =
     ap (list_any (λ b. b)) (state_after-append eight (bit ∷ []) bits)
     ∙ apart_ends lost n (j + 1) (state_after eight (bit ∷ [])) bits (next_long eight bit long)
     (omega (arith, size)) rest (hidden_next lost j eight bit bits long are)
-  where
-    either_bit : (on : Bool → Bool) (b : Bool) → on false ≡ true → on true ≡ true → on b ≡ true
-    either_bit on true h k = k
-    either_bit on false h k = h
 
 -- so hidden bits behind zeros that end in zeros are zeros
 pub hidden_none : (lost : List ℕ) (j : ℕ) (bits : List Bool) → j + length bits ≡ 192 →

@@ -1,11 +1,11 @@
 -- The codeword of a distinct frame alone has the greatest score.
-use Rattle.clean_link.proofs.Common.{◌≡◌, ℕ, ◌-◌, ◌*◌, ◌<◌, Bool, true, false, List, ◌++◌, length, get_or, drop, replicate, refl, sym, ap}
-use Rattle.clean_link.proofs.Common.{◌∙◌, arith, ⊎_elim, ℤ, pos, subst, length-append, ◌≤ℤ◌, ◌<ℤ◌, ◌*ℤ◌, if◌then◌else◌, int_lt, ints}
-use Rattle.clean_link.proofs.Common.{cases_Bool, drop_at, ext_get_or, sign, code_symbols, quality_indicator, information_of, quality_of}
+use Rattle.clean_link.proofs.Common.{◌≡◌, ℕ, ◌-◌, ◌*◌, ◌<◌, Bool, true, false, List, ◌++◌, length, drop, replicate, refl, sym, ap}
+use Rattle.clean_link.proofs.Common.{◌∙◌, arith, ⊎_elim, ℤ, pos, subst, length-append, ◌≤ℤ◌, ◌<ℤ◌, int_lt}
+use Rattle.clean_link.proofs.Common.{cases_Bool, drop_at, code_symbols, quality_indicator, information_of, quality_of}
 use Rattle.clean_link.proofs.Common.{repeats_of, traffic_codeword, Rate, R9600, codeword_fills, data_shape, Rate2, length-sent}
 use Rattle.clean_link.proofs.Common.{length-sent2, length-codeword_bits, IsAllowed, Codeword, correlation, Zero, frame_codeword}
 use Rattle.clean_link.proofs.Common.{AgreeElsewhere, IsUnshared, ShowSymbols, frame_bits, frame_symbols, is_replaced, unreplaced, alone}
-use Rattle.clean_link.proofs.Common.{get_or-masked, length-masked, masked, own_score, weight, get_or-unreplaced, length-unreplaced, Data}
+use Rattle.clean_link.proofs.Common.{masked, own_score, weight, Data}
 use Rattle.clean_link.proofs.Common.{made_samples, frame_softs, replaced_in, stream_of, soft_strength, replaced_of, HeardAreTheOnlyBest}
 use Rattle.clean_link.proofs.Common.{IsOnlyBestFrame, IsOnlyBestFrame2, ReceivedAreTheOnlyBest, SetTwoAreTheOnlyBest}
 use Rattle.clean_link.proofs.traffic.Frames.{sized}
@@ -14,34 +14,9 @@ use Rattle.symbol_path.specs.FramesTwo as codewords_two
 use Rattle.symbol_path.specs.RatesTwo as rates_two
 use Rattle.rate_set_two.specs.Laws as laws_two
 use Rattle.rate_set_two.specs.TrafficFrames as second
+use Rattle.frame_decoder.proofs.ShownSymbols.{kept_is, lt_of_true, le_of_false}
 
 -- ---- any symbols
-
-shown_at : (b : Bool) (x y : ℤ) → (b ≡ false → x ≡ y) →
-    (if b then pos 0 else x) ≡ (if b then pos 0 else y)
-shown_at true x y h = refl
-shown_at false x y h = h refl
-
--- soft values that show symbols, with 0 at the replaced places
-masked_is : (n : ℕ) (replaced : List ℕ) (xs : List Bool) (softs : List ℤ) →
-    length softs ≡ 384 → length xs ≡ 384 → ShowSymbols replaced n xs softs →
-    unreplaced replaced softs ≡ masked n (is_replaced replaced) 0 xs
-masked_is n replaced xs softs long size shows =
-    let out = is_replaced replaced in
-    let all : length (unreplaced replaced softs) ≡ 384 = length-unreplaced replaced softs ∙ long in
-    ext_get_or (pos 0) (unreplaced replaced softs) (masked n out 0 xs)
-    (all ∙ sym (length-masked n out 0 xs ∙ size))
-    (λ i lt.
-    let low : i < 384 = omega (arith, lt, all) in
-    get_or-unreplaced replaced softs i (omega (arith, low, long))
-    ∙ shown_at (out i) (get_or softs i (pos 0)) (pos n *ℤ sign (get_or xs i false)) (shows i low)
-    ∙ sym (get_or-masked n out xs i (omega (arith, low, size))))
-
-lt_of_true : (x y : ℤ) → int_lt x y ≡ true → x <ℤ y
-lt_of_true x y e = grind (arith, ints, e)
-
-le_of_false : (x y : ℤ) → int_lt x y ≡ false → y ≤ℤ x
-le_of_false x y e = grind (arith, ints, e)
 
 -- agree less with others that differ from them at the other places
 others_less : (n : ℕ) (replaced : List ℕ) (xs ys : List Bool) (softs : List ℤ) → 0 < n →
@@ -64,7 +39,7 @@ others_less n replaced xs ys softs some long size size' shows apart =
     alone n out xs ys some (size ∙ sym size') reaches i (omega (arith, lt, size)) h)))
     (cases_Bool (int_lt (correlation kept ys) (correlation kept xs))) in
     subst (λ (zs : List ℤ). correlation zs ys <ℤ correlation zs xs)
-    (sym (masked_is n replaced xs softs long size shows)) less
+    (sym (kept_is n replaced xs softs long size shows)) less
 
 -- ---- codewords
 

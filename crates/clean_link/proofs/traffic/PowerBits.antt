@@ -1,6 +1,6 @@
 -- The power control bits of the frames of a traffic channel come back.
 use Rattle.clean_link.proofs.Common.{◌≡◌, ℕ, zero, suc, ◌+◌, ◌*◌, ◌/◌, ◌<◌, Bool, true, false, not, List, [], ◌∷◌, length, map, get_or}
-use Rattle.clean_link.proofs.Common.{refl, sym, ap, ◌∙◌, arith, ℤ, nat_eq, negsuc, pos, ◌*ℤ◌, ◌+ℤ◌, ◌<ℤ◌, ◌≤ℤ◌, ◌&&◌, int_lt, neg_ℤ}
+use Rattle.clean_link.proofs.Common.{refl, sym, ap, ◌∙◌, arith, ℤ, nat_eq, negsuc, pos, ◌*ℤ◌, ◌+ℤ◌, ◌&&◌, int_lt, neg_ℤ}
 use Rattle.clean_link.proofs.Common.{flat_map, range_with_len, eq-eqb, ints, list_any_at, places, sign, get_or-map-places, map-places-all}
 use Rattle.clean_link.proofs.Common.{traffic_mask, power_place, power_places, power_place_in_groups, pairs_below, pairs_in_groups}
 use Rattle.clean_link.proofs.Common.{pairs_neighbours, ArePairs, power_bit, group_sum, group_sums, is_replaced, Data, made_samples}
@@ -8,6 +8,7 @@ use Rattle.clean_link.proofs.Common.{map_ext_places, power_bits_at, raw_softs, f
 use Rattle.clean_link.proofs.Common.{PowerBitsComeBack, SixteenPowerBitsAreSent}
 use Rattle.clean_link.proofs.traffic.OnePilot.{one_sums}
 use Rattle.clean_link.proofs.traffic.Signs.{heard_powered, heard_shown}
+use Rattle.frame_decoder.proofs.ShownSymbols.{le_false, lt_true}
 
 -- ---- the places of power control bits
 
@@ -92,18 +93,12 @@ pair_at state mask g below =
 
 -- ---- a bit is heard as it was sent
 
-below_none : (x y : ℤ) → y ≤ℤ x → int_lt x y ≡ false
-below_none x y h = grind (arith, ints, h)
-
-above_none : (x y : ℤ) → x <ℤ y → int_lt x y ≡ true
-above_none x y h = grind (arith, ints, h)
-
 -- two soft values below 0, and two above it
 heard_down : (n : ℕ) (z : ℤ) → 0 < n → z ≡ neg_ℤ (pos n) → int_lt (pos 0) (z +ℤ z) ≡ false
-heard_down n z some is = below_none (pos 0) (z +ℤ z) (omega (arith, ints, some, is))
+heard_down n z some is = le_false (pos 0) (z +ℤ z) (omega (arith, ints, some, is))
 
 heard_up : (n : ℕ) (z : ℤ) → 0 < n → z ≡ pos n → int_lt (pos 0) (z +ℤ z) ≡ true
-heard_up n z some is = above_none (pos 0) (z +ℤ z) (omega (arith, ints, some, is))
+heard_up n z some is = lt_true (pos 0) (z +ℤ z) (omega (arith, ints, some, is))
 
 -- two of the sign of a bit
 heard_bit : (n : ℕ) (b : Bool) → 0 < n →

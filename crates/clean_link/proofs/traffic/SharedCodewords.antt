@@ -4,7 +4,7 @@ use Rattle.clean_link.proofs.Common.{length, get_or, map, drop, replicate, refl,
 use Rattle.clean_link.proofs.Common.{list_all, list_any, range_with_len, booleans_Decides, pointwise, pointwise_decides, beq, and_from}
 use Rattle.clean_link.proofs.Common.{and_parts, list_all-append, list_all-map, code_symbols, g0, g1, state_after, symbol, before, behind}
 use Rattle.clean_link.proofs.Common.{pair, state_after-append, state_after-none, symbols_at, gives, codewords_giving}
-use Rattle.clean_link.proofs.traffic.HiddenCodewords.{all_kept, first_of, left_over, next_long, second_of}
+use Rattle.clean_link.proofs.traffic.HiddenCodewords.{all_kept, either_bit, first_of, left_over, next_long, second_of}
 
 -- ---- codewords that give what is shown
 
@@ -67,10 +67,6 @@ all_joined p f [] = refl
 all_joined p f (x ∷ xs) =
     list_all-append p (f x) (flat_map f xs)
     ∙ ap (λ (b : Bool). list_all p (f x) && b) (all_joined p f xs)
-
-either_bit : (on : Bool → Bool) (b : Bool) → on false ≡ true → on true ≡ true → on b ≡ true
-either_bit on true h k = k
-either_bit on false h k = h
 
 -- the last of nine bits
 ninth : (eight : List Bool) (bit : Bool) → length eight ≡ 8 → get_or (eight ++ bit ∷ []) 8 false ≡ bit

@@ -11,6 +11,7 @@ use Rattle.clean_link.proofs.traffic.KeptSymbols.{kept_agree}
 use Rattle.clean_link.proofs.traffic.SharedCodewords.{agreeing_give, given_none, given_one, AreGiving}
 use Rattle.symbol_path.specs.RatesTwo as rates_two
 use Rattle.rate_set_two.specs.TrafficFrames as frames_two
+use Rattle.frame_decoder.proofs.RateCodewords.{bits_least}
 
 -- ---- codewords that end in zeros
 
@@ -61,10 +62,6 @@ copies_of : (rate : Rate) (c k : ℕ) → c < 2 * frame_bits rate → repeats_of
 copies_of R9600 c k low least most = (omega (arith, low, least, most), omega (arith, least, most))
 copies_of rate c k low least most = (omega (arith, low, least, most), omega (arith, least, most))
 
-enough_bits : (rate : Rate) → 8 ≤ frame_bits rate
-enough_bits R9600 = omega arith
-enough_bits rate = omega arith
-
 -- whether two rates are one
 same_rate : (r s : Rate) → (r ≡ s) ⊎ (r ≢ s)
 same_rate R9600 R9600 = inl refl
@@ -97,7 +94,7 @@ distinct_by_sharing replaced rate information none r v allowed agree =
     (λ (q : Rate). shown_of (is_kept (lost_symbols replaced))
     (code_symbols (replicate 8 false) (traffic_codeword rate information)) (repeats_of rate)
     (repeats_of q)) frame_bits rate r (traffic_codeword rate information) v
-    (frame_codeword rate information) (same_rate r rate) (enough_bits r) allowed
+    (frame_codeword rate information) (same_rate r rate) (bits_least r) allowed
     (giving_codeword replaced rate r information v allowed agree) none.own none.others
     (λ same. codewords_same v (frame_codeword rate information) allowed.begins (sym same))
 
