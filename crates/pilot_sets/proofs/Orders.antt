@@ -1,13 +1,13 @@
 -- What keeps the sets in order.
-use Rattle.pilot_sets.proofs.Common.{◌≡◌, ◌<◌, ◌≤◌, ◌+◌, ◌-◌, ℕ, Bool, true, false, not, cond, List, [], ◌∷◌, ◌++◌}
-use Rattle.pilot_sets.proofs.Common.{length, map, filter, nat_eq, nat_lt, Some, None, refl, ap, sym, ◌∙◌, subst, arith, length-map, map-append}
-use Rattle.pilot_sets.proofs.Common.{ltb-false, All-nil, All-cons, All, has, lacks, without, firsts, active_pilots, candidate_pilots}
-use Rattle.pilot_sets.proofs.Common.{timed_pilots, pilots, pilots_of_actives, pilots_of_candidates, new_sets, neighbors_heard}
-use Rattle.pilot_sets.proofs.Common.{thresholds_heard, IsDirection, direction_fault, named_pilots, accepted_of, is_expired, pilots_named}
-use Rattle.pilot_sets.proofs.Common.{actives_without, next_subchannel, actives_after, fresh, left, all_left, cleared, handed_off}
-use Rattle.pilot_sets.proofs.Common.{active_timed, candidate_timed, timed, goes, stays, pilots_going, expired_moved, rises, rising, risen}
-use Rattle.pilot_sets.proofs.Common.{measured, times, times_in, places_for, IsOnceEach, IsActiveSet, IsActiveSetIfAny, IsOrderly}
-use Rattle.pilot_sets.proofs.Common.{DirectionFields, Thresholds, ActivePilot, CandidatePilot, NamedPilot, Accepted, PilotSets}
+use Rattle.pilot_sets.proofs.Common.{◌≡◌, ◌<◌, ◌≤◌, ◌+◌, ◌-◌, ℕ, Bool, true, false, not, cond, List, [], ◌∷◌, ◌++◌, length, map, filter}
+use Rattle.pilot_sets.proofs.Common.{nat_eq, nat_lt, Some, None, refl, ap, sym, ◌∙◌, subst, arith, length-map, map-append, ltb-false}
+use Rattle.pilot_sets.proofs.Common.{All-nil, All-cons, All, has, lacks, without, firsts, active_pilots, candidate_pilots, timed_pilots}
+use Rattle.pilot_sets.proofs.Common.{pilots, pilots_of_actives, pilots_of_candidates, new_sets, neighbors_heard, thresholds_heard}
+use Rattle.pilot_sets.proofs.Common.{IsDirection, direction_fault, named_pilots, accepted_of, is_expired, pilots_named, actives_without}
+use Rattle.pilot_sets.proofs.Common.{next_subchannel, actives_after, fresh, left, all_left, cleared, handed_off, active_timed}
+use Rattle.pilot_sets.proofs.Common.{candidate_timed, timed, goes, stays, pilots_going, expired_moved, rises, rising, risen, measured}
+use Rattle.pilot_sets.proofs.Common.{times, times_in, places_for, IsOnceEach, IsActiveSet, IsActiveSetIfAny, IsOrderly, DirectionFields}
+use Rattle.pilot_sets.proofs.Common.{Thresholds, ActivePilot, CandidatePilot, NamedPilot, Accepted, PilotSets}
 use Rattle.pilot_sets.proofs.Refusals.{accepted_few, accepted_known, accepted_once}
 use Rattle.pilot_sets.proofs.Steps.{left_is}
 use Rattle.pilot_sets.proofs.Rows.{one_row, named_rows, rows_after, timed_rows}

@@ -1,13 +1,12 @@
 -- Which timers run behind a call.
-use Rattle.pilot_sets.proofs.Common.{◌≡◌, ℕ, Bool, true, false, cond, if◌then◌else◌, ◌||◌, ◌⊎◌, ⊎_elim, inl, inr, List, [], ◌∷◌}
-use Rattle.pilot_sets.proofs.Common.{◌++◌, map, filter, nat_eq, Option, Some, None, unwrap_or, refl, ap, sym, ◌∙◌, eqb-true, map-append, subst}
-use Rattle.pilot_sets.proofs.Common.{eq-eqb, list_any-append, has, lacks, active_pilots, candidate_pilots, timed_pilots}
-use Rattle.pilot_sets.proofs.Common.{is_strong}
-use Rattle.pilot_sets.proofs.Common.{timer_after, pilots_named, actives_without, timer_of, next_subchannel, actives_after, fresh, left}
-use Rattle.pilot_sets.proofs.Common.{all_left, cleared, handed_off, energy_in, active_timed, candidate_timed, timed, stays, dropped}
-use Rattle.pilot_sets.proofs.Common.{moving_up, measured, Standing, began_in, due_for, Call, after, active_timers}
-use Rattle.pilot_sets.proofs.Common.{candidate_timers, IsAmong, RunsSince, Starts, Parameters, Neighbors, Direct, Due, Step}
-use Rattle.pilot_sets.proofs.Common.{ActivePilot, CandidatePilot, NamedPilot, Accepted, PilotSets}
+use Rattle.pilot_sets.proofs.Common.{◌≡◌, ℕ, Bool, true, false, cond, if◌then◌else◌, ◌||◌, ◌⊎◌, ⊎_elim, inl, inr, List, [], ◌∷◌, ◌++◌, map}
+use Rattle.pilot_sets.proofs.Common.{filter, nat_eq, Option, Some, None, unwrap_or, refl, ap, sym, ◌∙◌, eqb-true, map-append, subst, eq-eqb}
+use Rattle.pilot_sets.proofs.Common.{list_any-append, has, lacks, active_pilots, candidate_pilots, timed_pilots, is_strong, timer_after}
+use Rattle.pilot_sets.proofs.Common.{pilots_named, actives_without, timer_of, next_subchannel, actives_after, fresh, left, all_left}
+use Rattle.pilot_sets.proofs.Common.{cleared, handed_off, energy_in, active_timed, candidate_timed, timed, stays, dropped, moving_up}
+use Rattle.pilot_sets.proofs.Common.{measured, Standing, began_in, due_for, Call, after, active_timers, candidate_timers, IsAmong}
+use Rattle.pilot_sets.proofs.Common.{RunsSince, Starts, Parameters, Neighbors, Direct, Due, Step, ActivePilot, CandidatePilot, NamedPilot}
+use Rattle.pilot_sets.proofs.Common.{Accepted, PilotSets}
 use Rattle.pilot_sets.proofs.Refusals.{some_none}
 use Rattle.pilot_sets.proofs.Steps.{left_is, due_is, directed_is}
 
