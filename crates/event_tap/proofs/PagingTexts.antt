@@ -24,13 +24,13 @@ neighbor_texts-at (config ∷ configs) (pn ∷ pns) zero a b = refl
 neighbor_texts-at (config ∷ configs) (pn ∷ pns) (suc i) a b =
     neighbor_texts-at configs pns i (omega (arith, a)) (omega (arith, b))
 
-pub length-neighbor_texts : (configs pns : List ℕ) → length configs ≡ length pns →
+pub long_neighbor_texts : (configs pns : List ℕ) → length configs ≡ length pns →
     length (neighbor_texts configs pns) ≡ length configs
 unfolding neighbor_texts
-length-neighbor_texts [] pns paired = refl
-length-neighbor_texts (config ∷ configs) [] paired = absurd (omega (arith, paired))
-length-neighbor_texts (config ∷ configs) (pn ∷ pns) paired =
-    ap suc (length-neighbor_texts configs pns (omega (arith, paired)))
+long_neighbor_texts [] pns paired = refl
+long_neighbor_texts (config ∷ configs) [] paired = absurd (omega (arith, paired))
+long_neighbor_texts (config ∷ configs) (pn ∷ pns) paired =
+    ap suc (long_neighbor_texts configs pns (omega (arith, paired)))
 
 -- what is known of a neighbor: how long its parts are, and its text
 pub record NeighborAt (m : NeighborFields) (i config pn : ℕ) : Type 0 where
@@ -55,16 +55,16 @@ neighbor_at m i config pn is a b =
     }
 
 -- a message has at most 93 neighbors
-pub neighbors-most : (m : NeighborFields) → IsNeighborList m → length m.configs ≤ 93
-neighbors-most m is = omega (arith, few_neighbors m is)
+pub most_neighbors : (m : NeighborFields) → IsNeighborList m → length m.configs ≤ 93
+most_neighbors m is = omega (arith, few_neighbors m is)
 
 -- a message has at most 102 frequencies
-pub freqs-most : (m : ChannelFields) → IsChannelList m → length m.freqs ≤ 102
-freqs-most m is = omega (arith, few_channels m is)
+pub most_freqs : (m : ChannelFields) → IsChannelList m → length m.freqs ≤ 102
+most_freqs m is = omega (arith, few_channels m is)
 
 -- they have at most four digits
-pub freqs-few : (m : ChannelFields) → IsChannelList m → All (λ n. n < 10 ^ 4) m.freqs
-freqs-few m is k d within =
+pub small_freqs : (m : ChannelFields) → IsChannelList m → All (λ n. n < 10 ^ 4) m.freqs
+small_freqs m is k d within =
     omega (arith, fields-below 11 m.freqs is.spelled.fits.1.1.1 k d within)
 
 -- the parts of the line

@@ -31,14 +31,14 @@ record_texts-at (pn ∷ pns) (row ∷ rows) (comb ∷ combs) zero a b c = refl
 record_texts-at (pn ∷ pns) (row ∷ rows) (comb ∷ combs) (suc i) a b c =
     record_texts-at pns rows combs i (omega (arith, a)) (omega (arith, b)) (omega (arith, c))
 
-pub length-record_texts : (pns rows combs : List ℕ) → length rows ≡ length pns →
+pub long_record_texts : (pns rows combs : List ℕ) → length rows ≡ length pns →
     length combs ≡ length pns → length (record_texts pns rows combs) ≡ length pns
 unfolding record_texts
-length-record_texts [] rows combs a b = refl
-length-record_texts (pn ∷ pns) [] combs a b = absurd (omega (arith, a))
-length-record_texts (pn ∷ pns) (row ∷ rows) [] a b = absurd (omega (arith, b))
-length-record_texts (pn ∷ pns) (row ∷ rows) (comb ∷ combs) a b =
-    ap suc (length-record_texts pns rows combs (omega (arith, a)) (omega (arith, b)))
+long_record_texts [] rows combs a b = refl
+long_record_texts (pn ∷ pns) [] combs a b = absurd (omega (arith, a))
+long_record_texts (pn ∷ pns) (row ∷ rows) [] a b = absurd (omega (arith, b))
+long_record_texts (pn ∷ pns) (row ∷ rows) (comb ∷ combs) a b =
+    ap suc (long_record_texts pns rows combs (omega (arith, a)) (omega (arith, b)))
 
 -- what is known of a record: how long its parts are, and its text
 pub record RecordAt (m : DirectionFields) (i pn row comb : ℕ) : Type 0 where
@@ -69,9 +69,9 @@ record_at m i pn row comb is a b c =
     }
 
 -- a message has at most 62 records
-pub records-most : (m : Message) (d : DirectionFields) → IsTrafficMessage m →
+pub most_records : (m : Message) (d : DirectionFields) → IsTrafficMessage m →
     m.body ≡ Handoff d → length d.pns ≤ 62
-records-most m d is body =
+most_records m d is body =
     let says = (subst (IsOfKind m.head) body is.says).1 in
     omega (
       arith,
@@ -84,8 +84,8 @@ records-most m d is body =
     )
 
 -- the offsets of neighbors have at most four digits
-pub pilots-few : (m : UpdateFields) → IsNeighborUpdate m → All (λ n. n < 10 ^ 4) m.pns
-pilots-few m is k d within = omega (arith, fields-below 9 m.pns is.fits.1 k d within)
+pub small_pilots : (m : UpdateFields) → IsNeighborUpdate m → All (λ n. n < 10 ^ 4) m.pns
+small_pilots m is k d within = omega (arith, fields-below 9 m.pns is.fits.1 k d within)
 
 -- the parts of the line
 pub in_traffic_parts : (m fields : InTrafficFields) (values before worded valued ended : List ℕ) →

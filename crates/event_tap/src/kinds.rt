@@ -59,6 +59,7 @@ impl<const FORM: u8> Tap for FormTap<FORM> {
 
 /// Makes the text the line that a form has for the event, or empty where it has none; answers how
 /// many of `left` events are left to hear behind it.
+#[tactic(auto, using(crate::proofs::Forms::plain_told))]
 fn hear_in(form: u8, left: u32, event: &Event, out: &mut Text) -> u32
     requires form { form ≤ 3 }
     requires some { 1 ≤ left }

@@ -63,6 +63,7 @@ pub(crate) fn append_few_rest(text: &mut Text, rest: &Bits)
 }
 
 /// Adds the text of at most 56 bits, where the text is known to have room for that of 56.
+#[tactic(auto, using(crate::proofs::PartTexts::few_alone))]
 pub(crate) fn append_few_bits(text: &mut Text, bits: &Bits)
     requires few { length bits.now ≤ 56 }
     requires room { length text.old + 17 ≤ 1024 }
