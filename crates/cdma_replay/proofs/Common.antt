@@ -166,9 +166,9 @@ pub use Rattle.cdma_replay.specs.CleanLinks.{WritesEach}
 pub use Rattle.cdma_replay.specs.Find.{BeginsFile, IsEnd, IsFault, IsFaultIn, IsHeaderFault, IsLaterFault, IsOfFiles, IsRestFault}
 pub use Rattle.cdma_replay.specs.Find.{IsSearchable, PassesSamples, TakesNoMore, TakesSpan, WritesNoMore, WritesText, ended, file_end}
 pub use Rattle.cdma_replay.specs.Find.{most_taken}
-pub use Rattle.cdma_replay.specs.Hearing.{AreNearTo, AreReady, BeginsBehind, ByFrames, ByTaps, HasRoom, HasRoomFor, HasTold, HearsPart}
-pub use Rattle.cdma_replay.specs.Hearing.{HearsRest, IsFresh, IsUnheard, Listening, Listens, Nobody, Tells, TellsMore, TellsPart, clean_end}
-pub use Rattle.cdma_replay.specs.Hearing.{end_when, first_text, is_told, listening, tuning_for, waiting}
+pub use Rattle.cdma_replay.specs.Hearing.{AreNearTo, AreReady, BeginsBehind, ByFrames, ByTaps, GivesAll, HasRoom, HasRoomFor, HasTold}
+pub use Rattle.cdma_replay.specs.Hearing.{HearsPart, HearsRest, IsFresh, IsUnheard, Listening, Listens, Nobody, Tells, TellsMore}
+pub use Rattle.cdma_replay.specs.Hearing.{TellsPart, clean_end, end_when, first_text, is_told, listening, tuning_for, waiting}
 unfoldable pub use Rattle.cdma_replay.specs.Hearing.{best_pilot, clean_events, file_end_of, file_text, told}
 pub use Rattle.cdma_replay.specs.Make.{WritesMadeFile, WritesNoMoreMade, piece_bytes}
 unfoldable pub use Rattle.cdma_replay.specs.Make.{made_file}

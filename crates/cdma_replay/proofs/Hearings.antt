@@ -1,7 +1,7 @@
 -- Lemmas on a handset whose events are told to a sink.
 use Rattle.cdma_replay.proofs.Common.{◌≡◌, ℕ, zero, suc, ◌+◌, ◌-◌, ◌≤◌, ◌++◌, ◌∷◌, [], List, length, take, drop, refl, sym, ap, ◌∙◌, subst}
 use Rattle.cdma_replay.proofs.Common.{arith, append_assoc, append-nil, length-append, true, ℤ, pos, replicate, Option, None, Some, Result}
-use Rattle.cdma_replay.proofs.Common.{Ok, Err, IfOk, OnOk, length-replicate, take_all, take_at, take_rest, flat_map-append, flat_map}
+use Rattle.cdma_replay.proofs.Common.{Ok, Err, OnOk, length-replicate, take_all, take_at, take_rest, flat_map-append, flat_map}
 use Rattle.cdma_replay.proofs.Common.{range_with_len, StartsWith, Appends, Appends-nil, Appends-trans, places, places-more}
 use Rattle.cdma_replay.proofs.Common.{flat_map_ext_places, Sample, AppendsPrefix, events, events_at, heard_within, listed, ForSome, Traffic}
 use Rattle.cdma_replay.proofs.Common.{IsLawfulTraffic, IsSoundAssignment, AreNear, low_of, IsStep, StandsFor, Steps, events_left, has_room}
@@ -11,8 +11,9 @@ use Rattle.cdma_replay.proofs.Common.{run_text-more, run_text-none, begins_more,
 use Rattle.cdma_replay.proofs.Common.{ListensTuned, TellsTuned, TellsTunedPart, tuned_room, stands_near, text_of_nothing, TunedListener}
 use Rattle.cdma_replay.proofs.Common.{TunedText, HandsetOptions, events_sooner, timed_of, Header, IsBestIn, near_deltas, Near, Best}
 use Rattle.cdma_replay.proofs.Common.{best_energy-only, best_phase-only, Settings, AreNearTo, AreReady, BeginsBehind, ByFrames, ByTaps}
-use Rattle.cdma_replay.proofs.Common.{HasRoom, HasRoomFor, HasTold, IsFresh, Listening, Listens, Nobody, Tells, TellsMore, TellsPart}
-use Rattle.cdma_replay.proofs.Common.{is_told, told, tuning_for, Listener, heard_none}
+use Rattle.cdma_replay.proofs.Common.{HasRoom, HasRoomFor, HasTold, IsFresh, Listening, Listens, Nobody, GivesAll, Tells, TellsMore}
+use Rattle.cdma_replay.proofs.Common.{TellsPart, is_told, told, tuning_for, Listener, heard_none}
+use Rattle.std.proofs.Common.{Box, Global}
 use Rattle.std.proofs.lemmas.List.{take-append-drop}
 use Rattle.pilot_search.specs.Search.{best_phase, energy as energy_at}
 use Rattle.cdma_replay.specs.declared.listener.Listener.TheVariants as by
@@ -141,21 +142,21 @@ pub told_all : (t : Tuning) (taps : List KeptTap) (one other : Mobile) (kept : L
     (before ++ [])) →
     ((before : List Event) → StandsFor t one (heard ++ take taken samples) before →
     before ≡ events t ((heard ++ take taken samples) ++ drop taken samples)) →
-    Tells (ByTaps t taps) (by.Handset other) kept heard (heard ++ samples) old new
+    TellsMore (ByTaps t taps) heard (heard ++ samples) old new
+    × GivesAll t taps other kept (heard ++ samples)
 unfolding told
 told_all t taps one other kept heard samples taken n old new so_far all stepped last =
     let given = events t heard in
     let more = so_far.more in
     let (stands, given_all) = all_given t other heard samples taken n (given ++ more) all
-    (stepped (given ++ more) so_far.stands) (last (given ++ more) so_far.stands) in
-    record {
-      more = record {
+    (stepped (given ++ more) so_far.stands) (last (given ++ more) so_far.stands) in (
+      record {
         text = run_text (run_taps taps given) more;
         written = so_far.written;
         all = sym (run_text-append taps given more) ∙ ap (run_text taps) given_all;
-      };
-      listens = (stands, so_far.behind ∙ ap (run_taps taps) given_all);
-    }
+      },
+      (stands, so_far.behind ∙ ap (run_taps taps) given_all),
+    )
 
 -- ---- what is heard in the first samples stays so
 
@@ -285,16 +286,16 @@ module _ (t : Tuning) (one other : Mobile) (step : Step) (event : Event)
   -- so where the taps have heard it, all is told that is before any sample
   pub pilot_begins : (kept behind : List KeptTap) (old new : Option (List ℕ)) →
       Appends old new (heard_text kept event) → behind ≡ taps_behind kept event →
-      BeginsBehind [] (ByTaps t kept) (by.Handset other) behind old new
+      Appends old new (told (ByTaps t kept) []) × GivesAll t kept other behind []
   unfolding told run_text run_taps
-  pilot_begins kept behind old new written next = record {
-    written = subst (Appends old new)
-        (sym (ap (run_text kept) none_more ∙ append-nil (heard_text kept event))) written;
-    listens = (
+  pilot_begins kept behind old new written next = (
+    subst (Appends old new)
+        (sym (ap (run_text kept) none_more ∙ append-nil (heard_text kept event))) written,
+    (
       subst (StandsFor t other []) (sym none_more) stands_behind,
       next ∙ ap (run_taps kept) (sym none_more),
-    );
-  }
+    ),
+  )
 
   -- and a beginning of its text is one of what is told of any samples
   pub pilot_part : (kept : List KeptTap) (samples : List Sample) (old new : Option (List ℕ)) →
@@ -372,24 +373,24 @@ nobody_told Nobody kept heard listens = refl
 nobody_told l kept heard listens = absurd listens
 
 -- what holds where taps hear a handset
-pub on_handset : (P : Listening → Type 0) (l : Listening) (mobile : Mobile) (kept : List KeptTap)
-    (heard : List Sample) → Listens l (by.Handset mobile) kept heard →
-    ((t : Tuning) (taps : List KeptTap) → StandsFor t mobile heard (events t heard) →
+pub on_handset : (P : Listening → Type 0) (l : Listening) (mobile : Box Mobile Global)
+    (kept : List KeptTap) (heard : List Sample) → Listens l (by.Handset mobile) kept heard →
+    ((t : Tuning) (taps : List KeptTap) → StandsFor t mobile.value heard (events t heard) →
     kept ≡ run_taps taps (events t heard) → P (ByTaps t taps)) → P l
 on_handset P (ByTaps t taps) mobile kept heard listens holds = holds t taps listens.0 listens.1
 on_handset P l mobile kept heard listens holds = absurd listens
 
 -- and where the frames of one channel are heard
-pub on_tuned : (P : Listening → Type 0) (l : Listening) (tuned : TunedListener)
+pub on_tuned : (P : Listening → Type 0) (l : Listening) (tuned : Box TunedListener Global)
     (kept : List KeptTap) (heard : List Sample) → Listens l (by.Tuned tuned) kept heard →
     ((t : Tuning) (channel : Channel) (text : TunedText) →
-    ListensTuned t channel text tuned heard → P (ByFrames t channel text)) → P l
+    ListensTuned t channel text tuned.value heard → P (ByFrames t channel text)) → P l
 on_tuned P (ByFrames t channel text) tuned kept heard listens holds = holds t channel text listens
 on_tuned P l tuned kept heard listens holds = absurd listens
 
-pub tuned_tells : {t : Tuning} {channel : Channel} {text : TunedText} {tuned : TunedListener}
-    {kept : List KeptTap} {before heard : List Sample} {old new : Option (List ℕ)} →
-    TellsTuned t channel text tuned before heard old new →
+pub tuned_tells : {t : Tuning} {channel : Channel} {text : TunedText}
+    {tuned : Box TunedListener Global} {kept : List KeptTap} {before heard : List Sample}
+    {old new : Option (List ℕ)} → TellsTuned t channel text tuned.value before heard old new →
     Tells (ByFrames t channel text) (by.Tuned tuned) kept before heard old new
 unfolding told
 tuned_tells tells = record {
@@ -406,9 +407,9 @@ tuned_part part = record { text = part.text; written = part.written; begins = pa
 -- ---- before any sample
 
 -- what holds where a handset has taken nothing
-pub on_fresh : (P : Listening → Type 0) (l : Listening) (mobile : Mobile) (kept : List KeptTap) →
-    IsFresh l (by.Handset mobile) kept → ((t : Tuning) → StandsFor t mobile [] [] → P (ByTaps t kept)) →
-    P l
+pub on_fresh : (P : Listening → Type 0) (l : Listening) (mobile : Box Mobile Global)
+    (kept : List KeptTap) → IsFresh l (by.Handset mobile) kept →
+    ((t : Tuning) → StandsFor t mobile.value [] [] → P (ByTaps t kept)) → P l
 on_fresh P (ByTaps t taps) mobile kept fresh holds =
     subst (λ (ks : List KeptTap). P (ByTaps t ks)) fresh.1 (holds t fresh.0)
 on_fresh P l mobile kept fresh holds = absurd fresh
@@ -420,7 +421,7 @@ unfolding told
 nobody_begins Nobody kept old fresh = record { written = Appends-nil old; listens = tt }
 nobody_begins l kept old fresh = absurd fresh
 
-pub tuned_begins : (l : Listening) (tuned : TunedListener) (kept : List KeptTap)
+pub tuned_begins : (l : Listening) (tuned : Box TunedListener Global) (kept : List KeptTap)
     (old : Option (List ℕ)) → IsFresh l (by.Tuned tuned) kept →
     BeginsBehind [] l (by.Tuned tuned) kept old old
 unfolding told
@@ -509,17 +510,12 @@ pub on_ok_both : {T E : Type 0} (r : Result T E) (P Q S : Type 0) → (P → Q �
 on_ok_both (Ok x) P Q S f one other = f one other
 on_ok_both (Err e) P Q S f one other = one
 
-pub if_ok : {T E : Type 0} (r : Result T E) (P Q : T → Type 0) → ((x : T) → P x → Q x) →
-    IfOk r P → IfOk r Q
-if_ok (Ok x) P Q f is = f x is
-if_ok (Err e) P Q f is = is
-
-pub room_some : (listener : Listener) (mobile : Mobile) (n : ℕ) → listener ≡ by.Handset mobile →
-    HasRoomFor listener n → n ≤ has_room mobile
+pub room_some : (listener : Listener) (mobile : Box Mobile Global) (n : ℕ) →
+    listener ≡ by.Handset mobile → HasRoomFor listener n → n ≤ has_room mobile.value
 room_some listener mobile n is room = subst (λ (h : Listener). HasRoomFor h n) is room
 
-pub room_tuned : (listener : Listener) (tuned : TunedListener) (n : ℕ) →
-    listener ≡ by.Tuned tuned → HasRoomFor listener n → n ≤ tuned_room tuned
+pub room_tuned : (listener : Listener) (tuned : Box TunedListener Global) (n : ℕ) →
+    listener ≡ by.Tuned tuned → HasRoomFor listener n → n ≤ tuned_room tuned.value
 room_tuned listener tuned n is room = subst (λ (h : Listener). HasRoomFor h n) is room
 
 pub room_for : (listener : Listener) (left n : ℕ) → HasRoom listener left → n ≤ left →

@@ -158,30 +158,36 @@ AreReady near =
 -- it has taken no sample and told nothing, and these taps are to hear it
 abbrev pub IsFresh : Listening → Listener → List KeptTap → Type 0
 IsFresh Nobody by.Nobody kept = Unit {0}
-IsFresh (ByTaps t taps) (by.Handset mobile) kept = StandsFor t mobile [] [] × (kept ≡ taps)
-IsFresh (ByFrames t channel text) (by.Tuned tuned) kept = ListensTuned t channel text tuned []
+IsFresh (ByTaps t taps) (by.Handset mobile) kept = StandsFor t mobile.value [] [] × (kept ≡ taps)
+IsFresh (ByFrames t channel text) (by.Tuned tuned) kept =
+    ListensTuned t channel text tuned.value []
 IsFresh l listener kept = ⊥
+
+-- a handset has taken these samples and given all that is heard in them, and these taps are kept
+-- behind that
+abbrev pub GivesAll : Tuning → List KeptTap → Mobile → List KeptTap → List Sample → Type 0
+GivesAll t taps mobile kept heard =
+    StandsFor t mobile heard (events t heard) × (kept ≡ run_taps taps (events t heard))
 
 -- it has taken these samples and told all of them, and these taps are kept behind them
 abbrev pub Listens : Listening → Listener → List KeptTap → List Sample → Type 0
 Listens Nobody by.Nobody kept heard = Unit {0}
-Listens (ByTaps t taps) (by.Handset mobile) kept heard =
-    StandsFor t mobile heard (events t heard) × (kept ≡ run_taps taps (events t heard))
+Listens (ByTaps t taps) (by.Handset mobile) kept heard = GivesAll t taps mobile.value kept heard
 Listens (ByFrames t channel text) (by.Tuned tuned) kept heard =
-    ListensTuned t channel text tuned heard
+    ListensTuned t channel text tuned.value heard
 Listens l listener kept heard = ⊥
 
 -- it takes just so many samples more
 abbrev pub HasRoom : Listener → ℕ → Type 0
 HasRoom by.Nobody count = Unit {0}
-HasRoom (by.Handset mobile) count = has_room mobile ≡ count
-HasRoom (by.Tuned tuned) count = tuned_room tuned ≡ count
+HasRoom (by.Handset mobile) count = has_room mobile.value ≡ count
+HasRoom (by.Tuned tuned) count = tuned_room tuned.value ≡ count
 
 -- it takes so many samples more, or others too
 abbrev pub HasRoomFor : Listener → ℕ → Type 0
 HasRoomFor by.Nobody count = Unit {0}
-HasRoomFor (by.Handset mobile) count = count ≤ has_room mobile
-HasRoomFor (by.Tuned tuned) count = count ≤ tuned_room tuned
+HasRoomFor (by.Handset mobile) count = count ≤ has_room mobile.value
+HasRoomFor (by.Tuned tuned) count = count ≤ tuned_room tuned.value
 
 -- it has taken no sample, and a sink got a text and what is told before any sample: the pilot,
 -- where taps hear a handset

@@ -26,8 +26,9 @@ pub struct HandsetOptions {
     pub traffic: Option<Traffic>,
 }
 
-/// A handset for samples of this header, with paths near the pilot's phase. It has a table of the
-/// codes of its own.
+/// A handset for samples of this header, with paths near the pilot's phase, in memory of its own.
+// Its frame holds the handset several times over, and is free again before the handset hears.
+#[inline(never)]
 #[tactic(auto, using(crate::proofs::Hearings::sound_assignment))]
 pub fn handset(
     alloc: Global,
@@ -35,16 +36,17 @@ pub fn handset(
     options: HandsetOptions,
     best: Best,
     near: Near,
-) -> Result<Mobile, OutOfMemory>
+    codes: Codes,
+) -> Result<Box<Mobile>, OutOfMemory>
     requires header { IsLawfulHeader header }
     requires options { IsLawfulHandset options }
     requires near { AreReady near }
     ensures given { (first : List TheSample) →
         IsBestIn first 0 32768 best.phase best.energy →
         AreNearTo first best.phase options near →
-        IfOk result (λ mobile. StandsFor (tuning_for header first options) mobile [] []) }
-    ensures untold { IfOk result IsUntold }
-    ensures room { IfOk result (λ mobile. has_room mobile ≡ header.count) }
+        IfOk result (λ mobile. StandsFor (tuning_for header first options) mobile.value [] []) }
+    ensures untold { IfOk result (λ mobile. IsUntold mobile.value) }
+    ensures room { IfOk result (λ mobile. has_room mobile.value ≡ header.count) }
 {
     let settings = Settings {
         fingers: near.count,
@@ -54,7 +56,6 @@ pub fn handset(
         check16: header.check16,
         count: header.count,
     };
-    let codes = Codes::new(alloc)?;
     let mobile = Mobile::new(alloc, settings, codes, best, near)?;
-    Ok(mobile)
+    Ok(Box::new(alloc, mobile)?)
 }

@@ -1,13 +1,14 @@
 //! Who hears the samples of a file.
 
 ghost use Rattle.std.specs.Prelude.{◌≡◌, ◌≤◌, ◌+◌, ◌++◌, List, [], length, All, OnOk, OnErr};
+ghost use Rattle.std.specs.Io.KnownBytes.{Appends};
 ghost use Rattle.chip_core.specs.declared.sample.Sample.{Sample as TheSample};
 ghost use Rattle.cdma_io.specs.Outside.{AppendsPrefix, HasCause};
 ghost use Rattle.heard_events.specs.Events.{events};
 ghost use Rattle.mobile_core.specs.Standing.{StandsFor, has_room};
 ghost use Rattle.heard_events.specs.Tuning.{Tuning};
 ghost use Rattle.event_tap.specs.Taps.{IsKept, KeptTap, run_taps};
-ghost use Rattle.cdma_replay.specs.Hearing.{BeginsBehind, ByTaps, Tells, TellsPart, told};
+ghost use Rattle.cdma_replay.specs.Hearing.{ByTaps, GivesAll, TellsMore, TellsPart, told};
 
 use cdma_io::{Failed, Sink};
 use chip_core::Sample;
@@ -21,9 +22,9 @@ pub enum Listener {
     /// Nobody: nothing is wanted of the samples behind the first ones.
     Nobody,
     /// A handset, whose events taps hear.
-    Handset(Mobile),
+    Handset(Box<Mobile>),
     /// Who writes what is made of the frames of one channel.
-    Tuned(TunedListener),
+    Tuned(Box<TunedListener>),
 }
 
 impl Listener {
@@ -112,8 +113,8 @@ fn tell_pilot<T: KeepsTaps, K: Sink>(
     ensures room { has_room mobile.new ≡ has_room mobile.old }
     ensures kept { All IsKept (T.kept taps.new) }
     ensures ok { OnOk result ((t : Tuning) → StandsFor t mobile.old [] [] →
-        BeginsBehind [] (ByTaps t (T.kept taps.old)) (Listener.Handset mobile.new)
-        (T.kept taps.new) (K.written sink.old) (K.written sink.new)) }
+        Appends (K.written sink.old) (K.written sink.new) (told (ByTaps t (T.kept taps.old)) [])
+        × GivesAll t (T.kept taps.old) mobile.new (T.kept taps.new) []) }
     ensures err { OnErr result ((t : Tuning) (samples : List TheSample) →
         StandsFor t mobile.old [] [] → AppendsPrefix (K.written sink.old) (K.written sink.new)
         (told (ByTaps t (T.kept taps.old)) samples)) }
@@ -140,8 +141,9 @@ fn tell<T: KeepsTaps, K: Sink>(
     ensures ok { OnOk result ((t : Tuning) (first : List KeptTap) (heard : List TheSample) →
         StandsFor t mobile.old heard (events t heard) →
         T.kept taps.old ≡ run_taps first (events t heard) →
-        Tells (ByTaps t first) (Listener.Handset mobile.new) (T.kept taps.new) heard
-        (heard ++ samples.now) (K.written sink.old) (K.written sink.new)) }
+        TellsMore (ByTaps t first) heard (heard ++ samples.now)
+        (K.written sink.old) (K.written sink.new)
+        × GivesAll t first mobile.new (T.kept taps.new) (heard ++ samples.now)) }
     ensures err { OnErr result ((t : Tuning) (first : List KeptTap) (heard : List TheSample) →
         StandsFor t mobile.old heard (events t heard) →
         T.kept taps.old ≡ run_taps first (events t heard) →

@@ -112,6 +112,8 @@ fn make_file<S: Source, K: Sink>(
 ///
 /// All memory is taken before anything is written, and nothing is written of a script that names no
 /// cell.
+// No other command is to have its frame beneath its own.
+#[inline(never)]
 pub fn make<S: Source, K: Sink>(
     alloc: Global,
     width: Width,

@@ -108,7 +108,10 @@ pub fn find_first<R: Threads + Sync, G: Gate + Sync>(
     }
 }
 
-/// Who hears the frames of one channel in a file of this header, with paths near the pilot's phase.
+/// Who hears the frames of one channel in a file of this header, with paths near the pilot's phase,
+/// in memory of its own.
+// Its frame holds the listener several times over, and is free again before the listener hears.
+#[inline(never)]
 fn tuned_listener(
     alloc: Global,
     header: Header,
@@ -117,7 +120,8 @@ fn tuned_listener(
     fingers: u8,
     channel: Channel,
     text: TunedText,
-) -> Result<TunedListener, OutOfMemory>
+    codes: Codes,
+) -> Result<Box<TunedListener>, OutOfMemory>
     requires header { IsLawfulHeader header }
     requires near { AreReady near }
     requires fingers { IsFingers fingers }
@@ -125,8 +129,8 @@ fn tuned_listener(
     ensures listens { (first : List TheSample) → IsBest first best →
         AreNearTo first best.phase (waiting fingers) near →
         IfOk result (λ tuned.
-        ListensTuned (tuning_for header first (waiting fingers)) channel text tuned []) }
-    ensures room { IfOk result (λ tuned. tuned_room tuned ≡ header.count) }
+        ListensTuned (tuning_for header first (waiting fingers)) channel text tuned.value []) }
+    ensures room { IfOk result (λ tuned. tuned_room tuned.value ≡ header.count) }
 {
     let Best { phase, .. } = best;
     let options = HandsetOptions {
@@ -134,15 +138,16 @@ fn tuned_listener(
         paging: 1,
         traffic: None,
     };
-    let mobile = handset(alloc, header, options, best, near)?;
-    TunedListener::open(alloc, mobile, channel, text, header.check30, phase, near)
+    let mobile = Box::into_inner(handset(alloc, header, options, best, near, codes)?);
+    let tuned = TunedListener::open(alloc, mobile, channel, text, header.check30, phase, near)?;
+    Ok(Box::new(alloc, tuned)?)
 }
 
 /// Who hears a file of this header in whose first samples this was found.
 pub fn listener_for(
     alloc: Global,
     header: Header,
-    codes: &Codes,
+    codes: Codes,
     first: &[Sample],
     shown: &Shown,
 ) -> Result<Listener, OutOfMemory>
@@ -155,8 +160,8 @@ pub fn listener_for(
 {
     match shown {
         Shown::Followed { best, options } => {
-            let paths = near(first, codes, *best, options.fingers);
-            let mobile = handset(alloc, header, *options, *best, paths)?;
+            let paths = near(first, &codes, *best, options.fingers);
+            let mobile = handset(alloc, header, *options, *best, paths, codes)?;
             Ok(Listener::Handset(mobile))
         }
         Shown::TunedTo {
@@ -165,8 +170,10 @@ pub fn listener_for(
             channel,
             text,
         } => {
-            let paths = near(first, codes, *best, *fingers);
-            let tuned = tuned_listener(alloc, header, *best, paths, *fingers, *channel, *text)?;
+            let paths = near(first, &codes, *best, *fingers);
+            let tuned = tuned_listener(
+                alloc, header, *best, paths, *fingers, *channel, *text, codes,
+            )?;
             Ok(Listener::Tuned(tuned))
         }
         Shown::Found(_) | Shown::Ranks { .. } => Ok(Listener::Nobody),

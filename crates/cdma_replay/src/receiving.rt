@@ -150,7 +150,7 @@ fn receive_file<R: Threads + Sync, S: Source, K: Sink, T: KeepsTaps, G: Gate + S
     rt: &R,
     alloc: Global,
     reception: Reception,
-    codes: &Codes,
+    codes: Codes,
     span: &mut [Sample],
     piece: &mut [Sample],
     source: &mut S,
@@ -175,7 +175,7 @@ fn receive_file<R: Threads + Sync, S: Source, K: Sink, T: KeepsTaps, G: Gate + S
         purpose,
         ..
     } = reception;
-    let shown = find_first(rt, alloc, purpose, codes, span, workers, gate)?;
+    let shown = find_first(rt, alloc, purpose, &codes, span, workers, gate)?;
     let mut listener = listener_for(alloc, reader.header(), codes, span, &shown)?;
     let mut taps = taps;
     match tell_first(&shown, &mut listener, &mut taps, sink) {
@@ -223,7 +223,7 @@ pub fn receive<R: Threads + Sync, S: Source, K: Sink, T: KeepsTaps, G: Gate + Sy
         rt,
         alloc,
         reception,
-        &codes,
+        codes,
         &mut samples,
         &mut piece,
         source,

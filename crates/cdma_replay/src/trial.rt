@@ -190,7 +190,7 @@ fn follow_cell<R: Threads + Sync, G: Gate + Sync>(
     number: u64,
     workers: u8,
     cell: &mut Cell,
-    codes: &Codes,
+    codes: Codes,
     span: &mut [Sample],
     piece: &mut [Sample],
     gate: &G,
@@ -203,13 +203,14 @@ fn follow_cell<R: Threads + Sync, G: Gate + Sync>(
 {
     let header = cell.header();
     cell.fill(span);
-    let best = search(rt, alloc, span, codes, workers, gate)?;
+    let best = search(rt, alloc, span, &codes, workers, gate)?;
     let options = options_for(number);
-    let paths = near(span, codes, best, options.fingers);
-    let mut mobile = handset(alloc, header, options, best, paths)?;
+    let paths = near(span, &codes, best, options.fingers);
+    let mut boxed = handset(alloc, header, options, best, paths, codes)?;
+    let mobile = &mut *boxed;
     let mut counts = Counts::none();
-    count(&mut mobile, span, &mut counts);
-    count_rest(&mut mobile, cell, piece, &mut counts);
+    count(mobile, span, &mut counts);
+    count_rest(mobile, cell, piece, &mut counts);
     Ok(summary_of(number, header.count, best.phase.get(), &counts))
 }
 
@@ -232,7 +233,7 @@ fn followed<R: Threads + Sync, G: Gate + Sync>(
         mut piece,
     } = Workspace::new(alloc, SPAN)?;
     follow_cell(
-        rt, alloc, number, workers, &mut cell, &codes, &mut span, &mut piece, gate,
+        rt, alloc, number, workers, &mut cell, codes, &mut span, &mut piece, gate,
     )
 }
 
@@ -240,6 +241,8 @@ fn followed<R: Threads + Sync, G: Gate + Sync>(
 /// line. No more samples are held than the pilot is searched in, or a piece of them.
 ///
 /// All memory is taken before the line is written.
+// No other command is to have its frame beneath its own.
+#[inline(never)]
 pub fn trial<R: Threads + Sync, K: Sink, G: Gate + Sync>(
     rt: &R,
     alloc: Global,

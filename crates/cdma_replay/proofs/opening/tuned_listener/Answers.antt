@@ -1,5 +1,5 @@
 use Rattle.cdma_replay.proofs.Common.{◌≡◌, length, refl, rules, sym, best_phase-only, tuning_for, waiting}
-use Rattle.cdma_replay.proofs.Hearings.{if_ok, near_taken}
+use Rattle.cdma_replay.proofs.Hearings.{near_taken}
 use Rattle.cdma_replay.proofs.opening.tuned_listener.Goals as goal
 
 pub returns-clause-listens : goal.returns-clause-listens
@@ -7,10 +7,9 @@ returns-clause-listens c first found near =
     let best = c.args.best in
     let long : length c.args.near.deltas ≡ 3 = search rules in
     let fingers = c.args.fingers in
-    if_ok c.open.result _ _
-    (λ tuned listens. listens (tuning_for c.args.header first (waiting fingers))
-    (c.in_ok-mobile.ensures.given first found near)
+    let boxed : c.in_ok-new.field-0.value ≡ c.in_ok-tuned.tuned = search rules in
+    rw boxed (c.in_ok-tuned.ensures.listens (tuning_for c.args.header first (waiting fingers))
+    (rw c.into_inner-mobile.ensures (c.in_ok-handset.ensures.given first found near))
     (sym (best_phase-only first best.phase best.energy found))
     (sym (near_taken first fingers best c.args.near found near.0 c.requires.fingers.1 long near.1))
     refl)
-    c.open.ensures.listens

@@ -13,13 +13,13 @@ count-requires-clause-room g c =
     let header : c.header-header.result ≡ header_of Sixteen (trial_plan c.args.number) =
     c.header-header.ensures.value ∙
     ap (λ (k : CellState). header_of k.width k.plan) c.requires.cell in
-    omega (
+    rw c.deref_mut-mobile.ensures.value (omega (
       arith,
-      c.in_ok-mobile.ensures.room,
+      c.in_ok-boxed.ensures.room,
       ap (λ (h : Header). h.count) header,
       trial_counted c.args.number,
       c.requires.span,
-    )
+    ))
 
 pub returns : goal.returns
 returns g c =
@@ -41,7 +41,8 @@ returns g c =
     ap (λ (h : Header). tuning_for h out options) header
     ∙ ap (λ (xs : List Sample). tuning_for (header_of Sixteen plan) xs options) span
     ∙ ap (tuning_for (header_of Sixteen plan) (trial_span number)) c.options_for-options.ensures in
-    let told = c.count.ensures.told t [] [] (c.in_ok-mobile.ensures.given out found near)
+    let told = c.count.ensures.told t [] []
+    (rw c.deref_mut-mobile.ensures.value (c.in_ok-boxed.ensures.given out found near))
     c.none-counts.ensures.value in
     let behind = behind_span c.args.cell.now c.fill.new.self number (length c.args.span.now)
     c.requires.cell c.requires.span c.fill.ensures.state in

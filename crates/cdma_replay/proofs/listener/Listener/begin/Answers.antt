@@ -1,4 +1,5 @@
 use Rattle.cdma_replay.proofs.Common.{[], sym, subst, on_err, on_ok, AppendsPrefix, BeginsBehind, IsFresh, Listening, told, Listener}
+use Rattle.std.specs.Box.{with_value}
 use Rattle.cdma_replay.proofs.Hearings.{nobody_begins, on_fresh, tuned_begins}
 use Rattle.cdma_replay.specs.declared.listener.Listener.TheVariants as by
 use Rattle.cdma_replay.proofs.listener.Listener.begin.Goals as goal
@@ -6,12 +7,16 @@ use Rattle.cdma_replay.proofs.listener.Listener.begin.Goals as goal
 pub returns-in-Handset-clause-ok : goal.returns-in-Handset-clause-ok
 returns-in-Handset-clause-ok g c =
     let kept = g.T.KeepsTaps.kept c.args.taps.now in
+    let mobile = with_value c.in-Handset.mobile c.tell_pilot.new.mobile in
     on_ok c.tell_pilot.result _ _
     (λ begins l fresh. on_fresh
-    (λ (l : Listening). BeginsBehind [] l (by.Handset c.tell_pilot.new.mobile)
+    (λ (l : Listening). BeginsBehind [] l (by.Handset mobile)
     (g.T.KeepsTaps.kept c.tell_pilot.new.taps) (g.K.Sink.written c.args.sink.now)
     (g.K.Sink.written c.tell_pilot.new.sink)) l c.in-Handset.mobile kept
-    (subst (λ (h : Listener). IsFresh l h kept) c.in-Handset.is fresh) begins)
+    (subst (λ (h : Listener). IsFresh l h kept) c.in-Handset.is fresh)
+    (λ t stands.
+    let (written, gives) = begins t (rw c.deref_mut.ensures.value stands) in
+    record { written = written; listens = gives }))
     c.tell_pilot.ensures.ok
 
 pub returns-in-Handset-clause-err : goal.returns-in-Handset-clause-err
@@ -22,7 +27,7 @@ returns-in-Handset-clause-err g c =
     (λ (l : Listening). AppendsPrefix (g.K.Sink.written c.args.sink.now)
     (g.K.Sink.written c.tell_pilot.new.sink) (told l samples)) l c.in-Handset.mobile kept
     (subst (λ (h : Listener). IsFresh l h kept) c.in-Handset.is fresh)
-    (λ t stands. part t samples stands))
+    (λ t stands. part t samples (rw c.deref_mut.ensures.value stands)))
     c.tell_pilot.ensures.err
 
 pub returns-in-Nobody-clause-ok : goal.returns-in-Nobody-clause-ok

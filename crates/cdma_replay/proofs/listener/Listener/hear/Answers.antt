@@ -1,24 +1,29 @@
 use Rattle.cdma_replay.proofs.Common.{◌++◌, subst, sym, on_err, on_ok, Listening, Listens, Tells, TellsPart, Listener}
+use Rattle.std.specs.Box.{with_value}
 use Rattle.cdma_replay.proofs.Hearings.{hears_nobody, on_handset, on_tuned, room_some, room_tuned, tuned_part, tuned_tells}
 use Rattle.cdma_replay.specs.declared.listener.Listener.TheVariants as by
 use Rattle.cdma_replay.proofs.listener.Listener.hear.Goals as goal
 
 pub tell-requires : goal.tell-requires
 tell-requires g c = record {
-  room = room_some _ c.in-Handset.mobile _ c.in-Handset.is c.requires.room;
+  room = rw c.deref_mut.ensures.value
+      (room_some _ c.in-Handset.mobile _ c.in-Handset.is c.requires.room);
   kept = c.requires.kept;
 }
 
 pub returns-in-Handset-clause-ok : goal.returns-in-Handset-clause-ok
 returns-in-Handset-clause-ok g c =
     let kept = g.T.KeepsTaps.kept c.args.taps.now in
+    let mobile = with_value c.in-Handset.mobile c.tell.new.mobile in
     on_ok c.tell.result _ _
     (λ tells l heard is. on_handset
-    (λ (l : Listening). Tells l (by.Handset c.tell.new.mobile)
+    (λ (l : Listening). Tells l (by.Handset mobile)
     (g.T.KeepsTaps.kept c.tell.new.taps) heard (heard ++ c.args.samples.now)
     (g.K.Sink.written c.args.sink.now) (g.K.Sink.written c.tell.new.sink)) l c.in-Handset.mobile kept heard
     (subst (λ (h : Listener). Listens l h kept heard) c.in-Handset.is is)
-    (λ t taps stands behind. tells t taps heard stands behind))
+    (λ t taps stands behind.
+    let (more, gives) = tells t taps heard (rw c.deref_mut.ensures.value stands) behind in
+    record { more = more; listens = gives }))
     c.tell.ensures.ok
 
 pub returns-in-Handset-clause-err : goal.returns-in-Handset-clause-err
@@ -29,22 +34,25 @@ returns-in-Handset-clause-err g c =
     (λ (l : Listening). TellsPart l heard (heard ++ c.args.samples.now)
     (g.K.Sink.written c.args.sink.now) (g.K.Sink.written c.tell.new.sink)) l c.in-Handset.mobile kept heard
     (subst (λ (h : Listener). Listens l h kept heard) c.in-Handset.is is)
-    (λ t taps stands behind. tells t taps heard stands behind))
+    (λ t taps stands behind. tells t taps heard (rw c.deref_mut.ensures.value stands) behind))
     c.tell.ensures.err
 
 pub hear-requires : goal.hear-requires
 hear-requires g c =
-    record { room = room_tuned _ c.in-Tuned.tuned _ c.in-Tuned.is c.requires.room }
+    let room = room_tuned _ c.in-Tuned.tuned _ c.in-Tuned.is c.requires.room in
+    record { room = rw c.deref_mut-in-Tuned.ensures.value room }
 
 pub returns-in-Tuned-clause-ok : goal.returns-in-Tuned-clause-ok
 returns-in-Tuned-clause-ok g c =
     let kept = g.T.KeepsTaps.kept c.args.taps.now in
+    let tuned = with_value c.in-Tuned.tuned c.hear.new.self in
     on_ok c.hear.result _ _
     (λ tells l heard is. on_tuned
-    (λ (l : Listening). Tells l (by.Tuned c.hear.new.self) kept heard (heard ++ c.args.samples.now)
+    (λ (l : Listening). Tells l (by.Tuned tuned) kept heard (heard ++ c.args.samples.now)
     (g.K.Sink.written c.args.sink.now) (g.K.Sink.written c.hear.new.sink)) l c.in-Tuned.tuned kept heard
     (subst (λ (h : Listener). Listens l h kept heard) c.in-Tuned.is is)
-    (λ t channel text listens. tuned_tells (tells t channel text heard listens)))
+    (λ t channel text listens.
+    tuned_tells (tells t channel text heard (rw c.deref_mut-in-Tuned.ensures.value listens))))
     c.hear.ensures.ok
 
 pub returns-in-Tuned-clause-err : goal.returns-in-Tuned-clause-err
@@ -55,7 +63,8 @@ returns-in-Tuned-clause-err g c =
     (λ (l : Listening). TellsPart l heard (heard ++ c.args.samples.now)
     (g.K.Sink.written c.args.sink.now) (g.K.Sink.written c.hear.new.sink)) l c.in-Tuned.tuned kept heard
     (subst (λ (h : Listener). Listens l h kept heard) c.in-Tuned.is is)
-    (λ t channel text listens. tuned_part (tells t channel text heard listens)))
+    (λ t channel text listens.
+    tuned_part (tells t channel text heard (rw c.deref_mut-in-Tuned.ensures.value listens))))
     c.hear.ensures.err
 
 pub returns-in-Nobody-clause-ok : goal.returns-in-Nobody-clause-ok

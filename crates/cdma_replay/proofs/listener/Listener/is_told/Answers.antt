@@ -10,10 +10,10 @@ pub returns-in-Handset : goal.returns-in-Handset
 returns-in-Handset c l kept heard is =
     on_handset (λ (l : Listening). c.synced.result ≡ is_told l heard) l c.in-Handset.mobile kept heard
     (subst (λ (h : Listener). Listens l h kept heard) c.in-Handset.is is)
-    (λ t taps stands behind. c.synced.ensures.mark t heard stands)
+    (λ t taps stands behind. c.synced.ensures.mark t heard (rw c.deref.ensures stands))
 
 pub returns-in-Tuned : goal.returns-in-Tuned
 returns-in-Tuned c l kept heard is =
     on_tuned (λ (l : Listening). c.is_told.result ≡ is_told l heard) l c.in-Tuned.tuned kept heard
     (subst (λ (h : Listener). Listens l h kept heard) c.in-Tuned.is is)
-    (λ t channel text listens. c.is_told.ensures t channel text heard listens)
+    (λ t channel text listens. c.is_told.ensures t channel text heard (rw c.deref-in-Tuned.ensures listens))
