@@ -92,10 +92,7 @@ pub use Rattle.frame_decoder.specs.declared.traffic.Decoded.{Decoded}
 pub use Rattle.listed_frame.proofs.Choice.{decoded_by_one_codeword}
 pub use Rattle.listed_frame.proofs.SentFrames.{sent_frame_listed}
 pub use Rattle.long_code.specs.LongCode.{traffic_mask}
-pub use Rattle.heard_events.proofs.EventsGrown.{events_at_by, events_sooner}
-pub use Rattle.heard_events.proofs.SyncTimes.{timed_of}
-pub use Rattle.rake_finger.proofs.FrameTimes.{known_between}
-pub use Rattle.heard_events.proofs.EventsGrown.{events_sooner, heard_none}
+pub use Rattle.heard_events.proofs.EventsGrown.{events_at_by, events_sooner, heard_none}
 pub use Rattle.heard_events.proofs.SyncTimes.{timed_of}
 pub use Rattle.rake_finger.proofs.FrameTimes.{known_between}
 pub use Rattle.heard_events.proofs.FramesAlone.{decoded_alone, power_alone}
@@ -114,8 +111,6 @@ unfoldable pub use Rattle.heard_events.specs.SoftFrames.{frames_within}
 pub use Rattle.mobile_core.specs.Standing.{IsStep, StandsFor, Steps, events_left, has_room, parts, steps_left}
 pub use Rattle.rake_finger.specs.Streams.{is_in_file, known_at, known_by}
 pub use Rattle.heard_events.specs.SyncEvents.{sync_events_at}
-pub use Rattle.rake_finger.specs.Timing.{IsTimed}
-pub use Rattle.rake_finger.specs.Streams.{is_in_file, known_at, known_by}
 pub use Rattle.rake_finger.specs.Timing.{IsTimed}
 pub use Rattle.heard_events.specs.TrafficEvents.{power_bits_at, decoded_at, frame_event}
 pub use Rattle.mobile_core.specs.BehindMark.{IsSoundAssignment}
@@ -167,8 +162,8 @@ pub use Rattle.cdma_replay.specs.Find.{BeginsFile, IsEnd, IsFault, IsFaultIn, Is
 pub use Rattle.cdma_replay.specs.Find.{IsSearchable, PassesSamples, TakesNoMore, TakesSpan, WritesNoMore, WritesText, ended, file_end}
 pub use Rattle.cdma_replay.specs.Find.{most_taken}
 pub use Rattle.cdma_replay.specs.Hearing.{AreNearTo, AreReady, BeginsBehind, ByFrames, ByTaps, GivesAll, HasRoom, HasRoomFor, HasTold}
-pub use Rattle.cdma_replay.specs.Hearing.{HearsPart, HearsRest, IsFresh, IsUnheard, Listening, Listens, Nobody, Tells, TellsMore}
-pub use Rattle.cdma_replay.specs.Hearing.{TellsPart, clean_end, end_when, first_text, is_told, listening, tuning_for, waiting}
+pub use Rattle.cdma_replay.specs.Hearing.{HearsPart, HearsRest, IsFresh, IsUnheard, Listening, Listens, Nobody, Tells, TellsMore, TellsPart}
+pub use Rattle.cdma_replay.specs.Hearing.{clean_end, end_when, first_text, is_told, listening, tuning_for, waiting}
 unfoldable pub use Rattle.cdma_replay.specs.Hearing.{best_pilot, clean_events, file_end_of, file_text, told}
 pub use Rattle.cdma_replay.specs.Make.{WritesMadeFile, WritesNoMoreMade, piece_bytes}
 unfoldable pub use Rattle.cdma_replay.specs.Make.{made_file}

@@ -116,7 +116,7 @@ pub use Rattle.heard_events.proofs.LegParts.{map_same}
 pub use Rattle.heard_events.proofs.MarkGrowth.{mark_is}
 pub use Rattle.heard_events.proofs.MarkStays.{by_one_mark, frames_from_mark, messages_from_mark, pages_from_mark, pilot_alone}
 pub use Rattle.heard_events.proofs.MomentGrowth.{kept_new, kept_old}
-pub use Rattle.rake_finger.specs.Near.{AreClose}
+pub use Rattle.rake_finger.specs.Near.{AreClose, AreNear}
 pub use Rattle.heard_events.specs.Events.{events}
 unfoldable pub use Rattle.heard_events.specs.Events.{events_at, frame_events_at, heard_within, message_events_at, paging_events_at}
 unfoldable pub use Rattle.heard_events.specs.Events.{sets_events_at}
@@ -128,7 +128,6 @@ unfoldable pub use Rattle.heard_events.specs.Marks.{frames_open, mark, mark_befo
 pub use Rattle.heard_events.specs.Moments.{changed, frames_at, legs_at, legs_by, messages_at, messages_behind, moment_events, moment_of}
 pub use Rattle.heard_events.specs.Moments.{moment_place, moments_before}
 unfoldable pub use Rattle.heard_events.specs.Moments.{heard_from, kept_to, passed, sets_at, told_by}
-pub use Rattle.rake_finger.specs.Near.{AreNear}
 pub use Rattle.heard_events.specs.Noted.{all_noted, body_noted, in_traffic_thresholds, noted, noted_with, page_noted, system_thresholds}
 pub use Rattle.heard_events.specs.PagingEvents.{page_event, page_in, pages_behind, with_page}
 unfoldable pub use Rattle.heard_events.specs.PagingEvents.{bits_up_to, page_at, pages_at, pages_from}
@@ -139,14 +138,13 @@ unfoldable pub use Rattle.heard_events.specs.Signaling.{message_at, messages_by,
 pub use Rattle.heard_events.specs.SoftFrames.{soft_frame, soft_frames, raw_at}
 unfoldable pub use Rattle.heard_events.specs.SoftFrames.{frames_within}
 pub use Rattle.heard_events.specs.Streams.{Stream}
-pub use Rattle.rake_finger.specs.Streams.{frame_end, frame_softs, frame_start, is_in_file, is_within, known_at, known_by}
-pub use Rattle.rake_finger.specs.Streams.{known_now, span_first, span_frames}
+pub use Rattle.rake_finger.specs.Streams.{frame_end, frame_softs, frame_start, is_in_file, is_within, known_at, known_by, known_now}
+pub use Rattle.rake_finger.specs.Streams.{span_first, span_frames}
 unfoldable pub use Rattle.heard_events.specs.Streams.{frame_own_bits}
 pub use Rattle.heard_events.specs.SyncEvents.{events_of, heard_in, with_message}
 unfoldable pub use Rattle.heard_events.specs.SyncEvents.{frames_before, heard_at, sync_capsule_at, sync_events_at}
 pub use Rattle.rake_finger.specs.Timing.{IsTimed}
-pub use Rattle.heard_events.specs.TrafficEvents.{all_sums, frame_event, frame_heard, if_followed, subchannel_sums, raw_by}
-pub use Rattle.heard_events.specs.TrafficEvents.{raw_softs}
+pub use Rattle.heard_events.specs.TrafficEvents.{all_sums, frame_event, frame_heard, if_followed, subchannel_sums, raw_by, raw_softs}
 unfoldable pub use Rattle.heard_events.specs.TrafficEvents.{power_bits_at, decoded_at, frames_by}
 pub use Rattle.heard_events.specs.TrafficStreams.{ends_now, frame_state, frames_bound, frames_now, has_frame, replaced_in, stream_of}
 pub use Rattle.heard_events.specs.TrafficStreams.{traffic_start, traffic_stream}
@@ -267,14 +265,14 @@ pub use Rattle.clean_link.specs.PageLaws.{PageSendingsComeBack, WholePagesComeBa
 pub use Rattle.clean_link.specs.PagingLaws.{MarksTellTheRate, PagingFramesComeBack, PagingHaveSentSigns, PagingCodewordsAreTheOnlyBest}
 pub use Rattle.clean_link.specs.PagingLaws.{SilentPagingFramesAreZeros, SilentPagingIsZero, UnmarkedWithoutSync, ordered_symbols}
 pub use Rattle.clean_link.specs.ReceivedFrames.{AreReceived, IsDistinctFrame2, IsReceivedAs, IsSentFrame2, cycled_frame2, codeword_symbols2}
-pub use Rattle.clean_link.specs.ReceivedLaws.{EachFrameIsReceived, FramesBehindMark, FramesShowPowerBits, FramesShowSymbols}
-pub use Rattle.clean_link.specs.ReceivedLaws.{SetOneSends, SetTwoBehindMark, SetTwoFramesComeBack, SetTwoSends}
+pub use Rattle.clean_link.specs.ReceivedLaws.{EachFrameIsReceived, FramesBehindMark, FramesShowPowerBits, FramesShowSymbols, SetOneSends}
+pub use Rattle.clean_link.specs.ReceivedLaws.{SetTwoBehindMark, SetTwoFramesComeBack, SetTwoSends}
 pub use Rattle.clean_link.specs.SentEvents.{FollowsSent, NoEventIsDirected, WholeMessagesComeBack, by_places, is_at, known_event}
 pub use Rattle.clean_link.specs.SentEvents.{pages_behind_mark, pages_with_sync, told_by_first, told_followed, told_with_sync}
 unfoldable pub use Rattle.clean_link.specs.SentEvents.{paging_sent, sent_events, sets_heard, signaling_sent, traffic_sent}
 pub use Rattle.clean_link.specs.SentCodewords.{AreReadBy, IsOnlyBest, IsWholeChannel, scrambled, span_softs, span_codeword}
-pub use Rattle.clean_link.specs.SharedCodewords.{AreDistinctBySharing, AreDistinctBySharing2, SharesNone, gives, is_known2}
-pub use Rattle.clean_link.specs.SharedCodewords.{lost_symbols2, sharing, sharing2, shown_of}
+pub use Rattle.clean_link.specs.SharedCodewords.{AreDistinctBySharing, AreDistinctBySharing2, SharesNone, gives, is_known2, lost_symbols2}
+pub use Rattle.clean_link.specs.SharedCodewords.{sharing, sharing2, shown_of}
 unfoldable pub use Rattle.clean_link.specs.SharedCodewords.{codewords_giving}
 pub use Rattle.clean_link.specs.Signals.{AreApart, HaveOwnRows, IsAligned, IsFrameAt, IsFrameOf, IsHeardBy, level_at, path_finger}
 pub use Rattle.clean_link.specs.Signals.{reference_finger, row_level}

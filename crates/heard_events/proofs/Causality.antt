@@ -1,10 +1,11 @@
 -- The first samples alone decide what is heard within them.
-use Rattle.heard_events.proofs.Common.{◌≡◌, ℕ, suc, ◌+◌, ◌≤◌, true, List, [], ◌∷◌, ◌++◌, length, take, drop, refl, sym, ap, ◌∙◌, arith, ℤ}
-use Rattle.heard_events.proofs.Common.{pos, All, Some, slice_get, IsTrue, flat_map, and_from, take-append-drop, length-take-le, places}
-use Rattle.heard_events.proofs.Common.{Sample, events_at, events_within, heard_within, mark, is_near, all_near, has_reference, AreNear}
-use Rattle.heard_events.proofs.Common.{IsTuned, low_of, Tuning, fingers_of, sync_stream, Event, Pilot, flat_map_ext_places}
+use Rattle.heard_events.proofs.Common.{◌≡◌, ℕ, suc, ◌+◌, ◌≤◌, true, List, [], ◌∷◌, ◌++◌, length, take, refl, ap, arith, ℤ, pos, All, Some}
+use Rattle.heard_events.proofs.Common.{slice_get, IsTrue, and_from, Sample, events_at, events_within, heard_within, mark, is_near, all_near}
+use Rattle.heard_events.proofs.Common.{has_reference, AreNear, IsTuned, low_of, Tuning, fingers_of, sync_stream, Event, Pilot}
+use Rattle.heard_events.proofs.Common.{flat_map_ext_places}
 use Rattle.heard_events.proofs.EventsGrown.{events_sooner}
 use Rattle.heard_events.proofs.SyncTimes.{timed_of}
+use Rattle.heard_events.proofs.GoesOn.{of_first}
 use Rattle.heard_events.proofs.Growth.{IsSyncTimed}
 use Rattle.heard_events.proofs.MarkStays.{mark_sooner}
 
@@ -34,38 +35,20 @@ module _ (t : Tuning) (is : IsTuned t) where
   timed : IsSyncTimed t (low_of t)
   timed = timed_of t (tuned_near t is)
 
-  heard_of_first : (samples : List Sample) (n : ℕ) → n ≤ length samples →
-      heard_within t samples n ≡ heard_within t (take n samples) n
+  heard_sooner : (xs ys : List Sample) (n : ℕ) → n ≤ length xs →
+      heard_within t (xs ++ ys) n ≡ heard_within t xs n
   unfolding heard_within
-  heard_of_first samples n h =
-      let first = take n samples in
-      let rest = drop n samples in
-      let long : length first ≡ n = length-take-le n samples h in
-      ap (λ s. flat_map (events_at t s) (places (n + 1))) (sym (take-append-drop n samples))
-      ∙ flat_map_ext_places (events_at t (first ++ rest)) (events_at t first) (n + 1)
+  heard_sooner xs ys n h =
+      flat_map_ext_places (events_at t (xs ++ ys)) (events_at t xs) (n + 1)
       (λ k below.
-      events_sooner t (low_of t) timed (tuned_near t is) first rest k (omega (arith, below, long)))
+      events_sooner t (low_of t) timed (tuned_near t is) xs ys k (omega (arith, below, h)))
 
-  mark_of_first : (samples : List Sample) (n : ℕ) → n ≤ length samples →
-      mark t samples n ≡ mark t (take n samples) n
-  mark_of_first samples n h =
-      let first = take n samples in
-      let long : length first ≡ n = length-take-le n samples h in
-      ap (λ s. mark t s n) (sym (take-append-drop n samples))
-      ∙ mark_sooner t (low_of t) timed first (drop n samples) n (omega (arith, long))
-
-module _ (t : Tuning) (one other : List Sample) (n : ℕ) (is : IsTuned t) where
-  pub same_events : n ≤ length one → n ≤ length other → take n one ≡ take n other →
-      events_within t one n ≡ events_within t other n
-  same_events few few' same =
+  pub same_events : (one other : List Sample) (n : ℕ) → n ≤ length one → n ≤ length other →
+      take n one ≡ take n other → events_within t one n ≡ events_within t other n
+  same_events one other n few few' same =
       ap (λ (heard : List Event). Pilot t.phase t.energy ∷ heard)
-      (heard_of_first t is one n few
-      ∙ ap (λ s. heard_within t s n) same
-      ∙ sym (heard_of_first t is other n few'))
+      (of_first (heard_within t) heard_sooner one other n few few' same)
 
-  pub same_mark : n ≤ length one → n ≤ length other → take n one ≡ take n other →
-      mark t one n ≡ mark t other n
-  same_mark few few' same =
-      mark_of_first t is one n few
-      ∙ ap (λ s. mark t s n) same
-      ∙ sym (mark_of_first t is other n few')
+  pub same_mark : (one other : List Sample) (n : ℕ) → n ≤ length one → n ≤ length other →
+      take n one ≡ take n other → mark t one n ≡ mark t other n
+  same_mark = of_first (mark t) (mark_sooner t (low_of t) timed)

@@ -1,10 +1,10 @@
 -- The frames of a channel behind the mark, before they are decoded.
-use Rattle.heard_events.proofs.Common.{◌≡◌, ℕ, ◌+◌, ◌*◌, ◌<◌, ◌≤◌, Bool, true, false, List, [], ◌∷◌, ◌++◌, map, filter, length, refl, sym}
-use Rattle.heard_events.proofs.Common.{ap, ◌∙◌, arith, ℤ, Option, Some, None, take, drop, subst, length-take-le, take-append-drop, places}
-use Rattle.heard_events.proofs.Common.{Sample, frame_chips, Form, Data, power_bit, group_sums, power_places, scrambling, channel_stream}
-use Rattle.heard_events.proofs.Common.{has_power_control, mask_of, offset_of, row_of, state_at, paging_bound, unscrambled, frames_within}
-use Rattle.heard_events.proofs.Common.{power_of, soft_frame, Stream, frame_end, frame_start, is_in_file, known_at, known_by, IsTimed}
-use Rattle.heard_events.proofs.Common.{stream_end, Tuning, fingers_of, Channel, Paging, Mark, PowerControl, SoftFrame, ◌-◌, AgreeIn}
+use Rattle.heard_events.proofs.Common.{◌≡◌, ℕ, ◌+◌, ◌*◌, ◌<◌, ◌≤◌, Bool, true, false, List, [], ◌∷◌, ◌++◌, map, filter, length, refl, ap}
+use Rattle.heard_events.proofs.Common.{arith, ℤ, Some, None, subst, places, Sample, frame_chips, Form, Data, power_bit, group_sums}
+use Rattle.heard_events.proofs.Common.{power_places, scrambling, channel_stream, has_power_control, mask_of, offset_of, row_of, state_at}
+use Rattle.heard_events.proofs.Common.{paging_bound, unscrambled, frames_within, power_of, soft_frame, Stream, frame_end, frame_start}
+use Rattle.heard_events.proofs.Common.{is_in_file, known_at, known_by, IsTimed, stream_end, Tuning, fingers_of, Channel, Paging, Mark}
+use Rattle.heard_events.proofs.Common.{SoftFrame, AgreeIn}
 use Rattle.heard_events.specs.declared.channel.Channel.TheVariants.{Traffic}
 use Rattle.rake_finger.proofs.Sooner.{all_fit, softs_sooner, softs_same}
 use Rattle.heard_events.proofs.Arrivals.{frames_in, frames_ordered, known_is, by_parts, is_by}
@@ -74,11 +74,7 @@ pub some_power : (channel : Channel) (m : Mark) (k : ℕ) (softs' : List ℤ) (r
     Some (record { replaced = replaced; power_bits = power_bits }) ≡ power_of channel m k softs'
 some_power (Paging number) m k softs' replaced power_bits some replaced_is power_bits_are = absurd (cc)
 some_power (Traffic traffic) m k softs' replaced power_bits some replaced_is power_bits_are =
-    let of : List ℕ → List Bool → Option PowerControl =
-    λ ps cs. Some (record { replaced = ps; power_bits = cs }) in
-    ap (of replaced) power_bits_are
-    ∙ ap (λ (ps : List ℕ). of ps (map (power_bit (group_sums ps softs' ∷ [])) (places 16)))
-    replaced_is
+    rw (power_bits_are, replaced_is) refl
 
 -- WHAT IS RECEIVED OF A FRAME
 module _ (t : Tuning) (channel : Channel) (m : Mark) where
@@ -105,24 +101,18 @@ module _ (t : Tuning) (channel : Channel) (m : Mark) where
       (softs_sooner xs ys s.fingers s.form u
       (all_fit t.count (length xs) s.fingers s.form u inside ends))
 
-  -- the first samples alone decide what is received within them
-  pub frames_of_first : (samples : List Sample) (n : ℕ) → n ≤ length samples →
-      frames_within t channel m samples n ≡ frames_within t channel m (take n samples) n
+  -- and so do the frames that end within some samples
+  pub frames_sooner : (xs ys : List Sample) (n : ℕ) → n ≤ length xs →
+      frames_within t channel m (xs ++ ys) n ≡ frames_within t channel m xs n
   unfolding frames_within
-  frames_of_first samples n h =
-      let s = channel_stream t channel m in
-      let first = take n samples in
-      let rest = drop n samples in
-      let long : length first ≡ n = length-take-le n samples h in
-      ap (λ xs. map (soft_frame t channel m xs) (known_by t.count s n (paging_bound n)))
-      (sym (take-append-drop n samples))
-      ∙ ranges.map_ext_filter_places
-      (is_by (frames_in t.count s paging_bound) n)
-      (soft_frame t channel m (first ++ rest)) (soft_frame t channel m first) (paging_bound n)
+  frames_sooner xs ys n h =
+      let frames = frames_in t.count (channel_stream t channel m) paging_bound in
+      ranges.map_ext_filter_places (is_by frames n) (soft_frame t channel m (xs ++ ys))
+      (soft_frame t channel m xs) (paging_bound n)
       (λ k below kept.
-      let parts = by_parts (frames_in t.count s paging_bound) n k kept in
+      let parts = by_parts frames n k kept in
       let own = own_end t channel m k in
-      frame_sooner first rest k parts.0 (omega (arith, parts.1, own, long)))
+      frame_sooner xs ys k parts.0 (omega (arith, parts.1, own, h)))
 
 -- what is received of a frame is the same in two files that agree in its samples
 pub frame_same : (t : Tuning) (channel : Channel) (m : Mark) (one other : List Sample) (k : ℕ) →

@@ -27,7 +27,6 @@ pub use Rattle.frame_decoder.specs.Spans.{own_bits, score, sending}
 pub use Rattle.frame_decoder.specs.TrafficFrames.{power_bit, group_sums}
 unfoldable pub use Rattle.frame_decoder.specs.TrafficFrames.{decoded}
 pub use Rattle.frame_decoder.specs.declared.traffic.Decoded.{Decoded}
-pub use Rattle.paging_message.specs.HalfFrames.{half_frame_body, half_frame_capsule_ending}
 pub use Rattle.pilot_sets.specs.Standing.{Standing, new_standing}
 pub use Rattle.pilot_sets.specs.declared.change.SetChange.{SetChange}
 pub use Rattle.quality_bits.specs.Capsules.{is_stated, stated_bits}
@@ -64,7 +63,7 @@ pub use Rattle.heard_events.specs.Moments.{moment_place, moments_before, sets_be
 unfoldable pub use Rattle.heard_events.specs.Moments.{changed, heard_from, kept_to, passed, sets_at, told_by}
 pub use Rattle.heard_events.specs.Near.{IsTuned, low_of}
 pub use Rattle.heard_events.specs.Noted.{all_noted, noted}
-pub use Rattle.heard_events.specs.PagingEvents.{page_event, page_in, pages_behind}
+pub use Rattle.heard_events.specs.PagingEvents.{page_event, pages_behind}
 unfoldable pub use Rattle.heard_events.specs.PagingEvents.{bits_before, bits_up_to, page_at, pages_at, pages_from}
 pub use Rattle.heard_events.specs.PagingStreams.{paging_bound, paging_rate, paging_stream}
 pub use Rattle.rake_finger.specs.Scrambled.{unscrambled}
@@ -93,5 +92,4 @@ pub use Rattle.heard_events.specs.declared.event.Event.{Event}
 pub use Rattle.heard_events.specs.declared.event.Event.TheVariants.{Pilot}
 pub use Rattle.heard_events.specs.declared.leg.Leg.{Leg}
 pub use Rattle.heard_events.specs.declared.mark.Mark.{Mark}
-pub use Rattle.heard_events.specs.declared.soft_frame.PowerControl.{PowerControl}
 pub use Rattle.heard_events.specs.declared.soft_frame.SoftFrame.{SoftFrame}

@@ -1,10 +1,9 @@
 -- What is heard of a traffic channel's frame that has ended stays where more samples follow, and so does what it completes.
-use Rattle.heard_events.proofs.Common.{◌≡◌, ℕ, ◌+◌, ◌<◌, ◌≤◌, true, List, ◌++◌, length, map, ℤ, ap, ◌∙◌, arith, places, Sample, power_bit}
+use Rattle.heard_events.proofs.Common.{◌≡◌, ℕ, ◌+◌, ◌<◌, ◌≤◌, true, List, ◌++◌, length, map, ℤ, ap, arith, places, Sample, power_bit}
 use Rattle.heard_events.proofs.Common.{decoded, group_sums, Decoded, softs, Data, all_fingers, on_subchannel, subchannels, unscrambled}
-use Rattle.heard_events.proofs.Common.{all_sums, power_bits_at, decoded_at, frame_event, subchannel_sums, frame_known, frames_bound}
-use Rattle.heard_events.proofs.Common.{has_frame, replaced_in, stream_of, traffic_start, Tuning, Leg, Mark, Traffic, Bool, Option}
-use Rattle.heard_events.proofs.Common.{option_to_list, capsule_with, message_at, signal_at, signal_in, signal_of, signals_before}
-use Rattle.heard_events.proofs.Common.{flat_map_ext_filter_places}
+use Rattle.heard_events.proofs.Common.{all_sums, power_bits_at, decoded_at, subchannel_sums, frame_known, frames_bound, has_frame}
+use Rattle.heard_events.proofs.Common.{replaced_in, stream_of, traffic_start, Tuning, Leg, Mark, Traffic, Bool, Option, option_to_list}
+use Rattle.heard_events.proofs.Common.{message_at, signal_at, signal_of, signals_before, flat_map_ext_filter_places, refl}
 use Rattle.heard_events.specs.TrafficEvents.{frame_heard}
 use Rattle.heard_events.proofs.Arrivals.{Arrivals, given_more}
 use Rattle.heard_events.proofs.FrameBounds.{AreCloseAll, known_later}
@@ -62,9 +61,7 @@ module _ (t : Tuning) (traffic : Traffic) (m : Mark) (legs : ℕ → List Leg) w
     pub heard_sooner : (n : ℕ) → frame_heard t traffic m legs (xs ++ ys) n k
         ≡ frame_heard t traffic m legs xs n k
     heard_sooner n =
-        ap (λ (d : Decoded). frame_event n d (power_bits_at t traffic m legs (xs ++ ys) k))
-        decoded_sooner
-        ∙ ap (frame_event n (decoded_at t traffic m legs xs k)) power_bits_sooner
+        rw (decoded_sooner, power_bits_sooner) refl
 
   -- WHAT A FRAME COMPLETES
   -- the signaling of one frame more
@@ -105,12 +102,8 @@ module _ (t : Tuning) (traffic : Traffic) (m : Mark) (legs : ℕ → List Leg) w
         message_at t traffic m legs (xs ++ ys) k ≡ message_at t traffic m legs xs k
     unfolding message_at
     message_sooner xs ys k inside known =
-        let later = signal_at t traffic m legs (xs ++ ys) k in
-        let before = signals_before t traffic m legs xs k in
-        ap (λ (parts : List (List Bool)). signal_in t.check16 (capsule_with parts later))
-        (signals_sooner xs ys k
+        let before = signals_sooner xs ys k
         (λ j below inside'.
         let le = known_later t traffic m legs close j k below in
-        omega (arith, le, known)))
-        ∙ ap (λ (signal : Option (List Bool)). signal_in t.check16 (capsule_with before signal))
-        (signal_sooner xs ys k inside known)
+        omega (arith, le, known)) in
+        rw (before, signal_sooner xs ys k inside known) refl

@@ -1,10 +1,9 @@
 -- What is received of a traffic channel's frame is heard where the reference's pilot is active
 -- alone.
-use Rattle.heard_events.proofs.Common.{◌≡◌, ℕ, ◌==◌, Bool, List, [], ◌∷◌, map, refl, ap, ◌∙◌, pos, get_or, append-nil, Option, Some, eq-eqb}
-use Rattle.heard_events.proofs.Common.{places, Sample, power_bit, decoded, group_sums, new_standing, softs, Finger, Data, channel_stream}
-use Rattle.heard_events.proofs.Common.{reference_alone, traffic_channel, all_fingers, pilot_finger, soft_frame, raw_at, Stream, frame_softs}
-use Rattle.heard_events.proofs.Common.{power_bits_at, decoded_at, replaced_in, stream_of, traffic_start, traffic_stream, Tuning, fingers_of}
-use Rattle.heard_events.proofs.Common.{Mark, Traffic, PowerControl}
+use Rattle.heard_events.proofs.Common.{◌≡◌, ℕ, ◌==◌, List, [], ◌∷◌, map, refl, ap, ◌∙◌, pos, get_or, append-nil, Some, eq-eqb, places}
+use Rattle.heard_events.proofs.Common.{Sample, power_bit, decoded, group_sums, new_standing, channel_stream, reference_alone}
+use Rattle.heard_events.proofs.Common.{traffic_channel, all_fingers, pilot_finger, soft_frame, raw_at, Stream, frame_softs, power_bits_at}
+use Rattle.heard_events.proofs.Common.{decoded_at, replaced_in, stream_of, traffic_stream, Tuning, fingers_of, Mark, Traffic}
 use Rattle.heard_events.proofs.MarkStays.{pilot_alone}
 
 module _ (t : Tuning) (traffic : Traffic) (m : Mark) where
@@ -37,10 +36,7 @@ module _ (t : Tuning) (traffic : Traffic) (m : Mark) where
       (raw_at t (traffic_channel traffic) m samples k) ∷ [])) (places 16)
   unfolding power_bits_at places
   power_bits_alone samples k =
-      ap (λ (fs : List Finger). map
-      (power_bit (group_sums (replaced_in traffic m k)
-      (softs samples fs Data (traffic_start traffic m k)) ∷ [])) (places 16))
-      (fingers_alone k)
+      rw (fingers_alone k) refl
 
   pub power_alone : (samples : List Sample) (k : ℕ) →
       Some (record {
@@ -48,6 +44,4 @@ module _ (t : Tuning) (traffic : Traffic) (m : Mark) where
         power_bits = power_bits_at t traffic m (reference_alone traffic m) samples k;
       }) ≡ (soft_frame t (traffic_channel traffic) m samples k).power
   power_alone samples k =
-      let of : List Bool → Option PowerControl =
-      λ cs. Some (record { replaced = replaced_in traffic m k; power_bits = cs }) in
-      ap of (power_bits_alone samples k)
+      rw (power_bits_alone samples k) refl

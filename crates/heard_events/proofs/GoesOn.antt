@@ -1,5 +1,6 @@
 -- How what is told of channels goes on with the samples, where nothing of them is due.
 use Rattle.heard_events.proofs.Common.{◌≡◌, ℕ, ◌<◌, ◌≤◌, List, [], ◌++◌, length, length-append, map, refl, sym, ap, ◌∙◌, arith, Sample}
+use Rattle.heard_events.proofs.Common.{drop, take, length-take-le, take-append-drop}
 use Rattle.heard_events.proofs.Arrivals.{AreKnown, AreLater, Arrivals, all_left, left, none_between, none_left, none_now, now}
 
 -- Behind these samples nothing is told up to a number of samples, and what is told there is left:
@@ -83,3 +84,17 @@ mapped f {heard = heard} goes = record {
   quiet = λ more n past before. ap (map (f n)) (goes.quiet more n past before);
   come = λ more some most. ap (map (f (length (heard ++ more)))) (goes.come more some most);
 }
+
+-- What stays where more samples follow hangs on the first samples alone.
+pub of_first : {A : Type 0} (f : List Sample → ℕ → A) →
+    ((xs ys : List Sample) (n : ℕ) → n ≤ length xs → f (xs ++ ys) n ≡ f xs n) →
+    (one other : List Sample) (n : ℕ) → n ≤ length one → n ≤ length other →
+    take n one ≡ take n other → f one n ≡ f other n
+of_first f sooner one other n few few' same =
+    first one few ∙ ap (λ xs. f xs n) same ∙ sym (first other few')
+  where
+    first : (samples : List Sample) → n ≤ length samples → f samples n ≡ f (take n samples) n
+    first samples h =
+        let long = length-take-le n samples h in
+        ap (λ xs. f xs n) (sym (take-append-drop n samples))
+        ∙ sooner (take n samples) (drop n samples) n (omega (arith, long))

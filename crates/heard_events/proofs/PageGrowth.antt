@@ -2,8 +2,7 @@
 use Rattle.heard_events.proofs.Common.{◌≡◌, ℕ, suc, ◌+◌, ◌-◌, ◌<◌, ◌≤◌, ◌==◌, Bool, true, false, List, [], ◌++◌, length, refl, sym, ap, ◌∙◌}
 use Rattle.heard_events.proofs.Common.{arith, if◌then◌else◌, flat_map, range_with_len, option_to_list, eq-eqb, ne_eqb, Sample, page_at}
 use Rattle.heard_events.proofs.Common.{pages_from, pages_left, paging_bound, paging_stream, frame_own_bits, is_in_file, known_at, IsTimed}
-use Rattle.heard_events.proofs.Common.{Tuning, Mark, SpelledPage, take, Option, half_frame_body, half_frame_capsule_ending, bits_before}
-use Rattle.heard_events.proofs.Common.{bits_up_to, page_in, pages_at, paging_rate, flat_map_ext_range}
+use Rattle.heard_events.proofs.Common.{Tuning, Mark, SpelledPage, bits_up_to, pages_at, flat_map_ext_range}
 use Rattle.heard_events.proofs.Arrivals.{AreKnown, AreLater, Arrivals, NoneNow, frames_in, gives_same, left, left_same, next_left}
 use Rattle.heard_events.proofs.Arrivals.{none_now}
 use Rattle.heard_events.proofs.GoesOn.{GoesOn, goes_as, things_go}
@@ -78,16 +77,12 @@ module _ (t : Tuning) (channel : ℕ) (m : Mark) where
     unfolding page_at bits_up_to
     page_sooner xs ys k i inside known =
         let s = paging_stream t channel m in
-        let size : ℕ = half_frame_body (paging_rate m.prat) in
-        let page : List Bool → List Bool → Option SpelledPage = λ before own.
-        page_in t.check30 (half_frame_capsule_ending size (before ++ take (i + 1) own)) in
         let own = own_bits_sooner s timed xs ys k refl inside known in
         let before = bits_before_sooner s refl timed xs ys k
         (λ j below inside'.
         let le = known_le s timed j k inside' inside (omega arith) in
         omega (arith, le, known)) in
-        ap (λ (bits : List Bool). page bits (frame_own_bits t.count (xs ++ ys) s k)) before
-        ∙ ap (page (bits_before t.count xs s k)) own
+        rw (before, own) refl
 
     pages_from_sooner : (xs ys : List Sample) (k from : ℕ) →
         is_in_file t.count (paging_stream t channel m) k ≡ true →

@@ -135,10 +135,7 @@ pub told_first : (t : Tuning) (traffic : Traffic) (m : Mark) (legs : ℕ → Lis
     (xs ys : List Sample) (n : ℕ) → n ≤ length xs →
     told_by t traffic m legs (xs ++ ys) n ≡ told_by t traffic m legs xs n
 unfolding told_by
-told_first t traffic m legs xs ys n h =
-    ap (λ (first : List Sample).
-    map (page_event n) (pages_behind t t.paging (Some m) first n)
-    ++ told_at t traffic m legs first n) (first_same xs ys n h)
+told_first t traffic m legs xs ys n h = rw (first_same xs ys n h) refl
 
 module _ (t : Tuning) (traffic : Traffic) (m : Mark) (kept : ℕ → Standing) (j : ℕ)
     (xs ys : List Sample) where

@@ -1,11 +1,11 @@
 -- The active pilots of sets in order, actives a traffic channel is heard from them.
-use Rattle.mobile_core.proofs.Common.{◌≡◌, ℕ, zero, suc, ◌+◌, ◌*◌, ◌<◌, ◌≤◌, ◌==◌, Bool, true, false, List, [], ◌∷◌, ◌++◌, length, map}
-use Rattle.mobile_core.proofs.Common.{refl, sym, ap, arith, Some, slice_get, nat_lt, nat_le, ℤ, pos, get_or, All, inl, inr, cond, slice_set}
-use Rattle.mobile_core.proofs.Common.{replicate, subst, Option, None, unsigned_abs, nat_eq, if◌then◌else◌, and_from, cases_Bool, cases_lt}
-use Rattle.mobile_core.proofs.Common.{eqb-true, eqb-false, eq-eqb, ne_eqb, le-leb, le-ltb, lt-ltb, All-set, IsOrderly, IsStanding, times}
-use Rattle.mobile_core.proofs.Common.{times_in, pilots_of_actives, handed_off, Standing, began_in, deltas_with, due_at, due_for, shown}
-use Rattle.mobile_core.proofs.Common.{shown_active, Active, Accepted, ActivePilot, PilotSets, Strength, is_close, legs_close, legs_rows}
-use Rattle.mobile_core.proofs.Common.{places_for, places_in, leg_of, legs_of, Mark}
+use Rattle.mobile_core.proofs.Common.{◌≡◌, ℕ, zero, suc, ◌+◌, ◌*◌, ◌<◌, ◌≤◌, ◌==◌, Bool, true, false, List, [], ◌∷◌, length, map, refl, sym}
+use Rattle.mobile_core.proofs.Common.{ap, arith, Some, slice_get, nat_lt, nat_le, ℤ, pos, get_or, All, inl, inr, cond, slice_set, subst}
+use Rattle.mobile_core.proofs.Common.{Option, None, unsigned_abs, nat_eq, if◌then◌else◌, and_from, cases_Bool, cases_lt, eqb-true}
+use Rattle.mobile_core.proofs.Common.{eqb-false, eq-eqb, ne_eqb, le-leb, le-ltb, lt-ltb, All-set, IsOrderly, IsStanding, times}
+use Rattle.mobile_core.proofs.Common.{pilots_of_actives, handed_off, Standing, began_in, deltas_with, due_at, due_for, shown, shown_active}
+use Rattle.mobile_core.proofs.Common.{Active, Accepted, ActivePilot, PilotSets, Strength, is_close, legs_close, legs_rows, places_for}
+use Rattle.mobile_core.proofs.Common.{places_in, leg_of, legs_of, Mark, get_or_from_slice_get, slice_get_within}
 use Rattle.pilot_sets.specs.Orderly as orderly
 
 -- HOW OFTEN A PILOT IS ACTIVE
@@ -92,28 +92,20 @@ get_close (x ∷ deltas) zero h = le-leb (unsigned_abs x) 226 (h 0 (pos 0) (omeg
 get_close (x ∷ deltas) (suc i) h =
     get_close deltas i (λ k d less. h (suc k) d (omega (arith, less)))
 
-all_legs_close : (m : Mark) (deltas : List ℤ) (actives : List Active) →
+pub active_close : (m : Mark) (deltas : List ℤ) (actives : List Active) →
     All (λ d. unsigned_abs d ≤ 226) deltas → legs_close (map (leg_of m deltas) actives) ≡ true
-all_legs_close m deltas [] h = refl
-all_legs_close m deltas (a ∷ actives) h =
+active_close m deltas [] h = refl
+active_close m deltas (a ∷ actives) h =
     and_from (is_close (leg_of m deltas a).finger) (legs_close (map (leg_of m deltas) actives))
-    (get_close deltas a.pilot h) (all_legs_close m deltas actives h)
+    (get_close deltas a.pilot h) (active_close m deltas actives h)
 
-pub active_close : (m : Mark) (s : Standing) → All (λ d. unsigned_abs d ≤ 226) s.deltas →
-    legs_close (legs_of m s) ≡ true
-active_close m s h = all_legs_close m s.deltas (shown s) h
-
-all_legs_rows : (m : Mark) (deltas : List ℤ) (actives : List Active) →
+pub active_rows : (m : Mark) (deltas : List ℤ) (actives : List Active) →
     All (λ (a : Active). a.row < 64) actives → legs_rows (map (leg_of m deltas) actives) ≡ true
-all_legs_rows m deltas [] h = refl
-all_legs_rows m deltas (a ∷ actives) h =
+active_rows m deltas [] h = refl
+active_rows m deltas (a ∷ actives) h =
     and_from (nat_lt a.row 64) (legs_rows (map (leg_of m deltas) actives))
     (lt-ltb a.row 64 (h 0 a (omega arith)))
-    (all_legs_rows m deltas actives (λ k d less. h (suc k) d (omega (arith, less))))
-
-pub active_rows : (m : Mark) (s : Standing) → All (λ (a : Active). a.row < 64) (shown s) →
-    legs_rows (legs_of m s) ≡ true
-active_rows m s h = all_legs_rows m s.deltas (shown s) h
+    (active_rows m deltas actives (λ k d less. h (suc k) d (omega (arith, less))))
 
 -- DELTAS
 -- those that were measured are close actives the others
@@ -127,16 +119,6 @@ deltas_close (s ∷ strengths) deltas fresh h =
     (λ k d less. fresh (suc k) d (omega (arith, less)))
     (All-set (λ (d : ℤ). unsigned_abs d ≤ 226) deltas s.pilot s.delta
     (fresh 0 s (omega arith)) h)
-
--- no pilot was measured
-pub zeros_close : (n : ℕ) → All (λ d. unsigned_abs d ≤ 226) (replicate n (pos 0))
-zeros_close zero = λ k d less. absurd (omega (arith, less))
-zeros_close (suc n) = each n (zeros_close n)
-  where
-    each : (n : ℕ) → All (λ d. unsigned_abs d ≤ 226) (replicate n (pos 0)) →
-        All (λ d. unsigned_abs d ≤ 226) (replicate (suc n) (pos 0))
-    each n rest zero d less = omega arith
-    each n rest (suc k) d less = rest k d (omega (arith, less))
 
 -- a direction leaves them
 chosen_deltas : (b : Bool) (s s' : Standing) → s.deltas ≡ s'.deltas →
@@ -154,26 +136,8 @@ waiting_deltas (Some direction) time s =
 pub due_deltas : (time : ℕ) (s : Standing) → (due_at time s).deltas ≡ s.deltas
 due_deltas time s = waiting_deltas s.sets.waiting time s
 
--- LISTS WHOSE ELEMENTS ALL HAVE A PROPERTY
-pub all_push : {X : Type 0} (P : X → Type 0) (xs : List X) (x : X) → All P xs → P x →
-    All P (xs ++ x ∷ [])
-all_push P [] x h here = only
-  where
-    only : All P (x ∷ [])
-    only zero d less = here
-    only (suc k) d less = absurd (omega (arith, less))
-all_push {X} P (y ∷ xs) x h here =
-    each (all_push P xs x (λ k d less. h (suc k) d (omega (arith, less))) here)
-  where
-    each : All P (xs ++ x ∷ []) → All P (y ∷ (xs ++ x ∷ []))
-    each rest zero d less = h 0 y (omega arith)
-    each rest (suc k) d less = rest k d (omega (arith, less))
-
+-- one element of a list whose elements all have a property
 pub all_at : {X : Type 0} (P : X → Type 0) (xs : List X) (i : ℕ) (x : X) → All P xs →
     slice_get xs i ≡ Some x → P x
-all_at P [] i x h read = absurd (cc)
-all_at P (y ∷ xs) zero x h read =
-    let same : y ≡ x = cc in
-    subst P same (h 0 y (omega arith))
-all_at P (y ∷ xs) (suc i) x h read =
-    all_at P xs i x (λ k d less. h (suc k) d (omega (arith, less))) read
+all_at P xs i x h read =
+    subst P (get_or_from_slice_get xs i x x read) (h i x (slice_get_within xs i x read))

@@ -7,7 +7,7 @@ use Rattle.mobile_core.proofs.Common.{TrafficReceiver, IsSomeAnd, IsSoundPaging,
 use Rattle.mobile_core.proofs.Common.{bits_heard, listed, traffic_heard, traffic_events_left}
 use Rattle.heard_events.proofs.FollowedEvents.{followed_behind}
 use Rattle.mobile_core.proofs.FramesFollowed.{frames_go, frames_more, told_few}
-use Rattle.heard_events.proofs.GoesOn.{GoesOn, both, joined}
+use Rattle.heard_events.proofs.GoesOn.{GoesOn, both}
 use Rattle.heard_events.proofs.MarkStays.{pages_from_mark}
 use Rattle.mobile_core.proofs.PagesFollowed.{bits_few, pages_go, pages_more, pages_quiet}
 
@@ -75,9 +75,7 @@ module _ {t : Tuning} {f : Followed} {mark : Option Mark} {heard : List Sample}
       ≡ followed_events_left t mark heard f)
   opened paging traffic m unpaged unfollowed pages frames = (
     moved paging traffic (Some m) heard [] (sym pages.1) pages.0 frames.0,
-    joined pages.1 frames.1
-        ∙ sym (joined (ap (paging_events_left t mark heard) unpaged)
-        (ap (traffic_events_left t mark heard) unfollowed)),
+    rw (pages.1, frames.1, unpaged, unfollowed) refl,
   )
 
   -- where no channel is assigned none is heard
@@ -105,10 +103,7 @@ module _ {t : Tuning} {f : Followed} {mark : Option Mark} {heard : List Sample}
       (λ r e. omega (arith, waits.paging r e, here))).given (omega arith) in
       let on = hears (subst (HearsFrames t mark f.traffic heard) quiet st.traffic) in (
         moved f.paging traffic mark heard [] (sym quiet) st.paging on.0,
-        ap (λ (es : List Event). listed event ++ (es ++ traffic_events_left t mark heard traffic))
-            quiet
-            ∙ on.1
-            ∙ sym (ap (λ (es : List Event). es ++ traffic_events_left t mark heard f.traffic) quiet),
+        rw quiet on.1,
       )
 
   module _ (sound : IsSoundFollowed f) (idle : ¬ IsFollowedDue t.count f) where

@@ -2,23 +2,16 @@
 pub use Rattle.std.proofs.Common.{All, Bool, IfSome, List, None, Option, Some, [], ap, append-nil, arith, cond, drop, false, filter, get_or}
 pub use Rattle.std.proofs.Common.{inl, inr, length, length-append, length-drop, length-take, map, nat_le, nat_lt, pos, refl, replicate}
 pub use Rattle.std.proofs.Common.{rules, slice_get, slice_set, subst, suc, sym, take, true, zero, ℕ, ℤ, ◌%◌, ◌&&◌, ◌*◌, ◌++◌, ◌+◌, ◌-◌, ◌/◌}
-pub use Rattle.std.proofs.Common.{◌<◌, ◌==◌, ◌^◌, ◌||◌, ◌∙◌, ◌∷◌, ◌≡◌, ◌≤◌, ◌⊎◌}
+pub use Rattle.std.proofs.Common.{◌<◌, ◌==◌, ◌^◌, ◌||◌, ◌∙◌, ◌∷◌, ◌≡◌, ◌≤◌, ◌⊎◌, max, slice_index_or, ◌*ℤ◌}
 pub use Rattle.std.proofs.lemmas.Bool.{and_from, and_parts, both_ways, cases_Bool, cases_lt, cases_order, eq-eqb, eqb-false, eqb-true}
-pub use Rattle.std.proofs.lemmas.Bool.{false_from_ne_true, le-leb, le-ltb, leb-true, lt-leb, lt-ltb, ne_eqb}
-pub use Rattle.std.proofs.Common.{inl, inr, length, length-append, length-drop, length-take, map, max, nat_le, nat_lt, pos, refl, replicate}
-pub use Rattle.std.proofs.Common.{rules, slice_get, slice_index_or, slice_set, subst, suc, sym, take, true, zero, ℕ, ℤ, ◌%◌, ◌&&◌, ◌*ℤ◌}
-pub use Rattle.std.proofs.Common.{◌*◌, ◌++◌, ◌+◌, ◌-◌, ◌/◌, ◌<◌, ◌==◌, ◌^◌, ◌||◌, ◌∙◌, ◌∷◌, ◌≡◌, ◌≤◌, ◌⊎◌}
-pub use Rattle.std.proofs.lemmas.Bool.{and_from, and_parts, cases_Bool, cases_lt, cases_order, eq-eqb, eqb-false, eqb-true}
-pub use Rattle.std.proofs.lemmas.Bool.{false_from_ne_true, le-leb, le-ltb, lt-leb, lt-ltb, ltb-true, ne_eqb}
+pub use Rattle.std.proofs.lemmas.Bool.{false_from_ne_true, le-leb, le-ltb, leb-true, lt-leb, lt-ltb, ne_eqb, ltb-true}
 pub use Rattle.std.proofs.lemmas.Grind.{flat_map-append}
 pub use Rattle.std.proofs.lemmas.List.{append_assoc, at_drop_more, length-take-le, map-append, take_all, take_more, take_rest}
 pub use Rattle.std.proofs.lemmas.List.Folds.{list_all-append, list_any-append, sum_by-replicate}
 pub use Rattle.std.specs.List.{flat_map, list_all, list_any}
 pub use Rattle.std.specs.Option.{ForSome, IsSomeAnd, MatchOption, option_map_or, option_or, option_to_list}
-pub use Rattle.std.specs.Prelude.{IsTrue, if◌then◌else◌, int_lt, is_some, nat_eq, sum_by, unsigned_abs}
-pub use Rattle.std.specs.Option.{ForSome, IsSomeAnd, option_map_or, option_or, option_to_list}
-pub use Rattle.std.specs.Prelude.{IsTrue, if◌then◌else◌, int_le, int_lt, is_some, nat_eq, sum_by, unsigned_abs}
-pub use Rattle.std.proofs.lemmas.List.Elements.{All-append, All-set, filter-append}
+pub use Rattle.std.specs.Prelude.{IsTrue, if◌then◌else◌, int_lt, is_some, nat_eq, sum_by, unsigned_abs, int_le}
+pub use Rattle.std.proofs.lemmas.List.Elements.{All-append, All-push, All-replicate, All-set, filter-append}
 pub use Rattle.std.proofs.Math.Seq.{take-add}
 pub use Rattle.std.proofs.lemmas.Option.{get_or_from_slice_get, slice_get_within}
 pub use Rattle.chip_core.proofs.BitLists.{taken_more}
@@ -31,8 +24,7 @@ pub use Rattle.chip_core.specs.declared.assignment.Traffic.{Traffic}
 pub use Rattle.chip_core.specs.declared.check_form.CheckForm.{CheckForm}
 pub use Rattle.chip_core.specs.declared.sample.Sample.{Sample}
 pub use Rattle.frame_decoder.proofs.RateCodewords.{length-rate_codeword}
-pub use Rattle.frame_decoder.specs.Spans.{paging_channel}
-pub use Rattle.frame_decoder.specs.Spans.{own_bits}
+pub use Rattle.frame_decoder.specs.Spans.{paging_channel, own_bits}
 pub use Rattle.frame_decoder.specs.TrafficFrames.{best_candidate, better, power_bit, frame_bits, group_sums, has_quality, not_good}
 pub use Rattle.frame_decoder.specs.TrafficFrames.{preferred, rate_frame, rate_codeword, unreplaced}
 unfoldable pub use Rattle.frame_decoder.specs.TrafficFrames.{decoded}
@@ -91,7 +83,7 @@ pub use Rattle.paging_message.specs.declared.message.PagingMessage.{PagingMessag
 pub use Rattle.pilot_search.specs.declared.sweeping.Best.{Best}
 pub use Rattle.pilot_sets.specs.Directions.{accepted_of, direction_fault}
 pub use Rattle.pilot_sets.specs.Handoffs.{handed_off}
-pub use Rattle.pilot_sets.specs.Orderly.{IsOrderly, IsStanding, times, times_in}
+pub use Rattle.pilot_sets.specs.Orderly.{IsOrderly, IsStanding, times}
 pub use Rattle.pilot_sets.specs.PilotSets.{pilots_of_actives}
 pub use Rattle.pilot_sets.specs.Standing.{Standing, began_in, change_at, deltas_with, due_at, due_for, new_standing, shown, shown_active}
 pub use Rattle.pilot_sets.specs.Standing.{stepped, unless_refused, with_neighbors, with_thresholds}
@@ -119,14 +111,12 @@ pub use Rattle.traffic_message.specs.Multiplex.{primary_bits}
 unfoldable pub use Rattle.traffic_message.specs.Multiplex.{split, split_9600}
 pub use Rattle.traffic_message.specs.declared.body.TrafficBody.{TrafficBody}
 pub use Rattle.traffic_message.specs.declared.multiplex.Mux.{Mux}
-pub use Rattle.reception.specs.Clocks.{IsAt, IsDueAt, clock_from, first_frame, frame_come, frame_heard}
+pub use Rattle.reception.specs.Clocks.{IsAt, IsDueAt, clock_from, first_frame, frame_come, frame_heard, span_from}
 pub use Rattle.mobile_core.specs.BehindMark.{FollowsPages, FollowsTraffic, IsUnheard, IsUnpaged, SetsMark, paging_due, paging_left}
 pub use Rattle.mobile_core.specs.BehindMark.{traffic_left}
 pub use borrow.Rule.Slice.PartMut.{post_of}
 pub use mir.Syntax.{w64, w8}
 pub use mir.Val.{SFits}
-pub use Rattle.reception.specs.Clocks.{IsAt, IsDueAt, clock_from, first_frame, frame_come, frame_heard, span_from}
-pub use Rattle.mobile_core.specs.BehindMark.{FollowsPages, FollowsTraffic, IsUnheard, IsUnpaged, SetsMark, paging_left, traffic_left}
 pub use Rattle.mobile_core.specs.FollowedChannels.{EndFrom, HearsFollowed, HearsFrames, HearsPages, IsFollowedDue, IsSoundFollowed}
 pub use Rattle.mobile_core.specs.FollowedChannels.{WaitFrom, followed_events_left, followed_heard, paging_events_left, traffic_events_left}
 pub use Rattle.mobile_core.specs.FrameReceiving.{HasGiven, frame_passed}

@@ -3,10 +3,9 @@ use Rattle.mobile_core.proofs.Common.{◌≡◌, ℕ, ◌+◌, ◌^◌, ◌<◌,
 use Rattle.mobile_core.proofs.Common.{Option, Some, None, take, true, false, length-append, Bool, is_some, if◌then◌else◌, ForSome}
 use Rattle.mobile_core.proofs.Common.{IsSomeAnd, cases_lt, false_from_ne_true, ne_eqb, take_all, Sample, listed, frames_at, kept_to}
 use Rattle.mobile_core.proofs.Common.{legs_at, legs_by, messages_at, moment_place, moments_before, sets_at, pages_behind, coming_place}
-use Rattle.mobile_core.proofs.Common.{FollowsTraffic, HearsFrames, IsUnheard, traffic_left, traffic_events_left, if_followed, HearsTraffic}
-use Rattle.mobile_core.proofs.Common.{HearsWith, IsSoundTraffic, IsTrafficDue, at_of, ◌∷◌, kept_in, next_end, noted_by, sets_left_of}
-use Rattle.mobile_core.proofs.Common.{traffic_heard, WaitsAt, traffic_left_of, told_left_with, Tuning, Event, Leg, Mark, Traffic}
-use Rattle.mobile_core.proofs.Common.{TrafficReceiver}
+use Rattle.mobile_core.proofs.Common.{FollowsTraffic, HearsFrames, IsUnheard, traffic_left, traffic_events_left, HearsTraffic, HearsWith}
+use Rattle.mobile_core.proofs.Common.{IsSoundTraffic, IsTrafficDue, at_of, ◌∷◌, kept_in, next_end, noted_by, sets_left_of, traffic_heard}
+use Rattle.mobile_core.proofs.Common.{WaitsAt, traffic_left_of, told_left_with, Tuning, Event, Leg, Mark, Traffic, TrafficReceiver}
 use Rattle.heard_events.proofs.FollowedEvents.{told_behind}
 use Rattle.mobile_core.proofs.FramesHeard.{none_come, none_kept, told_come, told_given, told_quiet}
 use Rattle.mobile_core.proofs.FramesTold.{hears_noted}
@@ -169,18 +168,11 @@ module _ {t : Tuning} {mark : Option Mark} {r : TrafficReceiver} {heard : List S
 
   pub left_is : (samples : List Sample) (after : TrafficReceiver) →
       traffic_left t mark samples after ≡ traffic_left_of t st.traffic st.set samples after
-  left_is samples after =
-      ap (λ (x : Option Traffic).
-      if_followed (λ traffic m. traffic_left_of t traffic m samples after) x mark) st.traffic_is
-      ∙ ap (λ (x : Option Mark).
-      if_followed (λ traffic m. traffic_left_of t traffic m samples after) (Some st.traffic) x)
-      st.set_is
+  left_is samples after = rw (st.traffic_is, st.set_is) refl
 
   told_is : (samples : List Sample) (n : ℕ) →
       told_behind t t.traffic mark samples n ≡ all_told t st.traffic st.set samples n
-  told_is samples n =
-      ap (λ (x : Option Traffic). told_behind t x mark samples n) st.traffic_is
-      ∙ ap (λ (x : Option Mark). told_behind t (Some st.traffic) x samples n) st.set_is
+  told_is samples n = rw (st.traffic_is, st.set_is) refl
 
   -- what was due first has been heard
   pub tells_left : (after : TrafficReceiver) (event : Option Event) →
@@ -188,9 +180,7 @@ module _ {t : Tuning} {mark : Option Mark} {r : TrafficReceiver} {heard : List S
       ≡ traffic_left_of t st.traffic st.set heard r →
       listed event ++ traffic_left t mark heard after ≡ traffic_left t mark heard r
   tells_left after event left =
-      ap (λ (es : List Event). listed event ++ es) (left_is heard after)
-      ∙ left
-      ∙ sym (left_is heard r)
+      rw (left_is heard after, left_is heard r) left
 
 -- the sets have taken what an event of the paging channel tells
 pub frames_noted : {t : Tuning} {mark : Option Mark} {r : TrafficReceiver} {heard : List Sample}

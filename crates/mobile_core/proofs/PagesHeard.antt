@@ -45,8 +45,6 @@ hears_none t channel m r heard receives next state mask rate size none framed =
     let empty : bits_before t.count heard s clock.next ≡ [] =
     bits_before_none t.count heard s clock.low clock.next receives.clocked.timed
     (omega (arith, next)) in
-    let all : bits_before t.count heard s clock.next ++ take r.place own ≡ [] =
-    ap (λ (bits : List Bool). bits ++ take r.place own) empty ∙ none_taken r.place own none in
     record {
       receives = receives;
       state_is = state;
@@ -54,7 +52,7 @@ hears_none t channel m r heard receives next state mask rate size none framed =
       rate_is = rate;
       size_is = size;
       under_way = λ some. absurd (omega (arith, some, none));
-      framed = subst (StandsFor r.framer) (sym all) framed;
+      framed = rw (empty, none_taken r.place own none) framed;
     }
 
 module _ {t : Tuning} {channel : ℕ} {m : Mark} {r : PagingReceiver} {heard : List Sample}
@@ -80,12 +78,6 @@ module _ {t : Tuning} {channel : ℕ} {m : Mark} {r : PagingReceiver} {heard : L
       let own = frame_own_bits t.count heard s next in
       let later = frame_own_bits t.count (heard ++ more) s next in
       let same = bits_before_sooner s refl is.timed heard more next (before_next is) in
-      let before = bits_before t.count heard s next in
-      let taken : before ++ take r.place own
-      ≡ bits_before t.count (heard ++ more) s next ++ take r.place later =
-      ap (λ (bits : List Bool). before ++ bits)
-      (none_taken r.place own z ∙ sym (none_taken r.place later z))
-      ∙ ap (λ (bits : List Bool). bits ++ take r.place later) (sym same) in
       record {
         receives = receives_more st.receives more none within most;
         state_is = st.state_is;
@@ -93,7 +85,8 @@ module _ {t : Tuning} {channel : ℕ} {m : Mark} {r : PagingReceiver} {heard : L
         rate_is = st.rate_is;
         size_is = st.size_is;
         under_way = λ some. absurd (none (st.under_way some).due);
-        framed = subst (StandsFor r.framer) taken st.framed;
+        framed = rw (same, none_taken r.place later z)
+            (rw (none_taken r.place own z) at st.framed);
       }
 
   -- one frame more has come
@@ -165,13 +158,9 @@ module _ {t : Tuning} {channel : ℕ} {m : Mark} {r : PagingReceiver} {heard : L
         let first = pages_next t channel m heard next r.place (rw own_is at below) in
         let all = left_next t channel m r.received.clock.low is.timed heard next r.place
         (due_inside is d) (due_known is d) in
-        sym (all
-        ∙ ap (λ (ps : List SpelledPage). ps ++ others) first
-        ∙ append_assoc (option_to_list (page_at t channel m heard next r.place))
-        (pages_from t channel m heard next (r.place + 1)) others
-        ∙ ap (λ (ps : List SpelledPage).
-        option_to_list (page_at t channel m heard next r.place) ++ ps) (sym rest_is)
-        ∙ ap (λ (p : Option SpelledPage). option_to_list p ++ rest) (sym page_here))
+        rw (rest_is, page_here, all, first)
+        (sym (append_assoc (option_to_list (page_at t channel m heard next r.place))
+        (pages_from t channel m heard next (r.place + 1)) others))
 
     -- a bit that isn't its frame's last
     hears_inside : r.place + 1 < length frame →
@@ -215,13 +204,7 @@ module _ {t : Tuning} {channel : ℕ} {m : Mark} {r : PagingReceiver} {heard : L
         let later = frame_own_bits t.count heard s (next + 1) in
         let whole : take (r.place + 1) own ≡ own =
         take_all (r.place + 1) own (rw own_is at last) in
-        let all : before ++ take (r.place + 1) own
-        ≡ bits_before t.count heard s (next + 1) ++ take 0 later =
-        ap (λ (bits : List Bool). before ++ bits) whole
-        ∙ sym (bits_before_more t.count heard s next (due_inside is d))
-        ∙ sym (append-nil (bits_before t.count heard s (next + 1)))
-        ∙ ap (λ (bits : List Bool). bits_before t.count heard s (next + 1) ++ bits)
-        (sym (take-none later)) in
+        let more = bits_before_more t.count heard s next (due_inside is d) in
         let none = pages_behind_last t channel m heard next (r.place + 1) (rw own_is at last) in
         let others = pages_left t channel m heard (next + 1) 0 in
         record {
@@ -232,7 +215,7 @@ module _ {t : Tuning} {channel : ℕ} {m : Mark} {r : PagingReceiver} {heard : L
             rate_is = st.rate_is;
             size_is = size_is ∙ st.size_is;
             under_way = λ some. absurd (omega (arith, some));
-            framed = subst (StandsFor framer) all stands_on;
+            framed = rw (more, take-none later, append-nil (before ++ own)) (rw whole at stands_on);
           };
           left = left_here others
               (sym (ap (λ (ps : List SpelledPage). ps ++ others) none));

@@ -1,13 +1,21 @@
 -- Steps of a handset that follow one another.
 use Rattle.mobile_core.proofs.Common.{◌≡◌, ℕ, ◌+◌, List, [], ◌++◌, length, length-append, length-take, length-drop, take, drop, sym, ap}
 use Rattle.mobile_core.proofs.Common.{◌∙◌, subst, ◌≤◌, arith, Option, Some, None, IfSome, append_assoc, take-add, Sample, listed, at_of}
-use Rattle.mobile_core.proofs.Common.{Steps, Event, Mobile}
+use Rattle.mobile_core.proofs.Common.{Steps, Event, Mobile, ◌<◌, ◌^◌, followed_heard}
 use Rattle.std.proofs.lemmas.List.{append-nil}
 use Rattle.mobile_core.specs.Standing.{StandsFor}
+use Rattle.mobile_core.proofs.ChannelsFollowed.{followed_few}
 
 pub one_or_none : (event : Option Event) → length (listed event) ≤ 1
 one_or_none None = omega arith
 one_or_none (Some event) = omega arith
+
+-- what a handset has heard is a small number
+pub heard_few : (m : Mobile) → m.sync.received.clock.next + followed_heard m.followed < 2 ^ 42
+heard_few m =
+    let clock = m.sound.hears.channel.clocked in
+    let few = followed_few m.followed m.sound.follows in
+    omega (arith, few, clock.next_have, clock.have_end, clock.end_most)
 
 -- an event that ends with the last sample taken
 pub ends_here : {place n : ℕ} (event : Option Event) → IfSome event (λ e. at_of e ≡ place) →

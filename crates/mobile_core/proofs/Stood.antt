@@ -1,11 +1,10 @@
 -- What a handset stands for, step by step.
 use Rattle.mobile_core.proofs.Common.{◌≡◌, ℕ, ◌+◌, ◌<◌, ◌≤◌, false, List, [], ◌∷◌, ◌++◌, length, refl, sym, ap, subst, ◌∙◌, arith, inl, inr}
-use Rattle.mobile_core.proofs.Common.{Option, Some, None, Bool, true, IsTrue, is_some, list_any, ForSome, option_or, append_assoc}
-use Rattle.mobile_core.proofs.Common.{list_any-append, Sample, Best, Held, HoldsLast, IsDueAt, events, EndFrom, HearsFollowed}
-use Rattle.mobile_core.proofs.Common.{IsFollowedDue, IsSoundFollowed, WaitFrom, followed_events_left, listed, pilot_left, sync_events_left}
-use Rattle.mobile_core.proofs.Common.{first_of, mark, mark_before, marks_at, sets_mark, AreNear, SetsMark, paging_events_left, IsSoundSync}
-use Rattle.mobile_core.proofs.Common.{Parts, Stands, HearsSync, HearsNext, traffic_events_left, Tuning, sync_stream, Event, Pilot, Followed}
-use Rattle.mobile_core.proofs.Common.{Mark, SyncReceiver, ◌||◌}
+use Rattle.mobile_core.proofs.Common.{Option, Some, None, Bool, true, IsTrue, is_some, list_any, ForSome, append_assoc, list_any-append}
+use Rattle.mobile_core.proofs.Common.{Sample, Best, Held, HoldsLast, IsDueAt, events, EndFrom, HearsFollowed, IsFollowedDue}
+use Rattle.mobile_core.proofs.Common.{IsSoundFollowed, WaitFrom, followed_events_left, listed, pilot_left, sync_events_left, mark}
+use Rattle.mobile_core.proofs.Common.{sets_mark, AreNear, SetsMark, paging_events_left, IsSoundSync, Parts, Stands, HearsSync, HearsNext}
+use Rattle.mobile_core.proofs.Common.{traffic_events_left, Tuning, sync_stream, Event, Pilot, Followed, Mark, SyncReceiver, ◌||◌}
 use Rattle.std.proofs.lemmas.List.{append-nil}
 use Rattle.mobile_core.proofs.ChannelsFollowed.{ends_later, followed_more, goes_on}
 use Rattle.reception.proofs.ClockSteps.{before_next, from_next, due_inside}
@@ -229,11 +228,9 @@ module _ {t : Tuning} {p : Parts} {heard : List Sample} {given : List Event}
           SetsMark (length heard) before after.mark
       by_mark (Some m) e =
           let k : ℕ = p.sync.received.clock.next in
-          inl (hears.marked
-          ∙ ap (mark_before t heard) next
-          ∙ mark_before_more t heard k (due_inside st.sync.receives.clocked due)
-          ∙ ap (λ (x : Option Mark). option_or x (first_of (marks_at t heard k)))
-          (sym st.sync.marked ∙ e))
+          let before = sym st.sync.marked ∙ e in
+          let more = mark_before_more t heard k (due_inside st.sync.receives.clocked due) in
+          inl (rw (hears.marked, next, more, before) refl)
       by_mark None e =
           inr (
             refl,

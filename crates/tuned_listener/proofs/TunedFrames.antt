@@ -3,10 +3,10 @@ use Rattle.tuned_listener.proofs.Common.{◌≡◌, ℕ, zero, suc, ◌+◌, ◌
 use Rattle.tuned_listener.proofs.Common.{length, take, drop, refl, sym, ap, ◌∙◌, subst, arith, inl, inr, nat_le, Option, None, Some}
 use Rattle.tuned_listener.proofs.Common.{append_assoc, take-add, length-append, StartsWith, Appends, range_with_len, option_to_list}
 use Rattle.tuned_listener.proofs.Common.{Appends-nil, Appends-trans, and_from, and_parts, cases_Bool, false_from_ne_true, le-leb, leb-true}
-use Rattle.tuned_listener.proofs.Common.{map-append, take-append-drop, take_all, take_at, places, Sample, AppendsPrefix, frame_chips, Form}
+use Rattle.tuned_listener.proofs.Common.{map-append, take-append-drop, take_all, places, Sample, AppendsPrefix, frame_chips, Form}
 use Rattle.tuned_listener.proofs.Common.{channel_stream, paging_bound, frames_within, soft_frame, soft_frames, is_in_file, known_at}
 use Rattle.tuned_listener.proofs.Common.{IsTimed, stream_end, IsTunedTo, IsTunerStep, Tuning, Channel, Mark, SoftFrame, Tuner, TunerStep}
-use Rattle.tuned_listener.proofs.Common.{known_between, known_le, form_by, frames_of_first, HoldsFrames, WritesFrames, WritesFramesPart}
+use Rattle.tuned_listener.proofs.Common.{known_between, known_le, form_by, frames_sooner, HoldsFrames, WritesFrames, WritesFramesPart}
 use Rattle.tuned_listener.proofs.Common.{slot_behind, slot_more, frame_text, frames_text, text_from, FrameWriter, TunedText}
 use Rattle.tuned_listener.proofs.FrameTexts.{kept_behind, kept_behind_none, kept_behind_one, text_of_none, text_of_one, texts_joined}
 use Rattle.tuned_listener.proofs.Prefixes.{begins_more, prefix_before, prefix_behind, taken_begins}
@@ -99,8 +99,7 @@ module _ (t : Tuning) (channel : Channel) (m : Mark) {low : ℕ}
       ranges.filter_enough (within n) (paging_bound n) (paging_bound n') (within_bound n)
       (λ k le. within_bound n k (omega (arith, le, more))) in
       let first : frames_within t channel m (xs ++ ys) n ≡ soft_frames t channel m xs =
-      frames_of_first t channel m (xs ++ ys) n more
-      ∙ ap (λ (zs : List Sample). frames_within t channel m zs n) (take_at xs ys n refl) in (
+      frames_sooner t channel m xs ys n (omega arith) in (
         map frame rest,
         ap (map frame) parted
             ∙ map-append frame (filter (within n) (places (paging_bound n'))) rest

@@ -1,6 +1,6 @@
 use Rattle.mobile_core.proofs.Common.{◌≡◌, ◌<◌, ◌≤◌, ◌++◌, ◌∷◌, [], ◌∙◌, sym, ap, arith, List, map, take, length-append, rules}
-use Rattle.mobile_core.proofs.Common.{unsigned_abs, map-append, Strength, pilot_strength}
-use Rattle.mobile_core.proofs.ActiveLegs.{all_at, all_push}
+use Rattle.mobile_core.proofs.Common.{unsigned_abs, map-append, Strength, pilot_strength, All-push}
+use Rattle.mobile_core.proofs.ActiveLegs.{all_at}
 use Rattle.mobile_core.proofs.LegLists.{take_at}
 use Rattle.mobile_core.proofs.measuring.measure.Goals as goal
 
@@ -22,8 +22,8 @@ loop-i-preserved c =
           ∙ sym (map-append f (take c.loop-i.i pilots) (p ∷ []))
           ∙ ap (map f) (sym (take_at pilots c.loop-i.i p c.get.ensures));
       long = omega (arith, length-append c.loop-i.strengths (one ∷ []), had.long);
-      pilots = all_push (λ (s : Strength). s.pilot < 512) c.loop-i.strengths one had.pilots
+      pilots = All-push (λ (s : Strength). s.pilot < 512) c.loop-i.strengths one had.pilots
           (omega (arith, is.pilot, low));
-      close = all_push (λ (s : Strength). unsigned_abs s.delta ≤ 226) c.loop-i.strengths one
+      close = All-push (λ (s : Strength). unsigned_abs s.delta ≤ 226) c.loop-i.strengths one
           had.close is.close;
     })

@@ -1,6 +1,5 @@
 use Rattle.mobile_core.proofs.Common.{arith, append-nil}
-use Rattle.mobile_core.proofs.ChannelsFollowed.{followed_few}
-use Rattle.mobile_core.proofs.StepJoins.{ends_here, one_or_none}
+use Rattle.mobile_core.proofs.StepJoins.{ends_here, heard_few, one_or_none}
 use Rattle.mobile_core.proofs.Stood.{stands_followed}
 use Rattle.mobile_core.proofs.mobile.Mobile.hear_followed.Goals as goal
 
@@ -8,19 +7,10 @@ pub returns-clause-steps : goal.returns-clause-steps
 returns-clause-steps c =
     let m = c.args.self.now in
     let next = c.hear_next.ensures in
-    let clock = m.sound.hears.channel.clocked in
     record {
       most = omega arith;
       room = omega arith;
-      fewer = omega (
-        arith,
-        one_or_none c.hear_next.result,
-        next.further,
-        followed_few m.followed m.sound.follows,
-        clock.next_have,
-        clock.have_end,
-        clock.end_most,
-      );
+      fewer = omega (arith, one_or_none c.hear_next.result, next.further, heard_few m);
       ends = λ t heard given st.
           let taken = st.ring.taken in
           ends_here c.hear_next.result next.ends (omega (arith, taken));

@@ -1,7 +1,6 @@
 use Rattle.mobile_core.proofs.Common.{◌≡◌, ◌∙◌, ap, arith, length, subst, sym, append-nil, Option, HearsFollowed, followed_events_left}
 use Rattle.mobile_core.proofs.Common.{SetsMark, FrameClock, Mark}
-use Rattle.mobile_core.proofs.ChannelsFollowed.{followed_few}
-use Rattle.mobile_core.proofs.StepJoins.{ends_here, one_or_none}
+use Rattle.mobile_core.proofs.StepJoins.{ends_here, heard_few, one_or_none}
 use Rattle.mobile_core.proofs.Stood.{heard_sets, stands_heard}
 use Rattle.mobile_core.proofs.mobile.Mobile.hear_sync.Goals as goal
 
@@ -10,21 +9,11 @@ returns-clause-steps c =
     let m = c.args.self.now in
     let next = c.hear_next-event.ensures in
     let follow = c.follow.ensures in
-    let clock = m.sound.hears.channel.clocked in
     let next_is = ap (λ (k : FrameClock). k.next) next.clock in
     record {
       most = omega arith;
       room = omega arith;
-      fewer = omega (
-        arith,
-        one_or_none c.hear_next-event.result,
-        next_is,
-        follow.further,
-        followed_few m.followed m.sound.follows,
-        clock.next_have,
-        clock.have_end,
-        clock.end_most,
-      );
+      fewer = omega (arith, one_or_none c.hear_next-event.result, next_is, follow.further, heard_few m);
       ends = λ t heard given st.
           let taken = st.ring.taken in
           let at' = c.taken-at.ensures in

@@ -1,6 +1,6 @@
 use Rattle.mobile_core.proofs.Common.{◌≡◌, ◌∙◌, ◌+◌, ◌++◌, ◌∷◌, [], Option, Some, None, ap, arith, append-nil, length, subst, sym, Best}
 use Rattle.mobile_core.proofs.Common.{at_of, pilot_left, Stands, parts, Event, Pilot}
-use Rattle.mobile_core.proofs.ChannelsFollowed.{followed_few}
+use Rattle.mobile_core.proofs.StepJoins.{heard_few}
 use Rattle.mobile_core.proofs.Stood.{stands_told}
 use Rattle.mobile_core.proofs.mobile.Mobile.tell_pilot.Goals as goal
 
@@ -11,7 +11,6 @@ returns-clause-steps c =
     let is : m.pilot ≡ Some best = sym c.in_ok-best.ensures.value in
     let gone : c.take.new.self ≡ None = c.take.ensures.after in
     let event = c.pilot_event.ensures in
-    let clock = m.sound.hears.channel.clocked in
     record {
       most = omega arith;
       room = omega arith;
@@ -19,10 +18,7 @@ returns-clause-steps c =
         arith,
         ap (λ (pilot : Option Best). length (pilot_left pilot)) is,
         ap (λ (pilot : Option Best). length (pilot_left pilot)) gone,
-        followed_few m.followed m.sound.follows,
-        clock.next_have,
-        clock.have_end,
-        clock.end_most,
+        heard_few m,
       );
       ends = λ t heard given st.
           let before : 0 ≡ length heard + 0 = omega (arith, st.early best is) in

@@ -1,5 +1,5 @@
 use Rattle.mobile_core.proofs.Common.{◌++◌, ◌∷◌, [], ◌∙◌, sym, ap, arith, length, length-append, map, take, subst, List, slice_get, ◌≤◌}
-use Rattle.mobile_core.proofs.Common.{◌<◌, All, legs_close, legs_rows, places_in, map-append, take_all, Active, leg_of, Leg}
+use Rattle.mobile_core.proofs.Common.{◌<◌, All, legs_close, legs_rows, places_in, map-append, take_all, Active, leg_of, Leg, shown}
 use Rattle.mobile_core.proofs.ActiveLegs.{active_close, active_offset, active_rows, places_few}
 use Rattle.mobile_core.proofs.LegLists.{take_at}
 use Rattle.mobile_core.proofs.sets_keeper.SetsKeeper.legs.Goals as goal
@@ -50,7 +50,7 @@ returns-clause-close c =
     (take_all c.loop-i.i c.active-active.result
     (omega (arith, c.loop-i-test.false, c.len-i-end.ensures.value))
     ∙ active.value) in
-    ap legs_close same ∙ active_close k.mark k.sets c.requires.close
+    ap legs_close same ∙ active_close k.mark k.sets.deltas (shown k.sets) c.requires.close
 
 pub returns-clause-rows : goal.returns-clause-rows
 returns-clause-rows c =
@@ -62,6 +62,6 @@ returns-clause-rows c =
     (omega (arith, c.loop-i-test.false, c.len-i-end.ensures.value))
     ∙ active.value) in
     ap legs_rows same
-    ∙ active_rows k.mark k.sets
+    ∙ active_rows k.mark k.sets.deltas (shown k.sets)
     (subst (λ (actives : List Active). All (λ (a : Active). a.row < 64) actives) active.value
     active.rows)
