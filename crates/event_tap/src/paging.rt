@@ -44,7 +44,7 @@ fn append_system(text: &mut Text, at: u64, message: &SystemParameters)
 }
 
 /// Adds the line of a Neighbor List Message to the empty text.
-#[tactic(auto, using(crate::proofs::PagingTexts::most_neighbors), unfolding(crate::specs::PagingLines::neighbor_line, crate::specs::Parts::are_short))]
+#[tactic(auto, unfolding(crate::specs::PagingLines::neighbor_line, crate::specs::Parts::are_short))]
 fn append_neighbors(text: &mut Text, at: u64, message: &NeighborList)
     requires { text.old ≡ [] }
     ensures value { text.new ≡ neighbor_line at message.now }
@@ -60,7 +60,7 @@ fn append_neighbors(text: &mut Text, at: u64, message: &NeighborList)
 }
 
 /// Adds the line of a CDMA Channel List Message to the empty text.
-#[tactic(auto, using(crate::proofs::PagingTexts::most_freqs, crate::proofs::PagingTexts::small_freqs), unfolding(crate::specs::PagingLines::channel_line, crate::specs::Parts::are_short))]
+#[tactic(auto, unfolding(crate::specs::PagingLines::channel_line, crate::specs::Parts::are_short))]
 fn append_channels(text: &mut Text, at: u64, message: &ChannelList)
     requires { text.old ≡ [] }
     ensures value { text.new ≡ channel_line at message.now }

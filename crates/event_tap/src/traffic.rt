@@ -20,7 +20,7 @@ use traffic_message::{
 /// Adds the line of a message to the empty text, LF at its end. No line is longer than 1,024 bytes.
 ///
 /// `at` is the number of samples at which the message was known.
-#[tactic(auto, using(crate::proofs::TrafficTexts::most_records), unfolding(crate::specs::TrafficLines::traffic_line))]
+#[tactic(auto, unfolding(crate::specs::TrafficLines::traffic_line))]
 pub(crate) fn append_traffic(text: &mut Text, at: u64, message: &TrafficMessage)
     requires { text.old ≡ [] }
     ensures value { text.new ≡ traffic_line at message.now }
@@ -61,7 +61,7 @@ fn append_in_traffic(text: &mut Text, message: &InTraffic)
 }
 
 /// Adds what a Neighbor List Update Message says.
-#[tactic(auto, using(crate::proofs::TrafficTexts::small_pilots), unfolding(crate::specs::TrafficLines::update_text))]
+#[tactic(auto, unfolding(crate::specs::TrafficLines::update_text))]
 fn append_update(text: &mut Text, fields: &UpdateFields)
     requires start { length text.old ≤ 95 }
     requires is { IsNeighborUpdate fields.now }
