@@ -7,8 +7,9 @@ ghost use Rattle.traffic_message.specs.Layouts.{in_traffic_contents, in_traffic_
 ghost use Rattle.traffic_message.specs.Widths.{in_traffic_widths};
 
 use crate::fields::InTrafficFields;
+use crate::table::in_traffic_fields;
 use chip_core::{Bits, Numbers};
-use message_layout::{Contents, FieldValues};
+use message_layout::{Contents, FieldValues, fields_of_values, values_of_fields};
 use std::marker::Model;
 
 /// What an In-Traffic System Parameters Message says behind its head: fields that fit. Contracts
@@ -46,19 +47,7 @@ impl InTraffic {
     pub fn values(&self) -> [u64; 10]
         ensures { result ≡ in_traffic_values self.now }
     {
-        let fields = &self.fields;
-        [
-            u64::from(fields.sid),
-            u64::from(fields.nid),
-            u64::from(fields.wina),
-            u64::from(fields.winn),
-            u64::from(fields.winr),
-            u64::from(fields.tadd),
-            u64::from(fields.tdrop),
-            u64::from(fields.tcomp),
-            u64::from(fields.ttdrop),
-            u64::from(fields.age),
-        ]
+        in_traffic_fields!(values_of_fields, self.fields)
     }
 
     /// The message that says so.
@@ -87,17 +76,5 @@ fn fields_of(values: &FieldValues, rest: Bits) -> InTrafficFields
         (in_traffic_values (in_traffic_of values.now rest))) }
     ensures { result ≡ in_traffic_of values.now rest }
 {
-    InTrafficFields {
-        sid: values.get(0) as u16,
-        nid: values.get(1) as u16,
-        wina: values.get(2) as u8,
-        winn: values.get(3) as u8,
-        winr: values.get(4) as u8,
-        tadd: values.get(5) as u8,
-        tdrop: values.get(6) as u8,
-        tcomp: values.get(7) as u8,
-        ttdrop: values.get(8) as u8,
-        age: values.get(9) as u8,
-        rest,
-    }
+    in_traffic_fields!(fields_of_values, InTrafficFields, values, rest)
 }

@@ -4,7 +4,7 @@ ghost use Rattle.std.specs.Prelude.{◌≡◌, ◌<◌, [], get_or};
 ghost use Rattle.traffic_message.specs.Widths.{head_names, in_traffic_names, search_names};
 ghost use Rattle.traffic_message.specs.Widths.{time_names};
 
-use message_layout::name_in;
+use message_layout::{field_rows, name_in};
 
 /// The names of the fields that stand behind the type of each message, in the order in which they
 /// are sent, each with its number of bits: ACK_SEQ, MSG_SEQ, ACK_REQ and ENCRYPTION.
@@ -12,22 +12,25 @@ use message_layout::name_in;
 /// TIA/EIA-95-B, 7.7.3.2.1. Whatever spells, reads or prints a message goes by these tables.
 pub const HEAD_FIELDS: [(&str, u8); 4] = [("ack", 3), ("seq", 3), ("req", 1), ("enc", 2)];
 
+/// Hands a macro the fields of the In-Traffic System Parameters Message behind the head, in the
+/// order in which they are sent: of each its place, its name and its number of bits.
+macro_rules! in_traffic_fields {
+    ($made:ident $(, $($with:tt)+)?) => {
+        $made! {
+            [$($($with)+)?]
+            0 sid 15, 1 nid 16, 2 wina 4, 3 winn 4, 4 winr 4, 5 tadd 6,
+            6 tdrop 6, 7 tcomp 4, 8 ttdrop 4, 9 age 4
+        }
+    };
+}
+
+pub(crate) use in_traffic_fields;
+
 /// The names of the fields of the In-Traffic System Parameters Message behind the head, each with
 /// its number of bits.
 ///
 /// TIA/EIA-95-B, 7.7.3.3.2.7.
-pub const IN_TRAFFIC_FIELDS: [(&str, u8); 10] = [
-    ("sid", 15),
-    ("nid", 16),
-    ("wina", 4),
-    ("winn", 4),
-    ("winr", 4),
-    ("tadd", 6),
-    ("tdrop", 6),
-    ("tcomp", 4),
-    ("ttdrop", 4),
-    ("age", 4),
-];
+pub const IN_TRAFFIC_FIELDS: [(&str, u8); 10] = in_traffic_fields!(field_rows);
 
 /// The name of the field of the Neighbor List Update Message before its neighbors, PILOT_INC, with
 /// its number of bits.
