@@ -1,8 +1,8 @@
 -- A cycle of pages as runs: where its pages lie, and its half-frames.
 use Rattle.clean_link.proofs.Common.{◌≡◌, ℕ, zero, suc, ◌+◌, ◌-◌, ◌*◌, ◌/◌, ◌%◌, ◌<◌, ◌≤◌, ◌==◌, ◌||◌, Bool, true, false, List, [], ◌∷◌}
 use Rattle.clean_link.proofs.Common.{◌++◌, length, map, take, drop, replicate, refl, sym, ap, ◌∙◌, arith, inl, inr, append_assoc}
-use Rattle.clean_link.proofs.Common.{length-append, length-drop, if◌then◌else◌, flat_map, list_any, cases_Bool, eq-eqb, ne_eqb}
-use Rattle.clean_link.proofs.Common.{flat_map-append, append-nil, drop-append-le, drop-drop, drop_at, map-append, take-append-le}
+use Rattle.clean_link.proofs.Common.{length-append, if◌then◌else◌, flat_map, list_any, cases_Bool, eq-eqb, ne_eqb}
+use Rattle.clean_link.proofs.Common.{flat_map-append, append-nil, drop-drop, drop_at, map-append}
 use Rattle.clean_link.proofs.Common.{list_any-append, div-mul-add, mul-add-div, mul-add-mod_self_left, mul-le-mul_left, places, CheckForm}
 use Rattle.clean_link.proofs.Common.{capsule, Piece, M30, length-capsule, below_more, below_push, framed_whole, not_begun, put_of, Page}
 use Rattle.clean_link.proofs.Common.{flat_map_ext_places, placed, Placed, flat_map-add}
@@ -10,6 +10,7 @@ use Rattle.clean_link.proofs.pages.Chains.{joined}
 use Rattle.clean_link.proofs.pages.Pieces.{bits_of, stream}
 use Rattle.clean_link.proofs.pages.Runs.{length-padded, run_bits, run_piece, run_pieces, run_width, run_width_some, width}
 use Rattle.clean_link.proofs.pages.RunsHeard.{pieces_of, placed_run, placed_runs, spelled}
+use Rattle.paging_message.proofs.Layings.{any_other, half_front}
 use Rattle.paging_message.specs.Laying as laying
 
 -- ---- runs
@@ -190,18 +191,6 @@ padded_behind size n front bits long =
     ∙ append_assoc front bits (replicate ((size - count % size) % size) false)
 
 -- which half-frames begin a run, where the last begins in half-frame n
-any_before : (h n : ℕ) (starts : List ℕ) → h < n →
-    list_any (λ s. s == h) (starts ++ n ∷ []) ≡ list_any (λ s. s == h) starts
-any_before h n starts lt =
-    let other : (n == h) ≡ false = ne_eqb n h (λ same. omega (arith, lt, same)) in
-    list_any-append (λ s. s == h) starts (n ∷ [])
-    ∙ ap (λ (b : Bool). list_any (λ s. s == h) starts || (b || false)) other
-    ∙ or_false (list_any (λ s. s == h) starts)
-  where
-    or_false : (b : Bool) → (b || (false || false)) ≡ b
-    or_false true = refl
-    or_false false = refl
-
 any_from : (size n i : ℕ) (starts : List ℕ) → laying.HaveBegun size (size * n) starts →
     list_any (λ s. s == n + i) (starts ++ n ∷ []) ≡ (i == 0)
 any_from size n i starts begun =
@@ -220,20 +209,6 @@ any_from size n i starts begun =
         let a : (n == n + suc i) ≡ false = ne_eqb n (n + suc i) (λ e. omega (arith, e)) in
         let b : (suc i == 0) ≡ false = ne_eqb (suc i) 0 (λ e. omega (arith, e)) in
         rw (a, b) refl
-
-half_frame_before : (size n h : ℕ) (starts : List ℕ) (front more : List Bool) → h < n →
-    length front ≡ size * n →
-    laying.half_frame size (starts ++ n ∷ []) (front ++ more) h
-    ≡ laying.half_frame size starts front h
-half_frame_before size n h starts front more lt long =
-    let room : size * suc h ≤ size * n = mul-le-mul_left size lt in
-    let e : size * suc h ≡ size * h + size = omega arith in
-    ap (λ (b : Bool). b ∷ take size (drop (size * h) (front ++ more))) (any_before h n starts lt)
-    ∙ ap (λ (l : List Bool). list_any (λ s. s == h) starts ∷ take size l)
-    (drop-append-le (size * h) front more (omega (arith, room, e, long)))
-    ∙ ap (λ (l : List Bool). list_any (λ s. s == h) starts ∷ l)
-    (take-append-le size (drop (size * h) front) more
-    (omega (arith, room, e, long, length-drop (size * h) front)))
 
 half_frame_of_run : (size n i : ℕ) (starts : List ℕ) (front : List Bool)
     (cs : List (List Bool)) → laying.HaveBegun size (size * n) starts →
@@ -266,7 +241,8 @@ run_laid size n starts front cs begun long =
     flat_map-add half n w
     ∙ ap (λ (l : List Bool). l ++ flat_map (λ i. half (n + i)) (places w))
     (flat_map_ext_places half (laying.half_frame size starts front) n
-    (λ h lt. half_frame_before size n h starts front (run_bits size cs) lt long))
+    (λ h lt. half_front size n h starts (starts ++ n ∷ []) front (run_bits size cs) long lt
+    (any_other h n starts lt)))
     ∙ ap (λ (l : List Bool). flat_map (laying.half_frame size starts front) (places n) ++ l)
     (flat_map_ext_places (λ i. half (n + i)) (λ i. bits_of (run_piece size cs i)) w
     (λ i lt. half_frame_of_run size n i starts front cs begun long)
