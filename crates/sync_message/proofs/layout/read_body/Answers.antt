@@ -7,7 +7,3 @@ read_from-requires-clause-lawful c = sync_lawful
 pub fields_from-requires-clause-fixed : goal.fields_from-requires-clause-fixed
 fields_from-requires-clause-fixed c =
     (fields_fit c.in_ok-contents.contents c.in_ok-contents.ensures.found.0).0
-
-pub fields_from-requires-clause-freq : goal.fields_from-requires-clause-freq
-fields_from-requires-clause-freq c =
-    (fields_fit c.in_ok-contents.contents c.in_ok-contents.ensures.found.0).1

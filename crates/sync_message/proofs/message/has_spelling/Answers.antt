@@ -1,11 +1,8 @@
-use Rattle.std.proofs.Common.{length, refl, ap, subst, ◌∙◌, arith}
+use Rattle.std.proofs.Common.{refl, subst, ◌∙◌, arith}
 use Rattle.chip_core.specs.Fields.{in_widths, FieldsFit}
 use Rattle.sync_message.specs.Rows.{sync_widths}
 use Rattle.sync_message.proofs.Bodies.{admitted, tail_of}
 use Rattle.sync_message.proofs.message.has_spelling.Goals as goal
-
-pub fit-requires-clause-all : goal.fit-requires-clause-all
-fit-requires-clause-all c = ap length (c.of.ensures ∙ c.values_of.ensures)
 
 pub returns-then-fit : goal.returns-then-fit
 returns-then-fit c =
