@@ -1,5 +1,5 @@
 -- Lemmas on a reader of a file that is lawful.
-use Rattle.std.proofs.Common.{◌≡◌, ℕ, ◌*◌, ◌≤◌, List, [], length, take, drop, refl, ap, ◌∙◌, arith, All, Option, None, Some, Result, Ok}
+use Rattle.std.proofs.Common.{◌≡◌, ℕ, ◌*◌, ◌≤◌, List, length, take, drop, refl, ap, ◌∙◌, arith, All, Option, None, Some, Result, Ok}
 use Rattle.std.proofs.Common.{Err}
 use Rattle.std.specs.Prelude.{MatchResult}
 use Rattle.std.specs.List.{flat_map}
@@ -9,7 +9,7 @@ use Rattle.cdma_io.specs.declared.file_fault.FileFault.{FileFault}
 use Rattle.cdma_io.specs.declared.file_fault.FileFault.TheVariants.{Magic, Version, Flags, Count, Short, Extra, ReadFault, TooFew}
 use Rattle.cdma_io.specs.declared.header.Header.{Header}
 use Rattle.chip_core.specs.declared.width.Width.{Width}
-use Rattle.cdma_io.specs.SampleFile.{CutsShort, HasBits, IsSampleFile, Opens, Reading, RunsOn, opening, sample_len, sample_spelling}
+use Rattle.cdma_io.specs.SampleFile.{CutsShort, HasBits, IsSampleFile, Opens, Reading, opening, sample_len, sample_spelling}
 use Rattle.cdma_io.specs.SampleFile.{width_of}
 use Rattle.cdma_io.proofs.Opening.{opening-spelled}
 use Rattle.cdma_io.proofs.Spelling.{length-samples, next_samples, sample_len-mono}
@@ -75,14 +75,3 @@ no_short Flags width samples count from new few fault = absurd fault
 no_short Count width samples count from new few fault = absurd fault
 no_short (Extra place) width samples count from new few fault = absurd fault
 no_short (TooFew n) width samples count from new few fault = absurd fault
-
--- it has no byte too many, unless a read failed
-pub no_extra : (e : FileFault) (end : ℕ) → RunsOn e end (Some []) → e ≡ ReadFault
-no_extra ReadFault end fault = refl
-no_extra (Extra place) end fault = absurd (omega (arith, fault.0))
-no_extra Magic end fault = absurd fault
-no_extra Version end fault = absurd fault
-no_extra Flags end fault = absurd fault
-no_extra Count end fault = absurd fault
-no_extra (Short place) end fault = absurd fault
-no_extra (TooFew n) end fault = absurd fault

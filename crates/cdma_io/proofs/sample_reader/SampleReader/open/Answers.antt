@@ -29,9 +29,3 @@ returns-clause-told g c =
     told_header _ _ c.fill.new.buf (Ok (fresh_reading c.in_ok-header.header)) long
     (filled_whole _ _ c.fill.new.buf c.in_ok-count.count full c.in_ok-count.ensures.bytes)
     (sym c.in_ok-header.ensures.value)
-
-pub returns-clause-header : goal.returns-clause-header
-returns-clause-header g c =
-    let full : length c.fill.new.buf ≤ c.in_ok-count.count = search rules in
-    rw (← c.in_ok-header.ensures.spelled)
-    (filled_whole _ _ c.fill.new.buf c.in_ok-count.count full c.in_ok-count.ensures.bytes)
