@@ -77,7 +77,7 @@ pub use Rattle.clean_link.proofs.traffic.Frames.{one_taken, one_there}
 pub use Rattle.clean_link.proofs.traffic.Received.{frames_behind_mark, set_two_behind_mark}
 pub use Rattle.clean_link.proofs.traffic.Signs.{lawful_traffic, set_one_sends}
 pub use Rattle.clean_link.specs.CleanLink.{IsNotDirected, IsOnPath, IsPlanFile, IsTunedTo, soft_strength, sync_sent, tuning_to}
-pub use Rattle.clean_link.specs.HeardEach.{HearsEach}
+pub use Rattle.clean_link.specs.HeardEach.{HearsEach, is_frame, is_page, is_sync}
 pub use Rattle.clean_link.specs.HeardFrames.{IsAssigned, SendsSetOne, SendsSetTwo, SendsSymbols, frame_ends, received_frames, replaced_of}
 pub use Rattle.clean_link.specs.HeardFrames.{sent_bits, sent_power_bits, codeword_symbols}
 pub use Rattle.clean_link.specs.ReceivedFrames.{AreReceived, IsReceivedAs, IsSentFrame2, cycled_frame2}
@@ -186,7 +186,7 @@ pub use Rattle.cdma_replay.specs.SlotReplies.{FileSlotsComeBack, IdleRepliesCome
 pub use Rattle.cdma_replay.specs.Status.{file_status, script_status}
 pub use Rattle.cdma_replay.specs.TaskRuns.{MakesFile, ReceivesFile, RunsTask}
 pub use Rattle.cdma_replay.specs.Tasks.{following, hearing, task_of}
-pub use Rattle.cdma_replay.specs.Trials.{LeavesRoom, count_of, counts_with, is_frame, is_good, is_paging, is_sync, one_if, summary}
+pub use Rattle.cdma_replay.specs.Trials.{LeavesRoom, count_of, counts_with, is_good, one_if, summary}
 pub use Rattle.cdma_replay.specs.Trials.{trial_samples, trial_span, trial_tuning}
 unfoldable pub use Rattle.cdma_replay.specs.Trials.{counts_of, trial_line}
 pub use Rattle.cdma_replay.specs.TuningLaw.{HandsetsAreTuned, HandsetsLieOnThePath}

@@ -3,7 +3,7 @@ use Rattle.cdma_replay.proofs.Common.{◌≡◌, ℕ, ◌+◌, ◌≤◌, Bool, 
 use Rattle.cdma_replay.proofs.Common.{subst, arith, length-append, map, filter, drop-map, take-map, take_all, filter-append, take-add}
 use Rattle.cdma_replay.proofs.Common.{of_sample, Sample, made_samples, sample_with, samples_of, CellPlan, CellState, trial_plan, Width}
 use Rattle.cdma_replay.proofs.Common.{Sixteen, best_phase, length-made, events, StandsFor, Tuning, Event, Mobile, LeavesRoom, count_of}
-use Rattle.cdma_replay.proofs.Common.{counts_of, counts_with, is_frame, is_good, is_paging, is_sync, one_if, summary, trial_line}
+use Rattle.cdma_replay.proofs.Common.{counts_of, counts_with, is_frame, is_good, is_page, is_sync, one_if, summary, trial_line}
 use Rattle.cdma_replay.proofs.Common.{trial_samples, trial_span, trial_tuning, Counts}
 use Rattle.cdma_replay.proofs.Hearings.{all_given, taken_more}
 
@@ -26,7 +26,7 @@ unfolding counts_of
 counts_more events event =
     rw (
       count_more is_sync events event,
-      count_more is_paging events event,
+      count_more is_page events event,
       count_more is_frame events event,
       count_more is_good events event,
     ) refl
@@ -49,7 +49,7 @@ pub room_behind : (counts : Counts) (event : Event) (left before : ℕ) → Leav
     left + 1 ≤ before → LeavesRoom (counts_with counts event) left
 room_behind counts event left before room fewer = record {
   syncs = omega (arith, room.syncs, fewer, one_most (is_sync event));
-  pagings = omega (arith, room.pagings, fewer, one_most (is_paging event));
+  pagings = omega (arith, room.pagings, fewer, one_most (is_page event));
   frames = omega (arith, room.frames, fewer, one_most (is_frame event));
   good = omega (arith, room.good, fewer, one_most (is_good event));
 }

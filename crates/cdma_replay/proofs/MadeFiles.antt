@@ -10,16 +10,9 @@ use Rattle.std.proofs.lemmas.List.{length-take-le, take-append-drop}
 use Rattle.cdma_replay.specs.Make.{sample_bytes}
 use Rattle.cdma_replay.proofs.Counting.{next_made}
 use Rattle.cdma_replay.specs.declared.status.Status.TheVariants as Status
+use Rattle.cell_script.proofs.ScriptAnswers.{too_big}
 
 -- ---- scripts
-
--- whatever stands in a script that is too big
-too_big : (width : Width) (script : List ℕ) → 1048576 < length script →
-    plan_named width script ≡ Err TooBig
-unfolding plan_named
-too_big width script long =
-    cond-true _ (Err TooBig) (named width (stated_plan script))
-    (lt-ltb 1048576 (length script) long)
 
 -- a script that names a cell isn't
 named_is_short : (width : Width) (script : List ℕ) (plan : CellPlan) →

@@ -1,5 +1,5 @@
 -- What the command `trial` writes: how much of a link that a number tells a handset hears.
-use Rattle.std.specs.Prelude.{◌^◌, ℕ, ◌+◌, ◌≤◌, Bool, true, false, if◌then◌else◌, List, ◌++◌}
+use Rattle.std.specs.Prelude.{◌^◌, ℕ, ◌+◌, ◌≤◌, Bool, false, if◌then◌else◌, List, ◌++◌}
 use Rattle.std.specs.Prelude.{length, filter, take, codes, decimal, Some}
 use Rattle.chip_core.specs.declared.sample.Sample.{Sample}
 use Rattle.chip_core.specs.declared.width.Width.TheVariants.{Sixteen}
@@ -10,30 +10,18 @@ use Rattle.trial_link.specs.Trial.{trial_plan, trial_serial_number}
 use Rattle.heard_events.specs.Events.{events}
 use Rattle.heard_events.specs.Tuning.{Tuning}
 use Rattle.heard_events.specs.declared.event.Event.{Event}
-use Rattle.heard_events.specs.declared.event.Event.TheVariants.{Sync, Paging, Frame}
+use Rattle.heard_events.specs.declared.event.Event.TheVariants.{Frame}
+use Rattle.clean_link.specs.HeardEach.{is_frame, is_page, is_sync}
 use Rattle.cdma_replay.specs.Hearing.{tuning_for}
 use Rattle.cdma_replay.specs.declared.handset.HandsetOptions.{HandsetOptions}
 use Rattle.cdma_replay.specs.declared.trial.Counts.{Counts}
 
--- ---- kinds of events
+-- ---- counts
 
-abbrev pub is_sync : Event → Bool
-is_sync (Sync n capsule message) = true
-is_sync event = false
-
-abbrev pub is_paging : Event → Bool
-is_paging (Paging n capsule message) = true
-is_paging event = false
-
-abbrev pub is_frame : Event → Bool
-is_frame (Frame n rate good bits power_bits) = true
-is_frame event = false
-
+-- a good frame
 abbrev pub is_good : Event → Bool
 is_good (Frame n rate good bits power_bits) = good
 is_good event = false
-
--- ---- counts
 
 abbrev pub count_of : (Event → Bool) → List Event → ℕ
 count_of is events = length (filter is events)
@@ -42,7 +30,7 @@ count_of is events = length (filter is events)
 unfoldable pub counts_of : List Event → Counts
 counts_of events = record {
   syncs = count_of is_sync events;
-  pagings = count_of is_paging events;
+  pagings = count_of is_page events;
   frames = count_of is_frame events;
   good = count_of is_good events;
 }
@@ -54,7 +42,7 @@ one_if is = if is then 1 else 0
 abbrev pub counts_with : Counts → Event → Counts
 counts_with counts event = record {
   syncs = counts.syncs + one_if (is_sync event);
-  pagings = counts.pagings + one_if (is_paging event);
+  pagings = counts.pagings + one_if (is_page event);
   frames = counts.frames + one_if (is_frame event);
   good = counts.good + one_if (is_good event);
 }
