@@ -19,4 +19,4 @@ pub mod Moments
 pub mod Channels
 pub mod SoftFrames
 pub mod FramesAlone
-mod Worked
+pub mod Worked

@@ -78,7 +78,7 @@ below_the_code = refl
 
 -- a capsule of 200 bits takes three superframes: seven from its first frame's sample on, less the
 -- pilot's offset
-sent : SyncFields
+pub sent : SyncFields
 sent =
     record {
       prev = 3;
