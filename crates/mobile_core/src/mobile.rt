@@ -204,6 +204,8 @@ impl Mobile {
 
     /// Hears the frame of the sync channel that is due, and gives the event that it completes.
     /// Where that sets a mark the other channels are followed from there on.
+    // Its frame holds several events, and is not to lie beneath that of another channel.
+    #[inline(never)]
     fn hear_sync(&mut self) -> Option<Event>
         requires told { self.old.pilot ≡ None }
         requires due { IsDueAt self.old.count self.old.sync.received.clock }
@@ -224,6 +226,8 @@ impl Mobile {
     }
 
     /// Hears what is due of the channels behind the mark, and gives the event that it completes.
+    // Its frame holds several events, and is not to lie beneath that of another channel.
+    #[inline(never)]
     fn hear_followed(&mut self) -> Option<Event>
         requires told { self.old.pilot ≡ None }
         requires silent { ¬ IsDueAt self.old.count self.old.sync.received.clock }

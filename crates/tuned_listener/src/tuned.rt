@@ -104,6 +104,8 @@ impl TunedListener {
     /// The samples are those of the file that follow on those taken before, as many of them as
     /// there are or fewer. [`Failed`] comes only where the sink's count of faults rose, and the
     /// sink got then a beginning of the text.
+    // Its frame holds a handset, and is not to lie beneath that of who hears all channels.
+    #[inline(never)]
     pub fn hear<K: Sink>(&mut self, samples: &[Sample], sink: &mut K) -> Result<(), Failed>
         requires room { length samples.now ≤ tuned_room self.old }
         ensures room { OnOk result (tuned_room self.new + length samples.now
