@@ -10,15 +10,43 @@ use traffic_message::TrafficMessage;
 /// How many times each test reads or writes its message.
 const TURNS: u32 = 10_000;
 
-/// In how many turns this is true.
+/// In how many turns this is true, where a turn's number has this name.
 macro_rules! turns_with {
-    ($is_done:expr) => {{
+    ($turn:ident, $is_done:expr) => {{
         let mut done: u32 = 0;
-        for _turn in 0..TURNS {
+        for $turn in 0..TURNS {
             let is_done = $is_done;
             done = done.saturating_add(u32::from(is_done));
         }
         done
+    }};
+}
+
+/// Whether a capsule is read as this message.
+macro_rules! is_read_as {
+    ($type:ident, $message:expr, $capsule:expr) => {
+        match $type::decode(&$capsule, CheckForm::Plain) {
+            Ok(read) => read == $message,
+            Err(_) => false,
+        }
+    };
+}
+
+/// In how many turns a message is read. Two capsules are read in turns, and what was read is
+/// compared, so that the compiler puts no reading before the loop and leaves none out.
+macro_rules! turns_reading {
+    ($type:ident, $made:expr) => {{
+        let message = $made;
+        let first = message.encode(CheckForm::Plain);
+        let second = message.encode(CheckForm::Plain);
+        turns_with!(
+            turn,
+            if turn % 2 == 0 {
+                is_read_as!($type, message, first)
+            } else {
+                is_read_as!($type, message, second)
+            }
+        )
     }};
 }
 
@@ -63,29 +91,27 @@ fn traffic_message(rt: &impl Abort, kind: u8) -> TrafficMessage {
 
 /// Reads a paging message.
 fn read_paging(rt: &impl Abort, kind: u8) {
-    let capsule = paging_message(rt, kind).encode(CheckForm::Plain);
-    let read = turns_with!(PagingMessage::decode(&capsule, CheckForm::Plain).is_ok());
+    let read = turns_reading!(PagingMessage, paging_message(rt, kind));
     assert_eq!(rt; read, TURNS);
 }
 
 /// Writes a paging message.
 fn write_paging(rt: &impl Abort, kind: u8) {
     let message = paging_message(rt, kind);
-    let written = turns_with!(message.encode(CheckForm::Plain).len() == 320);
+    let written = turns_with!(_turn, message.encode(CheckForm::Plain).len() == 320);
     assert_eq!(rt; written, TURNS);
 }
 
 /// Reads a message of a traffic channel.
 fn read_traffic(rt: &impl Abort, kind: u8) {
-    let capsule = traffic_message(rt, kind).encode(CheckForm::Plain);
-    let read = turns_with!(TrafficMessage::decode(&capsule, CheckForm::Plain).is_ok());
+    let read = turns_reading!(TrafficMessage, traffic_message(rt, kind));
     assert_eq!(rt; read, TURNS);
 }
 
 /// Writes a message of a traffic channel.
 fn write_traffic(rt: &impl Abort, kind: u8) {
     let message = traffic_message(rt, kind);
-    let written = turns_with!(message.encode(CheckForm::Plain).len() == 312);
+    let written = turns_with!(_turn, message.encode(CheckForm::Plain).len() == 312);
     assert_eq!(rt; written, TURNS);
 }
 
@@ -97,15 +123,14 @@ fn a_message_is_written(rt: HostRuntime) {
 
 #[test]
 fn sync_is_read(rt: HostRuntime) {
-    let capsule = sync_message(&rt).encode(CheckForm::Plain);
-    let read = turns_with!(SyncMessage::decode(&capsule, CheckForm::Plain).is_ok());
+    let read = turns_reading!(SyncMessage, sync_message(&rt));
     assert_eq!(rt; read, TURNS);
 }
 
 #[test]
 fn sync_is_written(rt: HostRuntime) {
     let message = sync_message(&rt);
-    let written = turns_with!(message.encode(CheckForm::Plain).len() == 208);
+    let written = turns_with!(_turn, message.encode(CheckForm::Plain).len() == 208);
     assert_eq!(rt; written, TURNS);
 }
 
