@@ -1,17 +1,12 @@
--- Lemmas on the lines of paging messages: the texts and the lengths of lists, and a line's parts.
-use Rattle.std.proofs.Common.{◌≡◌, ℕ, zero, suc, ◌^◌, ◌<◌, ◌≤◌, All, Some, refl, ap, ◌∙◌, List, [], ◌∷◌, ◌++◌, length, get_or, slice_get}
-use Rattle.std.proofs.Common.{codes, decimal, arith}
+-- Lemmas on the lines of paging messages: the texts and the lengths of lists.
+use Rattle.std.proofs.Common.{◌≡◌, ℕ, zero, suc, ◌^◌, ◌<◌, ◌≤◌, All, Some, refl, ap, ◌∙◌, List, [], ◌∷◌, length, get_or, slice_get, arith}
 use Rattle.std.proofs.lemmas.Option.{get_or_from_slice_get, slice_get_within}
 use Rattle.paging_message.specs.Channels.{IsChannelList}
 use Rattle.paging_message.specs.Neighbors.{IsNeighborList}
-use Rattle.paging_message.specs.System.{system_values}
-use Rattle.paging_message.specs.Widths.{system_names}
 use Rattle.paging_message.specs.declared.fields.ChannelFields.{ChannelFields}
 use Rattle.paging_message.specs.declared.fields.NeighborFields.{NeighborFields}
-use Rattle.paging_message.specs.declared.fields.SystemFields.{SystemFields}
 use Rattle.paging_message.proofs.ByLayout.{few_channels, few_neighbors, neighbor_fit_at}
-use Rattle.event_tap.specs.PagingLines.{neighbor_text, neighbor_texts, system_line}
-use Rattle.event_tap.specs.Parts.{named_values, rest_text}
+use Rattle.event_tap.specs.PagingLines.{neighbor_text, neighbor_texts}
 use Rattle.event_tap.proofs.PartTexts.{fields-below}
 
 -- a neighbor of a list
@@ -66,19 +61,3 @@ most_freqs m is = omega (arith, few_channels m is)
 pub small_freqs : (m : ChannelFields) → IsChannelList m → All (λ n. n < 10 ^ 4) m.freqs
 small_freqs m is k d within =
     omega (arith, fields-below 11 m.freqs is.spelled.fits.1.1.1 k d within)
-
--- the parts of the line
-pub system_parts : (place : ℕ) (m fields : SystemFields) (values none started worded valued
-    ended : List ℕ) → none ≡ [] →
-    started ≡ (none ++ codes "paging at=") ++ decimal place →
-    worded ≡ started ++ codes " system" → values ≡ system_values m →
-    valued ≡ worded ++ named_values system_names values → fields ≡ m →
-    ended ≡ valued ++ rest_text fields.rest → ended ≡ system_line place m
-unfolding system_line
-system_parts place m fields values none started worded valued ended e a b v c f d =
-    d ∙ ap (λ (g : SystemFields). valued ++ rest_text g.rest) f
-    ∙ ap (λ (xs : List ℕ). xs ++ rest_text m.rest) (c
-    ∙ ap (λ (vs : List ℕ). worded ++ named_values system_names vs) v
-    ∙ ap (λ (xs : List ℕ). xs ++ named_values system_names (system_values m)) (b
-    ∙ ap (λ (xs : List ℕ). xs ++ codes " system") (a
-    ∙ ap (λ (xs : List ℕ). (xs ++ codes "paging at=") ++ decimal place) e)))

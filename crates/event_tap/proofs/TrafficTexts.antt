@@ -1,21 +1,17 @@
 -- Lemmas on the lines of traffic messages: the texts of records, and how many there are.
-use Rattle.std.proofs.Common.{◌≡◌, ℕ, zero, suc, ◌<◌, ◌≤◌, Some, refl, ap, ◌∙◌, List, [], ◌∷◌, ◌++◌, length, get_or, slice_get, codes, All}
-use Rattle.std.proofs.Common.{◌^◌, arith, append_assoc, subst}
+use Rattle.std.proofs.Common.{◌≡◌, ℕ, zero, suc, ◌<◌, ◌≤◌, Some, refl, ap, ◌∙◌, List, [], ◌∷◌, length, get_or, slice_get, All, ◌^◌, arith}
+use Rattle.std.proofs.Common.{subst}
 use Rattle.std.proofs.lemmas.Option.{get_or_from_slice_get, slice_get_within}
-use Rattle.traffic_message.specs.InTraffic.{in_traffic_values}
 use Rattle.traffic_message.specs.Messages.{IsOfKind, IsTrafficMessage, Message, bits_of}
 use Rattle.traffic_message.specs.Handoff.{IsHandoffDirection}
 use Rattle.traffic_message.specs.Neighbors.{IsNeighborUpdate}
-use Rattle.traffic_message.specs.Widths.{in_traffic_names}
 use Rattle.traffic_message.specs.declared.body.TrafficBody.TheVariants.{Handoff}
 use Rattle.traffic_message.specs.declared.fields.DirectionFields.{DirectionFields}
-use Rattle.traffic_message.specs.declared.fields.InTrafficFields.{InTrafficFields}
 use Rattle.traffic_message.specs.declared.fields.UpdateFields.{UpdateFields}
 use Rattle.traffic_message.proofs.Bodies.{length-message}
 use Rattle.traffic_message.proofs.Directions.{length-direction}
 use Rattle.traffic_message.proofs.Records.{length-records, record_fits}
-use Rattle.event_tap.specs.Parts.{named_values, rest_text}
-use Rattle.event_tap.specs.TrafficLines.{record_text, record_texts, system_text}
+use Rattle.event_tap.specs.TrafficLines.{record_text, record_texts}
 use Rattle.event_tap.proofs.PartTexts.{fields-below}
 
 -- a record of a direction
@@ -86,18 +82,3 @@ most_records m d is body =
 -- the offsets of neighbors have at most four digits
 pub small_pilots : (m : UpdateFields) → IsNeighborUpdate m → All (λ n. n < 10 ^ 4) m.pns
 small_pilots m is k d within = omega (arith, fields-below 9 m.pns is.fits.1 k d within)
-
--- the parts of the line
-pub in_traffic_parts : (m fields : InTrafficFields) (values before worded valued ended : List ℕ) →
-    worded ≡ before ++ codes " system" → values ≡ in_traffic_values m →
-    valued ≡ worded ++ named_values in_traffic_names values → fields ≡ m →
-    ended ≡ valued ++ rest_text fields.rest → ended ≡ before ++ system_text m
-unfolding system_text
-in_traffic_parts m fields values before worded valued ended w v a f d =
-    let word = codes " system" in
-    let named = named_values in_traffic_names (in_traffic_values m) in
-    d ∙ ap (λ (g : InTrafficFields). valued ++ rest_text g.rest) f
-    ∙ ap (λ (xs : List ℕ). xs ++ rest_text m.rest) (a
-    ∙ ap (λ (vs : List ℕ). worded ++ named_values in_traffic_names vs) v
-    ∙ ap (λ (xs : List ℕ). xs ++ named) w ∙ append_assoc before word named)
-    ∙ append_assoc before (word ++ named) (rest_text m.rest)

@@ -199,6 +199,7 @@ fn append_pair(text: &mut Text, first: u32, second: u32)
     ensures value { text.new ≡ text.old ++ neighbor_text first second }
     ensures len { (j k : ℕ) → 0 < j → first < 10 ^ j → 0 < k → second < 10 ^ k →
         length text.new ≤ length text.old + j + k + 1 }
+    ensures most { length text.new ≤ length text.old + 21 }
 {
     text.append_short(u64::from(first));
     text.append_str("/");

@@ -20,3 +20,12 @@ append_short-requires-2 c =
             c.requires.room,
           );
     }
+
+pub returns-clause-most : goal.returns-clause-most
+returns-clause-most c =
+    omega (
+      arith,
+      c.append_short.ensures.len 10 (omega arith) (omega (arith, c.from.ensures)),
+      c.append_str.ensures.len,
+      c.append_short-2.ensures.len 10 (omega arith) (omega (arith, c.from-2.ensures)),
+    )
