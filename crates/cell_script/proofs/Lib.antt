@@ -4,6 +4,7 @@ pub mod NamedPlans
 pub mod ScriptAnswers
 pub mod ScriptBounds
 pub mod ScriptFrames
+pub mod ScriptKeys
 pub mod ScriptLaws
 pub mod ScriptMessages
 pub mod ScriptNumbers

@@ -7,11 +7,11 @@ use Rattle.cell_script.proofs.Common.{IsSyncMessage, SyncFields, admitted, SyncP
 use Rattle.cell_script.proofs.Common.{field, numbers_in, past, value_of, cell_in, cell_line, freq_in, has_lawful_rest, is_link, link_in}
 use Rattle.cell_script.proofs.Common.{link_line, sync_behind, sync_fields, sync_in, frame_in, frame_key, frame_rate, frame2_in, frame_by}
 use Rattle.cell_script.proofs.Common.{frame2_key, frame2_rate, lawful_frame, traffic_in, traffic_line, lawful_message, lawful_page, page_in}
-use Rattle.cell_script.proofs.Common.{page_key, page_with, paging_in, paging_line, pilot_in, statement_in, sync_table, Page, PagingLine}
-use Rattle.cell_script.proofs.Common.{TrafficLine, TrafficFrame, TrafficFrame2, IsTrafficFrame, IsTrafficFrame2, information_of}
-use Rattle.cell_script.proofs.Common.{Statement, HasMessage, is_body, FillsCapsule, M30, IsLawful, IsStatedCell, IsStatedLink}
-use Rattle.cell_script.proofs.Common.{as_state, begins_with, bits_in, hex_from, number_in, power_bits_in, number_up_to, serial_number_in}
-use Rattle.cell_script.proofs.Common.{signed_in, state_in, up_to}
+use Rattle.cell_script.proofs.Common.{page_key, page_with, paging_in, paging_line, pilot_in, statement_in, Page, PagingLine, TrafficLine}
+use Rattle.cell_script.proofs.Common.{TrafficFrame, TrafficFrame2, IsTrafficFrame, IsTrafficFrame2, information_of, Statement, HasMessage}
+use Rattle.cell_script.proofs.Common.{is_body, FillsCapsule, M30, IsLawful, IsStatedCell, IsStatedLink, as_state, begins_with, bits_in}
+use Rattle.cell_script.proofs.Common.{hex_from, number_in, power_bits_in, number_up_to, serial_number_in, signed_in, state_in, up_to}
+use Rattle.cell_script.proofs.Common.{gain_row, local_rows, network_rows, unsigned_of}
 use Rattle.cell_script.proofs.ScriptMessages.{is_tail}
 use Rattle.cell_script.proofs.ScriptPages.{body_fills, body_message}
 use Rattle.cell_script.proofs.ScriptNumerals.{one_signed_numeral}
@@ -75,7 +75,7 @@ first_up_to f fields n ns first rest zero inside = first
 first_up_to f fields n ns first rest (suc k) inside = rest k (omega (arith, inside))
 
 -- so are the numbers of fields that follow one another
-numbers_up_to : (fields : List NumberRow) (text numbers : List ℕ) →
+pub numbers_up_to : (fields : List NumberRow) (text numbers : List ℕ) →
     numbers_in fields text ≡ Some numbers → AreUpTo fields numbers
 unfolding numbers_in
 numbers_up_to [] text = λ numbers e k inside. absurd (omega (arith, inside))
@@ -197,17 +197,18 @@ message_bounds m message fixed freq e =
     let told = cond_some (has_lawful_rest m.freq m.rest) m message e in
     subst IsSyncMessage told.1 (admitted m m.freq refl fixed (is_tail m.freq m.rest freq told.0))
 
-fields_fit : (numbers : List ℕ) (freq : Option ℕ) (rest : List Bool) → AreUpTo sync_table numbers →
-    FieldsFit (fixed_fields (sync_fields numbers freq rest))
-fields_fit numbers freq rest up =
-    let prev : get_or numbers 1 0 ≤ 255 = up 1 (omega arith) in
-    let min : get_or numbers 2 0 ≤ 255 = up 2 (omega arith) in
-    let sid : get_or numbers 3 0 ≤ 32767 = up 3 (omega arith) in
-    let nid : get_or numbers 4 0 ≤ 65535 = up 4 (omega arith) in
-    let lp : get_or numbers 5 0 ≤ 255 = up 5 (omega arith) in
-    let ltm : get_or numbers 6 0 ≤ 63 = up 6 (omega arith) in
-    let daylt : get_or numbers 7 0 ≤ 1 = up 7 (omega arith) in
-    let prat : get_or numbers 8 0 ≤ 3 = up 8 (omega arith) in (
+fields_fit : (network local : List ℕ) (freq : Option ℕ) (rest : List Bool) →
+    AreUpTo network_rows network → AreUpTo local_rows local →
+    FieldsFit (fixed_fields (sync_fields network local freq rest))
+fields_fit network local freq rest up small =
+    let prev : get_or network 0 0 ≤ 255 = up 0 (omega arith) in
+    let min : get_or network 1 0 ≤ 255 = up 1 (omega arith) in
+    let sid : get_or network 2 0 ≤ 32767 = up 2 (omega arith) in
+    let nid : get_or network 3 0 ≤ 65535 = up 3 (omega arith) in
+    let lp : get_or local 0 0 ≤ 255 = small 0 (omega arith) in
+    let ltm : get_or local 1 0 ≤ 63 = small 1 (omega arith) in
+    let daylt : get_or local 2 0 ≤ 1 = small 2 (omega arith) in
+    let prat : get_or local 3 0 ≤ 3 = small 3 (omega arith) in (
       omega arith,
       (
         omega (arith, prev),
@@ -239,25 +240,29 @@ fields_fit numbers freq rest up =
 abbrev SyncBounds : SyncPlan → Type 0
 SyncBounds sync = IsSyncMessage sync.message
 
-behind_bounds : (numbers text : List ℕ) (sync : SyncPlan) → AreUpTo sync_table numbers →
-    sync_behind numbers text ≡ Some sync → IsSyncMessage sync.message
+behind_bounds : (gain : ℕ) (network local text : List ℕ) (sync : SyncPlan) →
+    AreUpTo network_rows network → AreUpTo local_rows local →
+    sync_behind gain network local text ≡ Some sync → IsSyncMessage sync.message
 unfolding sync_behind
-behind_bounds numbers text sync up =
+behind_bounds gain network local text sync up small =
     both_steps (freq_in _) _
     (λ freq freq_is.
     both_steps (field (codes " rest=") bits_in _) _ λ rest rest_is.
-    both_steps (lawful_message (sync_fields numbers freq rest)) _ λ message message_is sync e.
-    subst SyncBounds (ended _ (record { gain = get_or numbers 0 0; message = message }) sync e)
-    (message_bounds (sync_fields numbers freq rest) message (fields_fit numbers freq rest up)
-    (freq_bounds _ freq freq_is) message_is))
+    both_steps (lawful_message (sync_fields network local freq rest)) _ λ message message_is sync e.
+    subst SyncBounds (ended _ (record { gain = gain; message = message }) sync e)
+    (message_bounds (sync_fields network local freq rest) message
+    (fields_fit network local freq rest up small) (freq_bounds _ freq freq_is) message_is))
     sync
 
 pub sync_bounds : (text : List ℕ) (sync : SyncPlan) → sync_in text ≡ Some sync →
     IsSyncMessage sync.message
 unfolding sync_in
 sync_bounds text =
-    both_steps (numbers_in sync_table _) _ λ numbers numbers_is sync e.
-    behind_bounds numbers _ sync (numbers_up_to sync_table _ numbers numbers_is) e
+    both_steps (field gain_row.key (unsigned_of gain_row.form) _) _ λ gain gain_is.
+    both_steps (numbers_in network_rows _) _ λ network network_is.
+    both_steps (numbers_in local_rows _) _ λ local local_is sync e.
+    behind_bounds gain network local _ sync (numbers_up_to network_rows _ network network_is)
+    (numbers_up_to local_rows _ local local_is) e
 
 -- ---- paging channels and pages
 

@@ -1,10 +1,10 @@
 -- The fields of a script's lines, read one after another.
 use Rattle.std.specs.Prelude.{ℕ, if◌then◌else◌, List, [], ◌∷◌, length, take, drop, map, get_or, ◌<◌}
-use Rattle.std.specs.Prelude.{◌≤◌, ◌^◌, Option, None, Some, ℤ}
+use Rattle.std.specs.Prelude.{◌≤◌, ◌^◌, ◌-◌, ◌++◌, codes, Option, None, Some, ℤ}
 use Rattle.long_code.specs.LongCode.{IsState}
 use Rattle.cell_script.specs.declared.tables.FieldForm.{FieldForm}
 use Rattle.cell_script.specs.declared.tables.FieldForm.TheVariants as forms
-use Rattle.cell_script.specs.declared.tables.NumberField.{NumberField}
+use Rattle.sync_message.specs.Rows.{sync_names, sync_widths}
 use Rattle.cell_script.specs.ScriptValues.{begins_with, length_before, number_up_to}
 use Rattle.cell_script.specs.ScriptValues.{serial_number_in, signed_in, state_in}
 
@@ -87,9 +87,17 @@ pub record NumberRow : Type 0 where
 abbrev pub row : List ℕ → ℕ → NumberRow
 row key most = record { key = key; most = most }
 
--- the rows of a table of the code's
-abbrev pub rows_of : List NumberField → List NumberRow
-rows_of table = map (λ (f : NumberField). row f.key.now f.most) table
+-- what stands before the value of a field of this name
+abbrev pub key_of : List ℕ → List ℕ
+key_of name = codes " " ++ name ++ codes "="
+
+-- a field of a message by its name, with the range of its width
+abbrev pub ranged : List ℕ → ℕ → NumberRow
+ranged name width = row (key_of name) (2 ^ width - 1)
+
+-- field i of the sync message's table
+abbrev pub sync_row : ℕ → NumberRow
+sync_row i = ranged (get_or sync_names i []) (get_or sync_widths i 0)
 
 -- the numbers of fields that follow one another, and the text behind them
 unfoldable pub numbers_in : List NumberRow → List ℕ → Option (List ℕ)

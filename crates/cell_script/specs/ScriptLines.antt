@@ -1,12 +1,12 @@
 -- The lines of a script: what each kind of statement says, whatever stands before it.
 use Rattle.std.specs.Prelude.{ℕ, ◌+◌, ◌/◌, ◌%◌, ◌==◌, nat_le, nat_lt, Bool, false, if◌then◌else◌}
-use Rattle.std.specs.Prelude.{◌&&◌, List, [], ◌∷◌, length, get_or, codes, Option, None, Some, ℤ}
-use Rattle.std.specs.Prelude.{unsigned_abs, option_map, ◌++◌, ◌-◌, ◌^◌}
+use Rattle.std.specs.Prelude.{◌&&◌, List, [], ◌∷◌, length, map, get_or, codes, Option, None, Some, ℤ}
+use Rattle.std.specs.Prelude.{unsigned_abs, option_map}
 use Rattle.chip_core.specs.declared.check_form.CheckForm.{CheckForm}
 use Rattle.chip_core.specs.declared.check_form.CheckForm.TheVariants.{Plain, Complemented}
 use Rattle.chip_core.specs.declared.sample.Pair.{Pair}
 use Rattle.paging_message.specs.Reading.{is_body}
-use Rattle.sync_message.specs.Rows.{freq_row, sync_names, sync_widths}
+use Rattle.sync_message.specs.Rows.{freq_row}
 use Rattle.sync_message.specs.declared.fields.SyncFields.{SyncFields}
 use Rattle.cell_plan.specs.declared.plan.PilotPlan.{PilotPlan}
 use Rattle.cell_plan.specs.declared.plan.SyncPlan.{SyncPlan}
@@ -19,8 +19,8 @@ use Rattle.cell_script.specs.declared.statements.Statement.{Statement}
 use Rattle.cell_script.specs.declared.statements.Statement.TheVariants as statements
 use Rattle.cell_script.specs.declared.tables.FieldForm.TheVariants as forms
 use Rattle.cell_script.specs.ScriptFields.{NumberRow, ◌>>=◌, at_end, field, numbers_in, past}
-use Rattle.cell_script.specs.ScriptFields.{past_numbers, row, StatementRow, formed, past_at}
-use Rattle.cell_script.specs.ScriptFields.{signed_at, unsigned_at}
+use Rattle.cell_script.specs.ScriptFields.{past_numbers, ranged, sync_row, StatementRow, formed}
+use Rattle.cell_script.specs.ScriptFields.{past_at, signed_at, unsigned_at, unsigned_of}
 use Rattle.cell_script.specs.ScriptValues.{begins_with, bits_in, power_bits_in, number_up_to}
 use Rattle.cell_plan.specs.declared.traffic_frame.TrafficFrame.{TrafficFrame}
 use Rattle.cell_plan.specs.declared.traffic_frame2.TrafficFrame2.{TrafficFrame2}
@@ -108,10 +108,6 @@ pilot_in text = do
 
 -- `sync gain=G prev=.. min=.. sid=.. nid=.. lp=.. ltm=.. daylt=.. prat=.. [freq=..] rest=BITS`
 
--- a field of the message by its name, with the range of its width
-abbrev pub ranged : List ℕ → ℕ → NumberRow
-ranged name width = row (codes " " ++ name ++ codes "=") (2 ^ width - 1)
-
 -- the frequency may be left out
 abbrev pub freq_number : NumberRow
 freq_number = ranged freq_row.name freq_row.width
@@ -133,56 +129,55 @@ has_lawful_rest (Some freq) rest = if length rest % 8 == 0 then nat_le (length r
 abbrev pub lawful_message : SyncFields → Option SyncFields
 lawful_message message = if has_lawful_rest message.freq message.rest then Some message else None
 
--- field i of the message's table
-abbrev pub sync_row : ℕ → NumberRow
-sync_row i = ranged (get_or sync_names i []) (get_or sync_widths i 0)
+-- the fields of the message that the line always has, by their places in its table: of the
+-- protocol and the network, and of local time and the paging channel
+abbrev pub network_rows : List NumberRow
+network_rows = map sync_row (0 ∷ 1 ∷ 2 ∷ 3 ∷ [])
 
--- the numbers that the line always has
-abbrev pub sync_table : List NumberRow
-sync_table =
-    row (codes "sync gain=") 65535
-    ∷ sync_row 0
-    ∷ sync_row 1
-    ∷ sync_row 2
-    ∷ sync_row 3
-    ∷ sync_row 7
-    ∷ sync_row 8
-    ∷ sync_row 9
-    ∷ sync_row 10
-    ∷ []
+abbrev pub local_rows : List NumberRow
+local_rows = map sync_row (7 ∷ 8 ∷ 9 ∷ 10 ∷ [])
+
+abbrev pub gain_row : StatementRow
+gain_row = formed (codes "sync gain=") (forms.UpTo 65535)
 
 -- what they say; its message has zeros for PILOT_PN, SYS_TIME and LC_STATE
-abbrev pub sync_fields : List ℕ → Option ℕ → List Bool → SyncFields
-sync_fields numbers freq rest = record {
-  prev = get_or numbers 1 0;
-  min = get_or numbers 2 0;
-  sid = get_or numbers 3 0;
-  nid = get_or numbers 4 0;
+abbrev pub sync_fields : List ℕ → List ℕ → Option ℕ → List Bool → SyncFields
+sync_fields network local freq rest = record {
+  prev = get_or network 0 0;
+  min = get_or network 1 0;
+  sid = get_or network 2 0;
+  nid = get_or network 3 0;
   pn = 0;
   lc = 0;
   time = 0;
-  lp = get_or numbers 5 0;
-  ltm = get_or numbers 6 0;
-  daylt = get_or numbers 7 0;
-  prat = get_or numbers 8 0;
+  lp = get_or local 0 0;
+  ltm = get_or local 1 0;
+  daylt = get_or local 2 0;
+  prat = get_or local 3 0;
   freq = freq;
   rest = rest;
 }
 
--- what the line says by its numbers and by the text behind them
-unfoldable pub sync_behind : List ℕ → List ℕ → Option SyncPlan
-sync_behind numbers text0 =
+-- what the line says by its gain, its numbers and the text behind them
+unfoldable pub sync_behind : ℕ → List ℕ → List ℕ → List ℕ → Option SyncPlan
+sync_behind gain network local text0 =
     let text1 = past_freq text0 in
     let text2 = past (codes " rest=") text1 in
     do
       freq ← freq_in text0
       rest ← field (codes " rest=") bits_in text1
-      message ← lawful_message (sync_fields numbers freq rest)
-      at_end text2 (record { gain = get_or numbers 0 0; message = message })
+      message ← lawful_message (sync_fields network local freq rest)
+      at_end text2 (record { gain = gain; message = message })
 
 unfoldable pub sync_in : List ℕ → Option SyncPlan
-sync_in text =
-    numbers_in sync_table text >>= (λ numbers. sync_behind numbers (past_numbers sync_table text))
+sync_in text0 =
+    let text1 = past gain_row.key text0 in
+    let text2 = past_numbers network_rows text1 in
+    do
+      gain ← field gain_row.key (unsigned_of gain_row.form) text0
+      network ← numbers_in network_rows text1
+      local ← numbers_in local_rows text2
+      sync_behind gain network local (past_numbers local_rows text2)
 
 -- `paging channel=C gain=G`: C isn't 0
 abbrev pub paging_line : ℕ → ℕ → Option PagingLine

@@ -1,19 +1,20 @@
 //! The fields of a line, read one after another.
 
-ghost use Rattle.std.specs.Prelude.{◌≡◌, ◌≤◌, ℕ, Bool, List, true, false, length, IfSome, OnSome};
-ghost use Rattle.std.specs.Prelude.{MatchOption, IsTrue, ◌↔◌, unsigned_abs, [], None, Some};
-ghost use Rattle.cell_script.specs.ScriptValues.{begins_with, bits_in, power_bits_in, number_up_to};
-ghost use Rattle.cell_script.specs.ScriptFields.{AreUpTo, field, numbers_in, past, past_numbers};
-ghost use Rattle.cell_script.specs.ScriptFields.{rows_of, value_of, IsOfForm, signed_of};
-ghost use Rattle.cell_script.specs.ScriptFields.{unsigned_of};
+ghost use Rattle.std.specs.Prelude.{◌≡◌, ◌<◌, ◌≤◌, ℕ, Bool, List, true, false, length, IfSome, OnSome};
+ghost use Rattle.std.specs.Prelude.{MatchOption, IsTrue, ◌↔◌, unsigned_abs, [], None, Some, drop};
+ghost use Rattle.std.specs.Prelude.{take, ◌^◌, ◌-◌};
+ghost use Rattle.cell_script.specs.ScriptValues.{begins_with, bits_in, length_before, number_up_to};
+ghost use Rattle.cell_script.specs.ScriptValues.{power_bits_in};
+ghost use Rattle.cell_script.specs.ScriptFields.{IsOfForm, field, key_of, past, signed_of};
+ghost use Rattle.cell_script.specs.ScriptFields.{unsigned_of, value_of};
 
-use crate::tables::{FieldForm, NumberField, StatementField};
+use crate::tables::{FieldForm, StatementField};
 use crate::values::{
-    begins_with, bits_in, length_before, number_up_to, power_bits_in, serial_number_in, signed_in,
-    state_in,
+    bits_in, length_before, number_up_to, power_bits_in, serial_number_in, signed_in, state_in,
 };
 use chip_core::{Bits, PowerBits};
 use std::marker::Model;
+use sync_message::FieldRow;
 
 /// Reads the fields of a line in order. A key is what stands before a value: ` name=`, with the
 /// statement's word before the first. Contracts see the text that is left.
@@ -45,13 +46,6 @@ impl<'a> Fields<'a> {
         self.text.is_empty()
     }
 
-    /// Whether the next field has this key.
-    pub(crate) fn begin_with(&self, key: &[u8]) -> bool
-        ensures { result ≡ begins_with self.now key.now }
-    {
-        begins_with(self.text, key)
-    }
-
     /// The text of the value behind this key.
     #[tactic(auto, unfolding(crate::specs::ScriptFields::past))]
     fn value(&mut self, key: &[u8]) -> Option<&'a [u8]>
@@ -61,33 +55,37 @@ impl<'a> Fields<'a> {
         ensures rest { OnSome result (self.new ≡ past key.now self.old) }
     {
         let text = self.text.strip_prefix(key)?;
+        Some(self.value_from(text))
+    }
+
+    /// The value with which a text begins, from which the fields go on.
+    fn value_from(&mut self, text: &'a [u8]) -> &'a [u8]
+        ensures value { result.now ≡ take (length_before 32 text.now) text.now }
+        ensures rest { self.new ≡ drop (length_before 32 text.now) text.now }
+    {
         let end = length_before(text, b' ');
         self.text = &text[end..];
-        Some(&text[..end])
+        &text[..end]
     }
 
-    /// A number of at most `most`.
-    #[tactic(auto, unfolding(crate::specs::ScriptFields::field))]
-    pub(crate) fn number(&mut self, key: &[u8], most: u64) -> Option<u64>
-        ensures value { result ≡ field key.now (number_up_to most) self.old }
-        ensures range { IfSome result (λ n. n ≤ most) }
-        ensures rest { OnSome result (self.new ≡ past key.now self.old) }
+    /// Whether the next field is this one of a message.
+    pub(crate) fn begin_with(&self, row: FieldRow) -> bool
+        ensures { result ≡ begins_with self.now (key_of row.entry.0.now) }
     {
-        number_up_to(self.value(key)?, most)
+        behind_name(self.text, row.0).is_some()
     }
 
-    /// The numbers of fields that follow one another.
-    pub(crate) fn numbers(&mut self, table: &[NumberField], out: &mut [u64]) -> Option<()>
-        requires { length out.old ≡ length table.now }
-        ensures value { MatchOption result (numbers_in (rows_of table.now) self.old ≡ None)
-            (λ _. numbers_in (rows_of table.now) self.old ≡ Some out.new) }
-        ensures range { OnSome result (AreUpTo (rows_of table.now) out.new) }
-        ensures rest { OnSome result (self.new ≡ past_numbers (rows_of table.now) self.old) }
+    /// The number of this field of a message, of at most as many bits as it has there.
+    #[tactic(auto, unfolding(crate::specs::ScriptFields::field, crate::specs::ScriptFields::past))]
+    pub(crate) fn number(&mut self, row: FieldRow) -> Option<u64>
+        requires { row.1 ≤ 63 }
+        ensures value { result ≡ field (key_of row.entry.0.now)
+            (number_up_to (2 ^ row.entry.1 - 1)) self.old }
+        ensures range { IfSome result (λ n. n < 2 ^ row.entry.1) }
+        ensures rest { OnSome result (self.new ≡ past (key_of row.entry.0.now) self.old) }
     {
-        for (k, field) in table.iter().enumerate() {
-            out[k] = self.number(field.key, field.most)?;
-        }
-        Some(())
+        let text = behind_name(self.text, row.0)?;
+        number_up_to(self.value_from(text), (1 << row.1) - 1)
     }
 
     /// The value of a field whose form has no sign; `None` for one whose form has.
@@ -127,6 +125,18 @@ impl<'a> Fields<'a> {
     {
         power_bits_in(self.value(key)?)
     }
+}
+
+/// What stands behind ` name=`, with which a text begins.
+#[tactic(auto, using(crate::proofs::ScriptKeys::key_told, crate::proofs::ScriptKeys::key_behind))]
+fn behind_name<'a>(text: &'a [u8], name: &str) -> Option<&'a [u8]>
+    ensures { MatchOption result (begins_with text.now (key_of name.now) ≡ false)
+        (λ rest. (begins_with text.now (key_of name.now) ≡ true)
+        × (rest.now ≡ drop (length (key_of name.now)) text.now)) }
+{
+    let text = text.strip_prefix(b" ")?;
+    let text = text.strip_prefix(name.as_bytes())?;
+    text.strip_prefix(b"=")
 }
 
 /// The value that a text spells in a form that has no sign; `None` in one that has.

@@ -6,8 +6,9 @@ ghost use Rattle.cell_script.specs.ScriptLines.{page_key, page_with, paging_in, 
 ghost use Rattle.cell_script.specs.ScriptLines.{pilot_in, sync_behind, sync_fields, statement_in};
 ghost use Rattle.cell_script.specs.ScriptLines.{sync_in, lawful_message, frame_in, frame_key};
 ghost use Rattle.cell_script.specs.ScriptLines.{frame_rate, frame_with, frame2_in, frame2_key};
-ghost use Rattle.cell_script.specs.ScriptLines.{frame2_rate, frame2_with, sync_table, traffic_in};
-ghost use Rattle.cell_script.specs.ScriptFields.{AreUpTo};
+ghost use Rattle.cell_script.specs.ScriptLines.{frame2_rate, frame2_with, local_rows};
+ghost use Rattle.cell_script.specs.ScriptLines.{network_rows, traffic_in};
+ghost use Rattle.cell_script.specs.ScriptFields.{AreUpTo, numbers_in, past_numbers};
 ghost use Rattle.cell_script.specs.ScriptPlans.{HasRow};
 ghost use Rattle.cell_plan.specs.Stated.{IsStatedCell, IsStatedLink};
 ghost use Rattle.paging_message.specs.Reading.{is_body};
@@ -16,15 +17,14 @@ ghost use Rattle.chip_core.specs.Fields.{FieldsFit};
 
 use crate::fields::Fields;
 use crate::tables::{
-    CELL_FIELDS, FREQ_NUMBER, LINK_FIELDS, PAGING_FIELDS, PILOT_FIELDS, SYNC_NUMBERS,
-    TRAFFIC_FIELDS,
+    CELL_FIELDS, LINK_FIELDS, PAGING_FIELDS, PILOT_FIELDS, SYNC_GAIN, TRAFFIC_FIELDS,
 };
 use crate::values::begins_with;
 use cell_plan::{CellIdentity, LinkPlan, Page, PilotPlan, SyncPlan, TrafficFrame, TrafficFrame2};
 use chip_core::{Bits, CheckForm, Pair};
 use paging_message::PagingMessage;
 use symbol_path::{Rate, Rate2};
-use sync_message::{SyncFields, SyncMessage};
+use sync_message::{FREQ_FIELD, SYNC_FIELDS, SyncFields, SyncMessage};
 
 /// What a line of a script states.
 #[derive(Clone, Copy)]
@@ -175,52 +175,89 @@ fn pilot_in(text: &[u8]) -> Option<PilotPlan>
     Some(PilotPlan { gain: gain as u16 })
 }
 
-/// What a `sync` line says. Its message has zeros for PILOT_PN, SYS_TIME and LC_STATE.
+/// What a `sync` line says: its gain, and the fields of the message, of which each transmission
+/// fills in PILOT_PN, SYS_TIME and LC_STATE (TIA/EIA-95-B, 7.7.1.3), which are zeros here.
+#[tactic(auto, unfolding(crate::specs::ScriptLines::sync_in))]
 fn sync_in(text: &[u8]) -> Option<SyncPlan>
     ensures value { result ≡ sync_in text.now }
     ensures lawful { IfSome result (λ sync. IsSyncMessage sync.message) }
 {
     let mut fields = Fields::new(text);
-    let mut numbers = [0; SYNC_NUMBERS.len()];
-    fields.numbers(&SYNC_NUMBERS, &mut numbers)?;
-    sync_behind(&numbers, fields)
+    let gain = fields.unsigned(SYNC_GAIN)?;
+    let network = network_numbers(&mut fields)?;
+    let local = local_numbers(&mut fields)?;
+    sync_behind(gain as u16, &network, &local, fields)
 }
 
-/// What a `sync` line says by its numbers and by the fields behind them.
+/// The numbers of a `sync` line that tell of the protocol and the network.
+#[tactic(auto, unfolding(crate::specs::ScriptFields::numbers_in, crate::specs::ScriptFields::past_numbers))]
+fn network_numbers(fields: &mut Fields<'_>) -> Option<[u64; 4]>
+    ensures value { result ≡ numbers_in network_rows fields.old }
+    ensures rest { OnSome result (fields.new ≡ past_numbers network_rows fields.old) }
+{
+    Some([
+        fields.number(SYNC_FIELDS[0])?,
+        fields.number(SYNC_FIELDS[1])?,
+        fields.number(SYNC_FIELDS[2])?,
+        fields.number(SYNC_FIELDS[3])?,
+    ])
+}
+
+/// The numbers of a `sync` line that tell of local time and the paging channel.
+#[tactic(auto, unfolding(crate::specs::ScriptFields::numbers_in, crate::specs::ScriptFields::past_numbers))]
+fn local_numbers(fields: &mut Fields<'_>) -> Option<[u64; 4]>
+    ensures value { result ≡ numbers_in local_rows fields.old }
+    ensures rest { OnSome result (fields.new ≡ past_numbers local_rows fields.old) }
+{
+    Some([
+        fields.number(SYNC_FIELDS[7])?,
+        fields.number(SYNC_FIELDS[8])?,
+        fields.number(SYNC_FIELDS[9])?,
+        fields.number(SYNC_FIELDS[10])?,
+    ])
+}
+
+/// What a `sync` line says by its gain, its numbers and the fields behind them.
 #[tactic(auto, unfolding(crate::specs::ScriptLines::sync_behind))]
-fn sync_behind(numbers: &[u64; 9], mut fields: Fields<'_>) -> Option<SyncPlan>
-    requires { AreUpTo sync_table numbers.now }
-    ensures value { result ≡ sync_behind numbers.now fields.entry }
+fn sync_behind(
+    gain: u16,
+    network: &[u64; 4],
+    local: &[u64; 4],
+    mut fields: Fields<'_>,
+) -> Option<SyncPlan>
+    requires network { AreUpTo network_rows network.now }
+    requires local { AreUpTo local_rows local.now }
+    ensures value { result ≡ sync_behind gain network.now local.now fields.entry }
     ensures lawful { IfSome result (λ sync. IsSyncMessage sync.message) }
 {
     let freq = freq_in(&mut fields)?;
     let rest = fields.bits(b" rest=")?;
-    let message = message_with(sync_fields(numbers, freq, rest))?;
+    let message = message_with(sync_fields(network, local, freq, rest))?;
     if !fields.at_end() {
         return None;
     }
-    let gain = numbers[0] as u16;
     Some(SyncPlan { gain, message })
 }
 
 /// What the numbers of a `sync` line say.
-fn sync_fields(numbers: &[u64; 9], freq: Option<u16>, rest: Bits) -> SyncFields
-    requires { AreUpTo sync_table numbers.now }
-    ensures value { result ≡ sync_fields numbers.now freq rest }
+fn sync_fields(network: &[u64; 4], local: &[u64; 4], freq: Option<u16>, rest: Bits) -> SyncFields
+    requires network { AreUpTo network_rows network.now }
+    requires local { AreUpTo local_rows local.now }
+    ensures value { result ≡ sync_fields network.now local.now freq rest }
     ensures fixed { FieldsFit (fixed_fields result) }
 {
     SyncFields {
-        prev: numbers[1] as u8,
-        min: numbers[2] as u8,
-        sid: numbers[3] as u16,
-        nid: numbers[4] as u16,
+        prev: network[0] as u8,
+        min: network[1] as u8,
+        sid: network[2] as u16,
+        nid: network[3] as u16,
         pn: 0,
         lc: 0,
         time: 0,
-        lp: numbers[5] as u8,
-        ltm: numbers[6] as u8,
-        daylt: numbers[7] as u8,
-        prat: numbers[8] as u8,
+        lp: local[0] as u8,
+        ltm: local[1] as u8,
+        daylt: local[2] as u8,
+        prat: local[3] as u8,
         freq,
         rest,
     }
@@ -233,10 +270,10 @@ fn freq_in(fields: &mut Fields<'_>) -> Option<Option<u16>>
     ensures range { IfSome result (λ freq. IfSome freq (λ n. n < 2 ^ 11)) }
     ensures rest { OnSome result (fields.new ≡ past_freq fields.old) }
 {
-    if !fields.begin_with(FREQ_NUMBER.key) {
+    if !fields.begin_with(FREQ_FIELD) {
         return Some(None);
     }
-    Some(Some(fields.number(FREQ_NUMBER.key, FREQ_NUMBER.most)? as u16))
+    Some(Some(fields.number(FREQ_FIELD)? as u16))
 }
 
 /// The message of these fields, if its rest has a length that it admits.

@@ -1,16 +1,5 @@
 //! The fields of statements, which reading and its definition both go by.
 
-use sync_message::{FREQ_FIELD, SYNC_FIELDS};
-
-/// A field that holds a number: its key, with which it begins, and the greatest number.
-#[derive(Clone, Copy)]
-pub struct NumberField {
-    /// What stands before the number: ` name=`, with the statement's word before the first.
-    pub key: &'static [u8],
-    /// The greatest number that it admits.
-    pub most: u64,
-}
-
 /// How the value of a field is written, and in which range it lies.
 #[derive(Clone, Copy)]
 pub enum FieldForm {
@@ -76,50 +65,8 @@ pub const TRAFFIC_FIELDS: [StatementField; 4] = statement_fields![
     (b" gain=", FieldForm::UpTo(65_535)),
 ];
 
-/// The numbers of a `sync` line that it always has, in their order: the channel's gain, and then
-/// the fields of the message with the ranges of their widths, but for those that each transmission
-/// fills in (TIA/EIA-95-B, 7.7.1.3). Their keys are ` name=` by the message's table.
-pub const SYNC_NUMBERS: [NumberField; 9] = [
-    NumberField {
-        key: b"sync gain=",
-        most: 65_535,
-    },
-    NumberField {
-        key: b" prev=",
-        most: (1 << SYNC_FIELDS[0].1) - 1,
-    },
-    NumberField {
-        key: b" min=",
-        most: (1 << SYNC_FIELDS[1].1) - 1,
-    },
-    NumberField {
-        key: b" sid=",
-        most: (1 << SYNC_FIELDS[2].1) - 1,
-    },
-    NumberField {
-        key: b" nid=",
-        most: (1 << SYNC_FIELDS[3].1) - 1,
-    },
-    NumberField {
-        key: b" lp=",
-        most: (1 << SYNC_FIELDS[7].1) - 1,
-    },
-    NumberField {
-        key: b" ltm=",
-        most: (1 << SYNC_FIELDS[8].1) - 1,
-    },
-    NumberField {
-        key: b" daylt=",
-        most: (1 << SYNC_FIELDS[9].1) - 1,
-    },
-    NumberField {
-        key: b" prat=",
-        most: (1 << SYNC_FIELDS[10].1) - 1,
-    },
-];
-
-/// The frequency of a `sync` line, which may be left out.
-pub const FREQ_NUMBER: NumberField = NumberField {
-    key: b" freq=",
-    most: (1 << FREQ_FIELD.1) - 1,
+/// The gain of a `sync` line, with which it begins.
+pub const SYNC_GAIN: StatementField = StatementField {
+    key: b"sync gain=",
+    form: FieldForm::UpTo(65_535),
 };
