@@ -346,9 +346,18 @@ class Documents(unittest.TestCase):
             ("TIME_FIELDS", TIME_FIELDS, traffic),
             ("SEARCH_FIELDS", SEARCH_FIELDS, traffic),
         ):
-            rows = re.search(rf"pub const {name}: [^=]*= \[(.*?)\];", source, re.S)[1]
-            self.check_rows(re.findall(r'\("(\w+)", (\d+)\)', rows), fields)
+            self.check_rows(self.rows_of(name, source), fields)
         self.assertIn('pub const FREQ_FIELD: FieldRow = ("freq", 11);', sync)
+
+    def rows_of(self, name: str, source: str) -> list[tuple[str, str]]:
+        """The names and widths of a table, which is written out or made of a macro's list of fields."""
+        made = re.search(rf"pub const {name}: [^=]*= (?:\[(.*?)\]|(\w+)!\(field_rows\));", source, re.S)
+        if made[2] is None:
+            return re.findall(r'\("(\w+)", (\d+)\)', made[1])
+        body = re.search(rf"macro_rules! {made[2]} {{.*?\n}}", source, re.S)[0]
+        listed = re.findall(r"(\d+) (\w+) (\d+)", body)
+        self.assertEqual([int(place) for place, _, _ in listed], list(range(len(listed))))
+        return [(field, width) for _, field, width in listed]
 
     def check_rows(self, rows: list[tuple[str, str]], fields: tuple) -> None:
         self.assertEqual([name for name, _ in rows], [field.name for field in fields])
