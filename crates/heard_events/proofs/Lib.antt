@@ -22,3 +22,10 @@ pub mod FramesAlone
 pub mod EventPlaces
 pub mod MarkTold
 pub mod Causality
+pub mod LegLists
+pub mod ActiveLegs
+pub mod LegFingers
+pub mod LegSubsets
+pub mod NeighborPilots
+pub mod SignalParts
+pub mod MomentMeasured

@@ -20,3 +20,6 @@ pub mod Channels
 pub mod SoftFrames
 pub mod FramesAlone
 pub mod Worked
+pub mod SoundMarks
+pub mod LegSofts
+pub mod SetsKeeping

@@ -1,13 +1,23 @@
 //! What is heard of a file of samples, and when: the events, the mark that a sync message sets, and
 //! what is received of each frame, as definitions over all samples, with the types that these speak
 //! of and the laws of causality. The handset that tells them is `mobile_core`.
+//!
+//! What needs no receiver of frames is computed here too: the events of what capsules and frames
+//! say, the pilot sets at each moment, and the soft values of a frame as active pilots send it.
 #![tactic(auto)]
 
 mod channel;
 mod event;
+mod fingers;
+pub mod hearing;
 pub mod laws;
 mod leg;
+mod leg_softs;
+mod legs;
 mod mark;
+mod measuring;
+mod sets_keeper;
+mod sets_notes;
 mod settings;
 mod soft_frame;
 mod spelled;
@@ -15,8 +25,12 @@ mod spelled;
 pub use channel::Channel;
 pub use chip_core::Traffic;
 pub use event::Event;
+pub use fingers::leg_fingers;
 pub use leg::Leg;
+pub use leg_softs::power_softs;
+pub use legs::Legs;
 pub use mark::Mark;
+pub use sets_keeper::SetsKeeper;
 pub use settings::Settings;
 pub use soft_frame::{PowerControl, SoftFrame};
 pub use spelled::Spelled;

@@ -8,7 +8,7 @@ use Rattle.mobile_core.proofs.Common.{TrafficReceiver}
 use Rattle.heard_events.proofs.FrameBounds.{known_low}
 use Rattle.heard_events.proofs.MarkStays.{pilot_alone}
 use Rattle.mobile_core.proofs.FramesHeard.{left_unkept}
-use Rattle.mobile_core.proofs.LegFingers.{paths_fingers}
+use Rattle.heard_events.proofs.LegFingers.{paths_fingers}
 use Rattle.mobile_core.specs.TrafficReceiving.{IsTunedIn}
 use Rattle.heard_events.proofs.TrafficGrowth.{heard_none, told_left_none}
 

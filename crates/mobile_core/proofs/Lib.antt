@@ -1,17 +1,10 @@
 pub mod Common
 pub mod SyncHeard
 pub mod PagesHeard
-pub mod LegLists
-pub mod ActiveLegs
-pub mod LegFingers
-pub mod LegSubsets
-pub mod NeighborPilots
-pub mod SignalParts
 pub mod FramesHeard
 pub mod FramesTold
 pub mod FramesOpened
 pub mod SoundFrames
-pub mod MomentMeasured
 pub mod MomentPassed
 pub mod FramesGiven
 pub mod PagesFollowed

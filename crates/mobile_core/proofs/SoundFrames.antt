@@ -4,11 +4,11 @@ use Rattle.mobile_core.proofs.Common.{subst, false, Held, sum_by, unsigned_abs, 
 use Rattle.mobile_core.proofs.Common.{AreClose, legs_close, legs_rows, paths_close, all_fingers, legs_of, moment_place, IsSoundKeeper}
 use Rattle.mobile_core.proofs.Common.{coming_place, frame_end, HearsWith, IsSoundTraffic, Tuning, Event, Leg, Mark, SetsKeeper, Traffic}
 use Rattle.mobile_core.proofs.Common.{SpelledSignal, TrafficReceiver, All, IsInRing, frame_chips, frame_heard}
-use Rattle.mobile_core.specs.LegSofts.{IsHeldFrom}
+use Rattle.heard_events.specs.LegSofts.{IsHeldFrom}
 use Rattle.mobile_core.specs.TrafficReceiving.{HasSoundLegs, frame_taken, tuned_to}
 use Rattle.reception.specs.Sound.{IsSoundReceiver}
 use Rattle.rake_finger.proofs.CloseFingers.{begun_in_ring, close_ends}
-use Rattle.mobile_core.proofs.LegFingers.{all_some, legs_are_close}
+use Rattle.heard_events.proofs.LegFingers.{all_some, legs_are_close}
 
 module _ {r : TrafficReceiver} (is : IsSoundTraffic r) where
   -- other pilots, with the end of their frame

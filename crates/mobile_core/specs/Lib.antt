@@ -1,6 +1,4 @@
 pub mod Sound
-pub mod LegSofts
-pub mod SetsKeeping
 pub mod SyncReceiving
 pub mod PagingReceiving
 pub mod TrafficReceiving

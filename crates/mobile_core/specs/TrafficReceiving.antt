@@ -17,7 +17,7 @@ use Rattle.heard_events.specs.Left.{frames_left_of, messages_left_of, sets_left_
 use Rattle.heard_events.specs.Legs.{all_fingers, legs_of}
 use Rattle.heard_events.specs.Moments.{heard_from, kept_to, legs_by, moment_of, moment_place}
 use Rattle.heard_events.specs.Noted.{all_noted, noted_with}
-use Rattle.mobile_core.specs.SetsKeeping.{IsSoundKeeper, coming_place}
+use Rattle.heard_events.specs.SetsKeeping.{IsSoundKeeper, coming_place}
 use Rattle.heard_events.specs.Signaling.{message_events, signals_before}
 use Rattle.heard_events.specs.TrafficEvents.{all_sums, raw_softs}
 use Rattle.heard_events.specs.TrafficStreams.{frame_known, frame_state, traffic_start}

@@ -29,7 +29,7 @@ impl ChannelReceiver {
     ghost use Rattle.heard_events.specs.declared.mark.Mark.{Mark as TheMark};
     ghost use Rattle.mobile_core.specs.FrameReceiving.{HasGiven, IsSoundChannelReceiver};
     ghost use Rattle.mobile_core.specs.FrameReceiving.{frame_passed};
-    ghost use Rattle.mobile_core.specs.Sound.{IsSoundMark};
+    ghost use Rattle.heard_events.specs.SoundMarks.{IsSoundMark};
     ghost use Rattle.rake_finger.specs.Held.{HoldsLast};
     ghost use Rattle.reception.specs.Softs.{frame_most};
 

@@ -41,7 +41,7 @@ impl Followed {
     ghost use Rattle.mobile_core.specs.FollowedChannels.{followed_events_left, followed_heard};
     ghost use Rattle.mobile_core.specs.FollowedChannels.{traffic_events_left};
     ghost use Rattle.heard_events.specs.Given.{at_of, listed};
-    ghost use Rattle.mobile_core.specs.Sound.{IsSoundMark};
+    ghost use Rattle.heard_events.specs.SoundMarks.{IsSoundMark};
     ghost use Rattle.mobile_core.specs.TrafficReceiving.{IsSoundTraffic, WaitsAt, traffic_due};
     ghost use Rattle.mobile_core.specs.TrafficReceiving.{traffic_heard};
     ghost use Rattle.heard_events.specs.Tuning.{Tuning};

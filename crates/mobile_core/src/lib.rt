@@ -2,20 +2,13 @@
 #![tactic(auto)]
 
 mod channel_receiver;
-mod fingers;
 mod followed;
-mod hearing;
-mod legs;
-mod measuring;
 mod mobile;
 mod paging_receiver;
 mod receive;
 mod scrambling;
-mod sets_keeper;
-mod sets_notes;
 mod sync_receiver;
 mod traffic_receiver;
-mod traffic_softs;
 mod tuner;
 
 pub use heard_events::{Channel, Event, Mark, PowerControl, Settings, SoftFrame, Traffic, laws};

@@ -3,11 +3,11 @@
 ghost use Rattle.mobile_core.specs.SoundHandset.{IsSound};
 
 use crate::followed::Followed;
-use crate::hearing::pilot_event;
 use crate::receive::Receive;
 use crate::sync_receiver::SyncReceiver;
 use crate::tuner::Tuner;
 use chip_core::{CheckForm, OutOfMemory, Phase, Sample};
+use heard_events::hearing::pilot_event;
 use heard_events::{Channel, Event, Mark, Settings};
 use pilot_search::{Best, Near};
 use rake_finger::SampleRing;
@@ -69,7 +69,7 @@ impl Mobile {
     ghost use Rattle.heard_events.specs.Events.{events};
     ghost use Rattle.heard_events.specs.Given.{at_of};
     ghost use Rattle.heard_events.specs.Marks.{mark, sets_mark};
-    ghost use Rattle.mobile_core.specs.Sound.{IsSoundMark};
+    ghost use Rattle.heard_events.specs.SoundMarks.{IsSoundMark};
     ghost use Rattle.mobile_core.specs.FollowedChannels.{EndFrom, IsFollowedDue};
     ghost use Rattle.mobile_core.specs.BehindMark.{IsSoundAssignment};
     ghost use Rattle.reception.specs.Clocks.{IsDueAt};

@@ -1,10 +1,10 @@
 //! A paging channel as it is received.
 
-use crate::hearing::{event_of_page, page_in};
 use crate::receive::Receive;
 use crate::scrambling::paging_scrambling;
 use chip_core::{Bits, CheckForm, Phase};
 use frame_decoder::FrameKind;
+use heard_events::hearing::{event_of_page, page_in};
 use heard_events::{Event, Mark, Spelled};
 use paging_message::{HalfFramer, PagingMessage};
 use pilot_search::Near;
@@ -36,7 +36,7 @@ impl PagingReceiver {
     ghost use Rattle.mobile_core.specs.PagingReceiving.{HearsBit, HearsPaging, IsSoundPaging};
     ghost use Rattle.mobile_core.specs.PagingReceiving.{bit_passed, bits_heard};
     ghost use Rattle.heard_events.specs.PagingStreams.{paging_rate, paging_stream};
-    ghost use Rattle.mobile_core.specs.Sound.{IsSoundMark};
+    ghost use Rattle.heard_events.specs.SoundMarks.{IsSoundMark};
     ghost use Rattle.heard_events.specs.Streams.{frame_own_bits};
     ghost use Rattle.heard_events.specs.Tuning.{Tuning};
     ghost use Rattle.heard_events.specs.declared.mark.Mark.{Mark as TheMark};

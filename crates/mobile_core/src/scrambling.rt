@@ -4,7 +4,7 @@ ghost use Rattle.std.specs.Prelude.{◌≡◌, ◌<◌, ◌≤◌, ◌*◌, ◌^
 ghost use Rattle.heard_events.specs.Channels.{IsLawful, mask_of, state_at};
 ghost use Rattle.heard_events.specs.TrafficStreams.{frame_state};
 ghost use Rattle.long_code.specs.LongCode.{after, paging_mask, traffic_mask};
-ghost use Rattle.mobile_core.specs.Sound.{IsSoundMark};
+ghost use Rattle.heard_events.specs.SoundMarks.{IsSoundMark};
 
 use chip_core::Traffic;
 use chip_core::air::FRAME_OFFSET_CHIPS;

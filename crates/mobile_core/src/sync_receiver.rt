@@ -1,15 +1,21 @@
 //! The sync channel as it is received.
 
-use crate::hearing::{event_of, mark_with, message_in, with_frame};
-use chip_core::air::{CODE_CHIPS, SYNC_ROW};
+ghost use Rattle.std.specs.Prelude.{◌≡◌, ◌<◌, ◌≤◌, ◌^◌, Some};
+ghost use Rattle.std.specs.Option.{ForSome, option_or};
+ghost use Rattle.heard_events.specs.Marks.{first_of, frames_with, marks_of};
+ghost use Rattle.heard_events.specs.SoundMarks.{IsSoundMark};
+
+use chip_core::air::{CODE_CHIPS, OFFSET_CHIPS, SUPERFRAME_BITS, SUPERFRAME_CHIPS, SYNC_ROW};
 use chip_core::{CheckForm, Phase};
 use frame_decoder::FrameKind;
-use heard_events::{Event, Mark};
+use heard_events::hearing::{event_of, message_in};
+use heard_events::{Event, Mark, Spelled};
+use long_code::State;
 use pilot_search::Near;
 use rake_finger::{Form, SampleRing};
 use reception::{Continued, reference_fingers};
 use short_code::Codes;
-use sync_message::CapsuleFramer;
+use sync_message::{CapsuleFramer, SyncMessage};
 use viterbi::Decoder;
 
 /// The receiver of the sync channel: frames, the message under way, and the mark that messages set
@@ -141,4 +147,54 @@ impl SyncReceiver {
         let first = self.received.clock.next() - self.message_frames;
         self.received.clock.start_of(first)
     }
+}
+
+/// How many frames the message under way has with one frame more.
+fn with_frame(begins: bool, message_frames: u64) -> u64
+    requires { message_frames < 2 ^ 63 }
+    ensures { result ≡ frames_with begins message_frames }
+{
+    if begins {
+        1
+    } else if message_frames > 0 {
+        message_frames + 1
+    } else {
+        0
+    }
+}
+
+/// The mark that a message sets whose first frame begins at a reference sample.
+fn mark_of(first: u64, told: &Spelled<SyncMessage>) -> Option<Mark>
+    requires { first ≤ 2 ^ 28 }
+    ensures value { result ≡ first_of (marks_of first (Some told.now)) }
+    ensures sound { ForSome result IsSoundMark }
+{
+    let fields = told.message.fields();
+    if fields.lc == 0 {
+        return None;
+    }
+    let state = State::new(fields.lc).unwrap();
+    let body_bits = u64::from(SUPERFRAME_BITS);
+    let superframes = (u64::from(told.capsule.len()) + body_bits - 1) / body_bits;
+    let behind = SUPERFRAME_CHIPS * (superframes + 4);
+    Some(Mark {
+        sample: first + behind - OFFSET_CHIPS * u64::from(fields.pn),
+        time: fields.time,
+        state,
+        pilot: fields.pn,
+        prat: fields.prat,
+    })
+}
+
+/// The mark that is set, or else that of what is told.
+fn mark_with(mark: Option<Mark>, first: u64, told: &Spelled<SyncMessage>) -> Option<Mark>
+    requires first { first ≤ 2 ^ 28 }
+    requires sound { ForSome mark IsSoundMark }
+    ensures value { result ≡ option_or mark (first_of (marks_of first (Some told.now))) }
+    ensures sound { ForSome result IsSoundMark }
+{
+    if mark.is_some() {
+        return mark;
+    }
+    mark_of(first, told)
 }

@@ -1,16 +1,12 @@
 //! A traffic channel as it is received.
 
-use crate::fingers::leg_fingers;
-use crate::hearing::{frame_event, hear_signal, message_event};
-use crate::legs::Legs;
 use crate::receive::Receive;
 use crate::scrambling::traffic_scrambling;
-use crate::sets_keeper::SetsKeeper;
-use crate::traffic_softs::power_softs;
 use chip_core::air::{DATA_SYMBOLS, FRAME_OFFSET_CHIPS};
 use chip_core::{CheckForm, Phase, PowerBits, Traffic};
 use frame_decoder::{Decoded, FrameSofts, PowerSofts, commands, traffic_frame};
-use heard_events::{Event, Mark, Spelled};
+use heard_events::hearing::{frame_event, hear_signal, message_event};
+use heard_events::{Event, Legs, Mark, SetsKeeper, Spelled, leg_fingers, power_softs};
 use pilot_search::Near;
 use rake_finger::SampleRing;
 use reception::FrameReceiver;
@@ -59,11 +55,11 @@ impl TrafficReceiver {
     ghost use Rattle.frame_decoder.specs.TrafficFrames.{subchannels};
     ghost use Rattle.long_code.specs.LongCode.{after};
     ghost use Rattle.heard_events.specs.Close.{legs_close};
-    ghost use Rattle.mobile_core.specs.LegSofts.{sums_on};
+    ghost use Rattle.heard_events.specs.LegSofts.{sums_on};
     ghost use Rattle.heard_events.specs.Legs.{legs_of};
     ghost use Rattle.heard_events.specs.Legs.{subchannels as subchannels_of};
     ghost use Rattle.heard_events.specs.Moments.{legs_by, moment_place};
-    ghost use Rattle.mobile_core.specs.Sound.{IsSoundMark};
+    ghost use Rattle.heard_events.specs.SoundMarks.{IsSoundMark};
     ghost use Rattle.heard_events.specs.TrafficEvents.{power_bits_at, decoded_at};
     ghost use Rattle.mobile_core.specs.TrafficReceiving.{HasTold, HearsTraffic, IsSoundTraffic};
     ghost use Rattle.mobile_core.specs.TrafficReceiving.{HearsWith, frame_taken, next_end};

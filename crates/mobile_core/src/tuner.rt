@@ -42,7 +42,7 @@ impl Tuner {
     ghost use Rattle.chip_core.specs.declared.sample.Sample.{Sample};
     ghost use Rattle.heard_events.specs.Channels.{IsLawful};
     ghost use Rattle.heard_events.specs.SoftFrames.{soft_frames};
-    ghost use Rattle.mobile_core.specs.Sound.{IsSoundMark};
+    ghost use Rattle.heard_events.specs.SoundMarks.{IsSoundMark};
     ghost use Rattle.mobile_core.specs.Tuners.{IsTunedTo, IsTunerStep, samples_left};
     ghost use Rattle.heard_events.specs.Tuning.{Tuning};
     ghost use Rattle.rake_finger.specs.Held.{HoldsLast};

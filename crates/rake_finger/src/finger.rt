@@ -1,7 +1,9 @@
 //! Fingers, and lists of them.
 
 ghost use Rattle.std.specs.Prelude.{◌≡◌, ◌<◌, ◌≤◌, List, [], ◌∷◌, ◌++◌, length, slice_get, Some};
-ghost use Rattle.std.specs.Prelude.{IsOk, OnOk, OnErr, ◌↔◌};
+ghost use Rattle.std.specs.Prelude.{IsOk, OnOk, OnErr, ◌↔◌, true, pos, ◌+ℤ◌};
+ghost use Rattle.rake_finger.specs.Near.{is_near};
+ghost use Rattle.rake_finger.specs.Paths.{finger_of, modulo_code};
 
 use chip_core::{Full, Phase};
 use std::marker::Model;
@@ -15,6 +17,27 @@ pub struct Finger {
     pub delta: i16,
     /// The channel's Walsh row, 0 to 63.
     pub row: u8,
+}
+
+/// The phase so many chips above another, modulo the period of the codes.
+fn phase_above(phase: Phase, delta: i8) -> Phase
+    ensures { result ≡ modulo_code (pos phase +ℤ delta) }
+{
+    let number = (i32::from(phase.get()) + i32::from(delta)).rem_euclid(32768);
+    Phase::new(number as u16).unwrap()
+}
+
+/// The finger that receives a row so many chips earlier than at a phase.
+pub fn finger_at(row: u8, phase: Phase, delta: i8) -> Finger
+    ensures value { result ≡ finger_of row phase delta }
+    ensures near { is_near result.delta ≡ true }
+    ensures row { result.row ≡ row }
+{
+    Finger {
+        phase: phase_above(phase, delta),
+        delta: i16::from(delta),
+        row,
+    }
 }
 
 /// A list of 1 to 8 fingers, whose soft values are added up. Contracts see the list.

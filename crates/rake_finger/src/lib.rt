@@ -25,7 +25,7 @@ mod values;
 mod windows;
 
 pub use combining::combine_into;
-pub use finger::{Finger, Fingers};
+pub use finger::{Finger, Fingers, finger_at};
 pub use form::Form;
 pub use moments::power;
 pub use ring::SampleRing;

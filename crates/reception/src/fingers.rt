@@ -1,17 +1,16 @@
 //! The fingers that receive a channel of the reference base station, and where their frames lie.
 
-ghost use Rattle.std.specs.Prelude.{◌≡◌, ◌<◌, ◌≤◌, ◌^◌, true, pos, ◌+ℤ◌, int_le, slice_get, Some};
+ghost use Rattle.std.specs.Prelude.{◌≡◌, ◌<◌, ◌≤◌, ◌^◌, true, pos, int_le, slice_get, Some};
 ghost use Rattle.std.specs.Prelude.{length, take};
 ghost use Rattle.rake_finger.specs.Near.{AreNear, all_begun, all_close, have_rows, is_close};
-ghost use Rattle.rake_finger.specs.Near.{is_near};
-ghost use Rattle.rake_finger.specs.Paths.{finger_of, fingers_of, modulo_code};
+ghost use Rattle.rake_finger.specs.Paths.{fingers_of};
 ghost use Rattle.rake_finger.specs.Soft.{frame_chips, symbols};
 ghost use Rattle.rake_finger.specs.Streams.{finger_end, frame_end};
 
 use chip_core::Phase;
 use chip_core::air::{DATA_FRAME_CHIPS, DATA_SYMBOLS, SYNC_FRAME_CHIPS, SYNC_SYMBOLS};
 use pilot_search::Near;
-use rake_finger::{Finger, Fingers, Form};
+use rake_finger::{Finger, Fingers, Form, finger_at};
 
 /// How many chips a frame has.
 pub(crate) fn frame_chips(form: Form) -> u64
@@ -33,27 +32,6 @@ pub(crate) fn frame_symbols(form: Form) -> usize
     match form {
         Form::Sync => SYNC_SYMBOLS,
         Form::Data => DATA_SYMBOLS,
-    }
-}
-
-/// The phase so many chips above another, modulo the period of the codes.
-fn phase_above(phase: Phase, delta: i8) -> Phase
-    ensures { result ≡ modulo_code (pos phase +ℤ delta) }
-{
-    let number = (i32::from(phase.get()) + i32::from(delta)).rem_euclid(32768);
-    Phase::new(number as u16).unwrap()
-}
-
-/// The finger that receives a row so many chips earlier than at a phase.
-pub fn finger_at(row: u8, phase: Phase, delta: i8) -> Finger
-    ensures value { result ≡ finger_of row phase delta }
-    ensures near { is_near result.delta ≡ true }
-    ensures row { result.row ≡ row }
-{
-    Finger {
-        phase: phase_above(phase, delta),
-        delta: i16::from(delta),
-        row,
     }
 }
 

@@ -10,7 +10,7 @@ mod scrambling;
 mod softs;
 
 pub use continued::Continued;
-pub use fingers::{finger_at, frames_end, reference_fingers};
+pub use fingers::{frames_end, reference_fingers};
 pub use frame_clock::{FrameClock, Span};
 pub use frame_receiver::FrameReceiver;
 pub use scrambling::Scrambling;

@@ -3,7 +3,7 @@ use Rattle.std.specs.Prelude.{◌≡◌, ◌≤◌, pos, Option, Some, slice_get
 use Rattle.std.specs.Option.{ForSome}
 use Rattle.pilot_search.specs.declared.paths.Near.{Near}
 use Rattle.heard_events.specs.Channels.{IsLawful}
-use Rattle.mobile_core.specs.Sound.{IsSoundMark}
+use Rattle.heard_events.specs.SoundMarks.{IsSoundMark}
 use Rattle.heard_events.specs.declared.channel.Channel.{Channel}
 use Rattle.mobile_core.specs.declared.mobile.Mobile.{Mobile}
 use Rattle.tuned_listener.specs.FrameWriting.{IsReady}

@@ -8,7 +8,7 @@ ghost use Rattle.chip_core.specs.declared.check_form.CheckForm.{CheckForm as The
 ghost use Rattle.chip_core.specs.declared.sample.Sample.{Sample as TheSample};
 ghost use Rattle.heard_events.specs.SoftFrames.{soft_frames};
 ghost use Rattle.reception.specs.Softs.{frame_most};
-ghost use Rattle.mobile_core.specs.Sound.{IsSoundMark};
+ghost use Rattle.heard_events.specs.SoundMarks.{IsSoundMark};
 ghost use Rattle.mobile_core.specs.Tuners.{IsTunedTo, samples_left};
 ghost use Rattle.heard_events.specs.Tuning.{Tuning};
 ghost use Rattle.heard_events.specs.declared.channel.Channel.{Channel as TheChannel};

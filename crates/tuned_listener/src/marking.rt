@@ -3,7 +3,7 @@
 ghost use Rattle.std.specs.Prelude.{◌≡◌, ◌≤◌, ◌+◌, ◌++◌, List, length, take, None, is_some};
 ghost use Rattle.std.specs.Option.{ForSome};
 ghost use Rattle.chip_core.specs.declared.sample.Sample.{Sample as TheSample};
-ghost use Rattle.mobile_core.specs.Sound.{IsSoundMark};
+ghost use Rattle.heard_events.specs.SoundMarks.{IsSoundMark};
 ghost use Rattle.mobile_core.specs.Standing.{has_room};
 ghost use Rattle.mobile_core.specs.Tuners.{samples_taken};
 ghost use Rattle.heard_events.specs.Tuning.{Tuning};

@@ -7,7 +7,7 @@ ghost use Rattle.std.specs.Io.KnownBytes.{Appends};
 ghost use Rattle.cdma_io.specs.Outside.{AppendsPrefix, HasCause};
 ghost use Rattle.event_tap.specs.PagingLines.{paging_line};
 ghost use Rattle.reception.specs.Softs.{frame_most};
-ghost use Rattle.mobile_core.specs.Sound.{IsSoundMark};
+ghost use Rattle.heard_events.specs.SoundMarks.{IsSoundMark};
 ghost use Rattle.heard_events.specs.declared.soft_frame.SoftFrame.{SoftFrame as TheFrame};
 ghost use Rattle.paging_message.specs.HalfFrames.{IsPagingRate, StandsFor};
 ghost use Rattle.event_tap.specs.SlotLines.{slot_lines, slot_pages};

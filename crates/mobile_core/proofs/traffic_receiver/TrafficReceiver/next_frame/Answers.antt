@@ -1,6 +1,6 @@
 use Rattle.mobile_core.proofs.Common.{◌∙◌, ℕ, ap, power_places}
 use Rattle.mobile_core.proofs.FramesHeard.{power_bits_here, frame_here}
-use Rattle.mobile_core.proofs.SignalParts.{decoded_long}
+use Rattle.heard_events.proofs.SignalParts.{decoded_long}
 use Rattle.mobile_core.proofs.traffic_receiver.TrafficReceiver.next_frame.Goals as goal
 
 pub returns-clause-frame : goal.returns-clause-frame

@@ -1,6 +1,6 @@
 use Rattle.mobile_core.proofs.Common.{◌≤◌, ◌*◌, ◌^◌, ap, arith, length, sum_by, unsigned_abs}
-use Rattle.mobile_core.proofs.LegFingers.{fingers_few}
-use Rattle.mobile_core.proofs.LegSubsets.{eight_small}
+use Rattle.heard_events.proofs.LegFingers.{fingers_few}
+use Rattle.heard_events.proofs.LegSubsets.{eight_small}
 use Rattle.mobile_core.proofs.SoundFrames.{legs_held, sound_taken}
 use Rattle.mobile_core.proofs.traffic_receiver.TrafficReceiver.take_softs.Goals.{After-raw}
 use Rattle.mobile_core.proofs.traffic_receiver.TrafficReceiver.take_softs.Goals as goal

@@ -1,0 +1,127 @@
+-- The active pilots of one power control subchannel are as all are.
+use Rattle.heard_events.proofs.Common.{◌≡◌, ℕ, zero, suc, ◌+◌, ◌*◌, ◌^◌, ◌≤◌, Bool, true, false, List, [], ◌∷◌, ◌++◌, length, map, filter}
+use Rattle.heard_events.proofs.Common.{refl, ap, ◌∙◌, arith, ℤ, All, inl, inr, nat_lt, and_from, and_parts, cases_Bool, map-append}
+use Rattle.heard_events.proofs.Common.{All-append, places, Finger, is_close, legs_close, legs_rows, places_in, all_fingers, has_subchannel}
+use Rattle.heard_events.proofs.Common.{is_on, leg_fingers, on_subchannel, Leg, list_all, filter-places-more}
+use Rattle.heard_events.proofs.Arrivals.{given_less}
+
+-- LISTS WHOSE ELEMENTS ALL HAVE A PROPERTY
+one_more : {X : Type 0} (P : X → Type 0) (x : X) (xs : List X) → P x → All P xs → All P (x ∷ xs)
+one_more P x xs here rest zero d less = here
+one_more P x xs here rest (suc k) d less = rest k d (omega (arith, less))
+
+all_left : {X : Type 0} (P : X → Type 0) (xs ys : List X) → All P (xs ++ ys) → All P xs
+all_left P [] ys h = λ k d less. absurd (omega (arith, less))
+all_left P (x ∷ xs) ys h =
+    one_more P x xs (h 0 x (omega arith))
+    (all_left P xs ys (λ k d less. h (suc k) d (omega (arith, less))))
+
+all_right : {X : Type 0} (P : X → Type 0) (xs ys : List X) → All P (xs ++ ys) → All P ys
+all_right P [] ys h = h
+all_right P (x ∷ xs) ys h = all_right P xs ys (λ k d less. h (suc k) d (omega (arith, less)))
+
+-- a filter that leaves as many as there were leaves all
+filter_few : {X : Type 0} (p : X → Bool) (xs : List X) → length (filter p xs) ≤ length xs
+filter_few p [] = omega arith
+filter_few p (x ∷ xs) =
+    let rest = filter_few p xs in
+    elim (cases_Bool (p x)) [
+      | inl has ↦ rw has (omega (arith, rest))
+      | inr not ↦ rw not (omega (arith, rest))
+    ]
+
+filter_whole : {X : Type 0} (p : X → Bool) (xs : List X) → length (filter p xs) ≡ length xs →
+    filter p xs ≡ xs
+filter_whole p [] all = refl
+filter_whole p (x ∷ xs) all =
+    elim (cases_Bool (p x)) [
+      | inl has ↦
+          let long = rw has at all in
+          rw has (λ i. x ∷ filter_whole p xs (omega (arith, long)) i)
+      | inr not ↦
+          let long = rw not at all in
+          absurd (omega (arith, long, filter_few p xs))
+    ]
+
+-- what all pass, those pass that a filter leaves
+filter_all : {X : Type 0} (p q : X → Bool) (xs : List X) → list_all p xs ≡ true →
+    list_all p (filter q xs) ≡ true
+filter_all p q [] h = refl
+filter_all p q (x ∷ xs) h =
+    let both = and_parts (p x) (list_all p xs) h in
+    let rest = filter_all p q xs both.1 in
+    elim (cases_Bool (q x)) [
+      | inl has ↦ rw has (and_from (p x) (list_all p (filter q xs)) both.0 rest)
+      | inr not ↦ rw not rest
+    ]
+
+-- ON A SUBCHANNEL
+-- where as many pilots are on it as there are, they are all
+pub on_whole : (c : ℕ) (legs : List Leg) → length (on_subchannel c legs) ≡ length legs →
+    on_subchannel c legs ≡ legs
+on_whole c legs all = filter_whole (is_on c) legs all
+
+pub on_some : (c : ℕ) (legs : List Leg) → has_subchannel legs c ≡ true →
+    1 ≤ length (on_subchannel c legs)
+on_some c [] h = absurd (cc)
+on_some c (leg ∷ legs) h =
+    elim (cases_Bool (is_on c leg)) [
+      | inl on ↦ rw on (omega arith)
+      | inr off ↦ rw off (on_some c legs (rw off at h))
+    ]
+
+pub on_few : (c : ℕ) (legs : List Leg) → places_in (on_subchannel c legs) ≤ places_in legs
+on_few c [] = omega arith
+on_few c (leg ∷ legs) =
+    let rest = on_few c legs in
+    elim (cases_Bool (is_on c leg)) [
+      | inl on ↦ rw on (omega (arith, rest))
+      | inr off ↦ rw off (omega (arith, rest))
+    ]
+
+pub on_close : (c : ℕ) (legs : List Leg) → legs_close legs ≡ true →
+    legs_close (on_subchannel c legs) ≡ true
+on_close c legs h = filter_all (λ (leg : Leg). is_close leg.finger) (is_on c) legs h
+
+pub on_rows : (c : ℕ) (legs : List Leg) → legs_rows legs ≡ true →
+    legs_rows (on_subchannel c legs) ≡ true
+on_rows c legs h = filter_all (λ (leg : Leg). nat_lt leg.finger.row 64) (is_on c) legs h
+
+pub on_all : (P : Finger → Type 0) (phase : ℕ) (deltas : List ℤ) (c : ℕ) (legs : List Leg) →
+    All P (all_fingers phase deltas legs) → All P (all_fingers phase deltas (on_subchannel c legs))
+on_all P phase deltas c [] h = h
+on_all P phase deltas c (leg ∷ legs) h =
+    let one = leg_fingers phase deltas leg in
+    let others = all_fingers phase deltas legs in
+    let here = all_left P one others h in
+    let rest = on_all P phase deltas c legs (all_right P one others h) in
+    elim (cases_Bool (is_on c leg)) [
+      | inl on ↦
+          rw on (All-append P one (all_fingers phase deltas (on_subchannel c legs)) here rest)
+      | inr off ↦ rw off rest
+    ]
+
+-- ONE SUBCHANNEL AFTER THE OTHER
+abbrev pub first_subchannels : List Leg → ℕ → List ℕ
+first_subchannels legs n = filter (has_subchannel legs) (places n)
+
+pub sums_none : {A : Type 0} (f : ℕ → A) (legs : List Leg) →
+    map f (first_subchannels legs 0) ≡ []
+unfolding places
+sums_none f legs = refl
+
+pub sums_more : {A : Type 0} (f : ℕ → A) (legs : List Leg) (n : ℕ) →
+    has_subchannel legs n ≡ true →
+    map f (first_subchannels legs (n + 1)) ≡ map f (first_subchannels legs n) ++ f n ∷ []
+sums_more f legs n h =
+    ap (map f) (filter-places-more (has_subchannel legs) n h)
+    ∙ map-append f (first_subchannels legs n) (n ∷ [])
+
+pub sums_same : {A : Type 0} (f : ℕ → A) (legs : List Leg) (n : ℕ) →
+    has_subchannel legs n ≡ false →
+    map f (first_subchannels legs (n + 1)) ≡ map f (first_subchannels legs n)
+sums_same f legs n h = ap (map f) (given_less (has_subchannel legs) n h)
+
+-- the soft values of eight fingers add up to little
+pub eight_small : (n : ℕ) → n ≤ 8 → n * (384 * 2 ^ 50) ≤ 3 * 2 ^ 60
+eight_small n few = omega (arith, few)

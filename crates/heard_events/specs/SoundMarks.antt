@@ -1,0 +1,13 @@
+-- The marks behind which channels are followed.
+use Rattle.std.specs.Prelude.{◌^◌, ◌<◌, ◌≤◌}
+use Rattle.long_code.specs.LongCode.{IsState}
+use Rattle.heard_events.specs.declared.mark.Mark.{Mark}
+
+-- The mark isn't far behind a file, and lies behind all that a finger may read too early; there the
+-- time has 36 bits, the long code has a state and the pilot a number.
+pub record IsSoundMark (m : Mark) : Type 0 where
+  pub early : m.sample < 2 ^ 29
+  pub late : 2 ^ 16 ≤ m.sample
+  pub time : m.time < 2 ^ 36
+  pub state : IsState m.state
+  pub pilot : m.pilot ≤ 511

@@ -1,0 +1,115 @@
+//! The soft values of a traffic frame, over all fingers and by power control subchannels.
+
+ghost use Rattle.std.specs.Prelude.{◌≡◌, ◌<◌, ◌≤◌, ◌*◌, ◌^◌, List, true, take};
+ghost use Rattle.std.specs.Prelude.{map, sum_by, unsigned_abs};
+ghost use Rattle.std.specs.List.{All};
+ghost use Rattle.std.specs.List.Sorted.{IsStrictlyIncreasing};
+ghost use Rattle.chip_core.specs.declared.sample.Sample.{Sample};
+ghost use Rattle.frame_decoder.specs.TrafficFrames.{subchannels};
+ghost use Rattle.heard_events.specs.Legs.{all_fingers, has_subchannel, on_subchannel};
+ghost use Rattle.heard_events.specs.Legs.{subchannels as subchannels_of};
+ghost use Rattle.heard_events.specs.LegSofts.{IsHeldFrom, sums_on};
+ghost use Rattle.rake_finger.specs.Held.{HoldsLast};
+ghost use Rattle.rake_finger.specs.Soft.{softs};
+ghost use Rattle.rake_finger.specs.declared.form.Form.TheVariants.{Data};
+
+use crate::fingers::leg_fingers;
+use crate::legs::Legs;
+use chip_core::Phase;
+use chip_core::air::DATA_SYMBOLS;
+use frame_decoder::{FrameSofts, PowerSofts};
+use pilot_search::Near;
+use rake_finger::{Form, SampleRing, combine_into};
+use short_code::Codes;
+use symbol_path::PowerPlaces;
+
+/// Computes the soft values of the frame that begins at a reference sample, as the fingers of these
+/// pilots hear them; no scrambling turns them.
+fn leg_softs(
+    ring: &SampleRing,
+    codes: &Codes,
+    legs: &Legs,
+    phase: Phase,
+    near: &Near,
+    start: u64,
+    out: &mut FrameSofts,
+)
+    requires legs { IsHeldFrom ring.now legs.now phase near.now start }
+    ensures value { (heard : List Sample) → HoldsLast ring.now heard → out.new
+        ≡ softs heard (all_fingers phase (take near.now.count near.now.deltas) legs.now) Data
+        start }
+    ensures small { sum_by unsigned_abs out.new ≤ 3 * 2 ^ 60 }
+{
+    let fingers = leg_fingers(legs, phase, near);
+    combine_into(ring, codes, &fingers, Form::Data, start, out);
+}
+
+/// Computes the soft values of the frame as the fingers of one power control subchannel hear them:
+/// they are those of all fingers, which are given, where all pilots are on it.
+fn subchannel_softs(
+    ring: &SampleRing,
+    codes: &Codes,
+    legs: &Legs,
+    phase: Phase,
+    near: &Near,
+    start: u64,
+    subchannel: u8,
+    all: &FrameSofts,
+    out: &mut FrameSofts,
+)
+    requires legs { IsHeldFrom ring.now legs.now phase near.now start }
+    requires has { has_subchannel legs.now subchannel ≡ true }
+    requires all { (heard : List Sample) → HoldsLast ring.now heard → all.now
+        ≡ softs heard (all_fingers phase (take near.now.count near.now.deltas) legs.now) Data
+        start }
+    requires small { sum_by unsigned_abs all.now ≤ 3 * 2 ^ 60 }
+    ensures value { (heard : List Sample) → HoldsLast ring.now heard → out.new
+        ≡ softs heard (all_fingers phase (take near.now.count near.now.deltas)
+        (on_subchannel subchannel legs.now)) Data start }
+    ensures small { sum_by unsigned_abs out.new ≤ 3 * 2 ^ 60 }
+{
+    let on = legs.on_subchannel(subchannel);
+    if on.len() == legs.len() {
+        *out = *all;
+        return;
+    }
+    leg_softs(ring, codes, &on, phase, near, start, out);
+}
+
+/// The sums of the frame's power control bits, whose symbols are replaced at these places, on each
+/// subchannel. The frame's soft values over all fingers are given.
+pub fn power_softs(
+    ring: &SampleRing,
+    codes: &Codes,
+    legs: &Legs,
+    phase: Phase,
+    near: &Near,
+    start: u64,
+    replaced: &PowerPlaces,
+    all: &FrameSofts,
+) -> PowerSofts
+    requires legs { IsHeldFrom ring.now legs.now phase near.now start }
+    requires all { (heard : List Sample) → HoldsLast ring.now heard → all.now
+        ≡ softs heard (all_fingers phase (take near.now.count near.now.deltas) legs.now) Data
+        start }
+    requires small { sum_by unsigned_abs all.now ≤ 3 * 2 ^ 60 }
+    requires below { All (λ place. place < 384) replaced.now }
+    requires rising { IsStrictlyIncreasing replaced.now }
+    ensures value { (heard : List Sample) → HoldsLast ring.now heard → subchannels result
+        ≡ map
+        (sums_on heard phase (take near.now.count near.now.deltas) legs.now start replaced.now)
+        (subchannels_of legs.now) }
+    ensures most { result.count ≤ 6 }
+{
+    let mut sums = PowerSofts::empty();
+    let mut room = [0; DATA_SYMBOLS];
+    for subchannel in 0..6 {
+        if legs.has_subchannel(subchannel) {
+            subchannel_softs(
+                ring, codes, legs, phase, near, start, subchannel, all, &mut room,
+            );
+            sums.push(&room, replaced);
+        }
+    }
+    sums
+}

@@ -1,0 +1,82 @@
+//! How strong the pilots of the sets are before an evaluation of the sets.
+
+ghost use Rattle.std.specs.Prelude.{◌≡◌, ◌<◌, ◌≤◌, List, unsigned_abs};
+ghost use Rattle.std.specs.List.{All};
+ghost use Rattle.chip_core.specs.declared.sample.Sample.{Sample};
+ghost use Rattle.heard_events.specs.Legs.{pilot_phase};
+ghost use Rattle.heard_events.specs.Moments.{pilot_strength, strengths_at};
+ghost use Rattle.heard_events.specs.SoundMarks.{IsSoundMark};
+ghost use Rattle.pilot_sets.specs.declared.strengths.Strength.{Strength as TheStrength};
+ghost use Rattle.rake_finger.specs.Held.{HoldsLast};
+ghost use Rattle.rake_finger.specs.InRing.{HoldsBefore};
+
+use crate::mark::Mark;
+use chip_core::Phase;
+use chip_core::air::OFFSET_CHIPS;
+use pilot_sets::{Sets, Strength, Strengths};
+use rake_finger::{SampleRing, strength};
+use short_code::Codes;
+
+/// The chip of a pilot's code that falls on sample 0, on a path so many chips earlier than the
+/// reference.
+pub(crate) fn pilot_phase(mark: &Mark, pilot: u16, delta: i16) -> Phase
+    requires { IsSoundMark mark.now }
+    ensures { result ≡ pilot_phase mark.now pilot delta }
+{
+    let behind = (OFFSET_CHIPS * u64::from(pilot)) as i64;
+    let number = (i64::from(delta) - behind - mark.sample as i64).rem_euclid(32768);
+    Phase::new(number as u16).unwrap()
+}
+
+/// How strong a pilot is in the 512 samples before a place, in the window that the sets have for
+/// it.
+fn pilot_strength(
+    sets: &Sets,
+    mark: &Mark,
+    ring: &SampleRing,
+    codes: &Codes,
+    place: u64,
+    pilot: u16,
+) -> Strength
+    requires mark { IsSoundMark mark.now }
+    requires ring { HoldsBefore ring.now place }
+    ensures value { (heard : List Sample) → HoldsLast ring.now heard →
+        result ≡ pilot_strength mark.now heard place sets.now pilot }
+    ensures pilot { result.pilot ≡ pilot }
+    ensures close { unsigned_abs result.delta ≤ 226 }
+{
+    let window = sets.window(pilot);
+    let phase = pilot_phase(mark, pilot, 0);
+    let (energy, delta) = strength(ring, codes, phase, window, place);
+    Strength {
+        pilot,
+        energy,
+        delta,
+    }
+}
+
+/// How strong all pilots of the sets are in the 512 samples before a place, in their order.
+pub(crate) fn measure(
+    sets: &Sets,
+    mark: &Mark,
+    ring: &SampleRing,
+    codes: &Codes,
+    place: u64,
+) -> Strengths
+    requires mark { IsSoundMark mark.now }
+    requires ring { HoldsBefore ring.now place }
+    ensures value { (heard : List Sample) → HoldsLast ring.now heard →
+        result ≡ strengths_at mark.now heard place sets.now }
+    ensures pilots { All (λ (s : TheStrength). s.pilot < 512) result }
+    ensures close { All (λ (s : TheStrength). unsigned_abs s.delta ≤ 226) result }
+{
+    let pilots = sets.pilots();
+    let mut strengths = Strengths::empty();
+    for i in 0..pilots.len() {
+        let measured = pilot_strength(sets, mark, ring, codes, place, pilots.get(i));
+        if strengths.push(measured).is_err() {
+            unreachable!()
+        }
+    }
+    strengths
+}

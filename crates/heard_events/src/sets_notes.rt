@@ -1,0 +1,103 @@
+//! What a handset hears changes its pilot sets.
+
+ghost use Rattle.std.specs.Prelude.{◌≡◌, ◌<◌, ◌^◌};
+ghost use Rattle.heard_events.specs.Noted.{body_noted, noted_with, page_noted};
+ghost use Rattle.heard_events.specs.Noted.{in_traffic_thresholds, system_thresholds};
+ghost use Rattle.paging_message.specs.Neighbors.{IsNeighborList};
+ghost use Rattle.pilot_sets.specs.Standing.{with_neighbors};
+
+use crate::event::Event;
+use paging_message::{NeighborFields, PagingMessage, SystemFields};
+use pilot_sets::{Sets, Thresholds};
+use traffic_message::{InTrafficFields, TrafficBody};
+
+/// The thresholds of a System Parameters Message (TIA/EIA-95-B, 7.7.2.3.2.1).
+fn system_thresholds(fields: &SystemFields) -> Thresholds
+    ensures { result ≡ system_thresholds fields.now }
+{
+    Thresholds {
+        win_a: fields.wina,
+        win_n: fields.winn,
+        t_add: fields.tadd,
+        t_drop: fields.tdrop,
+        t_comp: fields.tcomp,
+        t_tdrop: fields.ttdrop,
+    }
+}
+
+/// The thresholds of an In-Traffic System Parameters Message (TIA/EIA-95-B, 7.7.3.3.2.7).
+fn in_traffic_thresholds(fields: &InTrafficFields) -> Thresholds
+    ensures { result ≡ in_traffic_thresholds fields.now }
+{
+    Thresholds {
+        win_a: fields.wina,
+        win_n: fields.winn,
+        t_add: fields.tadd,
+        t_drop: fields.tdrop,
+        t_comp: fields.tcomp,
+        t_tdrop: fields.ttdrop,
+    }
+}
+
+/// Puts a list's pilots in place of the neighbors (TIA/EIA-95-B, 7.7.2.3.2.3).
+fn note_neighbors(sets: &mut Sets, fields: &NeighborFields)
+    requires { IsNeighborList fields.now }
+    ensures { sets.new ≡ with_neighbors fields.now.pns sets.old }
+{
+    sets.neighbors(&fields.pns);
+}
+
+/// Takes what a message of the paging channel tells of the sets, where it is of the reference's
+/// pilot.
+fn note_page(sets: &mut Sets, pn: u16, message: &PagingMessage)
+    ensures { sets.new ≡ page_noted pn message.now sets.old }
+{
+    match message {
+        PagingMessage::System(system) => {
+            let fields = system.fields();
+            if fields.pn == pn {
+                sets.parameters(&system_thresholds(&fields));
+            }
+        }
+        PagingMessage::Neighbors(list) => {
+            let fields = list.fields();
+            if fields.pn == pn {
+                note_neighbors(sets, &fields);
+            }
+        }
+        PagingMessage::Channels(_) | PagingMessage::Other(_) => {}
+    }
+}
+
+/// Takes what a message of the traffic channel tells of the sets, where the first moment that isn't
+/// before its end has this time. A direction that is refused changes nothing.
+fn note_body(sets: &mut Sets, first: u64, body: &TrafficBody)
+    requires { first < 2 ^ 40 }
+    ensures { sets.new ≡ body_noted first body.now sets.old }
+{
+    match body {
+        TrafficBody::System(system) => {
+            sets.parameters(&in_traffic_thresholds(&system.fields()));
+        }
+        TrafficBody::Neighbors(update) => {
+            sets.neighbors(&update.fields().pns);
+        }
+        TrafficBody::Handoff(direction) => {
+            let _accepted = sets.direct(direction, first);
+        }
+        TrafficBody::Other { .. } => {}
+    }
+}
+
+/// Takes what an event tells of the sets, where the reference's pilot has this offset, and the
+/// first moment that isn't before the event's end this time.
+pub(crate) fn note_event(sets: &mut Sets, pn: u16, first: u64, event: &Event)
+    requires { first < 2 ^ 40 }
+    ensures { sets.new ≡ noted_with pn first event.now sets.old }
+{
+    match event {
+        Event::Paging { message, .. } => note_page(sets, pn, message),
+        Event::Traffic { message, .. } => note_body(sets, first, &message.body()),
+        Event::Pilot { .. } | Event::Sync { .. } | Event::Frame { .. } | Event::Sets { .. } => {}
+    }
+}

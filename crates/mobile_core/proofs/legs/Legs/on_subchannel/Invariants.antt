@@ -1,6 +1,0 @@
-use Rattle.mobile_core.proofs.Common.{◌≡◌, ◌≤◌, take, length, on_subchannel}
-use Rattle.mobile_core.proofs.legs.Legs.on_subchannel.Given as goal
-
-abbrev pub invariant-loop-i : goal.invariant-loop-i
-invariant-loop-i l =
-    (l.legs ≡ on_subchannel l.subchannel (take l.i l.self)) × (length l.legs ≤ l.i)
