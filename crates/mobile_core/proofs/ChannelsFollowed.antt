@@ -52,7 +52,7 @@ module _ {t : Tuning} {f : Followed} {mark : Option Mark} {heard : List Sample}
   pub moved : (paging : Option PagingReceiver) (traffic : Option TrafficReceiver)
       (after : Option Mark) (samples : List Sample) (pages : List Event) →
       pages ≡ paging_events_left t after samples paging → HearsPages t after paging samples →
-      HearsFrames t after traffic samples pages →
+      HearsFrames t t.traffic after traffic samples pages →
       HearsFollowed t (record f { paging = paging; traffic = traffic }) after samples
   moved paging traffic after samples pages left hears tells = record {
     channel_is = st.channel_is;
@@ -61,17 +61,17 @@ module _ {t : Tuning} {f : Followed} {mark : Option Mark} {heard : List Sample}
     deltas_are = st.deltas_are;
     check_is = st.check_is;
     paging = hears;
-    traffic = subst (HearsFrames t after traffic samples) left tells;
+    traffic = subst (HearsFrames t t.traffic after traffic samples) left tells;
   }
 
   -- receivers are opened that have heard nothing
   pub opened : (paging : Option PagingReceiver) (traffic : Option TrafficReceiver) (m : Mark) →
       f.paging ≡ None → f.traffic ≡ None →
       HearsPages t (Some m) paging heard × (paging_events_left t (Some m) heard paging ≡ []) →
-      HearsFrames t (Some m) traffic heard []
-      × (traffic_events_left t (Some m) heard traffic ≡ []) →
+      HearsFrames t t.traffic (Some m) traffic heard []
+      × (traffic_events_left t t.traffic (Some m) heard traffic ≡ []) →
       HearsFollowed t (record f { paging = paging; traffic = traffic }) (Some m) heard
-      × (paging_events_left t (Some m) heard paging ++ traffic_events_left t (Some m) heard traffic
+      × (paging_events_left t (Some m) heard paging ++ traffic_events_left t t.traffic (Some m) heard traffic
       ≡ followed_events_left t mark heard f)
   opened paging traffic m unpaged unfollowed pages frames = (
     moved paging traffic (Some m) heard [] (sym pages.1) pages.0 frames.0,
@@ -80,28 +80,28 @@ module _ {t : Tuning} {f : Followed} {mark : Option Mark} {heard : List Sample}
 
   -- where no channel is assigned none is heard
   pub unassigned : (m : Mark) → f.traffic ≡ None → f.assigned ≡ None →
-      HearsFrames t (Some m) f.traffic heard []
-      × (traffic_events_left t (Some m) heard f.traffic ≡ [])
+      HearsFrames t t.traffic (Some m) f.traffic heard []
+      × (traffic_events_left t t.traffic (Some m) heard f.traffic ≡ [])
   unassigned m closed none = (
-    subst (λ (x : Option TrafficReceiver). HearsFrames t (Some m) x heard []) (sym closed)
+    subst (λ (x : Option TrafficReceiver). HearsFrames t t.traffic (Some m) x heard []) (sym closed)
         (subst (λ (x : Option Traffic). IsUnheard x (Some m)) (sym none ∙ st.assigned_is) tt),
-    ap (traffic_events_left t (Some m) heard) closed,
+    ap (traffic_events_left t t.traffic (Some m) heard) closed,
   )
 
   -- where nothing is due of it, what was due of the traffic channel has been heard
   pub heard_other : {n : ℕ} →
       ¬ IsSomeAnd f.paging (λ r. IsDueAt t.count r.received.clock) → n ≡ length heard →
       WaitFrom n f → (traffic : Option TrafficReceiver) (event : Option Event) →
-      (HearsFrames t mark f.traffic heard [] → HearsFrames t mark traffic heard []
-      × (listed event ++ traffic_events_left t mark heard traffic
-      ≡ traffic_events_left t mark heard f.traffic)) →
+      (HearsFrames t t.traffic mark f.traffic heard [] → HearsFrames t t.traffic mark traffic heard []
+      × (listed event ++ traffic_events_left t t.traffic mark heard traffic
+      ≡ traffic_events_left t t.traffic mark heard f.traffic)) →
       HearsFollowed t (record f { traffic = traffic }) mark heard
       × (listed event ++ (paging_events_left t mark heard f.paging
-      ++ traffic_events_left t mark heard traffic) ≡ followed_events_left t mark heard f)
+      ++ traffic_events_left t t.traffic mark heard traffic) ≡ followed_events_left t mark heard f)
   heard_other none here waits traffic event hears =
       let quiet = (pages_go t mark heard f.paging st.paging none (length heard + 1)
       (λ r e. omega (arith, waits.paging r e, here))).given (omega arith) in
-      let on = hears (subst (HearsFrames t mark f.traffic heard) quiet st.traffic) in (
+      let on = hears (subst (HearsFrames t t.traffic mark f.traffic heard) quiet st.traffic) in (
         moved f.paging traffic mark heard [] (sym quiet) st.paging on.0,
         rw quiet on.1,
       )
@@ -111,7 +111,7 @@ module _ {t : Tuning} {f : Followed} {mark : Option Mark} {heard : List Sample}
         GoesOn (followed_behind t mark) (λ samples. followed_events_left t mark samples f) heard end
     goes_on end ends =
         both (pages_go t mark heard f.paging st.paging (λ d. idle (inl d)) end ends.paging)
-        (frames_go t mark heard (paging_events_left t mark heard f.paging) f.traffic st.traffic
+        (frames_go t t.traffic mark heard (paging_events_left t mark heard f.paging) f.traffic st.traffic
         sound.traffic (λ d. idle (inr d)) end ends.traffic)
 
     -- more samples, up to the end of a frame that comes next
@@ -124,7 +124,7 @@ module _ {t : Tuning} {f : Followed} {mark : Option Mark} {heard : List Sample}
         let pages = pages_go t mark heard f.paging st.paging (λ d. idle (inl d)) end ends.paging in
         moved f.paging f.traffic mark (heard ++ more) _ (sym (pages.come more some (omega (arith, long))))
         (pages_more t mark heard f.paging st.paging (λ d. idle (inl d)) more within ends.paging)
-        (frames_more t mark heard (paging_events_left t mark heard f.paging) f.traffic st.traffic
+        (frames_more t t.traffic mark heard (paging_events_left t mark heard f.paging) f.traffic st.traffic
         sound.traffic (λ d. idle (inr d)) more some within waits.traffic ends.traffic
         (pages.given (omega (arith, some)))
         (λ samples n past less.

@@ -152,12 +152,12 @@ module _ {t : Tuning} {traffic : Traffic} {m : Mark} {r : TrafficReceiver} {hear
       }
 
 -- THE RECEIVER BEHIND THE MARK
-module _ {t : Tuning} {mark : Option Mark} {r : TrafficReceiver} {heard : List Sample}
-    {pages : List Event} (st : FollowsTraffic t mark r heard pages) where
+module _ {t : Tuning} {assigned : Option Traffic} {mark : Option Mark} {r : TrafficReceiver}
+    {heard : List Sample} {pages : List Event} (st : FollowsTraffic t assigned mark r heard pages) where
   -- it has heard more, or more is left to be heard
   pub tells_on : (after : TrafficReceiver) (samples : List Sample) (later : List Event) →
       HearsTraffic t st.traffic st.set after samples later →
-      FollowsTraffic t mark after samples later
+      FollowsTraffic t assigned mark after samples later
   tells_on after samples later hears = record {
     traffic = st.traffic;
     traffic_is = st.traffic_is;
@@ -167,26 +167,26 @@ module _ {t : Tuning} {mark : Option Mark} {r : TrafficReceiver} {heard : List S
   }
 
   pub left_is : (samples : List Sample) (after : TrafficReceiver) →
-      traffic_left t mark samples after ≡ traffic_left_of t st.traffic st.set samples after
+      traffic_left t assigned mark samples after ≡ traffic_left_of t st.traffic st.set samples after
   left_is samples after = rw (st.traffic_is, st.set_is) refl
 
   told_is : (samples : List Sample) (n : ℕ) →
-      told_behind t t.traffic mark samples n ≡ all_told t st.traffic st.set samples n
+      told_behind t assigned mark samples n ≡ all_told t st.traffic st.set samples n
   told_is samples n = rw (st.traffic_is, st.set_is) refl
 
   -- what was due first has been heard
   pub tells_left : (after : TrafficReceiver) (event : Option Event) →
       listed event ++ traffic_left_of t st.traffic st.set heard after
       ≡ traffic_left_of t st.traffic st.set heard r →
-      listed event ++ traffic_left t mark heard after ≡ traffic_left t mark heard r
+      listed event ++ traffic_left t assigned mark heard after ≡ traffic_left t assigned mark heard r
   tells_left after event left =
       rw (left_is heard after, left_is heard r) left
 
 -- the sets have taken what an event of the paging channel tells
-pub frames_noted : {t : Tuning} {mark : Option Mark} {r : TrafficReceiver} {heard : List Sample}
-    {pages : List Event} (event : Event) → FollowsTraffic t mark r heard (event ∷ pages) →
-    at_of event ≡ length heard → FollowsTraffic t mark (noted_by event r) heard pages
-    × (traffic_left t mark heard (noted_by event r) ≡ traffic_left t mark heard r)
+pub frames_noted : {t : Tuning} {assigned : Option Traffic} {mark : Option Mark} {r : TrafficReceiver}
+    {heard : List Sample} {pages : List Event} (event : Event) → FollowsTraffic t assigned mark r heard (event ∷ pages) →
+    at_of event ≡ length heard → FollowsTraffic t assigned mark (noted_by event r) heard pages
+    × (traffic_left t assigned mark heard (noted_by event r) ≡ traffic_left t assigned mark heard r)
 frames_noted {heard = heard} {pages = pages} event st here =
     (tells_on st (noted_by event _) heard pages (hears_noted event st.hears here), refl)
 
@@ -202,21 +202,22 @@ pub noted_waits : (n : ℕ) (r : TrafficReceiver) (event : Event) → WaitsAt n 
 noted_waits n r event waits = record { before = waits.before; due = waits.due }
 
 -- WHETHER A CHANNEL IS FOLLOWED OR NOT
-module _ (t : Tuning) (mark : Option Mark) (heard : List Sample) (pages : List Event) where
-  pub frames_go : (receiver : Option TrafficReceiver) → HearsFrames t mark receiver heard pages →
+module _ (t : Tuning) (assigned : Option Traffic) (mark : Option Mark) (heard : List Sample)
+    (pages : List Event) where
+  pub frames_go : (receiver : Option TrafficReceiver) → HearsFrames t assigned mark receiver heard pages →
       ForSome receiver IsSoundTraffic → ¬ IsSomeAnd receiver IsTrafficDue → (end : ℕ) →
       ForSome receiver (λ r. end ≤ next_end r) →
-      GoesOn (told_behind t t.traffic mark) (λ samples. traffic_events_left t mark samples receiver)
+      GoesOn (told_behind t assigned mark) (λ samples. traffic_events_left t assigned mark samples receiver)
       heard end
   frames_go None behind sound none end ends =
-      never (told_behind t t.traffic mark)
-      (λ samples n. unheard t t.traffic mark samples n behind) heard end
+      never (told_behind t assigned mark)
+      (λ samples n. unheard t assigned mark samples n behind) heard end
   frames_go (Some r) behind sound none end ends =
       goes_as (receiver_goes behind.hears (sound r refl) none end (ends r refl)) (told_is behind)
       (λ samples. left_is behind samples r)
 
   -- more samples, up to the end of the frame that comes next
-  pub frames_more : (receiver : Option TrafficReceiver) → HearsFrames t mark receiver heard pages →
+  pub frames_more : (receiver : Option TrafficReceiver) → HearsFrames t assigned mark receiver heard pages →
       ForSome receiver IsSoundTraffic → ¬ IsSomeAnd receiver IsTrafficDue →
       (more : List Sample) → 0 < length more → length heard + length more ≤ t.count →
       ForSome receiver (WaitsAt (length heard)) →
@@ -225,7 +226,7 @@ module _ (t : Tuning) (mark : Option Mark) (heard : List Sample) (pages : List E
       pages_behind t t.paging mark samples n ≡ []) →
       ((m : Mark) (n : ℕ) → n ≤ m.sample →
       pages_behind t t.paging (Some m) (heard ++ more) n ≡ []) →
-      HearsFrames t mark receiver (heard ++ more)
+      HearsFrames t assigned mark receiver (heard ++ more)
       (paged_behind t mark (heard ++ more) (length (heard ++ more)))
   frames_more None behind sound none more some within waits ends given quiet before = behind
   frames_more (Some r) behind sound none more some within waits ends given quiet before =
@@ -263,13 +264,13 @@ none_opened r fresh empty idle = λ due.
     ]
 
 -- a receiver that is open now has heard nothing
-pub frames_opened : (t : Tuning) (heard : List Sample) (traffic : Traffic) (m : Mark)
-    (r : TrafficReceiver) → t.traffic ≡ Some traffic → IsSoundTraffic r → r.frames.clock.have ≡ r.frames.clock.next →
+pub frames_opened : (t : Tuning) (assigned : Option Traffic) (heard : List Sample) (traffic : Traffic)
+    (m : Mark) (r : TrafficReceiver) → assigned ≡ Some traffic → IsSoundTraffic r → r.frames.clock.have ≡ r.frames.clock.next →
     r.kept ≡ None → r.sets.due ≡ false → length heard < next_end r →
     HearsTraffic t traffic m r heard [] →
-    FollowsTraffic t (Some m) r heard [] × (traffic_left t (Some m) heard r ≡ [])
-frames_opened t heard traffic m r followed sound fresh empty idle early hears =
-    let behind : FollowsTraffic t (Some m) r heard [] =
+    FollowsTraffic t assigned (Some m) r heard [] × (traffic_left t assigned (Some m) heard r ≡ [])
+frames_opened t assigned heard traffic m r followed sound fresh empty idle early hears =
+    let behind : FollowsTraffic t assigned (Some m) r heard [] =
     record { traffic = traffic; traffic_is = followed; set = m; set_is = refl; hears = hears } in (
       behind,
       left_is behind heard r

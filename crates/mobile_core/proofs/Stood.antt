@@ -44,7 +44,7 @@ stands_new t p count check untold holds hears follows sound unset closed =
     let left = (sync_goes t clock.low is.timed clock.next [] 1 (before_next is)
     (λ k above. none_known t clock.low is.timed k (omega arith))).given (omega arith) in
     let pages = ap (paging_events_left t p.sync.mark []) closed.0 in
-    let frames = ap (traffic_events_left t p.sync.mark []) closed.1 in
+    let frames = ap (traffic_events_left t t.traffic p.sync.mark []) closed.1 in
     record {
       count_is = count;
       check_is = check;

@@ -64,17 +64,18 @@ abbrev pub IsUnheard : Option Traffic → Option Mark → Type 0
 IsUnheard None mark = Unit {0}
 IsUnheard (Some traffic) mark = mark ≡ None
 
--- A receiver that follows the channel from the mark on; the events `pages` of the paging channel
--- haven't been heard.
-pub record FollowsTraffic (t : Tuning) (mark : Option Mark) (r : TrafficReceiver)
-    (heard : List Sample) (pages : List Event) : Type 0 where
+-- A receiver that follows the channel that is assigned from the mark on; the events `pages` of the
+-- paging channel haven't been heard.
+pub record FollowsTraffic (t : Tuning) (assigned : Option Traffic) (mark : Option Mark)
+    (r : TrafficReceiver) (heard : List Sample) (pages : List Event) : Type 0 where
   pub traffic : Traffic
-  pub traffic_is : t.traffic ≡ Some traffic
+  pub traffic_is : assigned ≡ Some traffic
   pub set : Mark
   pub set_is : mark ≡ Some set
   pub hears : HearsTraffic t traffic set r heard pages
 
 -- the events of these samples' end that it has still to give
-abbrev pub traffic_left : Tuning → Option Mark → List Sample → TrafficReceiver → List Event
-traffic_left t mark samples r =
-    if_followed (λ traffic m. traffic_left_of t traffic m samples r) t.traffic mark
+abbrev pub traffic_left : Tuning → Option Traffic → Option Mark → List Sample → TrafficReceiver →
+    List Event
+traffic_left t assigned mark samples r =
+    if_followed (λ traffic m. traffic_left_of t traffic m samples r) assigned mark

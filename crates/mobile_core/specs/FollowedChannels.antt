@@ -2,6 +2,7 @@
 use Rattle.std.specs.Prelude.{◌≡◌, ◌⊎◌, ℕ, ◌+◌, ◌<◌, ◌≤◌, List, [], ◌++◌, take, pos, slice_get}
 use Rattle.std.specs.Prelude.{Option, Some}
 use Rattle.std.specs.Option.{ForSome, IsSomeAnd, MatchOption, option_map_or}
+use Rattle.chip_core.specs.declared.assignment.Traffic.{Traffic}
 use Rattle.chip_core.specs.declared.sample.Sample.{Sample}
 use Rattle.mobile_core.specs.BehindMark.{FollowsPages, FollowsTraffic, IsSoundAssignment, IsUnheard}
 use Rattle.mobile_core.specs.BehindMark.{IsUnpaged, paging_due, paging_left, traffic_left}
@@ -16,25 +17,27 @@ use Rattle.heard_events.specs.declared.mark.Mark.{Mark}
 use Rattle.mobile_core.specs.declared.paging_receiver.PagingReceiver.{PagingReceiver}
 use Rattle.mobile_core.specs.declared.traffic_receiver.TrafficReceiver.{TrafficReceiver}
 
--- what each receiver stands for; there is none where the channel isn't heard
+-- what each receiver stands for; there is none where the channel isn't heard, nor a traffic
+-- channel's where none is assigned
 abbrev pub HearsPages : Tuning → Option Mark → Option PagingReceiver → List Sample → Type 0
 HearsPages t mark receiver heard =
     MatchOption receiver (IsUnpaged mark) (λ r. FollowsPages t mark r heard)
 
-abbrev pub HearsFrames : Tuning → Option Mark → Option TrafficReceiver → List Sample →
-    List Event → Type 0
-HearsFrames t mark receiver heard pages =
-    MatchOption receiver (IsUnheard t.traffic mark) (λ r. FollowsTraffic t mark r heard pages)
+abbrev pub HearsFrames : Tuning → Option Traffic → Option Mark → Option TrafficReceiver →
+    List Sample → List Event → Type 0
+HearsFrames t assigned mark receiver heard pages =
+    MatchOption receiver (IsUnheard assigned mark)
+    (λ r. FollowsTraffic t assigned mark r heard pages)
 
 -- the events of these samples' end that each has still to give
 abbrev pub paging_events_left : Tuning → Option Mark → List Sample → Option PagingReceiver →
     List Event
 paging_events_left t mark samples receiver = option_map_or (paging_left t mark samples) receiver []
 
-abbrev pub traffic_events_left : Tuning → Option Mark → List Sample → Option TrafficReceiver →
-    List Event
-traffic_events_left t mark samples receiver =
-    option_map_or (traffic_left t mark samples) receiver []
+abbrev pub traffic_events_left : Tuning → Option Traffic → Option Mark → List Sample →
+    Option TrafficReceiver → List Event
+traffic_events_left t assigned mark samples receiver =
+    option_map_or (traffic_left t assigned mark samples) receiver []
 
 -- they have taken these samples, in which the sync channel's messages set this mark, or none
 pub record HearsFollowed (t : Tuning) (f : Followed) (mark : Option Mark)
@@ -45,12 +48,14 @@ pub record HearsFollowed (t : Tuning) (f : Followed) (mark : Option Mark)
   pub deltas_are : take f.near.count f.near.deltas ≡ t.deltas
   pub check_is : f.check ≡ t.check16
   pub paging : HearsPages t mark f.paging heard
-  pub traffic : HearsFrames t mark f.traffic heard (paging_events_left t mark heard f.paging)
+  pub traffic :
+      HearsFrames t t.traffic mark f.traffic heard (paging_events_left t mark heard f.paging)
 
 -- the events of these samples' end that are still to be given: those of the paging channel first
 abbrev pub followed_events_left : Tuning → Option Mark → List Sample → Followed → List Event
 followed_events_left t mark samples f =
-    paging_events_left t mark samples f.paging ++ traffic_events_left t mark samples f.traffic
+    paging_events_left t mark samples f.paging
+    ++ traffic_events_left t t.traffic mark samples f.traffic
 
 -- whether a frame of one of them is known that hasn't been heard whole, or a moment has come
 abbrev pub IsFollowedDue : ℕ → Followed → Type 0

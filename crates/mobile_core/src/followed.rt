@@ -34,6 +34,7 @@ impl Followed {
     ghost use Rattle.std.specs.Prelude.{◌≡◌, ◌<◌, ◌≤◌, ◌↔◌, ◌++◌, ℕ, IsTrue, IfSome, List, length};
     ghost use Rattle.std.specs.Prelude.{take, slice_get, Some, None, pos, Option};
     ghost use Rattle.std.specs.Option.{ForSome, option_map_or};
+    ghost use Rattle.chip_core.specs.declared.assignment.Traffic.{Traffic as TheTraffic};
     ghost use Rattle.chip_core.specs.declared.sample.Sample.{Sample};
     ghost use Rattle.mobile_core.specs.BehindMark.{IsSoundAssignment, SetsMark};
     ghost use Rattle.mobile_core.specs.FollowedChannels.{HearsFollowed, HearsFrames};
@@ -121,12 +122,13 @@ impl Followed {
             ≡ option_map_or traffic_heard traffic.old 0 }
         ensures due { option_map_or traffic_due traffic.new 0
             ≡ option_map_or traffic_due traffic.old 0 }
-        ensures hears { (t : Tuning) (mark : Option TheMark) (heard : List Sample)
-            (pages : List TheEvent) → IfSome event.now (λ told. at_of told ≡ length heard) →
-            HearsFrames t mark traffic.old heard (listed event.now ++ pages) →
-            HearsFrames t mark traffic.new heard pages
-            × (traffic_events_left t mark heard traffic.new
-            ≡ traffic_events_left t mark heard traffic.old) }
+        ensures hears { (t : Tuning) (assigned : Option TheTraffic) (mark : Option TheMark)
+            (heard : List Sample) (pages : List TheEvent) →
+            IfSome event.now (λ told. at_of told ≡ length heard) →
+            HearsFrames t assigned mark traffic.old heard (listed event.now ++ pages) →
+            HearsFrames t assigned mark traffic.new heard pages
+            × (traffic_events_left t assigned mark heard traffic.new
+            ≡ traffic_events_left t assigned mark heard traffic.old) }
     {
         let Some(event) = event else { return };
         if let Some(receiver) = traffic {
@@ -154,9 +156,9 @@ impl Receive for Followed {
 
     ghost form = { λ t. t.check30 };
 
-    ghost stands = { λ t mark followed samples _. HearsFollowed t followed mark samples };
+    ghost stands = { λ t _ mark followed samples _. HearsFollowed t followed mark samples };
 
-    ghost left = { followed_events_left };
+    ghost left = { λ t _. followed_events_left t };
 
     fn end_before(&self, end: u64) -> u64 {
         self.paging.end_before(self.traffic.end_before(end))

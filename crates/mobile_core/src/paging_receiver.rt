@@ -182,9 +182,9 @@ impl Receive for PagingReceiver {
 
     ghost silent = { λ _ mark. IsUnpaged mark };
 
-    ghost stands = { λ t mark r samples _. FollowsPages t mark r samples };
+    ghost stands = { λ t _ mark r samples _. FollowsPages t mark r samples };
 
-    ghost left = { paging_left };
+    ghost left = { λ t _. paging_left t };
 
     fn end_before(&self, end: u64) -> u64 {
         self.received.clock.end().min(end)

@@ -12,6 +12,7 @@ pub(crate) trait Receive {
     ghost use Rattle.std.specs.Prelude.{◌≡◌, ◌<◌, ◌≤◌, ◌↔◌, ◌++◌, ℕ, IsTrue, IfSome, List, []};
     ghost use Rattle.std.specs.Prelude.{Option, None, false};
     ghost use Rattle.std.specs.List.{list_any};
+    ghost use Rattle.chip_core.specs.declared.assignment.Traffic.{Traffic};
     ghost use Rattle.chip_core.specs.declared.check_form.CheckForm.{CheckForm as TheForm};
     ghost use Rattle.chip_core.specs.declared.sample.Sample.{Sample};
     ghost use Rattle.heard_events.specs.Given.{at_of, listed};
@@ -42,15 +43,18 @@ pub(crate) trait Receive {
     /// How the checks of its messages are sent.
     ghost form: { Tuning → TheForm };
 
-    /// Nothing is heard behind a mark that may be set, where a mark opens a receiver.
-    ghost silent: { Tuning → Option Mark → Type 0 } = { λ _ mark. mark ≡ None };
+    /// Nothing is heard behind a mark that may be set, where a mark opens a receiver; that of a
+    /// traffic channel opens where one is assigned.
+    ghost silent: { Option Traffic → Option Mark → Type 0 } = { λ _ mark. mark ≡ None };
 
     /// It has taken these samples, in which the sync channel's messages set this mark, or none, and
-    /// the events of the paging channel haven't been heard that it takes as told.
-    ghost stands: { Tuning → Option Mark → Self → List Sample → List TheEvent → Type 0 };
+    /// the events of the paging channel haven't been heard that it takes as told. Where it receives
+    /// a traffic channel, that is the one that is assigned.
+    ghost stands: { Tuning → Option Traffic → Option Mark → Self → List Sample →
+        List TheEvent → Type 0 };
 
     /// The events of these samples' end that it has still to give.
-    ghost left: { Tuning → Option Mark → List Sample → Self → List TheEvent };
+    ghost left: { Tuning → Option Traffic → Option Mark → List Sample → Self → List TheEvent };
 
     /// The least of a number of samples and that at which what comes next ends.
     fn end_before(&self, end: u64) -> u64
@@ -75,10 +79,11 @@ pub(crate) trait Receive {
         ensures sound { sound self.new }
         ensures waits { waits ring.now.taken self.new }
         ensures same { heard self.new ≡ heard self.old }
-        ensures hears { (t : Tuning) (mark : Option Mark) (samples : List Sample)
-            (pages : List TheEvent) → HoldsLast ring.now samples → ¬ due t.count self.old →
-            stands t mark self.old samples pages → stands t mark self.new samples pages
-            × (left t mark samples self.new ≡ left t mark samples self.old) };
+        ensures hears { (t : Tuning) (assigned : Option Traffic) (mark : Option Mark)
+            (samples : List Sample) (pages : List TheEvent) → HoldsLast ring.now samples →
+            ¬ due t.count self.old → stands t assigned mark self.old samples pages →
+            stands t assigned mark self.new samples pages
+            × (left t assigned mark samples self.new ≡ left t assigned mark samples self.old) };
 
     /// Hears what is due next in a file of so many samples, and gives the event that this
     /// completes.
@@ -102,10 +107,12 @@ pub(crate) trait Receive {
         ensures nearer { unheard self.new < unheard self.old }
         ensures ends { IfSome result (λ event. at_of event ≡ ring.now.taken) }
         ensures unset { list_any sets_mark (listed result) ≡ false }
-        ensures hears { (t : Tuning) (mark : Option Mark) (samples : List Sample) →
-            HoldsLast ring.now samples → check ≡ form t → count ≡ t.count →
-            stands t mark self.old samples [] → stands t mark self.new samples []
-            × (listed result ++ left t mark samples self.new ≡ left t mark samples self.old) };
+        ensures hears { (t : Tuning) (assigned : Option Traffic) (mark : Option Mark)
+            (samples : List Sample) → HoldsLast ring.now samples → check ≡ form t →
+            count ≡ t.count → stands t assigned mark self.old samples [] →
+            stands t assigned mark self.new samples []
+            × (listed result ++ left t assigned mark samples self.new
+            ≡ left t assigned mark samples self.old) };
 }
 
 // A receiver that a mark opens: there is none before it, nor where the channel isn't heard.
@@ -127,11 +134,12 @@ impl<R: Receive> Receive for Option<R> {
 
     ghost form = { R.form };
 
-    ghost stands = { λ t mark receiver samples pages. MatchOption receiver (R.silent t mark)
-        (λ r. R.stands t mark r samples pages) };
+    ghost stands = { λ t assigned mark receiver samples pages.
+        MatchOption receiver (R.silent assigned mark)
+        (λ r. R.stands t assigned mark r samples pages) };
 
-    ghost left = { λ t mark samples receiver.
-        option_map_or (R.left t mark samples) receiver [] };
+    ghost left = { λ t assigned mark samples receiver.
+        option_map_or (R.left t assigned mark samples) receiver [] };
 
     fn end_before(&self, end: u64) -> u64 {
         match self {

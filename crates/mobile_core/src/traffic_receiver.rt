@@ -336,7 +336,7 @@ impl Receive for TrafficReceiver {
 
     ghost form = { λ t. t.check16 };
 
-    ghost silent = { λ t mark. IsUnheard t.traffic mark };
+    ghost silent = { IsUnheard };
 
     ghost stands = { FollowsTraffic };
 

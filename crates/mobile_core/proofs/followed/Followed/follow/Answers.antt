@@ -36,7 +36,7 @@ returns-clause-hears c = λ t before heard taken within sets st.
     (paging.hears t heard (sym st.phase_is) (sym st.deltas_are) (omega (arith, taken, within))
     (omega (arith, taken, early))) in
     let begins = receiver.begins in
-    let frames = frames_opened t heard traffic m c.open-receiver.result
+    let frames = frames_opened t t.traffic heard traffic m c.open-receiver.result
     (sym st.assigned_is ∙ channel) receiver.sound receiver.fresh receiver.empty receiver.idle
     (omega (arith, taken, early, begins))
     (receiver.hears t heard (sym st.phase_is) (sym st.deltas_are) (omega (arith, taken, within))

@@ -92,7 +92,7 @@ returns-clause-steps c =
           (omega arith)
           (omega (arith, least.sync)) (least.ends (length heard + length more) (omega arith)) holds in
           let come = sync.stands t (heard ++ more) holds (due_here on none) on.sync in
-          let follows = others.hears t m.sync.mark (heard ++ more) [] holds
+          let follows = others.hears t t.traffic m.sync.mark (heard ++ more) [] holds
           (others_due_here on idle) on.followed in
           stands_come on c.take_ended.new.self c.take_ended-2.new.self told come sync.next sync.mark
           follows.0 follows.1;

@@ -16,7 +16,7 @@ returns-clause-steps c =
           ends_here c.hear_next.result next.ends (omega (arith, taken));
       stands = λ t heard given st.
           let taken = st.ring.taken in
-          let on = next.hears t m.sync.mark heard st.ring st.check_is st.count_is st.followed in
+          let on = next.hears t t.traffic m.sync.mark heard st.ring st.check_is st.count_is st.followed in
           rw (append-nil heard)
           (stands_followed st c.hear_next.new.self c.hear_next.result c.requires.told c.requires.silent
           (omega (arith, taken, m.sound.waits)) next.unset on.0 on.1);

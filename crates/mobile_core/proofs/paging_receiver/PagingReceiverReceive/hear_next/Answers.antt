@@ -3,7 +3,7 @@ use Rattle.mobile_core.proofs.PagesFollowed.{bit_left, follows_on}
 use Rattle.mobile_core.proofs.paging_receiver.PagingReceiverReceive.hear_next.Goals as goal
 
 pub returns-clause-hears : goal.returns-clause-hears
-returns-clause-hears c = λ t mark heard holds check count behind.
+returns-clause-hears c = λ t _ mark heard holds check count behind.
     let r = c.args.self.now in
     let after = c.hear_bit-page.new.self in
     let page = c.hear_bit-page.result in

@@ -4,7 +4,7 @@ use Rattle.mobile_core.proofs.PagesHeard.{hears_come}
 use Rattle.mobile_core.proofs.paging_receiver.PagingReceiverReceive.take_ended.Goals as goal
 
 pub returns-then-end-taken-clause-hears : goal.returns-then-end-taken-clause-hears
-returns-then-end-taken-clause-hears c = λ t mark heard pages holds none behind.
+returns-then-end-taken-clause-hears c = λ t _ mark heard pages holds none behind.
     let st = behind.hears in
     let r = c.args.self.now in
     let received = c.take_frame.new.self in

@@ -4,7 +4,7 @@ use Rattle.mobile_core.proofs.FramesTold.{hears_noted}
 use Rattle.mobile_core.proofs.traffic_receiver.TrafficReceiverReceive.hear_next.Goals as goal
 
 pub returns-clause-hears : goal.returns-clause-hears
-returns-clause-hears c = λ t mark heard holds check count behind.
+returns-clause-hears c = λ t _ mark heard holds check count behind.
     let traffic = behind.traffic in
     let m = behind.set in
     let event = c.hear_told-event.result in
