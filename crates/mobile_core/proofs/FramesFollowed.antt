@@ -7,7 +7,7 @@ use Rattle.mobile_core.proofs.Common.{FollowsTraffic, HearsFrames, IsUnheard, tr
 use Rattle.mobile_core.proofs.Common.{IsSoundTraffic, IsTrafficDue, at_of, ◌∷◌, kept_in, next_end, noted_by, sets_left_of, traffic_heard}
 use Rattle.mobile_core.proofs.Common.{WaitsAt, traffic_left_of, told_left_with, Tuning, Event, Leg, Mark, Traffic, TrafficReceiver}
 use Rattle.heard_events.proofs.FollowedEvents.{told_behind}
-use Rattle.mobile_core.proofs.FramesHeard.{none_come, none_kept, told_come, told_given, told_quiet}
+use Rattle.mobile_core.proofs.FramesHeard.{none_come, none_kept, told_go}
 use Rattle.mobile_core.proofs.FramesTold.{hears_noted}
 use Rattle.heard_events.proofs.GoesOn.{GoesOn, both, goes_as, never}
 use Rattle.heard_events.proofs.MomentGrowth.{kept_sooner}
@@ -114,25 +114,23 @@ module _ {t : Tuning} {traffic : Traffic} {m : Mark} {r : TrafficReceiver} {hear
       told_goes : GoesOn
           (λ samples n. told_at t traffic m (legs_at t traffic m samples n) (take n samples) n)
           (λ samples. told_left_with t traffic m samples r (kept_in t traffic m r samples)) heard end
-      told_goes = record {
-        given = λ early.
-            told_given st sound (none_come r sound none) (none_kept r none)
-            (omega (arith, early, parts.0));
-        quiet = λ more n past before.
-            ap (λ (legs : ℕ → List Leg). told_at t traffic m legs (take n (heard ++ more)) n)
-            (legs_here more n past (omega (arith, before, parts.1)))
-            ∙ told_quiet st sound none (take n (heard ++ more)) n end past before parts.0 parts.1;
-        come = λ more some most.
-            let samples = heard ++ more in
-            let n : ℕ = length (heard ++ more) in
-            let past : length heard < n = omega (arith, length-append heard more, some) in
-            ap (told_left_with t traffic m samples r) (kept_more more)
-            ∙ told_come st sound none samples past
-            ∙ sym (ap (λ (legs : ℕ → List Leg). told_at t traffic m legs samples n)
-            (legs_here more n past (omega (arith, most, parts.1))))
-            ∙ sym (ap (λ (xs : List Sample). told_at t traffic m (legs_at t traffic m samples n) xs n)
-            (take_all n samples (omega arith)));
-      }
+      told_goes =
+          let go = told_go st sound (none_come r sound none) (none_kept r none) end parts.0
+          (omega (arith, parts.1)) in
+          record {
+            given = go.given;
+            quiet = λ more n past before.
+                ap (λ (legs : ℕ → List Leg). told_at t traffic m legs (take n (heard ++ more)) n)
+                (legs_here more n past (omega (arith, before, parts.1)))
+                ∙ go.quiet more n past before;
+            come = λ more some most.
+                let n : ℕ = length (heard ++ more) in
+                ap (told_left_with t traffic m (heard ++ more) r) (kept_more more)
+                ∙ go.come more some most
+                ∙ sym (ap (λ (legs : ℕ → List Leg). told_at t traffic m legs (take n (heard ++ more)) n)
+                (legs_here more n (omega (arith, length-append heard more, some))
+                (omega (arith, most, parts.1))));
+          }
 
       sets_goes : GoesOn (sets_at t traffic m)
           (λ samples. sets_left_of t traffic m samples r.sets.passed) heard end

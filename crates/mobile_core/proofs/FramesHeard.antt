@@ -7,13 +7,17 @@ use Rattle.mobile_core.proofs.Common.{legs_of, subchannels, heard_from, legs_by,
 use Rattle.mobile_core.proofs.Common.{pages_behind, unscrambled, message_events, frame_end, all_sums, power_bits_at, decoded_at, raw_softs}
 use Rattle.mobile_core.proofs.Common.{HasTold, HearsWith, IsSoundTraffic, IsTrafficDue, kept_by, told_left_with, chips_behind, frame_known}
 use Rattle.mobile_core.proofs.Common.{frame_state, has_frame, replaced_in, traffic_start, Tuning, Event, Leg, frame_chips, Mark, SetsKeeper}
-use Rattle.mobile_core.proofs.Common.{Traffic, SpelledSignal, TrafficReceiver}
+use Rattle.mobile_core.proofs.Common.{Traffic, SpelledSignal, TrafficReceiver, flat_map}
 use Rattle.mobile_core.specs.TrafficReceiving.{frame_taken, tuned_to}
 use Rattle.rake_finger.proofs.CloseFingers.{close_ends}
 use Rattle.heard_events.proofs.FrameBounds.{AreCloseAll, has_here, known_high, known_is, known_later, known_low}
-use Rattle.heard_events.proofs.FrameGrowth.{signals_sooner}
-use Rattle.heard_events.proofs.TrafficGrowth.{heard_grown, heard_none, told_at, told_first, told_is, told_left, told_left_all}
-use Rattle.heard_events.proofs.TrafficGrowth.{told_left_none, told_none}
+use Rattle.heard_events.proofs.Arrivals.{left}
+use Rattle.heard_events.proofs.FrameGrowth.{frames_of, signals_sooner}
+use Rattle.heard_events.proofs.GoesOn.{GoesOn, goes_as, things_go}
+use Rattle.heard_events.proofs.TrafficGrowth.{heard_grown, heard_none, told_at, told_first, told_is, told_left, told_none}
+use Rattle.heard_events.specs.Left.{frames_left_of, messages_left_of}
+use Rattle.heard_events.specs.Signaling.{message_heard, messages_by}
+use Rattle.heard_events.specs.TrafficEvents.{frame_heard, frames_by}
 use Rattle.frame_decoder.specs.TrafficFrames as frames
 
 -- the long code's state at a frame's first chip
@@ -133,40 +137,32 @@ module _ {t : Tuning} {traffic : Traffic} {m : Mark} {r : TrafficReceiver} {hear
             ]
       ]
 
-  -- so nothing is left to tell
+  -- so nothing is told before the next frame ends, and what is told there is left
+  pub told_go : r.frames.clock.have ≡ r.frames.clock.next → r.kept ≡ None → (end : ℕ) →
+      end ≤ r.frames.clock.end → end ≤ moment_place m (r.sets.passed + 1) + 24350 →
+      GoesOn (λ samples n. told_at t traffic m (legs_by traffic m kept) (take n samples) n)
+      (λ samples. told_left_with t traffic m samples r kept) heard end
+  unfolding frames_by messages_by frames_left_of messages_left_of
+  told_go idle empty end ends early =
+      let legs = legs_by traffic m kept in
+      let gives : List Sample → ℕ → List ℕ → List Event = λ xs n ks.
+      map (frame_heard t traffic m legs xs n) ks ++ flat_map (message_heard t traffic m legs xs n) ks in
+      goes_as
+      (things_go (frames_of t traffic m legs) r.frames.clock.next (λ xs n. gives (take n xs) n)
+      (λ xs n. refl) heard end (λ k less inside. st.ended k less)
+      (λ k above inside. from_next idle end ends early k above))
+      (λ xs n. refl)
+      (λ xs. left_unkept t traffic m xs r kept empty
+      ∙ ap (λ (ys : List Sample). gives ys (length xs)
+      (left (frames_of t traffic m legs) r.frames.clock.next (length xs)))
+      (sym (take_all (length xs) xs (omega arith))))
+
   pub told_given : r.frames.clock.have ≡ r.frames.clock.next → r.kept ≡ None → length heard < r.frames.clock.end →
       told_left_with t traffic m heard r kept ≡ []
-  told_given idle empty ends =
+  told_given idle empty waits =
       let early = st.coming in
-      left_unkept t traffic m heard r kept empty
-      ∙ told_left_none t traffic m (legs_by traffic m kept) heard r.frames.clock.next
-      (λ k above.
-      from_next idle (length heard + 1) (omega (arith, ends)) (omega (arith, early)) k above)
-
-  -- before the next frame ends none is heard
-  pub told_quiet : ¬ IsTrafficDue r → (samples : List Sample) (n later : ℕ) →
-      length heard < n → n < later → later ≤ r.frames.clock.end →
-      later ≤ moment_place m (r.sets.passed + 1) →
-      told_at t traffic m (legs_by traffic m kept) samples n ≡ []
-  told_quiet none samples n later past before ends early =
-      told_none t traffic m (legs_by traffic m kept) samples n
-      (λ k inside e.
-      elim (cases_lt k r.frames.clock.next) [
-        | inl less ↦ let ended = st.ended k less in omega (arith, ended, e, past)
-        | inr more ↦
-            let known = from_next (none_come r sound none) later ends (omega (arith, early)) k more
-            in
-            omega (arith, known, e, before)
-      ])
-
-  -- where more samples have come, all that ends with the last of them is left
-  pub told_come : ¬ IsTrafficDue r → (samples : List Sample) → length heard < length samples →
-      told_left_with t traffic m samples r kept
-      ≡ told_at t traffic m (legs_by traffic m kept) samples (length samples)
-  told_come none samples past =
-      left_unkept t traffic m samples r kept (none_kept r none)
-      ∙ told_left_all t traffic m (legs_by traffic m kept) samples r.frames.clock.next
-      (λ k less inside e. let ended = st.ended k less in omega (arith, ended, e, past))
+      (told_go idle empty (length heard + 1) (omega (arith, waits)) (omega (arith, early))).given
+      (omega arith)
 
   -- MORE SAMPLES, UP TO THE END OF THE FRAME THAT COMES NEXT
   module _ (more : List Sample) (none : ¬ IsTrafficDue r) (some : 0 < length more)
@@ -183,6 +179,12 @@ module _ {t : Tuning} {traffic : Traffic} {m : Mark} {r : TrafficReceiver} {hear
     long : length (heard ++ more) ≡ length heard + length more
     long = length-append heard more
 
+    goes : GoesOn (λ samples n. told_at t traffic m (legs_by traffic m kept) (take n samples) n)
+        (λ samples. told_left_with t traffic m samples r kept) heard (length heard + length more)
+    goes =
+        told_go (none_come r sound none) (none_kept r none) (length heard + length more) ends
+        (omega (arith, early))
+
     -- what is heard with the last sample is what is left
     last_told : (n : ℕ) → n ≡ length (heard ++ more) →
         told_by t traffic m (legs_by traffic m kept) (heard ++ more) n
@@ -190,16 +192,15 @@ module _ {t : Tuning} {traffic : Traffic} {m : Mark} {r : TrafficReceiver} {hear
     last_told n is =
         let legs = legs_by traffic m kept in
         let all : ℕ = length (heard ++ more) in
-        let come = told_come none (heard ++ more) (omega (arith, long, some)) in
+        let told : List Event = told_at t traffic m legs (take all (heard ++ more)) all in
         let whole : take all (heard ++ more) ≡ heard ++ more =
         take_all all (heard ++ more) (omega arith) in
         ap (told_by t traffic m legs (heard ++ more)) is
         ∙ told_is t traffic m legs (heard ++ more) all
-        ∙ ap (λ (xs : List Sample). map (page_event all) (pages_behind t t.paging (Some m) xs all)
-        ++ told_at t traffic m legs xs all) whole
-        ∙ ap (λ (es : List Event). es ++ told_at t traffic m legs (heard ++ more) all)
-        (sym later_is)
-        ∙ ap (λ (es : List Event). later ++ es) (sym come)
+        ∙ ap (λ (xs : List Sample).
+        map (page_event all) (pages_behind t t.paging (Some m) xs all) ++ told) whole
+        ∙ ap (λ (es : List Event). es ++ told) (sym later_is)
+        ∙ ap (λ (es : List Event). later ++ es) (sym (goes.come more some (omega (arith, long))))
 
     quiet_told : (n : ℕ) → length heard < n → n < length heard + length more →
         told_by t traffic m (legs_by traffic m kept) (heard ++ more) n ≡ []
@@ -209,7 +210,7 @@ module _ {t : Tuning} {traffic : Traffic} {m : Mark} {r : TrafficReceiver} {hear
         told_is t traffic m legs (heard ++ more) n
         ∙ ap (λ (ps : List _). map (page_event n) ps ++ told_at t traffic m legs first n)
         (quiet first n past less)
-        ∙ told_quiet none first n (length heard + length more) past less ends early
+        ∙ goes.quiet more n past less
 
     now : r.sets.sets ≡ heard_from t traffic m kept heard r.sets.passed
         (length heard - moment_place m r.sets.passed)
@@ -264,9 +265,9 @@ module _ {t : Tuning} {traffic : Traffic} {m : Mark} {r : TrafficReceiver} {hear
         let at_mark : n ≤ m.sample = omega (arith, long, ahead, first) in
         let legs = legs_by traffic m kept in
         let pages_none : later ≡ [] = later_is ∙ ap (map (page_event n)) (before n at_mark) in
-        let come = told_come none (heard ++ more) (omega (arith, long, some)) in
-        let frames_none : told_at t traffic m legs (heard ++ more) n ≡ [] =
-        told_none t traffic m legs (heard ++ more) n
+        let come = goes.come more some (omega (arith, long)) in
+        let frames_none : told_at t traffic m legs (take n (heard ++ more)) n ≡ [] =
+        told_none t traffic m legs (take n (heard ++ more)) n
         (λ k inside e.
         let low = known_low t traffic m legs closes k in omega (arith, low, e, at_mark)) in
         let zero_now : length heard - place ≡ 0 = omega (arith, ahead) in

@@ -108,60 +108,62 @@ module _ {t : Tuning} {traffic : Traffic} {m : Mark} {heard : List Sample} {kept
         }
 
     -- THE MESSAGE THAT IS KEPT
+    -- its event is the first of those left
     pub hears_given : {r : TrafficReceiver} (event : Event) (message : SpelledSignal) →
         HearsWith t traffic m r heard [] kept → r.kept ≡ Some message →
         event ∷ [] ≡ message_events (length heard) (Some message) →
         HearsWith t traffic m (record r { kept = None }) heard (event ∷ []) kept
+        × (event ∷ told_left_with t traffic m heard (record r { kept = None }) kept
+        ≡ told_left_with t traffic m heard r kept)
     hears_given {r} event message st is event_is =
         let rest = told_left t traffic m (legs_by traffic m kept) heard r.frames.clock.next in
         let left : told_left_with t traffic m heard r kept ≡ event ∷ rest =
         ap (λ (k : Option SpelledSignal). message_events (length heard) k ++ rest) is
-        ∙ ap (λ (es : List Event). es ++ rest) (sym event_is) in
-        record {
-          tuned = st.tuned;
-          start_is = st.start_is;
-          close = st.close;
-          legs_are = st.legs_are;
-          pilots_are = st.pilots_are;
-          within = st.within;
-          begun = st.begun;
-          behind = λ e others same some. st.behind event rest left some;
-          coming = st.coming;
-          due_is = st.due_is;
-          ended = st.ended;
-          known = st.known;
-          softs_are = st.softs_are;
-          power_is = st.power_is;
-          framed = st.framed;
-          sets_are = ap (λ (es : List Event). all_noted m es r.sets.sets) (sym left) ∙ st.sets_are;
-        }
-
-    -- its event is the first of those left
-    pub left_given : (r : TrafficReceiver) (event : Event) (message : SpelledSignal) →
-        HearsWith t traffic m r heard [] kept → r.kept ≡ Some message →
-        event ∷ [] ≡ message_events (length heard) (Some message) →
-        event ∷ told_left_with t traffic m heard (record r { kept = None }) kept
-        ≡ told_left_with t traffic m heard r kept
-    left_given r event message st is event_is =
-        let rest = told_left t traffic m (legs_by traffic m kept) heard r.frames.clock.next in
-        ap (λ (es : List Event). es ++ rest) event_is
-        ∙ sym (ap (λ (k : Option SpelledSignal). message_events (length heard) k ++ rest) is)
+        ∙ ap (λ (es : List Event). es ++ rest) (sym event_is) in (
+          record {
+            tuned = st.tuned;
+            start_is = st.start_is;
+            close = st.close;
+            legs_are = st.legs_are;
+            pilots_are = st.pilots_are;
+            within = st.within;
+            begun = st.begun;
+            behind = λ e others same some. st.behind event rest left some;
+            coming = st.coming;
+            due_is = st.due_is;
+            ended = st.ended;
+            known = st.known;
+            softs_are = st.softs_are;
+            power_is = st.power_is;
+            framed = st.framed;
+            sets_are = ap (λ (es : List Event). all_noted m es r.sets.sets) (sym left) ∙ st.sets_are;
+          },
+          sym left,
+        )
 
     -- THE FRAME THAT IS DUE
+    -- It was heard so, and its event is this one; the framer has taken its signaling, and gives the
+    -- message that this completes.
     module _ {r : TrafficReceiver} (st : HearsWith t traffic m r heard [] kept)
         (sound : IsSoundTraffic r) (come : r.frames.clock.next < r.frames.clock.have) (frame : Decoded)
-        (frame_is : frame ≡ decoded_at t traffic m (legs_by traffic m kept) heard r.frames.clock.next) where
+        (frame_is : frame ≡ decoded_at t traffic m (legs_by traffic m kept) heard r.frames.clock.next)
+        (framer : Option (List Bool)) (message : Option SpelledSignal) (event : Event)
+        (told : List Bool) (check : CheckForm)
+        (takes : (signals : List (List Bool)) → StandsFor r.framer signals →
+        StandsFor framer (signals ++ option_to_list (signal_of frame)))
+        (event_is : event ≡ frame_event (length heard) frame told)
+        (told_is : told ≡ power_bits_at t traffic m (legs_by traffic m kept) heard r.frames.clock.next)
+        (check_is : check ≡ t.check16)
+        (gives : (signals : List (List Bool)) → StandsFor r.framer signals →
+        message ≡ signal_in check (capsule_with signals (signal_of frame)))
+        (empty : r.kept ≡ None) where
       signal_here : signal_of frame ≡ signal_at t traffic m (legs_by traffic m kept) heard r.frames.clock.next
       unfolding signal_at
       signal_here = ap (λ (f : Decoded). signal_of f) frame_is
 
-      -- the framer has taken the signaling of one frame more
-      framed_here : (framer : Option (List Bool)) →
-          ((signals : List (List Bool)) → StandsFor r.framer signals →
-          StandsFor framer (signals ++ option_to_list (signal_of frame))) →
-          StandsFor framer
+      framed_here : StandsFor framer
           (signals_before t traffic m (legs_by traffic m kept) heard (r.frames.clock.next + 1))
-      framed_here framer takes =
+      framed_here =
           let k : ℕ = r.frames.clock.next in
           let legs = legs_by traffic m kept in
           let before = signals_before t traffic m legs heard k in
@@ -170,29 +172,19 @@ module _ {t : Tuning} {traffic : Traffic} {m : Mark} {heard : List Sample} {kept
           ∙ sym (signals_more t traffic m legs heard k (due_inside st sound come)))
           (takes before st.framed)
 
-      -- and gives the message that this completes
-      message_here : (message : Option SpelledSignal) (check : CheckForm) → check ≡ t.check16 →
-          ((signals : List (List Bool)) → StandsFor r.framer signals →
-          message ≡ signal_in check (capsule_with signals (signal_of frame))) →
-          message ≡ message_at t traffic m (legs_by traffic m kept) heard r.frames.clock.next
+      message_here : message ≡ message_at t traffic m (legs_by traffic m kept) heard r.frames.clock.next
       unfolding message_at
-      message_here message check check_is gives =
+      message_here =
           let before = signals_before t traffic m (legs_by traffic m kept) heard r.frames.clock.next in
           gives before st.framed
           ∙ ap (λ (c : CheckForm). signal_in c (capsule_with before (signal_of frame))) check_is
           ∙ ap (λ (s : Option (List Bool)). signal_in t.check16 (capsule_with before s)) signal_here
 
-      -- the frame's event is the first of those left, and what it completes follows
-      pub told_here : (event : Event) (told : List Bool) (message : Option SpelledSignal)
-          (check : CheckForm) → event ≡ frame_event (length heard) frame told →
-          told ≡ power_bits_at t traffic m (legs_by traffic m kept) heard r.frames.clock.next →
-          check ≡ t.check16 →
-          ((signals : List (List Bool)) → StandsFor r.framer signals →
-          message ≡ signal_in check (capsule_with signals (signal_of frame))) → r.kept ≡ None →
-          event ∷ (message_events (length heard) message
+      -- its event is the first of those left, and what it completes follows
+      told_here : event ∷ (message_events (length heard) message
           ++ told_left t traffic m (legs_by traffic m kept) heard (r.frames.clock.next + 1))
           ≡ told_left_with t traffic m heard r kept
-      told_here event told message check event_is told_is check_is gives empty =
+      told_here =
           let k : ℕ = r.frames.clock.next in
           let n : ℕ = length heard in
           let legs = legs_by traffic m kept in
@@ -202,60 +194,54 @@ module _ {t : Tuning} {traffic : Traffic} {m : Mark} {heard : List Sample} {kept
           event_is
           ∙ ap (λ (f : Decoded). frame_event n f told) frame_is
           ∙ ap (frame_event n (decoded_at t traffic m legs heard k)) told_is in
-          let completes = message_here message check check_is gives in
           ap (λ (e : Event). e ∷ (message_events n message ++ rest)) same
           ∙ ap (λ (heard' : Option SpelledSignal).
-          heard_frame t traffic m legs heard n k ∷ (message_events n heard' ++ rest)) completes
+          heard_frame t traffic m legs heard n k ∷ (message_events n heard' ++ rest)) message_here
           ∙ sym (told_next t traffic m legs close heard k (due_inside st sound come)
           (st.known come))
           ∙ sym (ap (λ (kept' : Option SpelledSignal).
           message_events n kept' ++ told_left t traffic m legs heard k) empty)
 
       -- behind it
-      pub hears_heard : (framer : Option (List Bool)) (message : Option SpelledSignal)
-          (event : Event) (told : List Bool) (check : CheckForm) →
-          ((signals : List (List Bool)) → StandsFor r.framer signals →
-          StandsFor framer (signals ++ option_to_list (signal_of frame))) →
-          event ≡ frame_event (length heard) frame told →
-          told ≡ power_bits_at t traffic m (legs_by traffic m kept) heard r.frames.clock.next →
-          check ≡ t.check16 →
-          ((signals : List (List Bool)) → StandsFor r.framer signals →
-          message ≡ signal_in check (capsule_with signals (signal_of frame))) → r.kept ≡ None →
-          HearsWith t traffic m
+      pub hears_heard : HearsWith t traffic m
           (record r {
             frames = record r.frames { clock = frame_heard r.frames.clock };
             framer = framer;
             kept = message;
           }) heard (event ∷ []) kept
-      hears_heard framer message event told check takes event_is told_is check_is gives empty =
+          × (event ∷ (message_events (length heard) message
+          ++ told_left t traffic m (legs_by traffic m kept) heard (r.frames.clock.next + 1))
+          ≡ told_left_with t traffic m heard r kept)
+      hears_heard =
           let most = sound.have_most in
           let known = st.known come in
           let order : r.frames.clock.have ≡ r.frames.clock.next + 1 = omega (arith, most, come) in
-          let left = told_here event told message check event_is told_is check_is gives empty in
           let rest = message_events (length heard) message
-          ++ told_left t traffic m (legs_by traffic m kept) heard (r.frames.clock.next + 1) in
-          record {
-            tuned = st.tuned;
-            start_is = st.start_is;
-            close = st.close;
-            legs_are = st.legs_are;
-            pilots_are = st.pilots_are;
-            within = st.within;
-            begun = st.begun;
-            behind = λ e others same some. st.behind event rest (sym left) some;
-            coming = st.coming;
-            due_is = st.due_is;
-            ended = λ k less.
-                elim (cases_lt k r.frames.clock.next) [
-                  | inl below ↦ st.ended k below
-                  | inr above ↦
-                      let here : k ≡ r.frames.clock.next = omega (arith, less, above) in
-                      let same = ap (frame_known t traffic m (legs_by traffic m kept)) here in
-                      omega (arith, same, known)
-                ];
-            known = λ more. absurd (omega (arith, more, order));
-            softs_are = λ more. absurd (omega (arith, more, order));
-            power_is = λ more. absurd (omega (arith, more, order));
-            framed = framed_here framer takes;
-            sets_are = ap (λ (es : List Event). all_noted m es r.sets.sets) left ∙ st.sets_are;
-          }
+          ++ told_left t traffic m (legs_by traffic m kept) heard (r.frames.clock.next + 1) in (
+            record {
+              tuned = st.tuned;
+              start_is = st.start_is;
+              close = st.close;
+              legs_are = st.legs_are;
+              pilots_are = st.pilots_are;
+              within = st.within;
+              begun = st.begun;
+              behind = λ e others same some. st.behind event rest (sym told_here) some;
+              coming = st.coming;
+              due_is = st.due_is;
+              ended = λ k less.
+                  elim (cases_lt k r.frames.clock.next) [
+                    | inl below ↦ st.ended k below
+                    | inr above ↦
+                        let here : k ≡ r.frames.clock.next = omega (arith, less, above) in
+                        let same = ap (frame_known t traffic m (legs_by traffic m kept)) here in
+                        omega (arith, same, known)
+                  ];
+              known = λ more. absurd (omega (arith, more, order));
+              softs_are = λ more. absurd (omega (arith, more, order));
+              power_is = λ more. absurd (omega (arith, more, order));
+              framed = framed_here;
+              sets_are = ap (λ (es : List Event). all_noted m es r.sets.sets) told_here ∙ st.sets_are;
+            },
+            told_here,
+          )

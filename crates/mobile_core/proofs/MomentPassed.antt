@@ -3,9 +3,9 @@ use Rattle.mobile_core.proofs.Common.{◌≡◌, ℕ, ◌+◌, ◌-◌, ◌/◌,
 use Rattle.mobile_core.proofs.Common.{subst, Option, None, inl, inr, true, false, ◌==◌, flat_map, option_to_list, cases_lt, eq-eqb, ne_eqb}
 use Rattle.mobile_core.proofs.Common.{take_all, Sample, filter_ext_places, flat_map_ext_filter_places, Standing, StandsFor, AreClose}
 use Rattle.mobile_core.proofs.Common.{listed, all_fingers, legs_of, heard_from, kept_to, legs_by, moment_of, moment_place, passed}
-use Rattle.mobile_core.proofs.Common.{sets_events, all_noted, signal_at, signals_before, decoded_at, HearsWith, IsSoundTraffic, kept_in}
-use Rattle.mobile_core.proofs.Common.{sets_left_of, told_left_with, traffic_left_of, frame_known, has_frame, Tuning, Event, Leg, Mark}
-use Rattle.mobile_core.proofs.Common.{Finger, SetsKeeper, Traffic, TrafficReceiver}
+use Rattle.mobile_core.proofs.Common.{sets_events, all_noted, signal_at, signals_before, decoded_at, HearsTraffic, HearsWith}
+use Rattle.mobile_core.proofs.Common.{kept_in, sets_left_of, told_left_with, traffic_left_of, frame_known, has_frame, Tuning, Event, Leg}
+use Rattle.mobile_core.proofs.Common.{Finger, IsSoundTraffic, Mark, SetsKeeper, Traffic, TrafficReceiver}
 use Rattle.mobile_core.specs.TrafficReceiving.{tuned_to}
 use Rattle.std.proofs.lemmas.List.{append-nil}
 use Rattle.heard_events.proofs.FrameBounds.{known_low}
@@ -156,41 +156,6 @@ module _ {t : Tuning} {traffic : Traffic} {m : Mark} {r : TrafficReceiver} {hear
               ∙ sym (old_here r.frames.clock.have early)
         ]
 
-    pub hears_passed : HearsWith t traffic m (behind_moment r sets legs end fingers) heard [] kept_then
-    hears_passed =
-        let j : ℕ = r.sets.passed in
-        let zero_count : length heard - moment_place m (j + 1) ≡ 0 = omega (arith, here) in
-        record {
-          tuned = st.tuned;
-          start_is = st.start_is;
-          close = new_close;
-          legs_are = legs_here;
-          pilots_are = sym (new_here (j + 1) (omega arith));
-          within = st.within;
-          begun = λ some. omega (arith, here);
-          behind = λ e rest left some.
-              let none = told_none in
-              let lost : [] ≡ e ∷ rest = sym none ∙ left in
-              absurd (cc);
-          coming = omega (arith, here);
-          due_is = λ due. absurd (cc);
-          ended = λ k less.
-              let same = known_same t traffic m legs_now legs_then k (old_here k (heard_early k less)) in
-              let was = st.ended k less in
-              omega (arith, same, was);
-          known = λ come. absurd (omega (arith, come, idle));
-          softs_are = λ come. absurd (omega (arith, come, idle));
-          power_is = λ come. absurd (omega (arith, come, idle));
-          framed = subst (StandsFor r.framer)
-              (sym (signals_same t traffic m legs_now legs_then heard r.frames.clock.next
-              (λ k less. old_here k (heard_early k less)))) st.framed;
-          sets_are = ap (λ (es : List Event). all_noted m es sets) told_none
-              ∙ sets_is
-              ∙ sym (kept_here (j + 1) (omega arith))
-              ∙ sym (heard_none t traffic m kept_then (j + 1) heard [])
-              ∙ sym (ap (heard_from t traffic m kept_then heard (j + 1)) zero_count);
-        }
-
     -- its event was the last that was left
     event_now : sets_left_of t traffic m heard r.sets.passed
         ≡ sets_events m heard (r.sets.passed + 1) r.sets.sets
@@ -210,20 +175,55 @@ module _ {t : Tuning} {traffic : Traffic} {m : Mark} {r : TrafficReceiver} {hear
         (λ same. omega (arith, same, here)) in
         rw past refl
 
-    pub left_passed : (event : Option Event) →
+    -- so nothing more is left
+    pub hears_passed : (event : Option Event) →
         listed event ≡ sets_events m heard (r.sets.passed + 1) r.sets.sets →
-        listed event ++ traffic_left_of t traffic m heard (behind_moment r sets legs end fingers)
-        ≡ traffic_left_of t traffic m heard r
-    left_passed event event_is =
+        HearsTraffic t traffic m (behind_moment r sets legs end fingers) heard []
+        × (listed event ++ traffic_left_of t traffic m heard (behind_moment r sets legs end fingers)
+        ≡ traffic_left_of t traffic m heard r)
+    hears_passed event event_is =
+        let j : ℕ = r.sets.passed in
+        let zero_count : length heard - moment_place m (j + 1) ≡ 0 = omega (arith, here) in
         let was = told_given st sound idle empty waits in
-        let gone = sets_left_of t traffic m heard (r.sets.passed + 1) in
-        ap (λ (es : List Event). listed event ++ (es ++ gone)) told_none
-        ∙ ap (λ (es : List Event). listed event ++ es) event_gone
-        ∙ append-nil (listed event)
-        ∙ event_is
-        ∙ sym event_now
-        ∙ sym (ap (λ (es : List Event).
-        es ++ sets_left_of t traffic m heard r.sets.passed) was)
+        let gone = sets_left_of t traffic m heard (r.sets.passed + 1) in (
+          record {
+            tuned = st.tuned;
+            start_is = st.start_is;
+            close = new_close;
+            legs_are = legs_here;
+            pilots_are = sym (new_here (j + 1) (omega arith));
+            within = st.within;
+            begun = λ some. omega (arith, here);
+            behind = λ e rest left some.
+                let none = told_none in
+                let lost : [] ≡ e ∷ rest = sym none ∙ left in
+                absurd (cc);
+            coming = omega (arith, here);
+            due_is = λ due. absurd (cc);
+            ended = λ k less.
+                let same = known_same t traffic m legs_now legs_then k (old_here k (heard_early k less)) in
+                let was = st.ended k less in
+                omega (arith, same, was);
+            known = λ come. absurd (omega (arith, come, idle));
+            softs_are = λ come. absurd (omega (arith, come, idle));
+            power_is = λ come. absurd (omega (arith, come, idle));
+            framed = subst (StandsFor r.framer)
+                (sym (signals_same t traffic m legs_now legs_then heard r.frames.clock.next
+                (λ k less. old_here k (heard_early k less)))) st.framed;
+            sets_are = ap (λ (es : List Event). all_noted m es sets) told_none
+                ∙ sets_is
+                ∙ sym (kept_here (j + 1) (omega arith))
+                ∙ sym (heard_none t traffic m kept_then (j + 1) heard [])
+                ∙ sym (ap (heard_from t traffic m kept_then heard (j + 1)) zero_count);
+          },
+          ap (λ (es : List Event). listed event ++ (es ++ gone)) told_none
+              ∙ ap (λ (es : List Event). listed event ++ es) event_gone
+              ∙ append-nil (listed event)
+              ∙ event_is
+              ∙ sym event_now
+              ∙ sym (ap (λ (es : List Event).
+              es ++ sets_left_of t traffic m heard r.sets.passed) was),
+        )
 
   -- the same, as it goes on: the moment has passed, and the next frame is tuned
   module _ (k : SetsKeeper) (r2 : TrafficReceiver)
@@ -263,18 +263,14 @@ module _ {t : Tuning} {traffic : Traffic} {m : Mark} {r : TrafficReceiver} {hear
         ∙ ap (λ (x : SetsKeeper).
         tuned_to r2.legs r2.frames.clock.end r2.frames.fingers (record r { sets = x })) k_is
 
-    pub hears_tuned : HearsWith t traffic m r2 heard [] (kept_in t traffic m r2 heard)
-    hears_tuned =
-        subst (λ (x : TrafficReceiver).
-        HearsWith t traffic m x heard [] (kept_in t traffic m x heard)) (sym shape)
-        (hears_passed k.sets r2.legs r2.frames.clock.end r2.frames.fingers sets_is close tuned_here stays_here)
-
-    pub left_tuned : (event : Option Event) →
+    pub hears_tuned : (event : Option Event) →
         listed event ≡ sets_events m heard (r.sets.passed + 1) r.sets.sets →
-        listed event ++ traffic_left_of t traffic m heard r2
-        ≡ traffic_left_of t traffic m heard r
-    left_tuned event event_is =
+        HearsTraffic t traffic m r2 heard []
+        × (listed event ++ traffic_left_of t traffic m heard r2 ≡ traffic_left_of t traffic m heard r)
+    hears_tuned event event_is =
         subst (λ (x : TrafficReceiver).
-        listed event ++ traffic_left_of t traffic m heard x
-        ≡ traffic_left_of t traffic m heard r) (sym shape)
-        (left_passed k.sets r2.legs r2.frames.clock.end r2.frames.fingers sets_is close tuned_here stays_here event event_is)
+        HearsTraffic t traffic m x heard []
+        × (listed event ++ traffic_left_of t traffic m heard x ≡ traffic_left_of t traffic m heard r))
+        (sym shape)
+        (hears_passed k.sets r2.legs r2.frames.clock.end r2.frames.fingers sets_is close tuned_here
+        stays_here event event_is)

@@ -1,7 +1,7 @@
 -- What always holds of the receiver of a traffic channel, as it goes on.
 use Rattle.mobile_core.proofs.Common.{◌≡◌, ℕ, ◌+◌, ◌*◌, ◌^◌, ◌<◌, ◌≤◌, true, List, Bool, length, take, ℤ, sym, ap, ◌∙◌, arith, Option, None}
 use Rattle.mobile_core.proofs.Common.{subst, false, Held, sum_by, unsigned_abs, if◌then◌else◌, PowerSofts, Finger, Data, Sample, Standing}
-use Rattle.mobile_core.proofs.Common.{AreClose, legs_close, legs_rows, paths_close, all_fingers, legs_of, moment_place, IsSoundKeeper}
+use Rattle.mobile_core.proofs.Common.{AreClose, legs_close, paths_close, all_fingers, legs_of, moment_place, IsSoundKeeper}
 use Rattle.mobile_core.proofs.Common.{coming_place, frame_end, HearsWith, IsSoundTraffic, Tuning, Event, Leg, Mark, SetsKeeper, Traffic}
 use Rattle.mobile_core.proofs.Common.{SpelledSignal, TrafficReceiver, All, IsInRing, frame_chips, frame_heard}
 use Rattle.heard_events.specs.LegSofts.{IsHeldFrom}

@@ -2,7 +2,7 @@
 use Rattle.mobile_core.proofs.Common.{◌≡◌, ℕ, ◌+◌, ◌<◌, ◌≤◌, false, List, [], ◌∷◌, ◌++◌, length, refl, sym, ap, subst, ◌∙◌, arith, inl, inr}
 use Rattle.mobile_core.proofs.Common.{Option, Some, None, Bool, true, IsTrue, is_some, list_any, ForSome, append_assoc, list_any-append}
 use Rattle.mobile_core.proofs.Common.{Sample, Best, Held, HoldsLast, IsDueAt, events, EndFrom, HearsFollowed, IsFollowedDue}
-use Rattle.mobile_core.proofs.Common.{IsSoundFollowed, WaitFrom, followed_events_left, listed, pilot_left, sync_events_left, mark}
+use Rattle.mobile_core.proofs.Common.{IsSoundFollowed, WaitFrom, followed_events_left, listed, pilot_left, sync_events_left}
 use Rattle.mobile_core.proofs.Common.{sets_mark, AreNear, SetsMark, paging_events_left, IsSoundSync, Parts, Stands, HearsSync, HearsNext}
 use Rattle.mobile_core.proofs.Common.{traffic_events_left, Tuning, sync_stream, Event, Pilot, Followed, Mark, SyncReceiver, ◌||◌}
 use Rattle.std.proofs.lemmas.List.{append-nil}

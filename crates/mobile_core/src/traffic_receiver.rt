@@ -216,12 +216,9 @@ impl TrafficReceiver {
         ensures hears { (t : Tuning) (traffic : TheTraffic) (m : TheMark)
             (heard : List Sample) → HoldsLast ring.now heard →
             HearsTraffic t traffic m self.old heard [] →
-            HearsTraffic t traffic m self.new heard [] }
-        ensures left { (t : Tuning) (traffic : TheTraffic) (m : TheMark)
-            (heard : List Sample) → HoldsLast ring.now heard →
-            HearsTraffic t traffic m self.old heard [] →
-            listed result ++ traffic_left_of t traffic m heard self.new
-            ≡ traffic_left_of t traffic m heard self.old }
+            HearsTraffic t traffic m self.new heard []
+            × (listed result ++ traffic_left_of t traffic m heard self.new
+            ≡ traffic_left_of t traffic m heard self.old) }
     {
         let event = self.sets.pass(ring, codes);
         self.tune();
@@ -245,12 +242,9 @@ impl TrafficReceiver {
         ensures hears { (t : Tuning) (traffic : TheTraffic) (m : TheMark)
             (heard : List Sample) (told : ℕ → Standing) → at ≡ length heard →
             check ≡ t.check16 → HearsWith t traffic m self.old heard [] told →
-            HearsWith t traffic m self.new heard (result ∷ []) told }
-        ensures left { (t : Tuning) (traffic : TheTraffic) (m : TheMark)
-            (heard : List Sample) (told : ℕ → Standing) → at ≡ length heard →
-            check ≡ t.check16 → HearsWith t traffic m self.old heard [] told →
-            result ∷ told_left_with t traffic m heard self.new told
-            ≡ told_left_with t traffic m heard self.old told }
+            HearsWith t traffic m self.new heard (result ∷ []) told
+            × (result ∷ told_left_with t traffic m heard self.new told
+            ≡ told_left_with t traffic m heard self.old told) }
     {
         if let Some(message) = self.kept {
             self.kept = None;

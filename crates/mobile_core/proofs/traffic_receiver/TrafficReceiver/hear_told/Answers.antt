@@ -1,5 +1,5 @@
 use Rattle.mobile_core.proofs.Common.{◌≡◌, ◌∙◌, ℕ, rules, None, ap, [], frame_event}
-use Rattle.mobile_core.proofs.FramesTold.{hears_heard, told_come, told_here}
+use Rattle.mobile_core.proofs.FramesTold.{hears_heard, told_come}
 use Rattle.mobile_core.proofs.traffic_receiver.TrafficReceiver.hear_told.Goals as goal
 
 pub returns-clause-hears : goal.returns-clause-hears
@@ -12,18 +12,5 @@ returns-clause-hears c = λ t traffic m heard told at' check st.
     rw c.hear.ensures.value
     (hears_heard st c.requires.sound come next.0 (says.frame t traffic m heard [] told come st)
     signal.new.framer signal.result c.frame_event.result next.1 c.args.check signal.ensures.framed
-    (c.frame_event.ensures.value ∙ ap (λ (n : ℕ). frame_event n next.0 next.1) at')
-    (says.power_bits t traffic m heard [] told come st) check signal.ensures.message none)
-
-pub returns-clause-left : goal.returns-clause-left
-returns-clause-left c = λ t traffic m heard told at' check st.
-    let none : c.args.self.now.kept ≡ None = search rules in
-    let come = told_come c.args.self.now c.requires.due none in
-    let next = c.next_frame-frame.result in
-    let says = c.next_frame-frame.ensures in
-    let signal = c.hear_signal-self in
-    rw c.hear.ensures.value
-    (told_here st c.requires.sound come next.0 (says.frame t traffic m heard [] told come st)
-    c.frame_event.result next.1 signal.result c.args.check
     (c.frame_event.ensures.value ∙ ap (λ (n : ℕ). frame_event n next.0 next.1) at')
     (says.power_bits t traffic m heard [] told come st) check signal.ensures.message none)
