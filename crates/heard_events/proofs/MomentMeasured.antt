@@ -7,12 +7,11 @@ module _ (m : Mark) (heard : List Sample) (j place power : ℕ) (s began : Stand
     (began_is : began ≡ due_at (m.time + j) s)
     (strengths_are : strengths ≡ strengths_at m heard place began)
     (power_is : power ≡ power_at heard place) where
-  pub passed_is : (new : Standing) → new ≡ stepped strengths power (m.time + j) began →
-      new ≡ passed m heard j s
-  unfolding passed
-  passed_is new is = rw (is, strengths_are, power_is, began_is, place_is) refl
-
-  pub changed_is : (change : SetChange) →
-      change ≡ change_at strengths power (m.time + j) began → change ≡ changed m heard j s
-  unfolding changed
-  changed_is change is = rw (is, strengths_are, power_is, began_is, place_is) refl
+  pub moment_is : (new : Standing) → new ≡ stepped strengths power (m.time + j) began →
+      (change : SetChange) → change ≡ change_at strengths power (m.time + j) began →
+      (new ≡ passed m heard j s) × (change ≡ changed m heard j s)
+  unfolding passed changed
+  moment_is new new_is change change_is = (
+    rw (new_is, strengths_are, power_is, began_is, place_is) refl,
+    rw (change_is, strengths_are, power_is, began_is, place_is) refl,
+  )

@@ -170,10 +170,10 @@ impl SetsKeeper {
           passed = self.old.passed + 1;
           due = false;
         } }
-        ensures sets { (heard : List Sample) → HoldsLast ring.now heard →
-            self.new.sets ≡ passed self.old.mark heard (self.old.passed + 1) self.old.sets }
-        ensures event { (heard : List Sample) → HoldsLast ring.now heard →
-            listed result ≡ sets_events self.old.mark heard (self.old.passed + 1) self.old.sets }
+        ensures passes { (heard : List Sample) → HoldsLast ring.now heard →
+            (self.new.sets ≡ passed self.old.mark heard (self.old.passed + 1) self.old.sets)
+            × (listed result
+            ≡ sets_events self.old.mark heard (self.old.passed + 1) self.old.sets) }
         ensures ends { IfSome result (λ event. at_of event ≡ ring.now.taken) }
         ensures unset { list_any sets_mark (listed result) ≡ false }
         ensures sound { IsSoundKeeper self.new }

@@ -287,16 +287,14 @@ impl TrafficReceiver {
     fn next_frame(&self, decoder: &mut Decoder) -> (Decoded, PowerBits)
         requires sound { IsSoundTraffic self.now }
         requires room { decoder.old ≡ 576 }
-        ensures frame { (t : Tuning) (traffic : TheTraffic) (m : TheMark)
+        ensures says { (t : Tuning) (traffic : TheTraffic) (m : TheMark)
             (heard : List Sample) (pages : List TheEvent) (told : ℕ → Standing) →
             self.now.frames.clock.next < self.now.frames.clock.have →
-            HearsWith t traffic m self.now heard pages told → result.0
-            ≡ decoded_at t traffic m (legs_by traffic m told) heard self.now.frames.clock.next }
-        ensures power_bits { (t : Tuning) (traffic : TheTraffic) (m : TheMark)
-            (heard : List Sample) (pages : List TheEvent) (told : ℕ → Standing) →
-            self.now.frames.clock.next < self.now.frames.clock.have →
-            HearsWith t traffic m self.now heard pages told → result.1
-            ≡ power_bits_at t traffic m (legs_by traffic m told) heard self.now.frames.clock.next }
+            HearsWith t traffic m self.now heard pages told → (result.0
+            ≡ decoded_at t traffic m (legs_by traffic m told) heard self.now.frames.clock.next)
+            × (result.1
+            ≡ power_bits_at t traffic m (legs_by traffic m told) heard
+            self.now.frames.clock.next) }
         ensures long { length result.0.bits ≡ information_of result.0.rate }
         ensures kept { decoder.new ≡ decoder.old }
     {

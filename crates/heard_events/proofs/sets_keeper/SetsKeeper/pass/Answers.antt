@@ -1,33 +1,24 @@
 use Rattle.heard_events.proofs.Common.{◌≤◌, ◌+◌, ◌∙◌, ℤ, List, All, ap, sym, arith, subst, unsigned_abs, Standing, SetChange, changed}
 use Rattle.heard_events.proofs.Common.{moment_events}
 use Rattle.heard_events.proofs.ActiveLegs.{deltas_close, due_deltas}
-use Rattle.heard_events.proofs.MomentMeasured.{changed_is, passed_is}
+use Rattle.heard_events.proofs.MomentMeasured.{moment_is}
 use Rattle.heard_events.proofs.sets_keeper.SetsKeeper.pass.Goals as goal
 
-pub returns-clause-sets : goal.returns-clause-sets
-returns-clause-sets c = λ heard holds.
-    let k = c.args.self.now in
-    passed_is k.mark heard (k.passed + 1) c.taken-place.result c.power.result k.sets c.due.new.self
-    c.measure-strengths.result (c.taken-place.ensures.value ∙ c.requires.here) c.due.ensures.sets
-    (c.measure-strengths.ensures.value heard holds) (c.power.ensures.value heard holds)
-    c.step-change.new.self c.step-change.ensures.sets
-
-pub returns-clause-event : goal.returns-clause-event
-returns-clause-event c = λ heard holds.
+pub returns-clause-passes : goal.returns-clause-passes
+returns-clause-passes c = λ heard holds.
     let k = c.args.self.now in
     let j = k.passed + 1 in
-    let place = c.taken-place.ensures.value ∙ c.requires.here in
-    let strengths = c.measure-strengths.ensures.value heard holds in
-    let power = c.power.ensures.value heard holds in
-    let sets = passed_is k.mark heard j c.taken-place.result c.power.result k.sets c.due.new.self
-    c.measure-strengths.result place c.due.ensures.sets strengths power c.step-change.new.self
-    c.step-change.ensures.sets in
-    let change = changed_is k.mark heard j c.taken-place.result c.power.result k.sets
-    c.due.new.self c.measure-strengths.result place c.due.ensures.sets strengths power
-    c.step-change.result c.step-change.ensures.change in
-    c.sets_event.ensures.value
-    ∙ ap (λ (x : SetChange). moment_events k.mark j x c.step-change.new.self) change
-    ∙ ap (moment_events k.mark j (changed k.mark heard j k.sets)) sets
+    let sets = c.step-change.new.self in
+    let step = c.step-change.ensures in
+    let is = moment_is k.mark heard j c.taken-place.result c.power.result k.sets c.due.new.self
+    c.measure-strengths.result (c.taken-place.ensures.value ∙ c.requires.here) c.due.ensures.sets
+    (c.measure-strengths.ensures.value heard holds) (c.power.ensures.value heard holds) sets
+    step.sets c.step-change.result step.change in (
+      is.0,
+      c.sets_event.ensures.value
+          ∙ ap (λ (x : SetChange). moment_events k.mark j x sets) is.1
+          ∙ ap (moment_events k.mark j (changed k.mark heard j k.sets)) is.0,
+    )
 
 pub returns-clause-sound : goal.returns-clause-sound
 returns-clause-sound c =

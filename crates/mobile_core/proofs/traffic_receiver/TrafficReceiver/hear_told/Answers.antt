@@ -7,10 +7,10 @@ returns-clause-hears c = λ t traffic m heard told at' check st.
     let none : c.args.self.now.kept ≡ None = search rules in
     let come = told_come c.args.self.now c.requires.due none in
     let next = c.next_frame-frame.result in
-    let says = c.next_frame-frame.ensures in
+    let says = c.next_frame-frame.ensures.says t traffic m heard [] told come st in
     let signal = c.hear_signal-self in
     rw c.hear.ensures.value
-    (hears_heard st c.requires.sound come next.0 (says.frame t traffic m heard [] told come st)
-    signal.new.framer signal.result c.frame_event.result next.1 c.args.check signal.ensures.framed
-    (c.frame_event.ensures.value ∙ ap (λ (n : ℕ). frame_event n next.0 next.1) at')
-    (says.power_bits t traffic m heard [] told come st) check signal.ensures.message none)
+    (hears_heard st c.requires.sound come next.0 says.0 signal.new.framer signal.result
+    c.frame_event.result next.1 c.args.check signal.ensures.framed
+    (c.frame_event.ensures.value ∙ ap (λ (n : ℕ). frame_event n next.0 next.1) at') says.1
+    check signal.ensures.message none)
