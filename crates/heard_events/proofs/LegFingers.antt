@@ -89,11 +89,6 @@ all_rows phase deltas (leg ∷ legs) h =
     one rest
 
 -- ONE MORE
-pub close_more : (fingers : List Finger) (f : Finger) → all_close fingers ≡ true →
-    is_close f ≡ true → all_close (fingers ++ f ∷ []) ≡ true
-close_more fingers f h one =
-    list_all-append is_close fingers (f ∷ [])
-    ∙ and_from (all_close fingers) (all_close (f ∷ [])) h (and_from (is_close f) true one refl)
 
 pub leg_more : (phase : ℕ) (deltas : List ℤ) (legs : List Leg) (i : ℕ) (leg : Leg) →
     slice_get legs i ≡ Some leg →

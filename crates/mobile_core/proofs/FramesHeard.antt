@@ -5,7 +5,7 @@ use Rattle.mobile_core.proofs.Common.{cases_order, take_all, places, Sample, pow
 use Rattle.mobile_core.proofs.Common.{after-after, Standing, StandsFor, softs, Finger, Data, power_places, scrambling, sums_on, all_fingers}
 use Rattle.mobile_core.proofs.Common.{legs_of, subchannels, heard_from, legs_by, moment_of, moment_place, told_by, all_noted, page_event}
 use Rattle.mobile_core.proofs.Common.{pages_behind, unscrambled, message_events, frame_end, all_sums, power_bits_at, decoded_at, raw_softs}
-use Rattle.mobile_core.proofs.Common.{HasTold, HearsWith, IsSoundTraffic, IsTrafficDue, kept_by, told_left_with, chips_behind, frame_known}
+use Rattle.mobile_core.proofs.Common.{HasTold, HearsWith, IsSoundTraffic, IsTrafficDue, told_left_with, chips_behind, frame_known}
 use Rattle.mobile_core.proofs.Common.{frame_state, has_frame, replaced_in, traffic_start, Tuning, Event, Leg, frame_chips, Mark, SetsKeeper}
 use Rattle.mobile_core.proofs.Common.{Traffic, SpelledSignal, TrafficReceiver, flat_map}
 use Rattle.mobile_core.specs.TrafficReceiving.{frame_taken, tuned_to}
@@ -28,11 +28,6 @@ state_on traffic m state k is =
     ap (λ (n : ℕ). after n (24576 * k)) is
     ∙ after-after m.state (chips_behind traffic 0) (24576 * k)
     ∙ ap (after m.state) sum
-
--- at most one message is kept
-pub kept_most : (kept : Option SpelledSignal) → kept_by kept ≤ 1
-kept_most None = omega arith
-kept_most (Some message) = omega arith
 
 -- where nothing is there to tell no message is kept
 pub untold_kept : (r : TrafficReceiver) → ¬ HasTold r → r.kept ≡ None
@@ -427,28 +422,6 @@ module _ {t : Tuning} {traffic : Traffic} {m : Mark} {r : TrafficReceiver} {hear
       subst (λ (x : TrafficReceiver). HearsWith t traffic m x heard pages kept) (sym shape)
       (hears_come r1.softs r1.power r2.frames.clock.end r2.frames.fingers r2.legs idle ended softs
       power told)
-
-  -- a moment has come
-  pub hears_due : (due : Bool) → (due ≡ true → length heard ≡ moment_place m (r.sets.passed + 1)) →
-      HearsWith t traffic m (record r { sets = record r.sets { due = due } }) heard pages kept
-  hears_due due due_is = record {
-    tuned = st.tuned;
-    start_is = st.start_is;
-    close = st.close;
-    legs_are = st.legs_are;
-    within = st.within;
-    pilots_are = st.pilots_are;
-    begun = st.begun;
-    behind = st.behind;
-    coming = st.coming;
-    due_is = due_is;
-    ended = st.ended;
-    known = st.known;
-    softs_are = st.softs_are;
-    power_is = st.power_is;
-    framed = st.framed;
-    sets_are = st.sets_are;
-  }
 
   -- a frame that is due lies in the file
   pub due_inside : r.frames.clock.next < r.frames.clock.have →

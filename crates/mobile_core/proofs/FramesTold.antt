@@ -108,38 +108,6 @@ module _ {t : Tuning} {traffic : Traffic} {m : Mark} {heard : List Sample} {kept
         }
 
     -- THE MESSAGE THAT IS KEPT
-    -- its event is the first of those left
-    pub hears_given : {r : TrafficReceiver} (event : Event) (message : SpelledSignal) →
-        HearsWith t traffic m r heard [] kept → r.kept ≡ Some message →
-        event ∷ [] ≡ message_events (length heard) (Some message) →
-        HearsWith t traffic m (record r { kept = None }) heard (event ∷ []) kept
-        × (event ∷ told_left_with t traffic m heard (record r { kept = None }) kept
-        ≡ told_left_with t traffic m heard r kept)
-    hears_given {r} event message st is event_is =
-        let rest = told_left t traffic m (legs_by traffic m kept) heard r.frames.clock.next in
-        let left : told_left_with t traffic m heard r kept ≡ event ∷ rest =
-        ap (λ (k : Option SpelledSignal). message_events (length heard) k ++ rest) is
-        ∙ ap (λ (es : List Event). es ++ rest) (sym event_is) in (
-          record {
-            tuned = st.tuned;
-            start_is = st.start_is;
-            close = st.close;
-            legs_are = st.legs_are;
-            pilots_are = st.pilots_are;
-            within = st.within;
-            begun = st.begun;
-            behind = λ e others same some. st.behind event rest left some;
-            coming = st.coming;
-            due_is = st.due_is;
-            ended = st.ended;
-            known = st.known;
-            softs_are = st.softs_are;
-            power_is = st.power_is;
-            framed = st.framed;
-            sets_are = ap (λ (es : List Event). all_noted m es r.sets.sets) (sym left) ∙ st.sets_are;
-          },
-          sym left,
-        )
 
     -- THE FRAME THAT IS DUE
     -- It was heard so, and its event is this one; the framer has taken its signaling, and gives the

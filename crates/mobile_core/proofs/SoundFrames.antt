@@ -1,34 +1,16 @@
 -- What always holds of the receiver of a traffic channel, as it goes on.
-use Rattle.mobile_core.proofs.Common.{◌≡◌, ℕ, ◌+◌, ◌*◌, ◌^◌, ◌<◌, ◌≤◌, true, List, Bool, length, take, ℤ, sym, ap, ◌∙◌, arith, Option, None}
-use Rattle.mobile_core.proofs.Common.{subst, false, Held, sum_by, unsigned_abs, if◌then◌else◌, PowerSofts, Finger, Data, Sample, Standing}
-use Rattle.mobile_core.proofs.Common.{AreClose, legs_close, paths_close, all_fingers, legs_of, moment_place, IsSoundKeeper}
-use Rattle.mobile_core.proofs.Common.{coming_place, frame_end, HearsWith, IsSoundTraffic, Tuning, Event, Leg, Mark, SetsKeeper, Traffic}
-use Rattle.mobile_core.proofs.Common.{SpelledSignal, TrafficReceiver, All, IsInRing, frame_chips, frame_heard}
+use Rattle.mobile_core.proofs.Common.{◌≡◌, ℕ, ◌+◌, ◌*◌, ◌^◌, ◌<◌, ◌≤◌, true, List, length, ℤ, ap, ◌∙◌, arith}
+use Rattle.mobile_core.proofs.Common.{subst, false, Held, sum_by, unsigned_abs, PowerSofts, Finger, Data, Sample, Standing}
+use Rattle.mobile_core.proofs.Common.{AreClose, legs_close, paths_close, all_fingers, legs_of}
+use Rattle.mobile_core.proofs.Common.{frame_end, HearsWith, IsSoundTraffic, Tuning, Event, Mark, SetsKeeper, Traffic}
+use Rattle.mobile_core.proofs.Common.{TrafficReceiver, All, IsInRing, frame_chips}
 use Rattle.heard_events.specs.LegSofts.{IsHeldFrom}
-use Rattle.mobile_core.specs.TrafficReceiving.{HasSoundLegs, frame_taken, tuned_to}
+use Rattle.mobile_core.specs.TrafficReceiving.{frame_taken}
 use Rattle.reception.specs.Sound.{IsSoundReceiver}
 use Rattle.rake_finger.proofs.CloseFingers.{begun_in_ring, close_ends}
 use Rattle.heard_events.proofs.LegFingers.{all_some, legs_are_close}
 
 module _ {r : TrafficReceiver} (is : IsSoundTraffic r) where
-  -- other pilots, with the end of their frame
-  pub sound_tuned : (legs : List Leg) (end : ℕ) (fingers : List Finger) → HasSoundLegs legs →
-      fingers ≡ all_fingers r.phase (take r.near.count r.near.deltas) legs →
-      IsSoundReceiver (tuned_to legs end fingers r).frames →
-      IsSoundTraffic (tuned_to legs end fingers r)
-  sound_tuned legs end fingers sound fingers_are frames = record {
-    set = is.set;
-    keeper = is.keeper;
-    frames = frames;
-    fingers_are = fingers_are;
-    have_most = is.have_most;
-    start_least = is.start_least;
-    start_most = is.start_most;
-    legs = sound;
-    small = is.small;
-    subchannels = is.subchannels;
-  }
-
   -- the samples of its fingers are in the ring when the frame has just ended
   pub legs_held : (ring : Held) → ring.room ≡ 65536 → ring.taken ≡ r.frames.clock.end →
       IsHeldFrom ring r.legs r.phase r.near r.frames.clock.start
@@ -70,64 +52,6 @@ module _ {r : TrafficReceiver} (is : IsSoundTraffic r) where
         subchannels = few;
       }
 
-  -- the frame that is due has been heard
-  pub sound_heard : (framer : Option (List Bool)) (kept : Option SpelledSignal) →
-      IsSoundReceiver (record r.frames { clock = frame_heard r.frames.clock }) →
-      IsSoundTraffic
-      (record r {
-        frames = record r.frames { clock = frame_heard r.frames.clock };
-        framer = framer;
-        kept = kept;
-      })
-  sound_heard framer kept frames =
-      let most = is.have_most in
-      record {
-        set = is.set;
-        keeper = is.keeper;
-        frames = frames;
-        fingers_are = is.fingers_are;
-        have_most = omega (arith, most);
-        start_least = is.start_least;
-        start_most = is.start_most;
-        legs = is.legs;
-        small = is.small;
-        subchannels = is.subchannels;
-      }
-
-  -- the message that was kept has been given
-  pub sound_given : IsSoundTraffic (record r { kept = None })
-  sound_given = record {
-    set = is.set;
-    keeper = is.keeper;
-    frames = is.frames;
-    fingers_are = is.fingers_are;
-    have_most = is.have_most;
-    start_least = is.start_least;
-    start_most = is.start_most;
-    legs = is.legs;
-    small = is.small;
-    subchannels = is.subchannels;
-  }
-
-  -- the sets have changed
-  pub sound_sets : (sets : SetsKeeper) → IsSoundKeeper sets → sets.mark ≡ r.sets.mark →
-      IsSoundTraffic (record r { sets = sets })
-  sound_sets sets sound same =
-      let place = ap (λ (m : Mark). m.sample) same in
-      let least = is.start_least in
-      record {
-        set = is.set;
-        keeper = sound;
-        frames = is.frames;
-        fingers_are = is.fingers_are;
-        have_most = is.have_most;
-        start_least = omega (arith, place, least);
-        start_most = is.start_most;
-        legs = is.legs;
-        small = is.small;
-        subchannels = is.subchannels;
-      }
-
 -- other pilots' frame ends behind a place near its first sample
 pub waits_tuned : (start end n : ℕ) (fingers : List Finger) → AreClose fingers →
     end ≡ frame_end fingers Data start → n ≤ start + 226 → n < end
@@ -156,11 +80,3 @@ passed_close {t} {traffic} {m} {r} {heard} {pages} {kept} st is k k_is some clos
           (subst (λ (ds : List ℤ). 1 ≤ length ds) st.tuned.deltas_are is.set.path_some);
       close = legs_are_close t.phase t.deltas (legs_of m k.sets) paths close';
     }
-
--- a moment that has just come lies here
-pub came_here : (k k' : SetsKeeper) (n : ℕ) → k.due ≡ false → k' ≡ record k { due = k'.due } →
-    n ≡ coming_place k → n ≡ moment_place k'.mark (k'.passed + 1)
-came_here k k' n idle same here =
-    here
-    ∙ ap (λ (b : Bool). moment_place k.mark (k.passed + (if b then 2 else 1))) idle
-    ∙ sym (ap (λ (x : SetsKeeper). moment_place x.mark (x.passed + 1)) same)
