@@ -7,11 +7,13 @@ use Rattle.std.proofs.Math.Nat.{pow-le-pow_right, pow-suc}
 use Rattle.std.specs.Char.{is_ascii_digit}
 use Rattle.chip_core.specs.Decimals.{digits_from}
 
-digits_from-digit : (number digit : ℕ) (digits : List ℕ) → is_ascii_digit digit ≡ true → digits_from number (digit ∷ digits) ≡ digits_from (10 * number + (digit - 48)) digits
+digits_from-digit : (number digit : ℕ) (digits : List ℕ) → is_ascii_digit digit ≡ true →
+    digits_from number (digit ∷ digits) ≡ digits_from (10 * number + (digit - 48)) digits
 unfolding digits_from
 digits_from-digit number digit digits is = cond-true _ _ _ is
 
-digits_from-other : (number digit : ℕ) (digits : List ℕ) → is_ascii_digit digit ≡ false → digits_from number (digit ∷ digits) ≡ None
+digits_from-other : (number digit : ℕ) (digits : List ℕ) → is_ascii_digit digit ≡ false →
+    digits_from number (digit ∷ digits) ≡ None
 unfolding digits_from
 digits_from-other number digit digits is = cond-false _ _ _ is
 

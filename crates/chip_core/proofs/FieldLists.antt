@@ -1,10 +1,9 @@
 -- Lemmas on fields and the bits that spell them.
-use Rattle.std.proofs.Common.{◌≡◌, ℕ, zero, suc, ◌+◌, ◌/◌, ◌%◌, ◌^◌, ◌<◌, ◌≤◌, Bool, List, [], ◌∷◌, ◌++◌, length, get_or, take, drop, map}
+use Rattle.std.proofs.Common.{◌≡◌, ℕ, zero, suc, ◌+◌, ◌/◌, ◌%◌, ◌^◌, ◌<◌, ◌≤◌, Bool, List, [], ◌∷◌, ◌++◌, length, get_or, take, drop}
 use Rattle.std.proofs.Common.{refl, sym, ap, ◌∙◌, arith, nat_eq, append_assoc, length-append, slice_get, Some}
-use Rattle.std.proofs.lemmas.List.{take_more, length-drop, get_or-drop, take-append-drop, append-nil, take_at, drop_at}
+use Rattle.std.proofs.lemmas.List.{take_more, length-drop, get_or-drop, take-append-drop, append-nil}
 use Rattle.std.proofs.lemmas.Option.{get_or_from_slice_get, slice_get-get_or, slice_get_within}
-use Rattle.chip_core.specs.Bits.{number, binary}
-use Rattle.chip_core.proofs.Digits.{number-binary}
+use Rattle.chip_core.specs.Bits.{binary}
 use Rattle.chip_core.specs.Fields.{spelled, FieldsFit, HaveWidths}
 use Rattle.chip_core.specs.declared.field.Field.{Field}
 
@@ -73,41 +72,3 @@ slice_get-drop from bits i bit read =
     let here : get_or (drop from bits) i bit ≡ bit = get_or-drop from bits i bit ∙
     get_or_from_slice_get bits (from + i) bit bit read in
     slice_get-get_or (drop from bits) i bit inside ∙ ap Some here
-
-same_field : (f g : Field) → f.width ≡ g.width → f.value ≡ g.value → f ≡ g
-same_field f g width value = rw (width, value) refl
-
-cons_same : (f g : Field) (fs gs : List Field) → f ≡ g → fs ≡ gs → f ∷ fs ≡ g ∷ gs
-cons_same f g fs gs e h = cc
-
--- fields of the same widths that spell the same bits are the same, and so is what follows
-pub spelled_injective : (w : List ℕ) (fs gs : List Field) (xs ys : List Bool) →
-    map (λ (f : Field). f.width) fs ≡ w → map (λ (f : Field). f.width) gs ≡ w →
-    FieldsFit fs → FieldsFit gs → spelled fs ++ xs ≡ spelled gs ++ ys → (fs ≡ gs) × (xs ≡ ys)
-spelled_injective w [] [] xs ys a b p q same = (refl, same)
-spelled_injective w [] (g ∷ gs) xs ys a b p q same = absurd (cc)
-spelled_injective w (f ∷ fs) [] xs ys a b p q same = absurd (cc)
-spelled_injective [] (f ∷ fs) (g ∷ gs) xs ys a b p q same = absurd (cc)
-spelled_injective (k ∷ w) (f ∷ fs) (g ∷ gs) xs ys a b p q same =
-    let fw : f.width ≡ k = cc in
-    let gw : g.width ≡ k = cc in
-    let fr : map (λ (h : Field). h.width) fs ≡ w = cc in
-    let gr : map (λ (h : Field). h.width) gs ≡ w = cc in
-    let flong : length (binary f.width f.value) ≡ k = length-binary f.width f.value ∙ fw in
-    let glong : length (binary g.width g.value) ≡ k = length-binary g.width g.value ∙ gw in
-    let regrouped : binary f.width f.value ++ (spelled fs ++ xs) ≡
-    binary g.width g.value ++ (spelled gs ++ ys) =
-    sym (append_assoc (binary f.width f.value) (spelled fs) xs) ∙ same ∙
-    append_assoc (binary g.width g.value) (spelled gs) ys in
-    let heads : binary f.width f.value ≡ binary g.width g.value =
-    sym (take_at (binary f.width f.value) (spelled fs ++ xs) k flong) ∙ ap (take k) regrouped ∙
-    take_at (binary g.width g.value) (spelled gs ++ ys) k glong in
-    let tails : spelled fs ++ xs ≡ spelled gs ++ ys =
-    sym (drop_at (binary f.width f.value) (spelled fs ++ xs) k flong) ∙ ap (drop k) regrouped ∙
-    drop_at (binary g.width g.value) (spelled gs ++ ys) k glong in
-    let value : f.value ≡ g.value = sym (number-binary f.width f.value p.0) ∙ ap number heads ∙
-    number-binary g.width g.value q.0 in
-    let width : f.width ≡ g.width = fw ∙ sym gw in
-    let first : f ≡ g = same_field f g width value in
-    let rest = spelled_injective w fs gs xs ys fr gr p.1 q.1 tails in
-    (cons_same f g fs gs first rest.0, rest.1)

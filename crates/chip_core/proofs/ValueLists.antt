@@ -1,5 +1,5 @@
 -- Lists of numbers in fields of given widths, spelled and read again.
-use Rattle.std.proofs.Common.{◌≡◌, ℕ, zero, suc, ◌+◌, ◌*◌, ◌^◌, ◌<◌, ◌≤◌, Bool, List, [], ◌∷◌, ◌++◌, length, get_or, take, drop, set, refl}
+use Rattle.std.proofs.Common.{◌≡◌, ℕ, zero, suc, ◌+◌, ◌*◌, ◌^◌, ◌<◌, ◌≤◌, Bool, List, [], ◌∷◌, ◌++◌, length, get_or, take, drop, refl}
 use Rattle.std.proofs.Common.{sym, ap, subst, ◌∙◌, arith, append_assoc, length-append}
 use Rattle.std.proofs.lemmas.List.{append-nil, drop-drop, drop_at, length-drop, length-take-le, take_at}
 use Rattle.chip_core.specs.Bits.{number, binary}
@@ -166,14 +166,6 @@ values_more (w ∷ ws) (suc i) bits h =
     rw e (ap (λ (vs : List ℕ). number_at 0 w bits ∷ vs)
     (values_more ws i (drop w bits) (omega (arith, h))
     ∙ ap (λ (r : List Bool). values_at (take i ws) (drop w bits) ++ number (take v r) ∷ []) place))
-
-pub taken_set : (vs : List ℕ) (i v : ℕ) → i < length vs → take (i + 1) (set vs i v)
-    ≡ take i vs ++ v ∷ []
-taken_set [] i v h = absurd (omega (arith, h))
-taken_set (x ∷ vs) zero v h = refl
-taken_set (x ∷ vs) (suc i) v h =
-    let e : suc i + 1 ≡ suc (i + 1) = omega arith in
-    rw e (ap (λ (us : List ℕ). x ∷ us) (taken_set vs i v (omega (arith, h))))
 
 -- one more number of a column
 pub column_more : (size place width n : ℕ) (bits : List Bool) →

@@ -1,7 +1,7 @@
 -- The frames of a channel behind the mark, before they are decoded.
-use Rattle.heard_events.proofs.Common.{◌≡◌, ℕ, ◌+◌, ◌*◌, ◌<◌, ◌≤◌, Bool, true, false, List, [], ◌∷◌, ◌++◌, map, filter, length, refl, ap}
-use Rattle.heard_events.proofs.Common.{arith, ℤ, Some, None, subst, places, Sample, frame_chips, Form, Data, power_bit, group_sums}
-use Rattle.heard_events.proofs.Common.{power_places, scrambling, channel_stream, has_power_control, mask_of, offset_of, row_of, state_at}
+use Rattle.heard_events.proofs.Common.{◌≡◌, ℕ, ◌+◌, ◌*◌, ◌<◌, ◌≤◌, true, false, List, ◌++◌, filter, length, refl, ap}
+use Rattle.heard_events.proofs.Common.{arith, ℤ, subst, places, Sample, frame_chips, Form, Data}
+use Rattle.heard_events.proofs.Common.{scrambling, channel_stream, mask_of, offset_of, row_of, state_at}
 use Rattle.heard_events.proofs.Common.{paging_bound, unscrambled, frames_within, power_of, soft_frame, Stream, frame_end, frame_start}
 use Rattle.heard_events.proofs.Common.{is_in_file, known_at, known_by, IsTimed, stream_end, Tuning, fingers_of, Channel, Paging, Mark}
 use Rattle.heard_events.proofs.Common.{SoftFrame, AgreeIn}
@@ -58,23 +58,6 @@ module _ {count low : ℕ} (s : Stream) (timed : IsTimed count s low) (form : s.
       subst (λ (f : Form). frame_chips f * (k + 1) ≤ stream_end s k) form (timed.early k) in
       omega (arith, early, ends)))
       n next before behind
-
--- POWER CONTROL BITS
--- a paging channel has none
-pub no_power : (channel : Channel) (m : Mark) (k : ℕ) (softs' : List ℤ) →
-    has_power_control channel ≡ false → None ≡ power_of channel m k softs'
-no_power (Paging number) m k softs' none = refl
-no_power (Traffic traffic) m k softs' none = absurd (cc)
-
--- a traffic channel's are those of one subchannel
-pub some_power : (channel : Channel) (m : Mark) (k : ℕ) (softs' : List ℤ) (replaced : List ℕ)
-    (power_bits : List Bool) → has_power_control channel ≡ true →
-    replaced ≡ power_places (state_at channel m k) (mask_of channel m) →
-    power_bits ≡ map (power_bit (group_sums replaced softs' ∷ [])) (places 16) →
-    Some (record { replaced = replaced; power_bits = power_bits }) ≡ power_of channel m k softs'
-some_power (Paging number) m k softs' replaced power_bits some replaced_is power_bits_are = absurd (cc)
-some_power (Traffic traffic) m k softs' replaced power_bits some replaced_is power_bits_are =
-    rw (power_bits_are, replaced_is) refl
 
 -- WHAT IS RECEIVED OF A FRAME
 module _ (t : Tuning) (channel : Channel) (m : Mark) where

@@ -1,7 +1,7 @@
 -- Lists of fingers, gone over one by one.
 use Rattle.reception.proofs.Common.{◌≡◌, ℕ, zero, suc, ◌+◌, ◌<◌, true, ◌&&◌, List, [], ◌∷◌, ◌++◌, length, take, drop, refl, sym, ap, ◌∙◌}
-use Rattle.reception.proofs.Common.{arith, ℤ, pos, Some, slice_get, slice_index_or, nat_lt, All, max, get_or, int_le, and_parts, and_from}
-use Rattle.reception.proofs.Common.{ltb-true, lt-ltb, at_drop_more, take_more, map-append, list_all-append, list_any-append}
+use Rattle.reception.proofs.Common.{ℤ, pos, Some, slice_get, nat_lt, max, get_or, int_le, and_parts, and_from}
+use Rattle.reception.proofs.Common.{lt-ltb, at_drop_more, take_more, map-append, list_all-append, list_any-append}
 use Rattle.reception.proofs.Common.{get_or_from_slice_get, slice_get_within, Finger, Form, is_near, all_near, has_reference, have_rows}
 use Rattle.reception.proofs.Common.{all_begun, frame_end, finger_end, finger_of, fingers_of}
 
@@ -60,15 +60,3 @@ pub rows_more : (fingers : List Finger) (f : Finger) → have_rows fingers ≡ t
 rows_more fingers f h row =
     let here : nat_lt f.row 64 ≡ true = lt-ltb f.row 64 row in
     list_all-append _ fingers (f ∷ []) ∙ rw (h, here) refl
-
-pub rows_all : (fingers : List Finger) → have_rows fingers ≡ true →
-    All (λ (f : Finger). f.row < 64) fingers
-rows_all fingers h = λ k d less. row_at fingers k d h less
-  where
-    row_at : (fs : List Finger) (k : ℕ) (d : Finger) → have_rows fs ≡ true → k < length fs →
-        (slice_index_or fs k d).row < 64
-    row_at [] k d h less = absurd (omega arith)
-    row_at (f ∷ fs) zero d h less =
-        ltb-true f.row 64 (and_parts (nat_lt f.row 64) (have_rows fs) h).0
-    row_at (f ∷ fs) (suc k) d h less =
-        row_at fs k d (and_parts (nat_lt f.row 64) (have_rows fs) h).1 (omega arith)
