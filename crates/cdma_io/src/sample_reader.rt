@@ -109,14 +109,14 @@ impl SampleReader {
         ensures kept { IfSome self.old.fault (λ e. result ≡ Err e) }
         ensures untouched { IsSome self.old.fault → source.new ≡ source.old }
         ensures fault { IfErr result (λ e. IsNone self.old.fault →
-            CutsShort e (sample_len (width_of self.old.header) * min (length out.old) self.old.left) (next_place self.old)
-            (S.rest source.old) (S.rest source.new)) }
+            CutsShort e (sample_len (width_of self.old.header) * min (length out.old) self.old.left)
+            (next_place self.old) (S.rest source.old) (S.rest source.new)) }
         ensures taken { ConsumesAtMost (sample_len (width_of self.old.header) * min (length out.old)
             self.old.left)
             (S.rest source.old) (S.rest source.new) }
         ensures fewer { OnErr result (IsNone self.old.fault →
-            ConsumesFewer (sample_len (width_of self.old.header) * min (length out.old) self.old.left)
-            (S.rest source.old) (S.rest source.new)) }
+            ConsumesFewer (sample_len (width_of self.old.header) * min (length out.old)
+            self.old.left) (S.rest source.old) (S.rest source.new)) }
 
         ensures later { S.faults source.old ≤ S.faults source.new }
         ensures cause { IsNone self.old.fault → result ≡ Err FileFault.ReadFault →
@@ -155,7 +155,8 @@ impl SampleReader {
         ensures kept { IfSome self.old.fault (λ e. result ≡ Err e) }
         ensures untouched { IsSome self.old.fault → source.new ≡ source.old }
         ensures fault { IfErr result (λ e. IsNone self.old.fault →
-            RunsOn e (16 + sample_len (width_of self.old.header) * self.old.header.count) (S.rest source.old)) }
+            RunsOn e (16 + sample_len (width_of self.old.header) * self.old.header.count)
+            (S.rest source.old)) }
         ensures taken { ConsumesAtMost 1 (S.rest source.old) (S.rest source.new) }
 
         ensures later { S.faults source.old ≤ S.faults source.new }

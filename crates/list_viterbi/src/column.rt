@@ -37,7 +37,10 @@ impl Model for Column {
 
     ghost Value = { ColumnValue };
 
-    ghost view = { λ r. record { k = r.k; scores = if r.is_by_place then column_of r.ranks.items else r.states.items } };
+    ghost view = { λ r. record {
+      k = r.k;
+      scores = if r.is_by_place then column_of r.ranks.items else r.states.items;
+    } };
 
     ghost invariant = { λ r. (vec_len r.states ≡ 256) × (vec_len r.next_states ≡ 256)
         × (vec_len r.ranks ≡ 1024) × (vec_len r.next_ranks ≡ 1024) × (r.k ≤ 16)

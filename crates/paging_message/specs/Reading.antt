@@ -1,7 +1,7 @@
 -- The message that a body or a capsule spells, as a function of its bits: each field is the number
 -- that stands at its place.
-use Rattle.std.specs.Prelude.{ℕ, ◌-◌, ◌%◌, ◌==◌, ◌&&◌, if◌then◌else◌, Bool, List, length, take, drop}
-use Rattle.std.specs.Prelude.{nat_le, Option, Some, None}
+use Rattle.std.specs.Prelude.{ℕ, ◌-◌, ◌%◌, ◌==◌, ◌&&◌, if◌then◌else◌, Bool, List, length, take}
+use Rattle.std.specs.Prelude.{drop, nat_le, Option, Some, None}
 pub use Rattle.chip_core.specs.Readings.{number_at}
 use Rattle.chip_core.specs.declared.check_form.CheckForm.{CheckForm}
 use Rattle.message_layout.specs.Plain.{list_said}
@@ -30,4 +30,5 @@ body_reading body = if is_body body then Some
 -- the message whose capsule the list is
 unfoldable pub paging_reading : CheckForm → List Bool → Option PagingMessage
 paging_reading form capsule =
-    if_spelled (paging_capsule form) capsule (body_reading (take (length capsule - 38) (drop 8 capsule)))
+    if_spelled (paging_capsule form) capsule
+    (body_reading (take (length capsule - 38) (drop 8 capsule)))

@@ -31,7 +31,9 @@ pub struct ChannelList {
 
 impl Model for ChannelList {
     ghost use Rattle.paging_message.specs.Channels.{IsChannelList};
-    ghost use Rattle.paging_message.specs.declared.fields.ChannelFields.{ChannelFields as TheFields};
+    ghost use Rattle.paging_message.specs.declared.fields.ChannelFields.{
+      ChannelFields as TheFields,
+    };
 
     ghost Value = { TheFields };
 

@@ -34,7 +34,9 @@ impl PagingMessage {
     ghost use Rattle.paging_message.specs.Layouts.{contents_of, kind_of, message_from};
     ghost use Rattle.paging_message.specs.Messages.{message_body, paging_capsule, IsPagingMessage};
     ghost use Rattle.paging_message.specs.Reading.{body_reading, paging_reading, reading_of};
-    ghost use Rattle.paging_message.specs.declared.message.PagingMessage.{PagingMessage as TheMessage};
+    ghost use Rattle.paging_message.specs.declared.message.PagingMessage.{
+      PagingMessage as TheMessage,
+    };
 
     /// The message that a body spells; `None` exactly where no message has this body.
     pub fn from_body(body: &Bits) -> Option<PagingMessage>

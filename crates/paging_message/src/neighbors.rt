@@ -31,7 +31,9 @@ pub struct NeighborList {
 
 impl Model for NeighborList {
     ghost use Rattle.paging_message.specs.Neighbors.{IsNeighborList};
-    ghost use Rattle.paging_message.specs.declared.fields.NeighborFields.{NeighborFields as TheFields};
+    ghost use Rattle.paging_message.specs.declared.fields.NeighborFields.{
+      NeighborFields as TheFields,
+    };
 
     ghost Value = { TheFields };
 

@@ -58,8 +58,8 @@ unfolding shortest sync_reading body_reading sync_of reading fields_at group_at 
 shortest_read = refl
 
 with_freq_read : sync_reading Plain (sync_capsule Plain with_freq) ≡ Some with_freq
-unfolding with_freq shortest sync_reading body_reading sync_of reading fields_at group_at presence_at
-    octets_at records_at number_part part_at sync_capsule sync_body capsule binary
+unfolding with_freq shortest sync_reading body_reading sync_of reading fields_at group_at
+    presence_at octets_at records_at number_part part_at sync_capsule sync_body capsule binary
     check_bits places
 with_freq_read = refl
 

@@ -5,8 +5,8 @@ ghost use Rattle.sync_message.specs.Rows.{sync_names, sync_widths};
 
 use message_layout::{FieldRow, field_rows, name_in, width_in};
 
-/// Hands a macro the fields that each Sync Channel Message has, in the order in which they are sent:
-/// of each its place, its name and its number of bits.
+/// Hands a macro the fields that each Sync Channel Message has, in the order in which they are
+/// sent: of each its place, its name and its number of bits.
 macro_rules! sync_fields {
     ($made:ident $(, $($with:tt)+)?) => {
         $made! {
