@@ -15,7 +15,7 @@ use byteorder::{BigEndian, ByteOrder};
 use chip_core::{Sample, Width};
 
 /// The most samples that are read at once.
-const PIECE: usize = 1024;
+const MOST_AT_ONCE: usize = 1024;
 
 /// The sample that four bytes spell.
 fn parse_wide(bytes: &[u8]) -> Sample
@@ -55,7 +55,7 @@ fn parse_sample(width: Width, bytes: &[u8]) -> Sample
 
 /// The samples that the bytes spell.
 fn parse_samples(width: Width, bytes: &[u8], out: &mut [Sample])
-    requires few { length out.old ≤ PIECE }
+    requires few { length out.old ≤ MOST_AT_ONCE }
     requires bytes { length bytes.now ≡ sample_len width * length out.old }
     ensures spelled { bytes.now ≡ flat_map (sample_spelling width) out.new }
     ensures in_range { All (HasBits width) out.new }
@@ -74,7 +74,7 @@ fn read_piece<S: Source>(
     place: u64,
     out: &mut [Sample],
 ) -> Result<(), FileFault>
-    requires few { length out.old ≤ PIECE }
+    requires few { length out.old ≤ MOST_AT_ONCE }
     requires place_fits { place + 4 * length out.old < 2 ^ 64 }
     ensures spelled { OnOk result (Consumes (S.rest source.old) (S.rest source.new)
         (flat_map (sample_spelling width) out.new)) }
@@ -89,7 +89,7 @@ fn read_piece<S: Source>(
     ensures cause { result ≡ Err FileFault.ReadFault →
         Rose (S.faults source.old) (S.faults source.new) }
 {
-    let mut bytes = [0; 4 * PIECE];
+    let mut bytes = [0; 4 * MOST_AT_ONCE];
     let wanted = bytes_for(width, out.len() as u64) as usize;
     let count = fill(source, &mut bytes[..wanted])?;
     if count < wanted {
@@ -124,7 +124,7 @@ pub fn read_samples<S: Source>(
 {
     let mut done = 0;
     while done < out.len() {
-        let count = PIECE.min(out.len() - done);
+        let count = MOST_AT_ONCE.min(out.len() - done);
         let from = place + bytes_for(width, done as u64);
         read_piece(source, width, from, &mut out[done..done + count])?;
         done += count;

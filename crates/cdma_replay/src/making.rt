@@ -13,6 +13,7 @@ ghost use Rattle.cdma_replay.specs.TaskRuns.{MakesFile};
 mod writing;
 
 use crate::status::Status;
+use crate::workspace::PIECE;
 use base_modulator::{Cell, ScriptFault};
 use cdma_io::{Failed, Sink, Source, Width, fill};
 use chip_core::{OutOfMemory, Sample};
@@ -21,9 +22,6 @@ use writing::write_cell;
 
 /// How many bytes are read at most: one more than a script may have, so that a longer one shows.
 const MOST_READ: usize = 1_048_577;
-
-/// How many samples are written at once, at most.
-const PIECE: usize = 4096;
 
 /// What a cell is read and written with. All of its memory is taken before anything is read.
 #[derive(Drop)]

@@ -7,14 +7,12 @@ ghost use Rattle.quality_bits.specs.TrafficCodewords.{repeats_of, information_of
 ghost use Rattle.quality_bits.specs.TrafficCodewords.{traffic_codeword};
 
 use crate::scrambling::scrambled;
+use chip_core::air::TAIL_BITS;
 use chip_core::{Bits, CheckForm, PowerBits};
 use conv_code::encode_into;
 use long_code::State;
 use quality_bits::append_check;
 use symbol_path::{Kind, Rate, place_into, with_power_bits};
-
-/// How many tail bits a frame has, all 0, which leave the encoder in state zero.
-const TAIL_BITS: u8 = 8;
 
 /// A frame of a traffic channel of rate set 1 (TIA/EIA-95-B, 7.1.3.5).
 #[derive(Clone, Copy, PartialEq, Eq, Debug)]

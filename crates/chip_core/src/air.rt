@@ -33,6 +33,36 @@ pub const SYNC_SYMBOLS: usize = 128;
 /// 7.1.3.5).
 pub const DATA_SYMBOLS: usize = 384;
 
+/// How many bits a frame of the paging and traffic channels has at 9,600 bits a second, with its
+/// quality indicator and its tail (7.1.3.4, 7.1.3.5).
+pub const FRAME_BITS: u16 = 192;
+
+/// How many bits a frame of rate set 2 has at 14,400 bits a second, with its quality indicator and
+/// its tail (7.1.3.5).
+pub const SET_TWO_FRAME_BITS: u16 = 288;
+
+/// How many tail bits end a frame that is encoded by itself, all 0, which leave the encoder in
+/// state zero (7.1.3.5).
+pub const TAIL_BITS: u8 = 8;
+
+/// The most frames that are decoded together: one, the one before it and the one behind it.
+pub const SPAN_FRAMES: u16 = 3;
+
+/// The most bits of frames that are decoded together.
+pub const SPAN_BITS: u16 = SPAN_FRAMES * FRAME_BITS;
+
+/// The most symbols of frames that are decoded together.
+pub const SPAN_SYMBOLS: usize = SPAN_FRAMES as usize * DATA_SYMBOLS;
+
+/// How many frames of a paging channel a slot has (7.7.2).
+pub const SLOT_FRAMES: u8 = 4;
+
+/// How many chips a power control group has, 1.25 ms (7.1.3.1.7).
+pub const POWER_GROUP_CHIPS: u64 = 1_536;
+
+/// How many symbols a power control group has (7.1.3.1.7).
+pub const POWER_GROUP_SYMBOLS: u16 = 24;
+
 /// How many chips a Walsh row has, and how many rows there are (7.1.3.1.8).
 pub const WALSH_CHIPS: u64 = 64;
 

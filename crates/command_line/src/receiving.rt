@@ -9,9 +9,7 @@ ghost use Rattle.command_line.specs.Args.{reception_entries, reception_with, tra
 use crate::grammar::{FINGERS, OFFSET, ROW, SERIAL_NUMBER, SPAN, WORKERS};
 use crate::texts::{Texts, number_by};
 use chip_core::Traffic;
-
-/// The Walsh row of the sync channel (TIA/EIA-95-B, 7.1.3.1.8).
-const SYNC_ROW: u128 = 32;
+use chip_core::air::SYNC_ROW;
 
 /// How a signal is received.
 #[derive(Clone, Copy)]
@@ -48,7 +46,7 @@ pub fn channel_with<T: Texts>(texts: &T) -> Option<Traffic>
     let esn = number_by(texts, &SERIAL_NUMBER)?;
     let row = number_by(texts, &ROW)?;
     let offset = number_by(texts, &OFFSET);
-    if row == SYNC_ROW {
+    if row == u128::from(SYNC_ROW) {
         return None;
     }
     Some(Traffic {

@@ -10,14 +10,11 @@ ghost use Rattle.frame_decoder.specs.Formats.{gathered_in, codeword_in, score_in
 ghost use Rattle.frame_decoder.specs.Formats.{frame_in};
 
 use crate::frame_softs::FrameSofts;
-use chip_core::air::DATA_SYMBOLS;
+use chip_core::air::{DATA_SYMBOLS, TAIL_BITS};
 use chip_core::{Bits, CheckForm};
 use quality_bits::check;
 use symbol_path::{Kind, REPEATED_SYMBOLS, address, repeated_symbol};
 use viterbi::{Codeword, Decoder, Ends};
-
-/// How many tail bits end a frame (TIA/EIA-95-B, 7.1.3.5).
-const TAIL_BITS: u16 = 8;
 
 /// A rate of a rate set, and what its frames are made of.
 #[derive(Clone, Copy)]
@@ -157,7 +154,7 @@ impl<R: Copy> FrameFormat<R> {
         match self.quality {
             None => true,
             Some(kind) => {
-                let checked = bits.part(0, bits.len() - TAIL_BITS);
+                let checked = bits.part(0, bits.len() - u16::from(TAIL_BITS));
                 check(kind, CheckForm::Plain, &checked)
             }
         }

@@ -11,12 +11,9 @@ ghost use Rattle.frame_decoder.specs.Spans.{gathered_span, own_bits};
 
 use crate::span_format::{FrameKind, SpanFormat};
 use chip_core::Bits;
-use chip_core::air::{DATA_SYMBOLS, SYNC_SYMBOLS};
+use chip_core::air::{DATA_SYMBOLS, SPAN_SYMBOLS, SYNC_SYMBOLS};
 use symbol_path::{Rate, gather_into};
 use viterbi::{Codeword, Decoder, Ends};
-
-/// The most code symbols that a span has: three frames of 192 bits, two a bit.
-const MOST_SYMBOLS: usize = 3 * DATA_SYMBOLS;
 
 /// For each code symbol of each frame, one frame after another, the sum of the soft values that
 /// were sent for it.
@@ -79,7 +76,7 @@ fn bits_of(
     ensures kept { decoder.new ≡ decoder.old }
 {
     let count = span_format.code_symbols() * usize::from(frames);
-    let mut gathered = [0; MOST_SYMBOLS];
+    let mut gathered = [0; SPAN_SYMBOLS];
     let span = &mut gathered[..count];
     gather_span(span_format, frames, softs, span);
     let codeword = best_codeword(decoder, span);

@@ -11,7 +11,7 @@ use crate::tracing::all_traced;
 use chip_core::OutOfMemory;
 use std::alloc::Global;
 use std::marker::Model;
-use viterbi::Ends;
+use viterbi::{Ends, MOST_BITS};
 
 /// Finds the first codewords for a list of soft values, in memory that `new` takes: two columns of
 /// scores by states, two by places, and a column of choices for each of 576 bits, less than 700
@@ -46,7 +46,7 @@ impl ListDecoder {
         ensures { IfOk result (λ decoder. decoder ≡ max_bits) }
     {
         let column = Column::new(alloc)?;
-        let columns = vec![in alloc; [0u32; 256]; 576]?;
+        let columns = vec![in alloc; [0u32; 256]; MOST_BITS]?;
         Ok(ListDecoder {
             max_bits,
             column,

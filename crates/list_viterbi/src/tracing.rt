@@ -8,7 +8,7 @@ ghost use Rattle.list_viterbi.specs.Columns.{path, origin, entry_at};
 use crate::codewords::{Codewords, Entry};
 use crate::finds::{Find, Finds};
 use crate::picking::Choices;
-use viterbi::{Codeword, bits_of};
+use viterbi::{Codeword, MOST_BITS, bits_of};
 
 /// Bit `place` of a state's choices.
 fn is_odd(choices: u32, place: u8) -> bool
@@ -71,7 +71,7 @@ fn traced(columns: &[Choices], find: &Find) -> Entry
     requires { length columns.now ≤ 576 }
     ensures { result ≡ entry_at columns.now find.now }
 {
-    let mut path = [false; 576];
+    let mut path = [false; MOST_BITS];
     let start = trace_back(columns, find.state, find.rank, &mut path[..columns.len()]);
     let codeword = Codeword {
         start: start.reverse_bits(),

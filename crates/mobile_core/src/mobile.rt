@@ -6,6 +6,7 @@ use crate::followed::Followed;
 use crate::receive::Receive;
 use crate::sync_receiver::SyncReceiver;
 use crate::tuner::Tuner;
+use chip_core::air::SPAN_BITS;
 use chip_core::{CheckForm, OutOfMemory, Phase, Sample};
 use heard_events::hearing::pilot_event;
 use heard_events::{Channel, Event, Mark, Settings};
@@ -18,10 +19,6 @@ use viterbi::Decoder;
 /// How many samples the ring holds: two frames, so that each finger's samples of a frame are there
 /// when the last of them has come.
 const RING_ROOM: u32 = 65536;
-
-/// The most bits of a codeword that a handset decodes: three frames of a paging channel at 9,600
-/// bits a second.
-const MOST_BITS: u16 = 576;
 
 /// How many samples a step took, and what it heard.
 #[derive(Clone, Copy, PartialEq, Eq, Debug)]
@@ -114,7 +111,7 @@ impl Mobile {
             pilot: Some(best),
             ring: SampleRing::new(alloc, RING_ROOM)?,
             codes,
-            decoder: Decoder::new(alloc, MOST_BITS)?,
+            decoder: Decoder::new(alloc, SPAN_BITS)?,
             sync: SyncReceiver::new(best.phase, &near),
             followed: Followed::new(&settings, best.phase, near),
         })

@@ -3,7 +3,7 @@
 ghost use Rattle.std.specs.Prelude.{◌≡◌, ◌*◌, ◌≤◌};
 
 use crate::kind::Kind;
-use chip_core::air::DATA_SYMBOLS;
+use chip_core::air::{DATA_SYMBOLS, FRAME_BITS};
 
 /// A data rate of a paging or traffic channel of rate set 1, in bits per second.
 ///
@@ -49,7 +49,7 @@ impl Rate {
     pub fn frame_bits(&self) -> u16
         ensures { result * repeats_of self.now ≡ 192 }
     {
-        192 / u16::from(self.repeats())
+        FRAME_BITS / u16::from(self.repeats())
     }
 
     /// How many code symbols a frame has, two to a bit: 384, 192, 96 or 48.

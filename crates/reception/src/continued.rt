@@ -2,9 +2,9 @@
 
 use crate::fingers::frame_symbols;
 use crate::frame_clock::FrameClock;
-use crate::softs::{MOST_SOFTS, shift_in, unscramble};
+use crate::softs::{shift_in, unscramble};
 use chip_core::Bits;
-use chip_core::air::DATA_SYMBOLS;
+use chip_core::air::{DATA_SYMBOLS, SPAN_SYMBOLS};
 use frame_decoder::{FrameKind, span_bits};
 use rake_finger::{Fingers, Form, SampleRing, combine_into};
 use short_code::Codes;
@@ -21,7 +21,7 @@ pub struct Continued {
     pub fingers: Fingers,
     /// The soft values of the last three frames, the last at the end. A sync frame has 128 of them,
     /// and a frame of a paging channel 384.
-    pub softs: [i64; MOST_SOFTS],
+    pub softs: [i64; SPAN_SYMBOLS],
 }
 
 impl Continued {
@@ -53,7 +53,7 @@ impl Continued {
         Continued {
             clock,
             fingers,
-            softs: [0; MOST_SOFTS],
+            softs: [0; SPAN_SYMBOLS],
         }
     }
 
@@ -105,7 +105,7 @@ impl Continued {
             decoder,
             kind,
             span.frames,
-            &self.softs[MOST_SOFTS - kept..],
+            &self.softs[SPAN_SYMBOLS - kept..],
             span.own,
         )
     }

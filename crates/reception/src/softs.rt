@@ -6,10 +6,7 @@ ghost use Rattle.chip_core.specs.Bits.{sign};
 ghost use Rattle.rake_finger.specs.Scrambled.{Scrambles, unscrambled};
 ghost use Rattle.reception.specs.Softs.{AreSmall, frame_most};
 
-use chip_core::air::DATA_SYMBOLS;
-
-/// How many soft values are kept: those of three frames of 384 symbols.
-pub(crate) const MOST_SOFTS: usize = 3 * DATA_SYMBOLS;
+use chip_core::air::SPAN_SYMBOLS;
 
 /// A soft value, turned in sign where its scrambling bit is 1.
 fn descrambled_value(bit: bool, soft: i64) -> i64
@@ -34,7 +31,7 @@ pub fn unscramble(bits: &[bool], softs: &mut [i64])
 }
 
 /// Takes the values of one frame more, in place of the oldest.
-pub(crate) fn shift_in(softs: &mut [i64; MOST_SOFTS], fresh: &[i64])
+pub(crate) fn shift_in(softs: &mut [i64; SPAN_SYMBOLS], fresh: &[i64])
     requires few { length fresh.now ≤ 384 }
     requires small { AreSmall (length fresh.now) softs.old }
     requires fresh { sum_by unsigned_abs fresh.now ≤ frame_most }
@@ -43,5 +40,5 @@ pub(crate) fn shift_in(softs: &mut [i64; MOST_SOFTS], fresh: &[i64])
     ensures small { AreSmall (length fresh.now) softs.new }
 {
     softs.rotate_left(fresh.len());
-    softs[MOST_SOFTS - fresh.len()..].copy_from_slice(fresh);
+    softs[SPAN_SYMBOLS - fresh.len()..].copy_from_slice(fresh);
 }

@@ -8,14 +8,11 @@ ghost use Rattle.slot_mode.specs.Frames.{span_first, span_end, span_softs, frame
 
 use crate::wake::Wake;
 use chip_core::Bits;
-use chip_core::air::DATA_SYMBOLS;
+use chip_core::air::{DATA_SYMBOLS, SLOT_FRAMES};
 use frame_decoder::paging_span;
 use paging_message::HalfBits;
 use symbol_path::Rate;
 use viterbi::Decoder;
-
-/// How many frames of a paging channel a slot has.
-const SLOT_FRAMES: u8 = 4;
 
 /// The first frame of the span of a slot's frame: the one before it, where there is one.
 fn span_first(frame: u8) -> u8

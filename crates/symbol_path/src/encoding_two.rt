@@ -6,12 +6,10 @@ ghost use Rattle.symbol_path.specs.FramesTwo.{codeword_bits, sent_frame2};
 
 use crate::order_two::place2_into;
 use crate::rate_two::Rate2;
+use chip_core::air::TAIL_BITS;
 use chip_core::{Bits, CheckForm};
 use conv_code::encode_into;
 use quality_bits::append_check;
-
-/// How many tail bits a frame has, all 0, which leave the encoder in state zero.
-const TAIL_BITS: u8 = 8;
 
 /// The bits of a frame with this information: the quality indicator stands behind the information,
 /// and the tail behind both.

@@ -4,12 +4,9 @@ ghost use Rattle.std.specs.Prelude.{◌≡◌, ◌<◌, ◌^◌, length};
 ghost use Rattle.symbol_path.specs.Scrambling.{symbol_or_power_bit, with_power_bits};
 
 use crate::scramble::{PowerPlaces, power_places};
-use chip_core::air::DATA_SYMBOLS;
+use chip_core::air::{DATA_SYMBOLS, POWER_GROUP_SYMBOLS};
 use chip_core::{Bits, PowerBits};
 use long_code::State;
-
-/// How many symbols a power control group has.
-const GROUP_SYMBOLS: u16 = 24;
 
 /// Symbol `i` of a frame with its power control bits: that of the symbol's group, where the symbol
 /// is at one of these places.
@@ -24,7 +21,7 @@ fn symbol_or_power_bit(
     ensures { result ≡ symbol_or_power_bit replaced.now power_bits.now symbols.now i }
 {
     if replaced.contains(&i) {
-        power_bits[usize::from(i / GROUP_SYMBOLS)]
+        power_bits[usize::from(i / POWER_GROUP_SYMBOLS)]
     } else {
         symbols.get(i)
     }

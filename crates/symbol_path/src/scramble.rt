@@ -6,18 +6,16 @@ ghost use Rattle.long_code.specs.LongCode.{IsState, after};
 ghost use Rattle.symbol_path.specs.Scrambling.{symbol_chips, scrambling, group_scrambling};
 ghost use Rattle.symbol_path.specs.Scrambling.{power_start, power_places};
 
+use chip_core::air::{DATA_SYMBOLS, POWER_GROUP_CHIPS};
 use long_code::State;
 
 /// The scrambling bits of the 384 symbols of a frame, in the sent order: a symbol whose bit is
 /// `true` is sent inverted (TIA/EIA-95-B, 7.1.3.1.6).
-pub type ScramblingBits = [bool; 384];
+pub type ScramblingBits = [bool; DATA_SYMBOLS];
 
 /// The places of the 32 symbols of a frame that its power control bits replace, two a bit, each
 /// from 0 to 383, in rising order (TIA/EIA-95-B, 7.1.3.1.7).
 pub type PowerPlaces = [u16; 32];
-
-/// The chips of a power control group: 24 symbols of 64 chips.
-const GROUP_CHIPS: u64 = 1536;
 
 /// The chips after which each state of the long code returns.
 const PERIOD: u64 = 4_398_046_511_103;
@@ -91,7 +89,7 @@ pub fn power_places(state: &State, mask: u64) -> PowerPlaces
     ensures below { All (λ place. place < 384) result }
 {
     let mut before = *state;
-    before.jump(PERIOD - GROUP_CHIPS);
+    before.jump(PERIOD - POWER_GROUP_CHIPS);
     let mut places = [0; 32];
     for group in 0..16u16 {
         let start = u16::from(power_start(&group_bits(&mut before, mask)));

@@ -21,6 +21,7 @@ ghost use Rattle.tuned_listener.specs.TunedTexts.{listed_text, rate2_text, frame
 use crate::slot_writer::SlotWriter;
 use crate::tuned_text::TunedText;
 use cdma_io::{Failed, Sink};
+use chip_core::air::{FRAME_BITS, SET_TWO_FRAME_BITS};
 use chip_core::{CheckForm, OutOfMemory, Sample};
 use event_tap::{write_event, write_frame2};
 use list_viterbi::ListDecoder;
@@ -29,12 +30,6 @@ use mobile_core::{Event, Mark, SoftFrame, Tuner};
 use rate_set_two::traffic2_frame;
 use std::alloc::Global;
 use viterbi::Decoder;
-
-/// The most bits of a codeword of rate set 1: a frame at 9,600 bits a second.
-const SET_ONE_BITS: u16 = 192;
-
-/// The most bits of a codeword of rate set 2: a frame at 14,400 bits a second.
-const SET_TWO_BITS: u16 = 288;
 
 /// What decodes the frames of one channel, and writes what is made of them.
 #[derive(Drop)]
@@ -118,10 +113,10 @@ impl FrameWriter {
     {
         match text {
             TunedText::RateSetTwo => Ok(FrameWriter::RateSetTwo {
-                decoder: Decoder::new(alloc, SET_TWO_BITS)?,
+                decoder: Decoder::new(alloc, SET_TWO_FRAME_BITS)?,
             }),
             TunedText::Listed { k } => Ok(FrameWriter::Listed {
-                decoder: ListDecoder::new(alloc, SET_ONE_BITS)?,
+                decoder: ListDecoder::new(alloc, FRAME_BITS)?,
                 k,
             }),
             TunedText::Slots { key, cycle } => {

@@ -16,7 +16,7 @@ ghost use Rattle.tuned_listener.specs.SlotWriting.{pages_ending};
 ghost use Rattle.tuned_listener.specs.Slots.{slot_more, slot_text};
 
 use cdma_io::{Failed, Sink};
-use chip_core::air::DATA_SYMBOLS;
+use chip_core::air::{DATA_SYMBOLS, SLOT_FRAMES, SPAN_BITS};
 use chip_core::{Bits, CheckForm, OutOfMemory};
 use event_tap::{write_event, write_slot};
 use mobile_core::{Event, Mark, SoftFrame};
@@ -25,12 +25,6 @@ use slot_mode::{Wake, slot_bits};
 use std::alloc::Global;
 use symbol_path::Rate;
 use viterbi::Decoder;
-
-/// How many frames of a paging channel a slot has.
-const SLOT_FRAMES: u8 = 4;
-
-/// The most bits of a span of a slot's frames: three frames at 9,600 bits a second.
-const SPAN_BITS: u16 = 576;
 
 /// What hears the slots of a sleeping handset, and writes what is heard in them.
 #[derive(Drop)]

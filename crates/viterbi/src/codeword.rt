@@ -1,6 +1,10 @@
 //! Codewords.
 
 use chip_core::Bits;
+use chip_core::air::SPAN_BITS;
+
+/// The most bits of a codeword that a decoder has room for: those of three frames.
+pub const MOST_BITS: usize = SPAN_BITS as usize;
 
 /// Which codewords are allowed.
 #[derive(Clone, Copy, PartialEq, Eq, Debug)]

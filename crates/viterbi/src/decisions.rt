@@ -4,6 +4,7 @@ ghost use Rattle.std.specs.Prelude.{◌≡◌, ◌<◌, ◌≤◌, ◌+◌, ◌*
 ghost use Rattle.chip_core.specs.Bits.{digit};
 ghost use Rattle.viterbi.specs.Columns.{took, path, origin};
 
+use crate::codeword::MOST_BITS;
 use chip_core::Bits;
 
 /// A bit for each state after some bit, state `s` at bit `s % 8` of byte `s / 8`: whether the best
@@ -59,7 +60,7 @@ pub fn traced(columns: &[Decisions], end: u8) -> (u8, Bits)
     ensures start { result.0 ≡ origin columns.now (length columns.now) end }
     ensures bits { result.1 ≡ path columns.now (length columns.now) end }
 {
-    let mut path = [false; 576];
+    let mut path = [false; MOST_BITS];
     let start = trace_back(columns, end, &mut path[..columns.len()]);
     (start, bits_of(&path[..columns.len()]))
 }

@@ -21,7 +21,7 @@ mod metrics;
 mod survivor;
 pub mod symbol_gains;
 
-pub use codeword::{Codeword, Ends, Word};
+pub use codeword::{Codeword, Ends, MOST_BITS, Word};
 pub use decisions::bits_of;
 pub use decoder::Decoder;
 pub use metrics::end_states;
