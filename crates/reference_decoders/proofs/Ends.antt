@@ -1,7 +1,10 @@
 -- One bit more of a run of bits, and what the last column gives.
 use Rattle.std.proofs.Common.{◌≡◌, ◌<◌, ◌≤◌, ◌+◌, ◌*◌, ◌/◌, ◌^◌, ℕ, List, ℤ, pos, length, get_or, Option, arith, subst, sym, unsigned_abs}
-use Rattle.std.proofs.Common.{to_z, of_z, w64}
+use Rattle.std.proofs.Common.{to_z, of_z, w64, vec_len}
+use Rattle.std.proofs.lemmas.List.{with_items_is}
 use Rattle.std.specs.List.{sum_by}
+use Rattle.std.specs.Prelude.{Vec}
+use Rattle.std.specs.Vec.{with_items}
 use Rattle.list_viterbi.specs.Merging.{first_lists}
 use Rattle.list_viterbi.specs.declared.codewords.Entry.{Entry}
 use Rattle.list_viterbi.proofs.Merges.{Lists}
@@ -17,18 +20,19 @@ use Rattle.viterbi.proofs.Finish as best
 use Rattle.viterbi.proofs.Scores.{pair_kept}
 use Rattle.viterbi.proofs.Steps.{Survive}
 
--- what holds of all states by the two soft values of a bit holds by those that are handed on
-pub states_more : {A : Type 0} (P : ℕ → A → Type 0) (into : ℤ → ℤ → ℕ → A) (none : A)
-    (softs : List ℤ) (bit : ℕ) (made : List A) → 2 * bit + 2 ≤ length softs →
-    sum_by unsigned_abs softs ≤ 2 ^ 62 →
+-- what holds of all states by the two soft values of a bit holds of the column that takes the place
+-- of the one before, which was made of those that are handed on
+pub states_more : {A Z : Type 0} (P : ℕ → A → Type 0) (into : ℤ → ℤ → ℕ → A) (none : A)
+    (softs : List ℤ) (bit : ℕ) (held column : Vec A Z) (made : List A) → column ≡ with_items held made →
+    length made ≡ vec_len held → 2 * bit + 2 ≤ length softs → sum_by unsigned_abs softs ≤ 2 ^ 62 →
     ((t : ℕ) → t < 256 → get_or made t none ≡ into (to_z w64 (of_z w64 (get_or softs (2 * bit) (pos 0))))
     (to_z w64 (of_z w64 (get_or softs (2 * bit + 1) (pos 0)))) t) →
     ((t : ℕ) → t < 256 →
     P t (into (get_or softs (2 * bit) (pos 0)) (get_or softs (2 * bit + 1) (pos 0)) t)) →
-    (t : ℕ) → t < 256 → P t (get_or made t none)
-states_more P into none softs bit made room bound each holds t b =
+    (t : ℕ) → t < 256 → P t (get_or column.items t none)
+states_more P into none softs bit held column made swapped whole room bound each holds t b =
     let pair = pair_kept softs bit room bound in
-    rw (each t b, pair.0, pair.1) (holds t b)
+    rw (swapped, with_items_is held made whole, each t b, pair.0, pair.1) (holds t b)
 
 -- the best survivor
 pub run_best : (softs : List ℤ) (ends : Ends) (bit : ℕ) (column held : List (Option Survivor))

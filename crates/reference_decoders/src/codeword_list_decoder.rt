@@ -29,7 +29,8 @@ impl Model for CodewordListDecoder {
 
     ghost view = { λ d. d.max_bits };
 
-    ghost invariant = { λ d. (d.max_bits ≤ 576) × (vec_len d.column ≡ 256) × (vec_len d.next ≡ 256) };
+    ghost invariant = { λ d. (d.max_bits ≤ 576) × (vec_len d.column ≡ 256)
+        × (vec_len d.next ≡ 256) };
 }
 
 /// A column of states without codewords.

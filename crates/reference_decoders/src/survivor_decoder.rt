@@ -27,7 +27,8 @@ impl Model for SurvivorDecoder {
 
     ghost view = { λ d. d.max_bits };
 
-    ghost invariant = { λ d. (d.max_bits ≤ 576) × (vec_len d.column ≡ 256) × (vec_len d.next ≡ 256) };
+    ghost invariant = { λ d. (d.max_bits ≤ 576) × (vec_len d.column ≡ 256)
+        × (vec_len d.next ≡ 256) };
 }
 
 impl SurvivorDecoder {

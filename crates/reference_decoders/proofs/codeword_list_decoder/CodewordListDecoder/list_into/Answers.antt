@@ -1,5 +1,5 @@
 use Rattle.std.proofs.Common.{◌≡◌, ◌≤◌, ◌+◌, ◌*◌, ◌/◌, ℕ, List, [], length, ◌∙◌, rules, arith, add-one, suc}
-use Rattle.std.proofs.lemmas.List.{take_at, with_items_is}
+use Rattle.std.proofs.lemmas.List.{take_at}
 use Rattle.list_viterbi.proofs.Merges.{Lists}
 use Rattle.list_viterbi.proofs.Steps.{listed_start, list_into_lists}
 use Rattle.list_viterbi.specs.Merging.{list_into}
@@ -46,16 +46,14 @@ loop-bit-preserved c =
     let bit = c.loop-bit.bit in
     let column = c.loop-bit.self-inside.column.items in
     let two : 2 * bit + 2 ≤ length softs = omega (arith, c.loop-bit-test.true) in
-    let items : c.swap.new.x.items ≡ c.step.new.next =
-    rw c.swap.ensures.x_after
-    (with_items_is c.loop-bit.self-inside.next c.step.new.next (omega arith)) in
     record {
       column_whole = search rules;
       next_whole = search rules;
       kept = c.loop-bit.invariant.kept;
-      listed = rw (items, add-one bit)
+      listed = rw (add-one bit)
           (states_more (λ (t : ℕ) (es : List Entry). Lists softs (Into ends (suc bit) (low_bits 8 t)) k es)
-          (λ first second. list_into column first second k) [] softs bit c.step.new.next two
+          (λ first second. list_into column first second k) [] softs bit c.loop-bit.self-inside.next
+          c.swap.new.x c.step.new.next c.swap.ensures.x_after (omega arith) two
           c.requires.softs.bound (rw c.deref.ensures.value at c.step.ensures.each)
           (list_into_lists softs ends k bit column two c.loop-bit.invariant.listed));
     }

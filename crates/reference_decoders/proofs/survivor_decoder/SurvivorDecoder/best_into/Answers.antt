@@ -1,6 +1,6 @@
 use Rattle.std.proofs.Common.{◌≡◌, ◌≤◌, ◌+◌, ◌*◌, ◌/◌, ℕ, length, ◌∙◌, rules, arith, add-one, suc, w64, Option, Some, None}
 use Rattle.std.proofs.lemmas.Int.{to_z-of_z}
-use Rattle.std.proofs.lemmas.List.{take_at, with_items_is}
+use Rattle.std.proofs.lemmas.List.{take_at}
 use Rattle.viterbi.proofs.Choices.{IsBestOf}
 use Rattle.viterbi.proofs.Scores.{pair_kept, pair_small}
 use Rattle.viterbi.proofs.Steps.{Into, survivor_into_best}
@@ -41,17 +41,15 @@ loop-bit-preserved c =
     let bit = c.loop-bit.bit in
     let column = c.loop-bit.self-inside.column.items in
     let two : 2 * bit + 2 ≤ length softs = omega (arith, c.loop-bit-test.true) in
-    let items : c.swap.new.x.items ≡ c.step.new.next =
-    rw c.swap.ensures.x_after
-    (with_items_is c.loop-bit.self-inside.next c.step.new.next (omega arith)) in
     record {
       column_whole = search rules;
       next_whole = search rules;
       kept = c.loop-bit.invariant.kept;
-      survive = rw (items, add-one bit)
+      survive = rw (add-one bit)
           (states_more
           (λ (t : ℕ) (o : Option Survivor). IsBestOf softs (Into c.args.ends (suc bit) (low_bits 8 t)) o)
-          (survivor_into column) None softs bit c.step.new.next two c.requires.bound
+          (survivor_into column) None softs bit c.loop-bit.self-inside.next c.swap.new.x
+          c.step.new.next c.swap.ensures.x_after (omega arith) two c.requires.bound
           (rw c.deref.ensures.value at c.step.ensures.each)
           (survivor_into_best softs c.args.ends bit column two c.loop-bit.invariant.survive));
     }
