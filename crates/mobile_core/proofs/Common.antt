@@ -87,7 +87,6 @@ pub use Rattle.reception.specs.Clocks.{IsAt, IsDueAt, clock_from, first_frame, f
 pub use Rattle.mobile_core.specs.BehindMark.{FollowsPages, FollowsTraffic, IsUnheard, IsUnpaged, SetsMark, paging_left, traffic_left}
 pub use Rattle.mobile_core.specs.FollowedChannels.{EndFrom, HearsFollowed, HearsFrames, HearsPages, IsFollowedDue, IsSoundFollowed}
 pub use Rattle.mobile_core.specs.FollowedChannels.{WaitFrom, followed_events_left, followed_heard, paging_events_left, traffic_events_left}
-pub use Rattle.mobile_core.specs.FrameReceiving.{HasGiven, frame_passed}
 pub use Rattle.heard_events.specs.LegSofts.{sums_on}
 pub use Rattle.mobile_core.specs.PagingReceiving.{HearsBit, HearsPaging, IsSoundPaging, bit_passed, bits_heard}
 pub use Rattle.reception.specs.Receiving.{Receives}
@@ -100,7 +99,6 @@ pub use Rattle.mobile_core.specs.TrafficReceiving.{kept_in, next_end, noted_by, 
 pub use Rattle.reception.specs.declared.continued.Continued.{Continued}
 pub use Rattle.mobile_core.specs.declared.followed.Followed.{Followed}
 pub use Rattle.reception.specs.declared.frame_clock.FrameClock.{FrameClock}
-pub use Rattle.mobile_core.specs.declared.channel_receiver.ChannelReceiver.{ChannelReceiver}
 pub use Rattle.mobile_core.specs.declared.mobile.Mobile.{Mobile}
 pub use Rattle.mobile_core.specs.declared.paging_receiver.PagingReceiver.{PagingReceiver}
 pub use Rattle.reception.specs.declared.scrambling.Scrambling.{Scrambling}

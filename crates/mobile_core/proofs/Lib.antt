@@ -6,7 +6,6 @@ pub mod FramesTold
 pub mod FramesOpened
 pub mod SoundFrames
 pub mod MomentPassed
-pub mod FramesGiven
 pub mod PagesFollowed
 pub mod FramesFollowed
 pub mod ChannelsFollowed

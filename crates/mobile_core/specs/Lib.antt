@@ -6,6 +6,3 @@ pub mod BehindMark
 pub mod FollowedChannels
 pub mod SoundHandset
 pub mod Standing
-pub mod FrameReceiving
-pub mod Tuned
-pub mod Tuners

@@ -89,6 +89,10 @@ steps_left mobile =
     - ((1 - length (pilot_left mobile.pilot))
     + (mobile.sync.received.clock.next + followed_heard mobile.followed))
 
+-- how many samples have been taken
+abbrev pub samples_taken : Mobile → ℕ
+samples_taken mobile = mobile.ring.taken
+
 -- of how many samples the last are kept
 abbrev pub ring_room : Mobile → ℕ
 ring_room mobile = mobile.ring.room

@@ -1,7 +1,6 @@
 //! The handset: samples go in, and what it hears comes out as events.
 #![tactic(auto)]
 
-mod channel_receiver;
 mod followed;
 mod mobile;
 mod paging_receiver;
@@ -9,8 +8,7 @@ mod receive;
 mod scrambling;
 mod sync_receiver;
 mod traffic_receiver;
-mod tuner;
 
-pub use heard_events::{Channel, Event, Mark, PowerControl, Settings, SoftFrame, Traffic, laws};
-pub use mobile::{Mobile, Step};
-pub use tuner::{Tuner, TunerStep};
+pub use heard_events::{Channel, Event, Mark, Settings, Traffic, laws};
+pub use mobile::{HeardRing, Mobile, Step};
+pub use scrambling::{paging_scrambling, traffic_scrambling};

@@ -5,11 +5,10 @@ ghost use Rattle.mobile_core.specs.SoundHandset.{IsSound};
 use crate::followed::Followed;
 use crate::receive::Receive;
 use crate::sync_receiver::SyncReceiver;
-use crate::tuner::Tuner;
 use chip_core::air::SPAN_BITS;
-use chip_core::{CheckForm, OutOfMemory, Phase, Sample};
+use chip_core::{CheckForm, OutOfMemory, Sample};
 use heard_events::hearing::pilot_event;
-use heard_events::{Channel, Event, Mark, Settings};
+use heard_events::{Event, Mark, Settings};
 use pilot_search::{Best, Near};
 use rake_finger::SampleRing;
 use short_code::Codes;
@@ -28,6 +27,17 @@ pub struct Step {
     /// The event that ends with the last sample taken; `None` where all samples were taken and no
     /// event is left.
     pub event: Option<Event>,
+}
+
+/// What a handset leaves to who hears the samples behind those that it has taken.
+#[derive(Drop)]
+pub struct HeardRing {
+    /// How many samples the file has.
+    pub count: u64,
+    /// The last samples that were taken.
+    pub ring: SampleRing,
+    /// The codes.
+    pub codes: Codes,
 }
 
 /// A handset: it takes the samples of a file in pieces of any size, and gives the pilot that the
@@ -57,9 +67,9 @@ pub struct Mobile {
 }
 
 impl Mobile {
-    ghost use Rattle.std.specs.Prelude.{◌≡◌, ◌<◌, ◌≤◌, ◌↔◌, List, [], ◌∷◌, ◌++◌, length, false};
-    ghost use Rattle.std.specs.Prelude.{ℕ, IsTrue, IfOk, None};
-    ghost use Rattle.std.specs.Prelude.{Some, is_some, pos, slice_get, take};
+    ghost use Rattle.std.specs.Prelude.{◌≡◌, ◌<◌, ◌≤◌, ◌↔◌, ◌-◌, List, [], ◌∷◌, ◌++◌, length};
+    ghost use Rattle.std.specs.Prelude.{ℕ, IsTrue, IfOk, None, false};
+    ghost use Rattle.std.specs.Prelude.{Some, is_some, pos, slice_get};
     ghost use Rattle.std.specs.Option.{ForSome};
     ghost use Rattle.std.specs.List.{list_any};
     ghost use Rattle.chip_core.specs.declared.sample.Sample.{Sample};
@@ -71,11 +81,9 @@ impl Mobile {
     ghost use Rattle.mobile_core.specs.BehindMark.{IsSoundAssignment};
     ghost use Rattle.reception.specs.Clocks.{IsDueAt};
     ghost use Rattle.mobile_core.specs.Standing.{IsDueFor, IsStep, StandsFor, Steps, due_parts};
-    ghost use Rattle.mobile_core.specs.Standing.{has_room, ring_room};
+    ghost use Rattle.mobile_core.specs.Standing.{has_room, ring_room, samples_taken};
     ghost use Rattle.heard_events.specs.Tuning.{Tuning, tuning_by};
-    ghost use Rattle.heard_events.specs.Channels.{IsLawful};
-    ghost use Rattle.heard_events.specs.SoftFrames.{soft_frames};
-    ghost use Rattle.mobile_core.specs.Tuners.{IsTunedTo, samples_left, samples_taken};
+    ghost use Rattle.rake_finger.specs.Held.{HoldsLast};
     ghost use Rattle.heard_events.specs.declared.event.Event.{Event as TheEvent};
 
     /// A handset that has taken no sample of a file, and given no event.
@@ -151,27 +159,17 @@ impl Mobile {
         self.sync.mark()
     }
 
-    /// The receiver of one channel's frames behind a mark, in place of the handset, for a base
-    /// station at a phase and near it.
-    ///
-    /// It goes on with the samples behind those that the handset has taken, and takes over the
-    /// last of these, so it allocates nothing.
-    pub fn tune(self, mark: &Mark, channel: &Channel, phase: Phase, near: &Near) -> Tuner
-        requires mark { IsSoundMark mark.now }
-        requires early { samples_taken self ≤ mark.now.sample }
-        requires lawful { IsLawful channel.now }
-        requires least { 1 ≤ near.now.count }
-        requires most { near.now.count ≤ 3 }
-        requires first { slice_get near.now.deltas 0 ≡ Some (pos 0) }
-        ensures left { samples_left result ≡ has_room self }
-        ensures tuned { (t : Tuning) (heard : List Sample) (given : List TheEvent) →
-            StandsFor t self heard given → t.phase ≡ phase →
-            t.deltas ≡ take near.now.count near.now.deltas →
-            IsTunedTo t channel.now mark.now result heard }
-        ensures none { (t : Tuning) (heard : List Sample) (given : List TheEvent) →
-            StandsFor t self heard given → t.phase ≡ phase →
-            t.deltas ≡ take near.now.count near.now.deltas →
-            soft_frames t channel.now mark.now heard ≡ [] }
+    /// The samples that it has taken, for who hears those behind them in its place: the last of them,
+    /// with room for 65,536, and the codes. It allocates nothing.
+    pub fn into_ring(self) -> HeardRing
+        ensures count { result.count ≤ 67108864 }
+        ensures within { result.ring.taken ≤ result.count }
+        ensures room { result.ring.room ≡ 65536 }
+        ensures taken { result.ring.taken ≡ samples_taken self }
+        ensures left { result.count - result.ring.taken ≡ has_room self }
+        ensures holds { (t : Tuning) (heard : List Sample) (given : List TheEvent) →
+            StandsFor t self heard given →
+            (result.count ≡ t.count) × HoldsLast result.ring heard }
     {
         let Mobile {
             count,
@@ -179,7 +177,7 @@ impl Mobile {
             codes,
             ..
         } = self;
-        Tuner::open(count, ring, codes, mark, channel, phase, near)
+        HeardRing { count, ring, codes }
     }
 
     /// Whether the pilot hasn't been told, or a frame is known that hasn't been heard.

@@ -39,7 +39,7 @@ pub use Rattle.rake_finger.proofs.FrameTimes.{ends_lt, inside_from, inside_to, k
 pub use Rattle.heard_events.proofs.MarkLater.{mark_later}
 pub use Rattle.heard_events.proofs.MarkStays.{mark_behind, mark_set, mark_sooner, mark_stays, paging_near}
 pub use Rattle.mobile_core.proofs.MarkAhead.{marked_all}
-pub use Rattle.heard_events.specs.Channels.{IsLawful, channel_stream}
+pub use Rattle.heard_events.specs.Channels.{IsLawful, channel_stream, has_power_control, mask_of, row_of, state_at}
 pub use Rattle.heard_events.specs.Events.{events}
 pub use Rattle.rake_finger.specs.FrameSamples.{AgreeIn}
 pub use Rattle.heard_events.specs.Given.{at_of, listed}
@@ -48,14 +48,18 @@ unfoldable pub use Rattle.heard_events.specs.Marks.{mark}
 pub use Rattle.rake_finger.specs.Near.{AreNear, all_begun, all_near, has_reference, low_in}
 pub use Rattle.heard_events.specs.Near.{low_of}
 pub use Rattle.heard_events.specs.PagingStreams.{paging_bound, paging_rate}
-pub use Rattle.heard_events.specs.SoftFrames.{soft_frame, soft_frames}
+pub use Rattle.heard_events.specs.SoftFrames.{power_of, raw_at, soft_frame, soft_frames}
 unfoldable pub use Rattle.heard_events.specs.SoftFrames.{frames_within}
+pub use Rattle.reception.specs.Clocks.{IsAt, IsDueAt, clock_from, first_frame, frame_come}
 pub use Rattle.reception.specs.Softs.{frame_most}
-pub use Rattle.mobile_core.specs.Standing.{Steps, has_room, parts, steps_left}
+pub use Rattle.reception.specs.declared.frame_clock.FrameClock.{FrameClock}
+pub use Rattle.reception.specs.declared.scrambling.Scrambling.{Scrambling}
+pub use Rattle.mobile_core.specs.Standing.{Steps, has_room, parts, samples_taken, steps_left}
 pub use Rattle.heard_events.specs.Streams.{Stream}
 pub use Rattle.rake_finger.specs.Streams.{frame_softs, frame_start, is_in_file, known_at}
-pub use Rattle.rake_finger.specs.Timing.{IsTimed, stream_end}
-pub use Rattle.mobile_core.specs.Tuners.{IsTunedTo, IsTunerStep, samples_left, samples_taken}
+pub use Rattle.rake_finger.specs.Timing.{IsTimed}
+unfoldable pub use Rattle.rake_finger.specs.Timing.{stream_end}
+pub use Rattle.tuned_listener.specs.Tuners.{IsTunedTo, IsTunerStep, samples_left}
 pub use Rattle.heard_events.specs.Tuning.{Tuning, sync_bound, sync_stream}
 pub use Rattle.rake_finger.specs.Paths.{finger_of, fingers_of}
 pub use Rattle.heard_events.specs.declared.channel.Channel.{Channel}
@@ -64,22 +68,28 @@ pub use Rattle.heard_events.specs.declared.event.Event.{Event}
 pub use Rattle.heard_events.specs.declared.mark.Mark.{Mark}
 pub use Rattle.mobile_core.specs.declared.mobile.Mobile.{Mobile}
 pub use Rattle.mobile_core.specs.declared.mobile.Step.{Step}
+pub use Rattle.heard_events.specs.declared.soft_frame.PowerControl.{PowerControl}
 pub use Rattle.heard_events.specs.declared.soft_frame.SoftFrame.{SoftFrame}
-pub use Rattle.mobile_core.specs.declared.tuner.Tuner.{Tuner}
-pub use Rattle.mobile_core.specs.declared.tuner.TunerStep.{TunerStep}
+pub use Rattle.long_code.specs.LongCode.{after}
+pub use Rattle.tuned_listener.specs.declared.tuner.Tuner.{Tuner}
+pub use Rattle.tuned_listener.specs.declared.tuner.TunerStep.{TunerStep}
 pub use Rattle.paging_message.specs.HalfFrames.{StandsFor, half_frame_body, half_frame_capsule_ending}
 unfoldable pub use Rattle.paging_message.specs.HalfFrames.{capsules_in}
 pub use Rattle.paging_message.specs.Reading.{paging_reading}
 pub use Rattle.paging_message.specs.declared.message.PagingMessage.{PagingMessage}
 pub use Rattle.pilot_search.specs.declared.paths.Near.{Near}
 pub use Rattle.quality_bits.specs.declared.rate.Rate.{Rate}
-pub use Rattle.rake_finger.specs.Soft.{frame_chips}
+pub use Rattle.rake_finger.specs.Scrambled.{unscrambled}
+pub use Rattle.rake_finger.specs.Soft.{frame_chips, softs}
+pub use Rattle.rake_finger.specs.declared.finger.Finger.{Finger}
 pub use Rattle.rake_finger.specs.declared.form.Form.{Form}
 pub use Rattle.rake_finger.specs.declared.form.Form.TheVariants.{Data}
 pub use Rattle.slot_mode.specs.Frames.{slot_bits, span_softs}
 pub use Rattle.slot_mode.specs.Slots.{is_monitored}
+pub use Rattle.symbol_path.specs.Scrambling.{scrambling}
 pub use borrow.Rule.Slice.PartMut.{put_mid}
 pub use mir.Val.{bool_byte}
+pub use Rattle.tuned_listener.specs.FrameReceiving.{HasGiven, frame_passed}
 pub use Rattle.tuned_listener.specs.FrameWriting.{HoldsFrames, IsReady, WritesFrames, WritesFramesPart, text_of}
 pub use Rattle.tuned_listener.specs.Marking.{HasNoMark, HearsUntold, IsMarkedAt, IsUntold, ListensAhead}
 pub use Rattle.tuned_listener.specs.SlotLaws.{AgreeInSlot, IsWrittenByTimes, NeedsMark, SleepsThroughTheRest}
@@ -89,6 +99,7 @@ unfoldable pub use Rattle.tuned_listener.specs.Slots.{slot_behind}
 pub use Rattle.tuned_listener.specs.TunedListening.{ListensBehind, ListensFrom, ListensTuned, TellsTuned, TellsTunedPart}
 pub use Rattle.tuned_listener.specs.TunedTexts.{behind_mark, frame_text, frames_from, listed_text, rate2_text, text_behind, text_from}
 unfoldable pub use Rattle.tuned_listener.specs.TunedTexts.{frames_text, tuned_text}
+pub use Rattle.tuned_listener.specs.declared.channel_receiver.ChannelReceiver.{ChannelReceiver}
 pub use Rattle.tuned_listener.specs.declared.frame_writer.FrameWriter.{FrameWriter}
 pub use Rattle.tuned_listener.specs.declared.slot_writer.Page.{Page}
 pub use Rattle.tuned_listener.specs.declared.slot_writer.SlotWriter.{SlotWriter}

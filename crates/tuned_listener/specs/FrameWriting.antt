@@ -5,12 +5,12 @@ use Rattle.std.specs.Io.KnownBytes.{Appends}
 use Rattle.chip_core.specs.declared.check_form.CheckForm.{CheckForm}
 use Rattle.chip_core.specs.declared.sample.Sample.{Sample}
 use Rattle.heard_events.specs.SoftFrames.{soft_frames}
-use Rattle.mobile_core.specs.Tuners.{IsTunedTo}
+use Rattle.tuned_listener.specs.Tuners.{IsTunedTo}
 use Rattle.heard_events.specs.Tuning.{Tuning}
 use Rattle.heard_events.specs.declared.channel.Channel.{Channel}
 use Rattle.heard_events.specs.declared.mark.Mark.{Mark}
 use Rattle.heard_events.specs.declared.soft_frame.SoftFrame.{SoftFrame}
-use Rattle.mobile_core.specs.declared.tuner.Tuner.{Tuner}
+use Rattle.tuned_listener.specs.declared.tuner.Tuner.{Tuner}
 use Rattle.tuned_listener.specs.SlotWriting.{HoldsSlot, IsReadyForSlots}
 use Rattle.tuned_listener.specs.Slots.{slot_behind}
 use Rattle.tuned_listener.specs.TunedTexts.{text_from}

@@ -1,3 +1,4 @@
+pub mod FrameReceiving
 pub mod FrameWriting
 pub mod Marking
 pub mod SlotLaws
@@ -6,3 +7,4 @@ pub mod Slots
 pub mod SoundListener
 pub mod TunedListening
 pub mod TunedTexts
+pub mod Tuners

@@ -6,7 +6,7 @@ use Rattle.chip_core.specs.declared.sample.Sample.{Sample}
 use Rattle.heard_events.specs.Marks.{mark}
 use Rattle.rake_finger.specs.Near.{AreNear}
 use Rattle.mobile_core.specs.Standing.{has_room}
-use Rattle.mobile_core.specs.Tuners.{IsTunedTo, samples_left}
+use Rattle.tuned_listener.specs.Tuners.{IsTunedTo, samples_left}
 use Rattle.heard_events.specs.Tuning.{Tuning, sync_stream}
 use Rattle.heard_events.specs.declared.channel.Channel.{Channel}
 use Rattle.mobile_core.specs.declared.mobile.Mobile.{Mobile}

@@ -9,7 +9,7 @@ ghost use Rattle.chip_core.specs.declared.sample.Sample.{Sample as TheSample};
 ghost use Rattle.heard_events.specs.SoftFrames.{soft_frames};
 ghost use Rattle.reception.specs.Softs.{frame_most};
 ghost use Rattle.heard_events.specs.SoundMarks.{IsSoundMark};
-ghost use Rattle.mobile_core.specs.Tuners.{IsTunedTo, samples_left};
+ghost use Rattle.tuned_listener.specs.Tuners.{IsTunedTo, samples_left};
 ghost use Rattle.heard_events.specs.Tuning.{Tuning};
 ghost use Rattle.heard_events.specs.declared.channel.Channel.{Channel as TheChannel};
 ghost use Rattle.heard_events.specs.declared.soft_frame.SoftFrame.{SoftFrame as TheFrame};
@@ -20,13 +20,14 @@ ghost use Rattle.tuned_listener.specs.TunedTexts.{listed_text, rate2_text, frame
 
 use crate::slot_writer::SlotWriter;
 use crate::tuned_text::TunedText;
+use crate::tuner::Tuner;
 use cdma_io::{Failed, Sink};
 use chip_core::air::{FRAME_BITS, SET_TWO_FRAME_BITS};
 use chip_core::{CheckForm, OutOfMemory, Sample};
 use event_tap::{write_event, write_frame2};
+use heard_events::{Event, Mark, SoftFrame};
 use list_viterbi::ListDecoder;
 use listed_frame::listed_frame;
-use mobile_core::{Event, Mark, SoftFrame, Tuner};
 use rate_set_two::traffic2_frame;
 use std::alloc::Global;
 use viterbi::Decoder;

@@ -7,12 +7,16 @@
 //! not on the pieces in which they come.
 #![tactic(auto)]
 
+mod channel_receiver;
 mod frame_writer;
 pub mod laws;
 mod marking;
 mod slot_writer;
 mod tuned;
 mod tuned_text;
+mod tuner;
 
+pub use heard_events::{PowerControl, SoftFrame};
 pub use tuned::TunedListener;
 pub use tuned_text::TunedText;
+pub use tuner::{Tuner, TunerStep};

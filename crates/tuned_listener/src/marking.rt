@@ -4,8 +4,7 @@ ghost use Rattle.std.specs.Prelude.{◌≡◌, ◌≤◌, ◌+◌, ◌++◌, Lis
 ghost use Rattle.std.specs.Option.{ForSome};
 ghost use Rattle.chip_core.specs.declared.sample.Sample.{Sample as TheSample};
 ghost use Rattle.heard_events.specs.SoundMarks.{IsSoundMark};
-ghost use Rattle.mobile_core.specs.Standing.{has_room};
-ghost use Rattle.mobile_core.specs.Tuners.{samples_taken};
+ghost use Rattle.mobile_core.specs.Standing.{has_room, samples_taken};
 ghost use Rattle.heard_events.specs.Tuning.{Tuning};
 ghost use Rattle.heard_events.specs.declared.mark.Mark.{Mark as TheMark};
 ghost use Rattle.tuned_listener.specs.Marking.{IsMarkedAt, IsUntold, ListensAhead};

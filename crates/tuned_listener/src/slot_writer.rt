@@ -19,7 +19,7 @@ use cdma_io::{Failed, Sink};
 use chip_core::air::{DATA_SYMBOLS, SLOT_FRAMES, SPAN_BITS};
 use chip_core::{Bits, CheckForm, OutOfMemory};
 use event_tap::{write_event, write_slot};
-use mobile_core::{Event, Mark, SoftFrame};
+use heard_events::{Event, Mark, SoftFrame};
 use paging_message::{HalfBits, HalfFramer, PagingMessage};
 use slot_mode::{Wake, slot_bits};
 use std::alloc::Global;

@@ -6,9 +6,11 @@ ghost use Rattle.tuned_listener.specs.SoundListener.{IsSoundListener};
 use crate::frame_writer::{FrameWriter, hear_frames};
 use crate::marking::{Reached, step_to_mark};
 use crate::tuned_text::TunedText;
+use crate::tuner::Tuner;
 use cdma_io::{Failed, Sink};
 use chip_core::{CheckForm, OutOfMemory, Phase, Sample};
-use mobile_core::{Channel, Mark, Mobile, Tuner};
+use heard_events::{Channel, Mark};
+use mobile_core::{HeardRing, Mobile};
 use pilot_search::Near;
 use std::alloc::Global;
 
@@ -156,7 +158,8 @@ impl TunedListener {
             return taken;
         };
         if let Some(mobile) = ahead.take() {
-            let tuner = mobile.tune(&mark, channel, *phase, near);
+            let HeardRing { count, ring, codes } = mobile.into_ring();
+            let tuner = Tuner::open(count, ring, codes, &mark, channel, *phase, near);
             *behind = Some(Behind { mark, tuner });
         }
         taken

@@ -1,4 +1,4 @@
-use Rattle.tuned_listener.proofs.Common.{Tuning, Channel, TunedText, ListensTuned, ◌≡◌, ◌++◌, List, None, refl, rules, subst, take, Sample}
+use Rattle.tuned_listener.proofs.Common.{Tuning, Channel, TunedText, ListensTuned, ◌≡◌, ◌++◌, List, None, refl, rules, subst, sym, take, Sample}
 use Rattle.tuned_listener.proofs.Common.{Mobile}
 use Rattle.mobile_core.specs.Standing.{StandsFor}
 use Rattle.tuned_listener.proofs.TunedListeners.{handset_alone, lawful_channel, listens_ahead, listens_behind, silent_ahead, silent_at_mark}
@@ -25,8 +25,8 @@ returns-in_default-mark-clause-listens c = λ t channel form heard is.
     reached.result.taken (reached.ensures.all none) refl refl refl refl refl alone ahead.unmarked
     (reached.ensures.none none t heard ahead)
 
-pub tune-tuner-requires-clause-lawful : goal.tune-tuner-requires-clause-lawful
-tune-tuner-requires-clause-lawful c =
+pub open-tuner-requires-clause-lawful : goal.open-tuner-requires-clause-lawful
+open-tuner-requires-clause-lawful c =
     lawful_channel c.args.self.now.channel c.args.self.now.sound.lawful
 
 pub returns-in-Some-take : goal.returns-in-Some-take
@@ -48,16 +48,18 @@ returns-in-Some-take c =
           let set = reached.ensures.set m c.in-Some-mark.is t heard (ahead t channel form heard is) in
           let stands =
           subst (λ (x : Mobile). StandsFor t x (now heard) set.given) same set.stands in
+          let ring = c.into_ring-count.ensures.holds t (now heard) set.given stands in
           listens_behind t channel form l heard is _
-          (record { mark = m; tuner = c.tune-tuner.result }) (now heard) refl refl refl refl
+          (record { mark = m; tuner = c.open-tuner.result }) (now heard) refl refl refl refl
           c.take.ensures.after refl (ahead t channel form heard is).unmarked set.marked
-          (c.tune-tuner.ensures.none t (now heard) set.given stands is.phase_is is.deltas_are)
-          (c.tune-tuner.ensures.tuned t (now heard) set.given stands is.phase_is is.deltas_are);
+          (c.open-tuner.ensures.none t (now heard) (sym ring.0) is.phase_is is.deltas_are ring.1)
+          (c.open-tuner.ensures.tuned t (now heard) (sym ring.0) is.phase_is is.deltas_are ring.1);
       silent = λ t channel form heard is.
           let set = reached.ensures.set m c.in-Some-mark.is t heard (ahead t channel form heard is) in
           let stands =
           subst (λ (x : Mobile). StandsFor t x (now heard) set.given) same set.stands in
+          let ring = c.into_ring-count.ensures.holds t (now heard) set.given stands in
           silent_at_mark t channel form l heard is m (now heard)
           (ahead t channel form heard is).unmarked set.marked
-          (c.tune-tuner.ensures.none t (now heard) set.given stands is.phase_is is.deltas_are);
+          (c.open-tuner.ensures.none t (now heard) (sym ring.0) is.phase_is is.deltas_are ring.1);
     }

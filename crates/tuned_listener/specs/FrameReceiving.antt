@@ -1,11 +1,12 @@
 -- What the receiver of a channel's frames stands for, each of which is received by itself.
-use Rattle.std.specs.Prelude.{◌≡◌, ℕ, ◌*◌, ◌≤◌, length}
+use Rattle.std.specs.Prelude.{◌≡◌, ℕ, ◌*◌, ◌<◌, ◌≤◌, length}
 use Rattle.long_code.specs.LongCode.{after}
 use Rattle.heard_events.specs.Channels.{channel_stream, has_power_control, mask_of, state_at}
 use Rattle.heard_events.specs.Tuning.{Tuning}
 use Rattle.heard_events.specs.declared.channel.Channel.{Channel}
 use Rattle.heard_events.specs.declared.mark.Mark.{Mark}
-use Rattle.mobile_core.specs.declared.channel_receiver.ChannelReceiver.{ChannelReceiver}
+use Rattle.tuned_listener.specs.declared.channel_receiver.ChannelReceiver.{ChannelReceiver}
+use Rattle.rake_finger.specs.Held.{Held}
 use Rattle.reception.specs.Clocks.{IsAt, frame_come, frame_heard}
 use Rattle.reception.specs.Sound.{IsSoundReceiver}
 
@@ -31,3 +32,11 @@ frame_passed r =
     record r {
       frames = record r.frames { clock = frame_heard (frame_come r.frames.clock) };
     }
+
+-- the ring holds two frames, and the next frame ends later
+pub record IsSoundTuner (count : ℕ) (ring : Held) (receiver : ChannelReceiver) : Type 0 where
+  pub few : count ≤ 67108864
+  pub within : ring.taken ≤ count
+  pub room : ring.room ≡ 65536
+  pub receives : IsSoundChannelReceiver receiver
+  pub waits : ring.taken < receiver.frames.clock.end

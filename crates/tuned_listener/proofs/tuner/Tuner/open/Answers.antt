@@ -1,6 +1,6 @@
-use Rattle.mobile_core.proofs.Common.{arith, length, sym}
-use Rattle.mobile_core.proofs.FramesGiven.{none_within}
-use Rattle.mobile_core.proofs.tuner.Tuner.open.Goals as goal
+use Rattle.tuned_listener.proofs.Common.{arith, length, sym}
+use Rattle.tuned_listener.proofs.FramesGiven.{none_within}
+use Rattle.tuned_listener.proofs.tuner.Tuner.open.Goals as goal
 
 pub returns-clause-tuned : goal.returns-clause-tuned
 returns-clause-tuned c = λ t heard count phase deltas holds.

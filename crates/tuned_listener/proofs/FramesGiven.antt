@@ -1,10 +1,10 @@
 -- The frames of a channel behind the mark, as they are given one by one.
-use Rattle.mobile_core.proofs.Common.{◌≡◌, ℕ, ◌+◌, ◌*◌, ◌<◌, ◌≤◌, Bool, true, false, List, [], ◌∷◌, ◌++◌, map, filter, length, refl, sym}
-use Rattle.mobile_core.proofs.Common.{ap, ◌∙◌, arith, ℤ, Option, length-append, map-append, places, Sample, after, frame_chips, scrambling}
-use Rattle.mobile_core.proofs.Common.{channel_stream, has_power_control, mask_of, state_at, IsAt, IsDueAt, clock_from, first_frame}
-use Rattle.mobile_core.proofs.Common.{frame_come, frame_passed, HasGiven, Form, Data, Finger, softs, frame_start, AreNear, unscrambled}
-use Rattle.mobile_core.proofs.Common.{frames_within, power_of, soft_frame, soft_frames, raw_at, is_in_file, stream_end, Tuning, Channel}
-use Rattle.mobile_core.proofs.Common.{ChannelReceiver, Mark, PowerControl, SoftFrame}
+use Rattle.tuned_listener.proofs.Common.{◌≡◌, ℕ, ◌+◌, ◌*◌, ◌<◌, ◌≤◌, Bool, true, false, List, [], ◌∷◌, ◌++◌, map, filter, length, refl, sym}
+use Rattle.tuned_listener.proofs.Common.{ap, ◌∙◌, arith, ℤ, Option, length-append, map-append, places, Sample, after, frame_chips, scrambling}
+use Rattle.tuned_listener.proofs.Common.{channel_stream, has_power_control, mask_of, state_at, IsAt, IsDueAt, clock_from, first_frame}
+use Rattle.tuned_listener.proofs.Common.{frame_come, frame_passed, HasGiven, Form, Data, Finger, softs, frame_start, AreNear, unscrambled}
+use Rattle.tuned_listener.proofs.Common.{frames_within, power_of, soft_frame, soft_frames, raw_at, is_in_file, stream_end, Tuning, Channel}
+use Rattle.tuned_listener.proofs.Common.{ChannelReceiver, Mark, PowerControl, SoftFrame}
 use Rattle.reception.proofs.ClockSteps.{before_next, clock_come, clock_heard, clock_more, clock_new, due_inside, from_next}
 use Rattle.rake_finger.proofs.FrameTimes.{known_between, outside_low}
 use Rattle.heard_events.proofs.ChannelFrames.{form_by, waits_by, scrambled_by, known_before, frame_sooner}

@@ -1,14 +1,33 @@
 //! The frames of a channel behind the mark, as the reference base station's paths receive them.
 
-use crate::scrambling::scrambling_of;
+ghost use Rattle.std.specs.Prelude.{◌≡◌, ◌<◌, ◌*◌, ◌^◌, ℕ};
+ghost use Rattle.heard_events.specs.Channels.{IsLawful, mask_of, state_at};
+ghost use Rattle.heard_events.specs.SoundMarks.{IsSoundMark};
+ghost use Rattle.long_code.specs.LongCode.{after};
+
 use chip_core::Phase;
 use frame_decoder::{FrameSofts, PowerSofts, commands};
 use heard_events::{Channel, Mark, PowerControl, SoftFrame};
+use mobile_core::{paging_scrambling, traffic_scrambling};
 use pilot_search::Near;
 use rake_finger::SampleRing;
-use reception::{FrameReceiver, reference_fingers};
+use reception::{FrameReceiver, Scrambling, reference_fingers};
 use short_code::Codes;
 use symbol_path::power_places;
+
+/// The scrambling of a channel, whose frame 0 begins at the mark or at its offset behind it.
+fn scrambling_of(channel: &Channel, mark: &Mark) -> Scrambling
+    requires lawful { IsLawful channel.now }
+    requires mark { IsSoundMark mark.now }
+    ensures state { (k : ℕ) → after result.state (24576 * k) ≡ state_at channel.now mark.now k }
+    ensures mask { result.mask ≡ mask_of channel.now mark.now }
+    ensures below { result.mask < 2 ^ 42 }
+{
+    match channel {
+        Channel::Paging(number) => paging_scrambling(*number, mark),
+        Channel::Traffic(traffic) => traffic_scrambling(traffic, mark),
+    }
+}
 
 /// The receiver of a channel's frames behind the mark, on the paths of the reference base station.
 #[derive(Drop)]
@@ -27,8 +46,8 @@ impl ChannelReceiver {
     ghost use Rattle.heard_events.specs.Tuning.{Tuning};
     ghost use Rattle.heard_events.specs.declared.channel.Channel.{Channel as TheChannel};
     ghost use Rattle.heard_events.specs.declared.mark.Mark.{Mark as TheMark};
-    ghost use Rattle.mobile_core.specs.FrameReceiving.{HasGiven, IsSoundChannelReceiver};
-    ghost use Rattle.mobile_core.specs.FrameReceiving.{frame_passed};
+    ghost use Rattle.tuned_listener.specs.FrameReceiving.{HasGiven, IsSoundChannelReceiver};
+    ghost use Rattle.tuned_listener.specs.FrameReceiving.{frame_passed};
     ghost use Rattle.heard_events.specs.SoundMarks.{IsSoundMark};
     ghost use Rattle.rake_finger.specs.Held.{HoldsLast};
     ghost use Rattle.reception.specs.Softs.{frame_most};

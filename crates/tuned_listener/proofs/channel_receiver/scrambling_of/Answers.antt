@@ -1,6 +1,6 @@
-use Rattle.mobile_core.proofs.Common.{◌∙◌, ap, sym, state_at, Channel}
+use Rattle.tuned_listener.proofs.Common.{◌∙◌, ap, sym, state_at, Channel}
 use Rattle.mobile_core.proofs.FramesHeard.{state_on}
-use Rattle.mobile_core.proofs.scrambling.scrambling_of.Goals as goal
+use Rattle.tuned_listener.proofs.channel_receiver.scrambling_of.Goals as goal
 
 pub returns-in-Traffic-clause-state : goal.returns-in-Traffic-clause-state
 returns-in-Traffic-clause-state c = λ k.

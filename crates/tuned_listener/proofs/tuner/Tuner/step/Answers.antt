@@ -1,7 +1,7 @@
-use Rattle.mobile_core.proofs.Common.{◌≡◌, ◌∙◌, ℕ, ◌-◌, ◌++◌, ◌∷◌, [], append-nil, ap, arith, length, length-take, refl, subst, sym, take}
-use Rattle.mobile_core.proofs.Common.{take_all, HasGiven, soft_frames, ChannelReceiver, SoftFrame}
-use Rattle.mobile_core.proofs.FramesGiven.{step_frame, step_none}
-use Rattle.mobile_core.proofs.tuner.Tuner.step.Goals as goal
+use Rattle.tuned_listener.proofs.Common.{◌≡◌, ◌∙◌, ℕ, ◌-◌, ◌++◌, ◌∷◌, [], append-nil, ap, arith, length, length-take, refl, subst, sym, take}
+use Rattle.tuned_listener.proofs.Common.{take_all, HasGiven, soft_frames, ChannelReceiver, SoftFrame}
+use Rattle.tuned_listener.proofs.FramesGiven.{step_frame, step_none}
+use Rattle.tuned_listener.proofs.tuner.Tuner.step.Goals as goal
 
 pub returns-then-samples-left : goal.returns-then-samples-left
 returns-then-samples-left c =

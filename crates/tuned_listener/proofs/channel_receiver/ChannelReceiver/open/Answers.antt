@@ -1,9 +1,9 @@
-use Rattle.mobile_core.proofs.Common.{◌≡◌, ◌∙◌, ℕ, ◌+◌, ◌*◌, ◌≤◌, List, ap, arith, false, subst, sym, take, ℤ, Finger, Form, Data, Bool}
-use Rattle.mobile_core.proofs.Common.{channel_stream, row_of, clock_from, first_frame, AreNear, fingers_of, FrameClock, Scrambling, after}
+use Rattle.tuned_listener.proofs.Common.{◌≡◌, ◌∙◌, ℕ, ◌+◌, ◌*◌, ◌≤◌, List, ap, arith, false, subst, sym, take, ℤ, Finger, Form, Data, Bool}
+use Rattle.tuned_listener.proofs.Common.{channel_stream, row_of, clock_from, first_frame, AreNear, fingers_of, FrameClock, Scrambling, after}
 use Rattle.heard_events.proofs.ChannelFrames.{fingers_by, first_by, form_by, waits_by}
 use Rattle.rake_finger.proofs.CloseFingers.{near_are_close}
-use Rattle.mobile_core.proofs.FramesGiven.{none_given}
-use Rattle.mobile_core.proofs.channel_receiver.ChannelReceiver.open.Goals as goal
+use Rattle.tuned_listener.proofs.FramesGiven.{none_given}
+use Rattle.tuned_listener.proofs.channel_receiver.ChannelReceiver.open.Goals as goal
 
 pub new-frames-requires-clause-close : goal.new-frames-requires-clause-close
 new-frames-requires-clause-close c =

@@ -4,16 +4,15 @@ use Rattle.std.specs.Prelude.{sum_by, unsigned_abs}
 use Rattle.std.specs.Option.{option_to_list}
 use Rattle.chip_core.specs.declared.sample.Sample.{Sample}
 use Rattle.rake_finger.specs.Held.{HoldsLast}
-use Rattle.mobile_core.specs.FrameReceiving.{HasGiven}
+use Rattle.tuned_listener.specs.FrameReceiving.{HasGiven}
 use Rattle.heard_events.specs.SoftFrames.{soft_frames}
 use Rattle.reception.specs.Softs.{frame_most}
 use Rattle.heard_events.specs.Tuning.{Tuning}
 use Rattle.heard_events.specs.declared.channel.Channel.{Channel}
 use Rattle.heard_events.specs.declared.mark.Mark.{Mark}
-use Rattle.mobile_core.specs.declared.mobile.Mobile.{Mobile}
 use Rattle.heard_events.specs.declared.soft_frame.SoftFrame.{SoftFrame}
-use Rattle.mobile_core.specs.declared.tuner.Tuner.{Tuner}
-use Rattle.mobile_core.specs.declared.tuner.TunerStep.{TunerStep}
+use Rattle.tuned_listener.specs.declared.tuner.Tuner.{Tuner}
+use Rattle.tuned_listener.specs.declared.tuner.TunerStep.{TunerStep}
 
 -- It receives this channel behind this mark, has taken these samples of a file, and given the
 -- frames that end within them.
@@ -22,10 +21,6 @@ pub record IsTunedTo (t : Tuning) (channel : Channel) (m : Mark) (r : Tuner)
   pub count_is : r.count ≡ t.count
   pub ring : HoldsLast r.ring heard
   pub given : HasGiven t channel m r.receiver (length heard)
-
--- how many samples a handset has taken
-abbrev pub samples_taken : Mobile → ℕ
-samples_taken mobile = mobile.ring.taken
 
 -- how many samples of the file are left
 abbrev pub samples_left : Tuner → ℕ

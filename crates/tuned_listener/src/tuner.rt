@@ -1,6 +1,6 @@
 //! The frames of one channel, from the mark on, before they are decoded.
 
-ghost use Rattle.mobile_core.specs.Tuned.{IsSoundTuner};
+ghost use Rattle.tuned_listener.specs.FrameReceiving.{IsSoundTuner};
 
 use crate::channel_receiver::ChannelReceiver;
 use chip_core::{Phase, Sample};
@@ -43,7 +43,7 @@ impl Tuner {
     ghost use Rattle.heard_events.specs.Channels.{IsLawful};
     ghost use Rattle.heard_events.specs.SoftFrames.{soft_frames};
     ghost use Rattle.heard_events.specs.SoundMarks.{IsSoundMark};
-    ghost use Rattle.mobile_core.specs.Tuners.{IsTunedTo, IsTunerStep, samples_left};
+    ghost use Rattle.tuned_listener.specs.Tuners.{IsTunedTo, IsTunerStep, samples_left};
     ghost use Rattle.heard_events.specs.Tuning.{Tuning};
     ghost use Rattle.rake_finger.specs.Held.{HoldsLast};
 

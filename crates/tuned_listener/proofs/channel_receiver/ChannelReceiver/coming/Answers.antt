@@ -1,8 +1,8 @@
-use Rattle.mobile_core.proofs.Common.{◌∙◌, arith}
-use Rattle.mobile_core.proofs.FramesGiven.{frame_is, raw_is}
+use Rattle.tuned_listener.proofs.Common.{◌∙◌, arith}
+use Rattle.tuned_listener.proofs.FramesGiven.{frame_is, raw_is}
 use Rattle.reception.proofs.SoftSums.{frame_small}
 use Rattle.rake_finger.specs.declared.form.Form.TheVariants.{Data}
-use Rattle.mobile_core.proofs.channel_receiver.ChannelReceiver.coming.Goals as goal
+use Rattle.tuned_listener.proofs.channel_receiver.ChannelReceiver.coming.Goals as goal
 
 pub returns-clause-value : goal.returns-clause-value
 returns-clause-value c = λ t channel m heard taken holds has.
