@@ -112,7 +112,7 @@ pub use Rattle.rake_finger.proofs.FingerTimes.{timed_in}
 pub use Rattle.heard_events.proofs.FrameBounds.{AreCloseAll}
 pub use Rattle.heard_events.proofs.TrafficGrowth.{frames_sooner, messages_sooner}
 pub use Rattle.rake_finger.proofs.FrameTimes.{known_between, known_le}
-pub use Rattle.heard_events.proofs.LegParts.{map_same}
+pub use Rattle.heard_events.proofs.LegLists.{map_same}
 pub use Rattle.heard_events.proofs.MarkGrowth.{mark_is}
 pub use Rattle.heard_events.proofs.MarkStays.{by_one_mark, frames_from_mark, messages_from_mark, pages_from_mark, pilot_alone}
 pub use Rattle.heard_events.proofs.MomentGrowth.{kept_new, kept_old}

@@ -7,8 +7,9 @@ use Rattle.heard_events.proofs.Common.{message_at, signal_at, signal_of, signals
 use Rattle.heard_events.specs.TrafficEvents.{frame_heard}
 use Rattle.heard_events.proofs.Arrivals.{Arrivals, given_more}
 use Rattle.heard_events.proofs.FrameBounds.{AreCloseAll, known_later}
-use Rattle.heard_events.proofs.LegParts.{fit_on, map_same}
-use Rattle.rake_finger.proofs.Sooner.{AllFit, all_fit, softs_sooner}
+use Rattle.heard_events.proofs.LegLists.{map_same}
+use Rattle.heard_events.proofs.LegSubsets.{on_all}
+use Rattle.rake_finger.proofs.Sooner.{AllFit, Fits, all_fit, softs_sooner}
 
 -- the frames, whatever pilots each is heard from
 abbrev pub frames_of : Tuning → Traffic → Mark → (ℕ → List Leg) → Arrivals
@@ -51,7 +52,7 @@ module _ (t : Tuning) (traffic : Traffic) (m : Mark) (legs : ℕ → List Leg) w
         ap (group_sums (replaced_in traffic m k))
         (softs_sooner xs ys (all_fingers t.phase t.deltas (on_subchannel c (legs k))) Data
         (traffic_start traffic m k)
-        (fit_on (length xs) Data (traffic_start traffic m k) t.phase t.deltas c (legs k) fits)))
+        (on_all (Fits (length xs) Data (traffic_start traffic m k)) t.phase t.deltas c (legs k) fits)))
 
     power_bits_sooner : power_bits_at t traffic m legs (xs ++ ys) k
         ≡ power_bits_at t traffic m legs xs k

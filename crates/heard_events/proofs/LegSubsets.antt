@@ -3,33 +3,22 @@ use Rattle.heard_events.proofs.Common.{◌≡◌, ℕ, zero, suc, ◌+◌, ◌*�
 use Rattle.heard_events.proofs.Common.{refl, ap, ◌∙◌, arith, ℤ, All, inl, inr, nat_lt, and_from, and_parts, cases_Bool, map-append}
 use Rattle.heard_events.proofs.Common.{All-append, places, Finger, is_close, legs_close, legs_rows, places_in, all_fingers, has_subchannel}
 use Rattle.heard_events.proofs.Common.{is_on, leg_fingers, on_subchannel, Leg, list_all, filter-places-more}
+use Rattle.heard_events.proofs.Common.{subst, sym, length-append}
+use Rattle.std.proofs.lemmas.List.{get_or-append-add, get_or_append_left}
+use Rattle.std.proofs.lemmas.List.Elements.{All-filter}
+use Rattle.std.proofs.lemmas.List.Sums.{AllPass-from_list_all, count_by-le-length, length-filter, list_all-from_AllPass}
 use Rattle.heard_events.proofs.Arrivals.{given_less}
 
 -- LISTS WHOSE ELEMENTS ALL HAVE A PROPERTY
-one_more : {X : Type 0} (P : X → Type 0) (x : X) (xs : List X) → P x → All P xs → All P (x ∷ xs)
-one_more P x xs here rest zero d less = here
-one_more P x xs here rest (suc k) d less = rest k d (omega (arith, less))
-
-all_left : {X : Type 0} (P : X → Type 0) (xs ys : List X) → All P (xs ++ ys) → All P xs
-all_left P [] ys h = λ k d less. absurd (omega (arith, less))
-all_left P (x ∷ xs) ys h =
-    one_more P x xs (h 0 x (omega arith))
-    (all_left P xs ys (λ k d less. h (suc k) d (omega (arith, less))))
-
-all_right : {X : Type 0} (P : X → Type 0) (xs ys : List X) → All P (xs ++ ys) → All P ys
-all_right P [] ys h = h
-all_right P (x ∷ xs) ys h = all_right P xs ys (λ k d less. h (suc k) d (omega (arith, less)))
+all_parts : {X : Type 0} (P : X → Type 0) (xs ys : List X) → All P (xs ++ ys) → All P xs × All P ys
+all_parts P xs ys h =
+    let long = length-append xs ys in (
+      λ k d less. subst P (get_or_append_left xs ys d k less) (h k d (omega (arith, long, less))),
+      λ k d less.
+          subst P (get_or-append-add xs ys k d) (h (length xs + k) d (omega (arith, long, less))),
+    )
 
 -- a filter that leaves as many as there were leaves all
-filter_few : {X : Type 0} (p : X → Bool) (xs : List X) → length (filter p xs) ≤ length xs
-filter_few p [] = omega arith
-filter_few p (x ∷ xs) =
-    let rest = filter_few p xs in
-    elim (cases_Bool (p x)) [
-      | inl has ↦ rw has (omega (arith, rest))
-      | inr not ↦ rw not (omega (arith, rest))
-    ]
-
 filter_whole : {X : Type 0} (p : X → Bool) (xs : List X) → length (filter p xs) ≡ length xs →
     filter p xs ≡ xs
 filter_whole p [] all = refl
@@ -40,20 +29,15 @@ filter_whole p (x ∷ xs) all =
           rw has (λ i. x ∷ filter_whole p xs (omega (arith, long)) i)
       | inr not ↦
           let long = rw not at all in
-          absurd (omega (arith, long, filter_few p xs))
+          absurd (omega (arith, long, length-filter p xs, count_by-le-length p xs))
     ]
 
 -- what all pass, those pass that a filter leaves
 filter_all : {X : Type 0} (p q : X → Bool) (xs : List X) → list_all p xs ≡ true →
     list_all p (filter q xs) ≡ true
-filter_all p q [] h = refl
-filter_all p q (x ∷ xs) h =
-    let both = and_parts (p x) (list_all p xs) h in
-    let rest = filter_all p q xs both.1 in
-    elim (cases_Bool (q x)) [
-      | inl has ↦ rw has (and_from (p x) (list_all p (filter q xs)) both.0 rest)
-      | inr not ↦ rw not rest
-    ]
+filter_all p q xs h =
+    list_all-from_AllPass p (filter q xs)
+    (All-filter q (λ x. p x ≡ true) xs (AllPass-from_list_all p xs h))
 
 -- ON A SUBCHANNEL
 -- where as many pilots are on it as there are, they are all
@@ -93,11 +77,11 @@ on_all P phase deltas c [] h = h
 on_all P phase deltas c (leg ∷ legs) h =
     let one = leg_fingers phase deltas leg in
     let others = all_fingers phase deltas legs in
-    let here = all_left P one others h in
-    let rest = on_all P phase deltas c legs (all_right P one others h) in
+    let parts = all_parts P one others h in
+    let rest = on_all P phase deltas c legs parts.1 in
     elim (cases_Bool (is_on c leg)) [
       | inl on ↦
-          rw on (All-append P one (all_fingers phase deltas (on_subchannel c legs)) here rest)
+          rw on (All-append P one (all_fingers phase deltas (on_subchannel c legs)) parts.0 rest)
       | inr off ↦ rw off rest
     ]
 
@@ -105,17 +89,12 @@ on_all P phase deltas c (leg ∷ legs) h =
 abbrev pub first_subchannels : List Leg → ℕ → List ℕ
 first_subchannels legs n = filter (has_subchannel legs) (places n)
 
-pub sums_none : {A : Type 0} (f : ℕ → A) (legs : List Leg) →
-    map f (first_subchannels legs 0) ≡ []
-unfolding places
-sums_none f legs = refl
-
-pub sums_more : {A : Type 0} (f : ℕ → A) (legs : List Leg) (n : ℕ) →
-    has_subchannel legs n ≡ true →
-    map f (first_subchannels legs (n + 1)) ≡ map f (first_subchannels legs n) ++ f n ∷ []
-sums_more f legs n h =
-    ap (map f) (filter-places-more (has_subchannel legs) n h)
-    ∙ map-append f (first_subchannels legs n) (n ∷ [])
+pub sums_more : {A : Type 0} (f : ℕ → A) (legs : List Leg) (n : ℕ) (sums : List A) (one : A) →
+    sums ≡ map f (first_subchannels legs n) → one ≡ f n → has_subchannel legs n ≡ true →
+    sums ++ one ∷ [] ≡ map f (first_subchannels legs (n + 1))
+sums_more f legs n sums one before is h =
+    rw (filter-places-more (has_subchannel legs) n h, before, is)
+    (sym (map-append f (first_subchannels legs n) (n ∷ [])))
 
 pub sums_same : {A : Type 0} (f : ℕ → A) (legs : List Leg) (n : ℕ) →
     has_subchannel legs n ≡ false →

@@ -9,7 +9,6 @@ pub mod MarkGrowth
 pub mod MarkLater
 pub mod PageBits
 pub mod PageGrowth
-pub mod LegParts
 pub mod FrameBounds
 pub mod FrameGrowth
 pub mod MomentGrowth
@@ -26,6 +25,4 @@ pub mod LegLists
 pub mod ActiveLegs
 pub mod LegFingers
 pub mod LegSubsets
-pub mod NeighborPilots
 pub mod SignalParts
-pub mod MomentMeasured

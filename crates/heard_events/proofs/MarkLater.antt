@@ -12,28 +12,14 @@ use Rattle.heard_events.proofs.Common.{stream_end, Tuning, sync_stream, Mark, Sp
 use Rattle.heard_events.proofs.Common.{reading_is_message, fixed_fields}
 use Rattle.std.specs.List.{filter}
 use Rattle.frame_decoder.specs.Spans.{Channel}
+use Rattle.heard_events.proofs.Common.{All, get_or}
+use Rattle.std.proofs.lemmas.Bool.{cond_both}
+use Rattle.std.proofs.lemmas.List.Elements.{All-map, All-nil, All-tail, All-take}
 use Rattle.rake_finger.proofs.FingerTimes.{ends_bounds}
 use Rattle.rake_finger.proofs.FrameTimes.{known_between}
+use Rattle.rake_finger.proofs.Spans.{own_below}
 
 -- THE BITS OF A FRAME
-span_first_most : (count : ℕ) (s : Stream) (k : ℕ) → span_first count s k ≤ k
-span_first_most count s zero = omega arith
-span_first_most count s (suc k) =
-    elim (cases_Bool (is_in_file count s k)) [
-      | inl e ↦ rw e (omega arith)
-      | inr e ↦ rw e (omega arith)
-    ]
-
--- a frame lies in its span
-own_below : (count : ℕ) (s : Stream) (k : ℕ) →
-    k - span_first count s k < span_frames count s k
-own_below count s k =
-    let most = span_first_most count s k in
-    elim (cases_Bool (is_in_file count s (k + 1))) [
-      | inl e ↦ rw e (omega (arith, most))
-      | inr e ↦ rw e (omega (arith, most))
-    ]
-
 length-own_bits : (c : Channel) (frames own : ℕ) (softs : List ℤ) → own < frames →
     length (own_bits c frames own softs) ≡ c.bits
 length-own_bits c frames own softs below =
@@ -58,39 +44,27 @@ length-frame_own_bits count samples s k =
 
 -- PIECES OF THE SYNC CHANNEL
 -- each has 31 bits
-abbrev AreWhole : List Piece → Type 0
-AreWhole [] = Unit {0}
-AreWhole (p ∷ pieces) = (length p.body ≡ 31) × AreWhole pieces
+abbrev IsWhole : Piece → Type 0
+IsWhole p = length p.body ≡ 31
 
-body_whole : (bits : List Bool) → length bits ≡ 32 → length (piece bits).body ≡ 31
+body_whole : (bits : List Bool) → length bits ≡ 32 → IsWhole (piece bits)
 body_whole [] h = absurd (omega (arith, h))
 body_whole (b ∷ bits) h = omega (arith, h)
 
-pieces_whole : (f : ℕ → List Bool) → ((k : ℕ) → length (f k) ≡ 32) → (ks : List ℕ) →
-    AreWhole (map piece (map f ks))
-pieces_whole f h [] = tt
-pieces_whole f h (k ∷ ks) = (body_whole (f k) (h k), pieces_whole f h ks)
+latest_all : (P : Piece → Type 0) (pieces : List Piece) → All P pieces → All P (from_last_start pieces)
+latest_all P [] h = h
+latest_all P (p ∷ pieces) h =
+    let later = from_last_start pieces in
+    cond_both (nat_lt 0 (length later)) later (cond p.starts (p ∷ pieces) []) (All P)
+    (λ _. latest_all P pieces (All-tail P p pieces h))
+    (λ _. cond_both p.starts (p ∷ pieces) [] (All P) (λ _. h) (λ _. All-nil P))
 
-chosen : (b c : Bool) (later all : List Piece) → AreWhole later → AreWhole all →
-    AreWhole (if b then later else cond c all [])
-chosen true c later all h g = h
-chosen false true later all h g = g
-chosen false false later all h g = tt
-
-latest_whole : (pieces : List Piece) → AreWhole pieces → AreWhole (from_last_start pieces)
-latest_whole [] h = tt
-latest_whole (p ∷ pieces) h =
-    chosen (nat_lt 0 (length (from_last_start pieces))) p.starts (from_last_start pieces)
-    (p ∷ pieces) (latest_whole pieces h.1) h
-
-first_bodies : (n : ℕ) (pieces : List Piece) → AreWhole pieces → n ≤ length pieces →
-    length (bodies (take n pieces)) ≡ 31 * n
-first_bodies zero [] h few = refl
-first_bodies zero (p ∷ pieces) h few = refl
-first_bodies (suc n) [] h few = absurd (omega (arith, few))
-first_bodies (suc n) (p ∷ pieces) h few =
-    let rest = first_bodies n pieces h.1 (omega (arith, few)) in
-    omega (arith, length-append p.body (bodies (take n pieces)), h.0, rest)
+bodies_long : (pieces : List Piece) → All IsWhole pieces → length (bodies pieces) ≡ 31 * length pieces
+bodies_long [] h = refl
+bodies_long (p ∷ pieces) h =
+    let one : length p.body ≡ 31 = h 0 p (omega arith) in
+    let rest = bodies_long pieces (All-tail IsWhole p pieces h) in
+    omega (arith, one, rest, length-append p.body (bodies pieces))
 
 -- THE CAPSULE ENDS IN ITS LAST FRAME
 decide : (a b : Bool) (front capsule : List Bool) →
@@ -123,12 +97,14 @@ frames_few t samples k capsule e =
     let own = frame_own_bits t.count samples s in
     let ks = filter (is_in_file t.count s) (places (k + 1)) in
     let message = from_last_start (map piece (map own ks)) in
-    let whole = latest_whole (map piece (map own ks))
-    (pieces_whole own (length-frame_own_bits t.count samples s) ks) in
+    let each = λ (j : ℕ). body_whole (own j) (length-frame_own_bits t.count samples s j) in
+    let whole = latest_all IsWhole (map piece (map own ks))
+    (All-map IsWhole piece (map own ks)
+    (All-map (λ (bits : List Bool). IsWhole (piece bits)) own ks (λ i d less. each (get_or ks i d)))) in
     let late = ends_late (bodies message) (length (bodies (but_last message))) capsule e in
-    let most : length message - 1 ≤ length message = omega arith in
-    let bits = first_bodies (length message - 1) message whole most in
-    omega (arith, late, bits)
+    let most = length-take (length message - 1) message in
+    let bits = bodies_long (but_last message) (All-take IsWhole (length message - 1) message whole) in
+    omega (arith, late, bits, most)
 
 -- THE MARK OF A MESSAGE
 picked : (b : Bool) (x m : Mark) → first_of (if b then [] else x ∷ []) ≡ Some m → x ≡ m
@@ -163,17 +139,6 @@ told_is : (form : CheckForm) (c : Option (List Bool)) (heard : SpelledMessage) �
 told_is form None heard e = absurd (cc)
 told_is form (Some capsule) heard e = read_is form capsule _ refl heard e
 
--- a mark is that of a message
-mark_of : (t : Tuning) (samples : List Sample) (k : ℕ) (m : Mark) →
-    first_of (marks_at t samples k) ≡ Some m → (heard : SpelledMessage)
-    × ((mark_at (frame_start (sync_stream t) (k + 1 - frames_open t samples (k + 1))) heard ≡ m)
-    × ((sync_capsule_at t samples k ≡ Some heard.capsule) × (heard.message.pn ≤ 511)))
-unfolding marks_at heard_at
-mark_of t samples k m e =
-    let first : ℕ = frame_start (sync_stream t) (k + 1 - frames_open t samples (k + 1)) in
-    let got = marks_told first (heard_at t samples k) m e in
-    (got.0, (got.1.1, told_is t.check30 (sync_capsule_at t samples k) got.0 got.1.0))
-
 -- a capsule's frames are at most three for each of its superframes, and the time that it tells lies
 -- four superframes behind these
 late_enough : (first frames bits pn known : ℕ) → 31 * (frames - 1) < bits →
@@ -198,12 +163,14 @@ module _ (t : Tuning) (samples : List Sample) (k low : ℕ) (near : AreNear (syn
 
   pub mark_later : (m : Mark) → first_of (marks_at t samples k) ≡ Some m →
       known_at t.count (sync_stream t) k < m.sample
+  unfolding marks_at heard_at
   mark_later m e =
       let s = sync_stream t in
       let frames : ℕ = frames_open t samples (k + 1) in
       let first : ℕ = frame_start s (k + 1 - frames) in
-      let (heard, is) = mark_of t samples k m e in
-      let few = frames_few t samples k heard.capsule is.1.0 in
+      let (heard, is) = marks_told first (heard_at t samples k) m e in
+      let told = told_is t.check30 (sync_capsule_at t samples k) heard is.0 in
+      let few = frames_few t samples k heard.capsule told.0 in
       let late = late_enough first frames (length heard.capsule) heard.message.pn
-      (known_at t.count s k) few (known_most frames) is.1.1 in
-      subst (λ (x : Mark). known_at t.count s k < x.sample) is.0 late
+      (known_at t.count s k) few (known_most frames) told.1 in
+      subst (λ (x : Mark). known_at t.count s k < x.sample) is.1 late

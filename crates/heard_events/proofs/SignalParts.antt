@@ -4,15 +4,11 @@ use Rattle.heard_events.proofs.Common.{[], ◌∷◌, cond, get_or, if◌then◌
 use Rattle.heard_events.proofs.Common.{decoded, frame_bits, has_quality, not_good, preferred, rate_frame, rate_codeword, unreplaced}
 use Rattle.heard_events.proofs.Common.{Decoded, length-rate_codeword, information_of, Rate, R9600, R4800, R2400, R1200, primary_bits, split}
 use Rattle.heard_events.proofs.Common.{split_9600, Mux}
+use Rattle.std.proofs.lemmas.Bool.{cond_both}
 
 -- A DECODED FRAME HAS THE INFORMATION BITS OF ITS RATE
 abbrev IsLong : Decoded → Type 0
 IsLong frame = length frame.bits ≡ information_of frame.rate
-
-either_long : (b : Bool) (one other : Decoded) → IsLong one → IsLong other →
-    IsLong (if b then one else other)
-either_long true one other long long' = long
-either_long false one other long long' = long'
 
 within : (rate : Rate) → information_of rate ≤ frame_bits rate
 within R9600 = omega arith
@@ -28,42 +24,30 @@ information_long softs rate =
     length-take-le (information_of rate) (rate_codeword softs rate).bits
     (omega (arith, long, within rate))
 
--- a rate's frame against the best of the lower rates
-preferred_long : (softs : List ℤ) (rate : Rate) (lower : Decoded) → IsLong lower →
-    IsLong (preferred (has_quality rate (rate_codeword softs rate).bits) (rate_frame softs rate) lower)
-preferred_long softs rate lower long =
+best_long : (softs : List ℤ) (rates : List Rate) → IsLong (best_candidate softs rates)
+best_long softs [] = information_long softs R1200
+best_long softs (rate ∷ rates) =
     let higher = rate_frame softs rate in
-    either_long (has_quality rate (rate_codeword softs rate).bits) (better higher lower) lower
-    (either_long (int_lt higher.score lower.score) lower higher long (information_long softs rate))
-    long
+    let lower = best_candidate softs rates in
+    let long = best_long softs rates in
+    cond_both (has_quality rate (rate_codeword softs rate).bits) (better higher lower) lower IsLong
+    (λ _.
+    cond_both (int_lt higher.score lower.score) lower higher IsLong (λ _. long)
+    (λ _. information_long softs rate))
+    (λ _. long)
 
 pub decoded_long : (replaced : List ℕ) (softs : List ℤ) →
     length (decoded replaced softs).bits ≡ information_of (decoded replaced softs).rate
 unfolding decoded
 decoded_long replaced softs =
     let kept = unreplaced replaced softs in
-    let quarter = best_candidate kept (R2400 ∷ []) in
-    let half = best_candidate kept (R4800 ∷ R2400 ∷ []) in
     let best = best_candidate kept (R9600 ∷ R4800 ∷ R2400 ∷ []) in
-    let quarter_long : IsLong quarter =
-    preferred_long kept R2400 (rate_frame kept R1200) (information_long kept R1200) in
-    let half_long : IsLong half = preferred_long kept R4800 quarter quarter_long in
-    either_long best.good best (not_good (rate_codeword kept R9600).bits best.score)
-    (preferred_long kept R9600 half half_long) (information_long kept R9600)
+    cond_both best.good best (not_good (rate_codeword kept R9600).bits best.score) IsLong
+    (λ _. best_long kept (R9600 ∷ R4800 ∷ R2400 ∷ [])) (λ _. information_long kept R9600)
 
 -- ITS SIGNALING IS SOME BITS LONG
 abbrev IsLongSignal : Option (List Bool) → Type 0
 IsLongSignal part = IfSome part (λ signal. 2 ≤ length signal)
-
-either_signal : (b : Bool) (one other : Mux) → IsLongSignal one.signal → IsLongSignal other.signal →
-    IsLongSignal (if b then one else other).signal
-either_signal true one other long long' = long
-either_signal false one other long long' = long'
-
-signal_or_none : (secondary : Bool) (part : List Bool) → 2 ≤ length part →
-    IsLongSignal (cond secondary None (Some part))
-signal_or_none true part long = tt
-signal_or_none false part long = long
 
 primary_most : (tm1 tm0 : Bool) → primary_bits tm1 tm0 ≤ 80
 primary_most true true = omega arith
@@ -80,19 +64,16 @@ full_long bits long =
     let most = primary_most tm1 tm0 in
     let rest = length-drop 4 bits in
     let behind = length-drop size (drop 4 bits) in
-    either_signal (get_or bits 0 false) _ _
-    (signal_or_none (get_or bits 1 false) (drop size (drop 4 bits))
-    (omega (arith, long, most, rest, behind))) tt
+    cond_both (get_or bits 0 false) _ _ (λ (m : Mux). IsLongSignal m.signal)
+    (λ _.
+    cond_both (get_or bits 1 false) None (Some (drop size (drop 4 bits))) IsLongSignal (λ _. tt)
+    (λ _. omega (arith, long, most, rest, behind)))
+    (λ _. tt)
 
-signal_long : (rate : Rate) (bits : List Bool) → length bits ≡ information_of rate →
+pub signal_long : (rate : Rate) (bits : List Bool) → length bits ≡ information_of rate →
     IsLongSignal (split rate bits).signal
 unfolding split
 signal_long R9600 bits long = full_long bits long
 signal_long R4800 bits long = tt
 signal_long R2400 bits long = tt
 signal_long R1200 bits long = tt
-
-pub signal_least : (rate : Rate) (bits : List Bool) (signal : Option (List Bool)) →
-    length bits ≡ information_of rate → signal ≡ (split rate bits).signal →
-    IfSome signal (λ part. 2 ≤ length part)
-signal_least rate bits signal long is = rw is (signal_long rate bits long)

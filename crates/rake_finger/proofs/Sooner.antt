@@ -3,7 +3,8 @@ use Rattle.rake_finger.proofs.Common.{◌≡◌, ℕ, ◌+◌, ◌*◌, ◌/◌,
 use Rattle.rake_finger.proofs.Common.{arith, ℤ, pos, ◌+ℤ◌, ◌-ℤ◌, length-drop, unsigned_abs, int_le, ints, and_parts, take-append-le}
 use Rattle.rake_finger.proofs.Common.{drop-append-le, sum_of, total, Sample, despread, symbol_chips, window_chips, symbols, frame_chips}
 use Rattle.rake_finger.proofs.Common.{finger_place, despread_at, covered_from, pilot_sum, symbol_sum, soft, softs, Finger, Form, Sync, Data}
-use Rattle.rake_finger.proofs.Common.{is_within, frame_end, map_ext_places, ◌-◌, sym, ◌∙◌, drop-drop, drop-take, take-take, AgreeIn}
+use Rattle.rake_finger.proofs.Common.{is_within, frame_end, map_ext_places, ◌-◌, sym, ◌∙◌, drop-drop, drop-take, take-take, AgreeIn, All}
+use Rattle.std.proofs.lemmas.List.Elements.{All-cons, All-head, All-nil, All-tail}
 
 -- a part of a part
 part_is : {A : Type 0} (xs : List A) (place off count m : ℕ) → off + count ≤ m →
@@ -86,10 +87,13 @@ softs_same one other fingers form u same =
     (λ j h. ap total (all_soft_same one other fingers form u j h same))
 
 -- MORE SAMPLES
--- each finger's samples of the frame lie among the first n
+-- a finger's samples of the frame lie among the first n
+abbrev pub Fits : ℕ → Form → ℕ → Finger → Type 0
+Fits n form u f = finger_place f u + frame_chips form ≤ n
+
+-- so do each finger's
 abbrev pub AllFit : ℕ → Form → ℕ → List Finger → Type 0
-AllFit n form u [] = Unit {0}
-AllFit n form u (f ∷ fingers) = (finger_place f u + frame_chips form ≤ n) × AllFit n form u fingers
+AllFit n form u fingers = All (Fits n form u) fingers
 
 place_fits : (u m : ℕ) (d : ℤ) (n : ℕ) → int_le d (pos u) ≡ true →
     unsigned_abs ((pos u -ℤ d) +ℤ pos m) ≤ n → unsigned_abs (pos u -ℤ d) + m ≤ n
@@ -97,15 +101,15 @@ place_fits u m d n h e = grind (arith, ints)
 
 pub all_fit : (count n : ℕ) (fingers : List Finger) (form : Form) (u : ℕ) →
     is_within count fingers form u ≡ true → frame_end fingers form u ≤ n → AllFit n form u fingers
-all_fit count n [] form u within ends = tt
+all_fit count n [] form u within ends = All-nil (Fits n form u)
 all_fit count n (f ∷ fingers) form u within ends =
     let begun = int_le f.delta (pos u) in
     let fits = int_le ((pos u -ℤ f.delta) +ℤ pos (frame_chips form)) (pos count) in
     let parts = and_parts (begun && fits) (is_within count fingers form u) within in
-    let one = and_parts begun fits parts.0 in (
-      place_fits u (frame_chips form) f.delta n one.0 (omega arith),
-      all_fit count n fingers form u parts.1 (omega arith),
-    )
+    let one = and_parts begun fits parts.0 in
+    All-cons (Fits n form u) f fingers
+    (place_fits u (frame_chips form) f.delta n one.0 (omega arith))
+    (all_fit count n fingers form u parts.1 (omega arith))
 
 part_sooner : {A : Type 0} (xs ys : List A) (place count : ℕ) → place + count ≤ length xs →
     take count (drop place (xs ++ ys)) ≡ take count (drop place xs)
@@ -118,8 +122,9 @@ agree_sooner : (xs ys : List Sample) (fingers : List Finger) (form : Form) (u : 
     AllFit (length xs) form u fingers → AgreeIn (xs ++ ys) xs form u fingers
 agree_sooner xs ys [] form u fit = tt
 agree_sooner xs ys (f ∷ fingers) form u fit = (
-  part_sooner xs ys (finger_place f u) (frame_chips form) fit.0,
-  agree_sooner xs ys fingers form u fit.1,
+  part_sooner xs ys (finger_place f u) (frame_chips form)
+      (All-head (Fits (length xs) form u) f fingers fit),
+  agree_sooner xs ys fingers form u (All-tail (Fits (length xs) form u) f fingers fit),
 )
 
 pub softs_sooner : (xs ys : List Sample) (fingers : List Finger) (form : Form) (u : ℕ) →

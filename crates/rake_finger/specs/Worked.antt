@@ -1,5 +1,5 @@
 -- Two samples on the first chips of the codes, and small values, which the checker computes.
-use Rattle.std.specs.Prelude.{◌≡◌, refl, List, [], ◌∷◌, pos, negsuc, map, replicate}
+use Rattle.std.specs.Prelude.{◌≡◌, refl, true, false, List, [], ◌∷◌, pos, negsuc, map, replicate}
 use Rattle.chip_core.specs.Bits.{binary}
 use Rattle.chip_core.specs.Complex.{sum_of}
 use Rattle.chip_core.specs.Sums.{first_greatest}
@@ -7,6 +7,8 @@ use Rattle.chip_core.specs.declared.sample.Sample.{Sample}
 use Rattle.pilot_search.specs.Search.{correlation, energy}
 use Rattle.short_code.specs.ShortCode.{chips_to}
 use Rattle.walsh.specs.Walsh.{walsh}
+use Rattle.rake_finger.specs.Paths.{modulo_code}
+use Rattle.rake_finger.specs.Scrambled.{unscrambled}
 use Rattle.rake_finger.specs.Soft.{finger_place, covered_from, despread_at, turned_part}
 use Rattle.rake_finger.specs.Strengths.{strength, sample_power}
 
@@ -52,3 +54,11 @@ nothing_there = refl
 power_of_two : sample_power two ≡ 2
 unfolding two
 power_of_two = refl
+
+below_the_code : modulo_code (negsuc 2) ≡ 32765
+below_the_code = refl
+
+-- a soft value is turned where its scrambling bit is 1, and none where there are no bits
+descrambled : map (λ bits. unscrambled bits (pos 3 ∷ pos 4 ∷ [])) ((true ∷ false ∷ []) ∷ [] ∷ [])
+    ≡ (negsuc 2 ∷ pos 4 ∷ []) ∷ (pos 3 ∷ pos 4 ∷ []) ∷ []
+descrambled = refl

@@ -1,7 +1,6 @@
 use Rattle.heard_events.proofs.Common.{◌≡◌, ◌<◌, ◌≤◌, ◌++◌, ◌∷◌, [], ◌∙◌, sym, ap, arith, List, map, take, length-append, rules}
 use Rattle.heard_events.proofs.Common.{unsigned_abs, map-append, Strength, pilot_strength, All-push}
-use Rattle.heard_events.proofs.ActiveLegs.{all_at}
-use Rattle.heard_events.proofs.LegLists.{take_at}
+use Rattle.heard_events.proofs.LegLists.{all_at, map_at}
 use Rattle.heard_events.proofs.measuring.measure.Goals as goal
 
 pub loop-i-preserved : goal.loop-i-preserved
@@ -16,11 +15,9 @@ loop-i-preserved c =
     c.get.ensures in
     rw more (record {
       list = λ heard holds.
-          let f = pilot_strength c.args.mark.now heard c.args.place c.args.sets.now in
-          ap (λ (xs : List Strength). xs ++ one ∷ []) (had.list heard holds)
-          ∙ ap (λ (s : Strength). map f (take c.loop-i.i pilots) ++ s ∷ []) (is.value heard holds)
-          ∙ sym (map-append f (take c.loop-i.i pilots) (p ∷ []))
-          ∙ ap (map f) (sym (take_at pilots c.loop-i.i p c.get.ensures));
+          map_at (pilot_strength c.args.mark.now heard c.args.place c.args.sets.now) pilots
+          c.loop-i.i p c.loop-i.strengths one c.get.ensures (had.list heard holds)
+          (is.value heard holds);
       long = omega (arith, length-append c.loop-i.strengths (one ∷ []), had.long);
       pilots = All-push (λ (s : Strength). s.pilot < 512) c.loop-i.strengths one had.pilots
           (omega (arith, is.pilot, low));
