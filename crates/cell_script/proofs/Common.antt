@@ -84,13 +84,14 @@ unfoldable pub use Rattle.cell_script.specs.Script.{draft_after, is_line, lines,
 pub use Rattle.cell_script.specs.ScriptDrafts.{Draft, draft_at, empty_draft, empty_plan, on_last, opened, opened_traffic, plan_at}
 pub use Rattle.cell_script.specs.ScriptDrafts.{with_frame, with_frame2, with_page, with_statement}
 unfoldable pub use Rattle.cell_script.specs.ScriptDrafts.{with_line, with_next}
-pub use Rattle.cell_script.specs.ScriptFields.{AreUpTo, NumberRow, at_end, key_of, mosts, past_at, ranged, row, sync_row}
-pub use Rattle.cell_script.specs.ScriptFields.{unsigned_at, unsigned_of, value_of, ◌>>=◌}
-unfoldable pub use Rattle.cell_script.specs.ScriptFields.{field, numbers_in, past, past_numbers}
+pub use Rattle.cell_script.specs.Rows.{AreUpTo, NumberRow, key_of, local_rows, mosts, network_rows, ranged, row, sync_row}
+unfoldable pub use Rattle.cell_script.specs.Rows.{numbers_in, past_numbers}
+pub use Rattle.cell_script.specs.ScriptFields.{at_end, past_at, unsigned_at, unsigned_of, value_of, ◌>>=◌}
+unfoldable pub use Rattle.cell_script.specs.ScriptFields.{field, past}
 pub use Rattle.cell_script.specs.ScriptJudged.{HasJudged, HasSeen, IsInOrder, IsJudged, gains_of, judged_fault}
 pub use Rattle.cell_script.specs.ScriptLines.{cell_line, frame2_key, frame2_rate, frame_by, frame_key, frame_rate, has_lawful_rest, is_link}
 pub use Rattle.cell_script.specs.ScriptLines.{lawful_frame, lawful_message, lawful_page, link_line, page_key, page_with, paging_line}
-pub use Rattle.cell_script.specs.ScriptLines.{gain_row, local_rows, network_rows, sync_fields, traffic_line, traffic_rows}
+pub use Rattle.cell_script.specs.ScriptLines.{gain_row, sync_fields, traffic_line, traffic_rows}
 unfoldable pub use Rattle.cell_script.specs.ScriptLines.{cell_in, frame2_in, frame_in, freq_in, link_in, page_in, paging_in, pilot_in}
 unfoldable pub use Rattle.cell_script.specs.ScriptLines.{statement_in, sync_behind, sync_in, traffic_in}
 pub use Rattle.cell_script.specs.ScriptPlans.{IsLawful}

@@ -1,3 +1,4 @@
+pub mod Rows
 pub mod Script
 pub mod ScriptDrafts
 pub mod ScriptFields

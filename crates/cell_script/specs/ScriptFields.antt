@@ -1,10 +1,9 @@
 -- The fields of a script's lines, read one after another.
-use Rattle.std.specs.Prelude.{ℕ, if◌then◌else◌, List, [], ◌∷◌, length, take, drop, map, get_or, ◌<◌}
-use Rattle.std.specs.Prelude.{◌≤◌, ◌^◌, ◌-◌, ◌++◌, codes, Option, None, Some, ℤ}
+use Rattle.std.specs.Prelude.{ℕ, if◌then◌else◌, List, [], ◌∷◌, length, take, drop, get_or, ◌<◌}
+use Rattle.std.specs.Prelude.{◌≤◌, ◌^◌, Option, None, Some, ℤ}
 use Rattle.long_code.specs.LongCode.{IsState}
 use Rattle.cell_script.specs.declared.tables.FieldForm.{FieldForm}
 use Rattle.cell_script.specs.declared.tables.FieldForm.TheVariants as forms
-use Rattle.sync_message.specs.Rows.{sync_names, sync_widths}
 use Rattle.cell_script.specs.ScriptValues.{begins_with, length_before, number_up_to}
 use Rattle.cell_script.specs.ScriptValues.{serial_number_in, signed_in, state_in}
 
@@ -76,45 +75,3 @@ signed_at rows i text = field (row_at rows i).key (signed_of (row_at rows i).for
 
 abbrev pub past_at : List StatementRow → ℕ → List ℕ → List ℕ
 past_at rows i text = past (row_at rows i).key text
-
--- ---- numbers that follow one another
-
--- a field that holds a number: its key, and the greatest number
-pub record NumberRow : Type 0 where
-  pub key : List ℕ
-  pub most : ℕ
-
-abbrev pub row : List ℕ → ℕ → NumberRow
-row key most = record { key = key; most = most }
-
--- what stands before the value of a field of this name
-abbrev pub key_of : List ℕ → List ℕ
-key_of name = codes " " ++ name ++ codes "="
-
--- a field of a message by its name, with the range of its width
-abbrev pub ranged : List ℕ → ℕ → NumberRow
-ranged name width = row (key_of name) (2 ^ width - 1)
-
--- field i of the sync message's table
-abbrev pub sync_row : ℕ → NumberRow
-sync_row i = ranged (get_or sync_names i []) (get_or sync_widths i 0)
-
--- the numbers of fields that follow one another, and the text behind them
-unfoldable pub numbers_in : List NumberRow → List ℕ → Option (List ℕ)
-numbers_in [] text = Some []
-numbers_in (f ∷ fields) text = do
-  number ← field f.key (number_up_to f.most) text
-  numbers ← numbers_in fields (past f.key text)
-  Some (number ∷ numbers)
-
-unfoldable pub past_numbers : List NumberRow → List ℕ → List ℕ
-past_numbers [] text = text
-past_numbers (f ∷ fields) text = past_numbers fields (past f.key text)
-
--- numbers of which none is above the greatest of its field
-abbrev pub mosts : List NumberRow → List ℕ
-mosts fields = map (λ (f : NumberRow). f.most) fields
-
-abbrev pub AreUpTo : List NumberRow → List ℕ → Type 0
-AreUpTo fields numbers = (k : ℕ) → k < length fields →
-    get_or numbers k 0 ≤ get_or (mosts fields) k 0

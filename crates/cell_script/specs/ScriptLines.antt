@@ -1,6 +1,6 @@
 -- The lines of a script: what each kind of statement says, whatever stands before it.
 use Rattle.std.specs.Prelude.{ℕ, ◌+◌, ◌/◌, ◌%◌, ◌==◌, nat_le, nat_lt, Bool, false, if◌then◌else◌}
-use Rattle.std.specs.Prelude.{◌&&◌, List, [], ◌∷◌, length, map, get_or, codes, Option, None, Some, ℤ}
+use Rattle.std.specs.Prelude.{◌&&◌, List, [], ◌∷◌, length, get_or, codes, Option, None, Some, ℤ}
 use Rattle.std.specs.Prelude.{unsigned_abs, option_map}
 use Rattle.chip_core.specs.declared.check_form.CheckForm.{CheckForm}
 use Rattle.chip_core.specs.declared.check_form.CheckForm.TheVariants.{Plain, Complemented}
@@ -18,8 +18,9 @@ use Rattle.cell_script.specs.declared.statements.TrafficLine.{TrafficLine}
 use Rattle.cell_script.specs.declared.statements.Statement.{Statement}
 use Rattle.cell_script.specs.declared.statements.Statement.TheVariants as statements
 use Rattle.cell_script.specs.declared.tables.FieldForm.TheVariants as forms
-use Rattle.cell_script.specs.ScriptFields.{NumberRow, ◌>>=◌, at_end, field, numbers_in, past}
-use Rattle.cell_script.specs.ScriptFields.{past_numbers, ranged, sync_row, StatementRow, formed}
+use Rattle.cell_script.specs.Rows.{NumberRow, local_rows, network_rows, numbers_in, past_numbers}
+use Rattle.cell_script.specs.Rows.{ranged}
+use Rattle.cell_script.specs.ScriptFields.{◌>>=◌, at_end, field, past, StatementRow, formed}
 use Rattle.cell_script.specs.ScriptFields.{past_at, signed_at, unsigned_at, unsigned_of}
 use Rattle.cell_script.specs.ScriptValues.{begins_with, bits_in, power_bits_in, number_up_to}
 use Rattle.cell_plan.specs.declared.traffic_frame.TrafficFrame.{TrafficFrame}
@@ -128,14 +129,6 @@ has_lawful_rest (Some freq) rest = if length rest % 8 == 0 then nat_le (length r
 
 abbrev pub lawful_message : SyncFields → Option SyncFields
 lawful_message message = if has_lawful_rest message.freq message.rest then Some message else None
-
--- the fields of the message that the line always has, by their places in its table: of the
--- protocol and the network, and of local time and the paging channel
-abbrev pub network_rows : List NumberRow
-network_rows = map sync_row (0 ∷ 1 ∷ 2 ∷ 3 ∷ [])
-
-abbrev pub local_rows : List NumberRow
-local_rows = map sync_row (7 ∷ 8 ∷ 9 ∷ 10 ∷ [])
 
 abbrev pub gain_row : StatementRow
 gain_row = formed (codes "sync gain=") (forms.UpTo 65535)

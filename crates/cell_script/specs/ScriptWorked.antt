@@ -21,7 +21,8 @@ use Rattle.chip_core.specs.Decimals.{digits_from}
 use Rattle.cell_script.specs.ScriptValues.{bits_in, power_bits_in, digits_behind, hex_bits}
 use Rattle.cell_script.specs.ScriptValues.{hex_from, length_before, number_up_to, serial_number_in}
 use Rattle.cell_script.specs.ScriptValues.{signed_in, state_in}
-use Rattle.cell_script.specs.ScriptFields.{field, numbers_in, past, past_numbers}
+use Rattle.cell_script.specs.Rows.{numbers_in, past_numbers}
+use Rattle.cell_script.specs.ScriptFields.{field, past}
 use Rattle.cell_script.specs.ScriptDrafts.{with_line, with_next}
 use Rattle.cell_script.specs.ScriptLines.{cell_in, freq_in, link_in, page_in, paging_in, past_freq}
 use Rattle.cell_script.specs.ScriptLines.{pilot_in, statement_in, sync_behind, frame_in, frame2_in}

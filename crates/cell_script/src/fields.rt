@@ -1,12 +1,13 @@
 //! The fields of a line, read one after another.
 
-ghost use Rattle.std.specs.Prelude.{◌≡◌, ◌<◌, ◌≤◌, ℕ, Bool, List, true, false, length, IfSome, OnSome};
-ghost use Rattle.std.specs.Prelude.{MatchOption, IsTrue, ◌↔◌, unsigned_abs, [], None, Some, drop};
-ghost use Rattle.std.specs.Prelude.{take, ◌^◌, ◌-◌};
+ghost use Rattle.std.specs.Prelude.{◌≡◌, ◌<◌, ◌≤◌, ℕ, Bool, List, true, false, length, IfSome};
+ghost use Rattle.std.specs.Prelude.{OnSome, MatchOption, IsTrue, ◌↔◌, unsigned_abs, [], None, Some};
+ghost use Rattle.std.specs.Prelude.{drop, take, ◌^◌, ◌-◌};
 ghost use Rattle.cell_script.specs.ScriptValues.{begins_with, bits_in, length_before, number_up_to};
 ghost use Rattle.cell_script.specs.ScriptValues.{power_bits_in};
-ghost use Rattle.cell_script.specs.ScriptFields.{IsOfForm, field, key_of, past, signed_of};
-ghost use Rattle.cell_script.specs.ScriptFields.{unsigned_of, value_of};
+ghost use Rattle.cell_script.specs.Rows.{key_of};
+ghost use Rattle.cell_script.specs.ScriptFields.{IsOfForm, field, past, signed_of, unsigned_of};
+ghost use Rattle.cell_script.specs.ScriptFields.{value_of};
 
 use crate::tables::{FieldForm, StatementField};
 use crate::values::{

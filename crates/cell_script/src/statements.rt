@@ -6,9 +6,9 @@ ghost use Rattle.cell_script.specs.ScriptLines.{page_key, page_with, paging_in, 
 ghost use Rattle.cell_script.specs.ScriptLines.{pilot_in, sync_behind, sync_fields, statement_in};
 ghost use Rattle.cell_script.specs.ScriptLines.{sync_in, lawful_message, frame_in, frame_key};
 ghost use Rattle.cell_script.specs.ScriptLines.{frame_rate, frame_with, frame2_in, frame2_key};
-ghost use Rattle.cell_script.specs.ScriptLines.{frame2_rate, frame2_with, local_rows};
-ghost use Rattle.cell_script.specs.ScriptLines.{network_rows, traffic_in};
-ghost use Rattle.cell_script.specs.ScriptFields.{AreUpTo, numbers_in, past_numbers};
+ghost use Rattle.cell_script.specs.ScriptLines.{frame2_rate, frame2_with, traffic_in};
+ghost use Rattle.cell_script.specs.Rows.{AreUpTo, local_rows, network_rows, numbers_in};
+ghost use Rattle.cell_script.specs.Rows.{past_numbers};
 ghost use Rattle.cell_script.specs.ScriptPlans.{HasRow};
 ghost use Rattle.cell_plan.specs.Stated.{IsStatedCell, IsStatedLink};
 ghost use Rattle.paging_message.specs.Reading.{is_body};
@@ -190,7 +190,7 @@ fn sync_in(text: &[u8]) -> Option<SyncPlan>
 }
 
 /// The numbers of a `sync` line that tell of the protocol and the network.
-#[tactic(auto, unfolding(crate::specs::ScriptFields::numbers_in, crate::specs::ScriptFields::past_numbers))]
+#[tactic(auto, unfolding(crate::specs::Rows::numbers_in, crate::specs::Rows::past_numbers))]
 fn network_numbers(fields: &mut Fields<'_>) -> Option<[u64; 4]>
     ensures value { result ≡ numbers_in network_rows fields.old }
     ensures rest { OnSome result (fields.new ≡ past_numbers network_rows fields.old) }
@@ -204,7 +204,7 @@ fn network_numbers(fields: &mut Fields<'_>) -> Option<[u64; 4]>
 }
 
 /// The numbers of a `sync` line that tell of local time and the paging channel.
-#[tactic(auto, unfolding(crate::specs::ScriptFields::numbers_in, crate::specs::ScriptFields::past_numbers))]
+#[tactic(auto, unfolding(crate::specs::Rows::numbers_in, crate::specs::Rows::past_numbers))]
 fn local_numbers(fields: &mut Fields<'_>) -> Option<[u64; 4]>
     ensures value { result ≡ numbers_in local_rows fields.old }
     ensures rest { OnSome result (fields.new ≡ past_numbers local_rows fields.old) }

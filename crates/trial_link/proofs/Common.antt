@@ -35,8 +35,9 @@ pub use Rattle.cell_script.specs.Script.{draft_after, named, plan_fault, stated,
 unfoldable pub use Rattle.cell_script.specs.Script.{is_line, lines, plan_named, stated_plan}
 pub use Rattle.cell_script.specs.ScriptDrafts.{Draft, draft_at, empty_draft, empty_plan, opened, plan_at, with_frame}
 unfoldable pub use Rattle.cell_script.specs.ScriptDrafts.{with_line, with_next}
+unfoldable pub use Rattle.cell_script.specs.Rows.{numbers_in, past_numbers}
 pub use Rattle.cell_script.specs.ScriptFields.{keyed, past_at, unsigned_at, value_of}
-unfoldable pub use Rattle.cell_script.specs.ScriptFields.{field, numbers_in, past, past_numbers}
+unfoldable pub use Rattle.cell_script.specs.ScriptFields.{field, past}
 pub use Rattle.cell_script.specs.ScriptLines.{cell_line, cell_rows, check_form, frame_key, frame_with, lawful_frame, page_key, page_with}
 pub use Rattle.cell_script.specs.ScriptLines.{traffic_in}
 unfoldable pub use Rattle.cell_script.specs.ScriptLines.{cell_in, frame_in, freq_in, link_in, page_in, paging_in, past_freq, pilot_in}
