@@ -1,5 +1,5 @@
 -- Worked values of the lines of paging messages.
-use Rattle.std.specs.Prelude.{◌≡◌, refl, false, [], ◌∷◌, codes}
+use Rattle.std.specs.Prelude.{◌≡◌, refl, false, [], ◌∷◌, ◌++◌, codes}
 use Rattle.chip_core.specs.Bits.{binary}
 use Rattle.std.specs.Fmt.{digits}
 use Rattle.hex.specs.Hex.{encode_with}
@@ -31,7 +31,8 @@ three_channels : paging_line 9 (Channels (record {
   rest = binary 7 0x55;
 })) ≡
     codes "paging at=9 channels pn=4 seq=1 freqs=0,2047,283 rest=7:aa\n"
-unfolding paging_line channel_line named_values commas bit_text padded octets encode_with binary digits
+unfolding paging_line channel_line named_values commas bit_text padded octets encode_with binary
+    digits
 three_channels = refl
 
 two_neighbors : paging_line 786432 (Neighbors (record {
@@ -43,8 +44,8 @@ two_neighbors : paging_line 786432 (Neighbors (record {
   rest = binary 3 5;
 })) ≡
     codes "paging at=786432 neighbors pn=511 seq=0 inc=4 pilots=0/4,7/508 rest=3:a0\n"
-unfolding paging_line neighbor_line named_values neighbor_texts commas bit_text padded octets encode_with binary
-    digits
+unfolding paging_line neighbor_line named_values neighbor_texts commas bit_text padded octets
+    encode_with binary digits
 two_neighbors = refl
 
 nine : paging_line 737280 (Other (record { kind = 9; bits = false ∷ false ∷ [] })) ≡
@@ -57,7 +58,11 @@ places_of_fields : paging_line 1 (System (system_of
     (0 ∷ 1 ∷ 2 ∷ 3 ∷ 4 ∷ 5 ∷ 6 ∷ 7 ∷ 8 ∷ 9 ∷ 10 ∷ 11 ∷ 12 ∷ 13 ∷ 14 ∷ 15 ∷ 16 ∷ 17 ∷ 18 ∷ 19 ∷ 20
     ∷ 21 ∷ 22 ∷ 23 ∷ 24 ∷ 25 ∷ 26 ∷ 27 ∷ 28 ∷ 29 ∷ 30 ∷ 31 ∷ 32 ∷ 33 ∷ 34 ∷ 35 ∷ 36 ∷ [])
     (binary 4 5))) ≡
-    codes "paging at=1 system pn=0 seq=1 sid=2 nid=3 zone=4 zones=5 ztimer=6 msids=7 mnids=8 base=9 bclass=10 pages=11 cycle=12 home=13 fsid=14 fnid=15 up=16 down=17 param=18 prd=19 lat=20 long=21 dist=22 wina=23 winn=24 winr=25 age=26 pthresh=27 pframes=28 pthen=29 pperen=30 pdelay=31 rescan=32 tadd=33 tdrop=34 tcomp=35 ttdrop=36 rest=4:50\n"
+    codes "paging at=1 system pn=0 seq=1 sid=2 nid=3 zone=4 zones=5 ztimer=6 msids=7 mnids=8"
+    ++ codes " base=9 bclass=10 pages=11 cycle=12 home=13 fsid=14 fnid=15 up=16 down=17 param=18"
+    ++ codes " prd=19 lat=20 long=21 dist=22 wina=23 winn=24 winr=25 age=26 pthresh=27"
+    ++ codes " pframes=28 pthen=29 pperen=30 pdelay=31 rescan=32 tadd=33 tdrop=34 tcomp=35"
+    ++ codes " ttdrop=36 rest=4:50\n"
 unfolding paging_line system_line system_of named_values bit_text padded octets encode_with binary
     digits
 places_of_fields = refl

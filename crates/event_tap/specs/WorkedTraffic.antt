@@ -1,5 +1,5 @@
 -- Worked values of the lines of traffic messages.
-use Rattle.std.specs.Prelude.{◌≡◌, refl, true, false, [], ◌∷◌, codes, Some, None}
+use Rattle.std.specs.Prelude.{◌≡◌, refl, true, false, [], ◌∷◌, ◌++◌, codes, Some, None}
 use Rattle.chip_core.specs.Bits.{binary}
 use Rattle.std.specs.Fmt.{digits}
 use Rattle.hex.specs.Hex.{encode_with}
@@ -37,7 +37,8 @@ one_record : traffic_line 0 (record {
     rest = binary 7 0;
   });
 }) ≡
-    codes "traffic at=0 ack=2 seq=3 req=0 enc=3 handoff use=1 action=49 hdm=0 extra=0: records=511/20/0 rest=7:00\n"
+    codes "traffic at=0 ack=2 seq=3 req=0 enc=3 handoff use=1 action=49 hdm=0"
+    ++ codes " extra=0: records=511/20/0 rest=7:00\n"
 unfolding traffic_line start_text handoff_text record_texts commas named_values head bit_text
     padded octets encode_with binary digits
 one_record = refl
@@ -56,7 +57,8 @@ two_records : traffic_line 1 (record {
     rest = [];
   });
 }) ≡
-    codes "traffic at=1 ack=2 seq=3 req=1 enc=0 handoff use=0 action=63 hdm=3 wina=1 tadd=2 tdrop=3 tcomp=4 ttdrop=5 extra=8:5a records=511/20/0,0/255/1 rest=0:\n"
+    codes "traffic at=1 ack=2 seq=3 req=1 enc=0 handoff use=0 action=63 hdm=3"
+    ++ codes " wina=1 tadd=2 tdrop=3 tcomp=4 ttdrop=5 extra=8:5a records=511/20/0,0/255/1 rest=0:\n"
 unfolding traffic_line start_text handoff_text record_texts commas named_values search_of head
     bit_text padded octets encode_with binary digits
 two_records = refl
@@ -75,7 +77,8 @@ places_of_fields : traffic_line 1 (record {
   head = head;
   body = System (in_traffic_of (0 ∷ 1 ∷ 2 ∷ 3 ∷ 4 ∷ 5 ∷ 6 ∷ 7 ∷ 8 ∷ 9 ∷ []) (binary 4 5));
 }) ≡
-    codes "traffic at=1 ack=2 seq=3 req=1 enc=0 system sid=0 nid=1 wina=2 winn=3 winr=4 tadd=5 tdrop=6 tcomp=7 ttdrop=8 age=9 rest=4:50\n"
+    codes "traffic at=1 ack=2 seq=3 req=1 enc=0 system sid=0 nid=1 wina=2 winn=3 winr=4"
+    ++ codes " tadd=5 tdrop=6 tcomp=7 ttdrop=8 age=9 rest=4:50\n"
 unfolding traffic_line start_text system_text in_traffic_of named_values head bit_text padded
     octets encode_with binary digits
 places_of_fields = refl

@@ -47,8 +47,9 @@ unfolding few binary places check_bits
 codeword_1800 = refl
 
 -- and its symbols as they are sent
-symbols_1800 : number (frame_symbols R1800 (frame_codeword R1800 few))
-    ≡ 0x44992712e55044992b6f11f044992712e55712e55b6f11f044992712e55044992b6f11f044992b6f11f712e55b6f11f
+symbols_1800 : frame_symbols R1800 (frame_codeword R1800 few) ≡
+    binary 192 0x044992712e55044992b6f11f044992712e55712e55b6f11f
+    ++ binary 192 0x044992712e55044992b6f11f044992b6f11f712e55b6f11f
 unfolding few binary places check_bits sent2
 symbols_1800 = refl
 
