@@ -33,7 +33,8 @@ impl Listener {
     ghost use Rattle.cdma_io.specs.Outside.{AppendsPrefix, HasCause};
     ghost use Rattle.event_tap.specs.Taps.{IsKept, KeptTap};
     ghost use Rattle.cdma_replay.specs.Hearing.{BeginsBehind, HasRoom, HasRoomFor, IsFresh};
-    ghost use Rattle.cdma_replay.specs.Hearing.{Listening, Listens, Tells, TellsPart, is_told, told};
+    ghost use Rattle.cdma_replay.specs.Hearing.{Listening, Listens, Tells, TellsPart, is_told};
+    ghost use Rattle.cdma_replay.specs.Hearing.{told};
 
     /// Tells what is told before any sample is taken: the taps hear the pilot of a handset.
     ///

@@ -59,7 +59,8 @@ pub fn channel_with<T: Texts>(texts: &T) -> Option<Traffic>
 /// The traffic channel beside a paging channel, if one is told; none where its options don't go
 /// together, and where its row is the paging channel's.
 pub fn traffic_with<T: Texts>(texts: &T, paging: u128) -> Option<Option<Traffic>>
-    ensures value { result ≡ traffic_with paging (numbers_by channel_entries (T.text_at texts.now)) }
+    ensures value { result ≡ traffic_with paging
+        (numbers_by channel_entries (T.text_at texts.now)) }
     ensures lawful { IfSome result (IsLawfulTraffic paging) }
 {
     if has_no_channel(texts) {

@@ -126,7 +126,8 @@ impl<R: Copy> FrameFormat<R> {
         requires room { bits_in self.now ≤ decoder.old }
         requires bound { sum_by unsigned_abs softs.now ≤ 2 ^ 62 }
         ensures bits { result.bits ≡ (codeword_in softs.now self.now).bits }
-        ensures score { result.score ≡ score_in softs.now self.now (codeword_in softs.now self.now) }
+        ensures score { result.score ≡ score_in softs.now self.now
+            (codeword_in softs.now self.now) }
         ensures count { length result.bits ≡ bits_in self.now }
         ensures kept { decoder.new ≡ decoder.old }
     {

@@ -21,8 +21,11 @@
 //! | Head of a traffic message | 4 fields | | | | all, by the type |
 //! | In-Traffic System Parameters | 10 fields | | | | all |
 //! | Neighbor List Update | 1 field | | | of 9 bits, one or more | at most 7 |
-//! | Extended Handoff Direction | 3 fields | 5 fields behind SEARCH_INCLUDED | one bit 0, a count of 3 bits | of 9, 1 and 8 bits, one or more | at most 7 |
+//! | Extended Handoff Direction | 3 fields | 5 fields | a count | of 9, 1 and 8 bits | at most 7 |
 //! | Of any other type | | | | | all |
+//!
+//! In an Extended Handoff Direction the group stands behind SEARCH_INCLUDED, one bit 0 and a count
+//! of 3 bits stand before the octets, and the records are one or more.
 
 ghost use Rattle.std.specs.Prelude.{◌≡◌, ◌<◌, [], length, map, get_or};
 

@@ -117,7 +117,8 @@ impl Followed {
     fn note(traffic: &mut Option<TrafficReceiver>, event: &Option<Event>)
         requires { ForSome traffic.old IsSoundTraffic }
         ensures sound { ForSome traffic.new IsSoundTraffic }
-        ensures waits { (n : ℕ) → ForSome traffic.old (WaitsAt n) → ForSome traffic.new (WaitsAt n) }
+        ensures waits { (n : ℕ) → ForSome traffic.old (WaitsAt n) →
+            ForSome traffic.new (WaitsAt n) }
         ensures heard { option_map_or traffic_heard traffic.new 0
             ≡ option_map_or traffic_heard traffic.old 0 }
         ensures due { option_map_or traffic_due traffic.new 0

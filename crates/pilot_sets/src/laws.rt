@@ -2,7 +2,9 @@
 
 ghost use Rattle.std.specs.Prelude.{◌≡◌, ◌≢◌, ◌<◌, ◌+◌, ◌⊎◌, ℕ, List, Some, None, true};
 ghost use Rattle.std.specs.List.{All};
-ghost use Rattle.traffic_message.specs.declared.fields.DirectionFields.{DirectionFields as TheDirection};
+ghost use Rattle.traffic_message.specs.declared.fields.DirectionFields.{
+  DirectionFields as TheDirection,
+};
 ghost use Rattle.pilot_sets.specs.Pilots.{has};
 ghost use Rattle.pilot_sets.specs.PilotSets.{timed_pilots};
 ghost use Rattle.pilot_sets.specs.Directions.{direction_fault, direction_time, accepted_of};

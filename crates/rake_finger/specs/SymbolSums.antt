@@ -8,7 +8,8 @@ use Rattle.rake_finger.specs.declared.lanes.Sums.{Sums}
 
 -- so many samples from a place on, despread: as they are, and each with the sign of its chip of a
 -- Walsh row
-pub record AreSymbolSums (samples : List Sample) (row phase place chips : ℕ) (sums : Sums) : Type 0 where
+pub record AreSymbolSums (samples : List Sample) (row phase place chips : ℕ) (sums : Sums)
+    : Type 0 where
   pub plain : sums.plain ≡ sum_of (despread_at samples phase place chips)
   pub covered : sums.covered ≡ sum_of (covered_from row 0 (despread_at samples phase place chips))
 

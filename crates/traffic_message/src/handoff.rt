@@ -25,7 +25,9 @@ pub struct HandoffDirection {
 
 impl Model for HandoffDirection {
     ghost use Rattle.traffic_message.specs.Handoff.{IsHandoffDirection};
-    ghost use Rattle.traffic_message.specs.declared.fields.DirectionFields.{DirectionFields as TheFields};
+    ghost use Rattle.traffic_message.specs.declared.fields.DirectionFields.{
+      DirectionFields as TheFields,
+    };
 
     ghost Value = { TheFields };
 

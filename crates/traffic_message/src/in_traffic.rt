@@ -23,7 +23,9 @@ pub struct InTraffic {
 
 impl Model for InTraffic {
     ghost use Rattle.traffic_message.specs.InTraffic.{IsInTraffic};
-    ghost use Rattle.traffic_message.specs.declared.fields.InTrafficFields.{InTrafficFields as TheFields};
+    ghost use Rattle.traffic_message.specs.declared.fields.InTrafficFields.{
+      InTrafficFields as TheFields,
+    };
 
     ghost Value = { TheFields };
 

@@ -6,9 +6,9 @@ use Rattle.clean_link.proofs.Common.{frames_of, set_two, IsTrafficFrame2, CellPl
 use Rattle.clean_link.proofs.Common.{frames_within, soft_frame, soft_frames, raw_at, is_in_file, known_at, known_by, Stream}
 use Rattle.clean_link.proofs.Common.{frames_bound, replaced_in, Tuning, Mark, Traffic, PowerControl, SoftFrame, soft_strength, IsOnPath}
 use Rattle.clean_link.proofs.Common.{IsReceivable, is_received, received_frames, replaced_of, sent_bits, IsAssigned, SendsSetTwo}
-use Rattle.clean_link.proofs.Common.{SendsSymbols, ShowFrame, ShowPowerBits, cycled_frame2, codeword_symbols2, AreReceived, IsReceivedAs, IsSentFrame2}
+use Rattle.clean_link.proofs.Common.{SendsSymbols, ShowFrame, ShowPowerBits, cycled_frame2, codeword_symbols2, AreReceived, IsReceivedAs}
 use Rattle.clean_link.proofs.Common.{EachFrameIsReceived, FramesBehindMark, FramesShowPowerBits, FramesShowSymbols, SetTwoBehindMark}
-use Rattle.clean_link.proofs.Common.{HearsTraffic, SetTwoFramesComeBack}
+use Rattle.clean_link.proofs.Common.{IsSentFrame2, HearsTraffic, SetTwoFramesComeBack}
 use Rattle.cell_plan.specs.TrafficFrames.{frame_state}
 use Rattle.clean_link.proofs.marks.MarksTrue.{marks_true}
 use Rattle.clean_link.proofs.signal.Samples.{length-made}
