@@ -1,8 +1,8 @@
 -- What the proofs of this crate cite of what lies below, and of its own definitions, passed on from one place.
 pub use Rattle.std.proofs.Common.{All, Bool, List, None, Option, Some, [], add-one, ap, append_assoc, arith, cond, drop, false, filter}
 pub use Rattle.std.proofs.Common.{get_or, inl, inr, length, length-append, length-drop, map, max, nat_eq, nat_le, nat_lt, negsuc, not, pos}
-pub use Rattle.std.proofs.Common.{refl, replicate, subst, suc, sym, take, true, unsigned_abs, zero, ℕ, ℤ, ⊎_elim, ◌%◌, ◌&&◌, ◌*◌, ◌++◌, ◌+◌}
-pub use Rattle.std.proofs.Common.{◌-◌, ◌/◌, ◌<◌, ◌==◌, ◌^◌, ◌||◌, ◌∙◌, ◌∷◌, ◌≡◌, ◌≢◌, ◌≤◌, ◌⊎◌}
+pub use Rattle.std.proofs.Common.{refl, replicate, rules, subst, suc, sym, take, true, unsigned_abs, zero, ℕ, ℤ, ⊎_elim, ◌%◌, ◌&&◌, ◌*◌}
+pub use Rattle.std.proofs.Common.{◌++◌, ◌+◌, ◌-◌, ◌/◌, ◌<◌, ◌==◌, ◌^◌, ◌||◌, ◌∙◌, ◌∷◌, ◌≡◌, ◌≢◌, ◌≤◌, ◌⊎◌}
 pub use Rattle.std.proofs.Math.Bool.{beq}
 pub use Rattle.std.proofs.Math.IntN.{+ℤ_idl, +ℤ_idr}
 pub use Rattle.std.proofs.Math.Nat.{div-add-mod, div-add-mod', div-div-eq-div-mul, div-eq_of_eq-mul_left, mod-eq-sub-mul-div, mod_self}

@@ -7,7 +7,7 @@ use Rattle.clean_link.proofs.Common.{R2400, R1200, codeword_bits, power_places, 
 use Rattle.clean_link.proofs.Common.{sync_capsule, IsSyncMessage, split_9600, loudness, AreLawfulBeside, IsFreeOf, IsLawfulPlan}
 use Rattle.clean_link.proofs.Common.{IsPagingPlan, IsTrafficPlan, paging_rate, IsStatedPaging, IsReceivable, frames_of, cycled_frame}
 use Rattle.clean_link.proofs.Common.{IsTrafficFrame, IsTrafficFrame2, PagingPlan, TrafficPlan, TrafficFrame, TrafficFrame2, lost_symbols}
-use Rattle.clean_link.proofs.Common.{bits_of, bits_of2, distinct_plan}
+use Rattle.clean_link.proofs.Common.{bits_of, bits_of2, distinct_plan, rules}
 use Rattle.clean_link.proofs.Common.{first_channel, frame2_at, frame_at, on_row, second_channel, told_message, HasMark, HasSetOne}
 use Rattle.clean_link.proofs.Common.{HasSetTwo, frame_chip, is_received, received_frames, replaced_of, AreDistinct, IsDistinctFrame}
 use Rattle.clean_link.proofs.Common.{end_chip, messages_sent, cycled_frame2, IsDistinctFrame2, signaling_sent, told_with_sync}
@@ -264,7 +264,7 @@ told_fills = refl
 
 told_lawful : IsSyncMessage told_message
 told_lawful = record {
-  fits = (omega arith, (omega arith, (omega arith, (omega arith, (omega arith, (omega arith, (omega arith, (omega arith, (omega arith, (omega arith, (omega arith, (omega arith, tt))))))))))));
+  fits = search rules;
   rest = refl;
   fills = record {
     whole = told_fills;
