@@ -1,4 +1,4 @@
-mod Forms
+pub mod Forms
 mod PartTexts
 mod PagingTexts
 mod TrafficTexts

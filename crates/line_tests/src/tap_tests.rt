@@ -29,7 +29,7 @@ impl Tap for CountingTap {
         self.limit = events;
     }
 
-    #[tactic(auto, unfolding(event_tap::specs::EventLines::event_line, event_tap::specs::Taps::form_line))]
+    #[tactic(auto, using(event_tap::proofs::Forms::plain_line))]
     fn hear(&mut self, event: &Event, out: &mut Text) -> Heard {
         match event {
             Event::Pilot { .. } | Event::Sets { .. } => {
