@@ -189,9 +189,12 @@ fn sync_in(text: &[u8]) -> Option<SyncPlan>
     sync_behind(gain as u16, &network, &local, fields)
 }
 
+/// Four numbers of a `sync` line that stand side by side in the message's table, in its order.
+type TableNumbers = [u64; 4];
+
 /// The numbers of a `sync` line that tell of the protocol and the network.
 #[tactic(auto, unfolding(crate::specs::Rows::numbers_in, crate::specs::Rows::past_numbers))]
-fn network_numbers(fields: &mut Fields<'_>) -> Option<[u64; 4]>
+fn network_numbers(fields: &mut Fields<'_>) -> Option<TableNumbers>
     ensures value { result ≡ numbers_in network_rows fields.old }
     ensures rest { OnSome result (fields.new ≡ past_numbers network_rows fields.old) }
 {
@@ -205,7 +208,7 @@ fn network_numbers(fields: &mut Fields<'_>) -> Option<[u64; 4]>
 
 /// The numbers of a `sync` line that tell of local time and the paging channel.
 #[tactic(auto, unfolding(crate::specs::Rows::numbers_in, crate::specs::Rows::past_numbers))]
-fn local_numbers(fields: &mut Fields<'_>) -> Option<[u64; 4]>
+fn local_numbers(fields: &mut Fields<'_>) -> Option<TableNumbers>
     ensures value { result ≡ numbers_in local_rows fields.old }
     ensures rest { OnSome result (fields.new ≡ past_numbers local_rows fields.old) }
 {
@@ -221,8 +224,8 @@ fn local_numbers(fields: &mut Fields<'_>) -> Option<[u64; 4]>
 #[tactic(auto, unfolding(crate::specs::ScriptLines::sync_behind))]
 fn sync_behind(
     gain: u16,
-    network: &[u64; 4],
-    local: &[u64; 4],
+    network: &TableNumbers,
+    local: &TableNumbers,
     mut fields: Fields<'_>,
 ) -> Option<SyncPlan>
     requires network { AreUpTo network_rows network.now }
@@ -240,7 +243,12 @@ fn sync_behind(
 }
 
 /// What the numbers of a `sync` line say.
-fn sync_fields(network: &[u64; 4], local: &[u64; 4], freq: Option<u16>, rest: Bits) -> SyncFields
+fn sync_fields(
+    network: &TableNumbers,
+    local: &TableNumbers,
+    freq: Option<u16>,
+    rest: Bits,
+) -> SyncFields
     requires network { AreUpTo network_rows network.now }
     requires local { AreUpTo local_rows local.now }
     ensures value { result ≡ sync_fields network.now local.now freq rest }
