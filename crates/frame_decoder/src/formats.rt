@@ -155,7 +155,7 @@ impl<R: Copy> FrameFormat<R> {
         match self.quality {
             None => true,
             Some(kind) => {
-                let checked = bits.part(0, bits.len() - u16::from(TAIL_BITS));
+                let checked = bits.part(0, bits.len() - TAIL_BITS as u16);
                 check(kind, CheckForm::Plain, &checked)
             }
         }
