@@ -3,3 +3,4 @@ pub mod Common
 pub mod KeptBlocks
 pub mod Running
 pub mod SentFrames
+pub mod TurnedChips

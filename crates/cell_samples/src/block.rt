@@ -2,13 +2,13 @@
 
 ghost use Rattle.std.specs.Prelude.{◌≡◌, ◌<◌, ◌≤◌, ◌+◌, ◌%◌, ◌^◌, ℕ, length, map, get_or, set};
 ghost use Rattle.std.specs.Prelude.{◌*ℤ◌, unsigned_abs, All, pos, true};
-ghost use Rattle.chip_core.specs.Complex.{of_sample, origin, plus, times};
+ghost use Rattle.chip_core.specs.Complex.{of_sample, origin, plus};
 ghost use Rattle.walsh.specs.Walsh.{IsWithin};
 ghost use Rattle.cell_samples.specs.Blocks.{AreChips, AreLevels, AreQuiet, AreSums, AreTurned};
-ghost use Rattle.cell_samples.specs.Blocks.{IsLevel, IsQuiet, chip_at, no_sample};
+ghost use Rattle.cell_samples.specs.Blocks.{IsLevel, IsQuiet, IsTurned, chip_at, no_sample};
 ghost use Rattle.cell_samples.specs.Channels.{carrier_of};
 ghost use Rattle.cell_plan.specs.Signal.{scaled};
-ghost use Rattle.cell_plan.specs.Transmitter.{IsPoint, point_of};
+ghost use Rattle.cell_plan.specs.Transmitter.{IsPoint};
 
 use crate::channel::Channel;
 use chip_core::air::WALSH_CHIPS;
@@ -160,37 +160,26 @@ fn renew(
     }
 }
 
-/// A part of a number with the sign of a code's chip.
-fn with_sign(part: i64, sign: i8) -> i64
+/// A part of a chip with the sign of a code's chip.
+fn with_sign(part: i16, sign: i8) -> i16
     requires part { unsigned_abs part ≤ 32767 }
     requires sign { unsigned_abs sign ≤ 1 }
     ensures value { result ≡ part *ℤ sign }
     ensures bound { unsigned_abs result ≤ unsigned_abs part }
 {
-    part * i64::from(sign)
+    part * i16::from(sign)
 }
 
 /// A chip of a block times a point of the codes, which is given by its signs.
-fn turned(chip: Pair, signs: (i8, i8)) -> Sample
+// All is in 16 bits, so that lanes of them can be turned at once.
+fn turned(chip: Sample, signs: (i8, i8)) -> Sample
     requires small { unsigned_abs chip.i + unsigned_abs chip.q ≤ 32767 }
     requires point { IsPoint signs }
-    ensures value { of_sample result ≡ times chip (point_of signs) }
-    ensures in_phase { unsigned_abs result.i ≤ unsigned_abs chip.i + unsigned_abs chip.q }
-    ensures quadrature { unsigned_abs result.q ≤ unsigned_abs chip.i + unsigned_abs chip.q }
+    ensures { IsTurned (of_sample chip) signs result }
 {
     Sample {
-        i: (with_sign(chip.i, signs.0) - with_sign(chip.q, signs.1)) as i16,
-        q: (with_sign(chip.i, signs.1) + with_sign(chip.q, signs.0)) as i16,
-    }
-}
-
-/// A chip as a number with wide parts.
-fn widened(chip: Sample) -> Pair
-    ensures { result ≡ of_sample chip }
-{
-    Pair {
-        i: i64::from(chip.i),
-        q: i64::from(chip.q),
+        i: with_sign(chip.i, signs.0) - with_sign(chip.q, signs.1),
+        q: with_sign(chip.i, signs.1) + with_sign(chip.q, signs.0),
     }
 }
 
@@ -205,7 +194,7 @@ fn turn(chips: &[Sample], signs: &[(i8, i8)], samples: &mut [Sample])
         (length samples.old) samples.new }
 {
     for (k, sample) in samples.iter_mut().enumerate() {
-        *sample = turned(widened(chips[k]), signs[k]);
+        *sample = turned(chips[k], signs[k]);
     }
 }
 
