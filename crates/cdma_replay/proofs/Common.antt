@@ -93,7 +93,7 @@ pub use Rattle.listed_frame.proofs.Choice.{decoded_by_one_codeword}
 pub use Rattle.listed_frame.proofs.SentFrames.{sent_frame_listed}
 pub use Rattle.long_code.specs.LongCode.{traffic_mask}
 pub use Rattle.heard_events.proofs.EventsGrown.{events_at_by, events_sooner, heard_none}
-pub use Rattle.heard_events.proofs.SyncTimes.{timed_of}
+pub use Rattle.heard_events.proofs.Growth.{timed_of}
 pub use Rattle.rake_finger.proofs.FrameTimes.{known_between}
 pub use Rattle.heard_events.proofs.FramesAlone.{decoded_alone, power_alone}
 pub use Rattle.heard_events.proofs.MarkStays.{mark_set}

@@ -1,13 +1,15 @@
 -- Numbered things, some of which lie in a file, and each of which is known at a number of samples: frames, and what they
 -- complete.
 use Rattle.heard_events.proofs.Common.{◌≡◌, ℕ, ◌+◌, ◌<◌, ◌≤◌, ◌==◌, Bool, true, false, ◌&&◌, List, [], ◌∷◌, ◌++◌, refl, ap, ◌∙◌, arith}
-use Rattle.heard_events.proofs.Common.{nat_le, inl, inr, flat_map, and_parts, and_from, and_left, and_right, le-leb, lt-leb, leb-true}
-use Rattle.heard_events.proofs.Common.{cases_lt, eqb-true, eq-eqb, false_from_ne_true, flat_map-append, places, Stream, is_in_file}
-use Rattle.heard_events.proofs.Common.{known_at, filter-places-more, filter_ext_places, filter_none_places, filter_first_places}
-use Rattle.heard_events.proofs.Common.{flat_map_ext_filter, zero, suc, sym, cases_Bool, places-more, filter-append, IsTimed, stream_end}
+use Rattle.heard_events.proofs.Common.{nat_le, inl, inr, flat_map, and_parts, and_from, and_left, le-leb, lt-leb, leb-true, cases_lt}
+use Rattle.heard_events.proofs.Common.{eqb-true, eq-eqb, flat_map-append, places, Stream, is_in_file, known_at, filter-places-more}
+use Rattle.heard_events.proofs.Common.{filter_ext_places, filter_none_places, filter_first_places, flat_map_ext_filter, zero, suc, sym}
+use Rattle.heard_events.proofs.Common.{cases_Bool, places-more, filter-append, IsTimed, stream_end, ne_eqb, leb-false, length, Sample}
+use Rattle.heard_events.proofs.Common.{frame_own_bits, own_bits, span_first, span_frames, ◌-◌}
 use Rattle.std.specs.List.{filter}
-use Rattle.rake_finger.proofs.FrameTimes.{known_between, known_le}
+use Rattle.rake_finger.proofs.FrameTimes.{known_between, known_le, outside_low}
 use Rattle.std.proofs.lemmas.List.{append-nil}
+use Rattle.rake_finger.proofs.Spans.{span_softs_sooner}
 use Rattle.chip_core.proofs.Ranges as ranges
 
 -- which lie in the file, at how many samples each is known, and more numbers than are known within so many samples
@@ -32,19 +34,36 @@ is_now a n k = a.inside k && a.known k == n
 abbrev pub now : Arrivals → ℕ → List ℕ
 now a n = filter (is_now a n) (places (a.bound n))
 
+abbrev pub is_left : Arrivals → ℕ → ℕ → ℕ → Bool
+is_left a next n k = nat_le next k && is_now a n k
+
 abbrev pub left : Arrivals → ℕ → ℕ → List ℕ
-left a next n = filter (λ k. nat_le next k && is_now a n k) (places (a.bound n))
+left a next n = filter (is_left a next n) (places (a.bound n))
 
--- none of those before a number is, none of those from it on, and none at all
-abbrev pub NoneBefore : Arrivals → ℕ → ℕ → Type 0
-NoneBefore a next n = (k : ℕ) → k < next → a.inside k ≡ true → ¬ (a.known k ≡ n)
-
-abbrev pub NoneFrom : Arrivals → ℕ → ℕ → Type 0
-NoneFrom a next n = (k : ℕ) → next ≤ k → a.inside k ≡ true → ¬ (a.known k ≡ n)
-
+-- none is
 abbrev pub NoneNow : Arrivals → ℕ → Type 0
 NoneNow a n = (k : ℕ) → a.inside k ≡ true → ¬ (a.known k ≡ n)
 
+-- TWO TESTS
+-- where the second is another one, or fails, with the first; where it fails without the first; and
+-- where it passes with the first
+and_under : (b c d : Bool) → (b ≡ true → c ≡ d) → (b && c) ≡ (b && d)
+and_under true c d h = h refl
+and_under false c d h = refl
+
+and_none : (b c : Bool) → (b ≡ true → c ≡ false) → (b && c) ≡ false
+and_none true c h = h refl
+and_none false c h = refl
+
+and_second : (b c : Bool) → (b ≡ false → c ≡ false) → (b && c) ≡ c
+and_second true c h = refl
+and_second false c h = sym (h refl)
+
+and_first : (b c : Bool) → (b ≡ true → c ≡ true) → (b && c) ≡ b
+and_first true c h = h refl
+and_first false c h = refl
+
+-- WHAT IS KNOWN NOW, AND WHAT IS LEFT OF IT
 module _ (a : Arrivals) where
   pub now_parts : (n k : ℕ) → is_now a n k ≡ true → (a.inside k ≡ true) × (a.known k ≡ n)
   now_parts n k both =
@@ -53,75 +72,29 @@ module _ (a : Arrivals) where
 
   not_now : (n k : ℕ) → (a.inside k ≡ true → ¬ (a.known k ≡ n)) → is_now a n k ≡ false
   not_now n k h =
-      false_from_ne_true (is_now a n k)
-      (λ both. let parts = now_parts n k both in h parts.0 parts.1)
+      and_none (a.inside k) (a.known k == n) (λ inside. ne_eqb (a.known k) n (h inside))
 
-  -- WHAT IS KNOWN NOW, AND WHAT IS LEFT OF IT
   pub none_now : (n : ℕ) → NoneNow a n → now a n ≡ []
-  none_now n none = filter_none_places (is_now a n) (a.bound n) (λ k below. not_now n k (none k))
+  none_now n none =
+      filter_none_places (is_now a n) (a.bound n) (λ k below. not_now n k (none k))
 
   -- where none before `next` is known just now, all are left
-  pub all_left : (next n : ℕ) → NoneBefore a next n → left a next n ≡ now a n
+  pub all_left : (next n : ℕ) →
+      ((k : ℕ) → k < next → a.inside k ≡ true → ¬ (a.known k ≡ n)) → left a next n ≡ now a n
   all_left next n none =
-      filter_ext_places (λ k. nat_le next k && is_now a n k) (is_now a n) (a.bound n)
+      filter_ext_places (is_left a next n) (is_now a n) (a.bound n)
       (λ k below.
-      elim (cases_lt k next) [
-        | inl less ↦
-            let early : nat_le next k ≡ false = lt-leb next k less in
-            let other = not_now n k (none k less) in
-            rw (early, other) refl
-        | inr more ↦ let late : nat_le next k ≡ true = le-leb next k more in rw late refl
-      ])
+      and_second (nat_le next k) (is_now a n k)
+      (λ early. not_now n k (none k (leb-false next k early))))
 
   -- where none from `next` on is, none is left
-  pub none_left : (next n : ℕ) → NoneFrom a next n → left a next n ≡ []
+  pub none_left : (next n : ℕ) →
+      ((k : ℕ) → next ≤ k → a.inside k ≡ true → ¬ (a.known k ≡ n)) → left a next n ≡ []
   none_left next n none =
-      filter_none_places (λ k. nat_le next k && is_now a n k) (a.bound n)
+      filter_none_places (is_left a next n) (a.bound n)
       (λ k below.
-      elim (cases_lt k next) [
-        | inl less ↦ and_left (nat_le next k) (is_now a n k) (lt-leb next k less)
-        | inr more ↦ and_right (nat_le next k) (is_now a n k) (not_now n k (none k more))
-      ])
-
-  -- the next one is the first of those that are left
-  pub next_left : (next n : ℕ) → next < a.bound n → a.inside next ≡ true → a.known next ≡ n →
-      left a next n ≡ next ∷ left a (next + 1) n
-  next_left next n below inside known =
-      let p : ℕ → Bool = λ k. nat_le next k && is_now a n k in
-      let here : is_now a n next ≡ true =
-      and_from (a.inside next) (a.known next == n) inside (eq-eqb (a.known next) n known) in
-      let first = filter_first_places p (a.bound n) next below
-      (and_from (nat_le next next) (is_now a n next) (le-leb next next (omega arith)) here)
-      (λ k less. and_left (nat_le next k) (is_now a n k) (lt-leb next k less)) in
-      let rest = filter_ext_places (λ k. nat_le (next + 1) k && p k)
-      (λ k. nat_le (next + 1) k && is_now a n k) (a.bound n)
-      (λ k less.
-      elim (cases_lt k (next + 1)) [
-        | inl low ↦ let early : nat_le (next + 1) k ≡ false = lt-leb (next + 1) k low in rw early refl
-        | inr high ↦ let late : nat_le next k ≡ true = le-leb next k (omega arith) in rw late refl
-      ]) in
-      first ∙ ap (λ (ks : List ℕ). next ∷ ks) rest
-
-  -- WHAT THEY GIVE
-  module _ {E : Type 0} where
-    -- it is the same where each that is known now gives the same
-    pub gives_same : (f g : ℕ → List E) (n : ℕ) →
-        ((k : ℕ) → a.inside k ≡ true → a.known k ≡ n → f k ≡ g k) →
-        flat_map f (now a n) ≡ flat_map g (now a n)
-    gives_same f g n same =
-        flat_map_ext_filter (is_now a n) f g (places (a.bound n))
-        (λ k both. let parts = now_parts n k both in same k parts.0 parts.1)
-
-    -- so it is of those that are left
-    pub left_same : (f g : ℕ → List E) (next n : ℕ) →
-        ((k : ℕ) → next ≤ k → a.inside k ≡ true → a.known k ≡ n → f k ≡ g k) →
-        flat_map f (left a next n) ≡ flat_map g (left a next n)
-    left_same f g next n same =
-        flat_map_ext_filter (λ k. nat_le next k && is_now a n k) f g (places (a.bound n))
-        (λ k both.
-        let above = and_parts (nat_le next k) (is_now a n k) both in
-        let parts = now_parts n k above.1 in
-        same k (leb-true next k above.0) parts.0 parts.1)
+      and_none (nat_le next k) (is_now a n k)
+      (λ late. not_now n k (none k (leb-true next k late))))
 
 -- WHAT IS KNOWN BY A NUMBER OF SAMPLES
 -- each before a number that lies in the file is known by n, each from it on at n or later
@@ -152,98 +125,140 @@ by_parts a n k both =
 
 -- each is known no later than those behind it, and there are enough numbers
 pub record AreOrdered (a : Arrivals) : Type 0 where
-  pub ordered : (j k : ℕ) → a.inside j ≡ true → a.inside k ≡ true → j ≤ k → a.known j ≤ a.known k
-  pub enough : (k n : ℕ) → a.inside k ≡ true → a.known k ≤ n → k < a.bound n
+  pub ordered : (j k : ℕ) → a.inside j ≡ true → a.inside k ≡ true → j < k → a.known j ≤ a.known k
+  pub enough : (n : ℕ) → AreLater a (a.bound n) (n + 1)
 
 -- so are the frames of a stream
 pub frames_ordered : {count low : ℕ} (s : Stream) → IsTimed count s low → (bound : ℕ → ℕ) →
     ((k n : ℕ) → stream_end s k ≤ n → k < bound n) → AreOrdered (frames_in count s bound)
-frames_ordered s timed bound enough = record {
-  ordered = λ j k ij ik le. known_le s timed j k ij ik le;
-  enough = λ k n inside known.
+frames_ordered {count} s timed bound enough = record {
+  ordered = λ j k ij ik less. known_le s timed j k ij ik (omega (arith, less));
+  enough = λ n k above inside.
       let low = (known_between s timed k inside).low in
-      enough k n (omega (arith, low, known));
+      elim (cases_lt n (known_at count s k)) [
+        | inl late ↦ omega (arith, late)
+        | inr most ↦
+            let below = enough k n (omega (arith, low, most)) in absurd (omega (arith, below, above))
+      ];
 }
 
-module _ (a : Arrivals) (o : AreOrdered a) (n : ℕ) where
-  -- those known by n are those before a number, where the others are known later
-  pub known_is : (next : ℕ) → AreKnown a next n → AreLater a next (n + 1) →
-      filter (is_by a n) (places (a.bound n)) ≡ filter a.inside (places next)
-  known_is next before behind =
-      let past : (k : ℕ) → a.bound n ≤ k → is_by a n k ≡ false = λ k above.
-      false_from_ne_true (is_by a n k)
-      (λ both.
-      let w = by_parts a n k both in
-      let below = o.enough k n w.0 w.1 in
-      omega (arith, below, above)) in
-      let later : (k : ℕ) → next ≤ k → is_by a n k ≡ false = λ k above.
-      false_from_ne_true (is_by a n k)
-      (λ both.
-      let w = by_parts a n k both in
-      let late = behind k above w.0 in
-      omega (arith, late, w.1)) in
-      ranges.filter_enough (is_by a n) (a.bound n) next past later
-      ∙ filter_ext_places (is_by a n) a.inside next
-      (λ k below. elim (cases_Bool (a.inside k)) [
-        | inl here ↦
-            let le = le-leb (a.known k) n (before k below here) in
-            rw (here, le) refl
-        | inr gone ↦ rw gone refl
-      ])
+module _ (a : Arrivals) (o : AreOrdered a) where
+  -- the next one is the first of those that are left
+  pub next_left : (next n : ℕ) → a.inside next ≡ true → a.known next ≡ n →
+      left a next n ≡ next ∷ left a (next + 1) n
+  next_left next n inside known =
+      let here : is_now a n next ≡ true =
+      and_from (a.inside next) (a.known next == n) inside (eq-eqb (a.known next) n known) in
+      let below : next < a.bound n =
+      elim (cases_lt next (a.bound n)) [
+        | inl less ↦ less
+        | inr above ↦ let late = o.enough n next above inside in absurd (omega (arith, late, known))
+      ] in
+      let first = filter_first_places (is_left a next n) (a.bound n) next below
+      (and_from (nat_le next next) (is_now a n next) (le-leb next next (omega arith)) here)
+      (λ k less. and_left (nat_le next k) (is_now a n k) (lt-leb next k less)) in
+      let rest = filter_ext_places (λ k. nat_le (next + 1) k && is_left a next n k)
+      (is_left a (next + 1) n) (a.bound n)
+      (λ k less.
+      and_under (nat_le (next + 1) k) (is_left a next n k) (is_now a n k)
+      (λ past.
+      let above = leb-true (next + 1) k past in
+      rw (le-leb next k (omega (arith, above))) refl)) in
+      first ∙ ap (λ (ks : List ℕ). next ∷ ks) rest
 
-  one_known : (c : ℕ) → (a.inside c ≡ true → a.known c ≤ n) → AreKnown a c n →
-      AreKnown a (c + 1) n
-  one_known c here before k below inside =
-      elim (cases_lt k c) [
-        | inl less ↦ before k less inside
-        | inr more ↦
-            let same : c ≡ k = omega (arith, below, more) in
-            let most = here (ap a.inside same ∙ inside) in
-            let e = ap a.known same in
-            omega (arith, most, e)
-      ]
+  module _ (n : ℕ) where
+    -- those known by n are those before a number, where the others are known later
+    pub known_is : (next : ℕ) → AreKnown a next n → AreLater a next (n + 1) →
+        filter (is_by a n) (places (a.bound n)) ≡ filter a.inside (places next)
+    known_is next before behind =
+        let past : (from : ℕ) → AreLater a from (n + 1) → (k : ℕ) → from ≤ k → is_by a n k ≡ false =
+        λ from later k above. and_none (a.inside k) (nat_le (a.known k) n)
+        (λ here. let late = later k above here in lt-leb (a.known k) n (omega (arith, late))) in
+        ranges.filter_enough (is_by a n) (a.bound n) next (past (a.bound n) (o.enough n))
+        (past next behind)
+        ∙ filter_ext_places (is_by a n) a.inside next
+        (λ k below.
+        and_first (a.inside k) (nat_le (a.known k) n)
+        (λ here. le-leb (a.known k) n (before k below here)))
 
-  part : (fuel c : ℕ) → a.bound n ≤ c + fuel → AreKnown a c n →
-      (next : ℕ) × (AreKnown a next n × AreLater a next (n + 1))
-  part zero c all before = (
-    c,
-    (
-      before,
-      λ k above inside.
-          elim (cases_lt n (a.known k)) [
-            | inl less ↦ omega (arith, less)
-            | inr most ↦
-                let below = o.enough k n inside most in
-                absurd (omega (arith, below, all, above))
-          ],
-    ),
-  )
-  part (suc fuel) c all before =
-      elim (cases_lt n (a.known c)) [
-        | inl less ↦
-            elim (cases_Bool (a.inside c)) [
-              | inl here ↦ (
-                c,
-                (
-                  before,
-                  λ k above inside.
-                      let later = o.ordered c k here inside above in
-                      omega (arith, later, less),
-                ),
-              )
-              | inr gone ↦
-                  part fuel (c + 1) (omega (arith, all))
-                  (one_known c
-                  (λ here.
-                  let both : true ≡ false = sym here ∙ gone in
-                  absurd (cc)) before)
-            ]
-        | inr most ↦ part fuel (c + 1) (omega (arith, all)) (one_known c (λ here. most) before)
-      ]
+    -- all up to one that is known are known
+    pub known_with : (k : ℕ) → a.inside k ≡ true → a.known k ≤ n → AreKnown a (k + 1) n
+    known_with k here most j below inside =
+        elim (cases_lt j k) [
+          | inl less ↦ let le = o.ordered j k inside here less in omega (arith, le, most)
+          | inr more ↦
+              let same : j ≡ k = omega (arith, below, more) in
+              let e = ap a.known same in
+              omega (arith, e, most)
+        ]
 
-  -- there is such a number
-  pub parted : (next : ℕ) × (AreKnown a next n × AreLater a next (n + 1))
-  parted = part (a.bound n) 0 (omega arith) (λ k below inside. absurd (omega (arith, below)))
+    part : (b : ℕ) → AreLater a b (n + 1) →
+        (next : ℕ) × (AreKnown a next n × AreLater a next (n + 1))
+    part zero behind = (0, (λ k below inside. absurd (omega (arith, below)), behind))
+    part (suc b) behind =
+        elim (cases_Bool (is_by a n b)) [
+          | inl both ↦
+              let w = by_parts a n b both in
+              (suc b, (λ j below. known_with b w.0 w.1 j (omega (arith, below)), behind))
+          | inr late ↦ part b
+              (λ k above inside.
+              elim (cases_lt b k) [
+                | inl past ↦ behind k (omega (arith, past)) inside
+                | inr most ↦
+                    let same : b ≡ k = omega (arith, above, most) in
+                    let none : (a.inside k && nat_le (a.known k) n) ≡ false =
+                    ap (is_by a n) (sym same) ∙ late in
+                    let past = leb-false (a.known k) n (rw inside at none) in
+                    omega (arith, past)
+              ])
+        ]
+
+    -- there is such a number
+    pub parted : (next : ℕ) × (AreKnown a next n × AreLater a next (n + 1))
+    parted = part (a.bound n) (o.enough n)
+
+-- WHAT STAYS WHERE MORE SAMPLES FOLLOW
+-- what each gives, from when it is known; what hangs on those before a number, from when these are
+-- known; and what is told of no more samples than there are
+abbrev pub Stays : {A : Type 0} → Arrivals → (List Sample → ℕ → A) → Type 0
+Stays a gives = (xs ys : List Sample) (k : ℕ) → a.inside k ≡ true → a.known k ≤ length xs →
+    gives (xs ++ ys) k ≡ gives xs k
+
+abbrev pub StaysBefore : {A : Type 0} → Arrivals → (List Sample → ℕ → A) → Type 0
+StaysBefore a gives = (xs ys : List Sample) (next : ℕ) → AreKnown a next (length xs) →
+    gives (xs ++ ys) next ≡ gives xs next
+
+abbrev pub StaysWithin : {A : Type 0} → (List Sample → ℕ → A) → Type 0
+StaysWithin told = (xs ys : List Sample) (n : ℕ) → n ≤ length xs → told (xs ++ ys) n ≡ told xs n
+
+-- what hangs on those up to one stays from when this one is known, without it or with it
+module _ {A : Type 0} (a : Arrivals) (o : AreOrdered a) (gives : List Sample → ℕ → A)
+    (stays : StaysBefore a gives) where
+  pub stays_at : Stays a gives
+  stays_at xs ys k inside known =
+      stays xs ys k
+      (λ j below. known_with a o (length xs) k inside known j (omega (arith, below)))
+
+  pub stays_with : Stays a (λ xs k. gives xs (k + 1))
+  stays_with xs ys k inside known =
+      stays xs ys (k + 1) (known_with a o (length xs) k inside known)
+
+-- so stays all that those before a number give, and all that is told of those that are known just now
+module _ {E : Type 0} (a : Arrivals) where
+  pub stays_before : (gives : List Sample → ℕ → List E) → Stays a gives →
+      StaysBefore a (λ xs next. flat_map (gives xs) (filter a.inside (places next)))
+  stays_before gives stays xs ys next known =
+      ranges.flat_map_ext_filter_places a.inside (gives (xs ++ ys)) (gives xs) next
+      (λ k below inside. stays xs ys k inside (known k below inside))
+
+  pub stays_now : (gives : List Sample → ℕ → ℕ → List E) →
+      ((n : ℕ) → Stays a (λ xs. gives xs n)) →
+      StaysWithin (λ xs n. flat_map (gives xs n) (now a n))
+  stays_now gives stays xs ys n h =
+      flat_map_ext_filter (is_now a n) (gives (xs ++ ys) n) (gives xs n) (places (a.bound n))
+      (λ k both.
+      let parts = now_parts a n k both in
+      stays n xs ys k parts.0 (omega (arith, parts.1, h)))
 
 -- what those in the file before one give, with it
 pub given_more : {E : Type 0} (inside : ℕ → Bool) (f : ℕ → List E) (k : ℕ) → inside k ≡ true →
@@ -264,3 +279,19 @@ given_less inside k gone =
 pub every : (xs : List ℕ) → filter (λ k. true) xs ≡ xs
 every [] = refl
 every (x ∷ xs) = ap (λ (ys : List ℕ). x ∷ ys) (every xs)
+
+-- THE FRAMES OF A STREAM
+-- none lies in the file before the first that does
+pub none_inside : {count low : ℕ} (s : Stream) → IsTimed count s low → (k : ℕ) → k ≤ low →
+    filter (is_in_file count s) (places k) ≡ []
+none_inside {count} s timed k h =
+    filter_none_places (is_in_file count s) k (λ j below. outside_low s timed j (omega arith))
+
+-- the own bits of a frame that is known stay where more samples follow
+pub own_bits_sooner : {count low : ℕ} (s : Stream) → s.waits ≡ true → IsTimed count s low →
+    (xs ys : List Sample) (k : ℕ) → is_in_file count s k ≡ true → known_at count s k ≤ length xs →
+    frame_own_bits count (xs ++ ys) s k ≡ frame_own_bits count xs s k
+unfolding frame_own_bits
+own_bits_sooner {count} s waits timed xs ys k inside known =
+    ap (own_bits s.channel (span_frames count s k) (k - span_first count s k))
+    (span_softs_sooner s timed xs ys k waits inside known)

@@ -4,10 +4,10 @@ use Rattle.heard_events.proofs.Common.{slice_get, IsTrue, and_from, Sample, even
 use Rattle.heard_events.proofs.Common.{has_reference, AreNear, IsTuned, low_of, Tuning, fingers_of, sync_stream, Event, Pilot}
 use Rattle.heard_events.proofs.Common.{flat_map_ext_places}
 use Rattle.heard_events.proofs.EventsGrown.{events_sooner}
-use Rattle.heard_events.proofs.SyncTimes.{timed_of}
 use Rattle.heard_events.proofs.GoesOn.{of_first}
-use Rattle.heard_events.proofs.Growth.{IsSyncTimed}
+use Rattle.heard_events.proofs.Growth.{IsSyncTimed, timed_of}
 use Rattle.heard_events.proofs.MarkStays.{mark_sooner}
+use Rattle.heard_events.proofs.Arrivals.{StaysWithin}
 
 -- FINGERS THAT ARE TUNED
 near_all : (phase : ℕ) (deltas : List ℤ) → All (λ d. IsTrue (is_near d)) deltas →
@@ -35,8 +35,7 @@ module _ (t : Tuning) (is : IsTuned t) where
   timed : IsSyncTimed t (low_of t)
   timed = timed_of t (tuned_near t is)
 
-  heard_sooner : (xs ys : List Sample) (n : ℕ) → n ≤ length xs →
-      heard_within t (xs ++ ys) n ≡ heard_within t xs n
+  heard_sooner : StaysWithin (heard_within t)
   unfolding heard_within
   heard_sooner xs ys n h =
       flat_map_ext_places (events_at t (xs ++ ys)) (events_at t xs) (n + 1)

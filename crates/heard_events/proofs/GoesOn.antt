@@ -1,7 +1,8 @@
 -- How what is told of channels goes on with the samples, where nothing of them is due.
 use Rattle.heard_events.proofs.Common.{◌≡◌, ℕ, ◌<◌, ◌≤◌, List, [], ◌++◌, length, length-append, map, refl, sym, ap, ◌∙◌, arith, Sample}
 use Rattle.heard_events.proofs.Common.{drop, take, length-take-le, take-append-drop}
-use Rattle.heard_events.proofs.Arrivals.{AreKnown, AreLater, Arrivals, all_left, left, none_between, none_left, none_now, now}
+use Rattle.heard_events.proofs.Arrivals.{AreKnown, AreLater, Arrivals, all_left, left, none_between, none_left, none_now, now, StaysWithin}
+use Rattle.std.proofs.Common.{ap₂}
 
 -- Behind these samples nothing is told up to a number of samples, and what is told there is left:
 -- `told samples n` is told of some samples when just n have been taken, and `left samples` is left
@@ -46,8 +47,7 @@ never told none heard end = record {
 }
 
 pub joined : {E : Type 0} {xs xs' ys ys' : List E} → xs ≡ xs' → ys ≡ ys' → xs ++ ys ≡ xs' ++ ys'
-joined {xs = xs} {xs' = xs'} {ys = ys} {ys' = ys'} e e' =
-    ap (λ (es : List _). es ++ ys) e ∙ ap (λ (es : List _). xs' ++ es) e'
+joined e e' = ap₂ (λ (xs ys : List _). xs ++ ys) e e'
 
 -- two channels
 pub both : {E : Type 0} {told told' : List Sample → ℕ → List E} {left left' : List Sample → List E}
@@ -86,8 +86,7 @@ mapped f {heard = heard} goes = record {
 }
 
 -- What stays where more samples follow hangs on the first samples alone.
-pub of_first : {A : Type 0} (f : List Sample → ℕ → A) →
-    ((xs ys : List Sample) (n : ℕ) → n ≤ length xs → f (xs ++ ys) n ≡ f xs n) →
+pub of_first : {A : Type 0} (f : List Sample → ℕ → A) → StaysWithin f →
     (one other : List Sample) (n : ℕ) → n ≤ length one → n ≤ length other →
     take n one ≡ take n other → f one n ≡ f other n
 of_first f sooner one other n few few' same =

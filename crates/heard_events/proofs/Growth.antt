@@ -2,13 +2,13 @@
 use Rattle.heard_events.proofs.Common.{◌≡◌, ℕ, ◌+◌, ◌≤◌, Bool, true, List, [], ◌∷◌, ◌++◌, map, length, refl, ap, ◌∙◌, arith, map-append}
 use Rattle.heard_events.proofs.Common.{places, Sample, piece, capsule_ending, sync_events_left, is_in_file, known_at, frame_own_bits}
 use Rattle.heard_events.proofs.Common.{frames_before, sync_capsule_at, heard_in, heard_at, events_of, sync_events_at, IsTimed, Tuning}
-use Rattle.heard_events.proofs.Common.{sync_stream, sync_bound, filter_none_places, map_ext_filter_places, filter-places-more, flat_map}
+use Rattle.heard_events.proofs.Common.{sync_stream, sync_bound, map_ext_filter_places, filter-places-more, flat_map, AreNear, low_of}
 use Rattle.std.specs.List.{filter}
-use Rattle.rake_finger.proofs.FrameTimes.{outside_low, known_between, known_le}
-use Rattle.heard_events.proofs.OwnBits.{own_bits_sooner}
-use Rattle.heard_events.proofs.Arrivals.{AreKnown, AreLater, Arrivals, frames_in, gives_same, next_left, none_now}
+use Rattle.rake_finger.proofs.FrameTimes.{known_between}
+use Rattle.heard_events.proofs.Arrivals.{AreKnown, AreLater, Arrivals, frames_in, next_left, none_now, AreOrdered, frames_ordered, Stays}
+use Rattle.heard_events.proofs.Arrivals.{StaysBefore, StaysWithin, stays_with, stays_now, own_bits_sooner, none_inside}
 use Rattle.heard_events.proofs.GoesOn.{GoesOn, things_go}
-use Rattle.heard_events.proofs.Arrivals.{AreOrdered, frames_ordered}
+use Rattle.rake_finger.proofs.FingerTimes.{timed_in}
 
 -- FRAMES OF THE SYNC CHANNEL
 -- whether one lies in the file, and when it is known
@@ -23,6 +23,9 @@ sync_frames t = frames_in t.count (sync_stream t) sync_bound
 
 abbrev pub IsSyncTimed : Tuning → ℕ → Type 0
 IsSyncTimed t low = IsTimed t.count (sync_stream t) low
+
+pub timed_of : (t : Tuning) → AreNear (sync_stream t).fingers → IsSyncTimed t (low_of t)
+timed_of t h = timed_in t.count (sync_stream t) h
 
 pub sync_ordered : {low : ℕ} (t : Tuning) → IsSyncTimed t low → AreOrdered (sync_frames t)
 sync_ordered t timed =
@@ -42,43 +45,34 @@ pub frames_before_none : (t : Tuning) (xs : List Sample) (low k : ℕ) → IsSyn
     k ≤ low → frames_before t xs k ≡ []
 unfolding frames_before
 frames_before_none t xs low k timed h =
-    ap (map (frame_own_bits t.count xs (sync_stream t)))
-    (filter_none_places (sync_in_file t) k
-    (λ j below. outside_low (sync_stream t) timed j (omega arith)))
+    ap (map (frame_own_bits t.count xs (sync_stream t))) (none_inside (sync_stream t) timed k h)
 
-pub frames_before_sooner : {low : ℕ} (t : Tuning) → IsSyncTimed t low → (xs ys : List Sample)
-    (k : ℕ) → AreKnown (sync_frames t) k (length xs) → frames_before t (xs ++ ys) k ≡ frames_before t xs k
+pub frames_before_sooner : {low : ℕ} (t : Tuning) → IsSyncTimed t low →
+    StaysBefore (sync_frames t) (frames_before t)
 unfolding frames_before
 frames_before_sooner t timed xs ys k known =
     let s = sync_stream t in
     map_ext_filter_places (sync_in_file t) (frame_own_bits t.count (xs ++ ys) s)
     (frame_own_bits t.count xs s) k
-    (λ j below inside. own_bits_sooner s timed xs ys j refl inside (known j below inside))
-
--- a frame is known no later than those behind it
-pub known_with : {low : ℕ} (t : Tuning) → IsSyncTimed t low → (k n : ℕ) →
-    sync_in_file t k ≡ true → sync_known t k ≤ n → AreKnown (sync_frames t) (k + 1) n
-known_with t timed k n h known = λ j below inside.
-    let le = known_le (sync_stream t) timed j k inside h (omega arith) in
-    omega arith
+    (λ j below inside. own_bits_sooner s refl timed xs ys j inside (known j below inside))
 
 -- EVENTS
 module _ (t : Tuning) (low : ℕ) (timed : IsSyncTimed t low) where
-  pub heard_sooner : (xs ys : List Sample) (k : ℕ) → sync_in_file t k ≡ true →
-      sync_known t k ≤ length xs → heard_at t (xs ++ ys) k ≡ heard_at t xs k
-  unfolding heard_at sync_capsule_at
-  heard_sooner xs ys k h known =
-      ap (λ frames. heard_in t.check30 (capsule_ending (map piece frames)))
-      (frames_before_sooner t timed xs ys (k + 1) (known_with t timed k (length xs) h known))
+  pub frames_with_sooner : Stays (sync_frames t) (λ xs k. frames_before t xs (k + 1))
+  frames_with_sooner =
+      stays_with (sync_frames t) (sync_ordered t timed) (frames_before t) (frames_before_sooner t timed)
 
-  pub sync_events_sooner : (xs ys : List Sample) (n : ℕ) → n ≤ length xs →
-      sync_events_at t (xs ++ ys) n ≡ sync_events_at t xs n
+  pub heard_sooner : Stays (sync_frames t) (heard_at t)
+  unfolding heard_at sync_capsule_at
+  heard_sooner xs ys k inside known =
+      ap (λ frames. heard_in t.check30 (capsule_ending (map piece frames)))
+      (frames_with_sooner xs ys k inside known)
+
+  pub sync_events_sooner : StaysWithin (sync_events_at t)
   unfolding sync_events_at
-  sync_events_sooner xs ys n h =
-      gives_same (sync_frames t) (λ k. events_of n (heard_at t (xs ++ ys) k))
-      (λ k. events_of n (heard_at t xs k)) n
-      (λ k inside known.
-      ap (events_of n) (heard_sooner xs ys k inside (omega (arith, known, h))))
+  sync_events_sooner =
+      stays_now (sync_frames t) (λ xs n k. events_of n (heard_at t xs k))
+      (λ n xs ys k inside known. ap (events_of n) (heard_sooner xs ys k inside known))
 
   -- how they go on with the samples
   pub sync_goes : (next : ℕ) (heard : List Sample) (end : ℕ) →
@@ -111,7 +105,5 @@ module _ (t : Tuning) (low : ℕ) (timed : IsSyncTimed t low) where
       ≡ events_of (length xs) (heard_at t xs next) ++ sync_events_left t xs (next + 1)
   unfolding sync_events_left
   left_next xs next h e =
-      let early = timed.early next in
-      let most = (known_between (sync_stream t) timed next h).low in
       ap (flat_map (λ k. events_of (length xs) (heard_at t xs k)))
-      (next_left (sync_frames t) next (length xs) (omega arith) h e)
+      (next_left (sync_frames t) (sync_ordered t timed) next (length xs) h e)

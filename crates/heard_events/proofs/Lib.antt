@@ -1,16 +1,11 @@
 pub mod Common
-pub mod OwnBits
-pub mod SyncTimes
 pub mod Arrivals
 pub mod GoesOn
 pub mod Growth
-pub mod Opened
 pub mod MarkGrowth
 pub mod MarkLater
-pub mod PageBits
 pub mod PageGrowth
 pub mod FrameBounds
-pub mod FrameGrowth
 pub mod MomentGrowth
 pub mod TrafficGrowth
 pub mod FollowedEvents

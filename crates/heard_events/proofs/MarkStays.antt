@@ -13,13 +13,12 @@ use Rattle.heard_events.proofs.FollowedEvents.{followed_behind, unrated}
 use Rattle.heard_events.specs.TrafficEvents.{frame_heard}
 use Rattle.rake_finger.proofs.CloseFingers.{near_are_close}
 use Rattle.rake_finger.proofs.FingerTimes.{ends_bounds, timed_in}
-use Rattle.heard_events.proofs.SyncTimes.{timed_of}
 use Rattle.heard_events.proofs.FrameBounds.{known_low}
-use Rattle.heard_events.proofs.FrameGrowth.{frames_of}
+use Rattle.heard_events.proofs.TrafficGrowth.{frames_of}
 use Rattle.heard_events.proofs.GoesOn.{joined}
-use Rattle.heard_events.proofs.Arrivals.{AreKnown, none_now, parted, by_parts, is_by}
+use Rattle.heard_events.proofs.Arrivals.{AreKnown, known_with, none_now, parted, by_parts, is_by}
 use Rattle.rake_finger.proofs.FrameTimes.{known_between}
-use Rattle.heard_events.proofs.Growth.{IsSyncTimed, sync_in_file, sync_known, known_with, sync_frames, sync_ordered}
+use Rattle.heard_events.proofs.Growth.{IsSyncTimed, sync_in_file, sync_known, sync_frames, sync_ordered, timed_of}
 use Rattle.heard_events.proofs.MarkGrowth.{marks_at_sooner, mark_before_kept, mark_before_more, mark_is}
 use Rattle.heard_events.proofs.MarkLater.{mark_later}
 use Rattle.heard_events.proofs.PageGrowth.{pages_none}
@@ -108,7 +107,8 @@ module _ (t : Tuning) (low : ℕ) (timed : IsSyncTimed t low) where
   unset samples n k m none inside known = λ sets.
       let before = mark_before t samples k in
       let (x, some) = some_or before (first_of (marks_at t samples k)) m sets in
-      let found = mark_told samples n (k + 1) x (known_with t timed k n inside known)
+      let found = mark_told samples n (k + 1) x
+      (known_with (sync_frames t) (sync_ordered t timed) n k inside known)
       (mark_before_more t samples k inside ∙ some) in
       let both : None ≡ Some x = sym none ∙ found in
       absurd (cc)

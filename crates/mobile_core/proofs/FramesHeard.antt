@@ -12,7 +12,7 @@ use Rattle.mobile_core.specs.TrafficReceiving.{frame_taken, tuned_to}
 use Rattle.rake_finger.proofs.CloseFingers.{close_ends}
 use Rattle.heard_events.proofs.FrameBounds.{AreCloseAll, has_here, known_high, known_is, known_later, known_low}
 use Rattle.heard_events.proofs.Arrivals.{left}
-use Rattle.heard_events.proofs.FrameGrowth.{frames_of, signals_sooner}
+use Rattle.heard_events.proofs.TrafficGrowth.{frames_of, signals_sooner}
 use Rattle.heard_events.proofs.GoesOn.{GoesOn, goes_as, things_go}
 use Rattle.heard_events.proofs.TrafficGrowth.{heard_grown, heard_none, told_at, told_first, told_is, told_left, told_none}
 use Rattle.heard_events.specs.Left.{frames_left_of, messages_left_of}

@@ -7,7 +7,7 @@ use Rattle.mobile_core.proofs.Common.{legs_by, moment_place, all_noted, body_not
 use Rattle.mobile_core.proofs.Common.{system_thresholds, capsule_with, message_at, message_events, signal_at, signal_in, signal_of}
 use Rattle.mobile_core.proofs.Common.{signals_before, HasTold, HearsWith, IsSoundTraffic, noted_by, told_left_with, frame_known, Tuning}
 use Rattle.mobile_core.proofs.Common.{frame_heard, Event, Mark, Traffic, SpelledSignal, TrafficReceiver}
-use Rattle.heard_events.proofs.FrameGrowth.{signals_more}
+use Rattle.heard_events.proofs.TrafficGrowth.{signals_more}
 use Rattle.mobile_core.proofs.FramesHeard.{closes, due_inside}
 use Rattle.heard_events.proofs.TrafficGrowth.{told_left, told_next}
 use Rattle.heard_events.specs.TrafficEvents.{power_bits_at, decoded_at, frame_event, frame_heard as heard_frame}

@@ -8,8 +8,8 @@ use Rattle.mobile_core.proofs.Common.{Event, Mark, SpelledMessage, SyncReceiver}
 use Rattle.reception.proofs.ClockSteps.{due_inside, due_known, before_next}
 use Rattle.rake_finger.proofs.FrameTimes.{outside_low}
 use Rattle.heard_events.proofs.Growth.{frames_before_sooner, frames_before_more, frames_before_none, left_next}
-use Rattle.heard_events.proofs.MarkGrowth.{mark_before_none, mark_before_more, mark_before_sooner}
-use Rattle.heard_events.proofs.Opened.{frames_open-none, frames_open-more}
+use Rattle.heard_events.proofs.MarkGrowth.{mark_before_none, mark_before_more, mark_before_sooner, frames_open-none}
+use Rattle.heard_events.proofs.MarkGrowth.{frames_open-more}
 use Rattle.reception.proofs.Received.{receives_more, receives_heard}
 use Rattle.heard_events.proofs.MarkTold.{noted_event}
 use Rattle.sync_message.specs.Framing as framing

@@ -33,7 +33,7 @@ pub use Rattle.event_tap.specs.SlotLines.{lines_of_slot, lines_of_slots, slot_bo
 unfoldable pub use Rattle.event_tap.specs.SlotLines.{slot_pages}
 pub use Rattle.rake_finger.proofs.CloseFingers.{close_begun, near_are_close, near_parts}
 pub use Rattle.rake_finger.proofs.FingerTimes.{timed_in}
-pub use Rattle.heard_events.proofs.SyncTimes.{timed_of}
+pub use Rattle.heard_events.proofs.Growth.{timed_of}
 pub use Rattle.heard_events.proofs.ChannelFrames.{frame_same, form_by, frames_sooner}
 pub use Rattle.rake_finger.proofs.FrameTimes.{ends_lt, inside_from, inside_to, known_between, known_le, known_own}
 pub use Rattle.heard_events.proofs.MarkLater.{mark_later}
