@@ -15,17 +15,11 @@ use Rattle.std.specs.Option.{option_map}
 use Rattle.pilot_sets.proofs.Times.{offsets_of, once_at_most}
 use Rattle.heard_events.proofs.LegLists.{all_at}
 
--- HOW OFTEN A PILOT IS ACTIVE
+-- THEIR PILOTS
 pilots_shown : (actives : List ActivePilot) →
     map (λ (a : Active). a.pilot) (map shown_active actives) ≡ pilots_of_actives actives
 pilots_shown [] = refl
 pilots_shown (a ∷ actives) = ap (λ (ps : List ℕ). a.pilot ∷ ps) (pilots_shown actives)
-
-pub active_once : (s : PilotSets) → IsOrderly s → (p : ℕ) →
-    times p (map (λ (a : Active). a.pilot) (map shown_active s.active)) ≤ 1
-active_once s is p =
-    let same = ap (times p) (pilots_shown s.active) in
-    omega (arith, same, is.once p, once_at_most p)
 
 -- an active pilot is an offset
 pub active_offset : (s : PilotSets) → IsOrderly s → (i : ℕ) (a : Active) →
@@ -42,9 +36,9 @@ active_offset s is i a read =
 one_place : (p q : ℕ) → (if p == q then 3 else 1) ≡ 1 + 2 * (cond (nat_eq q p) 1 0)
 one_place p q = grind arith
 
-places_are : (m : Mark) (deltas : List ℤ) (actives : List Active) →
-    places_in (map (leg_of m deltas) actives)
-    ≡ length actives + 2 * times m.pilot (map (λ (a : Active). a.pilot) actives)
+places_are : (m : Mark) (deltas : List ℤ) (actives : List ActivePilot) →
+    places_in (map (leg_of m deltas) (map shown_active actives))
+    ≡ length (map shown_active actives) + 2 * times m.pilot (pilots_of_actives actives)
 places_are m deltas [] = omega arith
 places_are m deltas (a ∷ actives) =
     let one = one_place a.pilot m.pilot in
@@ -55,9 +49,8 @@ places_are m deltas (a ∷ actives) =
 pub places_few : (m : Mark) (s : Standing) → IsStanding s.sets s.deltas →
     length (shown s) ≤ 6 → places_in (legs_of m s) ≤ 8
 places_few m s is few =
-    let once = active_once s.sets is.sets m.pilot in
-    let all = places_are m s.deltas (shown s) in
-    omega (arith, all, once, few)
+    let all = places_are m s.deltas s.sets.active in
+    omega (arith, all, is.sets.once m.pilot, once_at_most m.pilot, few)
 
 -- CLOSE FINGERS WITH ROWS
 pub get_close : (deltas : List ℤ) (i : ℕ) → All (λ d. unsigned_abs d ≤ 226) deltas →

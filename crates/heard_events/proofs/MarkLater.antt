@@ -14,6 +14,7 @@ use Rattle.std.specs.List.{filter}
 use Rattle.frame_decoder.specs.Spans.{Channel}
 use Rattle.heard_events.proofs.Common.{All, get_or}
 use Rattle.std.proofs.lemmas.Bool.{cond_both}
+use Rattle.std.proofs.lemmas.Option.{cond_some, none-some}
 use Rattle.std.proofs.lemmas.List.Elements.{All-map, All-nil, All-tail, All-take}
 use Rattle.rake_finger.proofs.FingerTimes.{ends_bounds}
 use Rattle.rake_finger.proofs.FrameTimes.{known_between}
@@ -67,26 +68,21 @@ bodies_long (p ∷ pieces) h =
     omega (arith, one, rest, length-append p.body (bodies pieces))
 
 -- THE CAPSULE ENDS IN ITS LAST FRAME
-decide : (a b : Bool) (front capsule : List Bool) →
-    (if a then None else (if b then Some front else None)) ≡ Some capsule →
-    (a ≡ false) × (b ≡ true) × (front ≡ capsule)
-decide true b front capsule e = absurd (cc)
-decide false true front capsule e = (refl, refl, cc)
-decide false false front capsule e = absurd (cc)
-
 ends_late : (bits : List Bool) (before : ℕ) (capsule : List Bool) →
     (if nat_le (stated_bits bits) before then None else front_capsule bits) ≡ Some capsule →
     before < length capsule
 unfolding front_capsule
 ends_late bits before capsule e =
     let size : ℕ = stated_bits bits in
-    let d = decide (nat_le size before) (is_stated bits && nat_le size (length bits))
-    (take size bits) capsule e in
-    let less = leb-false size before d.0 in
-    let fits = leb-true size (length bits)
-    (and_parts (is_stated bits) (nat_le size (length bits)) d.1).1 in
-    let long : length (take size bits) ≡ length capsule = ap length d.2 in
-    omega (arith, length-take size bits, long, less, fits)
+    let all = nat_le size (length bits) in
+    elim (cases_Bool (nat_le size before)) [
+      | inl early ↦ absurd (none-some capsule (rw early at e))
+      | inr late ↦
+          let front = cond_some (is_stated bits && all) (take size bits) capsule (rw late at e) in
+          let fits = leb-true size (length bits) (and_parts (is_stated bits) all front.0).1 in
+          let long : length (take size bits) ≡ length capsule = ap length front.1 in
+          omega (arith, length-take size bits, long, leb-false size before late, fits)
+    ]
 
 frames_few : (t : Tuning) (samples : List Sample) (k : ℕ) (capsule : List Bool) →
     sync_capsule_at t samples k ≡ Some capsule →

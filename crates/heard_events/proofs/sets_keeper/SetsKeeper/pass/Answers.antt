@@ -4,35 +4,24 @@ use Rattle.heard_events.proofs.Common.{power_at, strengths_at, Mark}
 use Rattle.heard_events.proofs.ActiveLegs.{deltas_close, due_deltas}
 use Rattle.heard_events.proofs.sets_keeper.SetsKeeper.pass.Goals as goal
 
--- what a moment makes of the sets, from what was measured
-module _ (m : Mark) (heard : List Sample) (j place power : ℕ) (s began : Standing)
-    (strengths : List Strength) (place_is : place ≡ moment_place m j)
-    (began_is : began ≡ due_at (m.time + j) s)
-    (strengths_are : strengths ≡ strengths_at m heard place began)
-    (power_is : power ≡ power_at heard place) where
-  pub moment_is : (new : Standing) → new ≡ stepped strengths power (m.time + j) began →
-      (change : SetChange) → change ≡ change_at strengths power (m.time + j) began →
-      (new ≡ passed m heard j s) × (change ≡ changed m heard j s)
-  unfolding passed changed
-  moment_is new new_is change change_is = (
-    rw (new_is, strengths_are, power_is, began_is, place_is) refl,
-    rw (change_is, strengths_are, power_is, began_is, place_is) refl,
-  )
-
 pub returns-clause-passes : goal.returns-clause-passes
+unfolding passed changed
 returns-clause-passes c = λ heard holds.
     let k = c.args.self.now in
     let j = k.passed + 1 in
-    let sets = c.step-change.new.self in
+    let place = c.taken-place.ensures.value ∙ c.requires.here in
+    let began = c.due.ensures.sets in
+    let strengths = c.measure-strengths.ensures.value heard holds in
+    let power = c.power.ensures.value heard holds in
     let step = c.step-change.ensures in
-    let is = moment_is k.mark heard j c.taken-place.result c.power.result k.sets c.due.new.self
-    c.measure-strengths.result (c.taken-place.ensures.value ∙ c.requires.here) c.due.ensures.sets
-    (c.measure-strengths.ensures.value heard holds) (c.power.ensures.value heard holds) sets
-    step.sets c.step-change.result step.change in (
-      is.0,
+    let sets : c.step-change.new.self ≡ passed k.mark heard j k.sets =
+    rw (step.sets, strengths, power, began, place) refl in
+    let change : c.step-change.result ≡ changed k.mark heard j k.sets =
+    rw (step.change, strengths, power, began, place) refl in (
+      sets,
       c.sets_event.ensures.value
-          ∙ ap (λ (x : SetChange). moment_events k.mark j x sets) is.1
-          ∙ ap (moment_events k.mark j (changed k.mark heard j k.sets)) is.0,
+          ∙ ap (λ (x : SetChange). moment_events k.mark j x c.step-change.new.self) change
+          ∙ ap (moment_events k.mark j (changed k.mark heard j k.sets)) sets,
     )
 
 pub returns-clause-sound : goal.returns-clause-sound
