@@ -1,18 +1,18 @@
 -- The fingers of active pilots, gone over one by one.
-use Rattle.heard_events.proofs.Common.{◌≡◌, ℕ, ◌+◌, ◌≤◌, Bool, true, List, [], ◌∷◌, ◌++◌, length, take, ap, ◌∙◌, refl, arith, Some}
-use Rattle.heard_events.proofs.Common.{slice_get, nat_lt, ℤ, inl, inr, length-append, append-nil, length-take, and_from, cases_Bool}
-use Rattle.heard_events.proofs.Common.{list_all, flat_map-append, Finger, all_close, is_close, legs_close, legs_rows, paths_close}
+use Rattle.heard_events.proofs.Common.{◌≡◌, ℕ, ◌+◌, ◌≤◌, Bool, true, List, [], ◌∷◌, length, take, ◌∙◌, refl, arith}
+use Rattle.heard_events.proofs.Common.{nat_lt, ℤ, inl, inr, length-append, length-take, and_from, cases_Bool}
+use Rattle.heard_events.proofs.Common.{list_all, Finger, all_close, is_close, legs_close, legs_rows, paths_close}
 use Rattle.heard_events.proofs.Common.{places_for, places_in, all_fingers, leg_fingers, have_rows, fingers_of, Leg}
 use Rattle.std.proofs.lemmas.Bool.{cond_both}
 use Rattle.std.proofs.lemmas.List.{length-map}
 use Rattle.std.proofs.lemmas.List.Folds.{list_all-map}
 use Rattle.std.proofs.lemmas.List.Sums.{list_all-from_AllPass}
 use Rattle.rake_finger.specs.Paths.{finger_of}
-use Rattle.heard_events.proofs.LegLists.{flat_passes, take_at}
+use Rattle.heard_events.proofs.LegLists.{flat_passes}
 
 -- HOW MANY
 -- a pilot has room for its fingers, and has one where the reference has a path
-pub leg_bounds : (phase : ℕ) (deltas : List ℤ) (leg : Leg) →
+leg_bounds : (phase : ℕ) (deltas : List ℤ) (leg : Leg) →
     (length deltas ≤ 3 → length (leg_fingers phase deltas leg) ≤ places_for leg)
     × (1 ≤ length deltas → 1 ≤ length (leg_fingers phase deltas leg))
 leg_bounds phase deltas leg =
@@ -80,14 +80,3 @@ legs_are_close phase deltas legs paths h =
     (λ leg one.
     leg_passes is_close phase deltas leg one (paths_fingers leg.finger.row phase deltas ∙ paths))
     h
-
--- ONE MORE
-pub leg_more : (phase : ℕ) (deltas : List ℤ) (legs : List Leg) (i : ℕ) (leg : Leg) →
-    slice_get legs i ≡ Some leg →
-    all_fingers phase deltas (take (i + 1) legs)
-    ≡ all_fingers phase deltas (take i legs) ++ leg_fingers phase deltas leg
-leg_more phase deltas legs i leg read =
-    ap (all_fingers phase deltas) (take_at legs i leg read)
-    ∙ flat_map-append (leg_fingers phase deltas) (take i legs) (leg ∷ [])
-    ∙ ap (λ (fs : List Finger). all_fingers phase deltas (take i legs) ++ fs)
-    (append-nil (leg_fingers phase deltas leg))

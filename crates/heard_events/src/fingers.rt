@@ -60,8 +60,8 @@ fn fingers_or_none(legs: &Legs, phase: Phase, near: &Near) -> Option<Fingers>
     ensures close { all_close (fingers_in result) ≡ true }
 {
     let mut fingers = None;
-    for i in 0..legs.len() {
-        fingers = with_leg(fingers, &legs.get(i), phase, near);
+    for leg in legs.all() {
+        fingers = with_leg(fingers, leg, phase, near);
     }
     fingers
 }

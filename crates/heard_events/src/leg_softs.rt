@@ -69,7 +69,7 @@ fn subchannel_softs(
     ensures small { sum_by unsigned_abs out.new ≤ 3 * 2 ^ 60 }
 {
     let on = legs.on_subchannel(subchannel);
-    if on.len() == legs.len() {
+    if on.all().len() == legs.all().len() {
         *out = *all;
         return;
     }

@@ -1,6 +1,6 @@
 //! The active pilots, as a traffic channel is heard from them.
 
-ghost use Rattle.std.specs.Prelude.{◌≡◌, ◌<◌, ◌≤◌, ◌∷◌, ◌++◌, [], length, slice_get, Some};
+ghost use Rattle.std.specs.Prelude.{◌≡◌, ◌<◌, ◌≤◌, ◌∷◌, ◌++◌, [], length};
 ghost use Rattle.heard_events.specs.Legs.{has_subchannel, on_subchannel};
 
 use crate::leg::Leg;
@@ -46,20 +46,12 @@ impl Legs {
         }
     }
 
-    /// How many pilots there are.
-    pub(crate) fn len(&self) -> u8
-        ensures value { result ≡ length self.now }
-        ensures most { result ≤ 6 }
+    /// The pilots.
+    pub(crate) fn all(&self) -> &[Leg]
+        ensures value { result.now ≡ self.now }
+        ensures most { length result.now ≤ 6 }
     {
-        self.count
-    }
-
-    /// Pilot `i`, counted from 0.
-    pub(crate) fn get(&self, i: u8) -> Leg
-        requires { i < length self.now }
-        ensures { slice_get self.now i ≡ Some result }
-    {
-        self.items[usize::from(i)]
+        &self.items[..usize::from(self.count)]
     }
 
     /// Adds a pilot at the end.
@@ -75,12 +67,7 @@ impl Legs {
     pub(crate) fn has_subchannel(&self, subchannel: u8) -> bool
         ensures { result ≡ has_subchannel self.now subchannel }
     {
-        for i in 0..self.len() {
-            if self.get(i).subchannel == subchannel {
-                return true;
-            }
-        }
-        false
+        self.all().iter().any(|leg| leg.subchannel == subchannel)
     }
 
     /// The pilots of a power control subchannel.
@@ -88,10 +75,9 @@ impl Legs {
         ensures { result ≡ on_subchannel subchannel self.now }
     {
         let mut legs = Legs::empty();
-        for i in 0..self.len() {
-            let leg = self.get(i);
+        for leg in self.all() {
             if leg.subchannel == subchannel {
-                legs.push(leg);
+                legs.push(*leg);
             }
         }
         legs

@@ -21,15 +21,15 @@ leg_softs-requires c =
       };
     })
 
-pub returns-then-len-clause-value : goal.returns-then-len-clause-value
-returns-then-len-clause-value c = λ heard holds.
+pub returns-then-all-clause-value : goal.returns-then-all-clause-value
+returns-then-all-clause-value c = λ heard holds.
     let legs = c.args.legs.now in
     let i = c.args.subchannel in
     let paths = take c.args.near.now.count c.args.near.now.deltas in
     let on = ap (λ (ls : List Leg). length ls) c.on_subchannel-on.ensures in
     let all : on_subchannel i legs ≡ legs =
     on_whole i legs
-    (omega (arith, on, c.len.ensures.value, c.len-2.ensures.value, c.if-len.true)) in
+    (omega (arith, on, ap length c.all.ensures.value, ap length c.all-2.ensures.value, c.if-all.true)) in
     c.requires.all heard holds
     ∙ ap (λ (ls : List Leg). softs heard (all_fingers c.args.phase paths ls) Data c.args.start)
     (sym all)
