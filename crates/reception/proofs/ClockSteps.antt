@@ -1,11 +1,11 @@
 -- What the clock of a channel's frames stands for, step by step, over any stream.
 use Rattle.reception.proofs.Common.{◌≡◌, ℕ, ◌+◌, ◌-◌, ◌*◌, ◌<◌, ◌≤◌, true, refl, sym, ap, ◌∙◌, arith, ◌⊎◌, inl, inr, nat_lt, false}
-use Rattle.reception.proofs.Common.{cases_lt, lt-ltb, le-ltb, frame_chips, Form, Sync, Data, IsAt, IsDueAt, clock_from, first_frame}
-use Rattle.reception.proofs.Common.{frame_come, frame_heard, span_from, AreNear, IsDue, Stream, frame_start, is_in_file, known_at}
+use Rattle.reception.proofs.Common.{cases_Bool, cases_lt, lt-ltb, le-ltb, frame_chips, Form, Sync, Data, IsAt, IsDueAt, clock_from}
+use Rattle.reception.proofs.Common.{first_frame, frame_come, frame_heard, span_from, AreNear, Stream, frame_start, is_in_file, known_at}
 use Rattle.reception.proofs.Common.{span_first, span_frames, stream_end, FrameClock, Bool, List, if◌then◌else◌, Finger, all_begun}
 use Rattle.reception.proofs.Common.{frame_end}
 use Rattle.rake_finger.proofs.FingerTimes.{start_step, timed_in, ends_bounds, times_one}
-use Rattle.reception.proofs.Progresses as progress
+use Rattle.rake_finger.proofs.FrameTimes.{ends_le, ends_lt, inside_from, inside_to, known_between, known_le, known_more, known_parts}
 use Rattle.rake_finger.proofs.Spans as spans
 
 -- a span begins with the frame before, where that is in the file
@@ -37,16 +37,23 @@ span_bounds c come =
 pub clock_new : {C : Type 0} (count : ℕ) (s : Stream C) → AreNear s.fingers →
     IsAt count s (clock_from s.fingers s.form s.waits s.first (first_frame s.fingers s.first)) 0
 unfolding stream_end
-clock_new count s near =
-    let timed = timed_in count s near in
-    record {
-      timed = timed;
-      reached = progress.reached_none s timed;
-      form_is = refl;
-      waits_is = refl;
-      start_is = refl;
-      end_is = refl;
-    }
+clock_new count s near = record {
+  timed = timed_in count s near;
+  reached = record {
+    low_next = omega arith;
+    next_have = omega arith;
+    have_most = omega arith;
+    within = omega arith;
+    ended = λ k a b. absurd (omega (arith, a, b));
+    behind = omega arith;
+    begun = λ w e. inl refl;
+    late = λ h. omega arith;
+  };
+  form_is = refl;
+  waits_is = refl;
+  start_is = refl;
+  end_is = refl;
+}
 
 starts_before : (form : Form) (first have frame : ℕ) → frame ≤ have →
     first + frame_chips form * have - frame_chips form * (have - frame)
@@ -55,50 +62,124 @@ starts_before Sync first have frame h = omega arith
 starts_before Data first have frame h = omega arith
 
 module _ {C : Type 0} {count : ℕ} {s : Stream C} {c : FrameClock} {n : ℕ} (is : IsAt count s c n) where
-  pub due : IsDueAt count c → IsDue count s c.next c.have
-  due d = record {
-    ended = d.0;
-    known =
-        λ w.
-        elim (d.1 (is.waits_is ∙ w)) [ inl a ↦ inl a | inr b ↦ inr (rw (← is.end_is) b) ];
-  }
-
-  pub not_due : ¬ IsDueAt count c → ¬ IsDue count s c.next c.have
-  not_due none d =
-      none (
-        d.ended,
-        λ w.
-            elim (d.known (sym is.waits_is ∙ w)) [ inl a ↦ inl a | inr b ↦ inr (rw is.end_is b) ],
-      )
-
   -- a frame that is due is known just now
   pub due_inside : IsDueAt count c → is_in_file count s c.next ≡ true
-  due_inside d = progress.due_inside s is.timed c.next c.have n is.reached (due d)
+  due_inside d =
+      let r = is.reached in
+      let ended = r.ended c.next r.low_next d.0 in
+      inside_from s is.timed c.next r.low_next (omega (arith, ended, r.within))
 
   pub due_known : IsDueAt count c → known_at count s c.next ≡ n
-  due_known d = progress.due_known s is.timed c.next c.have n is.reached (due d)
+  due_known d =
+      let r = is.reached in
+      let late = r.late (due_inside d) in
+      let ended = r.ended c.next r.low_next d.0 in
+      elim (known_parts s is.timed c.next r.low_next) [
+        | inl own ↦ omega (arith, own, late, ended)
+        | inr parts ↦
+            elim (cases_lt (c.next + 1) c.have) [
+              | inl less ↦
+                  let behind = r.ended (c.next + 1) (omega (arith, r.low_next)) less in
+                  omega (arith, parts.2, late, behind)
+              | inr more ↦
+                  let same : c.have ≡ c.next + 1 = omega (arith, more, d.0) in
+                  let end = is.end_is ∙ ap (stream_end s) same in
+                  elim (d.1 (is.waits_is ∙ parts.0)) [
+                    | inl less ↦ absurd (omega (arith, less, more))
+                    | inr over ↦ absurd (omega (arith, over, end, parts.1))
+                  ]
+            ]
+      ]
 
   -- frames before the next one have been known
   pub before_next : (k : ℕ) → k < c.next → is_in_file count s k ≡ true → known_at count s k ≤ n
-  before_next k less inside =
-      progress.before_next s is.timed c.next c.have n is.reached k less inside
+  before_next k below inside =
+      let r = is.reached in
+      let i = inside_to s is.timed k inside in
+      elim (known_parts s is.timed k i.0) [
+        | inl own ↦
+            let ended = r.ended k i.0 (omega (arith, below, r.next_have)) in omega (arith, own, ended)
+        | inr parts ↦
+            elim (cases_lt (k + 1) c.have) [
+              | inl less ↦
+                  let ended = r.ended (k + 1) (omega (arith, i.0)) less in
+                  omega (arith, parts.2, ended)
+              | inr more ↦
+                  let last : c.have ≡ k + 1 = omega (arith, more, below, r.next_have) in
+                  elim (r.begun parts.0 (omega (arith, more, below, r.next_have))) [
+                    | inl none ↦ absurd (omega (arith, none, last, i.0))
+                    | inr over ↦
+                        let end = ap (stream_end s) last in
+                        absurd (omega (arith, over, end, parts.1))
+                  ]
+            ]
+      ]
+
+  -- where the next frame has ended and isn't due it waits for the one behind, which is in the file
+  waiting : ¬ IsDueAt count c → c.next < c.have →
+      (s.waits ≡ true) × (c.have ≤ c.next + 1) × (c.end ≤ count)
+  waiting none less =
+      elim (cases_Bool s.waits) [
+        | inl waits ↦
+            elim (cases_lt (c.next + 1) c.have) [
+              | inl two ↦ absurd (none (less, λ w. inl two))
+              | inr one ↦
+                  elim (cases_lt count c.end) [
+                    | inl over ↦ absurd (none (less, λ w. inr over))
+                    | inr fits ↦ (waits, one, fits)
+                  ]
+            ]
+        | inr gone ↦
+            absurd (none (
+              less,
+              λ w.
+                  let same : true ≡ false = sym w ∙ is.waits_is ∙ gone in
+                  absurd (cc),
+            ))
+      ]
 
   -- where it isn't due, those from it on are known when the frame ends that comes next, or later
   pub from_next : (m : ℕ) → ¬ IsDueAt count c → m ≤ c.end →
       (k : ℕ) → c.next ≤ k → is_in_file count s k ≡ true → m ≤ known_at count s k
   from_next m none most k low inside =
-      let end = is.end_is in
-      progress.from_next s is.timed c.next c.have n m is.reached (not_due none)
-      (omega (arith, most, end)) k low inside
+      let r = is.reached in
+      elim (cases_lt c.next c.have) [
+        | inl less ↦
+            let fits = waiting none less in
+            let same : c.have ≡ c.next + 1 = omega (arith, less, fits.1) in
+            let end = is.end_is ∙ ap (stream_end s) same in
+            let sooner = ends_lt s is.timed c.next (c.next + 1) (omega arith) in
+            let first = inside_from s is.timed c.next r.low_next
+            (omega (arith, sooner, end, fits.2)) in
+            let known = known_more s is.timed c.next fits.0 r.low_next (omega (arith, end, fits.2)) in
+            let later = known_le s is.timed c.next k first inside low in
+            omega (arith, most, end, known, later)
+        | inr more ↦
+            let same : c.have ≡ c.next = omega (arith, more, r.next_have) in
+            let end = is.end_is ∙ ap (stream_end s) same in
+            let at : c.next + (k - c.next) ≡ k = omega (arith, low) in
+            let later = rw at at (ends_le s is.timed c.next (k - c.next)) in
+            let between = known_between s is.timed k inside in
+            omega (arith, most, end, later, between.low)
+      ]
 
   -- more samples, up to the end of the frame that comes next
   pub clock_more : (m : ℕ) → ¬ IsDueAt count c → n ≤ m → m ≤ count → m ≤ c.end → IsAt count s c m
   clock_more m none more most ends =
+      let r = is.reached in
       let end = is.end_is in
       record {
         timed = is.timed;
-        reached = progress.reached_more s is.timed c.next c.have n m is.reached (not_due none)
-            more most (omega (arith, ends, end));
+        reached = record {
+          low_next = r.low_next;
+          next_have = r.next_have;
+          have_most = r.have_most;
+          within = most;
+          ended = λ k a b. let ended = r.ended k a b in omega (arith, ended, more);
+          behind = omega (arith, ends, end);
+          begun = r.begun;
+          late = λ h. from_next m none ends c.next (omega arith) h;
+        };
         form_is = is.form_is;
         waits_is = is.waits_is;
         start_is = is.start_is;
@@ -108,17 +189,38 @@ module _ {C : Type 0} {count : ℕ} {s : Stream C} {c : FrameClock} {n : ℕ} (i
   -- one frame more has come
   pub clock_come : ¬ IsDueAt count c → c.end ≡ n → IsAt count s (frame_come c) n
   clock_come none ended =
-      let form = is.form_is in
+      let r = is.reached in
       let start = is.start_is in
       let end = is.end_is in
       let next = start_step s.form s.first c.have in
       let step = is.timed.step c.have in
-      let chips : frame_chips c.form ≡ frame_chips s.form = ap frame_chips form in
+      let some = is.timed.some in
+      let chips : frame_chips c.form ≡ frame_chips s.form = ap frame_chips is.form_is in
+      let near : c.have ≤ c.next + 1 =
+      elim (cases_lt (c.next + 1) c.have) [
+        | inl a ↦ absurd (none (omega (arith, a), λ w. inl a))
+        | inr b ↦ b
+      ] in
       record {
         timed = is.timed;
-        reached = progress.reached_frame s is.timed c.next c.have n is.reached (not_due none)
-            (sym end ∙ ended);
-        form_is = form;
+        reached = record {
+          low_next = r.low_next;
+          next_have = omega (arith, r.next_have);
+          have_most = omega (arith, near);
+          within = r.within;
+          ended =
+              λ k a b.
+              elim (cases_lt k c.have) [
+                | inl less ↦ r.ended k a less
+                | inr more ↦
+                    let same : k ≡ c.have = omega (arith, b, more) in
+                    rw same (omega (arith, end, ended))
+              ];
+          behind = omega (arith, step, some, end, ended);
+          begun = λ w same. absurd (omega (arith, same, r.next_have));
+          late = r.late;
+        };
+        form_is = is.form_is;
         waits_is = is.waits_is;
         start_is = omega (arith, start, chips, next);
         end_is = omega (arith, end, chips, step);
@@ -126,14 +228,34 @@ module _ {C : Type 0} {count : ℕ} {s : Stream C} {c : FrameClock} {n : ℕ} (i
 
   -- one frame more has been heard
   pub clock_heard : IsDueAt count c → IsAt count s (frame_heard c) n
-  clock_heard d = record {
-    timed = is.timed;
-    reached = progress.reached_next s is.timed c.next c.have n is.reached (due d);
-    form_is = is.form_is;
-    waits_is = is.waits_is;
-    start_is = is.start_is;
-    end_is = is.end_is;
-  }
+  clock_heard d =
+      let r = is.reached in
+      let known = due_known d in
+      let inside = due_inside d in
+      record {
+        timed = is.timed;
+        reached = record {
+          low_next = omega (arith, r.low_next);
+          next_have = omega (arith, d.0);
+          have_most = omega (arith, r.have_most);
+          within = r.within;
+          ended = r.ended;
+          behind = r.behind;
+          begun =
+              λ w same.
+              elim (d.1 (is.waits_is ∙ w)) [
+                | inl less ↦ absurd (omega (arith, less, same))
+                | inr over ↦ inr (rw (← is.end_is) over)
+              ];
+          late = λ h.
+              let le = known_le s is.timed c.next (c.next + 1) inside h (omega arith) in
+              omega (arith, le, known);
+        };
+        form_is = is.form_is;
+        waits_is = is.waits_is;
+        start_is = is.start_is;
+        end_is = is.end_is;
+      }
 
   -- where a frame began that has come
   pub start_before : (frame : ℕ) → frame ≤ c.have →
@@ -163,13 +285,14 @@ module _ {C : Type 0} {count : ℕ} {s : Stream C} {c : FrameClock} {n : ℕ} (i
       let within = r.within in
       let f = spans.span_frames_more s is.timed c.next r.low_next (omega (arith, ended, within)) in
       rw (two, is_first) (sym f) in
-      let without_next : c.have ≤ c.next + 1 → count < stream_end s c.have →
+      let without_next : c.have ≤ c.next + 1 → count < c.end →
       c.have - first ≡ span_frames count s c.next = λ a over.
       let one : c.have ≡ c.next + 1 = omega (arith, a, d.0) in
-      let f = spans.span_frames_last s is.timed c.next (rw one at over) in
+      let end = is.end_is ∙ ap (stream_end s) one in
+      let f = spans.span_frames_last s is.timed c.next (omega (arith, over, end)) in
       rw (one, is_first) (sym f) in (
         is_first,
-        elim ((due d).known waits) [
+        elim (d.1 (is.waits_is ∙ waits)) [
           | inl a ↦ with_next a
           | inr over ↦
               elim (cases_lt (c.next + 1) c.have) [

@@ -1,5 +1,4 @@
 pub mod Common
-pub mod Progresses
 pub mod SoftSums
 pub mod Descrambled
 pub mod FingerLists

@@ -4,8 +4,7 @@ use Rattle.rake_finger.specs.Streams.{Stream, is_in_file, known_at}
 use Rattle.rake_finger.specs.Timing.{stream_end}
 
 -- Of the frames in the file, from frame `low` on, those before `next` have been heard, and the soft
--- values of those
--- before `have` are there, after n samples. Frame `have` ends at n or later.
+-- values of those before `have` are there, after n samples. Frame `have` ends at n or later.
 pub record IsReached {C : Type 0} (count : ℕ) (s : Stream C) (low next have n : ℕ) : Type 0 where
   pub low_next : low ≤ next
   pub next_have : next ≤ have
@@ -15,9 +14,3 @@ pub record IsReached {C : Type 0} (count : ℕ) (s : Stream C) (low next have n 
   pub behind : n ≤ stream_end s have
   pub begun : s.waits ≡ true → next ≡ have → (have ≡ low) ⊎ (count < stream_end s have)
   pub late : is_in_file count s next ≡ true → n ≤ known_at count s next
-
--- whether frame `next` is known: it has ended, and where it waits the frame behind it has ended, or
--- isn't in the file
-pub record IsDue {C : Type 0} (count : ℕ) (s : Stream C) (next have : ℕ) : Type 0 where
-  pub ended : next < have
-  pub known : s.waits ≡ true → (next + 1 < have) ⊎ (count < stream_end s have)
