@@ -1,11 +1,15 @@
 -- The channels of the reference base station whose frames are received from the mark on.
-use Rattle.std.specs.Prelude.{ℕ, ◌*◌, ◌<◌, ◌≤◌, Bool, true, false}
+use Rattle.std.specs.Prelude.{ℕ, ◌+◌, ◌*◌, ◌<◌, ◌≤◌, Bool, true, false}
+use Rattle.frame_decoder.specs.Spans as spans
 use Rattle.long_code.specs.LongCode.{after, paging_mask, traffic_mask}
-use Rattle.heard_events.specs.PagingStreams.{paging_stream}
+use Rattle.quality_bits.specs.declared.rate.Rate.TheVariants.{R9600}
+use Rattle.heard_events.specs.PagingStreams.{paging_rate}
 use Rattle.heard_events.specs.Streams.{Stream}
-use Rattle.heard_events.specs.TrafficStreams.{frame_state, traffic_stream}
+use Rattle.heard_events.specs.TrafficStreams.{frame_state}
 use Rattle.heard_events.specs.Tuning.{Tuning}
 use Rattle.rake_finger.specs.Paths.{fingers_of}
+use Rattle.rake_finger.specs.declared.form.Form.TheVariants.{Data}
+use Rattle.symbol_path.specs.Scrambling.{scrambling}
 use Rattle.heard_events.specs.declared.channel.Channel.{Channel}
 use Rattle.heard_events.specs.declared.channel.Channel.TheVariants.{Paging, Traffic}
 use Rattle.heard_events.specs.declared.mark.Mark.{Mark}
@@ -39,8 +43,22 @@ abbrev pub mask_of : Channel → Mark → ℕ
 mask_of (Paging number) m = paging_mask number m.pilot
 mask_of (Traffic traffic) m = traffic_mask traffic.esn
 
+-- how its frames are sent, and the reference sample at which its frame 0 begins
+abbrev pub sent_as : Channel → Mark → spans.Channel
+sent_as (Paging number) m = spans.paging_channel (paging_rate m.prat)
+sent_as (Traffic traffic) m = spans.paging_channel R9600
+
+abbrev pub start_of : Channel → Mark → ℕ
+start_of (Paging number) m = m.sample
+start_of (Traffic traffic) m = m.sample + 1536 * traffic.offset
+
 -- Its frames, as the paths of the reference base station receive them, each known at its own end.
 abbrev pub channel_stream : Tuning → Channel → Mark → Stream
-channel_stream t (Paging number) m = record (paging_stream t number m) { waits = false }
-channel_stream t (Traffic traffic) m =
-    traffic_stream traffic m (fingers_of traffic.row t.phase t.deltas)
+channel_stream t channel m = record {
+  channel = sent_as channel m;
+  form = Data;
+  fingers = fingers_of (row_of channel) t.phase t.deltas;
+  first = start_of channel m;
+  scrambling = λ k. scrambling (state_at channel m k) (mask_of channel m);
+  waits = false;
+}

@@ -6,7 +6,8 @@ use Rattle.frame_decoder.specs.TrafficFrames.{power_bit, group_sums}
 use Rattle.rake_finger.specs.Soft.{softs}
 use Rattle.heard_events.specs.Channels.{channel_stream}
 use Rattle.heard_events.specs.PagingStreams.{paging_bound}
-use Rattle.rake_finger.specs.Streams.{frame_end, frame_softs, frame_start, known_by}
+use Rattle.rake_finger.specs.Scrambled.{unscrambled}
+use Rattle.rake_finger.specs.Streams.{frame_end, frame_start, known_by}
 use Rattle.heard_events.specs.TrafficStreams.{replaced_in}
 use Rattle.heard_events.specs.Tuning.{Tuning}
 use Rattle.heard_events.specs.declared.channel.Channel.{Channel}
@@ -29,16 +30,19 @@ raw_at t channel m samples k =
     let s = channel_stream t channel m in
     softs samples s.fingers s.form (frame_start s k)
 
--- what is received of frame k
-abbrev pub soft_frame : Tuning → Channel → Mark → List Sample → ℕ → SoftFrame
-soft_frame t channel m samples k =
+-- what is received of frame k, by these soft values
+abbrev pub frame_of : Tuning → Channel → Mark → ℕ → List ℤ → SoftFrame
+frame_of t channel m k raw =
     let s = channel_stream t channel m in
     record {
       number = k;
       end = frame_end s.fingers s.form (frame_start s k);
-      descrambled = frame_softs samples s k;
-      power = power_of channel m k (raw_at t channel m samples k);
+      descrambled = unscrambled (s.scrambling k) raw;
+      power = power_of channel m k raw;
     }
+
+abbrev pub soft_frame : Tuning → Channel → Mark → List Sample → ℕ → SoftFrame
+soft_frame t channel m samples k = frame_of t channel m k (raw_at t channel m samples k)
 
 -- the frames in the file that end within the first n samples, in order
 unfoldable pub frames_within : Tuning → Channel → Mark → List Sample → ℕ → List SoftFrame

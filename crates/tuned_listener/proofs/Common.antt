@@ -34,7 +34,7 @@ unfoldable pub use Rattle.event_tap.specs.SlotLines.{slot_pages}
 pub use Rattle.rake_finger.proofs.CloseFingers.{close_begun, near_are_close, near_parts}
 pub use Rattle.rake_finger.proofs.FingerTimes.{timed_in}
 pub use Rattle.heard_events.proofs.Growth.{timed_of}
-pub use Rattle.heard_events.proofs.ChannelFrames.{frame_same, form_by, frames_sooner}
+pub use Rattle.heard_events.proofs.ChannelFrames.{frame_same, frames_sooner}
 pub use Rattle.rake_finger.proofs.FrameTimes.{ends_lt, inside_from, inside_to, known_between, known_le, known_own}
 pub use Rattle.heard_events.proofs.MarkLater.{mark_later}
 pub use Rattle.heard_events.proofs.MarkStays.{mark_behind, mark_set, mark_sooner, mark_stays, paging_near}

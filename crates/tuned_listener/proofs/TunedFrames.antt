@@ -1,15 +1,17 @@
 -- The text of the frames behind a mark, as it is written frame by frame.
-use Rattle.tuned_listener.proofs.Common.{◌≡◌, ℕ, zero, suc, ◌+◌, ◌*◌, ◌≤◌, ◌&&◌, Bool, true, false, List, [], ◌∷◌, ◌++◌, map, filter}
+use Rattle.tuned_listener.proofs.Common.{◌≡◌, ℕ, zero, suc, ◌+◌, ◌≤◌, Bool, true, false, List, [], ◌∷◌, ◌++◌, map, filter}
 use Rattle.tuned_listener.proofs.Common.{length, take, drop, refl, sym, ap, ◌∙◌, subst, arith, inl, inr, nat_le, Option, None, Some}
 use Rattle.tuned_listener.proofs.Common.{append_assoc, take-add, length-append, StartsWith, Appends, range_with_len, option_to_list}
-use Rattle.tuned_listener.proofs.Common.{Appends-nil, Appends-trans, and_from, and_parts, cases_Bool, false_from_ne_true, le-leb, leb-true}
-use Rattle.tuned_listener.proofs.Common.{map-append, take-append-drop, take_all, places, Sample, AppendsPrefix, frame_chips, Form}
-use Rattle.tuned_listener.proofs.Common.{channel_stream, paging_bound, frames_within, soft_frame, soft_frames, is_in_file, known_at}
-use Rattle.tuned_listener.proofs.Common.{IsTimed, stream_end, IsTunedTo, IsTunerStep, Tuning, Channel, Mark, SoftFrame, Tuner, TunerStep}
-use Rattle.tuned_listener.proofs.Common.{known_between, known_le, form_by, frames_sooner, HoldsFrames, WritesFrames, WritesFramesPart}
+use Rattle.tuned_listener.proofs.Common.{Appends-nil, Appends-trans, and_from, cases_Bool, false_from_ne_true, le-leb}
+use Rattle.tuned_listener.proofs.Common.{map-append, take-append-drop, take_all, places, Sample, AppendsPrefix}
+use Rattle.tuned_listener.proofs.Common.{channel_stream, paging_bound, frames_within, soft_frame, soft_frames}
+use Rattle.tuned_listener.proofs.Common.{IsTimed, IsTunedTo, IsTunerStep, Tuning, Channel, Mark, SoftFrame, Tuner, TunerStep}
+use Rattle.tuned_listener.proofs.Common.{frames_sooner, HoldsFrames, WritesFrames, WritesFramesPart}
 use Rattle.tuned_listener.proofs.Common.{slot_behind, slot_more, frame_text, frames_text, text_from, FrameWriter, TunedText}
 use Rattle.tuned_listener.proofs.FrameTexts.{kept_behind, kept_behind_none, kept_behind_one, text_of_none, text_of_one, texts_joined}
 use Rattle.tuned_listener.proofs.Prefixes.{begins_more, prefix_before, prefix_behind, taken_begins}
+use Rattle.heard_events.proofs.Arrivals.{Arrivals, by_parts, frames_in, is_by}
+use Rattle.heard_events.proofs.ChannelFrames.{channel_ordered}
 use Rattle.chip_core.proofs.Ranges as ranges
 
 -- ---- frames go on
@@ -40,69 +42,47 @@ filter_front p q a (suc n) wider front =
 
 module _ (t : Tuning) (channel : Channel) (m : Mark) {low : ℕ}
     (timed : IsTimed t.count (channel_stream t channel m) low) where
-  -- whether a frame is known within so many samples
-  abbrev within : ℕ → ℕ → Bool
-  within n k =
-      let s = channel_stream t channel m in
-      is_in_file t.count s k && nat_le (known_at t.count s k) n
-
-  within_parts : (n k : ℕ) → within n k ≡ true →
-      (is_in_file t.count (channel_stream t channel m) k ≡ true)
-      × (known_at t.count (channel_stream t channel m) k ≤ n)
-  within_parts n k h =
-      let s = channel_stream t channel m in
-      let parts = and_parts (is_in_file t.count s k) (nat_le (known_at t.count s k) n) h in
-      (parts.0, leb-true (known_at t.count s k) n parts.1)
-
-  within_from : (n k : ℕ) → is_in_file t.count (channel_stream t channel m) k ≡ true →
-      known_at t.count (channel_stream t channel m) k ≤ n → within n k ≡ true
-  within_from n k inside known =
-      let s = channel_stream t channel m in
-      and_from (is_in_file t.count s k) (nat_le (known_at t.count s k) n) inside
-      (le-leb (known_at t.count s k) n known)
-
-  -- there are enough numbers of frames
-  within_bound : (n k : ℕ) → paging_bound n ≤ k → within n k ≡ false
-  within_bound n k high =
-      false_from_ne_true (within n k)
-      (λ h.
-      let s = channel_stream t channel m in
-      let parts = within_parts n k h in
-      let between = known_between s timed k parts.0 in
-      let early : 24576 * (k + 1) ≤ stream_end s k =
-      subst (λ (f : Form). frame_chips f * (k + 1) ≤ stream_end s k) (form_by t channel m)
-      (timed.early k) in
-      omega (arith, between.low, early, parts.1, high))
-
   -- the frames of the first samples stand at the front
   pub frames_go_on : (xs ys : List Sample) → (rest : List SoftFrame)
       × (soft_frames t channel m (xs ++ ys) ≡ soft_frames t channel m xs ++ rest)
   unfolding frames_within places
   frames_go_on xs ys =
-      let s = channel_stream t channel m in
+      let frames : Arrivals = frames_in t.count (channel_stream t channel m) paging_bound in
+      let order = channel_ordered t channel m timed in
       let n : ℕ = length xs in
       let n' : ℕ = length (xs ++ ys) in
       let more : n ≤ n' = omega (arith, length-append xs ys) in
       let frame : ℕ → SoftFrame = soft_frame t channel m (xs ++ ys) in
-      let wider : (k : ℕ) → within n k ≡ true → within n' k ≡ true = λ k e.
-      let parts = within_parts n k e in
-      within_from n' k parts.0 (omega (arith, more, parts.1)) in
-      let front : (j k : ℕ) → j ≤ k → within n' j ≡ true → within n k ≡ true → within n j ≡ true =
+      let known : (n k : ℕ) → frames.inside k ≡ true → frames.known k ≤ n → is_by frames n k ≡ true =
+      λ n k inside most.
+      and_from (frames.inside k) (nat_le (frames.known k) n) inside (le-leb (frames.known k) n most) in
+      let past : (k : ℕ) → paging_bound n ≤ k → is_by frames n k ≡ false = λ k high.
+      false_from_ne_true (is_by frames n k)
+      (λ both.
+      let parts = by_parts frames n k both in
+      let below = order.enough k n parts.0 parts.1 in
+      omega (arith, below, high)) in
+      let wider : (k : ℕ) → is_by frames n k ≡ true → is_by frames n' k ≡ true = λ k e.
+      let parts = by_parts frames n k e in
+      known n' k parts.0 (omega (arith, more, parts.1)) in
+      let front : (j k : ℕ) → j ≤ k → is_by frames n' j ≡ true → is_by frames n k ≡ true →
+      is_by frames n j ≡ true =
       λ j k le one other.
-      let there = within_parts n' j one in
-      let here = within_parts n k other in
-      let sooner = known_le s timed j k there.0 here.0 le in
-      within_from n j there.0 (omega (arith, sooner, here.1)) in
-      let (rest, parted) = filter_front (within n) (within n') 0 (paging_bound n') wider front in
-      let longer : filter (within n) (places (paging_bound n))
-      ≡ filter (within n) (places (paging_bound n')) =
-      ranges.filter_enough (within n) (paging_bound n) (paging_bound n') (within_bound n)
-      (λ k le. within_bound n k (omega (arith, le, more))) in
+      let there = by_parts frames n' j one in
+      let here = by_parts frames n k other in
+      let sooner = order.ordered j k there.0 here.0 le in
+      known n j there.0 (omega (arith, sooner, here.1)) in
+      let (rest, parted) =
+      filter_front (is_by frames n) (is_by frames n') 0 (paging_bound n') wider front in
+      let longer : filter (is_by frames n) (places (paging_bound n))
+      ≡ filter (is_by frames n) (places (paging_bound n')) =
+      ranges.filter_enough (is_by frames n) (paging_bound n) (paging_bound n') past
+      (λ k le. past k (omega (arith, le, more))) in
       let first : frames_within t channel m (xs ++ ys) n ≡ soft_frames t channel m xs =
       frames_sooner t channel m xs ys n (omega arith) in (
         map frame rest,
         ap (map frame) parted
-            ∙ map-append frame (filter (within n) (places (paging_bound n'))) rest
+            ∙ map-append frame (filter (is_by frames n) (places (paging_bound n'))) rest
             ∙ ap (λ (fs : List SoftFrame). fs ++ map frame rest)
             (ap (map frame) (sym longer) ∙ first),
       )

@@ -1,5 +1,5 @@
-use Rattle.tuned_listener.proofs.Common.{◌∙◌, arith}
-use Rattle.tuned_listener.proofs.FramesGiven.{frame_is, raw_is}
+use Rattle.tuned_listener.proofs.Common.{arith}
+use Rattle.tuned_listener.proofs.FramesGiven.{frame_is}
 use Rattle.reception.proofs.SoftSums.{frame_small}
 use Rattle.rake_finger.specs.declared.form.Form.TheVariants.{Data}
 use Rattle.tuned_listener.proofs.channel_receiver.ChannelReceiver.coming.Goals as goal
@@ -7,7 +7,7 @@ use Rattle.tuned_listener.proofs.channel_receiver.ChannelReceiver.coming.Goals a
 pub returns-clause-value : goal.returns-clause-value
 returns-clause-value c = λ t channel m heard taken holds has.
     let raw = c.raw-softs in
-    frame_is t channel m has heard _ _ raw.result c.descramble.new.softs c.power_in-power.result
-    c.coming-number.ensures c.end.ensures
-    (raw.ensures.value heard holds ∙ raw_is t channel m has heard) c.descramble.ensures.value
-    (c.power_in-power.ensures t channel m taken has)
+    rw (c.coming-number.ensures, c.end.ensures)
+    (frame_is has heard raw.result c.descramble.new.softs c.power_in-power.result
+    (raw.ensures.value heard holds) (rw c.coming-number.ensures at c.descramble.ensures.value)
+    (rw c.coming-number.ensures at (c.power_in-power.ensures t channel m taken has)))

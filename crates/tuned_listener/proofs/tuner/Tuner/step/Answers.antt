@@ -1,5 +1,6 @@
-use Rattle.tuned_listener.proofs.Common.{◌≡◌, ◌∙◌, ℕ, ◌-◌, ◌++◌, ◌∷◌, [], append-nil, ap, arith, length, length-take, refl, subst, sym, take}
-use Rattle.tuned_listener.proofs.Common.{take_all, HasGiven, soft_frames, ChannelReceiver, SoftFrame}
+use Rattle.tuned_listener.proofs.Common.{◌≡◌, ◌∙◌, ℕ, ◌-◌, ◌++◌, ◌∷◌, [], List, append-nil, ap, arith, length, length-take, refl, subst, sym}
+use Rattle.tuned_listener.proofs.Common.{take, take_all, HasGiven, IsTunedTo, soft_frames, Channel, ChannelReceiver, Mark, Sample, SoftFrame}
+use Rattle.tuned_listener.proofs.Common.{Tuning}
 use Rattle.tuned_listener.proofs.FramesGiven.{step_frame, step_none}
 use Rattle.tuned_listener.proofs.tuner.Tuner.step.Goals as goal
 
@@ -9,11 +10,17 @@ returns-then-samples-left c =
     let more = c.args.samples.now in
     let room = c.requires in
     let within = r.sound.within in
+    let waits = r.sound.waits in
     let pushed = c.push_all.ensures.taken in
     let few = c.if-samples-left.true in
     let end = c.end.ensures in
     let at' = c.taken.ensures.value in
     let whole = take_all (length more) more (omega arith) in
+    let step = λ (t : Tuning) (channel : Channel) (m : Mark) (heard : List Sample)
+    (st : IsTunedTo t channel m r heard).
+    step_none heard more st.given r.sound.receives.given
+    (omega (arith, st.ring.taken, st.count_is, room, within)) (omega (arith, st.ring.taken, waits))
+    (omega (arith, st.ring.taken, few, end, at')) in
     record {
       most = omega arith;
       some = λ h. h;
@@ -21,22 +28,13 @@ returns-then-samples-left c =
       left = omega (arith, room, within, pushed);
       ends = tt;
       small = tt;
-      stands = λ t channel m heard st.
-          let taken = st.ring.taken in
-          let count = st.count_is in
-          let step = step_none heard more st.given r.sound.receives.given
-          (omega (arith, taken, count, room, within)) (omega (arith, taken, few, end, at')) in
-          rw whole (record {
-            count_is = count;
-            ring = c.push_all.ensures.holds heard st.ring;
-            given = step.0;
-          });
+      stands = λ t channel m heard st. rw whole (record {
+        count_is = st.count_is;
+        ring = c.push_all.ensures.holds heard st.ring;
+        given = (step t channel m heard st).0;
+      });
       gives = λ t channel m heard st.
-          let taken = st.ring.taken in
-          let count = st.count_is in
-          let step = step_none heard more st.given r.sound.receives.given
-          (omega (arith, taken, count, room, within)) (omega (arith, taken, few, end, at')) in
-          rw (whole, append-nil (soft_frames t channel m heard)) step.1;
+          rw (whole, append-nil (soft_frames t channel m heard)) (step t channel m heard st).1;
     }
 
 pub returns : goal.returns
@@ -53,6 +51,11 @@ returns c =
     let at' = c.taken.ensures.value in
     let long : length more ≡ n = omega (arith, length-take n c.args.samples.now, few) in
     let frame = c.take_frame in
+    let step = λ (t : Tuning) (channel : Channel) (m : Mark) (heard : List Sample)
+    (st : IsTunedTo t channel m r heard).
+    step_frame heard more st.given r.sound.receives.given
+    (omega (arith, st.ring.taken, st.count_is, room, within, long, few))
+    (omega (arith, st.ring.taken, waits)) (omega (arith, st.ring.taken, long, end, at', waits)) in
     record {
       most = omega (arith, few);
       some = λ h. omega (arith, waits, end, at');
@@ -60,27 +63,16 @@ returns c =
       left = omega (arith, room, within, pushed, long);
       ends = omega (arith, frame.ensures.ends, pushed, long);
       small = frame.ensures.small;
-      stands = λ t channel m heard st.
-          let taken = st.ring.taken in
-          let count = st.count_is in
-          let step = step_frame heard more st.given r.sound.receives.given
-          (omega (arith, taken, count, room, within, long, few)) (omega (arith, taken, waits))
-          (omega (arith, taken, long, end, at', waits)) in
-          record {
-            count_is = count;
-            ring = c.push_all-2.ensures.holds heard st.ring;
-            given = subst (λ (x : ChannelReceiver). HasGiven t channel m x (length (heard ++ more)))
-                (sym frame.ensures.same) step.1;
-          };
+      stands = λ t channel m heard st. record {
+        count_is = st.count_is;
+        ring = c.push_all-2.ensures.holds heard st.ring;
+        given = subst (λ (x : ChannelReceiver). HasGiven t channel m x (length (heard ++ more)))
+            (sym frame.ensures.same) (step t channel m heard st).1;
+      };
       gives = λ t channel m heard st.
-          let taken = st.ring.taken in
-          let count = st.count_is in
-          let holds = c.push_all-2.ensures.holds heard st.ring in
-          let step = step_frame heard more st.given r.sound.receives.given
-          (omega (arith, taken, count, room, within, long, few)) (omega (arith, taken, waits))
-          (omega (arith, taken, long, end, at', waits)) in
-          step.2
+          let given = step t channel m heard st in
+          given.2
           ∙ ap (λ (f : SoftFrame). soft_frames t channel m heard ++ f ∷ [])
-          (sym (frame.ensures.value t channel m (heard ++ more) (length (heard ++ more)) holds
-          step.0));
+          (sym (frame.ensures.value t channel m (heard ++ more) (length (heard ++ more))
+          (c.push_all-2.ensures.holds heard st.ring) given.0));
     }
