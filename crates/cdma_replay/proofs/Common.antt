@@ -108,7 +108,7 @@ pub use Rattle.heard_events.specs.Near.{low_of}
 pub use Rattle.heard_events.specs.PagingStreams.{paging_bound}
 pub use Rattle.heard_events.specs.SoftFrames.{soft_frame, soft_frames}
 unfoldable pub use Rattle.heard_events.specs.SoftFrames.{frames_within}
-pub use Rattle.mobile_core.specs.Standing.{IsStep, StandsFor, Steps, events_left, has_room, parts, steps_left}
+pub use Rattle.mobile_core.specs.Standing.{IsStep, StandsFor, Steps, events_left, has_room, steps_left}
 pub use Rattle.rake_finger.specs.Streams.{is_in_file, known_at, known_by}
 pub use Rattle.heard_events.specs.SyncEvents.{sync_events_at}
 pub use Rattle.rake_finger.specs.Timing.{IsTimed}

@@ -5,7 +5,7 @@ use Rattle.cdma_replay.proofs.Common.{Ok, Err, OnOk, length-replicate, take_all,
 use Rattle.cdma_replay.proofs.Common.{range_with_len, StartsWith, Appends, Appends-nil, Appends-trans, places, places-more}
 use Rattle.cdma_replay.proofs.Common.{flat_map_ext_places, Sample, AppendsPrefix, events, events_at, heard_within, listed, ForSome, Traffic}
 use Rattle.cdma_replay.proofs.Common.{IsLawfulTraffic, IsSoundAssignment, AreNear, low_of, IsStep, StandsFor, Steps, events_left, has_room}
-use Rattle.cdma_replay.proofs.Common.{parts, IsTimed, Tuning, sync_stream, tuning_by, Channel, Event, Pilot, Mobile, Step, KeptTap}
+use Rattle.cdma_replay.proofs.Common.{IsTimed, Tuning, sync_stream, tuning_by, Channel, Event, Pilot, Mobile, Step, KeptTap}
 use Rattle.cdma_replay.proofs.Common.{heard_text, run_taps, run_text, taps_behind, run_taps-append, run_taps-more, run_text-append}
 use Rattle.cdma_replay.proofs.Common.{run_text-more, run_text-none, begins_more, front_begins, prefix_before, prefix_behind, taken_begins}
 use Rattle.cdma_replay.proofs.Common.{ListensTuned, TellsTuned, TellsTunedPart, tuned_room, stands_near, text_of_nothing, TunedListener}
@@ -222,13 +222,13 @@ told_part t taps one other kept heard samples taken n event old mid new so_far s
     subst (λ (xs : List Sample). StandsFor t other xs ((given ++ more) ++ event ∷ []))
     (taken_more heard samples taken n) (stepped (given ++ more) so_far.stands) in
     let later =
-    first_events t (parts other).sync.received.clock.low stands.sync.receives.clocked.timed
+    first_events t other.sync.received.clock.low stands.sync.receives.clocked.timed
     (subst AreNear stands.sync.receives.fingers_are other.sound.hears.channel.near) now
     (drop (taken + n) samples) in
     let joined : now ++ drop (taken + n) samples ≡ heard ++ samples =
     append_assoc heard (take (taken + n) samples) (drop (taken + n) samples) ∙
     ap (λ (xs : List Sample). heard ++ xs) (take-append-drop (taken + n) samples) in
-    let left = events_left t (parts other) now in
+    let left = events_left t other now in
     let others = left ++ later.0 in
     let whole : events t (heard ++ samples) ≡ ((given ++ more) ++ event ∷ []) ++ others =
     ap (events t) (sym joined) ∙ later.1 ∙
@@ -275,7 +275,7 @@ module _ (t : Tuning) (one other : Mobile) (step : Step) (event : Event)
 
   event_is : event ≡ Pilot t.phase t.energy
   event_is =
-      same_head event (Pilot t.phase t.energy) (events_left t (parts other) [])
+      same_head event (Pilot t.phase t.energy) (events_left t other [])
       (heard_within t [] 0) stands_behind.told
 
   none_more : events t [] ≡ event ∷ []

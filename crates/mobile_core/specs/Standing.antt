@@ -22,53 +22,41 @@ use Rattle.mobile_core.specs.declared.mobile.Step.{Step}
 use Rattle.mobile_core.specs.declared.followed.Followed.{Followed}
 use Rattle.mobile_core.specs.declared.sync_receiver.SyncReceiver.{SyncReceiver}
 
--- what a handset carries from step to step; the pilot until its event has been given
-pub record Parts : Type 0 where
-  pub count : ℕ
-  pub check : CheckForm
-  pub pilot : Option Best
-  pub ring : Held
-  pub sync : SyncReceiver
-  pub followed : Followed
+-- the events of these samples' end that are still to be given, of a handset whose pilot and
+-- receivers these are
+abbrev pub left_of : Tuning → Option Best → SyncReceiver → Followed → List Sample → List Event
+left_of t pilot sync followed heard =
+    pilot_left pilot
+    ++ (sync_events_left t heard sync.received.clock.next
+    ++ followed_events_left t sync.mark heard followed)
 
--- the events of these samples' end that are still to be given
-abbrev pub events_left : Tuning → Parts → List Sample → List Event
-events_left t p heard =
-    pilot_left p.pilot
-    ++ (sync_events_left t heard p.sync.received.clock.next
-    ++ followed_events_left t p.sync.mark heard p.followed)
+abbrev pub events_left : Tuning → Mobile → List Sample → List Event
+events_left t m heard = left_of t m.pilot m.sync m.followed heard
 
--- The handset has taken these samples of a file, and given these events: the pilot's before it took
--- any sample.
-pub record Stands (t : Tuning) (p : Parts) (heard : List Sample) (given : List Event) : Type 0 where
-  pub count_is : p.count ≡ t.count
-  pub check_is : p.check ≡ t.check30
-  pub early : ForSome p.pilot (λ best. length heard ≡ 0)
-  pub ring : HoldsLast p.ring heard
-  pub sync : HearsSync t p.sync heard
-  pub followed : HearsFollowed t p.followed p.sync.mark heard
-  pub noted : is_some p.sync.mark ≡ list_any sets_mark given
-  pub told : given ++ events_left t p heard ≡ events t heard
-
-abbrev pub parts : Mobile → Parts
-parts m = record {
-  count = m.count;
-  check = m.check;
-  pilot = m.pilot;
-  ring = m.ring;
-  sync = m.sync;
-  followed = m.followed;
-}
+-- A handset that carries these has taken these samples of a file, and given these events: the
+-- pilot's before it took any sample, and it carries the pilot until then.
+pub record Stands (t : Tuning) (count : ℕ) (check : CheckForm) (pilot : Option Best) (kept : Held)
+    (receiver : SyncReceiver) (others : Followed) (heard : List Sample)
+    (given : List Event) : Type 0 where
+  pub count_is : count ≡ t.count
+  pub check_is : check ≡ t.check30
+  pub early : ForSome pilot (λ best. length heard ≡ 0)
+  pub ring : HoldsLast kept heard
+  pub sync : HearsSync t receiver heard
+  pub followed : HearsFollowed t others receiver.mark heard
+  pub noted : is_some receiver.mark ≡ list_any sets_mark given
+  pub told : given ++ left_of t pilot receiver others heard ≡ events t heard
 
 abbrev pub StandsFor : Tuning → Mobile → List Sample → List Event → Type 0
-StandsFor t mobile heard given = Stands t (parts mobile) heard given
+StandsFor t m heard given = Stands t m.count m.check m.pilot m.ring m.sync m.followed heard given
 
 -- whether the pilot hasn't been told, or a frame is known that hasn't been heard
+abbrev pub IsDueIn : ℕ → Option Best → SyncReceiver → Followed → Type 0
+IsDueIn count pilot sync followed =
+    IsTrue (is_some pilot) ⊎ (IsDueAt count sync.received.clock ⊎ IsFollowedDue count followed)
+
 abbrev pub IsDueFor : Mobile → Type 0
-IsDueFor mobile =
-    IsTrue (is_some mobile.pilot)
-    ⊎ (IsDueAt mobile.count mobile.sync.received.clock
-    ⊎ IsFollowedDue mobile.count mobile.followed)
+IsDueFor m = IsDueIn m.count m.pilot m.sync m.followed
 
 -- whether the pilot hasn't been told, how many frames of the sync channel have come that haven't
 -- been heard, and how much of the channels behind the mark
@@ -82,12 +70,15 @@ due_parts mobile =
 abbrev pub has_room : Mobile → ℕ
 has_room mobile = mobile.count - mobile.ring.taken
 
+-- whether the pilot has been told, and how much has been heard
+abbrev pub heard_of : Mobile → ℕ
+heard_of mobile =
+    (1 - length (pilot_left mobile.pilot))
+    + (mobile.sync.received.clock.next + followed_heard mobile.followed)
+
 -- a bound on the events that are still to be given
 abbrev pub steps_left : Mobile → ℕ
-steps_left mobile =
-    2 ^ 63
-    - ((1 - length (pilot_left mobile.pilot))
-    + (mobile.sync.received.clock.next + followed_heard mobile.followed))
+steps_left mobile = 2 ^ 63 - heard_of mobile
 
 -- how many samples have been taken
 abbrev pub samples_taken : Mobile → ℕ
@@ -98,8 +89,7 @@ abbrev pub ring_room : Mobile → ℕ
 ring_room mobile = mobile.ring.room
 
 -- From one state to another a handset took the first of these samples, as many as the step says,
--- and
--- gave the event that it says, which ends at the last of them.
+-- and gave the event that it says, which ends at the last of them.
 pub record Steps (before after : Mobile) (samples : List Sample) (step : Step) : Type 0 where
   pub most : step.taken ≤ length samples
   pub room : has_room after + step.taken ≡ has_room before
@@ -110,6 +100,15 @@ pub record Steps (before after : Mobile) (samples : List Sample) (step : Step) :
   pub stands : (t : Tuning) (heard : List Sample) (given : List Event) →
       StandsFor t before heard given →
       StandsFor t after (heard ++ take step.taken samples) (given ++ listed step.event)
+
+-- It took no sample, and gave this event, or none.
+pub record Tells (before after : Mobile) (event : Option Event) : Type 0 where
+  pub room : has_room after ≡ has_room before
+  pub more : heard_of before + length (listed event) ≤ heard_of after
+  pub told : (t : Tuning) (heard : List Sample) (given : List Event) →
+      StandsFor t before heard given →
+      IfSome event (λ event. at_of event ≡ length heard)
+      × StandsFor t after heard (given ++ listed event)
 
 -- Where it gave none, it took all, and nothing that ends within them is left to give.
 pub record IsStep (before after : Mobile) (samples : List Sample) (step : Step) : Type 0 where

@@ -80,8 +80,8 @@ impl Mobile {
     ghost use Rattle.mobile_core.specs.FollowedChannels.{EndFrom, IsFollowedDue};
     ghost use Rattle.mobile_core.specs.BehindMark.{IsSoundAssignment};
     ghost use Rattle.reception.specs.Clocks.{IsDueAt};
-    ghost use Rattle.mobile_core.specs.Standing.{IsDueFor, IsStep, StandsFor, Steps, due_parts};
-    ghost use Rattle.mobile_core.specs.Standing.{has_room, ring_room, samples_taken};
+    ghost use Rattle.mobile_core.specs.Standing.{IsDueFor, IsStep, StandsFor, Steps, Tells};
+    ghost use Rattle.mobile_core.specs.Standing.{due_parts, has_room, ring_room, samples_taken};
     ghost use Rattle.heard_events.specs.Tuning.{Tuning, tuning_by};
     ghost use Rattle.rake_finger.specs.Held.{HoldsLast};
     ghost use Rattle.heard_events.specs.declared.event.Event.{Event as TheEvent};
@@ -190,7 +190,7 @@ impl Mobile {
     /// Gives the pilot's event.
     fn tell_pilot(&mut self) -> Option<Event>
         requires { IsTrue (is_some self.old.pilot) }
-        ensures steps { Steps self.old self.new [] (record { taken = 0; event = result }) }
+        ensures steps { Tells self.old self.new result }
         ensures nearer { due_parts self.new < due_parts self.old }
     {
         let best = self.pilot.take()?;
@@ -204,7 +204,7 @@ impl Mobile {
     fn hear_sync(&mut self) -> Option<Event>
         requires told { self.old.pilot ≡ None }
         requires due { IsDueAt self.old.count self.old.sync.received.clock }
-        ensures steps { Steps self.old self.new [] (record { taken = 0; event = result }) }
+        ensures steps { Tells self.old self.new result }
         ensures nearer { due_parts self.new < due_parts self.old }
     {
         let at = self.ring.taken();
@@ -227,7 +227,7 @@ impl Mobile {
         requires told { self.old.pilot ≡ None }
         requires silent { ¬ IsDueAt self.old.count self.old.sync.received.clock }
         requires due { IsFollowedDue self.old.count self.old.followed }
-        ensures steps { Steps self.old self.new [] (record { taken = 0; event = result }) }
+        ensures steps { Tells self.old self.new result }
         ensures nearer { due_parts self.new < due_parts self.old }
     {
         let Mobile {
@@ -246,7 +246,7 @@ impl Mobile {
     /// it completes.
     fn hear_next(&mut self) -> Option<Event>
         requires { IsDueFor self.old }
-        ensures steps { Steps self.old self.new [] (record { taken = 0; event = result }) }
+        ensures steps { Tells self.old self.new result }
         ensures nearer { due_parts self.new < due_parts self.old }
     {
         if self.pilot.is_some() {
@@ -260,7 +260,8 @@ impl Mobile {
 
     /// Hears what is due, up to the first event.
     fn hear_due(&mut self) -> Option<Event>
-        ensures steps { Steps self.old self.new [] (record { taken = 0; event = result }) }
+        ensures steps { (samples : List Sample) →
+            Steps self.old self.new samples (record { taken = 0; event = result }) }
         ensures none { result ≡ None → ¬ IsDueFor self.new }
     {
         while self.is_due() {
@@ -282,18 +283,15 @@ impl Mobile {
 
     /// Takes samples up to the end of the next frame, or all.
     fn advance(&mut self, samples: &[Sample]) -> usize
+        requires some { 0 < length samples.now }
         requires room { length samples.now ≤ has_room self.old }
         requires not_due { ¬ IsDueFor self.old }
         ensures steps { Steps self.old self.new samples.now
             (record { taken = result; event = None }) }
-        ensures some { 0 < length samples.now → 0 < result }
+        ensures some { 0 < result }
     {
         let left = self.least_end() - self.ring.taken();
-        if (samples.len() as u64) < left {
-            self.ring.push_all(samples);
-            return samples.len();
-        }
-        let count = left as usize;
+        let count = (samples.len() as u64).min(left) as usize;
         self.ring.push_all(&samples[..count]);
         let Mobile {
             ring,

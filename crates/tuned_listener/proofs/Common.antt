@@ -54,7 +54,7 @@ pub use Rattle.reception.specs.Clocks.{IsAt, IsDueAt, clock_from, first_frame, f
 pub use Rattle.reception.specs.Softs.{frame_most}
 pub use Rattle.reception.specs.declared.frame_clock.FrameClock.{FrameClock}
 pub use Rattle.reception.specs.declared.scrambling.Scrambling.{Scrambling}
-pub use Rattle.mobile_core.specs.Standing.{Steps, has_room, parts, samples_taken, steps_left}
+pub use Rattle.mobile_core.specs.Standing.{Steps, has_room, samples_taken, steps_left}
 pub use Rattle.heard_events.specs.Streams.{Stream}
 pub use Rattle.rake_finger.specs.Streams.{frame_softs, frame_start, is_in_file, known_at}
 pub use Rattle.rake_finger.specs.Timing.{IsTimed}

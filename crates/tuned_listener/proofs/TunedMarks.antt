@@ -2,7 +2,7 @@
 use Rattle.tuned_listener.proofs.Common.{◌≡◌, ℕ, ◌+◌, ◌≤◌, true, false, List, [], ◌∷◌, ◌++◌, length, refl, sym, ap, ◌∙◌, subst, arith, inl}
 use Rattle.tuned_listener.proofs.Common.{inr, Option, Some, None, append-nil, append_assoc, drop, length-append, length-take-le, take}
 use Rattle.tuned_listener.proofs.Common.{∥∥₁_map, IfSome, is_some, list_any, cases_lt, not_there, take-append-drop, take_all, Sample}
-use Rattle.tuned_listener.proofs.Common.{events, at_of, listed, mark, sets_mark, AreNear, low_of, Steps, parts, samples_taken, Tuning}
+use Rattle.tuned_listener.proofs.Common.{events, at_of, listed, mark, sets_mark, AreNear, low_of, Steps, samples_taken, Tuning}
 use Rattle.tuned_listener.proofs.Common.{sync_stream, Event, Mark, Mobile, Step, timed_of, mark_sooner, mark_stays, marked_all, HasNoMark}
 use Rattle.tuned_listener.proofs.Common.{HearsUntold, IsMarkedAt, IsUntold, ListensAhead}
 use Rattle.mobile_core.specs.Standing.{StandsFor}
@@ -52,7 +52,7 @@ pub unmarked_all : (t : Tuning) (mobile : Mobile) (heard : List Sample) (given :
     given ≡ events t heard → mark t heard (length heard) ≡ None
 unmarked_all t mobile heard given stands unset all =
     let is = subst (StandsFor t mobile heard) all stands in
-    marked_all t (parts mobile) heard is
+    marked_all t mobile heard is
     ∙ none_of mobile.sync.mark (stands.noted ∙ unset)
 
 -- ---- a step

@@ -1,7 +1,11 @@
-use Rattle.mobile_core.proofs.Common.{Some}
-use Rattle.mobile_core.proofs.StepJoins.{steps_heard}
+use Rattle.mobile_core.proofs.Common.{None, Some}
+use Rattle.mobile_core.proofs.StepJoins.{told_on}
 use Rattle.mobile_core.proofs.mobile.Mobile.hear_due.Goals as goal
 
 pub returns-in-Some-clause-steps : goal.returns-in-Some-clause-steps
-returns-in-Some-clause-steps c =
-    steps_heard c.loop-self.invariant (Some c.in-Some.event) c.in-Some.ensures.steps
+returns-in-Some-clause-steps c = λ samples.
+    told_on (Some c.in-Some.event) (c.loop-self.invariant samples) c.in-Some.ensures.steps
+
+pub loop-self-preserved : goal.loop-self-preserved
+loop-self-preserved c = λ samples.
+    told_on None (c.loop-self.invariant samples) (rw c.in_default.is at c.hear_next.ensures.steps)

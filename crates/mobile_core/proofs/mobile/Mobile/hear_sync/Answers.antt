@@ -1,42 +1,36 @@
-use Rattle.mobile_core.proofs.Common.{◌≡◌, ◌∙◌, ap, arith, length, subst, sym, append-nil, Option, HearsFollowed, followed_events_left}
+use Rattle.mobile_core.proofs.Common.{◌≡◌, ◌∙◌, ap, arith, length, subst, sym, refl, Option, HearsFollowed, followed_events_left}
 use Rattle.mobile_core.proofs.Common.{SetsMark, FrameClock, Mark}
-use Rattle.mobile_core.proofs.StepJoins.{ends_here, heard_few, one_or_none}
+use Rattle.mobile_core.proofs.StepJoins.{ends_here, one_or_none}
 use Rattle.mobile_core.proofs.Stood.{heard_sets, stands_heard}
 use Rattle.mobile_core.proofs.mobile.Mobile.hear_sync.Goals as goal
 
 pub returns-clause-steps : goal.returns-clause-steps
 returns-clause-steps c =
     let m = c.args.self.now in
+    let event = c.hear_next-event.result in
     let next = c.hear_next-event.ensures in
-    let follow = c.follow.ensures in
+    let after = c.hear_next-event.new.self in
+    let others = c.follow.new.self in
+    let set = c.mark.ensures in
     let next_is = ap (λ (k : FrameClock). k.next) next.clock in
     record {
-      most = omega arith;
-      room = omega arith;
-      fewer = omega (arith, one_or_none c.hear_next-event.result, next_is, follow.further, heard_few m);
-      ends = λ t heard given st.
-          let taken = st.ring.taken in
-          let at' = c.taken-at.ensures in
-          ends_here c.hear_next-event.result next.ends (omega (arith, taken, at'));
-      stands = λ t heard given st.
+      room = refl;
+      more = omega (arith, one_or_none event, next_is, c.follow.ensures.further);
+      told = λ t heard given st.
           let taken = st.ring.taken in
           let at' = c.taken-at.ensures in
           let here : c.taken-at.result ≡ length heard = omega (arith, taken, at') in
-          let after = c.hear_next-event.new.self in
           let due = rw st.count_is at c.requires.due in
           let hears = next.hears t heard here st.check_is due st.sync in
           let sets = subst (λ n. SetsMark n m.sync.mark after.mark) (sym here)
           (heard_sets st after hears.hears next.sound due next_is) in
-          let sets' = subst (SetsMark c.taken-at.result m.sync.mark) (sym c.mark.ensures) sets in
           let within = m.sound.within in
           let count = st.count_is in
-          let on = follow.hears t m.sync.mark heard here (omega (arith, within, at', count)) sets'
-          st.followed in
-          let set = c.mark.ensures in
-          let others = c.follow.new.self in
-          rw (append-nil heard)
-          (stands_heard st after others c.hear_next-event.result c.requires.told hears
-          (subst (λ (x : Option Mark). HearsFollowed t others x heard) set on.0)
-          (ap (λ (x : Option Mark). followed_events_left t x heard others) (sym set)
-          ∙ on.1));
+          let on = c.follow.ensures.hears t m.sync.mark heard here (omega (arith, within, at', count))
+          (subst (SetsMark c.taken-at.result m.sync.mark) (sym set) sets) st.followed in (
+            ends_here event next.ends here,
+            stands_heard st after others event c.requires.told hears
+                (subst (λ (x : Option Mark). HearsFollowed t others x heard) set on.0)
+                (ap (λ (x : Option Mark). followed_events_left t x heard others) (sym set) ∙ on.1),
+          );
     }

@@ -1,4 +1,4 @@
-use Rattle.mobile_core.proofs.Common.{◌∙◌, length, subst, sym, AreNear, parts}
+use Rattle.mobile_core.proofs.Common.{◌∙◌, length, sym}
 use Rattle.reception.proofs.ClockSteps.{before_next}
 use Rattle.mobile_core.proofs.MarkAhead.{mark_ahead, marked_all}
 use Rattle.heard_events.proofs.MarkStays.{mark_told}
@@ -13,11 +13,8 @@ returns-clause-set c = λ t heard given st m e.
 
 pub returns-clause-mark : goal.returns-clause-mark
 returns-clause-mark c = λ t heard st.
-    c.mark.ensures ∙ sym (marked_all t (parts c.args.self.now) heard st)
+    c.mark.ensures ∙ sym (marked_all t c.args.self.now heard st)
 
 pub returns-clause-ahead : goal.returns-clause-ahead
 returns-clause-ahead c = λ t heard given event st here none m e.
-    let self' = c.args.self.now in
-    let marked = sym c.mark.ensures ∙ e in
-    let near = subst AreNear st.sync.receives.fingers_are self'.sound.hears.channel.near in
-    mark_ahead given event st near here none m marked
+    mark_ahead t c.args.self.now heard given event st here none m (sym c.mark.ensures ∙ e)

@@ -1,7 +1,7 @@
-use Rattle.mobile_core.proofs.Common.{◌∙◌, sym, ap, is_some, parts}
+use Rattle.mobile_core.proofs.Common.{◌∙◌, sym, ap, is_some}
 use Rattle.mobile_core.proofs.MarkAhead.{marked_all}
 use Rattle.mobile_core.proofs.mobile.Mobile.synced.Goals as goal
 
 pub returns-clause-mark : goal.returns-clause-mark
 returns-clause-mark c = λ t heard st.
-    c.is_marked.ensures ∙ ap is_some (sym (marked_all t (parts c.args.self.now) heard st))
+    c.is_marked.ensures ∙ ap is_some (sym (marked_all t c.args.self.now heard st))
