@@ -107,7 +107,8 @@ pub use Rattle.long_code.proofs.Before.{after-before, before_lt}
 pub use Rattle.long_code.proofs.Period.{IsState-after, IsState-before, after-injective}
 pub use Rattle.long_code.specs.LongCode.{IsState, after, paging_mask}
 unfoldable pub use Rattle.long_code.specs.LongCode.{long_chip, traffic_mask}
-pub use Rattle.heard_events.proofs.EventPlaces.{AreAt, messages_at_end, paging_at, sets_at_end, sync_at, traffic_at}
+pub use Rattle.heard_events.proofs.EventPlaces.{AreAt, IsAt, all_at, all_each}
+pub use Rattle.heard_events.proofs.EventsGrown.{events_at_all}
 pub use Rattle.rake_finger.proofs.FingerTimes.{timed_in}
 pub use Rattle.heard_events.proofs.FrameBounds.{AreCloseAll}
 pub use Rattle.heard_events.proofs.TrafficGrowth.{frames_sooner, messages_sooner}
@@ -125,7 +126,7 @@ pub use Rattle.heard_events.specs.Given.{at_of}
 pub use Rattle.heard_events.specs.Legs.{all_fingers, leg_of, legs_of, pilot_finger, subchannels}
 pub use Rattle.heard_events.specs.Marks.{first_of, marks_of}
 unfoldable pub use Rattle.heard_events.specs.Marks.{frames_open, mark, mark_before, marks_at}
-pub use Rattle.heard_events.specs.Moments.{changed, frames_at, legs_at, legs_by, messages_at, messages_behind, moment_events, moment_of}
+pub use Rattle.heard_events.specs.Moments.{changed, frames_at, legs_at, legs_by, messages_at, moment_events, moment_of}
 pub use Rattle.heard_events.specs.Moments.{moment_place, moments_before}
 unfoldable pub use Rattle.heard_events.specs.Moments.{heard_from, kept_to, passed, sets_at, told_by}
 pub use Rattle.heard_events.specs.Noted.{all_noted, body_noted, in_traffic_thresholds, noted, noted_with, page_noted, system_thresholds}

@@ -10,9 +10,10 @@ pub use Rattle.std.proofs.lemmas.List.{append_assoc, length-take-le, map-append,
 pub use Rattle.std.proofs.lemmas.List.{take_all}
 pub use Rattle.std.proofs.lemmas.List.Folds.{list_all-append, list_any-append}
 pub use Rattle.std.specs.List.{flat_map, list_all, list_any, range_with_len}
-pub use Rattle.std.specs.Option.{option_or, option_to_list}
+pub use Rattle.std.specs.Option.{option_map, option_or, option_to_list}
 pub use Rattle.std.specs.Prelude.{IsTrue, if◌then◌else◌, is_some, unsigned_abs, nat_eq, int_lt}
 pub use Rattle.std.proofs.lemmas.List.Elements.{filter-append, All-set, All-append, All-replicate, All-push}
+pub use Rattle.std.proofs.lemmas.List.Elements.{All-cons, All-head, All-map, All-nil, All-tail}
 pub use Rattle.std.proofs.lemmas.Option.{get_or_from_slice_get, slice_get_within}
 pub use Rattle.chip_core.proofs.Places.{places-more}
 pub use Rattle.chip_core.proofs.Ranges.{filter-places-more, filter_ext_places, filter_first_places, filter_none_places}
@@ -82,6 +83,7 @@ pub use Rattle.heard_events.specs.Channels.{channel_stream, has_power_control, m
 pub use Rattle.heard_events.specs.Events.{events_within}
 unfoldable pub use Rattle.heard_events.specs.Events.{events_at, frame_events_at, heard_within, message_events_at, paging_events_at}
 unfoldable pub use Rattle.heard_events.specs.Events.{sets_events_at}
+pub use Rattle.heard_events.specs.Events.{channels, followed_behind, told_behind, told_on}
 pub use Rattle.heard_events.specs.FramesAlone.{reference_alone, traffic_channel}
 pub use Rattle.heard_events.specs.Given.{at_of}
 unfoldable pub use Rattle.heard_events.specs.Left.{frames_left_of, messages_left_of, pages_left, sync_events_left}
@@ -89,8 +91,8 @@ pub use Rattle.heard_events.specs.Legs.{all_fingers, is_on, leg_fingers, legs_of
 pub use Rattle.heard_events.specs.Legs.{has_subchannel}
 pub use Rattle.heard_events.specs.Marks.{first_of, frames_with, mark_at, marks_of, sets_mark}
 unfoldable pub use Rattle.heard_events.specs.Marks.{frames_open, mark, mark_before, marks_at}
-pub use Rattle.heard_events.specs.Moments.{frames_at, frames_behind, legs_at, legs_by, messages_at, messages_behind, moment_events}
-pub use Rattle.heard_events.specs.Moments.{moment_place, moments_before, sets_behind, sets_events, power_at, strengths_at, pilot_strength}
+pub use Rattle.heard_events.specs.Moments.{frames_at, legs_at, legs_by, messages_at, moment_events}
+pub use Rattle.heard_events.specs.Moments.{moment_place, moments_before, sets_events, power_at, strengths_at, pilot_strength}
 unfoldable pub use Rattle.heard_events.specs.Moments.{changed, heard_from, kept_to, passed, sets_at, told_by}
 pub use Rattle.heard_events.specs.Near.{IsTuned, low_of}
 pub use Rattle.heard_events.specs.Noted.{all_noted, noted}

@@ -1,127 +1,106 @@
 -- The events that end at a number of samples have that number.
-use Rattle.heard_events.proofs.Common.{◌≡◌, ℕ, ◌+◌, ◌==◌, ◌||◌, List, [], ◌∷◌, ◌++◌, map, refl, Option, None, Some, inl, inr, take}
-use Rattle.heard_events.proofs.Common.{flat_map, cases_Bool, eqb-true, Sample, Standing, SetChange, events_at, frame_events_at}
-use Rattle.heard_events.proofs.Common.{message_events_at, paging_events_at, sets_events_at, at_of, mark, changed, frames_at, heard_from}
-use Rattle.heard_events.proofs.Common.{kept_to, legs_at, messages_at, moment_events, moment_place, moments_before, passed, sets_at}
-use Rattle.heard_events.proofs.Common.{page_event, pages_behind, message_at, message_events, message_heard, messages_by, known_now}
-use Rattle.heard_events.proofs.Common.{events_of, heard_at, sync_events_at, frames_by, if_followed, frames_now, Tuning, sync_bound}
-use Rattle.heard_events.proofs.Common.{sync_stream, Event, Leg, Mark, Traffic, SpelledMessage, SpelledSignal}
+use Rattle.heard_events.proofs.Common.{◌≡◌, ℕ, ◌+◌, ◌==◌, ◌||◌, List, [], ◌∷◌, ◌++◌, Bool, true, false, if◌then◌else◌, refl, Option, None}
+use Rattle.heard_events.proofs.Common.{Some, inl, inr, take, All, All-append, All-cons, All-map, All-nil, flat_map, cases_Bool, eqb-true}
+use Rattle.heard_events.proofs.Common.{Sample, Standing, SetChange, events_at, at_of, mark, changed, frames_at, messages_at, heard_from}
+use Rattle.heard_events.proofs.Common.{kept_to, legs_at, moment_events, moment_place, moments_before, passed, sets_at, page_event}
+use Rattle.heard_events.proofs.Common.{pages_behind, message_at, message_events, message_heard, messages_by, known_now, events_of}
+use Rattle.heard_events.proofs.Common.{heard_at, sync_events_at, frames_by, if_followed, frames_now, Tuning, sync_bound, sync_stream}
+use Rattle.heard_events.proofs.Common.{Event, Leg, Mark, Traffic, SpelledMessage, SpelledSignal, Channel, Paging, channels}
+use Rattle.heard_events.proofs.Common.{followed_behind, told_behind, told_on}
 use Rattle.heard_events.specs.TrafficEvents.{frame_heard}
+use Rattle.heard_events.specs.declared.channel.Channel.TheVariants.{Traffic as OnTraffic}
 
 -- events of one number of samples
+abbrev pub IsAt : ℕ → Event → Type 0
+IsAt n event = at_of event ≡ n
+
 abbrev pub AreAt : ℕ → List Event → Type 0
-AreAt n [] = Unit {0}
-AreAt n (event ∷ events) = (at_of event ≡ n) × AreAt n events
+AreAt n events = All (IsAt n) events
 
-are_at-append : (n : ℕ) (xs ys : List Event) → AreAt n xs → AreAt n ys → AreAt n (xs ++ ys)
-are_at-append n [] ys here there = there
-are_at-append n (x ∷ xs) ys here there = (here.0, are_at-append n xs ys here.1 there)
+-- what all have of each piece, all have
+pub all_each : {A X : Type 0} (P : A → Type 0) (f : X → List A) (xs : List X) →
+    ((x : X) → All P (f x)) → All P (flat_map f xs)
+all_each P f [] each = All-nil P
+all_each P f (x ∷ xs) each = All-append P (f x) (flat_map f xs) (each x) (all_each P f xs each)
 
-flat_map_at : (n : ℕ) (f : ℕ → List Event) (ks : List ℕ) → ((k : ℕ) → AreAt n (f k)) →
-    AreAt n (flat_map f ks)
-flat_map_at n f [] here = tt
-flat_map_at n f (k ∷ ks) here =
-    are_at-append n (f k) (flat_map f ks) (here k) (flat_map_at n f ks here)
+module _ (n : ℕ) where
+  one_at : (event : Event) → IsAt n event → AreAt n (event ∷ [])
+  one_at event here = All-cons (IsAt n) event [] here (All-nil (IsAt n))
 
-map_at : {A : Type 0} (n : ℕ) (f : A → Event) (xs : List A) → ((x : A) → at_of (f x) ≡ n) →
-    AreAt n (map f xs)
-map_at n f [] here = tt
-map_at n f (x ∷ xs) here = (here x, map_at n f xs here)
+  message_here : (told : Option SpelledMessage) → AreAt n (events_of n told)
+  message_here None = All-nil (IsAt n)
+  message_here (Some told) = one_at _ refl
 
-told_at : (n : ℕ) (told : Option SpelledMessage) → AreAt n (events_of n told)
-told_at n None = tt
-told_at n (Some told) = (refl, tt)
+  signal_here : (heard : Option SpelledSignal) → AreAt n (message_events n heard)
+  signal_here None = All-nil (IsAt n)
+  signal_here (Some heard) = one_at _ refl
 
-pub sync_at : (t : Tuning) (samples : List Sample) (n : ℕ) → AreAt n (sync_events_at t samples n)
-unfolding sync_events_at
-sync_at t samples n =
-    flat_map_at n (λ k. events_of n (heard_at t samples k))
-    (known_now t.count (sync_stream t) n (sync_bound n)) (λ k. told_at n (heard_at t samples k))
+  changed_here : (m : Mark) (j : ℕ) (change : SetChange) (s : Standing) → moment_place m j ≡ n →
+      AreAt n (moment_events m j change s)
+  changed_here m j change s here =
+      elim (cases_Bool (change.changed || change.report)) [
+        | inl e ↦ rw e (one_at _ here)
+        | inr e ↦ rw e (All-nil (IsAt n))
+      ]
 
-pub paging_at : (t : Tuning) (samples : List Sample) (n : ℕ) →
-    AreAt n (paging_events_at t samples n)
-unfolding paging_events_at
-paging_at t samples n =
-    map_at n (page_event n) (pages_behind t t.paging (mark t samples n) samples n) (λ page. refl)
+  -- where a channel may be followed, behind a mark that may be set
+  behind_here : {C : Type 0} (heard : C → Mark → List Event) →
+      ((c : C) (m : Mark) → AreAt n (heard c m)) → (followed : Option C) (m : Option Mark) →
+      AreAt n (if_followed heard followed m)
+  behind_here heard here (Some c) (Some m) = here c m
+  behind_here heard here followed m = All-nil (IsAt n)
 
-followed_at : (t : Tuning) (traffic : Traffic) (m : Mark) (legs : ℕ → List Leg)
-    (samples : List Sample) (n : ℕ) → AreAt n (frames_by t traffic m legs samples n)
-unfolding frames_by
-followed_at t traffic m legs samples n =
-    map_at n (frame_heard t traffic m legs samples n) (frames_now t traffic m legs n) (λ k. refl)
+module _ (t : Tuning) (samples : List Sample) (n : ℕ) where
+  sync_here : AreAt n (sync_events_at t samples n)
+  unfolding sync_events_at
+  sync_here =
+      all_each (IsAt n) (λ k. events_of n (heard_at t samples k))
+      (known_now t.count (sync_stream t) n (sync_bound n))
+      (λ k. message_here n (heard_at t samples k))
 
-message_at_place : (n : ℕ) (heard : Option SpelledSignal) → AreAt n (message_events n heard)
-message_at_place n None = tt
-message_at_place n (Some heard) = (refl, tt)
+  frames_here : (traffic : Traffic) (m : Mark) → AreAt n (frames_at t traffic m samples n)
+  unfolding frames_by
+  frames_here traffic m =
+      let legs = legs_at t traffic m samples n in
+      All-map (IsAt n) (frame_heard t traffic m legs (take n samples) n) (frames_now t traffic m legs n)
+      (λ k d below. refl)
 
-completed_at : (t : Tuning) (traffic : Traffic) (m : Mark) (legs : ℕ → List Leg)
-    (samples : List Sample) (n : ℕ) → AreAt n (messages_by t traffic m legs samples n)
-unfolding messages_by
-completed_at t traffic m legs samples n =
-    flat_map_at n (message_heard t traffic m legs samples n) (frames_now t traffic m legs n)
-    (λ k. message_at_place n (message_at t traffic m legs samples k))
+  messages_here : (traffic : Traffic) (m : Mark) → AreAt n (messages_at t traffic m samples n)
+  unfolding messages_by
+  messages_here traffic m =
+      let legs = legs_at t traffic m samples n in
+      all_each (IsAt n) (message_heard t traffic m legs (take n samples) n)
+      (frames_now t traffic m legs n)
+      (λ k. signal_here n (message_at t traffic m legs (take n samples) k))
 
-changed_at : (m : Mark) (j n : ℕ) (change : SetChange) (s : Standing) → moment_place m j ≡ n →
-    AreAt n (moment_events m j change s)
-changed_at m j n change s here =
-    elim (cases_Bool (change.changed || change.report)) [
-      | inl e ↦ rw e (here, tt)
-      | inr e ↦ rw e tt
-    ]
+  moment_here : (traffic : Traffic) (m : Mark) → AreAt n (sets_at t traffic m samples n)
+  unfolding sets_at
+  moment_here traffic m =
+      let j : ℕ = moments_before m n in
+      let first = take n samples in
+      let before = heard_from t traffic m (kept_to t traffic m samples j) first j 98304 in
+      elim (cases_Bool (moment_place m (j + 1) == n)) [
+        | inl e ↦
+            rw e
+            (changed_here n m (j + 1) (changed m first (j + 1) before) (passed m first (j + 1) before)
+            (eqb-true (moment_place m (j + 1)) n e))
+        | inr e ↦ rw e (All-nil (IsAt n))
+      ]
 
-moment_at : (t : Tuning) (traffic : Traffic) (m : Mark) (samples : List Sample) (n : ℕ) →
-    AreAt n (sets_at t traffic m samples n)
-unfolding sets_at
-moment_at t traffic m samples n =
-    let j : ℕ = moments_before m n in
-    let first = take n samples in
-    let before = heard_from t traffic m (kept_to t traffic m samples j) first j 98304 in
-    elim (cases_Bool (moment_place m (j + 1) == n)) [
-      | inl e ↦
-          rw e
-          (changed_at m (j + 1) n (changed m first (j + 1) before) (passed m first (j + 1) before)
-          (eqb-true (moment_place m (j + 1)) n e))
-      | inr e ↦ rw e tt
-    ]
+  channel_here : (c : Channel) (m : Mark) → AreAt n (told_on t samples n c m)
+  channel_here (Paging channel) m =
+      All-map (IsAt n) (page_event n) (pages_behind t channel (Some m) samples n) (λ k d below. refl)
+  channel_here (OnTraffic traffic) m =
+      let frames = frames_at t traffic m samples n in
+      let messages = messages_at t traffic m samples n in
+      All-append (IsAt n) (frames ++ messages) (sets_at t traffic m samples n)
+      (All-append (IsAt n) frames messages (frames_here traffic m) (messages_here traffic m))
+      (moment_here traffic m)
 
-behind_at : (n : ℕ) (heard : Traffic → Mark → List Event) (followed : Option Traffic)
-    (m : Option Mark) → ((traffic : Traffic) (m' : Mark) → AreAt n (heard traffic m')) →
-    AreAt n (if_followed heard followed m)
-behind_at n heard None m here = tt
-behind_at n heard (Some traffic) None here = tt
-behind_at n heard (Some traffic) (Some m) here = here traffic m
-
-pub traffic_at : (t : Tuning) (samples : List Sample) (n : ℕ) →
-    AreAt n (frame_events_at t samples n)
-unfolding frame_events_at
-traffic_at t samples n =
-    behind_at n (λ traffic m. frames_at t traffic m samples n) t.traffic (mark t samples n)
-    (λ traffic m. followed_at t traffic m (legs_at t traffic m samples n) (take n samples) n)
-
-pub messages_at_end : (t : Tuning) (samples : List Sample) (n : ℕ) →
-    AreAt n (message_events_at t samples n)
-unfolding message_events_at
-messages_at_end t samples n =
-    behind_at n (λ traffic m. messages_at t traffic m samples n) t.traffic (mark t samples n)
-    (λ traffic m. completed_at t traffic m (legs_at t traffic m samples n) (take n samples) n)
-
-pub sets_at_end : (t : Tuning) (samples : List Sample) (n : ℕ) →
-    AreAt n (sets_events_at t samples n)
-unfolding sets_events_at
-sets_at_end t samples n =
-    behind_at n (λ traffic m. sets_at t traffic m samples n) t.traffic (mark t samples n)
-    (λ traffic m. moment_at t traffic m samples n)
-
--- so do all
-pub all_at : (t : Tuning) (samples : List Sample) (n : ℕ) → AreAt n (events_at t samples n)
-unfolding events_at
-all_at t samples n =
-    let sync = sync_events_at t samples n in
-    let paging = paging_events_at t samples n in
-    let frames = frame_events_at t samples n in
-    let messages = message_events_at t samples n in
-    let sets = sets_events_at t samples n in
-    are_at-append n sync (paging ++ (frames ++ (messages ++ sets))) (sync_at t samples n)
-    (are_at-append n paging (frames ++ (messages ++ sets)) (paging_at t samples n)
-    (are_at-append n frames (messages ++ sets) (traffic_at t samples n)
-    (are_at-append n messages sets (messages_at_end t samples n) (sets_at_end t samples n))))
+  pub all_at : AreAt n (events_at t samples n)
+  unfolding events_at
+  all_at =
+      let m = mark t samples n in
+      All-append (IsAt n) (sync_events_at t samples n) (followed_behind t m samples n) sync_here
+      (all_each (IsAt n) (λ followed. told_behind t followed m samples n) (channels t)
+      (λ followed. behind_here n (told_on t samples n) channel_here followed m))

@@ -1,10 +1,11 @@
 -- How the events of a file grow with its samples.
-use Rattle.heard_events.proofs.Common.{◌≡◌, ℕ, ◌+◌, ◌≤◌, List, [], ◌++◌, length, refl, sym, ap, ◌∙◌, arith, map, Option, Some, None, nat_lt}
-use Rattle.heard_events.proofs.Common.{if◌then◌else◌, append_assoc, Sample, events_at, frame_events_at, message_events_at, paging_events_at}
-use Rattle.heard_events.proofs.Common.{sets_events_at, mark, AreNear, frames_behind, messages_behind, moments_before, sets_behind}
-use Rattle.heard_events.proofs.Common.{page_event, pages_behind, sync_events_at, Tuning, sync_stream, Event, Mark, Traffic, flat_map}
-use Rattle.heard_events.proofs.Common.{flat_map-places-more, heard_within}
-use Rattle.heard_events.proofs.FollowedEvents.{followed_behind, told_behind}
+use Rattle.heard_events.proofs.Common.{◌≡◌, ℕ, ◌+◌, ◌≤◌, List, [], ◌∷◌, ◌++◌, length, refl, sym, ap, ◌∙◌, arith, map, Option, Some, None, nat_lt}
+use Rattle.heard_events.proofs.Common.{if◌then◌else◌, append_assoc, append-nil, option_map, Sample, events_at, frame_events_at, message_events_at}
+use Rattle.heard_events.proofs.Common.{paging_events_at, sets_events_at, mark, AreNear, frames_at, messages_at, sets_at, moments_before}
+use Rattle.heard_events.proofs.Common.{page_event, pages_behind, sync_events_at, if_followed, Tuning, sync_stream, Event, Mark, Traffic}
+use Rattle.heard_events.proofs.Common.{flat_map, flat_map-places-more, heard_within, Channel, Paging, channels, followed_behind, told_behind}
+use Rattle.heard_events.proofs.Common.{told_on}
+use Rattle.heard_events.specs.declared.channel.Channel.TheVariants.{Traffic as OnTraffic}
 use Rattle.heard_events.proofs.Growth.{IsSyncTimed}
 use Rattle.heard_events.proofs.PageGrowth.{pages_sooner}
 use Rattle.heard_events.proofs.GoesOn.{joined}
@@ -14,60 +15,76 @@ use Rattle.chip_core.proofs.Places.{places-none}
 use Rattle.heard_events.proofs.Growth as growth
 use Rattle.heard_events.proofs.MarkStays as stays
 
--- what ends at n is heard on the sync channel, on the paging channel, or on the traffic channel, or
--- is a moment of the pilot sets
+-- of what is followed from the mark on, what ends at n is told by its kinds
 pub events_at_all : (t : Tuning) (xs : List Sample) (n : ℕ) →
     events_at t xs n
     ≡ sync_events_at t xs n
     ++ (paging_events_at t xs n
     ++ (frame_events_at t xs n ++ (message_events_at t xs n ++ sets_events_at t xs n)))
-unfolding events_at
-events_at_all t xs n = refl
+unfolding events_at paging_events_at frame_events_at message_events_at sets_events_at
+events_at_all t xs n =
+    ap (λ (es : List Event). sync_events_at t xs n ++ es) (by_kinds t.traffic (mark t xs n))
+  where
+    by_kinds : (traffic : Option Traffic) (m : Option Mark) →
+        told_behind t (Some (Paging t.paging)) m xs n
+        ++ (told_behind t (option_map OnTraffic traffic) m xs n ++ [])
+        ≡ map (page_event n) (pages_behind t t.paging m xs n)
+        ++ (if_followed (λ traffic m. frames_at t traffic m xs n) traffic m
+        ++ (if_followed (λ traffic m. messages_at t traffic m xs n) traffic m
+        ++ if_followed (λ traffic m. sets_at t traffic m xs n) traffic m))
+    by_kinds (Some traffic) (Some m) =
+        let frames = frames_at t traffic m xs n in
+        let messages = messages_at t traffic m xs n in
+        let sets = sets_at t traffic m xs n in
+        ap (λ (es : List Event). map (page_event n) (pages_behind t t.paging (Some m) xs n) ++ es)
+        (append-nil ((frames ++ messages) ++ sets) ∙ append_assoc frames messages sets)
+    by_kinds (Some traffic) None = refl
+    by_kinds None (Some m) = refl
+    by_kinds None None = refl
 
 -- behind the mark it is what is heard of the channels that are followed from there on
 pub events_at_by : (t : Tuning) (xs : List Sample) (n : ℕ) (m : Option Mark) → mark t xs n ≡ m →
     events_at t xs n ≡ sync_events_at t xs n ++ followed_behind t m xs n
-unfolding events_at paging_events_at frame_events_at message_events_at sets_events_at
+unfolding events_at
 events_at_by t xs n m e =
-    let now = mark t xs n in
-    let pages = map (page_event n) (pages_behind t t.paging now xs n) in
-    let frames = frames_behind t t.traffic now xs n in
-    let messages = messages_behind t t.traffic now xs n in
-    let sets = sets_behind t t.traffic now xs n in
-    ap (λ (es : List Event). sync_events_at t xs n ++ (pages ++ es))
-    (sym (append_assoc frames messages sets))
-    ∙ ap (λ (x : Option Mark). sync_events_at t xs n ++ followed_behind t x xs n) e
+    ap (λ (x : Option Mark). sync_events_at t xs n ++ followed_behind t x xs n) e
+
+each_same : {A X : Type 0} (f g : X → List A) (xs : List X) → ((x : X) → f x ≡ g x) →
+    flat_map f xs ≡ flat_map g xs
+each_same f g [] same = refl
+each_same f g (x ∷ xs) same = joined (same x) (each_same f g xs same)
 
 module _ (t : Tuning) (low : ℕ) (timed : IsSyncTimed t low)
     (near : AreNear (sync_stream t).fingers) where
-  pages_same : (m : Option Mark) (xs ys : List Sample) (n : ℕ) → n ≤ length xs →
-      pages_behind t t.paging m (xs ++ ys) n ≡ pages_behind t t.paging m xs n
-  pages_same None xs ys n h = refl
-  pages_same (Some m) xs ys n h =
-      ap (λ (pages : List _). if nat_lt m.prat 2 then pages else [])
-      (pages_sooner t t.paging m _ (stays.paging_timed t near t.paging m) xs ys n h)
-
-  traffic_same : (traffic : Option Traffic) (m : Option Mark) (xs ys : List Sample) (n : ℕ) →
-      n ≤ length xs → told_behind t traffic m (xs ++ ys) n ≡ told_behind t traffic m xs n
-  traffic_same None m xs ys n h = refl
-  traffic_same (Some traffic) None xs ys n h = refl
-  traffic_same (Some traffic) (Some m) xs ys n h =
+  -- what ends within the first samples is known from them: on a channel,
+  channel_sooner : (xs ys : List Sample) (n : ℕ) → n ≤ length xs → (c : Channel) (m : Mark) →
+      told_on t (xs ++ ys) n c m ≡ told_on t xs n c m
+  channel_sooner xs ys n h (Paging channel) m =
+      ap (λ (pages : List _). map (page_event n) (if nat_lt m.prat 2 then pages else []))
+      (pages_sooner t channel m _ (stays.paging_timed t near channel m) xs ys n h)
+  channel_sooner xs ys n h (OnTraffic traffic) m =
       let j : ℕ = moments_before m n in
       let kept = kept_sooner t traffic m xs ys j (λ some. omega (arith, some, h)) in
       let first = first_same xs ys n h in
       let sets = sets_sooner t traffic m xs ys n h in
       rw (kept, first, sets) refl
 
-  -- what ends within the first samples is known from them
+  behind_sooner : (xs ys : List Sample) (n : ℕ) → n ≤ length xs → (followed : Option Channel)
+      (m : Option Mark) → told_behind t followed m (xs ++ ys) n ≡ told_behind t followed m xs n
+  behind_sooner xs ys n h (Some c) (Some m) = channel_sooner xs ys n h c m
+  behind_sooner xs ys n h (Some c) None = refl
+  behind_sooner xs ys n h None m = refl
+
+  -- and on all
   pub events_sooner : (xs ys : List Sample) (n : ℕ) → n ≤ length xs →
       events_at t (xs ++ ys) n ≡ events_at t xs n
   events_sooner xs ys n h =
       let m = mark t xs n in
-      let sync = growth.sync_events_sooner t low timed xs ys n h in
-      let pages = pages_same m xs ys n h in
-      let traffic = traffic_same t.traffic m xs ys n h in
       events_at_by t (xs ++ ys) n m (stays.mark_sooner t low timed xs ys n h)
-      ∙ rw (sync, pages, traffic) refl
+      ∙ joined (growth.sync_events_sooner t low timed xs ys n h)
+      (each_same (λ followed. told_behind t followed m (xs ++ ys) n)
+      (λ followed. told_behind t followed m xs n) (channels t)
+      (λ followed. behind_sooner xs ys n h followed m))
       ∙ sym (events_at_by t xs n m refl)
 
   -- a mark that is set with the last sample has no channel's frame before it

@@ -8,7 +8,6 @@ pub mod PageGrowth
 pub mod FrameBounds
 pub mod MomentGrowth
 pub mod TrafficGrowth
-pub mod FollowedEvents
 pub mod MarkStays
 pub mod ChannelFrames
 pub mod EventsGrown

@@ -3,13 +3,14 @@ use Rattle.heard_events.proofs.Common.{◌≡◌, ℕ, ◌+◌, ◌-◌, ◌<◌
 use Rattle.heard_events.proofs.Common.{subst, arith, inl, inr, nat_lt, Option, Some, None, ℤ, pos, take, get_or, append-nil, flat_map}
 use Rattle.heard_events.proofs.Common.{and_parts, and_from, cases_Bool, cases_lt, eq-eqb, ne_eqb, new_standing, places, Sample, Finger}
 use Rattle.heard_events.proofs.Common.{Data, AreClose, all_fingers, legs_of, pilot_finger, first_of, mark, mark_before, marks_at, frames_at}
-use Rattle.heard_events.proofs.Common.{frames_behind, kept_to, legs_at, legs_by, messages_at, messages_behind, moment_place, moments_before}
-use Rattle.heard_events.proofs.Common.{sets_at, sets_behind, AreNear, all_near, has_reference, low_in, pages_at, pages_behind}
+use Rattle.heard_events.proofs.Common.{kept_to, legs_at, legs_by, messages_at, moment_place, moments_before}
+use Rattle.heard_events.proofs.Common.{sets_at, AreNear, all_near, has_reference, low_in, pages_at, pages_behind}
 use Rattle.heard_events.proofs.Common.{paging_stream, frame_start, is_in_file, known_at, IsTimed, stream_end, if_followed, frame_known}
 use Rattle.heard_events.proofs.Common.{Tuning, fingers_of, sync_bound, sync_stream, Event, Leg, Mark, Traffic, frames_by, map}
-use Rattle.heard_events.proofs.Common.{message_heard, messages_by, option_or, page_event}
+use Rattle.heard_events.proofs.Common.{message_heard, messages_by, option_or, page_event, if◌then◌else◌, Channel, Paging}
+use Rattle.heard_events.proofs.Common.{channels, followed_behind, told_behind, told_on}
 use Rattle.std.specs.List.{filter}
-use Rattle.heard_events.proofs.FollowedEvents.{followed_behind, unrated}
+use Rattle.heard_events.specs.declared.channel.Channel.TheVariants.{Traffic as OnTraffic}
 use Rattle.heard_events.specs.TrafficEvents.{frame_heard}
 use Rattle.rake_finger.proofs.CloseFingers.{near_are_close}
 use Rattle.rake_finger.proofs.FingerTimes.{ends_bounds, timed_in}
@@ -130,12 +131,23 @@ pub record OpensBehind {E : Type 0} (n : ℕ) (heard : Option Mark → List E) :
   pub unset : heard None ≡ []
   pub early : (m : Mark) → n ≤ m.sample → heard (Some m) ≡ []
 
-pub opens_both : {E : Type 0} {n : ℕ} {f g : Option Mark → List E} → OpensBehind n f →
-    OpensBehind n g → OpensBehind n (λ mark. f mark ++ g mark)
-opens_both one other = record {
-  unset = joined one.unset other.unset;
-  early = λ m before. joined (one.early m before) (other.early m before);
-}
+-- so it is of a channel that may be followed,
+pub opens_followed : {C : Type 0} {n : ℕ} (heard : C → Mark → List Event) →
+    ((c : C) (m : Mark) → n ≤ m.sample → heard c m ≡ []) → (followed : Option C) →
+    OpensBehind n (if_followed heard followed)
+opens_followed heard none None = record { unset = refl; early = λ m before. refl }
+opens_followed heard none (Some c) = record { unset = refl; early = none c }
+
+-- and of several
+opens_each : {E X : Type 0} {n : ℕ} (heard : X → Option Mark → List E) (xs : List X) →
+    ((x : X) → OpensBehind n (heard x)) → OpensBehind n (λ mark. flat_map (λ x. heard x mark) xs)
+opens_each heard [] opens = record { unset = refl; early = λ m before. refl }
+opens_each heard (x ∷ xs) opens =
+    let rest = opens_each heard xs opens in
+    record {
+      unset = joined (opens x).unset rest.unset;
+      early = λ m before. joined ((opens x).early m before) (rest.early m before);
+    }
 
 -- What is heard at n samples, or at the next one, is told by any later mark.
 pub by_one_mark : {E : Type 0} (t : Tuning) → AreNear (sync_stream t).fingers →
@@ -198,6 +210,10 @@ module _ (t : Tuning) (near : AreNear (sync_stream t).fingers) (channel : ℕ) w
   pages_later samples n m before =
       pages_none t channel m samples n
       (λ k inside e. let later = paging_later m k inside in omega (arith, later, e, before))
+
+  unrated : {A : Type 0} (b : Bool) (pages : List A) → pages ≡ [] → (if b then pages else []) ≡ []
+  unrated true pages none = none
+  unrated false pages none = refl
 
   pub pages_from_mark : (samples : List Sample) (n : ℕ) →
       OpensBehind n (λ mark. pages_behind t channel mark samples n)
@@ -266,39 +282,29 @@ module _ (t : Tuning) (near : AreNear (sync_stream t).fingers) (traffic : Traffi
         ne_eqb (moment_place m (moments_before m n + 1)) n (λ e. omega (arith, e, before)) in
         rw elsewhere refl
 
-opens_followed : (heard : Traffic → Mark → List Event) (n : ℕ) →
-    ((traffic : Traffic) (m : Mark) → n ≤ m.sample → heard traffic m ≡ []) →
-    (followed : Option Traffic) → OpensBehind n (if_followed heard followed)
-opens_followed heard n none None = record { unset = refl; early = λ m before. refl }
-opens_followed heard n none (Some traffic) = record { unset = refl; early = none traffic }
-
 module _ (t : Tuning) (near : AreNear (sync_stream t).fingers) (followed : Option Traffic)
     (samples : List Sample) (n : ℕ) where
-  pub frames_from_mark : OpensBehind n (λ mark. frames_behind t followed mark samples n)
+  pub frames_from_mark :
+      OpensBehind n (if_followed (λ traffic m. frames_at t traffic m samples n) followed)
   frames_from_mark =
-      opens_followed (λ traffic m. frames_at t traffic m samples n) n
-      (λ traffic m. frames_later t near traffic m samples n) followed
+      opens_followed _ (λ traffic m. frames_later t near traffic m samples n) followed
 
-  pub messages_from_mark : OpensBehind n (λ mark. messages_behind t followed mark samples n)
+  pub messages_from_mark :
+      OpensBehind n (if_followed (λ traffic m. messages_at t traffic m samples n) followed)
   messages_from_mark =
-      opens_followed (λ traffic m. messages_at t traffic m samples n) n
-      (λ traffic m. messages_later t near traffic m samples n) followed
+      opens_followed _ (λ traffic m. messages_later t near traffic m samples n) followed
 
-  pub sets_from_mark : OpensBehind n (λ mark. sets_behind t followed mark samples n)
-  sets_from_mark =
-      opens_followed (λ traffic m. sets_at t traffic m samples n) n
-      (λ traffic m. sets_later t near traffic m samples n) followed
+-- ALL CHANNELS
+module _ (t : Tuning) (near : AreNear (sync_stream t).fingers) (samples : List Sample) (n : ℕ) where
+  channel_later : (c : Channel) (m : Mark) → n ≤ m.sample → told_on t samples n c m ≡ []
+  channel_later (Paging channel) m before =
+      ap (map (page_event n)) ((pages_from_mark t near channel samples n).early m before)
+  channel_later (OnTraffic traffic) m before =
+      joined
+      (joined (frames_later t near traffic m samples n before) (messages_later t near traffic m samples n before))
+      (sets_later t near traffic m samples n before)
 
--- all that is heard of the channels that are followed
-pub all_from_mark : (t : Tuning) → AreNear (sync_stream t).fingers → (samples : List Sample)
-    (n : ℕ) → OpensBehind n (λ mark. followed_behind t mark samples n)
-all_from_mark t near samples n =
-    let pages = pages_from_mark t near t.paging samples n in
-    opens_both
-    (record {
-      unset = ap (map (page_event n)) pages.unset;
-      early = λ m before. ap (map (page_event n)) (pages.early m before);
-    })
-    (opens_both
-    (opens_both (frames_from_mark t near t.traffic samples n) (messages_from_mark t near t.traffic samples n))
-    (sets_from_mark t near t.traffic samples n))
+  pub all_from_mark : OpensBehind n (λ mark. followed_behind t mark samples n)
+  all_from_mark =
+      opens_each (λ followed mark. told_behind t followed mark samples n) (channels t)
+      (opens_followed (told_on t samples n) channel_later)

@@ -3,11 +3,11 @@ use Rattle.heard_events.proofs.Common.{◌≡◌, ℕ, zero, suc, ◌+◌, ◌-�
 use Rattle.heard_events.proofs.Common.{◌∙◌, arith, inl, inr, nat_le, ◌==◌, ◌&&◌, Some, is_some, flat_map, list_all, list_any}
 use Rattle.heard_events.proofs.Common.{range_with_len, and_from, and_parts, cases_Bool, cases_lt, eq-eqb, le-leb, or_cases, or_left}
 use Rattle.heard_events.proofs.Common.{or_right, list_all-append, list_any-append, flat_map-places-more, places, Sample, events_at}
-use Rattle.heard_events.proofs.Common.{frame_events_at, heard_within, message_events_at, paging_events_at, sets_events_at, at_of, first_of}
+use Rattle.heard_events.proofs.Common.{All-head, All-tail, followed_behind, heard_within, mark, at_of, first_of}
 use Rattle.heard_events.proofs.Common.{frames_open, marks_at, sets_mark, frame_start, events_of, heard_at, sync_events_at, Tuning}
 use Rattle.heard_events.proofs.Common.{sync_bound, sync_stream, Event, Mark, Option, None, marks_of, SpelledMessage}
 use Rattle.std.specs.List.{filter}
-use Rattle.heard_events.proofs.EventPlaces.{AreAt, all_at}
+use Rattle.heard_events.proofs.EventPlaces.{AreAt, IsAt, all_at}
 use Rattle.rake_finger.proofs.FrameTimes.{known_between}
 use Rattle.heard_events.proofs.Growth.{IsSyncTimed, sync_in_file, sync_known, sync_frames}
 use Rattle.heard_events.proofs.Arrivals.{every, given_less, given_more, is_now}
@@ -88,9 +88,10 @@ before_at : (n i : ℕ) (events : List Event) → i < n → AreAt i events →
     list_all (is_before n) events ≡ true
 before_at n i [] less here = refl
 before_at n i (event ∷ events) less here =
-    let at' = here.0 in
+    let at' = All-head (IsAt i) event events here in
     and_from (is_before n event) (list_all (is_before n) events)
-    (le-leb (at_of event + 1) n (omega (arith, at', less))) (before_at n i events less here.1)
+    (le-leb (at_of event + 1) n (omega (arith, at', less)))
+    (before_at n i events less (All-tail (IsAt i) event events here))
 
 all_before : (f : ℕ → List Event) (n a d : ℕ) → ((i : ℕ) → AreAt i (f i)) → a + d ≤ n →
     list_all (is_before n) (flat_map f (range_with_len a d)) ≡ true
@@ -130,9 +131,7 @@ module _ (t : Tuning) (samples : List Sample) (k low : ℕ) (timed : IsSyncTimed
   among =
       let n : ℕ = sync_known t k in
       let sync = sync_events_at t samples n in
-      let others = paging_events_at t samples n
-      ++ (frame_events_at t samples n
-      ++ (message_events_at t samples n ++ sets_events_at t samples n)) in
+      let others = followed_behind t (mark t samples n) samples n in
       list_any-append sets_mark sync others
       ∙ or_left (list_any sets_mark sync) (list_any sets_mark others) among_sync
 

@@ -1,42 +1,49 @@
 -- All that a handset tells: the pilot, and what it hears.
-use Rattle.std.specs.Prelude.{ℕ, ◌+◌, List, ◌∷◌, ◌++◌, length, map}
+use Rattle.std.specs.Prelude.{ℕ, ◌+◌, List, [], ◌∷◌, ◌++◌, length, map, Option, Some}
 use Rattle.std.specs.List.{flat_map}
+use Rattle.std.specs.Option.{option_map}
 use Rattle.chip_core.specs.Bits.{places}
 use Rattle.chip_core.specs.declared.sample.Sample.{Sample}
 use Rattle.heard_events.specs.Marks.{mark}
-use Rattle.heard_events.specs.Moments.{frames_behind, messages_behind, sets_behind}
+use Rattle.heard_events.specs.Moments.{frames_at, messages_at, sets_at}
 use Rattle.heard_events.specs.PagingEvents.{page_event, pages_behind}
 use Rattle.heard_events.specs.SyncEvents.{sync_events_at}
+use Rattle.heard_events.specs.TrafficEvents.{if_followed}
 use Rattle.heard_events.specs.Tuning.{Tuning}
+use Rattle.heard_events.specs.declared.channel.Channel.{Channel}
+use Rattle.heard_events.specs.declared.channel.Channel.TheVariants.{Paging, Traffic}
 use Rattle.heard_events.specs.declared.event.Event.{Event}
 use Rattle.heard_events.specs.declared.event.Event.TheVariants.{Pilot}
+use Rattle.heard_events.specs.declared.mark.Mark.{Mark}
 
--- those of the paging channel that end when just n samples have been taken
-unfoldable pub paging_events_at : Tuning → List Sample → ℕ → List Event
-paging_events_at t samples n =
-    map (page_event n) (pages_behind t t.paging (mark t samples n) samples n)
+-- THE CHANNELS BEHIND THE MARK
+-- What is heard on a channel when just n samples have been taken: of a traffic channel the frames
+-- come first, then the messages that they complete, then the event of the pilot sets.
+abbrev pub told_on : Tuning → List Sample → ℕ → Channel → Mark → List Event
+told_on t samples n (Paging channel) m =
+    map (page_event n) (pages_behind t channel (Some m) samples n)
+told_on t samples n (Traffic traffic) m =
+    (frames_at t traffic m samples n ++ messages_at t traffic m samples n)
+    ++ sets_at t traffic m samples n
 
--- those of the traffic channel's frames
-unfoldable pub frame_events_at : Tuning → List Sample → ℕ → List Event
-frame_events_at t samples n = frames_behind t t.traffic (mark t samples n) samples n
+-- the same where a channel may be followed, behind a mark that may be set
+abbrev pub told_behind : Tuning → Option Channel → Option Mark → List Sample → ℕ → List Event
+told_behind t followed mark samples n = if_followed (told_on t samples n) followed mark
 
--- and of the messages that these frames complete
-unfoldable pub message_events_at : Tuning → List Sample → ℕ → List Event
-message_events_at t samples n = messages_behind t t.traffic (mark t samples n) samples n
+-- the channels that may be followed, in the order in which they are told
+abbrev pub channels : Tuning → List (Option Channel)
+channels t = Some (Paging t.paging) ∷ option_map Traffic t.traffic ∷ []
 
--- and that of the pilot sets
-unfoldable pub sets_events_at : Tuning → List Sample → ℕ → List Event
-sets_events_at t samples n = sets_behind t t.traffic (mark t samples n) samples n
+-- what is heard on all of them
+abbrev pub followed_behind : Tuning → Option Mark → List Sample → ℕ → List Event
+followed_behind t mark samples n =
+    flat_map (λ followed. told_behind t followed mark samples n) (channels t)
 
--- All that are heard when just n samples have been taken: those of the sync channel come first,
--- then those of the paging channel, the traffic channel's frame, the message that it completes, and
--- that of the pilot sets.
+-- ALL CHANNELS
+-- All that are heard when just n samples have been taken: those of the sync channel come first.
 unfoldable pub events_at : Tuning → List Sample → ℕ → List Event
 events_at t samples n =
-    sync_events_at t samples n
-    ++ (paging_events_at t samples n
-    ++ (frame_events_at t samples n
-    ++ (message_events_at t samples n ++ sets_events_at t samples n)))
+    sync_events_at t samples n ++ followed_behind t (mark t samples n) samples n
 
 -- those that are heard within the first n samples, in order
 unfoldable pub heard_within : Tuning → List Sample → ℕ → List Event
@@ -50,3 +57,24 @@ events_within t samples n = Pilot t.phase t.energy ∷ heard_within t samples n
 -- all of them
 abbrev pub events : Tuning → List Sample → List Event
 events t samples = events_within t samples (length samples)
+
+-- BY THEIR KINDS
+-- those of the paging channel that end when just n samples have been taken
+unfoldable pub paging_events_at : Tuning → List Sample → ℕ → List Event
+paging_events_at t samples n =
+    map (page_event n) (pages_behind t t.paging (mark t samples n) samples n)
+
+-- those of the traffic channel's frames
+unfoldable pub frame_events_at : Tuning → List Sample → ℕ → List Event
+frame_events_at t samples n =
+    if_followed (λ traffic m. frames_at t traffic m samples n) t.traffic (mark t samples n)
+
+-- and of the messages that these frames complete
+unfoldable pub message_events_at : Tuning → List Sample → ℕ → List Event
+message_events_at t samples n =
+    if_followed (λ traffic m. messages_at t traffic m samples n) t.traffic (mark t samples n)
+
+-- and that of the pilot sets
+unfoldable pub sets_events_at : Tuning → List Sample → ℕ → List Event
+sets_events_at t samples n =
+    if_followed (λ traffic m. sets_at t traffic m samples n) t.traffic (mark t samples n)

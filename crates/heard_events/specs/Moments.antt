@@ -16,7 +16,7 @@ use Rattle.heard_events.specs.Legs.{legs_of, pilot_phase}
 use Rattle.heard_events.specs.Noted.{all_noted}
 use Rattle.heard_events.specs.PagingEvents.{page_event, pages_behind}
 use Rattle.heard_events.specs.Signaling.{messages_by}
-use Rattle.heard_events.specs.TrafficEvents.{frames_by, if_followed}
+use Rattle.heard_events.specs.TrafficEvents.{frames_by}
 use Rattle.heard_events.specs.TrafficStreams.{chips_behind}
 use Rattle.heard_events.specs.Tuning.{Tuning}
 use Rattle.heard_events.specs.declared.event.Event.{Event}
@@ -141,16 +141,3 @@ sets_at t traffic m samples n =
     then sets_events m first (j + 1)
     (heard_from t traffic m (kept_to t traffic m samples j) first j 98304)
     else []
-
--- the same where a channel may be followed, behind a mark that may be set
-abbrev pub frames_behind : Tuning → Option Traffic → Option Mark → List Sample → ℕ → List Event
-frames_behind t followed mark samples n =
-    if_followed (λ traffic m. frames_at t traffic m samples n) followed mark
-
-abbrev pub messages_behind : Tuning → Option Traffic → Option Mark → List Sample → ℕ → List Event
-messages_behind t followed mark samples n =
-    if_followed (λ traffic m. messages_at t traffic m samples n) followed mark
-
-abbrev pub sets_behind : Tuning → Option Traffic → Option Mark → List Sample → ℕ → List Event
-sets_behind t followed mark samples n =
-    if_followed (λ traffic m. sets_at t traffic m samples n) followed mark

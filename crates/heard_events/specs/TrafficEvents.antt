@@ -60,7 +60,8 @@ frames_by t traffic m legs samples n =
     map (frame_heard t traffic m legs samples n) (frames_now t traffic m legs n)
 
 -- what is heard where a channel may be followed, behind a mark that may be set
-abbrev pub if_followed : (Traffic → Mark → List Event) → Option Traffic → Option Mark → List Event
+abbrev pub if_followed : {C : Type 0} → (C → Mark → List Event) → Option C → Option Mark →
+    List Event
 if_followed heard None mark = []
-if_followed heard (Some traffic) None = []
-if_followed heard (Some traffic) (Some m) = heard traffic m
+if_followed heard (Some channel) None = []
+if_followed heard (Some channel) (Some m) = heard channel m

@@ -14,8 +14,8 @@ use Rattle.traffic_message.specs.Multiplex.{split, split_9600}
 use Rattle.traffic_message.specs.declared.body.TrafficBody.TheVariants as bodies
 use Rattle.heard_events.specs.Marks.{marks_of, frames_with}
 use Rattle.heard_events.specs.Legs.{all_fingers, legs_of, subchannels}
-use Rattle.heard_events.specs.Moments.{frames_behind, messages_behind, moment_of, moments_before}
-use Rattle.heard_events.specs.Moments.{sets_behind}
+use Rattle.heard_events.specs.Events.{told_behind}
+use Rattle.heard_events.specs.Moments.{moment_of, moments_before}
 use Rattle.heard_events.specs.Near.{low_of}
 use Rattle.heard_events.specs.Noted.{body_noted, moment_from, page_noted}
 use Rattle.heard_events.specs.PagingEvents.{pages_behind}
@@ -141,11 +141,8 @@ frames_known = refl
 no_frame : is_in_file 1228800 (frames_of 0) 21 ≡ false
 no_frame = refl
 
--- none is heard where no channel is assigned, and nothing of the sets
-unassigned : frames_behind alone None (Some (paged 0)) [] 0
-    ∷ sets_behind alone None (Some (paged 0)) [] 0
-    ∷ messages_behind alone None (Some (paged 0)) [] 0
-    ∷ [] ≡ [] ∷ [] ∷ [] ∷ []
+-- nothing is heard where no channel is assigned
+unassigned : told_behind alone None (Some (paged 0)) [] 0 ≡ []
 unassigned = refl
 
 -- a frame of 9,600 bits a second, of which MM and TT are told, and all behind them is other traffic

@@ -4,12 +4,11 @@ use Rattle.mobile_core.proofs.Common.{None, ForSome, option_map_or, arith, lengt
 use Rattle.mobile_core.proofs.Common.{IsFollowedDue, IsSoundFollowed, EndFrom, WaitFrom, followed_events_left, followed_heard}
 use Rattle.mobile_core.proofs.Common.{paging_events_left, AreNear, Tuning, sync_stream, Event, Followed, Mark, PagingReceiver}
 use Rattle.mobile_core.proofs.Common.{TrafficReceiver, IsSomeAnd, IsSoundPaging, IsSoundTraffic, IsTrafficDue, IsDueAt, IsUnheard, Traffic}
-use Rattle.mobile_core.proofs.Common.{bits_heard, listed, traffic_heard, traffic_events_left}
-use Rattle.heard_events.proofs.FollowedEvents.{followed_behind}
+use Rattle.mobile_core.proofs.Common.{append-nil, bits_heard, followed_behind, listed, traffic_heard, traffic_events_left}
 use Rattle.mobile_core.proofs.FramesFollowed.{frames_go, frames_more, told_few}
-use Rattle.heard_events.proofs.GoesOn.{GoesOn, both}
+use Rattle.heard_events.proofs.GoesOn.{GoesOn, both, goes_as, joined}
 use Rattle.heard_events.proofs.MarkStays.{pages_from_mark}
-use Rattle.mobile_core.proofs.PagesFollowed.{bits_few, pages_go, pages_more, pages_quiet}
+use Rattle.mobile_core.proofs.PagesFollowed.{bits_few, pages_go, pages_more, pages_quiet, told_paged}
 
 -- what waits ends later
 pub ends_later : (n : ℕ) (f : Followed) → WaitFrom n f → EndFrom (n + 1) f
@@ -110,9 +109,11 @@ module _ {t : Tuning} {f : Followed} {mark : Option Mark} {heard : List Sample}
     pub goes_on : (end : ℕ) → EndFrom end f →
         GoesOn (followed_behind t mark) (λ samples. followed_events_left t mark samples f) heard end
     goes_on end ends =
-        both (pages_go t mark heard f.paging st.paging (λ d. idle (inl d)) end ends.paging)
+        goes_as
+        (both (pages_go t mark heard f.paging st.paging (λ d. idle (inl d)) end ends.paging)
         (frames_go t t.traffic mark heard (paging_events_left t mark heard f.paging) f.traffic st.traffic
-        sound.traffic (λ d. idle (inr d)) end ends.traffic)
+        sound.traffic (λ d. idle (inr d)) end ends.traffic))
+        (λ samples n. joined (told_paged t mark samples n) (append-nil _)) (λ samples. refl)
 
     -- more samples, up to the end of a frame that comes next
     pub followed_more : AreNear (sync_stream t).fingers → (more : List Sample) → 0 < length more →

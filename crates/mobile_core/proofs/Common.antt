@@ -7,7 +7,7 @@ pub use Rattle.std.proofs.lemmas.Bool.{and_from, cases_lt, cases_order, eq-eqb, 
 pub use Rattle.std.proofs.lemmas.List.{append_assoc, map-append, take_all, take_rest}
 pub use Rattle.std.proofs.lemmas.List.Folds.{list_any-append, sum_by-replicate}
 pub use Rattle.std.specs.List.{flat_map, list_all, list_any}
-pub use Rattle.std.specs.Option.{ForSome, IsSomeAnd, option_map_or, option_or, option_to_list}
+pub use Rattle.std.specs.Option.{ForSome, IsSomeAnd, option_map, option_map_or, option_or, option_to_list}
 pub use Rattle.std.specs.Prelude.{IsTrue, if◌then◌else◌, is_some, sum_by, unsigned_abs}
 pub use Rattle.std.proofs.Math.Seq.{take-add}
 pub use Rattle.chip_core.proofs.BitLists.{taken_more}
@@ -26,6 +26,7 @@ pub use Rattle.rake_finger.specs.Near.{AreClose, all_close, AreNear, all_begun}
 pub use Rattle.heard_events.specs.Close.{legs_close, legs_rows, paths_close}
 pub use Rattle.heard_events.specs.Events.{events}
 unfoldable pub use Rattle.heard_events.specs.Events.{events_at, heard_within}
+pub use Rattle.heard_events.specs.Events.{channels, followed_behind, told_behind, told_on}
 pub use Rattle.heard_events.specs.Given.{at_of, listed}
 pub use Rattle.heard_events.specs.Left.{pilot_left}
 unfoldable pub use Rattle.heard_events.specs.Left.{pages_left, sets_left_of, sync_events_left}
@@ -57,6 +58,7 @@ pub use Rattle.heard_events.specs.TrafficStreams.{chips_behind, frame_known, fra
 pub use Rattle.heard_events.specs.Tuning.{Tuning, sync_stream, tuning_by}
 pub use Rattle.rake_finger.specs.Paths.{fingers_of}
 pub use Rattle.heard_events.specs.declared.channel.Channel.{Channel}
+pub use Rattle.heard_events.specs.declared.channel.Channel.TheVariants.{Paging}
 pub use Rattle.heard_events.specs.declared.event.Event.{Event}
 pub use Rattle.heard_events.specs.declared.event.Event.TheVariants.{Pilot}
 pub use Rattle.heard_events.specs.declared.leg.Leg.{Leg}

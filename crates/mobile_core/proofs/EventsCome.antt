@@ -2,9 +2,8 @@
 use Rattle.mobile_core.proofs.Common.{◌≡◌, ℕ, suc, ◌+◌, ◌-◌, ◌<◌, ◌≤◌, List, [], ◌++◌, length, length-append, refl, sym, ap, ◌∙◌, arith}
 use Rattle.mobile_core.proofs.Common.{Sample, events, events_at, heard_within, EndFrom, HearsFollowed, IsFollowedDue, IsSoundFollowed}
 use Rattle.mobile_core.proofs.Common.{followed_events_left, sync_events_left, mark, mark_before, AreNear, sync_events_at, Tuning}
-use Rattle.mobile_core.proofs.Common.{sync_stream, Event, Followed, Mark, Option, flat_map_grown}
+use Rattle.mobile_core.proofs.Common.{sync_stream, Event, Followed, Mark, Option, flat_map_grown, followed_behind}
 use Rattle.mobile_core.proofs.ChannelsFollowed.{goes_on}
-use Rattle.heard_events.proofs.FollowedEvents.{followed_behind}
 use Rattle.heard_events.proofs.Arrivals.{AreKnown, AreLater}
 use Rattle.heard_events.proofs.GoesOn.{GoesOn, both}
 use Rattle.heard_events.proofs.Growth.{IsSyncTimed, sync_frames, sync_goes}

@@ -6,7 +6,8 @@ use Rattle.mobile_core.proofs.Common.{legs_at, legs_by, messages_at, moment_plac
 use Rattle.mobile_core.proofs.Common.{FollowsTraffic, HearsFrames, IsUnheard, traffic_left, traffic_events_left, HearsTraffic, HearsWith}
 use Rattle.mobile_core.proofs.Common.{IsSoundTraffic, IsTrafficDue, at_of, ◌∷◌, kept_in, next_end, noted_by, sets_left_of, traffic_heard}
 use Rattle.mobile_core.proofs.Common.{WaitsAt, traffic_left_of, told_left_with, Tuning, Event, Leg, Mark, Traffic, TrafficReceiver}
-use Rattle.heard_events.proofs.FollowedEvents.{told_behind}
+use Rattle.mobile_core.proofs.Common.{option_map, told_behind}
+use Rattle.heard_events.specs.declared.channel.Channel.TheVariants.{Traffic as OnTraffic}
 use Rattle.mobile_core.proofs.FramesHeard.{none_come, none_kept, told_go}
 use Rattle.mobile_core.proofs.FramesTold.{hears_noted}
 use Rattle.heard_events.proofs.GoesOn.{GoesOn, both, goes_as, never}
@@ -23,10 +24,10 @@ all_told t traffic m samples n =
 
 pub unheard : (t : Tuning) (followed : Option Traffic) (mark : Option Mark)
     (samples : List Sample) (n : ℕ) → IsUnheard followed mark →
-    told_behind t followed mark samples n ≡ []
+    told_behind t (option_map OnTraffic followed) mark samples n ≡ []
 unheard t None mark samples n h = refl
 unheard t (Some traffic) mark samples n h =
-    ap (λ (x : Option Mark). told_behind t (Some traffic) x samples n) h
+    ap (λ (x : Option Mark). told_behind t (Some (OnTraffic traffic)) x samples n) h
 
 -- THE RECEIVER
 -- how many moments lie before a number of samples
@@ -169,7 +170,8 @@ module _ {t : Tuning} {assigned : Option Traffic} {mark : Option Mark} {r : Traf
   left_is samples after = rw (st.traffic_is, st.set_is) refl
 
   told_is : (samples : List Sample) (n : ℕ) →
-      told_behind t assigned mark samples n ≡ all_told t st.traffic st.set samples n
+      told_behind t (option_map OnTraffic assigned) mark samples n
+      ≡ all_told t st.traffic st.set samples n
   told_is samples n = rw (st.traffic_is, st.set_is) refl
 
   -- what was due first has been heard
@@ -205,10 +207,10 @@ module _ (t : Tuning) (assigned : Option Traffic) (mark : Option Mark) (heard : 
   pub frames_go : (receiver : Option TrafficReceiver) → HearsFrames t assigned mark receiver heard pages →
       ForSome receiver IsSoundTraffic → ¬ IsSomeAnd receiver IsTrafficDue → (end : ℕ) →
       ForSome receiver (λ r. end ≤ next_end r) →
-      GoesOn (told_behind t assigned mark) (λ samples. traffic_events_left t assigned mark samples receiver)
-      heard end
+      GoesOn (told_behind t (option_map OnTraffic assigned) mark)
+      (λ samples. traffic_events_left t assigned mark samples receiver) heard end
   frames_go None behind sound none end ends =
-      never (told_behind t assigned mark)
+      never (told_behind t (option_map OnTraffic assigned) mark)
       (λ samples n. unheard t assigned mark samples n behind) heard end
   frames_go (Some r) behind sound none end ends =
       goes_as (receiver_goes behind.hears (sound r refl) none end (ends r refl)) (told_is behind)

@@ -3,7 +3,7 @@ use Rattle.mobile_core.proofs.Common.{◌≡◌, ℕ, ◌+◌, ◌^◌, ◌<◌,
 use Rattle.mobile_core.proofs.Common.{Some, None, IfSome, is_some, nat_lt, ForSome, option_to_list, cases_lt, map-append, Sample, IsDueAt}
 use Rattle.mobile_core.proofs.Common.{page_event, pages_behind, FollowsPages, HearsPages, IsUnpaged, paging_left, paging_events_left}
 use Rattle.mobile_core.proofs.Common.{HearsBit, HearsPaging, IsSoundPaging, IsSomeAnd, bits_heard, subst, pages_left, Tuning, Event, Mark}
-use Rattle.mobile_core.proofs.Common.{PagingReceiver, SpelledPage}
+use Rattle.mobile_core.proofs.Common.{Paging, PagingReceiver, SpelledPage, told_behind}
 use Rattle.reception.proofs.ClockSteps.{before_next, from_next}
 use Rattle.heard_events.proofs.Arrivals.{none_between}
 use Rattle.heard_events.proofs.GoesOn.{GoesOn, goes_as, mapped, never}
@@ -14,6 +14,12 @@ use Rattle.mobile_core.proofs.PagesHeard as pages
 -- the events of the messages that are known when just n samples have been taken
 abbrev pub paged_behind : Tuning → Option Mark → List Sample → ℕ → List Event
 paged_behind t mark samples n = map (page_event n) (pages_behind t t.paging mark samples n)
+
+-- they are what is told of the channel
+pub told_paged : (t : Tuning) (mark : Option Mark) (samples : List Sample) (n : ℕ) →
+    told_behind t (Some (Paging t.paging)) mark samples n ≡ paged_behind t mark samples n
+told_paged t None samples n = refl
+told_paged t (Some m) samples n = refl
 
 unpaged : (t : Tuning) (mark : Option Mark) → IsUnpaged mark → (samples : List Sample) (n : ℕ) →
     pages_behind t t.paging mark samples n ≡ []

@@ -3,9 +3,8 @@ use Rattle.mobile_core.proofs.Common.{◌≡◌, ℕ, ◌+◌, ◌<◌, ◌≤�
 use Rattle.mobile_core.proofs.Common.{Option, Some, None, Bool, true, IsTrue, is_some, list_any, ForSome, append_assoc, list_any-append}
 use Rattle.mobile_core.proofs.Common.{Sample, Best, Held, HoldsLast, IsDueAt, events, EndFrom, HearsFollowed, IsFollowedDue}
 use Rattle.mobile_core.proofs.Common.{CheckForm, WaitFrom, followed_events_left, listed, pilot_left, sync_events_left}
-use Rattle.mobile_core.proofs.Common.{sets_mark, AreNear, SetsMark, paging_events_left, IsSoundSync, IsDueIn, Stands, left_of, HearsSync}
-use Rattle.mobile_core.proofs.Common.{HearsNext}
-use Rattle.mobile_core.proofs.Common.{traffic_events_left, Tuning, sync_stream, Event, Pilot, Followed, Mark, SyncReceiver, ◌||◌}
+use Rattle.mobile_core.proofs.Common.{sets_mark, AreNear, SetsMark, IsSoundSync, IsDueIn, Stands, left_of, HearsSync, HearsNext}
+use Rattle.mobile_core.proofs.Common.{Tuning, sync_stream, Event, Pilot, Followed, Mark, SyncReceiver, ◌||◌}
 use Rattle.std.proofs.lemmas.List.{append-nil}
 use Rattle.mobile_core.proofs.ChannelsFollowed.{ends_later, followed_more, goes_on}
 use Rattle.reception.proofs.ClockSteps.{before_next, from_next, due_inside}
@@ -36,7 +35,7 @@ was_told (Some best) none = absurd (none refl)
 pub stands_new : {t : Tuning} {pilot : Option Best} {ring : Held} {sync : SyncReceiver}
     {followed : Followed} → pilot_left pilot ≡ Pilot t.phase t.energy ∷ [] →
     HoldsLast ring [] → HearsSync t sync [] → HearsFollowed t followed None [] →
-    IsSoundSync sync → sync.mark ≡ None → (followed.paging ≡ None) × (followed.traffic ≡ None) →
+    IsSoundSync sync → sync.mark ≡ None → followed_events_left t None [] followed ≡ [] →
     Stands t t.count t.check30 pilot ring sync followed [] []
 stands_new {t} {sync = sync} {followed = followed} untold holds hears follows sound unset closed =
     let clock = sync.received.clock in
@@ -44,8 +43,6 @@ stands_new {t} {sync = sync} {followed = followed} untold holds hears follows so
     let near = subst AreNear hears.receives.fingers_are sound.channel.near in
     let left = (sync_goes t clock.low is.timed clock.next [] 1 (before_next is)
     (λ k above. none_known t clock.low is.timed k (omega arith))).given (omega arith) in
-    let pages = ap (paging_events_left t sync.mark []) closed.0 in
-    let frames = ap (traffic_events_left t t.traffic sync.mark []) closed.1 in
     record {
       count_is = refl;
       check_is = refl;
@@ -54,7 +51,7 @@ stands_new {t} {sync = sync} {followed = followed} untold holds hears follows so
       sync = hears;
       followed = subst (λ (m : Option Mark). HearsFollowed t followed m []) (sym unset) follows;
       noted = ap is_some unset;
-      told = rw (untold, left, pages, frames)
+      told = rw (untold, left, unset, closed)
           (ap (λ (es : List Event). Pilot t.phase t.energy ∷ es)
           (sym (heard_none t clock.low is.timed near)));
     }

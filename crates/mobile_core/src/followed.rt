@@ -32,7 +32,7 @@ pub(crate) struct Followed {
 
 impl Followed {
     ghost use Rattle.std.specs.Prelude.{◌≡◌, ◌<◌, ◌≤◌, ◌↔◌, ◌++◌, ℕ, IsTrue, IfSome, List, length};
-    ghost use Rattle.std.specs.Prelude.{take, slice_get, Some, None, pos, Option};
+    ghost use Rattle.std.specs.Prelude.{[], take, slice_get, Some, None, pos, Option};
     ghost use Rattle.std.specs.Option.{ForSome, option_map_or};
     ghost use Rattle.chip_core.specs.declared.assignment.Traffic.{Traffic as TheTraffic};
     ghost use Rattle.chip_core.specs.declared.sample.Sample.{Sample};
@@ -63,7 +63,7 @@ impl Followed {
         ensures hears { (t : Tuning) (heard : List Sample) → t.paging ≡ settings.now.paging →
             t.traffic ≡ settings.now.traffic → t.phase ≡ phase →
             t.deltas ≡ take near.count near.deltas → t.check16 ≡ settings.now.check16 →
-            HearsFollowed t result None heard }
+            HearsFollowed t result None heard × (followed_events_left t None heard result ≡ []) }
     {
         Followed {
             channel: settings.paging,

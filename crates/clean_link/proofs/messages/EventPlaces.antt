@@ -1,26 +1,23 @@
 -- Events that are gathered over numbers of samples, told apart by their places again.
 use Rattle.clean_link.proofs.Common.{◌≡◌, ℕ, zero, suc, ◌+◌, ◌<◌, ◌≤◌, true, false, List, [], ◌∷◌, ◌++◌, filter, refl, sym, ap, ◌∙◌, arith}
 use Rattle.clean_link.proofs.Common.{inl, inr, flat_map, range_with_len, cases_order, eq-eqb, ne_eqb, append-nil, filter-append, places}
-use Rattle.clean_link.proofs.Common.{at_of, Event, AreAt, flat_map_ext_places, by_places, is_at}
+use Rattle.clean_link.proofs.Common.{at_of, Event, AreAt, IsAt, All-head, All-tail, flat_map_ext_places, by_places, is_at}
+use Rattle.clean_link.proofs.traffic.Steady.{left_all, right_all}
 
 -- ---- events of one number of samples
 kept_here : (n : ℕ) (es : List Event) → AreAt n es → filter (is_at n) es ≡ es
 kept_here n [] here = refl
 kept_here n (e ∷ es) here =
-    let same : is_at n e ≡ true = eq-eqb (at_of e) n here.0 in
-    rw same (ap (λ (xs : List Event). e ∷ xs) (kept_here n es here.1))
+    let same : is_at n e ≡ true = eq-eqb (at_of e) n (All-head (IsAt n) e es here) in
+    rw same
+    (ap (λ (xs : List Event). e ∷ xs) (kept_here n es (All-tail (IsAt n) e es here)))
 
 left_out : (n k : ℕ) (es : List Event) → ¬ (k ≡ n) → AreAt k es → filter (is_at n) es ≡ []
 left_out n k [] other there = refl
 left_out n k (e ∷ es) other there =
-    let off : is_at n e ≡ false = ne_eqb (at_of e) n (λ same. other (sym there.0 ∙ same)) in
-    rw off (left_out n k es other there.1)
-
--- those of two channels
-pub at_both : (n : ℕ) (one other : List Event) → AreAt n one → AreAt n other →
-    AreAt n (one ++ other)
-at_both n [] other here there = there
-at_both n (e ∷ one) other here there = (here.0, at_both n one other here.1 there)
+    let here = All-head (IsAt k) e es there in
+    let off : is_at n e ≡ false = ne_eqb (at_of e) n (λ same. other (sym here ∙ same)) in
+    rw off (left_out n k es other (All-tail (IsAt k) e es there))
 
 -- ---- those of one number among those of many
 none_at : (f : ℕ → List Event) (n a len : ℕ) → ((k : ℕ) → AreAt k (f k)) → n < a →
@@ -49,11 +46,13 @@ found_at f n a (suc len) each low below =
 
 -- what two channels give at each number, from the lists of what each gives
 pub gathered_by_places : (f g : ℕ → List Event) (count : ℕ) (one other : List Event) →
-    ((k : ℕ) → AreAt k (f k)) → ((k : ℕ) → AreAt k (g k)) →
-    flat_map f (places (count + 1)) ≡ one → flat_map g (places (count + 1)) ≡ other →
+    ((k : ℕ) → AreAt k (f k ++ g k)) → flat_map f (places (count + 1)) ≡ one →
+    flat_map g (places (count + 1)) ≡ other →
     flat_map (λ n. f n ++ g n) (places (count + 1)) ≡ by_places count one other
 unfolding places
-gathered_by_places f g count one other fs gs one_is other_is =
+gathered_by_places f g count one other each one_is other_is =
+    let fs = λ (k : ℕ). left_all (IsAt k) (f k) (g k) (each k) in
+    let gs = λ (k : ℕ). right_all (IsAt k) (f k) (g k) (each k) in
     rw (← one_is, ← other_is)
     (flat_map_ext_places (λ n. f n ++ g n) _ (count + 1)
     (λ n below.

@@ -6,7 +6,7 @@ use Rattle.clean_link.proofs.Common.{message_events_at, paging_events_at, sets_e
 use Rattle.clean_link.proofs.Common.{legs_at, messages_at, moment_events, moment_place, moments_before, passed, sets_at, page_event}
 use Rattle.clean_link.proofs.Common.{pages_behind, message_at, message_events, message_heard, messages_by, signal_in, known_now, events_of}
 use Rattle.clean_link.proofs.Common.{heard_at, sync_events_at, with_message, frame_heard, frames_by, if_followed, frames_now, Tuning}
-use Rattle.clean_link.proofs.Common.{sync_bound, sync_stream, Event, Leg, Mark, Traffic, is_frame, is_message, is_page, is_sync}
+use Rattle.clean_link.proofs.Common.{sync_bound, sync_stream, all_each, events_at_all, Event, Leg, Mark, Traffic, is_frame, is_message, is_page, is_sync}
 use Rattle.clean_link.proofs.Common.{type_within}
 use Rattle.heard_events.specs.declared.event.Event.TheVariants.{Frame, Paging, Pilot, Sets, Sync, Traffic as OnTraffic}
 
@@ -32,12 +32,6 @@ ReadSignal = type_within (signal_in Plain None)
 
 -- ---- the lists of a number of samples
 
-all_in : (kind : ℕ) (f : ℕ → List Event) (ks : List ℕ) → ((k : ℕ) → All (IsKind kind) (f k)) →
-    All (IsKind kind) (flat_map f ks)
-all_in kind f [] each = All-nil (IsKind kind)
-all_in kind f (k ∷ ks) each =
-    All-append (IsKind kind) (f k) (flat_map f ks) (each k) (all_in kind f ks each)
-
 told_kind : (n : ℕ) (told : Option ReadMessage) → All (IsKind 1) (events_of n told)
 told_kind n None = All-nil (IsKind 1)
 told_kind n (Some told) = All-cons (IsKind 1) _ [] refl (All-nil (IsKind 1))
@@ -46,7 +40,7 @@ pub sync_kind : (t : Tuning) (samples : List Sample) (n : ℕ) →
     All (IsKind 1) (sync_events_at t samples n)
 unfolding sync_events_at
 sync_kind t samples n =
-    all_in 1 (λ k. events_of n (heard_at t samples k))
+    all_each (IsKind 1) (λ k. events_of n (heard_at t samples k))
     (known_now t.count (sync_stream t) n (sync_bound n)) (λ k. told_kind n (heard_at t samples k))
 
 pub paging_kind : (t : Tuning) (samples : List Sample) (n : ℕ) →
@@ -85,7 +79,7 @@ messages_kind : (t : Tuning) (traffic : Traffic) (m : Mark) (legs : ℕ → List
     (samples : List Sample) (n : ℕ) → All (IsKind 4) (messages_by t traffic m legs samples n)
 unfolding messages_by
 messages_kind t traffic m legs samples n =
-    all_in 4 (message_heard t traffic m legs samples n) (frames_now t traffic m legs n)
+    all_each (IsKind 4) (message_heard t traffic m legs samples n) (frames_now t traffic m legs n)
     (λ k. signal_kind n (message_at t traffic m legs samples k))
 
 message_kind : (t : Tuning) (samples : List Sample) (n : ℕ) →
@@ -185,14 +179,14 @@ module _ (t : Tuning) (samples : List Sample) (n : ℕ) where
       ++ ((if nat_eq 3 own then frame_events_at t samples n else [])
       ++ ((if nat_eq 4 own then message_events_at t samples n else [])
       ++ (if nat_eq 5 own then sets_events_at t samples n else []))))
-  unfolding events_at
   left_at test own by =
       let left : (kind : ℕ) (es : List Event) → All (IsKind kind) es →
       filter test es ≡ (if nat_eq kind own then es else []) =
       λ kind es are.
       left_of test kind (nat_eq kind own) es
       (λ e same. by e ∙ ap (λ (k : ℕ). nat_eq k own) same) are in
-      left_of_five test _ _ _ _ _ _ _ _ _ _ (left 1 _ (sync_kind t samples n))
+      ap (filter test) (events_at_all t samples n)
+      ∙ left_of_five test _ _ _ _ _ _ _ _ _ _ (left 1 _ (sync_kind t samples n))
       (left 2 _ (paging_kind t samples n)) (left 3 _ (frame_kind t samples n))
       (left 4 _ (message_kind t samples n)) (left 5 _ (sets_kind t samples n))
 

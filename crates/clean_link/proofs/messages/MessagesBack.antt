@@ -6,12 +6,13 @@ use Rattle.clean_link.proofs.Common.{inr, nat_lt, Option, None, Some, ℤ, pos, 
 use Rattle.clean_link.proofs.Common.{map-append, places, CheckForm, Sample, Width, made_samples, told_superframes, phase_at, CellPlan}
 use Rattle.clean_link.proofs.Common.{SyncPlan, events, events_at, frame_events_at, heard_within, message_events_at, paging_events_at}
 use Rattle.clean_link.proofs.Common.{sets_events_at, mark, page_event, pages_at, pages_behind, sync_events_at, Tuning, Event, Pilot, Mark}
-use Rattle.clean_link.proofs.Common.{AreAt, messages_at_end, paging_at, sets_at_end, sync_at, traffic_at, by_one_mark, pages_from_mark}
+use Rattle.clean_link.proofs.Common.{AreAt, IsAt, all_at, by_one_mark, events_at_all, pages_from_mark}
 use Rattle.clean_link.proofs.Common.{flat_map_ext_places, IsNotDirected, IsOnPath, IsTunedTo, sync_sent, tuning_to, whole_sendings}
 use Rattle.clean_link.proofs.Common.{IsReceivable, ReadPage, known_page, pages_sent, pages_within, FollowsSent, WholeMessagesComeBack}
 use Rattle.clean_link.proofs.Common.{known_event, paging_sent, pages_behind_mark, pages_with_sync, sent_events, by_places, sets_heard}
-use Rattle.clean_link.proofs.Common.{signaling_sent, told_by_first, traffic_sent}
-use Rattle.clean_link.proofs.messages.EventPlaces.{at_both, gathered_by_places}
+use Rattle.clean_link.proofs.Common.{signaling_sent, subst, told_by_first, traffic_sent}
+use Rattle.clean_link.proofs.messages.EventPlaces.{gathered_by_places}
+use Rattle.clean_link.proofs.traffic.Steady.{right_all}
 use Rattle.clean_link.proofs.marks.FirstMark.{mark_of_first, unset_without}
 use Rattle.clean_link.proofs.marks.MarksTrue.{marks_rate, marks_true, time_of, unmarked}
 use Rattle.clean_link.proofs.pages.Back.{pages_back}
@@ -210,15 +211,16 @@ module _ (width : Width) (plan : CellPlan) (t : Tuning) (is : IsReceivable width
   abbrev data_known : ℕ → List Event
   data_known n = paging_events_at t samples n ++ traffic_known n
 
-  messages_known_at : (n : ℕ) → AreAt n (messages_known n)
-  messages_known_at n =
-      at_both n (message_events_at t samples n) (sets_events_at t samples n)
-      (messages_at_end t samples n) (sets_at_end t samples n)
+  -- all of them end there
+  known_at : (n : ℕ) → AreAt n (sync_events_at t samples n ++ data_known n)
+  known_at n = subst (AreAt n) (events_at_all t samples n) (all_at t samples n)
+
+  data_known_at : (n : ℕ) → AreAt n (data_known n)
+  data_known_at n = right_all (IsAt n) (sync_events_at t samples n) (data_known n) (known_at n)
 
   traffic_known_at : (n : ℕ) → AreAt n (traffic_known n)
   traffic_known_at n =
-      at_both n (frame_events_at t samples n) (messages_known n) (traffic_at t samples n)
-      (messages_known_at n)
+      right_all (IsAt n) (paging_events_at t samples n) (traffic_known n) (data_known_at n)
 
   -- what comes back of them
   abbrev messages_told : List Event
@@ -233,14 +235,15 @@ module _ (width : Width) (plan : CellPlan) (t : Tuning) (is : IsReceivable width
   known_back =
       gathered_by_places (message_events_at t samples) (sets_events_at t samples) count
       (signaling_sent plan t.traffic) (sets_heard plan t.energy t.paging t.traffic)
-      (messages_at_end t samples) (sets_at_end t samples)
+      (λ n.
+      right_all (IsAt n) (frame_events_at t samples n) (messages_known n) (traffic_known_at n))
       (messages_all width plan t is tuned.path not_directed follows) (sets_all plan t tuned.path)
 
   -- with the traffic channel's frames
   traffic_back : flat_map traffic_known (places (count + 1)) ≡ traffic_told
   traffic_back =
       gathered_by_places (frame_events_at t samples) messages_known count
-      (traffic_sent plan t.traffic) messages_told (traffic_at t samples) messages_known_at
+      (traffic_sent plan t.traffic) messages_told traffic_known_at
       (frames_all width plan t is tuned.path not_directed follows) known_back
 
   -- with the paging channel
@@ -248,22 +251,23 @@ module _ (width : Width) (plan : CellPlan) (t : Tuning) (is : IsReceivable width
       ≡ by_places count (paging_sent plan t.paging) traffic_told
   data_back =
       gathered_by_places (paging_events_at t samples) traffic_known count
-      (paging_sent plan t.paging) traffic_told (paging_at t samples) traffic_known_at
+      (paging_sent plan t.paging) traffic_told data_known_at
       (pages_all width plan t is tuned) traffic_back
 
   -- and with the sync channel
-  all_back : flat_map (λ n. sync_events_at t samples n ++ data_known n) (places (count + 1))
+  all_back : flat_map (events_at t samples) (places (count + 1))
       ≡ by_places count (sync_sent plan)
       (by_places count (paging_sent plan t.paging) traffic_told)
   all_back =
-      gathered_by_places (sync_events_at t samples) data_known count (sync_sent plan)
-      (by_places count (paging_sent plan t.paging) traffic_told)
-      (sync_at t samples)
-      (λ n. at_both n (paging_events_at t samples n) (traffic_known n) (paging_at t samples n)
-      (traffic_known_at n)) (sendings_back width plan t is tuned.path) data_back
+      flat_map_ext_places (events_at t samples)
+      (λ n. sync_events_at t samples n ++ data_known n) (count + 1)
+      (λ n below. events_at_all t samples n)
+      ∙ gathered_by_places (sync_events_at t samples) data_known count (sync_sent plan)
+      (by_places count (paging_sent plan t.paging) traffic_told) known_at
+      (sendings_back width plan t is tuned.path) data_back
 
 pub messages_back : WholeMessagesComeBack
-unfolding heard_within events_at sent_events
+unfolding heard_within sent_events
 messages_back width plan t is tuned follows not_directed =
     let heard : ℕ → List Event =
     λ n. flat_map (events_at t (made_samples plan)) (places (n + 1)) in

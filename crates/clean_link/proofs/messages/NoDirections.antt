@@ -2,7 +2,8 @@
 use Rattle.clean_link.proofs.Common.{◌≡◌, ℕ, ◌+◌, ◌≤◌, List, ◌++◌, length, refl, sym, arith, All-weaker, ◌≢◌, Option, Some, All, All-append}
 use Rattle.clean_link.proofs.Common.{All-cons, All-nil, All-same, places, Sample, Width, made_samples, CellPlan, events_at, frame_events_at}
 use Rattle.clean_link.proofs.Common.{heard_within, message_events_at, paging_events_at, sets_events_at, mark, messages_at, sync_events_at}
-use Rattle.clean_link.proofs.Common.{if_followed, Tuning, Event, Pilot, Mark, Traffic, by_one_mark, messages_from_mark, IsNotDirected}
+use Rattle.clean_link.proofs.Common.{if_followed, Tuning, Event, Pilot, Mark, Traffic, by_one_mark, events_at_all, messages_from_mark}
+use Rattle.clean_link.proofs.Common.{IsNotDirected}
 use Rattle.clean_link.proofs.Common.{IsOnPath, IsReceivable, messages_of_channel, messages_sent, FollowsSent, NoEventIsDirected}
 use Rattle.clean_link.proofs.Common.{signaling_sent}
 use Rattle.heard_events.specs.declared.event.Event.TheVariants.{Traffic as OnTraffic}
@@ -57,21 +58,21 @@ module _ (width : Width) (plan : CellPlan) (t : Tuning) (is : IsReceivable width
         (behind_last t.traffic (mark t samples t.count) refl follows none n most)
 
     all_undirected : (n : ℕ) → n ≤ plan.link.samples → All IsNotDirected (events_at t samples n)
-    unfolding events_at
     all_undirected n most =
         let sync = sync_events_at t samples n in
         let paging = paging_events_at t samples n in
         let frames = frame_events_at t samples n in
         let messages = message_events_at t samples n in
         let sets = sets_events_at t samples n in
-        All-append IsNotDirected sync (paging ++ (frames ++ (messages ++ sets)))
+        All-same IsNotDirected (events_at t samples n) _ (events_at_all t samples n)
+        (All-append IsNotDirected sync (paging ++ (frames ++ (messages ++ sets)))
         (none_of_kind 1 sync (omega arith) (sync_kind t samples n))
         (All-append IsNotDirected paging (frames ++ (messages ++ sets))
         (none_of_kind 2 paging (omega arith) (paging_kind t samples n))
         (All-append IsNotDirected frames (messages ++ sets)
         (none_of_kind 3 frames (omega arith) (frame_kind t samples n))
         (All-append IsNotDirected messages sets (messages_undirected n most)
-        (none_of_kind 5 sets (omega arith) (sets_kind t samples n)))))
+        (none_of_kind 5 sets (omega arith) (sets_kind t samples n))))))
 
 -- ---- the law
 

@@ -2,7 +2,7 @@
 use Rattle.clean_link.proofs.Common.{◌≡◌, ℕ, ◌+◌, ◌≤◌, List, ◌++◌, length, take, drop, sym, ap, ◌∙◌, arith, subst, Option, Some, All}
 use Rattle.clean_link.proofs.Common.{All-tail, length-take-le, take-append-drop, places, Sample, new_standing, events, events_at}
 use Rattle.clean_link.proofs.Common.{heard_within, message_events_at, frame_events_at, paging_events_at, sets_events_at, legs_of, mark}
-use Rattle.clean_link.proofs.Common.{frames_at, legs_at, messages_at, messages_behind, AreNear, messages_by, sync_events_at, frames_by}
+use Rattle.clean_link.proofs.Common.{frames_at, legs_at, messages_at, events_at_all, AreNear, messages_by, sync_events_at, frames_by}
 use Rattle.clean_link.proofs.Common.{if_followed, Tuning, sync_stream, Event, Pilot, Leg, Mark, Traffic, frames_sooner, by_one_mark}
 use Rattle.clean_link.proofs.Common.{messages_from_mark, messages_sooner, IsNotDirected, IsOnePilot, IsUndirected}
 use Rattle.clean_link.proofs.frames.SyncTimes.{one_path}
@@ -53,7 +53,7 @@ module _ (t : Tuning) (near : AreNear (sync_stream t).fingers) (samples : List S
     (none : All IsNotDirected (events t samples)) where
   -- those of each number of samples
   there : (n : ℕ) → n ≤ length samples → All IsNotDirected (message_events_at t samples n)
-  unfolding heard_within events_at places
+  unfolding heard_within places
   there n few =
       let all = each_of_all IsNotDirected (events_at t samples) 0 (length samples + 1) n
       (omega arith) (omega (arith, few))
@@ -66,7 +66,8 @@ module _ (t : Tuning) (near : AreNear (sync_stream t).fingers) (samples : List S
       left_all IsNotDirected messages sets
       (right_all IsNotDirected frames (messages ++ sets)
       (right_all IsNotDirected paging (frames ++ (messages ++ sets))
-      (right_all IsNotDirected sync (paging ++ (frames ++ (messages ++ sets))) all)))
+      (right_all IsNotDirected sync (paging ++ (frames ++ (messages ++ sets)))
+      (subst (All IsNotDirected) (events_at_all t samples n) all))))
 
   -- by the mark of all samples
   pub undirected_behind : (traffic : Traffic) (m : Mark) → t.traffic ≡ Some traffic →
@@ -75,7 +76,7 @@ module _ (t : Tuning) (near : AreNear (sync_stream t).fingers) (samples : List S
   unfolding message_events_at
   undirected_behind traffic m followed set n few =
       let heard : Traffic → Mark → List Event = λ traffic m. messages_at t traffic m samples n in
-      let is : messages_behind t t.traffic (mark t samples n) samples n
+      let is : if_followed heard t.traffic (mark t samples n)
       ≡ messages_at t traffic m samples n =
       by_one_mark t near samples n (length samples) n _ few (omega arith)
       (messages_from_mark t near t.traffic samples n)

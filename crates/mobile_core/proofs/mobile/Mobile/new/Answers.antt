@@ -7,5 +7,6 @@ returns-clause-stands c =
     let t = tuning_by c.args.settings c.args.best c.args.near in
     let sync = c.new-3.ensures in
     let followed = c.new-4.ensures in
-    stands_new refl c.in_ok-new.ensures.holds (sync.hears t refl refl)
-    (followed.hears t [] refl refl refl refl refl) sync.sound sync.unmarked followed.closed
+    let (follows, none_left) = followed.hears t [] refl refl refl refl refl in
+    stands_new refl c.in_ok-new.ensures.holds (sync.hears t refl refl) follows sync.sound
+    sync.unmarked none_left
