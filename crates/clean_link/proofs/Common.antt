@@ -108,19 +108,19 @@ pub use Rattle.long_code.proofs.Period.{IsState-after, IsState-before, after-inj
 pub use Rattle.long_code.specs.LongCode.{IsState, after, paging_mask}
 unfoldable pub use Rattle.long_code.specs.LongCode.{long_chip, traffic_mask}
 pub use Rattle.heard_events.proofs.EventPlaces.{AreAt, IsAt, all_at, all_each}
-pub use Rattle.heard_events.proofs.EventsGrown.{events_at_all}
 pub use Rattle.rake_finger.proofs.FingerTimes.{timed_in}
 pub use Rattle.heard_events.proofs.FrameBounds.{AreCloseAll}
 pub use Rattle.heard_events.proofs.TrafficGrowth.{frames_sooner, messages_sooner}
 pub use Rattle.rake_finger.proofs.FrameTimes.{known_between, known_le}
 pub use Rattle.heard_events.proofs.LegLists.{map_same}
 pub use Rattle.heard_events.proofs.MarkGrowth.{mark_is}
-pub use Rattle.heard_events.proofs.MarkStays.{by_one_mark, frames_from_mark, messages_from_mark, pages_from_mark, pilot_alone}
+pub use Rattle.heard_events.proofs.MarkStays.{OpensBehind, by_one_mark, frames_later, messages_later, opens_followed}
+pub use Rattle.heard_events.proofs.MarkStays.{pages_from_mark, pilot_alone}
 pub use Rattle.heard_events.proofs.MomentGrowth.{kept_new, kept_old}
 pub use Rattle.rake_finger.specs.Near.{AreClose, AreNear}
 pub use Rattle.heard_events.specs.Events.{events}
-unfoldable pub use Rattle.heard_events.specs.Events.{events_at, frame_events_at, heard_within, message_events_at, paging_events_at}
-unfoldable pub use Rattle.heard_events.specs.Events.{sets_events_at}
+pub use Rattle.heard_events.specs.Events.{told_behind}
+unfoldable pub use Rattle.heard_events.specs.Events.{events_at, heard_within}
 pub use Rattle.heard_events.specs.FramesAlone.{traffic_channel}
 pub use Rattle.heard_events.specs.Given.{at_of}
 pub use Rattle.heard_events.specs.Legs.{all_fingers, leg_of, legs_of, pilot_finger, subchannels}
@@ -268,6 +268,7 @@ pub use Rattle.clean_link.specs.PagingLaws.{SilentPagingFramesAreZeros, SilentPa
 pub use Rattle.clean_link.specs.ReceivedFrames.{AreReceived, IsDistinctFrame2, IsReceivedAs, IsSentFrame2, cycled_frame2, codeword_symbols2}
 pub use Rattle.clean_link.specs.ReceivedLaws.{EachFrameIsReceived, FramesBehindMark, FramesShowPowerBits, FramesShowSymbols, SetOneSends}
 pub use Rattle.clean_link.specs.ReceivedLaws.{SetTwoBehindMark, SetTwoFramesComeBack, SetTwoSends}
+unfoldable pub use Rattle.clean_link.specs.EventKinds.{frame_events_at, message_events_at, paging_events_at, sets_events_at}
 pub use Rattle.clean_link.specs.SentEvents.{FollowsSent, NoEventIsDirected, WholeMessagesComeBack, by_places, is_at, known_event}
 pub use Rattle.clean_link.specs.SentEvents.{pages_behind_mark, pages_with_sync, told_by_first, told_followed, told_with_sync}
 unfoldable pub use Rattle.clean_link.specs.SentEvents.{paging_sent, sent_events, sets_heard, signaling_sent, traffic_sent}

@@ -2,6 +2,7 @@
 pub mod Symbols
 pub mod OnePilot
 pub mod Steady
+pub mod ByKinds
 pub mod Undirected
 pub mod Times
 pub mod Signs

@@ -4,6 +4,7 @@ pub mod CleanLink
 pub mod DistinctFrames
 pub mod DistinctPlan
 pub mod DistinctWorked
+pub mod EventKinds
 pub mod HeardEach
 pub mod HeardFrames
 pub mod HeardPages

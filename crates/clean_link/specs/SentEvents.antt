@@ -11,7 +11,8 @@ use Rattle.cell_plan.specs.Transmitter.{phase_at}
 use Rattle.cell_plan.specs.declared.plan.CellPlan.{CellPlan}
 use Rattle.cell_plan.specs.declared.plan.SyncPlan.{SyncPlan}
 use Rattle.cell_plan.specs.declared.plan.TrafficPlan.{TrafficPlan}
-use Rattle.heard_events.specs.Events.{events, sets_events_at}
+use Rattle.clean_link.specs.EventKinds.{sets_events_at}
+use Rattle.heard_events.specs.Events.{events}
 use Rattle.heard_events.specs.Given.{at_of}
 use Rattle.heard_events.specs.Tuning.{Tuning}
 use Rattle.heard_events.specs.declared.event.Event.{Event}

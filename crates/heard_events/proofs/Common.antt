@@ -81,8 +81,7 @@ pub use Rattle.viterbi.specs.Codewords.{Codeword, best_codeword}
 pub use Rattle.viterbi.specs.declared.codeword.Ends.TheVariants.{Free}
 pub use Rattle.heard_events.specs.Channels.{channel_stream, has_power_control, mask_of, offset_of, row_of, state_at}
 pub use Rattle.heard_events.specs.Events.{events_within}
-unfoldable pub use Rattle.heard_events.specs.Events.{events_at, frame_events_at, heard_within, message_events_at, paging_events_at}
-unfoldable pub use Rattle.heard_events.specs.Events.{sets_events_at}
+unfoldable pub use Rattle.heard_events.specs.Events.{events_at, heard_within}
 pub use Rattle.heard_events.specs.Events.{channels, followed_behind, told_behind, told_on}
 pub use Rattle.heard_events.specs.FramesAlone.{reference_alone, traffic_channel}
 pub use Rattle.heard_events.specs.Given.{at_of}

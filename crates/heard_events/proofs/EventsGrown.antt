@@ -1,10 +1,8 @@
 -- How the events of a file grow with its samples.
-use Rattle.heard_events.proofs.Common.{◌≡◌, ℕ, ◌+◌, ◌≤◌, List, [], ◌∷◌, ◌++◌, length, refl, sym, ap, ◌∙◌, arith, map, Option, Some, None, nat_lt}
-use Rattle.heard_events.proofs.Common.{if◌then◌else◌, append_assoc, append-nil, option_map, Sample, events_at, frame_events_at, message_events_at}
-use Rattle.heard_events.proofs.Common.{paging_events_at, sets_events_at, mark, AreNear, frames_at, messages_at, sets_at, moments_before}
-use Rattle.heard_events.proofs.Common.{page_event, pages_behind, sync_events_at, if_followed, Tuning, sync_stream, Event, Mark, Traffic}
-use Rattle.heard_events.proofs.Common.{flat_map, flat_map-places-more, heard_within, Channel, Paging, channels, followed_behind, told_behind}
-use Rattle.heard_events.proofs.Common.{told_on}
+use Rattle.heard_events.proofs.Common.{◌≡◌, ℕ, ◌+◌, ◌≤◌, List, [], ◌∷◌, ◌++◌, length, refl, sym, ap, ◌∙◌, arith, map, Option, Some}
+use Rattle.heard_events.proofs.Common.{None, nat_lt, if◌then◌else◌, Sample, events_at, mark, AreNear, moments_before, page_event, sync_events_at, Tuning}
+use Rattle.heard_events.proofs.Common.{sync_stream, Mark, flat_map, flat_map-places-more, heard_within, Channel, Paging, channels}
+use Rattle.heard_events.proofs.Common.{followed_behind, told_behind, told_on}
 use Rattle.heard_events.specs.declared.channel.Channel.TheVariants.{Traffic as OnTraffic}
 use Rattle.heard_events.proofs.Growth.{IsSyncTimed}
 use Rattle.heard_events.proofs.PageGrowth.{pages_sooner}
@@ -14,33 +12,6 @@ use Rattle.heard_events.proofs.MomentGrowth.{first_same, kept_sooner, sets_soone
 use Rattle.chip_core.proofs.Places.{places-none}
 use Rattle.heard_events.proofs.Growth as growth
 use Rattle.heard_events.proofs.MarkStays as stays
-
--- of what is followed from the mark on, what ends at n is told by its kinds
-pub events_at_all : (t : Tuning) (xs : List Sample) (n : ℕ) →
-    events_at t xs n
-    ≡ sync_events_at t xs n
-    ++ (paging_events_at t xs n
-    ++ (frame_events_at t xs n ++ (message_events_at t xs n ++ sets_events_at t xs n)))
-unfolding events_at paging_events_at frame_events_at message_events_at sets_events_at
-events_at_all t xs n =
-    ap (λ (es : List Event). sync_events_at t xs n ++ es) (by_kinds t.traffic (mark t xs n))
-  where
-    by_kinds : (traffic : Option Traffic) (m : Option Mark) →
-        told_behind t (Some (Paging t.paging)) m xs n
-        ++ (told_behind t (option_map OnTraffic traffic) m xs n ++ [])
-        ≡ map (page_event n) (pages_behind t t.paging m xs n)
-        ++ (if_followed (λ traffic m. frames_at t traffic m xs n) traffic m
-        ++ (if_followed (λ traffic m. messages_at t traffic m xs n) traffic m
-        ++ if_followed (λ traffic m. sets_at t traffic m xs n) traffic m))
-    by_kinds (Some traffic) (Some m) =
-        let frames = frames_at t traffic m xs n in
-        let messages = messages_at t traffic m xs n in
-        let sets = sets_at t traffic m xs n in
-        ap (λ (es : List Event). map (page_event n) (pages_behind t t.paging (Some m) xs n) ++ es)
-        (append-nil ((frames ++ messages) ++ sets) ∙ append_assoc frames messages sets)
-    by_kinds (Some traffic) None = refl
-    by_kinds None (Some m) = refl
-    by_kinds None None = refl
 
 -- behind the mark it is what is heard of the channels that are followed from there on
 pub events_at_by : (t : Tuning) (xs : List Sample) (n : ℕ) (m : Option Mark) → mark t xs n ≡ m →

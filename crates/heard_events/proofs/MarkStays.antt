@@ -259,7 +259,7 @@ module _ (t : Tuning) (near : AreNear (sync_stream t).fingers) (traffic : Traffi
         (λ i. first_close m) k in
         omega (arith, e, same, low, before)
 
-    frames_later : frames_at t traffic m samples n ≡ []
+    pub frames_later : frames_at t traffic m samples n ≡ []
     unfolding frames_by
     frames_later =
         ap (map (frame_heard t traffic m (legs_at t traffic m samples n) (take n samples) n))
@@ -267,7 +267,7 @@ module _ (t : Tuning) (near : AreNear (sync_stream t).fingers) (traffic : Traffi
         (λ k inside. traffic_later k))
 
     -- nor does one complete a message
-    messages_later : messages_at t traffic m samples n ≡ []
+    pub messages_later : messages_at t traffic m samples n ≡ []
     unfolding messages_by
     messages_later =
         ap (flat_map (message_heard t traffic m (legs_at t traffic m samples n) (take n samples) n))
@@ -281,18 +281,6 @@ module _ (t : Tuning) (near : AreNear (sync_stream t).fingers) (traffic : Traffi
         let elsewhere : (moment_place m (moments_before m n + 1) == n) ≡ false =
         ne_eqb (moment_place m (moments_before m n + 1)) n (λ e. omega (arith, e, before)) in
         rw elsewhere refl
-
-module _ (t : Tuning) (near : AreNear (sync_stream t).fingers) (followed : Option Traffic)
-    (samples : List Sample) (n : ℕ) where
-  pub frames_from_mark :
-      OpensBehind n (if_followed (λ traffic m. frames_at t traffic m samples n) followed)
-  frames_from_mark =
-      opens_followed _ (λ traffic m. frames_later t near traffic m samples n) followed
-
-  pub messages_from_mark :
-      OpensBehind n (if_followed (λ traffic m. messages_at t traffic m samples n) followed)
-  messages_from_mark =
-      opens_followed _ (λ traffic m. messages_later t near traffic m samples n) followed
 
 -- ALL CHANNELS
 module _ (t : Tuning) (near : AreNear (sync_stream t).fingers) (samples : List Sample) (n : ℕ) where

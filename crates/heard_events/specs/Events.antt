@@ -57,24 +57,3 @@ events_within t samples n = Pilot t.phase t.energy ∷ heard_within t samples n
 -- all of them
 abbrev pub events : Tuning → List Sample → List Event
 events t samples = events_within t samples (length samples)
-
--- BY THEIR KINDS
--- those of the paging channel that end when just n samples have been taken
-unfoldable pub paging_events_at : Tuning → List Sample → ℕ → List Event
-paging_events_at t samples n =
-    map (page_event n) (pages_behind t t.paging (mark t samples n) samples n)
-
--- those of the traffic channel's frames
-unfoldable pub frame_events_at : Tuning → List Sample → ℕ → List Event
-frame_events_at t samples n =
-    if_followed (λ traffic m. frames_at t traffic m samples n) t.traffic (mark t samples n)
-
--- and of the messages that these frames complete
-unfoldable pub message_events_at : Tuning → List Sample → ℕ → List Event
-message_events_at t samples n =
-    if_followed (λ traffic m. messages_at t traffic m samples n) t.traffic (mark t samples n)
-
--- and that of the pilot sets
-unfoldable pub sets_events_at : Tuning → List Sample → ℕ → List Event
-sets_events_at t samples n =
-    if_followed (λ traffic m. sets_at t traffic m samples n) t.traffic (mark t samples n)

@@ -5,11 +5,12 @@ use Rattle.clean_link.proofs.Common.{places, Sample, Width, flat_map_ext_places,
 use Rattle.clean_link.proofs.Common.{cycled_frame, CellPlan, PagingPlan, TrafficPlan, TrafficFrame, events, events_at, frame_events_at}
 use Rattle.clean_link.proofs.Common.{heard_within, message_events_at, paging_events_at, mark, frames_at, messages_at, is_in_file}
 use Rattle.clean_link.proofs.Common.{sync_events_at, power_bits_at, decoded_at, frame_event, frame_heard, if_followed, replaced_in, Tuning}
-use Rattle.clean_link.proofs.Common.{Event, Pilot, Leg, Mark, Traffic, by_one_mark, frames_from_mark, messages_from_mark, soft_strength}
+use Rattle.clean_link.proofs.Common.{Event, Pilot, Leg, Mark, Traffic, by_one_mark, soft_strength}
 use Rattle.clean_link.proofs.Common.{sync_sent, IsNotDirected, IsOnPath, IsTunedTo, IsReceivable, is_frame, is_message, is_page, is_sync}
 use Rattle.clean_link.proofs.Common.{AreEventsOf, AreFramesBehind, AreMessagesBehind, EachChannelComesBack, FollowsOne, IsEventOf}
 use Rattle.clean_link.proofs.Common.{frame_ends, is_received, received_frames, AreDistinct, IsDistinctFrame, SendsSetOne}
 use Rattle.clean_link.proofs.Common.{messages_of_channel, paging_sent, told_with_sync, HearsTraffic, IsHeardAs}
+use Rattle.clean_link.proofs.traffic.ByKinds.{frames_from_mark, messages_from_mark}
 use Rattle.clean_link.proofs.marks.MarksTrue.{marks_true}
 use Rattle.clean_link.proofs.messages.Kinds.{frames_of_all, messages_of_all, pages_of_all, sync_of_all}
 use Rattle.clean_link.proofs.messages.MessagesBack.{pages_all}

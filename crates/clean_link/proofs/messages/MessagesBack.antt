@@ -6,11 +6,12 @@ use Rattle.clean_link.proofs.Common.{inr, nat_lt, Option, None, Some, ℤ, pos, 
 use Rattle.clean_link.proofs.Common.{map-append, places, CheckForm, Sample, Width, made_samples, told_superframes, phase_at, CellPlan}
 use Rattle.clean_link.proofs.Common.{SyncPlan, events, events_at, frame_events_at, heard_within, message_events_at, paging_events_at}
 use Rattle.clean_link.proofs.Common.{sets_events_at, mark, page_event, pages_at, pages_behind, sync_events_at, Tuning, Event, Pilot, Mark}
-use Rattle.clean_link.proofs.Common.{AreAt, IsAt, all_at, by_one_mark, events_at_all, pages_from_mark}
+use Rattle.clean_link.proofs.Common.{AreAt, IsAt, all_at, by_one_mark, pages_from_mark}
 use Rattle.clean_link.proofs.Common.{flat_map_ext_places, IsNotDirected, IsOnPath, IsTunedTo, sync_sent, tuning_to, whole_sendings}
 use Rattle.clean_link.proofs.Common.{IsReceivable, ReadPage, known_page, pages_sent, pages_within, FollowsSent, WholeMessagesComeBack}
 use Rattle.clean_link.proofs.Common.{known_event, paging_sent, pages_behind_mark, pages_with_sync, sent_events, by_places, sets_heard}
 use Rattle.clean_link.proofs.Common.{signaling_sent, subst, told_by_first, traffic_sent}
+use Rattle.clean_link.proofs.traffic.ByKinds.{events_at_all}
 use Rattle.clean_link.proofs.messages.EventPlaces.{gathered_by_places}
 use Rattle.clean_link.proofs.traffic.Steady.{right_all}
 use Rattle.clean_link.proofs.marks.FirstMark.{mark_of_first, unset_without}

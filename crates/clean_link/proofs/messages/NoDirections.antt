@@ -2,11 +2,12 @@
 use Rattle.clean_link.proofs.Common.{◌≡◌, ℕ, ◌+◌, ◌≤◌, List, ◌++◌, length, refl, sym, arith, All-weaker, ◌≢◌, Option, Some, All, All-append}
 use Rattle.clean_link.proofs.Common.{All-cons, All-nil, All-same, places, Sample, Width, made_samples, CellPlan, events_at, frame_events_at}
 use Rattle.clean_link.proofs.Common.{heard_within, message_events_at, paging_events_at, sets_events_at, mark, messages_at, sync_events_at}
-use Rattle.clean_link.proofs.Common.{if_followed, Tuning, Event, Pilot, Mark, Traffic, by_one_mark, events_at_all, messages_from_mark}
+use Rattle.clean_link.proofs.Common.{if_followed, Tuning, Event, Pilot, Mark, Traffic, by_one_mark}
 use Rattle.clean_link.proofs.Common.{IsNotDirected}
 use Rattle.clean_link.proofs.Common.{IsOnPath, IsReceivable, messages_of_channel, messages_sent, FollowsSent, NoEventIsDirected}
 use Rattle.clean_link.proofs.Common.{signaling_sent}
 use Rattle.heard_events.specs.declared.event.Event.TheVariants.{Traffic as OnTraffic}
+use Rattle.clean_link.proofs.traffic.ByKinds.{events_at_all, messages_from_mark}
 use Rattle.clean_link.proofs.messages.Kinds.{IsKind, frame_kind, paging_kind, sets_kind, sync_kind}
 use Rattle.clean_link.proofs.signal.Samples.{length-made}
 use Rattle.clean_link.proofs.traffic.Back.{heard_behind_mark, one_near, told_there}

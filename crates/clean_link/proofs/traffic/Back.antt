@@ -4,10 +4,11 @@ use Rattle.clean_link.proofs.Common.{◌≡◌, ℕ, zero, suc, ◌+◌, ◌*◌
 use Rattle.clean_link.proofs.Common.{Option, None, Some, ◌≢◌, All, Contains, flat_map, eq-eqb, ne_eqb, All-contains, places, Width}
 use Rattle.clean_link.proofs.Common.{HaveOwnTrafficRows, made_samples, told_superframes, CellPlan, SyncPlan, TrafficPlan, events}
 use Rattle.clean_link.proofs.Common.{frame_events_at, message_events_at, mark, AreNear, frames_at, messages_at, if_followed, Tuning}
-use Rattle.clean_link.proofs.Common.{sync_stream, Event, Mark, Traffic, by_one_mark, frames_from_mark, messages_from_mark}
+use Rattle.clean_link.proofs.Common.{sync_stream, Event, Mark, Traffic, by_one_mark}
 use Rattle.clean_link.proofs.Common.{flat_map_ext_places, IsNotDirected, IsOnPath, IsReceivable, frames_of_channel, frames_sent, told_on}
 use Rattle.clean_link.proofs.Common.{AreDistinct, SendsSetOne, messages_of_channel, messages_sent, signaling_sent, told_by_first}
 use Rattle.clean_link.proofs.Common.{told_followed, told_with_sync, traffic_sent, FollowsSent, HearsTraffic, IsUndirected}
+use Rattle.clean_link.proofs.traffic.ByKinds.{frames_from_mark, messages_from_mark}
 use Rattle.clean_link.proofs.marks.FirstMark.{mark_of_first, unset_without}
 use Rattle.clean_link.proofs.marks.MarksTrue.{marks_true, time_of, unmarked}
 use Rattle.clean_link.proofs.traffic.Frames.{sent_frames_back}

@@ -2,9 +2,10 @@
 use Rattle.clean_link.proofs.Common.{◌≡◌, ℕ, ◌+◌, ◌≤◌, List, ◌++◌, length, take, drop, sym, ap, ◌∙◌, arith, subst, Option, Some, All}
 use Rattle.clean_link.proofs.Common.{All-tail, length-take-le, take-append-drop, places, Sample, new_standing, events, events_at}
 use Rattle.clean_link.proofs.Common.{heard_within, message_events_at, frame_events_at, paging_events_at, sets_events_at, legs_of, mark}
-use Rattle.clean_link.proofs.Common.{frames_at, legs_at, messages_at, events_at_all, AreNear, messages_by, sync_events_at, frames_by}
+use Rattle.clean_link.proofs.Common.{frames_at, legs_at, messages_at, AreNear, messages_by, sync_events_at, frames_by}
 use Rattle.clean_link.proofs.Common.{if_followed, Tuning, sync_stream, Event, Pilot, Leg, Mark, Traffic, frames_sooner, by_one_mark}
-use Rattle.clean_link.proofs.Common.{messages_from_mark, messages_sooner, IsNotDirected, IsOnePilot, IsUndirected}
+use Rattle.clean_link.proofs.Common.{messages_sooner, IsNotDirected, IsOnePilot, IsUndirected}
+use Rattle.clean_link.proofs.traffic.ByKinds.{events_at_all, messages_from_mark}
 use Rattle.clean_link.proofs.frames.SyncTimes.{one_path}
 use Rattle.clean_link.proofs.traffic.OnePilot.{one_close, same_frames, same_messages}
 use Rattle.clean_link.proofs.traffic.Steady.{each_of_all, first_steady, left_all, right_all, steady_pilot}
