@@ -96,7 +96,8 @@ pub use Rattle.heard_events.specs.SetsKeeping.{IsSoundKeeper, coming_place}
 pub use Rattle.mobile_core.specs.Sound.{IsSoundSync}
 pub use Rattle.mobile_core.specs.Standing.{IsDueIn, Stands, Steps, Tells, due_parts, has_room, heard_of, left_of}
 pub use Rattle.mobile_core.specs.SyncReceiving.{HearsNext, HearsSync}
-pub use Rattle.mobile_core.specs.TrafficReceiving.{HasTold, HearsTraffic, HearsWith, IsSoundTraffic, IsTrafficDue, WaitsAt, kept_by}
+pub use Rattle.mobile_core.specs.TrafficReceiving.{GivesFirst, HasTold, HearsTraffic, HearsUntuned, HearsUpTo, HearsWith}
+pub use Rattle.mobile_core.specs.TrafficReceiving.{IsSoundTraffic, IsTrafficDue, WaitsAt, kept_by}
 pub use Rattle.mobile_core.specs.TrafficReceiving.{kept_in, next_end, noted_by, told_left_with, traffic_heard, traffic_left_of}
 pub use Rattle.reception.specs.declared.continued.Continued.{Continued}
 pub use Rattle.mobile_core.specs.declared.followed.Followed.{Followed}

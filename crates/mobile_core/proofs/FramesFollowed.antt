@@ -8,7 +8,7 @@ use Rattle.mobile_core.proofs.Common.{IsSoundTraffic, IsTrafficDue, at_of, ◌�
 use Rattle.mobile_core.proofs.Common.{WaitsAt, traffic_left_of, told_left_with, Tuning, Event, Leg, Mark, Traffic, TrafficReceiver}
 use Rattle.mobile_core.proofs.Common.{option_map, told_behind}
 use Rattle.heard_events.specs.declared.channel.Channel.TheVariants.{Traffic as OnTraffic}
-use Rattle.mobile_core.proofs.FramesHeard.{none_come, none_kept, told_go}
+use Rattle.mobile_core.proofs.FramesHeard.{none_come, none_kept, not_left, told_go}
 use Rattle.mobile_core.proofs.FramesTold.{hears_noted}
 use Rattle.heard_events.proofs.GoesOn.{GoesOn, both, goes_as, never}
 use Rattle.heard_events.proofs.MomentGrowth.{kept_sooner}
@@ -56,14 +56,6 @@ no_set t traffic m samples n j moments elsewhere =
     (λ e. elsewhere (omega (arith, e, moments))) in
     rw none refl
 
-not_left : (t : Tuning) (traffic : Traffic) (m : Mark) (samples : List Sample) (j : ℕ) →
-    ¬ (moment_place m (j + 1) ≡ length samples) → sets_left_of t traffic m samples j ≡ []
-unfolding sets_left_of
-not_left t traffic m samples j elsewhere =
-    let none : (moment_place m (j + 1) == length samples) ≡ false =
-    ne_eqb (moment_place m (j + 1)) (length samples) elsewhere in
-    rw none refl
-
 not_come : (r : TrafficReceiver) → ¬ IsTrafficDue r → r.sets.due ≡ false
 not_come r none = false_from_ne_true r.sets.due (λ due. none (inr due))
 
@@ -89,12 +81,12 @@ module _ {t : Tuning} {traffic : Traffic} {m : Mark} {r : TrafficReceiver} {hear
       moments_before m n ≡ r.sets.passed
   moments_here n past early =
       moments_are m r.sets.passed n early
-      (λ some. let b = st.begun some in omega (arith, b, past))
+      (λ some. let b = st.among.begun some in omega (arith, b, past))
 
   module _ (more : List Sample) where
     kept_more : kept_to t traffic m (heard ++ more) r.sets.passed
         ≡ kept_in t traffic m r heard
-    kept_more = kept_sooner t traffic m heard more r.sets.passed st.begun
+    kept_more = kept_sooner t traffic m heard more r.sets.passed st.among.begun
 
     legs_here : (n : ℕ) → length heard < n → n ≤ moment_place m (r.sets.passed + 1) →
         legs_at t traffic m (heard ++ more) n

@@ -3,7 +3,7 @@ use Rattle.mobile_core.proofs.Common.{◌≡◌, ℕ, ◌-◌, ◌≤◌, List, 
 use Rattle.mobile_core.proofs.Common.{replicate, append-nil, get_or, ◌==◌, Some, slice_get, eq-eqb, unsigned_abs, sum_by, sum_by-replicate}
 use Rattle.mobile_core.proofs.Common.{places, Sample, Standing, new_standing, StandsFor, AreClose, all_close, paths_close, all_fingers}
 use Rattle.mobile_core.proofs.Common.{legs_of, pilot_finger, heard_from, kept_to, moment_place, all_noted, signals_before, HearsTraffic}
-use Rattle.mobile_core.proofs.Common.{HearsWith, told_left_with, traffic_start, Tuning, fingers_of, Event, Leg, Mark, SetsKeeper, Traffic}
+use Rattle.mobile_core.proofs.Common.{told_left_with, traffic_start, Tuning, fingers_of, Event, Leg, Mark, SetsKeeper, Traffic}
 use Rattle.mobile_core.proofs.Common.{TrafficReceiver}
 use Rattle.heard_events.proofs.FrameBounds.{known_low}
 use Rattle.heard_events.proofs.MarkStays.{pilot_alone}
@@ -48,63 +48,47 @@ first_keeper m row = record {
   due = false;
 }
 
-kept_first : (t : Tuning) (traffic : Traffic) (m : Mark) (samples : List Sample) (j : ℕ) → j ≡ 0 →
-    kept_to t traffic m samples j ≡ (λ i. new_standing m.pilot traffic.row)
-unfolding kept_to
-kept_first t traffic m samples j none = ap (kept_to t traffic m samples) none
-
 module _ {t : Tuning} {traffic : Traffic} {m : Mark} {r : TrafficReceiver} {heard : List Sample}
-    (tuned : IsTunedIn t traffic m r.sets.mark r.phase r.near r.frames.scrambling)
-    (next : r.frames.clock.next ≡ 0) (have : r.frames.clock.have ≡ 0) (empty : r.kept ≡ None)
     (sets : r.sets ≡ first_keeper m traffic.row)
+    (tuned : IsTunedIn t traffic m m r.phase r.near r.frames.scrambling)
+    (next : r.frames.clock.next ≡ 0) (have : r.frames.clock.have ≡ 0) (empty : r.kept ≡ None)
     (legs_is : r.legs ≡ legs_of m (new_standing m.pilot traffic.row))
-    (close : AreClose (all_fingers t.phase t.deltas
-    (legs_of m (new_standing m.pilot traffic.row))))
+    (close : AreClose (all_fingers t.phase t.deltas (legs_of m (new_standing m.pilot traffic.row))))
     (within : length heard ≤ t.count) (early : length heard ≤ m.sample) where
-  hears_first : r.frames.clock.start ≡ traffic_start traffic m 0 → StandsFor r.framer [] →
-      HearsWith t traffic m r heard [] (λ i. new_standing m.pilot traffic.row)
-  hears_first start framed =
+  pub hears_opened : r.frames.clock.start ≡ traffic_start traffic m 0 → StandsFor r.framer [] →
+      HearsTraffic t traffic m r heard []
+  unfolding kept_to
+  hears_opened start framed =
       let new : Standing = new_standing m.pilot traffic.row in
       let legs : ℕ → List Leg = λ k. legs_of m new in
-      let passed = ap (λ (k : SetsKeeper). k.passed) sets in
       let none_left : told_left_with t traffic m heard r (λ i. new) ≡ [] =
       left_unkept t traffic m heard r (λ i. new) empty
       ∙ told_left_none t traffic m legs heard r.frames.clock.next
       (λ k above.
       let low = known_low t traffic m legs (λ i. close) k in omega (arith, low, early)) in
-      record {
+      let count : length heard - moment_place m 0 ≡ 0 = omega (arith, early) in
+      subst (λ (k : SetsKeeper). HearsTraffic t traffic m (record r { sets = k }) heard []) (sym sets)
+      (record {
         tuned = tuned;
-        start_is = start ∙ ap (traffic_start traffic m) (sym have);
+        among = record {
+          within = within;
+          begun = λ some. absurd (omega (arith, some));
+          coming = omega (arith, early);
+          due_is = λ due. absurd (cc);
+        };
+        frames = record {
+          start_is = start ∙ ap (traffic_start traffic m) (sym have);
+          ended = λ k less. absurd (omega (arith, less, next));
+          come = λ come. absurd (omega (arith, come, have));
+          framed = subst (StandsFor r.framer)
+              (sym (ap (signals_before t traffic m legs heard) next
+              ∙ signals_start t traffic m legs heard)) framed;
+        };
         close = λ i. close;
         legs_are = λ told. legs_is;
-        pilots_are = ap (λ (k : SetsKeeper). legs_of m k.sets) sets;
-        within = within;
-        begun = λ some. absurd (omega (arith, some, passed));
-        behind = λ event rest left some. absurd (omega (arith, some, passed));
-        coming = omega (arith, early);
-        due_is = λ due.
-            let same : true ≡ false = sym due ∙ ap (λ (k : SetsKeeper). k.due) sets in
-            absurd (cc);
-        ended = λ k less. absurd (omega (arith, less, next));
-        known = λ come. absurd (omega (arith, come, have));
-        softs_are = λ come. absurd (omega (arith, come, have));
-        power_is = λ come. absurd (omega (arith, come, have));
-        framed = subst (StandsFor r.framer)
-            (sym (ap (signals_before t traffic m legs heard) next
-            ∙ signals_start t traffic m legs heard)) framed;
-        sets_are =
-            let count : length heard - moment_place m r.sets.passed ≡ 0 =
-            omega (arith, early, passed) in
-            ap (λ (es : List Event). all_noted m es r.sets.sets) none_left
-            ∙ ap (λ (k : SetsKeeper). k.sets) sets
-            ∙ sym (heard_none t traffic m (λ i. new) r.sets.passed heard [])
-            ∙ sym (ap (heard_from t traffic m (λ i. new) heard r.sets.passed) count);
-      }
-
-  -- nothing has passed
-  pub hears_opened : r.frames.clock.start ≡ traffic_start traffic m 0 → StandsFor r.framer [] →
-      HearsTraffic t traffic m r heard []
-  hears_opened start framed =
-      subst (HearsWith t traffic m r heard [])
-      (sym (kept_first t traffic m heard r.sets.passed (ap (λ (k : SetsKeeper). k.passed) sets)))
-      (hears_first start framed)
+        pilots_are = refl;
+        behind = λ event rest left some. absurd (omega (arith, some));
+        sets_are = ap (λ (es : List Event). all_noted m es new) none_left
+            ∙ sym (heard_none t traffic m (λ i. new) 0 heard [])
+            ∙ sym (ap (heard_from t traffic m (λ i. new) heard 0) count);
+      })

@@ -1,9 +1,9 @@
 -- What the receiver of a traffic channel stands for.
 use Rattle.std.specs.Prelude.{◌≡◌, ◌⊎◌, ℕ, ◌+◌, ◌-◌, ◌*◌, ◌<◌, ◌≤◌, ◌^◌, true, List, ◌∷◌, ◌++◌}
 use Rattle.std.specs.Prelude.{length, take, sum_by, unsigned_abs, IsTrue, Option, Some, None}
-use Rattle.std.specs.Prelude.{is_some, min, if◌then◌else◌, ℤ}
+use Rattle.std.specs.Prelude.{is_some, min, if◌then◌else◌, ℤ, Bool}
 use Rattle.chip_core.specs.declared.sample.Sample.{Sample}
-use Rattle.frame_decoder.specs.TrafficFrames as frames
+use Rattle.frame_decoder.specs.TrafficFrames.{subchannels}
 use Rattle.frame_decoder.specs.declared.power.PowerSofts.{PowerSofts}
 use Rattle.long_code.specs.LongCode.{traffic_mask}
 use Rattle.pilot_search.specs.declared.paths.Near.{Near}
@@ -78,45 +78,75 @@ pub record IsTunedIn (t : Tuning) (traffic : Traffic) (m mark : Mark) (phase : �
   pub mask_is : turns.mask ≡ traffic_mask traffic.esn
   pub offset : traffic.offset ≤ 15
 
+-- where so many samples of a file are among its moments: so many have passed, and where the next
+-- is due it lies there
+pub record IsAmong (m : Mark) (count taken passed : ℕ) (due : Bool) : Type 0 where
+  pub within : taken ≤ count
+  pub begun : 0 < passed → moment_place m passed ≤ taken
+  pub coming : taken ≤ moment_place m (passed + 1)
+  pub due_is : due ≡ true → taken ≡ moment_place m (passed + 1)
+
+-- frame k has just come, and its soft values are these
+pub record HasCome (t : Tuning) (traffic : Traffic) (m : Mark) (legs : ℕ → List Leg)
+    (heard : List Sample) (k : ℕ) (values : List ℤ) (power : PowerSofts) : Type 0 where
+  pub known : frame_known t traffic m legs k ≡ length heard
+  pub softs_are : values ≡ raw_softs t traffic m legs heard k
+  pub power_is : subchannels power ≡ all_sums t traffic m legs heard k
+
+-- The frame that comes next begins there. Where a frame has come it is the one that is heard next;
+-- the framer has taken the signaling of the frames before that one.
+pub record HasHeard (t : Tuning) (traffic : Traffic) (m : Mark) (legs : ℕ → List Leg)
+    (heard : List Sample) (next have start : ℕ) (values : List ℤ) (power : PowerSofts)
+    (framer : Option (List Bool)) : Type 0 where
+  pub start_is : start ≡ traffic_start traffic m have
+  pub ended : (k : ℕ) → k < next → frame_known t traffic m legs k ≤ length heard
+  pub come : next < have → HasCome t traffic m legs heard next values power
+  pub framed : StandsFor framer (signals_before t traffic m legs heard next)
+
 -- It has taken these samples, in which the events `pages` of the paging channel haven't been heard;
--- `kept` is what is kept behind the moments that have passed.
--- Where a frame has come its soft values are those of the frame that is heard next; its framer has
--- taken the signaling of the frames before that one. The sets are those of the definition, but for
--- what is still to be told, and a moment passes where nothing is.
-pub record HearsWith (t : Tuning) (traffic : Traffic) (m : Mark) (r : TrafficReceiver)
+-- `kept` is what is kept behind the moments that have passed, and those before moment `until` have
+-- told the pilots of the frame that comes next. The sets are those of the definition, but for what
+-- is still to be told, and a moment passes where nothing is.
+pub record HearsUpTo (until : ℕ) (t : Tuning) (traffic : Traffic) (m : Mark) (r : TrafficReceiver)
     (heard : List Sample) (pages : List Event) (kept : ℕ → Standing) : Type 0 where
   pub tuned : IsTunedIn t traffic m r.sets.mark r.phase r.near r.frames.scrambling
-  pub start_is : r.frames.clock.start ≡ traffic_start traffic m r.frames.clock.have
+  pub among : IsAmong m t.count (length heard) r.sets.passed r.sets.due
+  pub frames : HasHeard t traffic m (legs_by traffic m kept) heard r.frames.clock.next
+      r.frames.clock.have r.frames.clock.start r.softs r.power r.framer
   pub close : (i : ℕ) →
       AreClose (all_fingers t.phase t.deltas (legs_of m (kept i)))
-  pub legs_are : moment_of traffic r.frames.clock.have ≤ r.sets.passed →
+  pub legs_are : moment_of traffic r.frames.clock.have < until →
       r.legs ≡ legs_by traffic m kept r.frames.clock.have
   pub pilots_are : legs_of m r.sets.sets ≡ legs_of m (kept r.sets.passed)
-  pub within : length heard ≤ t.count
-  pub begun : 0 < r.sets.passed → moment_place m r.sets.passed ≤ length heard
   pub behind : (event : Event) (rest : List Event) →
       pages ++ told_left_with t traffic m heard r kept ≡ event ∷ rest →
       0 < r.sets.passed → moment_place m r.sets.passed < length heard
-  pub coming : length heard ≤ moment_place m (r.sets.passed + 1)
-  pub due_is : r.sets.due ≡ true → length heard ≡ moment_place m (r.sets.passed + 1)
-  pub ended : (k : ℕ) → k < r.frames.clock.next →
-      frame_known t traffic m (legs_by traffic m kept) k ≤ length heard
-  pub known : r.frames.clock.next < r.frames.clock.have →
-      frame_known t traffic m (legs_by traffic m kept) r.frames.clock.next ≡ length heard
-  pub softs_are : r.frames.clock.next < r.frames.clock.have →
-      r.softs ≡ raw_softs t traffic m (legs_by traffic m kept) heard r.frames.clock.next
-  pub power_is : r.frames.clock.next < r.frames.clock.have → frames.subchannels r.power
-      ≡ all_sums t traffic m (legs_by traffic m kept) heard r.frames.clock.next
-  pub framed : StandsFor r.framer
-      (signals_before t traffic m (legs_by traffic m kept) heard r.frames.clock.next)
   pub sets_are : all_noted m (pages ++ told_left_with t traffic m heard r kept) r.sets.sets
       ≡ heard_from t traffic m kept heard r.sets.passed
       (length heard - moment_place m r.sets.passed)
+
+-- all moments that have passed have told them, or all but the last
+abbrev pub HearsWith : Tuning → Traffic → Mark → TrafficReceiver → List Sample → List Event →
+    (ℕ → Standing) → Type 0
+HearsWith t traffic m r = HearsUpTo (r.sets.passed + 1) t traffic m r
 
 abbrev pub HearsTraffic : Tuning → Traffic → Mark → TrafficReceiver → List Sample → List Event →
     Type 0
 HearsTraffic t traffic m r heard pages =
     HearsWith t traffic m r heard pages (kept_in t traffic m r heard)
+
+abbrev pub HearsUntuned : Tuning → Traffic → Mark → TrafficReceiver → List Sample → List Event →
+    Type 0
+HearsUntuned t traffic m r heard pages =
+    HearsUpTo r.sets.passed t traffic m r heard pages (kept_in t traffic m r heard)
+
+-- What was due first is given, and the rest is left; of this the sets haven't taken `pages` yet.
+abbrev pub GivesFirst : Tuning → Traffic → Mark → List Sample → TrafficReceiver → TrafficReceiver →
+    List Event → List Event → Type 0
+GivesFirst t traffic m heard before after given pages =
+    HearsTraffic t traffic m after heard pages
+    × (given ++ traffic_left_of t traffic m heard after
+    ≡ traffic_left_of t traffic m heard before)
 
 -- whether a message is kept, or a frame has come that hasn't been heard
 abbrev pub HasTold : TrafficReceiver → Type 0

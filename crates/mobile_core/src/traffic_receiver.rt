@@ -44,38 +44,30 @@ pub(crate) struct TrafficReceiver {
 }
 
 impl TrafficReceiver {
-    ghost use Rattle.std.specs.Prelude.{◌≡◌, ◌<◌, ◌≤◌, ◌+◌, ◌-◌, ◌*◌, ◌/◌, ◌∷◌, [], ◌++◌};
-    ghost use Rattle.std.specs.Prelude.{◌↔◌, IsTrue, List, map};
+    ghost use Rattle.std.specs.Prelude.{◌≡◌, ◌<◌, ◌≤◌, ◌+◌, ◌-◌, ◌/◌, ◌∷◌, []};
+    ghost use Rattle.std.specs.Prelude.{◌↔◌, IsTrue, List};
     ghost use Rattle.std.specs.Prelude.{length, take, slice_get, Some, None, pos, false, ℕ, IfSome};
     ghost use Rattle.std.specs.Prelude.{true};
     ghost use Rattle.std.specs.List.{list_any};
     ghost use Rattle.chip_core.specs.declared.sample.Sample.{Sample};
     ghost use Rattle.heard_events.specs.Given.{at_of, listed};
     ghost use Rattle.heard_events.specs.Marks.{sets_mark};
-    ghost use Rattle.frame_decoder.specs.TrafficFrames.{subchannels};
-    ghost use Rattle.long_code.specs.LongCode.{after};
     ghost use Rattle.heard_events.specs.Close.{legs_close};
-    ghost use Rattle.heard_events.specs.LegSofts.{sums_on};
     ghost use Rattle.heard_events.specs.Legs.{legs_of};
-    ghost use Rattle.heard_events.specs.Legs.{subchannels as subchannels_of};
     ghost use Rattle.heard_events.specs.Moments.{legs_by, moment_place};
     ghost use Rattle.heard_events.specs.SoundMarks.{IsSoundMark};
     ghost use Rattle.heard_events.specs.TrafficEvents.{power_bits_at, decoded_at};
-    ghost use Rattle.mobile_core.specs.TrafficReceiving.{HasTold, HearsTraffic, IsSoundTraffic};
-    ghost use Rattle.mobile_core.specs.TrafficReceiving.{HearsWith, frame_taken, next_end};
-    ghost use Rattle.mobile_core.specs.TrafficReceiving.{noted_by, tuned_to};
-    ghost use Rattle.mobile_core.specs.TrafficReceiving.{told_left_with, traffic_due};
-    ghost use Rattle.mobile_core.specs.TrafficReceiving.{traffic_heard};
-    ghost use Rattle.mobile_core.specs.TrafficReceiving.{traffic_left_of};
+    ghost use Rattle.mobile_core.specs.TrafficReceiving.{GivesFirst, HasTold, HearsTraffic};
+    ghost use Rattle.mobile_core.specs.TrafficReceiving.{HearsUntuned, HearsWith, IsSoundTraffic};
+    ghost use Rattle.mobile_core.specs.TrafficReceiving.{frame_taken, next_end, noted_by};
+    ghost use Rattle.mobile_core.specs.TrafficReceiving.{WaitsAt, traffic_due, traffic_heard};
+    ghost use Rattle.mobile_core.specs.TrafficReceiving.{tuned_to};
     ghost use Rattle.pilot_sets.specs.Standing.{Standing};
     ghost use Rattle.heard_events.specs.Tuning.{Tuning};
     ghost use Rattle.heard_events.specs.declared.event.Event.{Event as TheEvent};
     ghost use Rattle.heard_events.specs.declared.mark.Mark.{Mark as TheMark};
     ghost use Rattle.chip_core.specs.declared.assignment.Traffic.{Traffic as TheTraffic};
     ghost use Rattle.rake_finger.specs.Held.{HoldsLast};
-    ghost use Rattle.rake_finger.specs.Soft.{softs};
-    ghost use Rattle.rake_finger.specs.declared.form.Form.TheVariants.{Data};
-    ghost use Rattle.symbol_path.specs.Scrambling.{power_places};
     ghost use Rattle.quality_bits.specs.TrafficCodewords.{information_of};
 
     /// A receiver that has heard no frame, for a base station at a phase and near it.
@@ -134,7 +126,7 @@ impl TrafficReceiver {
         ensures sets { self.new.sets ≡ self.old.sets }
         ensures waits { ring.now.taken < self.new.frames.clock.end }
         ensures sound { IsSoundTraffic self.new }
-        ensures stands { (t : Tuning) (traffic : TheTraffic) (m : TheMark)
+        ensures hears { (t : Tuning) (traffic : TheTraffic) (m : TheMark)
             (heard : List Sample) (pages : List TheEvent) → HoldsLast ring.now heard →
             HearsTraffic t traffic m self.old heard pages →
             HearsTraffic t traffic m self.new heard pages }
@@ -155,17 +147,10 @@ impl TrafficReceiver {
         requires room { ring.now.room ≡ 65536 }
         requires ended { ring.now.taken ≡ self.old.frames.clock.end }
         ensures same { self.new ≡ frame_taken self.new.softs self.new.power self.old }
-        ensures softs { (heard : List Sample) → HoldsLast ring.now heard → self.new.softs
-            ≡ softs heard self.old.frames.fingers Data self.old.frames.clock.start }
-        ensures power { (heard : List Sample) → HoldsLast ring.now heard →
-            subchannels self.new.power ≡ map
-            (sums_on heard self.old.phase
-            (take self.old.near.count self.old.near.deltas) self.old.legs
-            self.old.frames.clock.start
-            (power_places
-            (after self.old.frames.scrambling.state (24576 * self.old.frames.clock.have))
-            self.old.frames.scrambling.mask))
-            (subchannels_of self.old.legs) }
+        ensures hears { (t : Tuning) (traffic : TheTraffic) (m : TheMark)
+            (heard : List Sample) (pages : List TheEvent) → HoldsLast ring.now heard →
+            HearsTraffic t traffic m self.old heard pages →
+            HearsUntuned t traffic m self.new heard pages }
         ensures sound { IsSoundTraffic self.new }
     {
         let TrafficReceiver {
@@ -201,24 +186,17 @@ impl TrafficReceiver {
         requires empty { self.old.kept ≡ None }
         requires due { self.old.sets.due ≡ true }
         requires room { ring.now.room ≡ 65536 }
-        requires here { ring.now.taken
-            ≡ moment_place self.old.sets.mark (self.old.sets.passed + 1) }
-        requires waits { ring.now.taken < self.old.frames.clock.end }
-        ensures next { self.new.frames.clock.next ≡ self.old.frames.clock.next }
-        ensures have { self.new.frames.clock.have ≡ self.old.frames.clock.have }
-        ensures empty { self.new.kept ≡ None }
-        ensures passed { self.new.sets.passed ≡ self.old.sets.passed + 1 }
-        ensures due { self.new.sets.due ≡ false }
-        ensures waits { ring.now.taken < next_end self.new }
+        requires waits { WaitsAt ring.now.taken self.old }
+        ensures further { traffic_heard self.old < traffic_heard self.new }
+        ensures nearer { traffic_due self.new < traffic_due self.old }
+        ensures waits { WaitsAt ring.now.taken self.new }
         ensures sound { IsSoundTraffic self.new }
         ensures ends { IfSome result (λ event. at_of event ≡ ring.now.taken) }
         ensures unset { list_any sets_mark (listed result) ≡ false }
         ensures hears { (t : Tuning) (traffic : TheTraffic) (m : TheMark)
             (heard : List Sample) → HoldsLast ring.now heard →
             HearsTraffic t traffic m self.old heard [] →
-            HearsTraffic t traffic m self.new heard []
-            × (listed result ++ traffic_left_of t traffic m heard self.new
-            ≡ traffic_left_of t traffic m heard self.old) }
+            GivesFirst t traffic m heard self.old self.new (listed result) [] }
     {
         let event = self.sets.pass(ring, codes);
         self.tune();
@@ -240,11 +218,9 @@ impl TrafficReceiver {
         ensures ends { at_of result ≡ at }
         ensures unset { sets_mark result ≡ false }
         ensures hears { (t : Tuning) (traffic : TheTraffic) (m : TheMark)
-            (heard : List Sample) (told : ℕ → Standing) → at ≡ length heard →
-            check ≡ t.check16 → HearsWith t traffic m self.old heard [] told →
-            HearsWith t traffic m self.new heard (result ∷ []) told
-            × (result ∷ told_left_with t traffic m heard self.new told
-            ≡ told_left_with t traffic m heard self.old told) }
+            (heard : List Sample) → at ≡ length heard → check ≡ t.check16 →
+            HearsTraffic t traffic m self.old heard [] →
+            GivesFirst t traffic m heard self.old self.new (result ∷ []) (result ∷ []) }
     {
         if let Some(message) = self.kept {
             self.kept = None;
@@ -262,17 +238,16 @@ impl TrafficReceiver {
         requires sound { IsSoundTraffic self.old }
         ensures same { self.new ≡ tuned_to self.new.legs self.new.frames.clock.end
             self.new.frames.fingers self.old }
-        ensures tuned { (self.old.frames.clock.start - self.old.sets.mark.sample) / 98304
-            ≡ self.old.sets.passed →
-            self.new.legs ≡ legs_of self.old.sets.mark self.old.sets.sets }
-        ensures stays { ¬ ((self.old.frames.clock.start - self.old.sets.mark.sample) / 98304
-            ≡ self.old.sets.passed) → self.new.legs ≡ self.old.legs }
         ensures waits { (n : ℕ) → n < self.old.frames.clock.end →
             ((self.old.frames.clock.start - self.old.sets.mark.sample) / 98304
             ≡ self.old.sets.passed →
             n ≤ self.old.frames.clock.start + 226) → n < self.new.frames.clock.end }
         ensures some { 1 ≤ length (legs_of self.old.sets.mark self.old.sets.sets) }
         ensures close { legs_close (legs_of self.old.sets.mark self.old.sets.sets) ≡ true }
+        ensures hears { (t : Tuning) (traffic : TheTraffic) (m : TheMark)
+            (heard : List Sample) (pages : List TheEvent) →
+            HearsUntuned t traffic m self.old heard pages →
+            HearsTraffic t traffic m self.new heard pages }
         ensures sound { IsSoundTraffic self.new }
     {
         let legs = self.sets.legs();

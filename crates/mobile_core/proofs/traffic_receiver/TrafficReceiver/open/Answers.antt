@@ -86,7 +86,6 @@ returns-clause-hears c = λ t heard phase deltas within early.
     let m = c.args.mark.now in
     let near = c.args.near.now in
     let paths = take near.count near.deltas in
-    let keeper = c.new-sets.ensures in
     let scrambling = c.traffic_scrambling.ensures in
     let same = c.new-frames.ensures.scrambling in
     let clock = first_clock here in
@@ -96,9 +95,9 @@ returns-clause-hears c = λ t heard phase deltas within early.
     ∙ ap (all_fingers c.args.phase paths) (legs_first here)
     ∙ ap (λ (p : ℕ). all_fingers p paths first) (sym phase)
     ∙ ap (λ (ds : List ℤ). all_fingers t.phase ds first) (sym deltas) in
-    hears_opened
+    hears_opened c.new-sets.ensures.value
     (record {
-      mark_is = ap (λ (k : SetsKeeper). k.mark) keeper.value;
+      mark_is = refl;
       phase_is = sym phase;
       deltas_are = sym deltas;
       state_is = ap (λ (x : Scrambling). x.state) same ∙ scrambling.state;
@@ -106,5 +105,5 @@ returns-clause-hears c = λ t heard phase deltas within early.
       offset = c.requires.offset;
     })
     (ap (λ (k : FrameClock). k.next) clock) (ap (λ (k : FrameClock). k.have) clock) refl
-    keeper.value (legs_first here) (subst AreClose fingers_are (are_close here)) within early
+    (legs_first here) (subst AreClose fingers_are (are_close here)) within early
     (omega (arith, start, c.from.ensures)) c.new.ensures

@@ -1,6 +1,7 @@
-use Rattle.mobile_core.proofs.Common.{◌≤◌, ◌*◌, ◌^◌, ap, arith, length, sum_by, unsigned_abs}
+use Rattle.mobile_core.proofs.Common.{◌≤◌, ◌*◌, ◌^◌, ◌∙◌, ℕ, ap, arith, sym, power_places, length, sum_by, unsigned_abs}
 use Rattle.heard_events.proofs.LegFingers.{fingers_few}
 use Rattle.heard_events.proofs.LegSubsets.{eight_small}
+use Rattle.mobile_core.proofs.FramesHeard.{hears_come}
 use Rattle.mobile_core.proofs.SoundFrames.{legs_held, sound_taken}
 use Rattle.mobile_core.proofs.traffic_receiver.TrafficReceiver.take_softs.Goals.{After-raw}
 use Rattle.mobile_core.proofs.traffic_receiver.TrafficReceiver.take_softs.Goals as goal
@@ -29,3 +30,12 @@ returns-clause-sound c =
     rw value (sound_taken c.requires.sound c.raw.result c.power_softs.result
     (raw_small (goal.at.returns-clause-sound c).After-raw) c.power_softs.ensures.most
     c.requires.idle (omega (arith, few, ended)) (rw value at c.advance.ensures.sound))
+
+pub returns-clause-hears : goal.returns-clause-hears
+returns-clause-hears c = λ t traffic m heard pages holds st.
+    rw c.advance.ensures.value
+    (hears_come st c.requires.sound c.raw.result c.power_softs.result c.power_places-replaced.result
+    c.requires.idle (sym c.requires.ended ∙ holds.taken) (c.raw.ensures.value heard holds)
+    (c.power_places-replaced.ensures.value
+    ∙ ap (λ (n : ℕ). power_places n c.args.self.now.frames.scrambling.mask) c.state_at.ensures)
+    (c.power_softs.ensures.value heard holds))
