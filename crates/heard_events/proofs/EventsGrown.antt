@@ -1,7 +1,7 @@
 -- How the events of a file grow with its samples.
-use Rattle.heard_events.proofs.Common.{◌≡◌, ℕ, ◌+◌, ◌≤◌, List, [], ◌∷◌, ◌++◌, length, refl, sym, ap, ◌∙◌, arith, map, Option, Some}
-use Rattle.heard_events.proofs.Common.{None, nat_lt, if◌then◌else◌, Sample, events_at, mark, AreNear, moments_before, page_event, sync_events_at, Tuning}
-use Rattle.heard_events.proofs.Common.{sync_stream, Mark, flat_map, flat_map-places-more, heard_within, Channel, Paging, channels}
+use Rattle.heard_events.proofs.Common.{◌≡◌, ℕ, ◌+◌, ◌≤◌, List, [], ◌∷◌, ◌++◌, length, refl, sym, ap, ◌∙◌, arith, map, Option, Some, None}
+use Rattle.heard_events.proofs.Common.{nat_lt, if◌then◌else◌, Sample, events_at, mark, AreNear, moments_before, page_event, sync_events_at}
+use Rattle.heard_events.proofs.Common.{Tuning, sync_stream, Mark, flat_map, flat_map-places-more, heard_within, Channel, Paging, channels}
 use Rattle.heard_events.proofs.Common.{followed_behind, told_behind, told_on}
 use Rattle.heard_events.specs.declared.channel.Channel.TheVariants.{Traffic as OnTraffic}
 use Rattle.heard_events.proofs.Growth.{IsSyncTimed}

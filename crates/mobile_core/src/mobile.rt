@@ -159,8 +159,8 @@ impl Mobile {
         self.sync.mark()
     }
 
-    /// The samples that it has taken, for who hears those behind them in its place: the last of them,
-    /// with room for 65,536, and the codes. It allocates nothing.
+    /// The samples that it has taken, for who hears those behind them in its place: the last 65,536
+    /// of them, and the codes. It allocates nothing.
     pub fn into_ring(self) -> HeardRing
         ensures count { result.count ≤ 67108864 }
         ensures within { result.ring.taken ≤ result.count }

@@ -1,6 +1,6 @@
 -- The frames of a channel behind the mark, as they are given one by one.
-use Rattle.tuned_listener.proofs.Common.{◌≡◌, ℕ, ◌+◌, ◌*◌, ◌<◌, ◌≤◌, true, false, List, [], ◌∷◌, ◌++◌, map, filter, length, refl, sym, ap, ◌∙◌}
-use Rattle.tuned_listener.proofs.Common.{arith, ℤ, Option, length-append, map-append, places, Sample, after, frame_chips, scrambling}
+use Rattle.tuned_listener.proofs.Common.{◌≡◌, ℕ, ◌+◌, ◌*◌, ◌<◌, ◌≤◌, true, false, List, [], ◌∷◌, ◌++◌, map, filter, length, refl, sym, ap}
+use Rattle.tuned_listener.proofs.Common.{◌∙◌, arith, ℤ, Option, length-append, map-append, places, Sample, after, frame_chips, scrambling}
 use Rattle.tuned_listener.proofs.Common.{channel_stream, has_power_control, mask_of, state_at, IsAt, IsDueAt, clock_from, first_frame}
 use Rattle.tuned_listener.proofs.Common.{frame_come, frame_passed, HasGiven, Data, softs, AreNear, unscrambled, frames_within, power_of}
 use Rattle.tuned_listener.proofs.Common.{soft_frame, soft_frames, is_in_file, stream_end, Tuning, Channel, ChannelReceiver, FrameClock}

@@ -1,5 +1,5 @@
-use Rattle.tuned_listener.proofs.Common.{Tuning, Channel, TunedText, ListensTuned, ◌≡◌, ◌++◌, List, None, refl, rules, subst, sym, take, Sample}
-use Rattle.tuned_listener.proofs.Common.{Mobile}
+use Rattle.tuned_listener.proofs.Common.{Tuning, Channel, TunedText, ListensTuned, ◌≡◌, ◌++◌, List, None, refl, rules, subst, sym, take}
+use Rattle.tuned_listener.proofs.Common.{Sample, Mobile}
 use Rattle.mobile_core.specs.Standing.{StandsFor}
 use Rattle.tuned_listener.proofs.TunedListeners.{handset_alone, lawful_channel, listens_ahead, listens_behind, silent_ahead, silent_at_mark}
 use Rattle.tuned_listener.proofs.tuned.TunedListener.reach_mark.Goals as goal

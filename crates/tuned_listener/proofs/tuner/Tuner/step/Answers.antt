@@ -1,6 +1,6 @@
-use Rattle.tuned_listener.proofs.Common.{◌≡◌, ◌∙◌, ℕ, ◌-◌, ◌++◌, ◌∷◌, [], List, append-nil, ap, arith, length, length-take, refl, subst, sym}
-use Rattle.tuned_listener.proofs.Common.{take, take_all, HasGiven, IsTunedTo, soft_frames, Channel, ChannelReceiver, Mark, Sample, SoftFrame}
-use Rattle.tuned_listener.proofs.Common.{Tuning}
+use Rattle.tuned_listener.proofs.Common.{◌≡◌, ◌∙◌, ℕ, ◌-◌, ◌++◌, ◌∷◌, [], List, append-nil, ap, arith, length, length-take, refl, subst}
+use Rattle.tuned_listener.proofs.Common.{sym, take, take_all, HasGiven, IsTunedTo, soft_frames, Channel, ChannelReceiver, Mark, Sample}
+use Rattle.tuned_listener.proofs.Common.{SoftFrame, Tuning}
 use Rattle.tuned_listener.proofs.FramesGiven.{step_frame, step_none}
 use Rattle.tuned_listener.proofs.tuner.Tuner.step.Goals as goal
 
