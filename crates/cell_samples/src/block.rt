@@ -22,6 +22,15 @@ pub const BLOCK: usize = WALSH_CHIPS as usize;
 /// For how many channels a block keeps levels.
 const MOST_CHANNELS: usize = 128;
 
+/// The level of each channel of a cell over a block, and 0 behind the last channel.
+type Levels = [i64; MOST_CHANNELS];
+
+/// The sum of the channels' amplitudes at each chip of a block, times the link.
+type BlockSums = [Pair; BLOCK];
+
+/// The same as samples: what each chip is where the codes' point is 1.
+type BlockChips = [Sample; BLOCK];
+
 /// The channels of a cell, with what they sent over the block that was asked for last.
 ///
 /// Contracts see the channels and the factor of the link.
@@ -29,11 +38,8 @@ const MOST_CHANNELS: usize = 128;
 pub struct Block {
     channels: Vec<Channel>,
     factor: Pair,
-    // The level of each channel over the block, and 0 behind the last channel.
-    levels: [i64; MOST_CHANNELS],
-    // What each chip is where the codes' point is 1: the link times the sum of the channels'
-    // amplitudes.
-    chips: [Sample; BLOCK],
+    levels: Levels,
+    chips: BlockChips,
 }
 
 impl Model for Block {
@@ -49,7 +55,7 @@ impl Model for Block {
 }
 
 /// Keeps the level of a channel, and tells whether it is the one that was kept before.
-fn keep_level(levels: &mut [i64; MOST_CHANNELS], channel: usize, level: i64) -> bool
+fn keep_level(levels: &mut Levels, channel: usize, level: i64) -> bool
     requires { channel < 128 }
     ensures kept { result ≡ true → levels.new ≡ levels.old }
     ensures set { levels.new ≡ set levels.old channel level }
@@ -61,7 +67,7 @@ fn keep_level(levels: &mut [i64; MOST_CHANNELS], channel: usize, level: i64) -> 
 
 /// Makes `levels` those of the channels over the 64 chips from a local chip on, and tells whether
 /// they are the ones that were kept before.
-fn keep_levels(channels: &mut [Channel], first: u64, levels: &mut [i64; MOST_CHANNELS]) -> bool
+fn keep_levels(channels: &mut [Channel], first: u64, levels: &mut Levels) -> bool
     requires whole { first % 64 ≡ 0 }
     requires soon { first < 2 ^ 34 }
     requires few { length channels.old ≤ 128 }
@@ -97,7 +103,7 @@ fn with_level(sum: Pair, level: i64, factor: Pair) -> Pair
 ///
 /// Over a block each channel has one level, so the rows' transform of the levels gives the sums:
 /// the sign of row n at chip k is that of row k at chip n.
-fn sums_of(channels: &[Channel], factor: Pair, levels: &[i64; MOST_CHANNELS]) -> [Pair; BLOCK]
+fn sums_of(channels: &[Channel], factor: Pair, levels: &Levels) -> BlockSums
     requires few { length channels.now ≤ 128 }
     requires factor { IsWithin 32768 factor }
     requires small { All IsLevel levels.now }
@@ -124,7 +130,7 @@ fn narrowed(sum: Pair) -> Sample
 }
 
 /// Makes `chips` the sums of a block as samples.
-fn narrow(sums: &[Pair; BLOCK], chips: &mut [Sample; BLOCK])
+fn narrow(sums: &BlockSums, chips: &mut BlockChips)
     requires { (k : ℕ) → k < 64 → IsQuiet (get_or sums.now k origin) }
     ensures { (k : ℕ) → k < 64 →
         of_sample (get_or chips.new k no_sample) ≡ get_or sums.now k origin }
@@ -140,8 +146,8 @@ fn renew(
     channels: &mut [Channel],
     factor: Pair,
     first: u64,
-    levels: &mut [i64; MOST_CHANNELS],
-    chips: &mut [Sample; BLOCK],
+    levels: &mut Levels,
+    chips: &mut BlockChips,
 )
     requires whole { first % 64 ≡ 0 }
     requires soon { first < 2 ^ 34 }

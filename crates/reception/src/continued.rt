@@ -2,7 +2,7 @@
 
 use crate::fingers::frame_symbols;
 use crate::frame_clock::FrameClock;
-use crate::softs::{shift_in, unscramble};
+use crate::softs::{SpanSofts, shift_in, unscramble};
 use chip_core::Bits;
 use chip_core::air::{DATA_SYMBOLS, SPAN_SYMBOLS};
 use frame_decoder::{FrameKind, span_bits};
@@ -21,7 +21,7 @@ pub struct Continued {
     pub fingers: Fingers,
     /// The soft values of the last three frames, the last at the end. A sync frame has 128 of them,
     /// and a frame of a paging channel 384.
-    pub softs: [i64; SPAN_SYMBOLS],
+    pub softs: SpanSofts,
 }
 
 impl Continued {

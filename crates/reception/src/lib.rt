@@ -14,4 +14,4 @@ pub use fingers::{frames_end, reference_fingers};
 pub use frame_clock::{FrameClock, Span};
 pub use frame_receiver::FrameReceiver;
 pub use scrambling::Scrambling;
-pub use softs::unscramble;
+pub use softs::{SpanSofts, unscramble};

@@ -8,6 +8,9 @@ ghost use Rattle.reception.specs.Softs.{AreSmall, frame_most};
 
 use chip_core::air::SPAN_SYMBOLS;
 
+/// The soft values of a channel's last three frames, one for each symbol, the newest at the end.
+pub type SpanSofts = [i64; SPAN_SYMBOLS];
+
 /// A soft value, turned in sign where its scrambling bit is 1.
 fn descrambled_value(bit: bool, soft: i64) -> i64
     requires { unsigned_abs soft ≤ 2 ^ 62 }
@@ -31,7 +34,7 @@ pub fn unscramble(bits: &[bool], softs: &mut [i64])
 }
 
 /// Takes the values of one frame more, in place of the oldest.
-pub(crate) fn shift_in(softs: &mut [i64; SPAN_SYMBOLS], fresh: &[i64])
+pub(crate) fn shift_in(softs: &mut SpanSofts, fresh: &[i64])
     requires few { length fresh.now ≤ 384 }
     requires small { AreSmall (length fresh.now) softs.old }
     requires fresh { sum_by unsigned_abs fresh.now ≤ frame_most }
