@@ -40,7 +40,7 @@ is_left a next n k = nat_le next k && is_now a n k
 abbrev pub left : Arrivals → ℕ → ℕ → List ℕ
 left a next n = filter (is_left a next n) (places (a.bound n))
 
--- none is
+-- none is known just now
 abbrev pub NoneNow : Arrivals → ℕ → Type 0
 NoneNow a n = (k : ℕ) → a.inside k ≡ true → ¬ (a.known k ≡ n)
 

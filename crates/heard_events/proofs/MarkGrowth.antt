@@ -66,7 +66,7 @@ none_marked t near =
     let timed = timed_of t near in
     mark_is t timed [] 0 0 (λ k less inside. absurd (omega (arith, less))) (none_known t _ timed)
 
--- more samples leave it
+-- the marks of frames that are known stay where more samples follow
 pub marks_at_sooner : (t : Tuning) (low : ℕ) → IsSyncTimed t low → Stays (sync_frames t) (marks_at t)
 unfolding marks_at frames_open
 marks_at_sooner t low timed xs ys k inside known =
