@@ -1,14 +1,15 @@
 -- What the proofs of this crate cite of what lies below, and of its own definitions, passed on from one place.
-pub use Rattle.std.proofs.Common.{All, Bool, List, SFits, [], ap, arith, below_more, cond, drop, eqb, eqb-true, false, get_or, get_or-drop}
-pub use Rattle.std.proofs.Common.{get_or-set_other, get_or-set_same, get_or-take, length, length-append, map, of_z, pos, refl, replicate}
-pub use Rattle.std.proofs.Common.{rules, set, subst, suc, sym, take, to_z, true, unsigned_abs, w64, zero, ℕ, ℤ, ◌%◌, ◌&&◌, ◌*ℤ◌, ◌*◌, ◌++◌}
-pub use Rattle.std.proofs.Common.{◌+ℤ◌, ◌+◌, ◌-◌, ◌/◌, ◌<◌, ◌==◌, ◌^◌, ◌∙◌, ◌∷◌, ◌≡◌, ◌≤◌}
+pub use Rattle.std.proofs.Common.{All, Bool, FitsSigned, List, SFits, [], ap, arith, below_more, cond, drop, eqb, eqb-true, false, get_or}
+pub use Rattle.std.proofs.Common.{get_or-drop, get_or-set_other, get_or-set_same, get_or-take, length, length-append, map, of_z, pos, refl}
+pub use Rattle.std.proofs.Common.{replicate, rules, set, subst, suc, sym, take, to_z, true, unsigned_abs, w64, zero, ℕ, ℤ, ◌%◌, ◌&&◌, ◌*ℤ◌}
+pub use Rattle.std.proofs.Common.{◌*◌, ◌++◌, ◌+ℤ◌, ◌+◌, ◌-ℤ◌, ◌-◌, ◌/◌, ◌<◌, ◌==◌, ◌^◌, ◌∙◌, ◌∷◌, ◌≡◌, ◌≤◌}
 pub use Rattle.std.proofs.Math.ListN.{get_or-map}
 pub use Rattle.std.proofs.lemmas.Bool.{and_parts}
-pub use Rattle.std.proofs.lemmas.Int.{ints, to_z-of_z}
+pub use Rattle.std.proofs.lemmas.Int.{fits_signed_from_abs, ints, to_z-of_z}
 pub use Rattle.std.proofs.lemmas.List.{drop-drop, get_or-replicate, length-drop, length-map, length-set, map-append, set-get_or, take_at}
 pub use Rattle.std.proofs.lemmas.List.Elements.{All-append, All-drop, All-from_get_or, All-get_or, All-replicate, All-set}
 pub use Rattle.std.proofs.lemmas.Slice.{overwrites, take-put_mid}
+pub use Rattle.std.specs.Int.{w16, w8}
 pub use Rattle.cdma_io.specs.SampleFile.{HasBits}
 pub use Rattle.cell_plan.proofs.Amplitudes.{chip_fits, chip_most, few_channels, most_part_small, scaled_none, scaled_sum}
 pub use Rattle.cell_plan.proofs.Amplitudes.{signal_of_carriers, times_moved}

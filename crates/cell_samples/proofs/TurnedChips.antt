@@ -1,9 +1,6 @@
 -- A chip times a point of the codes, whose parts have 16 bits.
-use Rattle.std.specs.Int.{w8, w16}
-use Rattle.std.specs.Prelude.{◌-ℤ◌, FitsSigned}
-use Rattle.std.proofs.lemmas.Int.{fits_signed_from_abs}
-use Rattle.cell_samples.proofs.Common.{◌≡◌, ◌+◌, ◌≤◌, ◌∙◌, ℤ, ◌+ℤ◌, ◌*ℤ◌, unsigned_abs, arith, ints, to_z, of_z, to_z-of_z, refl}
-use Rattle.cell_samples.proofs.Common.{more_most, of_sample, Sample, IsPoint, IsTurned}
+use Rattle.cell_samples.proofs.Common.{◌≡◌, ◌+◌, ◌≤◌, ◌∙◌, ℤ, ◌+ℤ◌, ◌-ℤ◌, ◌*ℤ◌, unsigned_abs, FitsSigned, arith, ints, refl, to_z, of_z}
+use Rattle.cell_samples.proofs.Common.{w8, w16, to_z-of_z, fits_signed_from_abs, more_most, of_sample, Sample, IsPoint, IsTurned}
 
 read8 : (z : ℤ) → unsigned_abs z ≤ 1 → to_z w8 (of_z w8 z) ≡ z
 read8 z small = to_z-of_z w8 z (fits_signed_from_abs w8 z (omega (arith, small)))
