@@ -72,6 +72,8 @@ fn signal_of(frame: &Decoded) -> Option<Bits>
 
 /// Lets the framer take a frame's signaling, where the frame is good and has any, and gives the
 /// message that this completes.
+// Its frame holds several messages, and is not to lie beneath that of a frame's decoding.
+#[inline(never)]
 pub fn hear_signal(
     framer: &mut SignalFramer,
     frame: &Decoded,

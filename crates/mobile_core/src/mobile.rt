@@ -93,6 +93,8 @@ impl Mobile {
     ///
     /// It allocates all that it needs, less than a megabyte, and that is all that can fail. Of the
     /// samples that it takes it keeps the last 65,536.
+    // Its frame holds the receivers once more, and is not to lie in its caller's.
+    #[inline(never)]
     pub fn new(
         alloc: Global,
         settings: Settings,

@@ -98,6 +98,8 @@ impl PagingReceiver {
     /// Hears the next bit of the frame that is due, and gives the message that it completes.
     ///
     /// A frame stays due up to its last bit, since several messages may end in one.
+    // Its frame holds several messages, and is not to lie beneath that of another channel.
+    #[inline(never)]
     fn hear_bit(
         &mut self,
         decoder: &mut Decoder,

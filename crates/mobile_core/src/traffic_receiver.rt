@@ -180,6 +180,8 @@ impl TrafficReceiver {
     }
 
     /// Lets the moment that has come pass, and gives its event, where it has one.
+    // Its frame holds pilot sets, and is not to lie beneath that of who hears a frame.
+    #[inline(never)]
     fn pass_moment(&mut self, ring: &SampleRing, codes: &Codes) -> Option<Event>
         requires sound { IsSoundTraffic self.old }
         requires idle { self.old.frames.clock.have ≡ self.old.frames.clock.next }
@@ -259,6 +261,8 @@ impl TrafficReceiver {
     }
 
     /// What the frame that is due says, and its power control bits.
+    // Its frame holds soft values, and is not to lie beneath that of a message.
+    #[inline(never)]
     fn next_frame(&self, decoder: &mut Decoder) -> (Decoded, PowerBits)
         requires sound { IsSoundTraffic self.now }
         requires room { decoder.old ≡ 576 }
