@@ -1,6 +1,6 @@
 -- Numbers that fit a machine integer come back from it.
-use Rattle.cell_plan.proofs.Common.{◌≡◌, ℕ, ◌+◌, ◌*◌, ◌≤◌, ◌^◌, arith, ◌∙◌, ℤ, ◌+ℤ◌, ◌-ℤ◌, ◌*ℤ◌, unsigned_abs, FitsSigned, to_z, of_z, w8}
-use Rattle.cell_plan.proofs.Common.{w16, w64, ints, to_z-of_z, fits_signed_from_abs, unsigned_abs-mul, mul-le-mul}
+use Rattle.cell_plan.proofs.Common.{◌≡◌, ◌+◌, ◌*◌, ◌≤◌, ◌^◌, arith, ◌∙◌, ℤ, ◌+ℤ◌, ◌-ℤ◌, ◌*ℤ◌, unsigned_abs, FitsSigned, to_z, of_z, w8, w16}
+use Rattle.cell_plan.proofs.Common.{w64, ints, to_z-of_z, fits_signed_from_abs, unsigned_abs-mul, mul-le-mul}
 
 read8 : (z : ℤ) → unsigned_abs z ≤ 127 → to_z w8 (of_z w8 z) ≡ z
 read8 z small = to_z-of_z w8 z (fits_signed_from_abs w8 z (omega (arith, small)))
@@ -66,12 +66,6 @@ sum_read x y small =
     rw (read64 x (omega (arith, small)), read64 y (omega (arith, small)))
     (read64 (x +ℤ y) (omega (arith, small, more_most x y)))
 
-pub difference_cast : (x y : ℤ) → unsigned_abs x + unsigned_abs y ≤ 32767 →
-    FitsSigned w16 (to_z w64 (of_z w64 (to_z w64 (of_z w64 x) -ℤ to_z w64 (of_z w64 y))))
-difference_cast x y small =
-    rw (difference_read x y small)
-    (fits_signed_from_abs w16 (x -ℤ y) (omega (arith, small, less_most x y)))
-
 pub sum_cast : (x y : ℤ) → unsigned_abs x + unsigned_abs y ≤ 32767 →
     FitsSigned w16 (to_z w64 (of_z w64 (to_z w64 (of_z w64 x) +ℤ to_z w64 (of_z w64 y))))
 sum_cast x y small =
@@ -88,14 +82,6 @@ pub sum_is : (x y : ℤ) → unsigned_abs x + unsigned_abs y ≤ 32767 →
     to_z w16 (of_z w16 (to_z w64 (of_z w64 (to_z w64 (of_z w64 x) +ℤ to_z w64 (of_z w64 y)))))
     ≡ x +ℤ y
 sum_is x y small = rw (sum_read x y small) (read16 (x +ℤ y) (omega (arith, small, more_most x y)))
-
-pub difference_most : (x y : ℤ) (m n : ℕ) → unsigned_abs x ≤ m → unsigned_abs y ≤ n →
-    m + n ≤ 32767 →
-    unsigned_abs
-    (to_z w16 (of_z w16 (to_z w64 (of_z w64 (to_z w64 (of_z w64 x) -ℤ to_z w64 (of_z w64 y))))))
-    ≤ m + n
-difference_most x y m n h k small =
-    rw (difference_is x y (omega (arith, h, k, small))) (omega (arith, h, k, less_most x y))
 
 -- what a factor of 64 bits with the sign of 8 bits says of the numbers
 pub signed_is : (x s r : ℤ) → unsigned_abs x ≤ 32767 → unsigned_abs s ≤ 1 →

@@ -1,7 +1,7 @@
 -- When the frames of a traffic channel end, whatever pilots each is heard from.
 use Rattle.heard_events.proofs.Common.{◌≡◌, ℕ, ◌+◌, ◌^◌, ◌<◌, ◌≤◌, true, ◌&&◌, List, refl, ap, ◌∙◌, arith, nat_le, Bool, le-leb, Data}
-use Rattle.heard_events.proofs.Common.{AreClose, all_fingers, all_begun, frame_end, frame_known, frames_bound, has_frame, traffic_start}
-use Rattle.heard_events.proofs.Common.{Tuning, Leg, Mark, Traffic}
+use Rattle.heard_events.proofs.Common.{AreClose, all_fingers, all_begun, frame_end, frame_known, has_frame, traffic_start, Tuning, Leg}
+use Rattle.heard_events.proofs.Common.{Mark, Traffic}
 use Rattle.rake_finger.proofs.CloseFingers.{close_begun, close_ends}
 use Rattle.rake_finger.proofs.FingerTimes.{within_is}
 
@@ -35,10 +35,6 @@ module _ (t : Tuning) (traffic : Traffic) (m : Mark) (legs : ℕ → List Leg) w
         let low = known_low k in
         let high = known_high j in
         omega (arith, less, low, high)
-
-    -- there are enough numbers of frames
-    pub known_bound : (k n : ℕ) → frame_known t traffic m legs k ≡ n → k < frames_bound n
-    known_bound k n known = let low = known_low k in omega (arith, known, low)
 
     -- behind the first samples a frame lies in the file where it ends there
     pub has_is : 2 ^ 16 ≤ m.sample → (k : ℕ) →

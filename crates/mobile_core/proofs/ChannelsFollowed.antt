@@ -3,8 +3,8 @@ use Rattle.mobile_core.proofs.Common.{◌≡◌, ℕ, ◌+◌, ◌^◌, ◌<◌,
 use Rattle.mobile_core.proofs.Common.{None, ForSome, option_map_or, arith, length-append, Sample, HearsFollowed, HearsFrames, HearsPages}
 use Rattle.mobile_core.proofs.Common.{IsFollowedDue, IsSoundFollowed, EndFrom, WaitFrom, followed_events_left, followed_heard}
 use Rattle.mobile_core.proofs.Common.{paging_events_left, AreNear, Tuning, sync_stream, Event, Followed, Mark, PagingReceiver}
-use Rattle.mobile_core.proofs.Common.{TrafficReceiver, IsSomeAnd, IsSoundPaging, IsSoundTraffic, IsTrafficDue, IsDueAt, IsUnheard, Traffic}
-use Rattle.mobile_core.proofs.Common.{append-nil, bits_heard, followed_behind, listed, traffic_heard, traffic_events_left}
+use Rattle.mobile_core.proofs.Common.{TrafficReceiver, IsSomeAnd, IsSoundPaging, IsSoundTraffic, IsDueAt, IsUnheard, Traffic, append-nil}
+use Rattle.mobile_core.proofs.Common.{bits_heard, followed_behind, listed, traffic_heard, traffic_events_left}
 use Rattle.mobile_core.proofs.FramesFollowed.{frames_go, frames_more, told_few}
 use Rattle.heard_events.proofs.GoesOn.{GoesOn, both, goes_as, joined}
 use Rattle.heard_events.proofs.MarkStays.{pages_from_mark}
@@ -15,21 +15,6 @@ pub ends_later : (n : ℕ) (f : Followed) → WaitFrom n f → EndFrom (n + 1) f
 ends_later n f waits = record {
   paging = λ r e. let w = waits.paging r e in omega (arith, w);
   traffic = λ r e. let w = (waits.traffic r e).before in omega (arith, w);
-}
-
--- and where nothing is due, what ends later waits
-pub waits_on : (n count : ℕ) (f : Followed) → ¬ IsFollowedDue count f → EndFrom (n + 1) f →
-    WaitFrom n f
-waits_on n count f idle ends = record {
-  paging = λ r e. let most = ends.paging r e in omega (arith, most);
-  traffic = λ r e.
-      let most = ends.traffic r e in
-      record {
-        before = omega (arith, most);
-        due = λ due.
-            absurd (idle (inr (subst (λ (x : Option TrafficReceiver).
-            IsSomeAnd x IsTrafficDue) (sym e) (inr due))));
-      };
 }
 
 -- what has been heard is a small number
