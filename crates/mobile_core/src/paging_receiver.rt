@@ -189,7 +189,7 @@ impl Receive for PagingReceiver {
     ghost left = { λ t _. paging_left t };
 
     fn end_before(&self, end: u64) -> u64 {
-        self.received.clock.end().min(end)
+        self.received.clock.end.min(end)
     }
 
     fn is_due(&self, count: u64) -> bool {
@@ -197,8 +197,8 @@ impl Receive for PagingReceiver {
     }
 
     fn take_ended(&mut self, ring: &SampleRing, codes: &Codes) {
-        if self.received.clock.end() == ring.taken() {
-            let bits = self.scrambling.frame_bits(self.received.clock.coming());
+        if self.received.clock.end == ring.taken() {
+            let bits = self.scrambling.frame_bits(self.received.clock.have);
             self.received.take_frame(ring, codes, &bits);
         }
     }

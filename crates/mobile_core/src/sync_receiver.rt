@@ -66,7 +66,7 @@ impl SyncReceiver {
     pub(crate) fn end(&self) -> u64
         ensures { result ≡ self.now.received.clock.end }
     {
-        self.received.clock.end()
+        self.received.clock.end
     }
 
     /// Whether a message set a mark.
@@ -144,7 +144,7 @@ impl SyncReceiver {
         ensures value { result ≡ message_start self.now }
         ensures most { result ≤ 2 ^ 28 }
     {
-        let first = self.received.clock.next() - self.message_frames;
+        let first = self.received.clock.next - self.message_frames;
         self.received.clock.start_of(first)
     }
 }

@@ -33,7 +33,7 @@ pub use borrow.Rule.Slice.PartMut.{post_of}
 pub use mir.Syntax.{w64, w8}
 pub use mir.Val.{SFits}
 pub use Rattle.reception.specs.Clocks.{IsAt, IsDueAt, clock_from, first_frame, frame_come, frame_heard, span_from}
-pub use Rattle.reception.specs.Receiving.{Receives, own_bits_in}
+pub use Rattle.reception.specs.Receiving.{Receives}
 pub use Rattle.reception.specs.Softs.{AreSmall, frame_most, last_softs}
 pub use Rattle.reception.specs.declared.continued.Continued.{Continued}
 pub use Rattle.reception.specs.declared.frame_clock.FrameClock.{FrameClock}

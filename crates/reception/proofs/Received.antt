@@ -2,7 +2,9 @@
 use Rattle.reception.proofs.Common.{◌≡◌, ℕ, zero, suc, ◌+◌, ◌-◌, ◌*◌, ◌≤◌, List, [], ◌++◌, length, length-append, take, drop, refl, sym, ap}
 use Rattle.reception.proofs.Common.{◌∙◌, arith, true, ℤ, flat_map, drop_all, take_all, places-none, places, Sample, own_bits, symbols}
 use Rattle.reception.proofs.Common.{IsDueAt, clock_from, first_frame, frame_come, frame_heard, span_from, AreNear, Receives, last_softs}
-use Rattle.reception.proofs.Common.{Stream, Channel, frame_softs, own_bits_in, Continued, flat_map_ext_places, flat_map-places-more}
+use Rattle.reception.proofs.Common.{Stream, Channel, frame_softs, span_first, span_frames, Continued, flat_map_ext_places}
+use Rattle.reception.proofs.Common.{flat_map-places-more}
+use Rattle.rake_finger.specs.Streams.{span_softs}
 use Rattle.std.proofs.lemmas.List.{length-drop}
 use Rattle.reception.proofs.ClockSteps.{clock_new, clock_more, clock_come, clock_heard, span_bounds, span_is}
 use Rattle.rake_finger.proofs.FrameTimes.{inside_from}
@@ -125,12 +127,15 @@ module _ {C : Type 0} {count : ℕ} {s : Stream C} {c : Continued} {heard : List
 
 module _ {count : ℕ} {s : Stream Channel} {c : Continued} {heard : List Sample}
     (r : Receives count s c heard) where
-  -- the own bits of the frame that is due
-  own_are : IsDueAt count c.clock →
-      own_bits s.channel (c.clock.have - span_from c.clock) (c.clock.next - span_from c.clock)
-      (last_softs (symbols s.form) (c.clock.have - span_from c.clock) c.softs)
-      ≡ own_bits_in count heard s c.clock.next
-  own_are d =
+  -- the own bits of the frame that is due, as the code cuts its span out
+  pub own_bits_are : IsDueAt count c.clock → (frames own kept : ℕ) →
+      frames ≡ c.clock.have - span_from c.clock → own ≡ c.clock.next - span_from c.clock →
+      kept ≡ symbols s.form * frames → length c.softs ≡ 1152 →
+      own_bits s.channel frames own
+      (take (1152 - (1152 - kept)) (drop (1152 - kept) c.softs))
+      ≡ own_bits s.channel (span_frames count s c.clock.next)
+      (c.clock.next - span_first count s c.clock.next) (span_softs count heard s c.clock.next)
+  own_bits_are d frames own kept frames_is own_is kept_is long =
       let is = r.clocked.reached in
       let e = span_is r.clocked r.waits d in
       let first : ℕ = span_from c.clock in
@@ -141,19 +146,9 @@ module _ {count : ℕ} {s : Stream Channel} {c : Continued} {heard : List Sample
       (omega (arith, low, order, bounds.0)) in
       let back : c.clock.have - (c.clock.have - first) ≡ first =
       omega (arith, bounds.0, order) in
-      rw (had, back, e.1, e.0) refl
-
-  -- the same, as the code cuts the span out
-  pub own_bits_are : IsDueAt count c.clock → (frames own kept : ℕ) →
-      frames ≡ c.clock.have - span_from c.clock → own ≡ c.clock.next - span_from c.clock →
-      kept ≡ symbols s.form * frames → length c.softs ≡ 1152 →
-      own_bits s.channel frames own
-      (take (1152 - (1152 - kept)) (drop (1152 - kept) c.softs))
-      ≡ own_bits_in count heard s c.clock.next
-  own_bits_are d frames own kept frames_is own_is kept_is long =
       let rest : List ℤ = drop (1152 - kept) c.softs in
       let all : take (1152 - (1152 - kept)) rest ≡ rest =
       take_all (1152 - (1152 - kept)) rest
       (omega (arith, length-drop (1152 - kept) c.softs, long)) in
       ap (own_bits s.channel frames own) all
-      ∙ rw (kept_is, own_is, frames_is) (own_are d)
+      ∙ rw (kept_is, own_is, frames_is, had, back, e.1, e.0) refl

@@ -1,14 +1,12 @@
 -- What a continued channel stands for as it is received.
-use Rattle.std.specs.Prelude.{◌≡◌, ℕ, ◌+◌, ◌-◌, ◌≤◌, true, Bool, List, length}
+use Rattle.std.specs.Prelude.{◌≡◌, ℕ, ◌+◌, ◌-◌, ◌≤◌, true, List, length}
 use Rattle.std.specs.List.{flat_map}
 use Rattle.chip_core.specs.Bits.{places}
 use Rattle.chip_core.specs.declared.sample.Sample.{Sample}
-use Rattle.frame_decoder.specs.Spans.{Channel, own_bits}
 use Rattle.rake_finger.specs.Soft.{symbols}
 use Rattle.reception.specs.Clocks.{IsAt}
 use Rattle.reception.specs.Softs.{last_softs}
-use Rattle.rake_finger.specs.Streams.{Stream, frame_softs, span_first, span_frames}
-use Rattle.rake_finger.specs.Streams.{span_softs}
+use Rattle.rake_finger.specs.Streams.{Stream, frame_softs}
 use Rattle.reception.specs.declared.continued.Continued.{Continued}
 
 -- The stream's fingers have taken these samples of a file: the clock is there, and the soft values
@@ -21,9 +19,3 @@ pub record Receives {C : Type 0} (count : ℕ) (s : Stream C) (c : Continued)
   pub softs_are : (m : ℕ) → m ≤ 3 → c.clock.low + m ≤ c.clock.have →
       last_softs (symbols s.form) m c.softs
       ≡ flat_map (λ j. frame_softs heard s (c.clock.have - m + j)) (places m)
-
--- frame k's own bits of its span's best codeword
-abbrev pub own_bits_in : ℕ → List Sample → Stream Channel → ℕ → List Bool
-own_bits_in count samples s k =
-    own_bits s.channel (span_frames count s k) (k - span_first count s k)
-    (span_softs count samples s k)

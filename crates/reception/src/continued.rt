@@ -25,15 +25,15 @@ pub struct Continued {
 }
 
 impl Continued {
-    ghost use Rattle.std.specs.Prelude.{◌≡◌, ◌<◌, ◌≤◌, ◌+◌, ◌*◌, ◌^◌, ℕ, true, List, length};
+    ghost use Rattle.std.specs.Prelude.{◌≡◌, ◌<◌, ◌≤◌, ◌+◌, ◌-◌, ◌*◌, ◌^◌, ℕ, true, List, length};
     ghost use Rattle.chip_core.specs.declared.sample.Sample.{Sample};
-    ghost use Rattle.frame_decoder.specs.Spans.{Channel, channel_for};
+    ghost use Rattle.frame_decoder.specs.Spans.{Channel, channel_for, own_bits};
     ghost use Rattle.reception.specs.Clocks.{IsDueAt, clock_from, first_frame, frame_come};
     ghost use Rattle.rake_finger.specs.Near.{AreNear, have_rows};
-    ghost use Rattle.reception.specs.Receiving.{Receives, own_bits_in};
+    ghost use Rattle.reception.specs.Receiving.{Receives};
     ghost use Rattle.rake_finger.specs.Scrambled.{Scrambles};
     ghost use Rattle.reception.specs.Sound.{IsSoundChannel};
-    ghost use Rattle.rake_finger.specs.Streams.{Stream};
+    ghost use Rattle.rake_finger.specs.Streams.{Stream, span_first, span_frames, span_softs};
     ghost use Rattle.rake_finger.specs.Held.{HoldsLast};
     ghost use Rattle.rake_finger.specs.Soft.{symbols};
     ghost use Rattle.symbol_path.specs.SentOrder.{size};
@@ -79,8 +79,8 @@ impl Continued {
             softs,
         } = self;
         let mut room = [0i64; DATA_SYMBOLS];
-        let fresh = &mut room[..frame_symbols(clock.form())];
-        combine_into(ring, codes, fingers, clock.form(), clock.start(), fresh);
+        let fresh = &mut room[..frame_symbols(clock.form)];
+        combine_into(ring, codes, fingers, clock.form, clock.start, fresh);
         unscramble(scrambling, fresh);
         shift_in(softs, fresh);
         clock.advance();
@@ -95,12 +95,14 @@ impl Continued {
         ensures value { (count : ℕ) (s : Stream Channel) (heard : List Sample) →
             Receives count s self.now heard → channel_for kind ≡ s.channel →
             IsDueAt count self.now.clock →
-            result ≡ own_bits_in count heard s self.now.clock.next }
+            result ≡ own_bits s.channel (span_frames count s self.now.clock.next)
+            (self.now.clock.next - span_first count s self.now.clock.next)
+            (span_softs count heard s self.now.clock.next) }
         ensures count { length result ≡ (channel_for kind).bits }
         ensures kept { decoder.new ≡ decoder.old }
     {
         let span = self.clock.span();
-        let kept = frame_symbols(self.clock.form()) * usize::from(span.frames);
+        let kept = frame_symbols(self.clock.form) * usize::from(span.frames);
         span_bits(
             decoder,
             kind,

@@ -76,43 +76,8 @@ impl FrameClock {
         }
     }
 
-    /// How the channel's frames are cut.
-    pub fn form(&self) -> Form
-        ensures { result ≡ self.now.form }
-    {
-        self.form
-    }
-
-    /// The reference sample at which the frame begins that comes next.
-    pub fn start(&self) -> u64
-        ensures { result ≡ self.now.start }
-    {
-        self.start
-    }
-
-    /// How many samples have been taken when the frame ends that comes next.
-    pub fn end(&self) -> u64
-        ensures { result ≡ self.now.end }
-    {
-        self.end
-    }
-
-    /// The number of the frame whose samples come next.
-    pub fn coming(&self) -> u64
-        ensures { result ≡ self.now.have }
-    {
-        self.have
-    }
-
-    /// The number of the frame that is heard next.
-    pub fn next(&self) -> u64
-        ensures { result ≡ self.now.next }
-    {
-        self.next
-    }
-
-    /// Whether that frame is known, in a file of so many samples: it has come, and where it waits
-    /// the frame behind it has come, or isn't in the file.
+    /// Whether the frame that is heard next is known, in a file of so many samples: it has come, and
+    /// where it waits the frame behind it has come, or isn't in the file.
     pub fn is_due(&self, count: u64) -> bool
         requires { IsSoundClock self.now }
         ensures { IsTrue result ↔ IsDueAt count self.now }

@@ -68,7 +68,7 @@ impl FrameReceiver {
             ≤ length self.now.fingers * (384 * 2 ^ 50) }
     {
         let mut softs = [0; DATA_SYMBOLS];
-        let start = self.clock.start();
+        let start = self.clock.start;
         combine_into(ring, codes, &self.fingers, Form::Data, start, &mut softs);
         softs
     }

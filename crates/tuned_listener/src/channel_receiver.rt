@@ -80,7 +80,7 @@ impl ChannelReceiver {
     pub(crate) fn end(&self) -> u64
         ensures { result ≡ self.now.frames.clock.end }
     {
-        self.frames.clock.end()
+        self.frames.clock.end
     }
 
     /// The power control bits of a frame, from its soft values as the fingers hear them.
@@ -116,13 +116,13 @@ impl ChannelReceiver {
         ensures ends { result.end ≡ ring.now.taken }
         ensures small { sum_by unsigned_abs result.descrambled ≤ frame_most }
     {
-        let number = self.frames.clock.coming();
+        let number = self.frames.clock.have;
         let mut softs = self.frames.raw(ring, codes);
         let power = self.power_in(number, &softs);
         self.frames.descramble(number, &mut softs);
         SoftFrame {
             number,
-            end: self.frames.clock.end(),
+            end: self.frames.clock.end,
             descrambled: softs,
             power,
         }

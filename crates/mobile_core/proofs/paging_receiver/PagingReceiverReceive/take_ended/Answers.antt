@@ -3,15 +3,14 @@ use Rattle.mobile_core.proofs.PagesFollowed.{come_left, follows_on}
 use Rattle.mobile_core.proofs.PagesHeard.{hears_come}
 use Rattle.mobile_core.proofs.paging_receiver.PagingReceiverReceive.take_ended.Goals as goal
 
-pub returns-then-end-taken-clause-hears : goal.returns-then-end-taken-clause-hears
-returns-then-end-taken-clause-hears c = λ t _ mark heard pages holds none behind.
+pub returns-then-self-taken-clause-hears : goal.returns-then-self-taken-clause-hears
+returns-then-self-taken-clause-hears c = λ t _ mark heard pages holds none behind.
     let st = behind.hears in
     let r = c.args.self.now in
     let received = c.take_frame.new.self in
     let come = c.take_frame.ensures in
     let next = ap (λ (k : FrameClock). k.next) come.clock in
-    let bits = c.frame_bits-bits.ensures.value
-    ∙ rw (st.state_is, st.mask_is, c.coming.ensures) refl in
+    let bits = c.frame_bits-bits.ensures.value ∙ rw (st.state_is, st.mask_is) refl in
     let on = hears_come st received none next
     (come.stands t.count (paging_stream t t.paging behind.set) heard holds bits none st.receives) in (
       follows_on behind (record r { received = received }) heard on,

@@ -8,9 +8,8 @@ pub combine_into-requires-clause-ring : goal.combine_into-requires-clause-ring
 combine_into-requires-clause-ring c =
     let sound = c.requires.sound in
     let k = c.args.self.now in
-    rw (c.form-2.ensures, c.start.ensures)
-    (in_ring c.args.ring.now k.clock.form k.clock.start k.fingers sound.near sound.begun
-    c.requires.room (c.requires.ended ∙ sound.ends))
+    in_ring c.args.ring.now k.clock.form k.clock.start k.fingers sound.near sound.begun
+    c.requires.room (c.requires.ended ∙ sound.ends)
 
 pub returns-clause-sound : goal.returns-clause-sound
 returns-clause-sound c =
@@ -39,7 +38,7 @@ returns-clause-stands c = λ count s heard holds bits none r.
     let out : List ℤ = c.combine_into.new.out in
     let combined : out ≡ softs heard s.fingers s.form (frame_start s k.clock.have) =
     c.combine_into.ensures.value heard holds
-    ∙ rw (c.form-2.ensures, c.start.ensures, r.fingers_are, is.form_is, is.start_is) refl in
+    ∙ rw (r.fingers_are, is.form_is, is.start_is) refl in
     let fresh_is : fresh ≡ frame_softs heard s k.clock.have =
     c.unscramble.ensures.value
     ∙ ap (λ b. unscrambled b out) bits

@@ -6,6 +6,5 @@ pub combine_into-requires-clause-ring : goal.combine_into-requires-clause-ring
 combine_into-requires-clause-ring c =
     let r = c.args.self.now in
     let sound = c.requires.sound in
-    rw c.start-start.ensures
-    (begun_in_ring c.args.ring.now Data r.clock.start r.fingers sound.close.close sound.begun
-    c.requires.room (c.requires.ended ∙ sound.ends))
+    begun_in_ring c.args.ring.now Data r.clock.start r.fingers sound.close.close sound.begun
+    c.requires.room (c.requires.ended ∙ sound.ends)

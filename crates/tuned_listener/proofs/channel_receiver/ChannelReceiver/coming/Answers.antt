@@ -7,7 +7,6 @@ use Rattle.tuned_listener.proofs.channel_receiver.ChannelReceiver.coming.Goals a
 pub returns-clause-value : goal.returns-clause-value
 returns-clause-value c = λ t channel m heard taken holds has.
     let raw = c.raw-softs in
-    rw (c.coming-number.ensures, c.end.ensures)
-    (frame_is has heard raw.result c.descramble.new.softs c.power_in-power.result
-    (raw.ensures.value heard holds) (rw c.coming-number.ensures at c.descramble.ensures.value)
-    (rw c.coming-number.ensures at (c.power_in-power.ensures t channel m taken has)))
+    frame_is has heard raw.result c.descramble.new.softs c.power_in-power.result
+    (raw.ensures.value heard holds) c.descramble.ensures.value
+    (c.power_in-power.ensures t channel m taken has)
