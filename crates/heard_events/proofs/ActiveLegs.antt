@@ -1,4 +1,4 @@
--- The active pilots of sets in order, actives a traffic channel is heard from them.
+-- The active pilots of sets in order, as a traffic channel is heard from them.
 use Rattle.heard_events.proofs.Common.{◌≡◌, ℕ, zero, suc, ◌+◌, ◌*◌, ◌<◌, ◌≤◌, ◌==◌, Bool, true, false, List, [], ◌∷◌, length, map, refl}
 use Rattle.heard_events.proofs.Common.{sym, ap, arith, Some, slice_get, nat_lt, nat_le, ℤ, pos, get_or, All, inl, inr, cond, slice_set}
 use Rattle.heard_events.proofs.Common.{subst, Option, None, unsigned_abs, nat_eq, if◌then◌else◌, and_from, cases_Bool, cases_lt, eqb-true}
@@ -75,7 +75,7 @@ active_rows m deltas actives h =
     (λ k a less. lt-ltb (get_or actives k a).row 64 (h k a less))
 
 -- DELTAS
--- those that were measured are close actives the others
+-- those that were measured are close, as the others are
 pub deltas_close : (strengths : List Strength) (deltas : List ℤ) →
     All (λ (s : Strength). unsigned_abs s.delta ≤ 226) strengths →
     All (λ d. unsigned_abs d ≤ 226) deltas →
