@@ -76,8 +76,8 @@ impl FrameClock {
         }
     }
 
-    /// Whether the frame that is heard next is known, in a file of so many samples: it has come, and
-    /// where it waits the frame behind it has come, or isn't in the file.
+    /// Whether the frame that is heard next is known, in a file of so many samples: it has come,
+    /// and where it waits the frame behind it has come, or isn't in the file.
     pub fn is_due(&self, count: u64) -> bool
         requires { IsSoundClock self.now }
         ensures { IsTrue result ↔ IsDueAt count self.now }
