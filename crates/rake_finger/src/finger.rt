@@ -86,6 +86,14 @@ impl Fingers {
         self.items[i as usize]
     }
 
+    /// The fingers.
+    pub fn all(&self) -> &[Finger]
+        ensures value { result.now ≡ self.now }
+        ensures most { length result.now ≤ 8 }
+    {
+        &self.items[..usize::from(self.count)]
+    }
+
     /// Adds a finger at the end; `Full` exactly where there are 8, and the list is unchanged then.
     pub fn push(&mut self, finger: Finger) -> Result<(), Full>
         ensures room { IsOk result ↔ (length self.old < 8) }

@@ -69,8 +69,8 @@ pub(crate) fn are_begun(fingers: &Fingers, start: u64) -> bool
     requires { start < 2 ^ 30 }
     ensures { result ≡ all_begun start fingers.now }
 {
-    for i in 0..fingers.len() {
-        if !has_begun(&fingers.get(i), start) {
+    for finger in fingers.all() {
+        if !has_begun(finger, start) {
             return false;
         }
     }
@@ -94,8 +94,8 @@ pub fn frames_end(fingers: &Fingers, form: Form, start: u64) -> u64
     ensures { result ≡ frame_end fingers.now form start }
 {
     let mut end = 0;
-    for i in 0..fingers.len() {
-        end = end_of(&fingers.get(i), form, start).max(end);
+    for finger in fingers.all() {
+        end = end_of(finger, form, start).max(end);
     }
     end
 }

@@ -1,5 +1,5 @@
-use Rattle.reception.proofs.Common.{◌≡◌, drop, all_begun}
+use Rattle.reception.proofs.Common.{◌≡◌, take, true, all_begun}
 use Rattle.reception.proofs.fingers.are_begun.Given as goal
 
-abbrev pub invariant-loop-i : goal.invariant-loop-i
-invariant-loop-i l = all_begun l.start (drop l.i l.fingers) ≡ all_begun l.start l.fingers
+abbrev pub invariant-loop-finger : goal.invariant-loop-finger
+invariant-loop-finger l = all_begun l.start (take l.finger-index l.finger-items) ≡ true

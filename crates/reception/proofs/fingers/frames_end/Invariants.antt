@@ -1,6 +1,7 @@
 use Rattle.reception.proofs.Common.{◌≡◌, max, drop, frame_end}
 use Rattle.reception.proofs.fingers.frames_end.Given as goal
 
-abbrev pub invariant-loop-i : goal.invariant-loop-i
-invariant-loop-i l =
-    max l.end (frame_end (drop l.i l.fingers) l.form l.start) ≡ frame_end l.fingers l.form l.start
+abbrev pub invariant-loop-finger : goal.invariant-loop-finger
+invariant-loop-finger l =
+    max l.end (frame_end (drop l.finger-index l.finger-items) l.form l.start)
+    ≡ frame_end l.finger-items l.form l.start
