@@ -1,11 +1,9 @@
 -- The active pilots of sets in order, as a traffic channel is heard from them.
-use Rattle.heard_events.proofs.Common.{◌≡◌, ℕ, zero, suc, ◌+◌, ◌*◌, ◌<◌, ◌≤◌, ◌==◌, Bool, true, false, List, [], ◌∷◌, length, map, refl}
-use Rattle.heard_events.proofs.Common.{sym, ap, arith, Some, slice_get, nat_lt, nat_le, ℤ, pos, get_or, All, inl, inr, cond, slice_set}
-use Rattle.heard_events.proofs.Common.{subst, Option, None, unsigned_abs, nat_eq, if◌then◌else◌, and_from, cases_Bool, cases_lt, eqb-true}
-use Rattle.heard_events.proofs.Common.{eqb-false, eq-eqb, ne_eqb, le-leb, le-ltb, lt-ltb, All-set, IsOrderly, IsStanding, times}
-use Rattle.heard_events.proofs.Common.{pilots_of_actives, handed_off, Standing, began_in, deltas_with, due_at, due_for, shown, shown_active}
-use Rattle.heard_events.proofs.Common.{Active, Accepted, ActivePilot, PilotSets, Strength, is_close, legs_close, legs_rows, places_for}
-use Rattle.heard_events.proofs.Common.{places_in, leg_of, legs_of, Mark, get_or_from_slice_get, slice_get_within}
+use Rattle.heard_events.proofs.Common.{◌≡◌, ℕ, zero, suc, ◌+◌, ◌*◌, ◌<◌, ◌≤◌, ◌==◌, true, List, [], ◌∷◌, length, map, refl, sym, ap, arith}
+use Rattle.heard_events.proofs.Common.{Some, slice_get, nat_lt, nat_le, ℤ, pos, get_or, All, cond, slice_set, Option, None, unsigned_abs}
+use Rattle.heard_events.proofs.Common.{nat_eq, if◌then◌else◌, le-leb, lt-ltb, All-set, IsOrderly, IsStanding, times, pilots_of_actives}
+use Rattle.heard_events.proofs.Common.{handed_off, Standing, began_in, deltas_with, due_at, due_for, shown, shown_active, Active, Accepted}
+use Rattle.heard_events.proofs.Common.{ActivePilot, PilotSets, Strength, is_close, legs_close, legs_rows, places_in, leg_of, legs_of, Mark}
 use Rattle.heard_events.proofs.Common.{◌∙◌, Leg}
 use Rattle.std.proofs.lemmas.Bool.{cond_both}
 use Rattle.std.proofs.lemmas.Option.{slice_get-map}

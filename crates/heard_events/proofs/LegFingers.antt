@@ -1,8 +1,7 @@
 -- The fingers of active pilots, gone over one by one.
-use Rattle.heard_events.proofs.Common.{◌≡◌, ℕ, ◌+◌, ◌≤◌, Bool, true, List, [], ◌∷◌, length, take, ◌∙◌, refl, arith}
-use Rattle.heard_events.proofs.Common.{nat_lt, ℤ, inl, inr, length-append, length-take, and_from, cases_Bool}
-use Rattle.heard_events.proofs.Common.{list_all, Finger, all_close, is_close, legs_close, legs_rows, paths_close}
-use Rattle.heard_events.proofs.Common.{places_for, places_in, all_fingers, leg_fingers, have_rows, fingers_of, Leg}
+use Rattle.heard_events.proofs.Common.{◌≡◌, ℕ, ◌≤◌, Bool, true, List, [], ◌∷◌, length, take, ◌∙◌, refl, arith, nat_lt, ℤ, inl, inr}
+use Rattle.heard_events.proofs.Common.{length-append, length-take, and_from, cases_Bool, list_all, Finger, all_close, is_close, legs_close}
+use Rattle.heard_events.proofs.Common.{legs_rows, paths_close, places_for, places_in, all_fingers, leg_fingers, have_rows, fingers_of, Leg}
 use Rattle.std.proofs.lemmas.Bool.{cond_both}
 use Rattle.std.proofs.lemmas.List.{length-map}
 use Rattle.std.proofs.lemmas.List.Folds.{list_all-map}

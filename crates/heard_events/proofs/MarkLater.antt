@@ -1,18 +1,17 @@
 -- The mark lies behind the samples within which its message is known, so a channel that begins
 -- there hasn't begun.
-use Rattle.heard_events.proofs.Common.{◌≡◌, ℕ, zero, suc, ◌+◌, ◌-◌, ◌*◌, ◌/◌, ◌<◌, ◌≤◌, ◌==◌, ◌&&◌, Bool, true, false, cond, List, [], ◌∷◌}
-use Rattle.heard_events.proofs.Common.{length, length-append, map, take, drop, length-take, length-drop, refl, sym, ap, subst, arith, inl}
-use Rattle.heard_events.proofs.Common.{inr, nat_le, nat_lt, Option, Some, None, ℤ, if◌then◌else◌, flat_map, and_parts, cases_Bool, leb-true}
+use Rattle.heard_events.proofs.Common.{◌≡◌, ℕ, ◌+◌, ◌-◌, ◌*◌, ◌/◌, ◌<◌, ◌≤◌, ◌==◌, ◌&&◌, Bool, true, false, cond, List, [], ◌∷◌, length}
+use Rattle.heard_events.proofs.Common.{length-append, map, take, drop, length-take, length-drop, refl, sym, ap, subst, arith, inl, inr}
+use Rattle.heard_events.proofs.Common.{nat_le, nat_lt, Option, Some, None, ℤ, if◌then◌else◌, flat_map, and_parts, cases_Bool, leb-true}
 use Rattle.heard_events.proofs.Common.{leb-false, places, CheckForm, Sample, own_bits, score, sending, length-best_codeword, within}
 use Rattle.heard_events.proofs.Common.{front_capsule, is_stated, stated_bits, Piece, piece, bodies, but_last, capsule_ending}
 use Rattle.heard_events.proofs.Common.{from_last_start, Sync, SyncFields, Codeword, best_codeword, Free, first_of, frames_open, marks_at}
 use Rattle.heard_events.proofs.Common.{marks_of, mark_at, AreNear, Stream, frame_own_bits, frame_softs, frame_start, is_in_file, known_at}
 use Rattle.heard_events.proofs.Common.{span_first, span_frames, frames_before, heard_at, heard_in, sync_capsule_at, with_message, IsTimed}
 use Rattle.heard_events.proofs.Common.{stream_end, Tuning, sync_stream, Mark, SpelledMessage, ◌^◌, FieldsFit, sync_reading, fixed_fit}
-use Rattle.heard_events.proofs.Common.{reading_is_message, fixed_fields}
+use Rattle.heard_events.proofs.Common.{reading_is_message, fixed_fields, All, get_or}
 use Rattle.std.specs.List.{filter}
 use Rattle.frame_decoder.specs.Spans.{Channel}
-use Rattle.heard_events.proofs.Common.{All, get_or}
 use Rattle.std.proofs.lemmas.Bool.{cond_both}
 use Rattle.std.proofs.lemmas.Option.{cond_some, none-some}
 use Rattle.std.proofs.lemmas.List.Elements.{All-map, All-nil, All-tail, All-take}
