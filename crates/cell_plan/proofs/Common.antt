@@ -1,8 +1,7 @@
 -- What the proofs of this crate cite of what lies below, and of its own definitions, passed on from one place.
 pub use Rattle.std.proofs.Common.{Bool, FitsSigned, List, None, Option, Some, [], add-one, ap, arith, cond, drop, false, get_or, inl, inr}
 pub use Rattle.std.proofs.Common.{length, length-append, length-drop, map, of_z, pos, refl, replicate, subst, suc, sym, take, to_z, true}
-pub use Rattle.std.proofs.Common.{unsigned_abs, zero, ℕ, ℤ, ◌%◌, ◌*ℤ◌, ◌*◌, ◌++◌, ◌+ℤ◌, ◌+◌, ◌-ℤ◌, ◌-◌, ◌/◌, ◌<◌, ◌==◌, ◌^◌, ◌∙◌, ◌∷◌, ◌≡◌}
-pub use Rattle.std.proofs.Common.{◌≤◌}
+pub use Rattle.std.proofs.Common.{unsigned_abs, zero, ℕ, ℤ, ◌%◌, ◌*ℤ◌, ◌*◌, ◌++◌, ◌+ℤ◌, ◌+◌, ◌-◌, ◌/◌, ◌<◌, ◌==◌, ◌^◌, ◌∙◌, ◌∷◌, ◌≡◌, ◌≤◌}
 pub use Rattle.std.proofs.Math.Nat.{div-add-mod, mod-lt, mod_self, mul-le-mul, mul-le-mul_left}
 pub use Rattle.std.proofs.Math.Seq.{drop-append-add}
 pub use Rattle.std.proofs.lemmas.Bool.{cases_lt, le-ltb}
