@@ -1,4 +1,5 @@
 pub mod Common
+pub mod ChannelsOpened
 pub mod SyncHeard
 pub mod PagesHeard
 pub mod FramesHeard

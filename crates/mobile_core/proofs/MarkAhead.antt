@@ -1,16 +1,24 @@
 -- A handset that has just told a mark has taken no sample behind it, and one that has told all has the mark of all samples.
-use Rattle.mobile_core.proofs.Common.{◌≡◌, ℕ, ◌+◌, ◌<◌, ◌≤◌, true, false, List, [], ◌∷◌, ◌++◌, length, sym, ap, ◌∙◌, arith, inl, inr}
-use Rattle.mobile_core.proofs.Common.{nat_le, Some, flat_map, list_all, list_any, and_from, cases_lt, le-leb, lt-leb, append_assoc, places}
-use Rattle.mobile_core.proofs.Common.{Sample, events_at, at_of, first_of, mark, marks_at, sets_mark, AreNear, Mobile}
-use Rattle.mobile_core.proofs.Common.{Tuning, sync_stream, Event, Pilot, Mark, subst, Option, None, option_or, IsDueAt, mark_before}
-use Rattle.mobile_core.proofs.Common.{IsSoundSync, HearsSync, SyncReceiver, refl, is_some, events, heard_within, IsTimed}
+use Rattle.mobile_core.proofs.Common.{◌≡◌, ℕ, ◌+◌, ◌≤◌, true, false, List, [], ◌∷◌, ◌++◌, length, sym, ap, ◌∙◌, arith, inl, inr, nat_le}
+use Rattle.mobile_core.proofs.Common.{Some, flat_map, list_all, list_any, and_from, cases_lt, le-leb, lt-leb, append_assoc, places, Sample}
+use Rattle.mobile_core.proofs.Common.{events_at, at_of, mark, sets_mark, AreNear, Mobile, Tuning, sync_stream, Event, Pilot, Mark, subst}
+use Rattle.mobile_core.proofs.Common.{ForSome, Option, None, refl, is_some, events, heard_within, IsTimed}
 use Rattle.mobile_core.specs.Standing.{StandsFor, events_left}
-use Rattle.reception.proofs.ClockSteps.{before_next, due_inside, due_known}
+use Rattle.reception.proofs.ClockSteps.{before_next}
 use Rattle.heard_events.proofs.Growth.{sync_known}
 use Rattle.heard_events.proofs.MarkLater.{mark_later}
 use Rattle.heard_events.proofs.MarkStays.{mark_set, mark_told}
-use Rattle.heard_events.proofs.MarkGrowth.{mark_before_more}
 use Rattle.heard_events.proofs.MarkTold.{among_before, ends_before, first_part, heard_split, is_before}
+
+-- the mark of a handset is that of the samples taken
+pub mark_is : (t : Tuning) (mobile : Mobile) (heard : List Sample) (given : List Event) →
+    StandsFor t mobile heard given →
+    ForSome mobile.sync.mark (λ m. mark t heard (length heard) ≡ Some m)
+mark_is t mobile heard given st m set =
+    let clock = mobile.sync.received.clock in
+    let is = st.sync.receives.clocked in
+    mark_told t clock.low is.timed heard (length heard) clock.next m (before_next is)
+    (sym st.sync.marked ∙ set)
 
 -- Where the event given last ends at the last sample taken, and none before it sets a mark, the mark
 -- lies there or behind.
@@ -23,10 +31,7 @@ mark_ahead t mobile heard given event st here none m marked =
     let is = st.sync.receives.clocked in
     let near = subst AreNear st.sync.receives.fingers_are mobile.sound.hears.channel.near in
     let n : ℕ = length heard in
-    let told : mark t heard n ≡ Some m =
-    mark_told t clock.low is.timed heard n clock.next m (before_next is)
-    (sym st.sync.marked ∙ marked) in
-    let (k, set) = mark_set t heard n m told in
+    let (k, set) = mark_set t heard n m (mark_is t mobile heard (given ++ event ∷ []) st m marked) in
     let later = mark_later t heard k clock.low near is.timed set.inside m set.sets in
     elim (cases_lt (sync_known t k) n) [
       | inl less ↦
@@ -65,40 +70,10 @@ marked_all t mobile heard st = by_marks mobile.sync.mark (mark t heard (length h
   where
     by_marks : (set found : Option Mark) → mobile.sync.mark ≡ set →
         mark t heard (length heard) ≡ found → mark t heard (length heard) ≡ mobile.sync.mark
-    by_marks (Some m) found is is' =
-        let clock = mobile.sync.received.clock in
-        let on = st.sync.receives.clocked in
-        mark_told t clock.low on.timed heard (length heard) clock.next m (before_next on)
-        (sym st.sync.marked ∙ is)
-        ∙ sym is
+    by_marks (Some m) found is is' = mark_is t mobile heard (events t heard) st m is ∙ sym is
     by_marks None None is is' = is' ∙ sym is
     by_marks None (Some m) is is' =
         let clock = mobile.sync.received.clock in
         let told = told_in t clock.low st.sync.receives.clocked.timed heard m is' in
         let none : true ≡ false = sym told ∙ sym st.noted ∙ ap is_some is in
         absurd (cc)
-
--- when a receiver sets its mark, the samples taken don't reach it
-pub opens_later : (t : Tuning) (heard : List Sample) (before after : SyncReceiver) (m : Mark) →
-    HearsSync t before heard → HearsSync t after heard → IsSoundSync after →
-    IsDueAt t.count before.received.clock →
-    after.received.clock.next ≡ before.received.clock.next + 1 → before.mark ≡ None →
-    after.mark ≡ Some m → length heard < m.sample
-opens_later t heard before after m was now sound d next unmarked marked =
-    let s = sync_stream t in
-    let k : ℕ = before.received.clock.next in
-    let is = was.receives.clocked in
-    let inside = due_inside is d in
-    let known = due_known is d in
-    let near : AreNear s.fingers =
-    subst AreNear now.receives.fingers_are sound.channel.near in
-    let first : first_of (marks_at t heard k) ≡ Some m =
-    sym
-    (mark_before_more t heard k inside
-    ∙ ap (λ (x : Option Mark). option_or x (first_of (marks_at t heard k)))
-    (sym was.marked ∙ unmarked))
-    ∙ sym (ap (mark_before t heard) next)
-    ∙ sym now.marked
-    ∙ marked in
-    let later = mark_later t heard k before.received.clock.low near is.timed inside m first in
-    omega (arith, later, known)

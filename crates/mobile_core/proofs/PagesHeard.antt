@@ -1,44 +1,32 @@
 -- What the receiver of a paging channel stands for, step by step.
 use Rattle.mobile_core.proofs.Common.{◌≡◌, ℕ, ◌+◌, ◌<◌, ◌≤◌, Bool, true, false, List, [], ◌∷◌, ◌++◌, length, take, refl, sym, ap, ◌∙◌}
 use Rattle.mobile_core.proofs.Common.{subst, arith, inl, inr, Option, Some, slice_get, nat_lt, option_to_list, cases_lt, lt-ltb, le-ltb}
-use Rattle.mobile_core.proofs.Common.{append_assoc, take_all, taken_more, Sample, paging_mask, Framing, half_frame_body}
-use Rattle.mobile_core.proofs.Common.{half_frame_capsule_ending, IsDueAt, clock_from, first_frame, frame_heard, AreNear, bits_before}
-use Rattle.mobile_core.proofs.Common.{bits_up_to, page_at, page_in, pages_from, HearsBit, HearsPaging, bit_passed, pages_left, paging_rate}
-use Rattle.mobile_core.proofs.Common.{paging_stream, Receives, Stream, frame_own_bits, Tuning, Continued, Mark, PagingReceiver, SpelledPage}
+use Rattle.mobile_core.proofs.Common.{append_assoc, take_all, taken_more, Sample, Framing, half_frame_body, half_frame_capsule_ending}
+use Rattle.mobile_core.proofs.Common.{IsDueAt, frame_heard, bits_before, bits_up_to, page_at, page_in, pages_from, HearsBit, HearsPaging}
+use Rattle.mobile_core.proofs.Common.{bit_passed, pages_left, paging_rate, paging_stream, Receives, frame_own_bits, Tuning, Continued, Mark}
+use Rattle.mobile_core.proofs.Common.{PagingReceiver, SpelledPage}
 use Rattle.std.proofs.lemmas.List.{append-nil}
 use Rattle.paging_message.specs.HalfFrames.{StandsFor}
 use Rattle.reception.proofs.ClockSteps.{due_inside, due_known, before_next}
 use Rattle.heard_events.proofs.PageGrowth.{bits_before_more, bits_before_none, bits_before_sooner}
 use Rattle.heard_events.proofs.PageGrowth.{left_next, pages_behind_last, pages_next}
-use Rattle.reception.proofs.Received.{receives_heard, receives_more, receives_new}
+use Rattle.reception.proofs.Received.{receives_heard, receives_more}
+use Rattle.mobile_core.specs.PagingReceiving.{IsOfChannel}
 
-take-none : (bits : List Bool) → take 0 bits ≡ []
-take-none [] = refl
-take-none (b ∷ bits) = refl
+pub take_none : {A : Type 0} (xs : List A) → take 0 xs ≡ []
+take_none [] = refl
+take_none (x ∷ xs) = refl
 
 none_taken : (place : ℕ) (bits : List Bool) → place ≡ 0 → take place bits ≡ []
-none_taken place bits none = ap (λ (n : ℕ). take n bits) none ∙ take-none bits
-
--- a channel whose first frame comes later than these samples
-pub receives_later : (count : ℕ) (s : Stream) (c : Continued) → s.waits ≡ true →
-    AreNear s.fingers → c.fingers ≡ s.fingers → length c.softs ≡ 1152 →
-    c.clock ≡ clock_from s.fingers s.form s.waits s.first (first_frame s.fingers s.first) →
-    (heard : List Sample) → length heard ≤ count → length heard ≤ c.clock.end →
-    Receives count s c heard
-receives_later count s c waits near fingers long clock heard within most =
-    let same : c.clock.next ≡ c.clock.have = rw clock refl in
-    let none : ¬ IsDueAt count c.clock = λ d. omega (arith, same, d.0) in
-    receives_more (receives_new count s c waits near fingers long clock) heard none
-    (omega (arith, within)) (omega (arith, most))
+none_taken place bits none = ap (λ (n : ℕ). take n bits) none ∙ take_none bits
 
 -- before any frame is heard
 pub hears_none : (t : Tuning) (channel : ℕ) (m : Mark) (r : PagingReceiver)
     (heard : List Sample) → Receives t.count (paging_stream t channel m) r.received heard →
-    r.received.clock.next ≡ r.received.clock.low → r.scrambling.state ≡ m.state →
-    r.scrambling.mask ≡ paging_mask channel m.pilot → r.rate ≡ paging_rate m.prat →
-    r.framer.size ≡ half_frame_body (paging_rate m.prat) → r.place ≡ 0 →
+    r.received.clock.next ≡ r.received.clock.low →
+    IsOfChannel channel m r.scrambling r.rate r.framer.size → r.place ≡ 0 →
     StandsFor r.framer [] → HearsPaging t channel m r heard
-hears_none t channel m r heard receives next state mask rate size none framed =
+hears_none t channel m r heard receives next tuned none framed =
     let s = paging_stream t channel m in
     let clock = r.received.clock in
     let own = frame_own_bits t.count heard s clock.next in
@@ -47,10 +35,7 @@ hears_none t channel m r heard receives next state mask rate size none framed =
     (omega (arith, next)) in
     record {
       receives = receives;
-      state_is = state;
-      mask_is = mask;
-      rate_is = rate;
-      size_is = size;
+      tuned = tuned;
       under_way = λ some. absurd (omega (arith, some, none));
       framed = rw (empty, none_taken r.place own none) framed;
     }
@@ -80,10 +65,7 @@ module _ {t : Tuning} {channel : ℕ} {m : Mark} {r : PagingReceiver} {heard : L
       let same = bits_before_sooner s refl is.timed heard more next (before_next is) in
       record {
         receives = receives_more st.receives more none within most;
-        state_is = st.state_is;
-        mask_is = st.mask_is;
-        rate_is = st.rate_is;
-        size_is = st.size_is;
+        tuned = st.tuned;
         under_way = λ some. absurd (none (st.under_way some).due);
         framed = rw (same, none_taken r.place later z)
             (rw (none_taken r.place own z) at st.framed);
@@ -96,10 +78,7 @@ module _ {t : Tuning} {channel : ℕ} {m : Mark} {r : PagingReceiver} {heard : L
       HearsPaging t channel m (record r { received = received }) heard
   hears_come received none next receives = record {
     receives = receives;
-    state_is = st.state_is;
-    mask_is = st.mask_is;
-    rate_is = st.rate_is;
-    size_is = st.size_is;
+    tuned = st.tuned;
     under_way = λ some. absurd (none (st.under_way some).due);
     framed = rw next st.framed;
   }
@@ -141,7 +120,7 @@ module _ {t : Tuning} {channel : ℕ} {m : Mark} {r : PagingReceiver} {heard : L
         let size : ℕ = half_frame_body (paging_rate m.prat) in
         page_is taken st.framed
         ∙ ap (λ (n : ℕ). page_in t.check30 (half_frame_capsule_ending n (taken ++ bit ∷ [])))
-        st.size_is
+        st.tuned.size_is
         ∙ ap (λ (bits : List Bool). page_in t.check30 (half_frame_capsule_ending size bits))
         taken_bits
 
@@ -173,10 +152,7 @@ module _ {t : Tuning} {channel : ℕ} {m : Mark} {r : PagingReceiver} {heard : L
         record {
           hears = record {
             receives = st.receives;
-            state_is = st.state_is;
-            mask_is = st.mask_is;
-            rate_is = st.rate_is;
-            size_is = size_is ∙ st.size_is;
+            tuned = rw size_is st.tuned;
             under_way = λ some. record { due = d; own = own_is };
             framed = stands_on;
           };
@@ -210,12 +186,9 @@ module _ {t : Tuning} {channel : ℕ} {m : Mark} {r : PagingReceiver} {heard : L
         record {
           hears = record {
             receives = receives_heard st.receives d;
-            state_is = st.state_is;
-            mask_is = st.mask_is;
-            rate_is = st.rate_is;
-            size_is = size_is ∙ st.size_is;
+            tuned = rw size_is st.tuned;
             under_way = λ some. absurd (omega (arith, some));
-            framed = rw (more, take-none later, append-nil (before ++ own)) (rw whole at stands_on);
+            framed = rw (more, take_none later, append-nil (before ++ own)) (rw whole at stands_on);
           };
           left = left_here others
               (sym (ap (λ (ps : List SpelledPage). ps ++ others) none));

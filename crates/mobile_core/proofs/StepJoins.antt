@@ -1,15 +1,11 @@
 -- Steps of a handset: those that take no sample, and those that follow one another.
-use Rattle.mobile_core.proofs.Common.{◌≡◌, ℕ, ◌+◌, List, [], ◌∷◌, refl, ◌++◌, length, length-append, length-take, length-drop, take, drop}
-use Rattle.mobile_core.proofs.Common.{sym, ap}
-use Rattle.mobile_core.proofs.Common.{◌∙◌, subst, ◌≤◌, arith, Option, Some, None, IfSome, append_assoc, take-add, Sample, listed, at_of}
-use Rattle.mobile_core.proofs.Common.{Steps, Tells, Event, Mobile, Tuning, ◌^◌, heard_of}
+use Rattle.mobile_core.proofs.Common.{◌≡◌, ℕ, ◌+◌, List, ◌++◌, length, length-append, length-take, length-drop, take, drop, sym, ap, ◌∙◌}
+use Rattle.mobile_core.proofs.Common.{subst, ◌≤◌, arith, Option, Some, None, IfSome, append_assoc, take-add, Sample, listed, at_of, Steps}
+use Rattle.mobile_core.proofs.Common.{Tells, Event, Mobile, Tuning, ◌^◌, heard_of}
 use Rattle.std.proofs.lemmas.List.{append-nil}
 use Rattle.mobile_core.specs.Standing.{StandsFor}
 use Rattle.mobile_core.proofs.ChannelsFollowed.{followed_few}
-
-pub take_none : {A : Type 0} (xs : List A) → take 0 xs ≡ []
-take_none [] = refl
-take_none (x ∷ xs) = refl
+use Rattle.mobile_core.proofs.PagesHeard.{take_none}
 
 -- what a handset has heard is a small number
 heard_few : (m : Mobile) → heard_of m ≤ 2 ^ 42

@@ -1,18 +1,18 @@
 -- What a handset stands for, step by step.
 use Rattle.mobile_core.proofs.Common.{◌≡◌, ℕ, ◌+◌, ◌<◌, ◌≤◌, false, List, [], ◌∷◌, ◌++◌, length, refl, sym, ap, subst, ◌∙◌, arith, inl, inr}
 use Rattle.mobile_core.proofs.Common.{Option, Some, None, Bool, true, IsTrue, is_some, list_any, ForSome, append_assoc, list_any-append}
-use Rattle.mobile_core.proofs.Common.{Sample, Best, Held, HoldsLast, IsDueAt, events, EndFrom, HearsFollowed, IsFollowedDue}
-use Rattle.mobile_core.proofs.Common.{CheckForm, WaitFrom, followed_events_left, listed, pilot_left, sync_events_left}
-use Rattle.mobile_core.proofs.Common.{sets_mark, AreNear, SetsMark, IsSoundSync, IsDueIn, Stands, left_of, HearsSync, HearsNext}
-use Rattle.mobile_core.proofs.Common.{Tuning, sync_stream, Event, Pilot, Followed, Mark, SyncReceiver, ◌||◌}
+use Rattle.mobile_core.proofs.Common.{Sample, Best, Held, HoldsLast, IsDueAt, events, EndFrom, HearsFollowed, IsFollowedDue, CheckForm}
+use Rattle.mobile_core.proofs.Common.{WaitFrom, first_of, mark_before, marks_at, followed_events_left, listed, pilot_left, sync_events_left}
+use Rattle.mobile_core.proofs.Common.{sets_mark, AreNear, SetsMark, IsSoundSync, IsDueIn, Stands, left_of, HearsSync}
+use Rattle.mobile_core.proofs.Common.{HearsNext, Tuning, sync_stream, Event, Pilot, Followed, Mark, SyncReceiver, ◌||◌}
 use Rattle.std.proofs.lemmas.List.{append-nil}
 use Rattle.mobile_core.proofs.ChannelsFollowed.{ends_later, followed_more, goes_on}
-use Rattle.reception.proofs.ClockSteps.{before_next, from_next, due_inside}
+use Rattle.reception.proofs.ClockSteps.{before_next, from_next, due_inside, due_known}
 use Rattle.heard_events.proofs.EventsGrown.{heard_none}
 use Rattle.mobile_core.proofs.EventsCome.{events_grown}
 use Rattle.heard_events.proofs.Growth.{none_known, sync_goes}
 use Rattle.heard_events.proofs.MarkGrowth.{mark_before_more}
-use Rattle.mobile_core.proofs.MarkAhead.{opens_later}
+use Rattle.heard_events.proofs.MarkLater.{mark_later}
 use Rattle.mobile_core.proofs.SyncHeard.{hears_more}
 use Rattle.mobile_core.specs.SoundHandset.{IsSound}
 
@@ -175,12 +175,27 @@ module _ {t : Tuning} {count : ℕ} {check : CheckForm} {pilot : Option Best} {r
       by_mark : (before : Option Mark) → sync.mark ≡ before →
           SetsMark (length heard) before after.mark
       by_mark (Some m) e =
-          let k : ℕ = sync.received.clock.next in
           let before = sym st.sync.marked ∙ e in
-          let more = mark_before_more t heard k (due_inside st.sync.receives.clocked due) in
+          let more = mark_before_more t heard sync.received.clock.next
+          (due_inside st.sync.receives.clocked due) in
           inl (rw (hears.marked, next, more, before) refl)
       by_mark None e =
-          inr (refl, λ m set. opens_later t heard sync after m st.sync hears sound due next e set)
+          inr (
+            refl,
+            λ m set.
+                let k : ℕ = sync.received.clock.next in
+                let is = st.sync.receives.clocked in
+                let inside = due_inside is due in
+                let known = due_known is due in
+                let near = subst AreNear hears.receives.fingers_are sound.channel.near in
+                let before = sym st.sync.marked ∙ e in
+                let now : mark_before t heard (k + 1) ≡ Some m =
+                sym (ap (mark_before t heard) next) ∙ sym hears.marked ∙ set in
+                let first : first_of (marks_at t heard k) ≡ Some m =
+                rw (mark_before_more t heard k inside, before) at now in
+                let later = mark_later t heard k sync.received.clock.low near is.timed inside m first in
+                omega (arith, later, known),
+          )
 
   -- the sync channel's frame that is due has been heard
   pub stands_heard : (after : SyncReceiver) (others : Followed) (event : Option Event) →

@@ -11,6 +11,8 @@ use Rattle.heard_events.specs.Left.{pages_left}
 use Rattle.heard_events.specs.PagingEvents.{bits_before}
 use Rattle.heard_events.specs.PagingStreams.{paging_rate, paging_stream}
 use Rattle.reception.specs.Receiving.{Receives}
+use Rattle.reception.specs.declared.scrambling.Scrambling.{Scrambling}
+use Rattle.quality_bits.specs.declared.rate.Rate.{Rate}
 use Rattle.reception.specs.Sound.{IsSoundChannel}
 use Rattle.heard_events.specs.Streams.{frame_own_bits}
 use Rattle.heard_events.specs.Tuning.{Tuning}
@@ -24,15 +26,20 @@ pub record IsUnderWay (t : Tuning) (channel : ℕ) (m : Mark) (r : PagingReceive
   pub due : IsDueAt t.count r.received.clock
   pub own : r.frame ≡ frame_own_bits t.count heard (paging_stream t channel m) r.received.clock.next
 
+-- what no step changes is that of the channel behind the mark
+pub record IsOfChannel (channel : ℕ) (m : Mark) (scrambling : Scrambling) (rate : Rate)
+    (size : ℕ) : Type 0 where
+  pub state_is : scrambling.state ≡ m.state
+  pub mask_is : scrambling.mask ≡ paging_mask channel m.pilot
+  pub rate_is : rate ≡ paging_rate m.prat
+  pub size_is : size ≡ half_frames.half_frame_body (paging_rate m.prat)
+
 -- It has taken these samples, and its framer has taken the bits of the frames before the next one,
 -- and the first bits of that one, as many as its place says.
 pub record HearsPaging (t : Tuning) (channel : ℕ) (m : Mark) (r : PagingReceiver)
     (heard : List Sample) : Type 0 where
   pub receives : Receives t.count (paging_stream t channel m) r.received heard
-  pub state_is : r.scrambling.state ≡ m.state
-  pub mask_is : r.scrambling.mask ≡ paging_mask channel m.pilot
-  pub rate_is : r.rate ≡ paging_rate m.prat
-  pub size_is : r.framer.size ≡ half_frames.half_frame_body (paging_rate m.prat)
+  pub tuned : IsOfChannel channel m r.scrambling r.rate r.framer.size
   pub under_way : 0 < r.place → IsUnderWay t channel m r heard
   pub framed : half_frames.StandsFor r.framer
       (bits_before t.count heard (paging_stream t channel m) r.received.clock.next

@@ -35,7 +35,7 @@ impl PagingReceiver {
     ghost use Rattle.reception.specs.Clocks.{IsDueAt};
     ghost use Rattle.mobile_core.specs.PagingReceiving.{HearsBit, HearsPaging, IsSoundPaging};
     ghost use Rattle.mobile_core.specs.PagingReceiving.{bit_passed, bits_heard};
-    ghost use Rattle.heard_events.specs.PagingStreams.{paging_rate, paging_stream};
+    ghost use Rattle.heard_events.specs.PagingStreams.{paging_stream};
     ghost use Rattle.heard_events.specs.SoundMarks.{IsSoundMark};
     ghost use Rattle.heard_events.specs.Streams.{frame_own_bits};
     ghost use Rattle.heard_events.specs.Tuning.{Tuning};
@@ -65,34 +65,15 @@ impl PagingReceiver {
             IfSome result (λ r. HearsPaging t channel mark.now r heard) }
     {
         let rate = mark.paging_rate()?;
-        Some(PagingReceiver::at_rate(rate, mark, channel, phase, near))
-    }
-
-    /// The same at a rate.
-    fn at_rate(rate: Rate, mark: &Mark, channel: u8, phase: Phase, near: &Near) -> PagingReceiver
-        requires rate { rate ≡ paging_rate mark.now.prat }
-        requires mark { IsSoundMark mark.now }
-        requires first_channel { 1 ≤ channel }
-        requires last_channel { channel ≤ 7 }
-        requires least { 1 ≤ near.now.count }
-        requires most { near.now.count ≤ 3 }
-        requires first { slice_get near.now.deltas 0 ≡ Some (pos 0) }
-        ensures begins { mark.now.sample < result.received.clock.end }
-        ensures fresh { result.received.clock.have ≡ result.received.clock.next }
-        ensures sound { IsSoundPaging result }
-        ensures hears { (t : Tuning) (heard : List Sample) → t.phase ≡ phase →
-            t.deltas ≡ take near.now.count near.now.deltas → length heard ≤ t.count →
-            length heard ≤ mark.now.sample → HearsPaging t channel mark.now result heard }
-    {
         let fingers = reference_fingers(channel, phase, near);
-        PagingReceiver {
+        Some(PagingReceiver {
             received: Continued::new(fingers, Form::Data, mark.sample),
             rate,
             scrambling: paging_scrambling(channel, mark),
             framer: HalfFramer::new(rate),
             frame: Bits::empty(),
             place: 0,
-        }
+        })
     }
 
     /// Hears the next bit of the frame that is due, and gives the message that it completes.

@@ -1,9 +1,11 @@
 //! The sync channel as it is received.
 
-ghost use Rattle.std.specs.Prelude.{◌≡◌, ◌<◌, ◌≤◌, ◌^◌, Some};
+ghost use Rattle.std.specs.Prelude.{◌≡◌, ◌<◌, ◌≤◌, ◌^◌, IfSome};
 ghost use Rattle.std.specs.Option.{ForSome, option_or};
+ghost use Rattle.heard_events.specs.Given.{at_of, listed};
 ghost use Rattle.heard_events.specs.Marks.{first_of, frames_with, marks_of};
 ghost use Rattle.heard_events.specs.SoundMarks.{IsSoundMark};
+ghost use Rattle.heard_events.specs.SyncEvents.{events_of};
 
 use chip_core::air::{CODE_CHIPS, OFFSET_CHIPS, SUPERFRAME_BITS, SUPERFRAME_CHIPS, SYNC_ROW};
 use chip_core::{CheckForm, Phase};
@@ -133,9 +135,9 @@ impl SyncReceiver {
         let capsule = self.framer.push(&frame);
         self.message_frames = with_frame(frame.get(0), self.message_frames);
         self.received.clock.hear();
-        let told = message_in(check, capsule)?;
+        let told = message_in(check, capsule);
         self.mark = mark_with(self.mark, self.message_start(), &told);
-        Some(event_of(&told, at))
+        event_in(&told, at)
     }
 
     /// The reference sample at which the message under way begins.
@@ -163,12 +165,22 @@ fn with_frame(begins: bool, message_frames: u64) -> u64
     }
 }
 
-/// The mark that a message sets whose first frame begins at a reference sample.
-fn mark_of(first: u64, told: &Spelled<SyncMessage>) -> Option<Mark>
+/// The event of what is told, where something is, when so many samples have been taken.
+fn event_in(told: &Option<Spelled<SyncMessage>>, at: u64) -> Option<Event>
+    ensures value { listed result ≡ events_of at told.now }
+    ensures ends { IfSome result (λ event. at_of event ≡ at) }
+{
+    let Some(told) = told else { return None };
+    Some(event_of(told, at))
+}
+
+/// The mark that a message sets, where one is told, whose first frame begins at a reference sample.
+fn mark_of(first: u64, told: &Option<Spelled<SyncMessage>>) -> Option<Mark>
     requires { first ≤ 2 ^ 28 }
-    ensures value { result ≡ first_of (marks_of first (Some told.now)) }
+    ensures value { result ≡ first_of (marks_of first told.now) }
     ensures sound { ForSome result IsSoundMark }
 {
+    let Some(told) = told else { return None };
     let fields = told.message.fields();
     if fields.lc == 0 {
         return None;
@@ -187,10 +199,10 @@ fn mark_of(first: u64, told: &Spelled<SyncMessage>) -> Option<Mark>
 }
 
 /// The mark that is set, or else that of what is told.
-fn mark_with(mark: Option<Mark>, first: u64, told: &Spelled<SyncMessage>) -> Option<Mark>
+fn mark_with(mark: Option<Mark>, first: u64, told: &Option<Spelled<SyncMessage>>) -> Option<Mark>
     requires first { first ≤ 2 ^ 28 }
     requires sound { ForSome mark IsSoundMark }
-    ensures value { result ≡ option_or mark (first_of (marks_of first (Some told.now))) }
+    ensures value { result ≡ option_or mark (first_of (marks_of first told.now)) }
     ensures sound { ForSome result IsSoundMark }
 {
     if mark.is_some() {

@@ -1,5 +1,5 @@
-use Rattle.mobile_core.proofs.Common.{◌≡◌, ◌∙◌, ap, arith, length, subst, sym, refl, Option, HearsFollowed, followed_events_left}
-use Rattle.mobile_core.proofs.Common.{SetsMark, FrameClock, Mark}
+use Rattle.mobile_core.proofs.Common.{◌≡◌, ◌∙◌, ap, arith, length, subst, sym, refl, Option, HearsFollowed, followed_events_left, SetsMark}
+use Rattle.mobile_core.proofs.Common.{FrameClock, Mark}
 use Rattle.mobile_core.proofs.StepJoins.{ends_here, one_or_none}
 use Rattle.mobile_core.proofs.Stood.{heard_sets, stands_heard}
 use Rattle.mobile_core.proofs.mobile.Mobile.hear_sync.Goals as goal

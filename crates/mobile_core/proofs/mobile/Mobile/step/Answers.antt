@@ -1,6 +1,5 @@
 use Rattle.mobile_core.proofs.Common.{◌≡◌, ◌+◌, ◌++◌, List, arith, drop, subst, take, None, Some, append-nil, take_all, take_rest, Sample}
-use Rattle.mobile_core.proofs.Common.{refl}
-use Rattle.mobile_core.proofs.Common.{Steps}
+use Rattle.mobile_core.proofs.Common.{refl, Steps}
 use Rattle.mobile_core.specs.Standing.{StandsFor}
 use Rattle.mobile_core.proofs.Stood.{all_given}
 use Rattle.mobile_core.proofs.StepJoins.{steps_joined}

@@ -1,5 +1,5 @@
-use Rattle.mobile_core.proofs.Common.{◌≡◌, ◌++◌, ◌∷◌, [], Option, Some, ap, arith, length, refl, subst, sym, Best}
-use Rattle.mobile_core.proofs.Common.{ℕ, pilot_left, Stands, Event, Pilot}
+use Rattle.mobile_core.proofs.Common.{◌≡◌, ◌++◌, ◌∷◌, [], Option, Some, ap, arith, length, refl, subst, sym, Best, ℕ, pilot_left, Stands}
+use Rattle.mobile_core.proofs.Common.{Event, Pilot}
 use Rattle.mobile_core.proofs.Stood.{stands_told}
 use Rattle.mobile_core.proofs.mobile.Mobile.tell_pilot.Goals as goal
 

@@ -5,4 +5,4 @@ pub returns-clause-value : goal.returns-clause-value
 unfolding frame_own_bits
 returns-clause-value c = λ t channel m heard d st.
     c.own_bits.ensures.value t.count (paging_stream t channel m) heard st.receives
-    (ap paging_channel st.rate_is) d
+    (ap paging_channel st.tuned.rate_is) d

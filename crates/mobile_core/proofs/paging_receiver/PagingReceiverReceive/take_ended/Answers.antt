@@ -10,7 +10,7 @@ returns-then-self-taken-clause-hears c = λ t _ mark heard pages holds none behi
     let received = c.take_frame.new.self in
     let come = c.take_frame.ensures in
     let next = ap (λ (k : FrameClock). k.next) come.clock in
-    let bits = c.frame_bits-bits.ensures.value ∙ rw (st.state_is, st.mask_is) refl in
+    let bits = c.frame_bits-bits.ensures.value ∙ rw (st.tuned.state_is, st.tuned.mask_is) refl in
     let on = hears_come st received none next
     (come.stands t.count (paging_stream t t.paging behind.set) heard holds bits none st.receives) in (
       follows_on behind (record r { received = received }) heard on,

@@ -1,55 +1,68 @@
-use Rattle.mobile_core.proofs.Common.{◌≡◌, ℕ, ◌+◌, ◌-◌, ◌∙◌, sym, ap, refl, arith, rules, Some, None, frames_with, frame_start}
-use Rattle.mobile_core.proofs.Common.{frames_before, heard_in, events_of, sync_stream, frame_own_bits, FrameClock}
-use Rattle.reception.proofs.ClockSteps.{start_before}
-use Rattle.mobile_core.proofs.SyncHeard.{hears_next, starts_is, or_none}
+use Rattle.mobile_core.proofs.Common.{◌≡◌, ℕ, ◌+◌, ◌-◌, ◌++◌, ◌∷◌, ◌∙◌, ◌||◌, [], ap, refl, sym, arith, is_some, length, list_any, map}
+use Rattle.mobile_core.proofs.Common.{frames_with, frame_start, frames_before, frames_open, heard_in, events_of, sync_stream, piece}
+use Rattle.mobile_core.proofs.Common.{frame_own_bits, capsule_ending, first_of, marks_of, marks_at, heard_at, sync_capsule_at, option_or}
+use Rattle.mobile_core.proofs.Common.{List, Event, sync_events_left, sets_mark}
+use Rattle.reception.proofs.ClockSteps.{due_inside, due_known, start_before}
+use Rattle.reception.proofs.Received.{receives_heard}
+use Rattle.heard_events.proofs.Growth.{frames_before_more, left_next}
+use Rattle.heard_events.proofs.MarkGrowth.{mark_before_more}
+use Rattle.heard_events.proofs.MarkTold.{noted_event}
+use Rattle.heard_events.proofs.Opened.{frames_open-more}
+use Rattle.mobile_core.proofs.SyncHeard.{either, starts_is}
 use Rattle.mobile_core.proofs.sync_receiver.SyncReceiver.hear_next.Goals as goal
 
-pub returns-in_err-told-clause-hears : goal.returns-in_err-told-clause-hears
-unfolding frame_own_bits
-returns-in_err-told-clause-hears c = λ t heard at' check d st.
-    let r = c.args.self.now in
-    let s = sync_stream t in
-    let bits = c.own_bits-frame.result in
-    let capsule = c.push-capsule.result in
-    let frames : ℕ = c.with_frame-self.result in
-    let next : ℕ = r.received.clock.next in
-    let before = frames_before t heard next in
-    let own = c.own_bits-frame.ensures.value t.count s heard st.receives refl d in
-    let received = ap (λ (k : FrameClock). record r.received { clock = k }) c.hear.ensures.value in
-    let opened = c.with_frame-self.ensures
-    ∙ ap (λ b. frames_with b r.message_frames) (starts_is bits c.get.result c.get.ensures) in
-    let missing : None ≡ heard_in c.args.check capsule = search rules in
-    let none : c.from_residual.result ≡ None = search rules in
-    rw none
-    (hears_next st _ c.push-capsule.new.self bits capsule frames
-    (frame_start s (next + 1 - frames)) None r.mark None d received own
-    (c.push-capsule.ensures.stands before st.framed)
-    (c.push-capsule.ensures.capsule before st.framed) opened
-    (missing ∙ ap (λ form. heard_in form capsule) check) refl (sym (or_none r.mark)) refl)
-
 pub returns-clause-hears : goal.returns-clause-hears
-unfolding frame_own_bits
+unfolding frame_own_bits heard_at sync_capsule_at marks_at
 returns-clause-hears c = λ t heard at' check d st.
     let r = c.args.self.now in
     let s = sync_stream t in
-    let bits = c.own_bits-frame.result in
-    let capsule = c.push-capsule.result in
-    let frames : ℕ = c.with_frame-self.result in
     let next : ℕ = r.received.clock.next in
+    let is = st.receives.clocked in
+    let inside = due_inside is d in
+    let bits = c.own_bits-frame.result in
+    let frames : ℕ = c.with_frame-self.result in
+    let first : ℕ = c.message_start.result in
+    let told = c.message_in-told.result in
     let before = frames_before t heard next in
-    let told = c.in_ok-told.told in
+    let capsule = c.push-capsule.ensures in
     let own = c.own_bits-frame.ensures.value t.count s heard st.receives refl d in
-    let received = ap (λ (k : FrameClock). record r.received { clock = k }) c.hear.ensures.value in
-    let opened = c.with_frame-self.ensures
-    ∙ ap (λ b. frames_with b r.message_frames) (starts_is bits c.get.result c.get.ensures) in
-    let some : Some told ≡ heard_in c.args.check capsule = search rules in
+    let all : frames_before t heard (next + 1) ≡ before ++ bits ∷ [] =
+    rw own (frames_before_more t heard next inside) in
+    let here : told ≡ heard_at t heard next =
+    c.message_in-told.ensures
+    ∙ ap (λ form. heard_in form c.push-capsule.result) check
+    ∙ ap (heard_in t.check30)
+    (capsule.capsule before st.framed ∙ ap (λ fs. capsule_ending (map piece fs)) (sym all)) in
+    let opened : frames ≡ frames_open t heard (next + 1) =
+    c.with_frame-self.ensures
+    ∙ ap (λ b. frames_with b r.message_frames) (starts_is bits c.get.result c.get.ensures)
+    ∙ ap (frames_with (piece bits).starts) st.opened
+    ∙ sym (frames_open-more t heard next bits all) in
+    let start : ℕ → ℕ = λ n. frame_start s (next + 1 - n) in
     let started = rw c.hear.ensures.value at c.message_start.ensures.value in
     let come = c.requires.come in
-    let first : c.message_start.result ≡ frame_start s (next + 1 - frames) =
-    started ∙ start_before st.receives.clocked (next + 1 - frames) (omega (arith, come)) in
-    hears_next st _ c.push-capsule.new.self bits capsule frames c.message_start.result (Some told)
-    c.mark_with-self.result (Some c.event_of.result) d received own
-    (c.push-capsule.ensures.stands before st.framed)
-    (c.push-capsule.ensures.capsule before st.framed) opened
-    (some ∙ ap (λ form. heard_in form capsule) check) first c.mark_with-self.ensures.value
-    (c.event_of.ensures.value ∙ ap (λ n. events_of n (Some told)) at')
+    let first_is : first ≡ start (frames_open t heard (next + 1)) =
+    started ∙ start_before is (next + 1 - frames) (omega (arith, come)) ∙ ap start opened in
+    let marks : marks_of first told ≡ marks_at t heard next =
+    ap (λ n. marks_of n told) first_is
+    ∙ ap (marks_of (start (frames_open t heard (next + 1)))) here in
+    let set = c.mark_with-self.ensures.value in
+    let event = c.event_in.ensures.value ∙ ap (λ n. events_of n told) at' in
+    rw c.hear.ensures.value (record {
+      hears = record {
+        receives = receives_heard st.receives d;
+        framed = rw all (capsule.stands before st.framed);
+        opened = opened;
+        marked = set
+            ∙ ap (λ ms. option_or r.mark (first_of ms)) marks
+            ∙ ap (λ m. option_or m (first_of (marks_at t heard next))) st.marked
+            ∙ sym (mark_before_more t heard next inside);
+      };
+      left = ap (λ (es : List Event). es ++ sync_events_left t heard (next + 1))
+          (event ∙ ap (events_of (length heard)) here)
+          ∙ sym (left_next t r.received.clock.low is.timed heard next inside (due_known is d));
+      noted = ap is_some set
+          ∙ either r.mark (first_of (marks_of first told))
+          ∙ ap (λ b. is_some r.mark || b) (noted_event told first (length heard))
+          ∙ ap (λ (es : List Event). is_some r.mark || list_any sets_mark es) (sym event);
+    })

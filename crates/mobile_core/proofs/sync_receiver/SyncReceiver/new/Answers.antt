@@ -1,30 +1,20 @@
-use Rattle.mobile_core.proofs.Common.{◌≡◌, ℕ, ◌+◌, ◌-◌, ◌*◌, ◌%◌, ◌∙◌, sym, ap, subst, refl, true, arith, frame_chips, Sync, clock_from}
-use Rattle.mobile_core.proofs.Common.{first_frame, AreNear, frame_end, sync_stream, FrameClock}
+use Rattle.mobile_core.proofs.Common.{◌≡◌, ℕ, ◌+◌, ◌-◌, ◌*◌, ◌%◌, ◌∙◌, [], sym, ap, refl, arith, frame_chips, Sync, first_frame, frame_end}
+use Rattle.mobile_core.proofs.Common.{sync_stream, FrameClock}
 use Rattle.reception.proofs.ClockSteps.{first_end}
-use Rattle.reception.proofs.Received.{receives_new}
+use Rattle.mobile_core.proofs.ChannelsOpened.{receives_opened}
 use Rattle.mobile_core.proofs.SyncHeard.{hears_new}
 use Rattle.mobile_core.proofs.sync_receiver.SyncReceiver.new.Goals as goal
 
 pub returns-clause-hears : goal.returns-clause-hears
 returns-clause-hears c = λ t phase deltas.
-    let s = sync_stream t in
     let fingers = c.reference_fingers-fingers.result in
-    let received = c.new.result in
     let first : ℕ = (32768 - c.from.result) % 32768 in
-    let fingers_are : fingers ≡ s.fingers =
-    c.reference_fingers-fingers.ensures.value ∙ rw (phase, deltas) refl in
-    let near : AreNear s.fingers =
-    subst AreNear fingers_are c.reference_fingers-fingers.ensures.near in
-    let first_is : first ≡ s.first =
+    let first_is : first ≡ (sync_stream t).first =
     ap (λ (n : ℕ). (32768 - n) % 32768) (c.from.ensures ∙ c.get.ensures.value ∙ sym phase) in
-    let frame = first_frame s.fingers s.first in
-    let clock_is : received.clock ≡ clock_from s.fingers Sync true s.first frame =
-    c.new.ensures.clock
-    ∙ ap (λ fs. clock_from fs Sync true first (first_frame fs first)) fingers_are
-    ∙ ap (λ n. clock_from s.fingers Sync true n (first_frame s.fingers n)) first_is in
-    let receives = receives_new t.count s received refl near (c.new.ensures.fingers ∙ fingers_are)
-    c.new.ensures.sound.whole clock_is in
-    hears_new t _ receives (rw clock_is refl) c.new-2.ensures refl refl
+    let opened = receives_opened t.count (sync_stream t) c.new.result fingers first refl
+    (c.reference_fingers-fingers.ensures.value ∙ rw (phase, deltas) refl) first_is
+    c.new.ensures.fingers c.new.ensures.sound c.new.ensures.clock [] (omega arith) (omega arith) in
+    hears_new t _ opened.0 opened.1 c.new-2.ensures refl refl
 
 pub returns-clause-sound : goal.returns-clause-sound
 returns-clause-sound c =
