@@ -93,9 +93,8 @@ pub use Rattle.heard_events.specs.LegSofts.{sums_on}
 pub use Rattle.mobile_core.specs.PagingReceiving.{HearsBit, HearsPaging, IsSoundPaging, bit_passed, bits_heard}
 pub use Rattle.reception.specs.Receiving.{Receives}
 pub use Rattle.heard_events.specs.SetsKeeping.{IsSoundKeeper, coming_place}
-pub use Rattle.mobile_core.specs.Sound.{IsSoundSync}
 pub use Rattle.mobile_core.specs.Standing.{IsDueIn, Stands, Steps, Tells, due_parts, has_room, heard_of, left_of}
-pub use Rattle.mobile_core.specs.SyncReceiving.{HearsNext, HearsSync}
+pub use Rattle.mobile_core.specs.SyncReceiving.{HearsNext, HearsSync, IsSoundSync}
 pub use Rattle.mobile_core.specs.TrafficReceiving.{GivesFirst, HasTold, HearsTraffic, HearsUntuned, HearsUpTo, HearsWith}
 pub use Rattle.mobile_core.specs.TrafficReceiving.{IsSoundTraffic, IsTrafficDue, WaitsAt, kept_by}
 pub use Rattle.mobile_core.specs.TrafficReceiving.{kept_in, next_end, noted_by, told_left_with, traffic_heard, traffic_left_of}

@@ -1,6 +1,6 @@
 -- What the receiver of the sync channel stands for, step by step.
-use Rattle.mobile_core.proofs.Common.{◌≡◌, ℕ, ◌+◌, ◌-◌, ◌<◌, ◌≤◌, Bool, false, ◌||◌, List, [], ◌∷◌, ◌++◌, length, refl, sym, ◌∙◌, arith}
-use Rattle.mobile_core.proofs.Common.{Option, Some, None, slice_get, is_some, option_or, Sample, piece, IsDueAt, frames_open, mark}
+use Rattle.mobile_core.proofs.Common.{◌≡◌, ℕ, ◌+◌, ◌<◌, ◌≤◌, Bool, false, ◌||◌, List, [], ◌∷◌, ◌++◌, length, refl, sym, ◌∙◌, arith}
+use Rattle.mobile_core.proofs.Common.{Option, Some, None, slice_get, is_some, option_or, Sample, piece, IsDueAt, frames_open}
 use Rattle.mobile_core.proofs.Common.{Receives, is_in_file, frames_before, HearsSync, Tuning, sync_stream, Continued, Mark, SyncReceiver}
 use Rattle.reception.proofs.ClockSteps.{before_next}
 use Rattle.rake_finger.proofs.FrameTimes.{outside_low}

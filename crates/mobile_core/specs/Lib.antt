@@ -1,4 +1,3 @@
-pub mod Sound
 pub mod SyncReceiving
 pub mod PagingReceiving
 pub mod TrafficReceiving

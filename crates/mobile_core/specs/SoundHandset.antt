@@ -2,7 +2,7 @@
 use Rattle.std.specs.Prelude.{◌≡◌, ℕ, ◌<◌, ◌≤◌}
 use Rattle.rake_finger.specs.Held.{Held}
 use Rattle.mobile_core.specs.FollowedChannels.{IsSoundFollowed, WaitFrom}
-use Rattle.mobile_core.specs.Sound.{IsSoundSync}
+use Rattle.mobile_core.specs.SyncReceiving.{IsSoundSync}
 use Rattle.mobile_core.specs.declared.followed.Followed.{Followed}
 use Rattle.mobile_core.specs.declared.sync_receiver.SyncReceiver.{SyncReceiver}
 

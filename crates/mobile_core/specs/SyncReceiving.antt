@@ -1,13 +1,17 @@
 -- What the receiver of the sync channel stands for.
-use Rattle.std.specs.Prelude.{◌≡◌, ℕ, ◌-◌, ◌*◌, ◌||◌, List, ◌++◌, is_some, Option}
+use Rattle.std.specs.Prelude.{◌≡◌, ◌≤◌, ℕ, ◌-◌, ◌*◌, ◌^◌, ◌||◌, List, ◌++◌, is_some, Option}
 use Rattle.std.specs.List.{list_any}
+use Rattle.std.specs.Option.{ForSome}
 use Rattle.chip_core.specs.declared.sample.Sample.{Sample}
 use Rattle.rake_finger.specs.Soft.{frame_chips}
+use Rattle.rake_finger.specs.declared.form.Form.TheVariants.{Sync}
 use Rattle.sync_message.specs.Framing as framing
 use Rattle.heard_events.specs.Given.{listed}
 use Rattle.heard_events.specs.Left.{sync_events_left}
 use Rattle.heard_events.specs.Marks.{frames_open, mark_before, sets_mark}
 use Rattle.reception.specs.Receiving.{Receives}
+use Rattle.reception.specs.Sound.{IsSoundChannel}
+use Rattle.heard_events.specs.SoundMarks.{IsSoundMark}
 use Rattle.heard_events.specs.SyncEvents.{frames_before}
 use Rattle.heard_events.specs.Tuning.{Tuning, sync_stream}
 use Rattle.heard_events.specs.declared.event.Event.{Event}
@@ -33,3 +37,11 @@ pub record HearsNext (t : Tuning) (heard : List Sample) (before after : SyncRece
   pub left : listed event ++ sync_events_left t heard after.received.clock.next
       ≡ sync_events_left t heard before.received.clock.next
   pub noted : is_some after.mark ≡ (is_some before.mark || list_any sets_mark (listed event))
+
+-- frames of the sync channel, of which no message has more than were heard
+pub record IsSoundSync (r : SyncReceiver) : Type 0 where
+  pub channel : IsSoundChannel r.received
+  pub form_is : r.received.clock.form ≡ Sync
+  pub frames : r.message_frames ≤ r.received.clock.next
+  pub early : r.received.clock.end ≤ 2 ^ 28
+  pub marked : ForSome r.mark IsSoundMark

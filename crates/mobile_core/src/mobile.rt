@@ -135,7 +135,7 @@ impl Mobile {
             StandsFor t self.now heard (events t heard) →
             result ≡ is_some (mark t heard (length heard)) }
     {
-        self.sync.is_marked()
+        self.sync.mark().is_some()
     }
 
     /// The mark that a message of the sync channel set, the first with a long-code state that isn't

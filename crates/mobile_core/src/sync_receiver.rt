@@ -37,8 +37,8 @@ impl SyncReceiver {
     ghost use Rattle.chip_core.specs.declared.sample.Sample.{Sample};
     ghost use Rattle.reception.specs.Clocks.{IsDueAt, frame_heard};
     ghost use Rattle.heard_events.specs.Given.{at_of};
-    ghost use Rattle.mobile_core.specs.Sound.{IsSoundSync};
-    ghost use Rattle.mobile_core.specs.SyncReceiving.{HearsNext, HearsSync, message_start};
+    ghost use Rattle.mobile_core.specs.SyncReceiving.{HearsNext, HearsSync, IsSoundSync};
+    ghost use Rattle.mobile_core.specs.SyncReceiving.{message_start};
     ghost use Rattle.heard_events.specs.Tuning.{Tuning};
     ghost use Rattle.rake_finger.specs.Held.{HoldsLast};
 
@@ -69,13 +69,6 @@ impl SyncReceiver {
         ensures { result ≡ self.now.received.clock.end }
     {
         self.received.clock.end
-    }
-
-    /// Whether a message set a mark.
-    pub(crate) fn is_marked(&self) -> bool
-        ensures { result ≡ is_some self.now.mark }
-    {
-        self.mark.is_some()
     }
 
     /// The mark that a message set.

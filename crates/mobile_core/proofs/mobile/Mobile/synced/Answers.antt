@@ -4,4 +4,4 @@ use Rattle.mobile_core.proofs.mobile.Mobile.synced.Goals as goal
 
 pub returns-clause-mark : goal.returns-clause-mark
 returns-clause-mark c = λ t heard st.
-    c.is_marked.ensures ∙ ap is_some (sym (marked_all t c.args.self.now heard st))
+    c.is_some.ensures ∙ ap is_some (c.mark.ensures ∙ sym (marked_all t c.args.self.now heard st))
