@@ -66,9 +66,8 @@ pub use Rattle.chip_core.proofs.Counted.{take-map-places}
 pub use Rattle.chip_core.proofs.IndexSums.{sum_append, sum_none, sum_same}
 pub use Rattle.chip_core.proofs.Places.{get_or-map-places, get_or-places, length-map-places, length-places, map-places-all, places-more}
 pub use Rattle.chip_core.proofs.Places.{places-none}
-pub use Rattle.chip_core.proofs.Ranges.{filter-places-more, filter_enough, filter_ext_places, filter_none_places, flat_map-places-more}
-pub use Rattle.chip_core.proofs.Ranges.{flat_map_ext_filter, flat_map_ext_filter_places, flat_map_ext_places, map_ext_filter_places}
-pub use Rattle.chip_core.proofs.Ranges.{map_ext_places}
+pub use Rattle.chip_core.proofs.Ranges.{filter_enough, filter_ext_places, filter_none_places, flat_map_ext_filter}
+pub use Rattle.chip_core.proofs.Ranges.{flat_map_ext_filter_places, flat_map_ext_places, map_ext_filter_places, map_ext_places}
 pub use Rattle.chip_core.proofs.Repeated.{flat_map-repeated, length-repeated, repeated, repeated-part}
 pub use Rattle.chip_core.proofs.Ring.{diff-plus, diff-same, diff-times, distrib, mul_assoc_ℤ, neg_times, split, swap_products, times_neg}
 pub use Rattle.chip_core.specs.Bits.{common_parity, digit, number, sign, xor, zip_with}
@@ -90,11 +89,10 @@ pub use Rattle.conv_code.proofs.Pairs.{symbols_at}
 pub use Rattle.conv_code.specs.ConvCode.{code_symbols, g0, g1, state_after, symbol}
 pub use Rattle.frame_decoder.proofs.BestCodewords.{best_codeword-same, own_is}
 pub use Rattle.frame_decoder.proofs.Gathered.{length-gathered_span}
-pub use Rattle.frame_decoder.proofs.MaskedScores.{alone, get_or-masked, length-masked, masked, own_score, weight}
+pub use Rattle.frame_decoder.proofs.MaskedScores.{alone, masked, own_score, weight}
 pub use Rattle.frame_decoder.proofs.Parts.{frames-more, frames-none, length-frames, take-frames, within}
 pub use Rattle.frame_decoder.proofs.Scores.{score_is}
 pub use Rattle.frame_decoder.proofs.SentFrames.{sent_frame}
-pub use Rattle.frame_decoder.proofs.Unreplaced.{get_or-unreplaced, length-unreplaced}
 pub use Rattle.frame_decoder.specs.Laws.{AgreeElsewhere, IsUnshared, ShowSymbols, frame_codeword, kept_count}
 pub use Rattle.frame_decoder.specs.Spans.{Channel, channel_for, gathered_span, own_bits, score, sending, sent_symbols}
 pub use Rattle.frame_decoder.specs.TrafficFrames.{power_bit, decoded, frame_bits, frame_symbols, group_sum, group_sums, is_replaced}
@@ -114,20 +112,19 @@ pub use Rattle.heard_events.proofs.TrafficGrowth.{frames_sooner, messages_sooner
 pub use Rattle.rake_finger.proofs.FrameTimes.{known_between, known_le}
 pub use Rattle.heard_events.proofs.LegLists.{map_same}
 pub use Rattle.heard_events.proofs.MarkGrowth.{mark_is}
-pub use Rattle.heard_events.proofs.MarkStays.{OpensBehind, by_one_mark, frames_later, messages_later, opens_followed}
-pub use Rattle.heard_events.proofs.MarkStays.{pages_from_mark, pilot_alone}
+pub use Rattle.heard_events.proofs.MarkStays.{OpensBehind, by_one_mark, frames_later, messages_later, opens_followed, pages_from_mark}
+pub use Rattle.heard_events.proofs.MarkStays.{pilot_alone}
 pub use Rattle.heard_events.proofs.MomentGrowth.{kept_new, kept_old}
 pub use Rattle.rake_finger.specs.Near.{AreClose, AreNear}
-pub use Rattle.heard_events.specs.Events.{events}
-pub use Rattle.heard_events.specs.Events.{told_behind}
+pub use Rattle.heard_events.specs.Events.{events, told_behind}
 unfoldable pub use Rattle.heard_events.specs.Events.{events_at, heard_within}
 pub use Rattle.heard_events.specs.FramesAlone.{traffic_channel}
 pub use Rattle.heard_events.specs.Given.{at_of}
 pub use Rattle.heard_events.specs.Legs.{all_fingers, leg_of, legs_of, pilot_finger, subchannels}
 pub use Rattle.heard_events.specs.Marks.{first_of, marks_of}
 unfoldable pub use Rattle.heard_events.specs.Marks.{frames_open, mark, mark_before, marks_at}
-pub use Rattle.heard_events.specs.Moments.{changed, frames_at, legs_at, legs_by, messages_at, moment_events, moment_of}
-pub use Rattle.heard_events.specs.Moments.{moment_place, moments_before}
+pub use Rattle.heard_events.specs.Moments.{changed, frames_at, legs_at, legs_by, messages_at, moment_events, moment_of, moment_place}
+pub use Rattle.heard_events.specs.Moments.{moments_before}
 unfoldable pub use Rattle.heard_events.specs.Moments.{heard_from, kept_to, passed, sets_at, told_by}
 pub use Rattle.heard_events.specs.Noted.{all_noted, body_noted, in_traffic_thresholds, noted, noted_with, page_noted, system_thresholds}
 pub use Rattle.heard_events.specs.PagingEvents.{page_event, page_in, pages_behind, with_page}
@@ -273,8 +270,8 @@ pub use Rattle.clean_link.specs.SentEvents.{FollowsSent, NoEventIsDirected, Whol
 pub use Rattle.clean_link.specs.SentEvents.{pages_behind_mark, pages_with_sync, told_by_first, told_followed, told_with_sync}
 unfoldable pub use Rattle.clean_link.specs.SentEvents.{paging_sent, sent_events, sets_heard, signaling_sent, traffic_sent}
 pub use Rattle.clean_link.specs.SentCodewords.{AreReadBy, IsOnlyBest, IsWholeChannel, scrambled, span_softs, span_codeword}
-pub use Rattle.clean_link.specs.SharedCodewords.{AreDistinctBySharing, AreDistinctBySharing2, SharesNone, gives, is_known2, lost_symbols2}
-pub use Rattle.clean_link.specs.SharedCodewords.{sharing, sharing2, shown_of}
+pub use Rattle.clean_link.specs.SharedCodewords.{AreDistinctBySharing, AreDistinctBySharing2, gives, is_known2, lost_symbols2, sharing}
+pub use Rattle.clean_link.specs.SharedCodewords.{sharing2, shown_of}
 unfoldable pub use Rattle.clean_link.specs.SharedCodewords.{codewords_giving}
 pub use Rattle.clean_link.specs.Signals.{AreApart, HaveOwnRows, IsAligned, IsFrameAt, IsFrameOf, IsHeardBy, level_at, path_finger}
 pub use Rattle.clean_link.specs.Signals.{reference_finger, row_level}

@@ -1,6 +1,6 @@
 -- What the proofs of this crate cite of what lies below, and of its own definitions, passed on from one place.
-pub use Rattle.std.proofs.Common.{All, Bool, IfSome, List, None, Option, Some, [], ap, append-nil, arith, drop, false, filter, get_or, inl}
-pub use Rattle.std.proofs.Common.{inr, length, length-append, length-drop, length-take, map, nat_le, nat_lt, pos, refl, replicate, rules}
+pub use Rattle.std.proofs.Common.{All, Bool, IfSome, List, None, Option, Some, [], ap, append-nil, arith, drop, false, get_or, inl, inr}
+pub use Rattle.std.proofs.Common.{length, length-append, length-drop, length-take, map, nat_le, nat_lt, pos, refl, replicate, rules}
 pub use Rattle.std.proofs.Common.{slice_get, subst, suc, sym, take, true, ℕ, ℤ, ◌%◌, ◌*◌, ◌++◌, ◌+◌, ◌-◌, ◌/◌, ◌<◌, ◌==◌, ◌^◌, ◌||◌, ◌∙◌}
 pub use Rattle.std.proofs.Common.{◌∷◌, ◌≡◌, ◌≤◌}
 pub use Rattle.std.proofs.lemmas.Bool.{and_from, cases_lt, cases_order, eq-eqb, false_from_ne_true, le-leb, le-ltb, lt-leb, lt-ltb, ne_eqb}
@@ -21,12 +21,10 @@ pub use Rattle.frame_decoder.specs.TrafficFrames.{power_bit}
 unfoldable pub use Rattle.frame_decoder.specs.TrafficFrames.{decoded}
 pub use Rattle.frame_decoder.specs.declared.power.PowerSofts.{PowerSofts}
 pub use Rattle.frame_decoder.specs.declared.traffic.Decoded.{Decoded}
-pub use Rattle.heard_events.specs.Channels.{channel_stream, has_power_control, mask_of, row_of, state_at}
 pub use Rattle.rake_finger.specs.Near.{AreClose, all_close, AreNear, all_begun}
-pub use Rattle.heard_events.specs.Close.{legs_close, legs_rows, paths_close}
-pub use Rattle.heard_events.specs.Events.{events}
+pub use Rattle.heard_events.specs.Close.{legs_close, paths_close}
+pub use Rattle.heard_events.specs.Events.{events, followed_behind, told_behind}
 unfoldable pub use Rattle.heard_events.specs.Events.{events_at, heard_within}
-pub use Rattle.heard_events.specs.Events.{channels, followed_behind, told_behind, told_on}
 pub use Rattle.heard_events.specs.Given.{at_of, listed}
 pub use Rattle.heard_events.specs.Left.{pilot_left}
 unfoldable pub use Rattle.heard_events.specs.Left.{pages_left, sets_left_of, sync_events_left}
@@ -42,31 +40,25 @@ pub use Rattle.heard_events.specs.PagingStreams.{paging_rate, paging_stream}
 pub use Rattle.rake_finger.specs.Scrambled.{unscrambled}
 pub use Rattle.heard_events.specs.Signaling.{capsule_with, message_events, signal_in, signal_of}
 unfoldable pub use Rattle.heard_events.specs.Signaling.{message_at, signal_at, signals_before}
-pub use Rattle.heard_events.specs.SoftFrames.{power_of, soft_frame, soft_frames, raw_at}
-unfoldable pub use Rattle.heard_events.specs.SoftFrames.{frames_within}
-pub use Rattle.heard_events.specs.SpelledMessages.{SpelledMessage, SpelledPage, SpelledSignal}
+pub use Rattle.heard_events.specs.SpelledMessages.{SpelledPage, SpelledSignal}
 pub use Rattle.heard_events.specs.Streams.{Stream}
 pub use Rattle.rake_finger.specs.Streams.{frame_end, frame_start, is_in_file}
 unfoldable pub use Rattle.heard_events.specs.Streams.{frame_own_bits}
 pub use Rattle.heard_events.specs.SyncEvents.{events_of, heard_in}
 unfoldable pub use Rattle.heard_events.specs.SyncEvents.{frames_before, heard_at, sync_capsule_at, sync_events_at}
 pub use Rattle.rake_finger.specs.Timing.{IsTimed}
-unfoldable pub use Rattle.rake_finger.specs.Timing.{stream_end}
-pub use Rattle.heard_events.specs.TrafficEvents.{all_sums, frame_event, raw_softs}
+pub use Rattle.heard_events.specs.TrafficEvents.{all_sums, raw_softs}
 unfoldable pub use Rattle.heard_events.specs.TrafficEvents.{power_bits_at, decoded_at}
 pub use Rattle.heard_events.specs.TrafficStreams.{chips_behind, frame_known, frame_state, has_frame, replaced_in, traffic_start}
 pub use Rattle.heard_events.specs.Tuning.{Tuning, sync_stream, tuning_by}
 pub use Rattle.rake_finger.specs.Paths.{fingers_of}
-pub use Rattle.heard_events.specs.declared.channel.Channel.{Channel}
 pub use Rattle.heard_events.specs.declared.channel.Channel.TheVariants.{Paging}
 pub use Rattle.heard_events.specs.declared.event.Event.{Event}
 pub use Rattle.heard_events.specs.declared.event.Event.TheVariants.{Pilot}
 pub use Rattle.heard_events.specs.declared.leg.Leg.{Leg}
 pub use Rattle.heard_events.specs.declared.mark.Mark.{Mark}
-pub use Rattle.heard_events.specs.declared.soft_frame.PowerControl.{PowerControl}
-pub use Rattle.heard_events.specs.declared.soft_frame.SoftFrame.{SoftFrame}
 pub use Rattle.long_code.proofs.After.{after-after}
-pub use Rattle.long_code.specs.LongCode.{after, paging_mask, traffic_mask}
+pub use Rattle.long_code.specs.LongCode.{after, traffic_mask}
 pub use Rattle.paging_message.specs.HalfFrames.{Framing, half_frame_body, half_frame_capsule_ending}
 pub use Rattle.paging_message.specs.declared.message.PagingMessage.{PagingMessage}
 pub use Rattle.pilot_search.specs.declared.sweeping.Best.{Best}
@@ -81,23 +73,22 @@ pub use Rattle.rake_finger.specs.InRing.{IsInRing}
 pub use Rattle.rake_finger.specs.Soft.{frame_chips}
 unfoldable pub use Rattle.rake_finger.specs.Soft.{softs}
 pub use Rattle.rake_finger.specs.declared.finger.Finger.{Finger}
-pub use Rattle.rake_finger.specs.declared.form.Form.{Form}
 pub use Rattle.rake_finger.specs.declared.form.Form.TheVariants.{Data, Sync}
 pub use Rattle.symbol_path.specs.Scrambling.{power_places, scrambling}
 pub use Rattle.traffic_message.specs.declared.body.TrafficBody.{TrafficBody}
-pub use Rattle.reception.specs.Clocks.{IsAt, IsDueAt, clock_from, first_frame, frame_come, frame_heard}
+pub use Rattle.reception.specs.Clocks.{IsDueAt, clock_from, first_frame, frame_heard}
 pub use Rattle.mobile_core.specs.BehindMark.{FollowsPages, FollowsTraffic, IsUnheard, IsUnpaged, SetsMark, paging_left, traffic_left}
 pub use Rattle.mobile_core.specs.FollowedChannels.{EndFrom, HearsFollowed, HearsFrames, HearsPages, IsFollowedDue, IsSoundFollowed}
 pub use Rattle.mobile_core.specs.FollowedChannels.{WaitFrom, followed_events_left, followed_heard, paging_events_left, traffic_events_left}
 pub use Rattle.heard_events.specs.LegSofts.{sums_on}
 pub use Rattle.mobile_core.specs.PagingReceiving.{HearsBit, HearsPaging, IsSoundPaging, bit_passed, bits_heard}
 pub use Rattle.reception.specs.Receiving.{Receives}
-pub use Rattle.heard_events.specs.SetsKeeping.{IsSoundKeeper, coming_place}
-pub use Rattle.mobile_core.specs.Standing.{IsDueIn, Stands, Steps, Tells, due_parts, has_room, heard_of, left_of}
+pub use Rattle.heard_events.specs.SetsKeeping.{coming_place}
+pub use Rattle.mobile_core.specs.Standing.{IsDueIn, Stands, Steps, Tells, due_parts, heard_of, left_of}
 pub use Rattle.mobile_core.specs.SyncReceiving.{HearsNext, HearsSync, IsSoundSync}
-pub use Rattle.mobile_core.specs.TrafficReceiving.{GivesFirst, HasTold, HearsTraffic, HearsUntuned, HearsUpTo, HearsWith}
-pub use Rattle.mobile_core.specs.TrafficReceiving.{IsSoundTraffic, IsTrafficDue, WaitsAt, kept_by}
-pub use Rattle.mobile_core.specs.TrafficReceiving.{kept_in, next_end, noted_by, told_left_with, traffic_heard, traffic_left_of}
+pub use Rattle.mobile_core.specs.TrafficReceiving.{GivesFirst, HasTold, HearsTraffic, HearsUntuned, HearsUpTo, HearsWith, IsSoundTraffic}
+pub use Rattle.mobile_core.specs.TrafficReceiving.{IsTrafficDue, WaitsAt, kept_in, next_end, noted_by, told_left_with, traffic_heard}
+pub use Rattle.mobile_core.specs.TrafficReceiving.{traffic_left_of}
 pub use Rattle.reception.specs.declared.continued.Continued.{Continued}
 pub use Rattle.mobile_core.specs.declared.followed.Followed.{Followed}
 pub use Rattle.reception.specs.declared.frame_clock.FrameClock.{FrameClock}

@@ -1,8 +1,8 @@
 -- Where the frames of fingers that are close to the reference path begin and end, of either form.
-use Rattle.rake_finger.proofs.Common.{◌≡◌, ℕ, zero, suc, ◌+◌, ◌<◌, ◌≤◌, true, List, [], ◌∷◌, length, refl, sym, ap, ◌∙◌, arith, ℤ, pos}
-use Rattle.rake_finger.proofs.Common.{◌-ℤ◌, ◌≤ℤ◌, nat_le, negsuc, All, slice_get, Some, slice_index_or, unsigned_abs, int_le, ints}
-use Rattle.rake_finger.proofs.Common.{and_parts, and_from, nat_tests, Held, IsInRing, Finger, Data, AreClose, all_close, is_close, AreNear}
-use Rattle.rake_finger.proofs.Common.{all_begun, all_near, has_reference, is_near, frame_end, ◌+ℤ◌, frame_chips, Form, Sync, AreBegun}
+use Rattle.rake_finger.proofs.Common.{◌≡◌, ℕ, zero, suc, ◌+◌, ◌<◌, ◌≤◌, true, List, [], ◌∷◌, length, refl, arith, ℤ, pos, ◌-ℤ◌, ◌≤ℤ◌}
+use Rattle.rake_finger.proofs.Common.{nat_le, negsuc, All, slice_index_or, unsigned_abs, int_le, ints, and_parts, and_from, nat_tests, Held}
+use Rattle.rake_finger.proofs.Common.{IsInRing, Finger, Data, AreClose, all_close, is_close, AreNear, all_begun, all_near, has_reference}
+use Rattle.rake_finger.proofs.Common.{is_near, frame_end, ◌+ℤ◌, frame_chips, Form, Sync, AreBegun}
 
 -- FRAMES
 pub some_chips : (form : Form) → 256 ≤ frame_chips form
@@ -163,13 +163,3 @@ pub near_are_close : (fingers : List Finger) → AreNear fingers → AreClose fi
 near_are_close fingers h =
     let both = and_parts (all_near fingers) (has_reference fingers) h in
     record { some = some_finger fingers both.1; close = near_close fingers both.0 }
-
--- one of close fingers
-pub close_at : (fingers : List Finger) (i : ℕ) (f : Finger) → all_close fingers ≡ true →
-    slice_get fingers i ≡ Some f → is_close f ≡ true
-close_at [] i f h read = absurd (cc)
-close_at (g ∷ fingers) zero f h read =
-    let same : g ≡ f = cc in
-    ap is_close (sym same) ∙ (and_parts (is_close g) (all_close fingers) h).0
-close_at (g ∷ fingers) (suc i) f h read =
-    close_at fingers i f (and_parts (is_close g) (all_close fingers) h).1 read

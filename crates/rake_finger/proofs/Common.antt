@@ -1,7 +1,7 @@
 -- What the proofs of this crate cite of what lies below, and of its own definitions, passed on from one place.
-pub use Rattle.std.proofs.Common.{All, Bool, List, Some, [], ap, arith, cond, drop, false, inl, inr, length, length-drop, map, max, nat_le}
-pub use Rattle.std.proofs.Common.{negsuc, pos, refl, slice_get, slice_index_or, suc, sym, take, true, zero, ℕ, ℤ, ◌&&◌, ◌*◌, ◌++◌, ◌+ℤ◌}
-pub use Rattle.std.proofs.Common.{◌+◌, ◌-ℤ◌, ◌-◌, ◌/◌, ◌<◌, ◌∙◌, ◌∷◌, ◌≡◌, ◌≤ℤ◌, ◌≤◌, ◌⊎◌}
+pub use Rattle.std.proofs.Common.{All, Bool, List, [], ap, arith, cond, drop, false, inl, inr, length, length-drop, map, max, nat_le}
+pub use Rattle.std.proofs.Common.{negsuc, pos, refl, slice_index_or, suc, sym, take, true, zero, ℕ, ℤ, ◌&&◌, ◌*◌, ◌++◌, ◌+ℤ◌, ◌+◌, ◌-ℤ◌}
+pub use Rattle.std.proofs.Common.{◌-◌, ◌/◌, ◌<◌, ◌∙◌, ◌∷◌, ◌≡◌, ◌≤ℤ◌, ◌≤◌, ◌⊎◌}
 pub use Rattle.std.proofs.lemmas.Bool.{and_from, and_left, and_parts, and_right, cases_Bool, cases_lt, cases_order, le-leb, leb-true}
 pub use Rattle.std.proofs.lemmas.Bool.{lt-leb, or_cases}
 pub use Rattle.std.proofs.lemmas.Bool.Decides.{nat_tests}

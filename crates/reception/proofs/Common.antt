@@ -1,16 +1,15 @@
 -- What the proofs of this crate cite of what lies below, and of its own definitions, passed on from one place.
-pub use Rattle.std.proofs.Common.{All, Bool, List, Some, [], ap, arith, drop, false, get_or, inl, inr, length, length-append, length-drop}
-pub use Rattle.std.proofs.Common.{length-take, max, nat_lt, pos, refl, replicate, rules, slice_get, slice_index_or, slice_set, subst, suc}
-pub use Rattle.std.proofs.Common.{sym, take, true, zero, ℕ, ℤ, ◌&&◌, ◌*ℤ◌, ◌*◌, ◌++◌, ◌+◌, ◌-◌, ◌<◌, ◌∙◌, ◌∷◌, ◌≡◌, ◌≤◌, ◌⊎◌}
-pub use Rattle.std.proofs.lemmas.Bool.{and_from, and_parts, cases_Bool, cases_lt, le-ltb, lt-ltb, ltb-true}
+pub use Rattle.std.proofs.Common.{Bool, List, [], ap, arith, drop, false, get_or, inl, inr, length, length-append, length-drop, length-take}
+pub use Rattle.std.proofs.Common.{max, nat_lt, pos, refl, replicate, rules, slice_set, subst, suc, sym, take, true, zero, ℕ, ℤ, ◌*ℤ◌, ◌*◌}
+pub use Rattle.std.proofs.Common.{◌++◌, ◌+◌, ◌-◌, ◌<◌, ◌∙◌, ◌∷◌, ◌≡◌, ◌≤◌, ◌⊎◌}
+pub use Rattle.std.proofs.lemmas.Bool.{cases_Bool, cases_lt, le-ltb, lt-ltb}
 pub use Rattle.std.proofs.lemmas.Int.{to_z-of_z}
-pub use Rattle.std.proofs.lemmas.List.{at_drop_more, drop-append-le, drop-drop, drop-replicate, drop_all, length-replicate, map-append}
-pub use Rattle.std.proofs.lemmas.List.{take_all, take_at, take_more}
+pub use Rattle.std.proofs.lemmas.List.{drop-append-le, drop-drop, drop-replicate, drop_all, length-replicate, map-append, take_all, take_at}
+pub use Rattle.std.proofs.lemmas.List.{take_more}
 pub use Rattle.std.proofs.lemmas.List.Folds.{list_all-append, list_any-append, sum_by-replicate}
 pub use Rattle.std.proofs.lemmas.List.Sums.{sum_by-append, sum_by-set}
-pub use Rattle.std.proofs.lemmas.Option.{get_or_from_slice_get, slice_get_within}
 pub use Rattle.std.specs.List.{flat_map}
-pub use Rattle.std.specs.Prelude.{if◌then◌else◌, int_le, sum_by, unsigned_abs}
+pub use Rattle.std.specs.Prelude.{if◌then◌else◌, sum_by, unsigned_abs}
 pub use Rattle.chip_core.proofs.Places.{places-none}
 pub use Rattle.chip_core.proofs.Ranges.{flat_map-places-more, flat_map_ext_places}
 pub use Rattle.chip_core.specs.Bits.{sign}
@@ -22,9 +21,7 @@ pub use Rattle.rake_finger.specs.Paths.{finger_of, fingers_of}
 pub use Rattle.rake_finger.specs.Scrambled.{descrambled, unscrambled}
 pub use Rattle.rake_finger.specs.Soft.{frame_chips, soft_bound, symbols}
 unfoldable pub use Rattle.rake_finger.specs.Soft.{softs}
-pub use Rattle.rake_finger.specs.Streams.{Stream, finger_end, frame_end, frame_softs, frame_start, is_in_file, known_at, span_first}
-pub use Rattle.rake_finger.specs.Streams.{span_frames}
-pub use Rattle.rake_finger.specs.Timing.{IsTimed}
+pub use Rattle.rake_finger.specs.Streams.{Stream, frame_end, frame_softs, frame_start, is_in_file, known_at, span_first, span_frames}
 unfoldable pub use Rattle.rake_finger.specs.Timing.{stream_end}
 pub use Rattle.rake_finger.specs.declared.finger.Finger.{Finger}
 pub use Rattle.rake_finger.specs.declared.form.Form.{Form}

@@ -35,20 +35,20 @@ pub use Rattle.rake_finger.proofs.CloseFingers.{close_begun, near_are_close, nea
 pub use Rattle.rake_finger.proofs.FingerTimes.{timed_in}
 pub use Rattle.heard_events.proofs.Growth.{timed_of}
 pub use Rattle.heard_events.proofs.ChannelFrames.{frame_same, frames_sooner}
-pub use Rattle.rake_finger.proofs.FrameTimes.{ends_lt, inside_from, inside_to, known_between, known_le, known_own}
+pub use Rattle.rake_finger.proofs.FrameTimes.{ends_lt, inside_from, inside_to, known_between, known_own}
 pub use Rattle.heard_events.proofs.MarkLater.{mark_later}
 pub use Rattle.heard_events.proofs.MarkStays.{mark_behind, mark_set, mark_sooner, mark_stays, paging_near}
 pub use Rattle.mobile_core.proofs.MarkAhead.{marked_all}
-pub use Rattle.heard_events.specs.Channels.{IsLawful, channel_stream, has_power_control, mask_of, row_of, state_at}
+pub use Rattle.heard_events.specs.Channels.{IsLawful, channel_stream, has_power_control, mask_of, state_at}
 pub use Rattle.heard_events.specs.Events.{events}
 pub use Rattle.rake_finger.specs.FrameSamples.{AgreeIn}
 pub use Rattle.heard_events.specs.Given.{at_of, listed}
-pub use Rattle.heard_events.specs.Marks.{first_of, marks_at, sets_mark}
+pub use Rattle.heard_events.specs.Marks.{sets_mark}
 unfoldable pub use Rattle.heard_events.specs.Marks.{mark}
 pub use Rattle.rake_finger.specs.Near.{AreNear, all_begun, all_near, has_reference, low_in}
 pub use Rattle.heard_events.specs.Near.{low_of}
 pub use Rattle.heard_events.specs.PagingStreams.{paging_bound, paging_rate}
-pub use Rattle.heard_events.specs.SoftFrames.{power_of, raw_at, soft_frame, soft_frames}
+pub use Rattle.heard_events.specs.SoftFrames.{power_of, soft_frame, soft_frames}
 unfoldable pub use Rattle.heard_events.specs.SoftFrames.{frames_within}
 pub use Rattle.reception.specs.Clocks.{IsAt, IsDueAt, clock_from, first_frame, frame_come}
 pub use Rattle.reception.specs.Softs.{frame_most}
@@ -60,7 +60,7 @@ pub use Rattle.rake_finger.specs.Streams.{frame_softs, frame_start, is_in_file, 
 pub use Rattle.rake_finger.specs.Timing.{IsTimed}
 unfoldable pub use Rattle.rake_finger.specs.Timing.{stream_end}
 pub use Rattle.tuned_listener.specs.Tuners.{IsTunedTo, IsTunerStep, samples_left}
-pub use Rattle.heard_events.specs.Tuning.{Tuning, sync_bound, sync_stream}
+pub use Rattle.heard_events.specs.Tuning.{Tuning, sync_stream}
 pub use Rattle.rake_finger.specs.Paths.{finger_of, fingers_of}
 pub use Rattle.heard_events.specs.declared.channel.Channel.{Channel}
 pub use Rattle.heard_events.specs.declared.channel.Channel.TheVariants.{Paging, Traffic}
@@ -81,8 +81,6 @@ pub use Rattle.pilot_search.specs.declared.paths.Near.{Near}
 pub use Rattle.quality_bits.specs.declared.rate.Rate.{Rate}
 pub use Rattle.rake_finger.specs.Scrambled.{unscrambled}
 pub use Rattle.rake_finger.specs.Soft.{frame_chips, softs}
-pub use Rattle.rake_finger.specs.declared.finger.Finger.{Finger}
-pub use Rattle.rake_finger.specs.declared.form.Form.{Form}
 pub use Rattle.rake_finger.specs.declared.form.Form.TheVariants.{Data}
 pub use Rattle.slot_mode.specs.Frames.{slot_bits, span_softs}
 pub use Rattle.slot_mode.specs.Slots.{is_monitored}

@@ -5,9 +5,8 @@ use Rattle.mobile_core.proofs.Common.{List, Event, sync_events_left, sets_mark}
 use Rattle.reception.proofs.ClockSteps.{due_inside, due_known, start_before}
 use Rattle.reception.proofs.Received.{receives_heard}
 use Rattle.heard_events.proofs.Growth.{frames_before_more, left_next}
-use Rattle.heard_events.proofs.MarkGrowth.{mark_before_more}
+use Rattle.heard_events.proofs.MarkGrowth.{frames_open-more, mark_before_more}
 use Rattle.heard_events.proofs.MarkTold.{noted_event}
-use Rattle.heard_events.proofs.Opened.{frames_open-more}
 use Rattle.mobile_core.proofs.SyncHeard.{either, starts_is}
 use Rattle.mobile_core.proofs.sync_receiver.SyncReceiver.hear_next.Goals as goal
 
