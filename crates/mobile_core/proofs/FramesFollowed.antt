@@ -5,11 +5,11 @@ use Rattle.mobile_core.proofs.Common.{IsSomeAnd, cases_lt, false_from_ne_true, n
 use Rattle.mobile_core.proofs.Common.{legs_at, legs_by, messages_at, moment_place, moments_before, sets_at, pages_behind, coming_place}
 use Rattle.mobile_core.proofs.Common.{FollowsTraffic, HearsFrames, IsUnheard, traffic_left, traffic_events_left, HearsTraffic, HearsWith}
 use Rattle.mobile_core.proofs.Common.{IsSoundTraffic, IsTrafficDue, at_of, ◌∷◌, kept_in, next_end, noted_by, sets_left_of, traffic_heard}
-use Rattle.mobile_core.proofs.Common.{WaitsAt, traffic_left_of, told_left_with, Tuning, Event, Leg, Mark, Traffic, TrafficReceiver}
+use Rattle.mobile_core.proofs.Common.{GivesFirst, WaitsAt, traffic_left_of, told_left_with, Tuning, Event, Leg, Mark, Traffic, TrafficReceiver}
 use Rattle.mobile_core.proofs.Common.{option_map, told_behind}
 use Rattle.heard_events.specs.declared.channel.Channel.TheVariants.{Traffic as OnTraffic}
 use Rattle.mobile_core.proofs.FramesHeard.{none_come, none_kept, not_left, told_go}
-use Rattle.mobile_core.proofs.FramesTold.{hears_noted}
+use Rattle.mobile_core.proofs.FramesTold.{hears_noted, moments_are}
 use Rattle.heard_events.proofs.GoesOn.{GoesOn, both, goes_as, never}
 use Rattle.heard_events.proofs.MomentGrowth.{kept_sooner}
 use Rattle.mobile_core.proofs.PagesFollowed.{paged_behind}
@@ -30,15 +30,6 @@ unheard t (Some traffic) mark samples n h =
     ap (λ (x : Option Mark). told_behind t (Some (OnTraffic traffic)) x samples n) h
 
 -- THE RECEIVER
--- how many moments lie before a number of samples
-moments_are : (m : Mark) (j n : ℕ) → n ≤ moment_place m (j + 1) →
-    (0 < j → moment_place m j < n) → moments_before m n ≡ j
-moments_are m j n early behind =
-    elim (cases_lt 0 j) [
-      | inl some ↦ let b = behind some in omega (arith, early, b)
-      | inr none ↦ omega (arith, early, none)
-    ]
-
 -- a moment lies there, or none does
 set_there : (t : Tuning) (traffic : Traffic) (m : Mark) (samples : List Sample) (n j : ℕ) →
     moments_before m n ≡ j → take n samples ≡ samples → length samples ≡ n →
@@ -56,21 +47,13 @@ no_set t traffic m samples n j moments elsewhere =
     (λ e. elsewhere (omega (arith, e, moments))) in
     rw none refl
 
-not_come : (r : TrafficReceiver) → ¬ IsTrafficDue r → r.sets.due ≡ false
-not_come r none = false_from_ne_true r.sets.due (λ due. none (inr due))
-
-coming_is : (r : TrafficReceiver) → ¬ IsTrafficDue r →
-    coming_place r.sets ≡ moment_place r.sets.mark (r.sets.passed + 1)
-coming_is r none =
-    ap (λ (b : Bool). moment_place r.sets.mark (r.sets.passed + (if b then 2 else 1)))
-    (not_come r none)
-
 module _ {t : Tuning} {traffic : Traffic} {m : Mark} {r : TrafficReceiver} {heard : List Sample}
     {pages : List Event} (st : HearsTraffic t traffic m r heard pages) (sound : IsSoundTraffic r)
     (none : ¬ IsTrafficDue r) where
   place_is : coming_place r.sets ≡ moment_place m (r.sets.passed + 1)
   place_is =
-      coming_is r none
+      ap (λ (b : Bool). moment_place r.sets.mark (r.sets.passed + (if b then 2 else 1)))
+      (false_from_ne_true r.sets.due (λ due. none (inr due)))
       ∙ ap (λ (x : Mark). moment_place x (r.sets.passed + 1)) st.tuned.mark_is
 
   ends_at : (n : ℕ) → n ≤ next_end r →
@@ -167,12 +150,12 @@ module _ {t : Tuning} {assigned : Option Traffic} {mark : Option Mark} {r : Traf
   told_is samples n = rw (st.traffic_is, st.set_is) refl
 
   -- what was due first has been heard
-  pub tells_left : (after : TrafficReceiver) (event : Option Event) →
-      listed event ++ traffic_left_of t st.traffic st.set heard after
-      ≡ traffic_left_of t st.traffic st.set heard r →
-      listed event ++ traffic_left t assigned mark heard after ≡ traffic_left t assigned mark heard r
-  tells_left after event left =
-      rw (left_is heard after, left_is heard r) left
+  pub tells_first : (after : TrafficReceiver) (given later : List Event) →
+      GivesFirst t st.traffic st.set heard r after given later →
+      FollowsTraffic t assigned mark after heard later
+      × (given ++ traffic_left t assigned mark heard after ≡ traffic_left t assigned mark heard r)
+  tells_first after given later gives =
+      (tells_on after heard later gives.0, rw (left_is heard after, left_is heard r) gives.1)
 
 -- the sets have taken what an event of the paging channel tells
 pub frames_noted : {t : Tuning} {assigned : Option Traffic} {mark : Option Mark} {r : TrafficReceiver}
@@ -226,11 +209,9 @@ module _ (t : Tuning) (assigned : Option Traffic) (mark : Option Mark) (heard : 
       let m = behind.set in
       let later = paged_behind t mark (heard ++ more) (length (heard ++ more)) in
       let known = sound r refl in
-      let early = (waits r refl).before in
       let parts = ends_at st known none (length heard + length more) (ends r refl) in
-      let now = (ends_at st known none (length heard + 1) (omega (arith, early))).0 in
       let grown = heard_frames.hears_more st known more none some parts.0 parts.1
-      (omega (arith, now)) within given later
+      within given later
       (ap (λ (x : Option Mark). paged_behind t x (heard ++ more) (length (heard ++ more)))
       behind.set_is)
       (λ samples n past less.

@@ -183,8 +183,7 @@ module _ {t : Tuning} {traffic : Traffic} {m : Mark} {r : TrafficReceiver} {hear
   -- MORE SAMPLES, UP TO THE END OF THE FRAME THAT COMES NEXT
   module _ (more : List Sample) (none : ¬ IsTrafficDue r) (some : 0 < length more)
       (ends : length heard + length more ≤ end) (early : length heard + length more ≤ moment)
-      (waits : length heard < end) (within : length heard + length more ≤ t.count)
-      (given : pages ≡ []) (later : List Event)
+      (within : length heard + length more ≤ t.count) (given : pages ≡ []) (later : List Event)
       (later_is : later ≡ map (page_event (length (heard ++ more)))
       (pages_behind t t.paging (Some m) (heard ++ more) (length (heard ++ more))))
       (quiet : (samples : List Sample) (n : ℕ) → length heard < n →
@@ -247,7 +246,7 @@ module _ {t : Tuning} {traffic : Traffic} {m : Mark} {r : TrafficReceiver} {hear
         ∙ ap (all_noted m (told_by t traffic m legs samples taken))
         (sym (ap (λ (es : List Event). all_noted m (es ++ left_of heard) r.sets.sets) given
         ∙ ap (λ (es : List Event). all_noted m es r.sets.sets)
-        (told_given (none_come r sound none) (none_kept r none) waits))
+        (told_given (none_come r sound none) (none_kept r none) (omega (arith, some, ends))))
         ∙ st.sets_are)
         ∙ elim (cases_lt place taken) [
           | inl behind ↦
@@ -376,36 +375,33 @@ module _ {t : Tuning} {traffic : Traffic} {m : Mark} {r : TrafficReceiver} {hear
       let within = st.among.within in
       has_here t traffic m legs closes far next (omega (arith, here, within))
 
-  module _ (come : next < coming) where
-    -- what is decoded of the frame that is due
-    pub frame_here : (replaced : List ℕ) (descrambled : List ℤ) (frame : Decoded) →
-        replaced ≡ power_places (after r.frames.scrambling.state (24576 * next)) r.frames.scrambling.mask →
-        descrambled
-        ≡ unscrambled
-        (scrambling (after r.frames.scrambling.state (24576 * next)) r.frames.scrambling.mask) r.softs →
-        frame ≡ decoded replaced descrambled → frame ≡ decoded_at t traffic m legs heard next
-    unfolding decoded_at
-    frame_here replaced descrambled frame replaced_is descrambled_is frame_is =
-        let bits = scrambling (frame_state traffic m next) (traffic_mask traffic.esn) in
-        let bits_are =
-        ap (λ (n : ℕ). scrambling n r.frames.scrambling.mask)
-        (state_on traffic m r.frames.scrambling.state next st.tuned.state_is)
-        ∙ ap (scrambling (frame_state traffic m next)) st.tuned.mask_is in
+  -- what is decoded of the frame that is due, and its power control bits
+  pub next_here : next < coming → (replaced : List ℕ) (descrambled : List ℤ) (frame : Decoded)
+      (told : List Bool) →
+      replaced ≡ power_places (after r.frames.scrambling.state (24576 * next)) r.frames.scrambling.mask →
+      descrambled
+      ≡ unscrambled
+      (scrambling (after r.frames.scrambling.state (24576 * next)) r.frames.scrambling.mask) r.softs →
+      frame ≡ decoded replaced descrambled →
+      told ≡ map (power_bit (frames.subchannels r.power)) (places 16) →
+      (frame ≡ decoded_at t traffic m legs heard next)
+      × (told ≡ power_bits_at t traffic m legs heard next)
+  unfolding decoded_at power_bits_at
+  next_here come replaced descrambled frame told replaced_is descrambled_is frame_is told_is =
+      let bits = scrambling (frame_state traffic m next) (traffic_mask traffic.esn) in
+      let bits_are =
+      ap (λ (n : ℕ). scrambling n r.frames.scrambling.mask)
+      (state_on traffic m r.frames.scrambling.state next st.tuned.state_is)
+      ∙ ap (scrambling (frame_state traffic m next)) st.tuned.mask_is in (
         frame_is
-        ∙ ap (λ (ps : List ℕ). decoded ps descrambled) (replaced_is ∙ places_at next)
-        ∙ ap (decoded (replaced_in traffic m next))
-        (descrambled_is
-        ∙ ap (λ (b : List Bool). unscrambled b r.softs) bits_are
-        ∙ ap (unscrambled bits) (st.frames.come come).softs_are)
-
-    -- and its power control bits
-    pub power_bits_here : (told : List Bool) →
-        told ≡ map (power_bit (frames.subchannels r.power)) (places 16) →
-        told ≡ power_bits_at t traffic m legs heard next
-    unfolding power_bits_at
-    power_bits_here told told_is =
+            ∙ ap (λ (ps : List ℕ). decoded ps descrambled) (replaced_is ∙ places_at next)
+            ∙ ap (decoded (replaced_in traffic m next))
+            (descrambled_is
+            ∙ ap (λ (b : List Bool). unscrambled b r.softs) bits_are
+            ∙ ap (unscrambled bits) (st.frames.come come).softs_are),
         told_is
-        ∙ ap (λ (sums : List (List ℤ)). map (power_bit sums) (places 16)) (st.frames.come come).power_is
+            ∙ ap (λ (sums : List (List ℤ)). map (power_bit sums) (places 16)) (st.frames.come come).power_is,
+      )
 
 -- The pilots of the frame that comes next have been taken, where the last moment tells them.
 pub hears_tuned : {t : Tuning} {traffic : Traffic} {m : Mark} {r : TrafficReceiver}

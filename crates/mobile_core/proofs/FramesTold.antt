@@ -1,12 +1,13 @@
 -- What the receiver of a traffic channel stands for as it tells what has come.
 use Rattle.mobile_core.proofs.Common.{◌≡◌, ℕ, ◌+◌, ◌<◌, ◌≤◌, List, [], ◌∷◌, ◌++◌, Bool, true, false, length, refl, sym, ap, ◌∙◌, arith}
-use Rattle.mobile_core.proofs.Common.{subst, Option, None, Some, inl, inr, ◌==◌, if◌then◌else◌, is_some, option_to_list, cases_lt, Sample}
-use Rattle.mobile_core.proofs.Common.{Decoded, PagingMessage, accepted_of, direction_fault, Standing, unless_refused, with_neighbors}
-use Rattle.mobile_core.proofs.Common.{with_thresholds, DirectionFault, Accepted, StandsFor, TrafficBody, at_of, legs_of, legs_by}
-use Rattle.mobile_core.proofs.Common.{moment_place, all_noted, body_noted, moment_from, noted, noted_with, page_noted, system_thresholds}
-use Rattle.mobile_core.proofs.Common.{capsule_with, message_at, message_events, signal_at, signal_in, signal_of, signals_before, GivesFirst}
-use Rattle.mobile_core.proofs.Common.{HasTold, HearsTraffic, HearsWith, IsSoundTraffic, noted_by, told_left_with, frame_known, Tuning, Leg}
-use Rattle.mobile_core.proofs.Common.{kept_in, sets_left_of, frame_heard, Event, Mark, Traffic, SpelledSignal, TrafficReceiver}
+use Rattle.mobile_core.proofs.Common.{subst, Option, None, Some, inl, inr, ◌==◌, if◌then◌else◌, is_some, option_to_list, cases_lt}
+use Rattle.mobile_core.proofs.Common.{Sample, Decoded, PagingMessage, accepted_of, direction_fault, Standing, unless_refused}
+use Rattle.mobile_core.proofs.Common.{with_neighbors, with_thresholds, DirectionFault, Accepted, StandsFor, TrafficBody, at_of, legs_of}
+use Rattle.mobile_core.proofs.Common.{legs_by, moment_place, all_noted, body_noted, moment_from, moments_before, noted, noted_with, page_noted}
+use Rattle.mobile_core.proofs.Common.{system_thresholds, capsule_with, message_at, message_events, signal_at, signal_in, signal_of}
+use Rattle.mobile_core.proofs.Common.{signals_before, GivesFirst, HasTold, HearsTraffic, HearsWith, IsSoundTraffic, noted_by, told_left_with}
+use Rattle.mobile_core.proofs.Common.{frame_known, Tuning}
+use Rattle.mobile_core.proofs.Common.{Leg, kept_in, sets_left_of, frame_heard, Event, Mark, Traffic, SpelledSignal, TrafficReceiver}
 use Rattle.heard_events.proofs.TrafficGrowth.{signals_more}
 use Rattle.mobile_core.proofs.FramesHeard.{closes, due_inside, left_unkept}
 use Rattle.heard_events.proofs.TrafficGrowth.{told_left, told_next}
@@ -57,10 +58,10 @@ noted_legs m pn first (events.Paging n capsule message) s = page_legs m pn messa
 noted_legs m pn first (events.Traffic n capsule message) s = body_legs m first message.body s
 noted_legs m pn first event s = refl
 
--- the first moment that isn't before the end of what is told
-first_is : (m : Mark) (j n : ℕ) → n ≤ moment_place m (j + 1) → (0 < j → moment_place m j < n) →
-    j + 1 ≡ moment_from m n
-first_is m j n early behind =
+-- how many moments lie before a number of samples
+pub moments_are : (m : Mark) (j n : ℕ) → n ≤ moment_place m (j + 1) →
+    (0 < j → moment_place m j < n) → moments_before m n ≡ j
+moments_are m j n early behind =
     elim (cases_lt 0 j) [
       | inl some ↦ let b = behind some in omega (arith, early, b)
       | inr none ↦ omega (arith, early, none)
@@ -74,7 +75,9 @@ pub hears_noted : {t : Tuning} {traffic : Traffic} {m : Mark} {heard : List Samp
 hears_noted {t} {traffic} {m} {heard} {kept} {r} {pages} event st at' =
     let j : ℕ = r.sets.passed in
     let left = told_left_with t traffic m heard r kept in
-    let first = first_is m j (length heard) st.among.coming (st.behind event (pages ++ left) refl) in
+    let before =
+    moments_are m j (length heard) st.among.coming (st.behind event (pages ++ left) refl) in
+    let first : j + 1 ≡ moment_from m (length heard) = omega (arith, before) in
     let same : noted_with r.sets.mark.pilot (r.sets.mark.time + (j + 1)) event r.sets.sets
     ≡ noted m event r.sets.sets =
     ap (λ (x : Mark). noted_with x.pilot (x.time + (j + 1)) event r.sets.sets) st.tuned.mark_is

@@ -1,11 +1,11 @@
 -- What always holds of the receiver of a traffic channel, as it goes on.
 use Rattle.mobile_core.proofs.Common.{◌≡◌, ℕ, ◌+◌, ◌*◌, ◌^◌, ◌<◌, ◌≤◌, true, List, length, ℤ, ap, ◌∙◌, arith}
-use Rattle.mobile_core.proofs.Common.{subst, false, Held, sum_by, unsigned_abs, PowerSofts, Finger, Data, Sample, Standing}
+use Rattle.mobile_core.proofs.Common.{subst, false, Held, sum_by, unsigned_abs, PowerSofts, Finger, Data, take}
 use Rattle.mobile_core.proofs.Common.{AreClose, legs_close, paths_close, all_fingers, legs_of}
-use Rattle.mobile_core.proofs.Common.{frame_end, HearsWith, IsSoundTraffic, Tuning, Event, Mark, SetsKeeper, Traffic}
+use Rattle.mobile_core.proofs.Common.{frame_end, IsSoundTraffic, Tuning, Mark, SetsKeeper, Traffic}
 use Rattle.mobile_core.proofs.Common.{TrafficReceiver, All, IsInRing, frame_chips}
 use Rattle.heard_events.specs.LegSofts.{IsHeldFrom}
-use Rattle.mobile_core.specs.TrafficReceiving.{frame_taken}
+use Rattle.mobile_core.specs.TrafficReceiving.{IsTunedIn, frame_taken}
 use Rattle.reception.specs.Sound.{IsSoundReceiver}
 use Rattle.rake_finger.proofs.CloseFingers.{begun_in_ring, close_ends}
 use Rattle.heard_events.proofs.LegFingers.{all_some, legs_are_close}
@@ -60,23 +60,17 @@ waits_tuned start end n fingers close ends few =
     omega (arith, low, ends, few)
 
 -- behind a moment the active pilots' fingers are close
-pub passed_close : {t : Tuning} {traffic : Traffic} {m : Mark} {r : TrafficReceiver}
-    {heard : List Sample} {pages : List Event} {kept : ℕ → Standing} →
-    HearsWith t traffic m r heard pages kept → IsSoundTraffic r → (k : SetsKeeper) →
-    k ≡ record {
-      sets = k.sets;
-      mark = r.sets.mark;
-      passed = r.sets.passed + 1;
-      due = false;
-    } → 1 ≤ length (legs_of k.mark k.sets) → legs_close (legs_of k.mark k.sets) ≡ true →
+pub passed_close : {t : Tuning} {traffic : Traffic} {m mark : Mark} {r : TrafficReceiver} →
+    IsTunedIn t traffic m mark r.phase r.near r.frames.scrambling → IsSoundTraffic r →
+    (k : SetsKeeper) → k.mark ≡ m → 1 ≤ length (legs_of k.mark k.sets) →
+    legs_close (legs_of k.mark k.sets) ≡ true →
     AreClose (all_fingers t.phase t.deltas (legs_of m k.sets))
-passed_close {t} {traffic} {m} {r} {heard} {pages} {kept} st is k k_is some close =
-    let mark = ap (λ (x : SetsKeeper). x.mark) k_is ∙ st.tuned.mark_is in
-    let some' = subst (λ (x : Mark). 1 ≤ length (legs_of x k.sets)) mark some in
-    let close' = subst (λ (x : Mark). legs_close (legs_of x k.sets) ≡ true) mark close in
-    let paths = subst (λ (ds : List ℤ). paths_close ds ≡ true) st.tuned.deltas_are is.set.paths in
-    record {
-      some = all_some t.phase t.deltas (legs_of m k.sets) some'
-          (subst (λ (ds : List ℤ). 1 ≤ length ds) st.tuned.deltas_are is.set.path_some);
-      close = legs_are_close t.phase t.deltas (legs_of m k.sets) paths close';
-    }
+passed_close {t} {r = r} tuned is k mark some close =
+    let legs = legs_of k.mark k.sets in
+    let paths = take r.near.count r.near.deltas in
+    subst (λ (x : Mark). AreClose (all_fingers t.phase t.deltas (legs_of x k.sets))) mark
+    (subst (λ (ds : List ℤ). AreClose (all_fingers t.phase ds legs)) tuned.deltas_are
+    (record {
+      some = all_some t.phase paths legs some is.set.path_some;
+      close = legs_are_close t.phase paths legs is.set.paths close;
+    }))
