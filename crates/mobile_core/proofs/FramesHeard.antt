@@ -110,18 +110,22 @@ module _ {t : Tuning} {traffic : Traffic} {m : Mark} {r : TrafficReceiver} {hear
   closes k = st.close (moment_of traffic k)
 
   -- THE FRAME THAT COMES NEXT
-  fingers_are : IsTold → r.frames.fingers ≡ all_fingers t.phase t.deltas (legs coming)
-  fingers_are told =
-      sound.fingers_are
-      ∙ ap (λ (p : ℕ). all_fingers p (take r.near.count r.near.deltas) r.legs) st.tuned.phase_is
-      ∙ ap (λ (ds : List ℤ). all_fingers t.phase ds r.legs) st.tuned.deltas_are
-      ∙ ap (all_fingers t.phase t.deltas) (st.legs_are told)
+  -- it is heard on the fingers of its own pilots, from where it begins
+  parts_are : {A : Type 0} (f : ℕ → List ℤ → List Leg → ℕ → A) → IsTold →
+      f r.phase (take r.near.count r.near.deltas) r.legs r.frames.clock.start
+      ≡ f t.phase t.deltas (legs coming) (traffic_start traffic m coming)
+  parts_are f told =
+      let start : ℕ = r.frames.clock.start in
+      ap (λ (p : ℕ). f p (take r.near.count r.near.deltas) r.legs start) st.tuned.phase_is
+      ∙ ap (λ (ds : List ℤ). f t.phase ds r.legs start) st.tuned.deltas_are
+      ∙ ap (λ (ls : List Leg). f t.phase t.deltas ls start) (st.legs_are told)
+      ∙ ap (f t.phase t.deltas (legs coming)) st.frames.start_is
 
   end_is : IsTold → end ≡ known coming
   end_is told =
       sound.frames.ends
-      ∙ ap (λ (fs : List Finger). frame_end fs Data r.frames.clock.start) (fingers_are told)
-      ∙ ap (frame_end (all_fingers t.phase t.deltas (legs coming)) Data) st.frames.start_is
+      ∙ ap (λ (fs : List Finger). frame_end fs Data r.frames.clock.start) sound.fingers_are
+      ∙ parts_are (λ p ds ls u. frame_end (all_fingers p ds ls) Data u) told
       ∙ sym (known_is t traffic m legs coming)
 
   -- where it ends up to the next moment, a moment that has passed told its pilots
@@ -331,9 +335,6 @@ module _ {t : Tuning} {traffic : Traffic} {m : Mark} {r : TrafficReceiver} {hear
       let same = ap known idle in
       let offset = st.tuned.offset in
       let begun = st.among.begun in
-      let of : ℕ → List ℤ → List Leg → ℕ → List ℕ → List (List ℤ) =
-      λ p ds ls u ps. map (sums_on heard p ds ls u ps) (subchannels ls) in
-      let start : ℕ = r.frames.clock.start in
       record {
         tuned = st.tuned;
         among = st.among;
@@ -343,15 +344,14 @@ module _ {t : Tuning} {traffic : Traffic} {m : Mark} {r : TrafficReceiver} {hear
           come = λ come. record {
             known = omega (arith, same, here, ended);
             softs_are = softs_is
-                ∙ ap (λ (fs : List Finger). softs heard fs Data start) (fingers_are told)
-                ∙ ap (softs heard (all_fingers t.phase t.deltas (legs coming)) Data) was
+                ∙ ap (λ (fs : List Finger). softs heard fs Data r.frames.clock.start) sound.fingers_are
+                ∙ parts_are (λ p ds ls u. softs heard (all_fingers p ds ls) Data u) told
                 ∙ ap (raw_softs t traffic m legs heard) idle;
             power_is = power_is
-                ∙ ap (λ (p : ℕ). of p (take r.near.count r.near.deltas) r.legs start replaced) st.tuned.phase_is
-                ∙ ap (λ (ds : List ℤ). of t.phase ds r.legs start replaced) st.tuned.deltas_are
-                ∙ ap (λ (ls : List Leg). of t.phase t.deltas ls start replaced) (st.legs_are told)
-                ∙ ap (λ (u : ℕ). of t.phase t.deltas (legs coming) u replaced) was
-                ∙ ap (of t.phase t.deltas (legs coming) (traffic_start traffic m coming)) (replaced_is ∙ places_at coming)
+                ∙ parts_are (λ p ds ls u. map (sums_on heard p ds ls u replaced) (subchannels ls)) told
+                ∙ ap (λ (ps : List ℕ).
+                map (sums_on heard t.phase t.deltas (legs coming) (traffic_start traffic m coming) ps)
+                (subchannels (legs coming))) (replaced_is ∙ places_at coming)
                 ∙ ap (all_sums t traffic m legs heard) idle;
           };
           framed = st.frames.framed;

@@ -1,11 +1,11 @@
 -- What the receiver of a traffic channel stands for as it tells what has come.
 use Rattle.mobile_core.proofs.Common.{◌≡◌, ℕ, ◌+◌, ◌<◌, ◌≤◌, List, [], ◌∷◌, ◌++◌, Bool, true, false, length, refl, sym, ap, ◌∙◌, arith}
-use Rattle.mobile_core.proofs.Common.{subst, Option, None, Some, inl, inr, ◌==◌, if◌then◌else◌, is_some, option_to_list, cases_lt}
+use Rattle.mobile_core.proofs.Common.{subst, Option, None, Some, inl, inr, ◌==◌, if◌then◌else◌, option_to_list, cases_lt}
 use Rattle.mobile_core.proofs.Common.{Sample, Decoded, PagingMessage, accepted_of, direction_fault, Standing, unless_refused}
 use Rattle.mobile_core.proofs.Common.{with_neighbors, with_thresholds, DirectionFault, Accepted, StandsFor, TrafficBody, at_of, legs_of}
 use Rattle.mobile_core.proofs.Common.{legs_by, moment_place, all_noted, body_noted, moment_from, moments_before, noted, noted_with, page_noted}
 use Rattle.mobile_core.proofs.Common.{system_thresholds, capsule_with, message_at, message_events, signal_at, signal_in, signal_of}
-use Rattle.mobile_core.proofs.Common.{signals_before, GivesFirst, HasTold, HearsTraffic, HearsWith, IsSoundTraffic, noted_by, told_left_with}
+use Rattle.mobile_core.proofs.Common.{signals_before, GivesFirst, HearsTraffic, HearsWith, IsSoundTraffic, noted_by, told_left_with}
 use Rattle.mobile_core.proofs.Common.{frame_known, Tuning}
 use Rattle.mobile_core.proofs.Common.{Leg, kept_in, sets_left_of, frame_heard, Event, Mark, Traffic, SpelledSignal, TrafficReceiver}
 use Rattle.heard_events.proofs.TrafficGrowth.{signals_more}
@@ -15,17 +15,6 @@ use Rattle.heard_events.specs.TrafficEvents.{power_bits_at, decoded_at, frame_ev
 use Rattle.paging_message.specs.declared.message.PagingMessage.TheVariants as pages
 use Rattle.traffic_message.specs.declared.body.TrafficBody.TheVariants as bodies
 use Rattle.heard_events.specs.declared.event.Event.TheVariants as events
-
--- where no message is kept a frame has come
-pub told_come : (r : TrafficReceiver) → HasTold r → r.kept ≡ None → r.frames.clock.next < r.frames.clock.have
-told_come r due empty =
-    elim due [
-      | inl some ↦
-          let is : is_some r.kept ≡ true = some in
-          let none : false ≡ true = rw empty at is in
-          absurd (cc)
-      | inr come ↦ come
-    ]
 
 -- WHAT AN EVENT CHANGES LEAVES THE ACTIVE PILOTS
 refused_legs : (m : Mark) (fault : Option DirectionFault) (direction : Accepted) (s : Standing) →

@@ -1,12 +1,12 @@
-use Rattle.mobile_core.proofs.Common.{◌≡◌, None, rules, []}
-use Rattle.mobile_core.proofs.FramesTold.{hears_heard, told_come}
+use Rattle.mobile_core.proofs.Common.{◌≡◌, ◌<◌, None, rules, []}
+use Rattle.mobile_core.proofs.FramesTold.{hears_heard}
 use Rattle.mobile_core.proofs.traffic_receiver.TrafficReceiver.hear_told.Goals as goal
 
 pub returns-clause-hears : goal.returns-clause-hears
 returns-clause-hears c = λ t traffic m heard at' check st.
     let r = c.args.self.now in
     let none : r.kept ≡ None = search rules in
-    let come = told_come r c.requires.due none in
+    let come : r.frames.clock.next < r.frames.clock.have = search rules in
     let next = c.next_frame-frame.result in
     let says = c.next_frame-frame.ensures.says t traffic m heard [] _ come st in
     let signal = c.hear_signal-self in

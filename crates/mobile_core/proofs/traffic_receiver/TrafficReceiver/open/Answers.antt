@@ -1,4 +1,4 @@
-use Rattle.mobile_core.proofs.Common.{◌≡◌, ◌+◌, ◌*◌, ◌∙◌, ℕ, ℤ, List, true, false, ap, sym, subst, arith, refl, take, length-take, pos}
+use Rattle.mobile_core.proofs.Common.{◌≡◌, ◌+◌, ◌*◌, ◌∙◌, ℕ, ℤ, List, true, false, ap, sym, subst, arith, refl, rules, take, length-take, pos}
 use Rattle.mobile_core.proofs.Common.{new_standing, AreClose, all_begun, all_close, all_fingers, legs_of, FrameClock, Leg, Scrambling}
 use Rattle.mobile_core.proofs.Common.{SetsKeeper, clock_from, Data, if◌then◌else◌}
 use Rattle.mobile_core.proofs.FramesOpened.{first_paths, hears_opened, paths_some, zeros_few}
@@ -39,7 +39,6 @@ returns-clause-sound c =
     let row = c.args.traffic.now.row in
     let near = c.args.near.now in
     let paths = take near.count near.deltas in
-    let legs = c.legs-legs.ensures in
     let fingers = c.leg_fingers-fingers.ensures in
     let marked = c.requires.mark in
     let keeper = c.new-sets.ensures in
@@ -70,12 +69,7 @@ returns-clause-sound c =
       have_most = omega (arith, have);
       start_least = omega (arith, start, have, place);
       start_most = omega (arith, start, marked.early, c.requires.offset, c.from.ensures);
-      legs = record {
-        some = legs.some;
-        few = legs.few;
-        legs_close = legs.close;
-        legs_rows = legs.rows;
-      };
+      legs = search rules;
       small = omega (arith, zeros_few);
       subchannels = omega (arith, c.empty.ensures.count);
     }
