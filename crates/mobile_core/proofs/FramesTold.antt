@@ -1,13 +1,13 @@
 -- What the receiver of a traffic channel stands for as it tells what has come.
 use Rattle.mobile_core.proofs.Common.{◌≡◌, ℕ, ◌+◌, ◌<◌, ◌≤◌, List, [], ◌∷◌, ◌++◌, Bool, true, false, length, refl, sym, ap, ◌∙◌, arith}
-use Rattle.mobile_core.proofs.Common.{subst, Option, None, Some, inl, inr, ◌==◌, if◌then◌else◌, option_to_list, cases_lt}
-use Rattle.mobile_core.proofs.Common.{Sample, Decoded, PagingMessage, accepted_of, direction_fault, Standing, unless_refused}
-use Rattle.mobile_core.proofs.Common.{with_neighbors, with_thresholds, DirectionFault, Accepted, StandsFor, TrafficBody, at_of, legs_of}
-use Rattle.mobile_core.proofs.Common.{legs_by, moment_place, all_noted, body_noted, moment_from, moments_before, noted, noted_with, page_noted}
+use Rattle.mobile_core.proofs.Common.{subst, Option, None, Some, inl, inr, ◌==◌, if◌then◌else◌, option_to_list, cases_lt, Sample, Decoded}
+use Rattle.mobile_core.proofs.Common.{PagingMessage, accepted_of, direction_fault, Standing, unless_refused, with_neighbors}
+use Rattle.mobile_core.proofs.Common.{with_thresholds, DirectionFault, Accepted, StandsFor, TrafficBody, at_of, legs_of, legs_by}
+use Rattle.mobile_core.proofs.Common.{moment_place, all_noted, body_noted, moment_from, moments_before, noted, noted_with, page_noted}
 use Rattle.mobile_core.proofs.Common.{system_thresholds, capsule_with, message_at, message_events, signal_at, signal_in, signal_of}
 use Rattle.mobile_core.proofs.Common.{signals_before, GivesFirst, HearsTraffic, HearsWith, IsSoundTraffic, noted_by, told_left_with}
-use Rattle.mobile_core.proofs.Common.{frame_known, Tuning}
-use Rattle.mobile_core.proofs.Common.{Leg, kept_in, sets_left_of, frame_heard, Event, Mark, Traffic, SpelledSignal, TrafficReceiver}
+use Rattle.mobile_core.proofs.Common.{frame_known, Tuning, Leg, kept_in, sets_left_of, frame_heard, Event, Mark, Traffic, SpelledSignal}
+use Rattle.mobile_core.proofs.Common.{TrafficReceiver}
 use Rattle.heard_events.proofs.TrafficGrowth.{signals_more}
 use Rattle.mobile_core.proofs.FramesHeard.{closes, due_inside, left_unkept}
 use Rattle.heard_events.proofs.TrafficGrowth.{told_left, told_next}

@@ -1,9 +1,7 @@
 -- What always holds of the receiver of a traffic channel, as it goes on.
-use Rattle.mobile_core.proofs.Common.{◌≡◌, ℕ, ◌+◌, ◌*◌, ◌^◌, ◌<◌, ◌≤◌, true, List, length, ℤ, ap, ◌∙◌, arith}
-use Rattle.mobile_core.proofs.Common.{subst, Held, sum_by, unsigned_abs, PowerSofts, Finger, Data, take}
-use Rattle.mobile_core.proofs.Common.{AreClose, legs_close, all_fingers, legs_of}
-use Rattle.mobile_core.proofs.Common.{frame_end, IsSoundTraffic, Tuning, Mark, SetsKeeper, Traffic}
-use Rattle.mobile_core.proofs.Common.{TrafficReceiver, All, IsInRing, frame_chips}
+use Rattle.mobile_core.proofs.Common.{◌≡◌, ℕ, ◌+◌, ◌*◌, ◌^◌, ◌<◌, ◌≤◌, true, List, length, ℤ, ap, ◌∙◌, arith, subst, Held, sum_by}
+use Rattle.mobile_core.proofs.Common.{unsigned_abs, PowerSofts, Finger, Data, take, AreClose, legs_close, all_fingers, legs_of, frame_end}
+use Rattle.mobile_core.proofs.Common.{IsSoundTraffic, Tuning, Mark, SetsKeeper, Traffic, TrafficReceiver, All, IsInRing, frame_chips}
 use Rattle.heard_events.specs.LegSofts.{IsHeldFrom}
 use Rattle.mobile_core.specs.TrafficReceiving.{IsTunedIn, frame_taken}
 use Rattle.reception.specs.Sound.{IsSoundReceiver}

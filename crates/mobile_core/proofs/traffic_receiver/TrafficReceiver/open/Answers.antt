@@ -1,5 +1,5 @@
-use Rattle.mobile_core.proofs.Common.{◌≡◌, ◌+◌, ◌*◌, ◌∙◌, ℕ, ℤ, List, true, false, ap, sym, subst, arith, refl, rules, take, length-take, pos}
-use Rattle.mobile_core.proofs.Common.{new_standing, AreClose, all_begun, all_close, all_fingers, legs_of, FrameClock, Leg, Scrambling}
+use Rattle.mobile_core.proofs.Common.{◌≡◌, ◌+◌, ◌*◌, ◌∙◌, ℕ, ℤ, List, true, false, ap, sym, subst, arith, refl, rules, take, length-take}
+use Rattle.mobile_core.proofs.Common.{pos, new_standing, AreClose, all_begun, all_close, all_fingers, legs_of, FrameClock, Leg, Scrambling}
 use Rattle.mobile_core.proofs.Common.{SetsKeeper, clock_from, Data, if◌then◌else◌}
 use Rattle.mobile_core.proofs.FramesOpened.{first_paths, hears_opened, paths_some, zeros_few}
 use Rattle.rake_finger.proofs.CloseFingers.{close_begun}
