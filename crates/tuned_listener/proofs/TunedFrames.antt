@@ -2,7 +2,7 @@
 use Rattle.tuned_listener.proofs.Common.{◌≡◌, ℕ, zero, suc, ◌+◌, ◌≤◌, Bool, true, false, List, [], ◌∷◌, ◌++◌, map, filter}
 use Rattle.tuned_listener.proofs.Common.{length, take, drop, refl, sym, ap, ◌∙◌, subst, arith, inl, inr, nat_le, Option, None, Some}
 use Rattle.tuned_listener.proofs.Common.{append_assoc, take-add, length-append, StartsWith, Appends, range_with_len, option_to_list}
-use Rattle.tuned_listener.proofs.Common.{Appends-nil, Appends-trans, and_from, cases_Bool, false_from_ne_true, le-leb}
+use Rattle.tuned_listener.proofs.Common.{Appends-nil, Appends-trans, and_from, cases_Bool, cases_lt, false_from_ne_true, le-leb}
 use Rattle.tuned_listener.proofs.Common.{map-append, take-append-drop, take_all, places, Sample, AppendsPrefix}
 use Rattle.tuned_listener.proofs.Common.{channel_stream, paging_bound, frames_within, soft_frame, soft_frames}
 use Rattle.tuned_listener.proofs.Common.{IsTimed, IsTunedTo, IsTunerStep, Tuning, Channel, Mark, SoftFrame, Tuner, TunerStep}
@@ -60,8 +60,8 @@ module _ (t : Tuning) (channel : Channel) (m : Mark) {low : ℕ}
       false_from_ne_true (is_by frames n k)
       (λ both.
       let parts = by_parts frames n k both in
-      let below = order.enough k n parts.0 parts.1 in
-      omega (arith, below, high)) in
+      let late = order.enough n k high parts.0 in
+      omega (arith, late, parts.1)) in
       let wider : (k : ℕ) → is_by frames n k ≡ true → is_by frames n' k ≡ true = λ k e.
       let parts = by_parts frames n k e in
       known n' k parts.0 (omega (arith, more, parts.1)) in
@@ -70,8 +70,15 @@ module _ (t : Tuning) (channel : Channel) (m : Mark) {low : ℕ}
       λ j k le one other.
       let there = by_parts frames n' j one in
       let here = by_parts frames n k other in
-      let sooner = order.ordered j k there.0 here.0 le in
-      known n j there.0 (omega (arith, sooner, here.1)) in
+      elim (cases_lt j k) [
+        | inl less ↦
+            let sooner = order.ordered j k there.0 here.0 less in
+            known n j there.0 (omega (arith, sooner, here.1))
+        | inr more ↦
+            let same : j ≡ k = omega (arith, le, more) in
+            let e = ap frames.known same in
+            known n j there.0 (omega (arith, e, here.1))
+      ] in
       let (rest, parted) =
       filter_front (is_by frames n) (is_by frames n') 0 (paging_bound n') wider front in
       let longer : filter (is_by frames n) (places (paging_bound n))
