@@ -2,9 +2,9 @@
 use Rattle.mobile_core.proofs.Common.{◌≡◌, ℕ, ◌+◌, ◌^◌, ◌<◌, ◌≤◌, List, [], ◌++◌, length, refl, sym, ap, subst, ◌∙◌, inl, inr, Option, Some}
 use Rattle.mobile_core.proofs.Common.{None, ForSome, option_map_or, arith, length-append, Sample, HearsFollowed, HearsFrames, HearsPages}
 use Rattle.mobile_core.proofs.Common.{IsFollowedDue, IsSoundFollowed, EndFrom, WaitFrom, followed_events_left, followed_heard}
-use Rattle.mobile_core.proofs.Common.{paging_events_left, AreNear, Tuning, sync_stream, Event, Followed, Mark, PagingReceiver}
-use Rattle.mobile_core.proofs.Common.{TrafficReceiver, IsSomeAnd, IsSoundPaging, IsSoundTraffic, IsDueAt, IsUnheard, Traffic, append-nil}
-use Rattle.mobile_core.proofs.Common.{bits_heard, followed_behind, listed, traffic_heard, traffic_events_left}
+use Rattle.mobile_core.proofs.Common.{paging_events_left, AreNear, Tuning, sync_stream, Event, Followed, Mark, PagingReceiver, SoftHandoff}
+use Rattle.mobile_core.proofs.Common.{IsSomeAnd, IsSoundPaging, IsSoundHandoff, IsDueAt, IsUnheard, Traffic, append-nil, bits_heard}
+use Rattle.mobile_core.proofs.Common.{followed_behind, listed, traffic_heard, traffic_events_left}
 use Rattle.mobile_core.proofs.FramesFollowed.{frames_go, frames_more, told_few}
 use Rattle.heard_events.proofs.GoesOn.{GoesOn, both, goes_as, joined}
 use Rattle.heard_events.proofs.MarkStays.{pages_from_mark}
@@ -27,13 +27,13 @@ counted_few count P few (Some r) sound = few r (sound r refl)
 pub followed_few : (f : Followed) → IsSoundFollowed f → followed_heard f < 2 ^ 41
 followed_few f sound =
     let bits = counted_few bits_heard IsSoundPaging bits_few f.paging sound.paging in
-    let frames = counted_few traffic_heard IsSoundTraffic told_few f.traffic sound.traffic in
+    let frames = counted_few traffic_heard IsSoundHandoff told_few f.traffic sound.traffic in
     omega (arith, bits, frames)
 
 module _ {t : Tuning} {f : Followed} {mark : Option Mark} {heard : List Sample}
     (st : HearsFollowed t f mark heard) where
   -- the receivers change
-  pub moved : (paging : Option PagingReceiver) (traffic : Option TrafficReceiver)
+  pub moved : (paging : Option PagingReceiver) (traffic : Option SoftHandoff)
       (after : Option Mark) (samples : List Sample) (pages : List Event) →
       pages ≡ paging_events_left t after samples paging → HearsPages t after paging samples →
       HearsFrames t t.traffic after traffic samples pages →
@@ -49,7 +49,7 @@ module _ {t : Tuning} {f : Followed} {mark : Option Mark} {heard : List Sample}
   }
 
   -- receivers are opened that have heard nothing
-  pub opened : (paging : Option PagingReceiver) (traffic : Option TrafficReceiver) (m : Mark) →
+  pub opened : (paging : Option PagingReceiver) (traffic : Option SoftHandoff) (m : Mark) →
       f.paging ≡ None → f.traffic ≡ None →
       HearsPages t (Some m) paging heard × (paging_events_left t (Some m) heard paging ≡ []) →
       HearsFrames t t.traffic (Some m) traffic heard []
@@ -67,7 +67,7 @@ module _ {t : Tuning} {f : Followed} {mark : Option Mark} {heard : List Sample}
       HearsFrames t t.traffic (Some m) f.traffic heard []
       × (traffic_events_left t t.traffic (Some m) heard f.traffic ≡ [])
   unassigned m closed none = (
-    subst (λ (x : Option TrafficReceiver). HearsFrames t t.traffic (Some m) x heard []) (sym closed)
+    subst (λ (x : Option SoftHandoff). HearsFrames t t.traffic (Some m) x heard []) (sym closed)
         (subst (λ (x : Option Traffic). IsUnheard x (Some m)) (sym none ∙ st.assigned_is) tt),
     ap (traffic_events_left t t.traffic (Some m) heard) closed,
   )
@@ -75,7 +75,7 @@ module _ {t : Tuning} {f : Followed} {mark : Option Mark} {heard : List Sample}
   -- where nothing is due of it, what was due of the traffic channel has been heard
   pub heard_other : {n : ℕ} →
       ¬ IsSomeAnd f.paging (λ r. IsDueAt t.count r.received.clock) → n ≡ length heard →
-      WaitFrom n f → (traffic : Option TrafficReceiver) (event : Option Event) →
+      WaitFrom n f → (traffic : Option SoftHandoff) (event : Option Event) →
       (HearsFrames t t.traffic mark f.traffic heard [] → HearsFrames t t.traffic mark traffic heard []
       × (listed event ++ traffic_events_left t t.traffic mark heard traffic
       ≡ traffic_events_left t t.traffic mark heard f.traffic)) →

@@ -86,9 +86,9 @@ pub use Rattle.reception.specs.Receiving.{Receives}
 pub use Rattle.heard_events.specs.SetsKeeping.{coming_place}
 pub use Rattle.mobile_core.specs.Standing.{IsDueIn, Stands, Steps, Tells, due_parts, heard_of, left_of}
 pub use Rattle.mobile_core.specs.SyncReceiving.{HearsNext, HearsSync, IsSoundSync}
-pub use Rattle.mobile_core.specs.TrafficReceiving.{GivesFirst, HasTold, HearsTraffic, HearsUntuned, HearsUpTo, HearsWith, IsSoundTraffic}
-pub use Rattle.mobile_core.specs.TrafficReceiving.{IsTrafficDue, WaitsAt, kept_in, next_end, noted_by, told_left_with, traffic_heard}
-pub use Rattle.mobile_core.specs.TrafficReceiving.{traffic_left_of}
+pub use Rattle.mobile_core.specs.TrafficReceiving.{GivesFirst, HasTold, HearsTraffic, HearsUntuned, HearsUpTo, HearsWith, IsSoundHandoff}
+pub use Rattle.mobile_core.specs.TrafficReceiving.{IsSoundTraffic, IsTrafficDue, WaitsAt, kept_in, next_end, noted_by, told_left_with}
+pub use Rattle.mobile_core.specs.TrafficReceiving.{traffic_heard, traffic_left_of}
 pub use Rattle.reception.specs.declared.continued.Continued.{Continued}
 pub use Rattle.mobile_core.specs.declared.followed.Followed.{Followed}
 pub use Rattle.reception.specs.declared.frame_clock.FrameClock.{FrameClock}
@@ -96,5 +96,6 @@ pub use Rattle.mobile_core.specs.declared.mobile.Mobile.{Mobile}
 pub use Rattle.mobile_core.specs.declared.paging_receiver.PagingReceiver.{PagingReceiver}
 pub use Rattle.reception.specs.declared.scrambling.Scrambling.{Scrambling}
 pub use Rattle.heard_events.specs.declared.sets_keeper.SetsKeeper.{SetsKeeper}
+pub use Rattle.mobile_core.specs.declared.soft_handoff.SoftHandoff.{SoftHandoff}
 pub use Rattle.mobile_core.specs.declared.sync_receiver.SyncReceiver.{SyncReceiver}
 pub use Rattle.mobile_core.specs.declared.traffic_receiver.TrafficReceiver.{TrafficReceiver}

@@ -3,10 +3,10 @@ use Rattle.mobile_core.proofs.Common.{◌≡◌, ℕ, ◌+◌, ◌^◌, ◌<◌,
 use Rattle.mobile_core.proofs.Common.{Option, Some, None, take, true, false, length-append, Bool, is_some, if◌then◌else◌, ForSome}
 use Rattle.mobile_core.proofs.Common.{IsSomeAnd, false_from_ne_true, ne_eqb, take_all, Sample, frames_at, kept_to, legs_at, legs_by}
 use Rattle.mobile_core.proofs.Common.{messages_at, moment_place, moments_before, sets_at, pages_behind, coming_place, FollowsTraffic}
-use Rattle.mobile_core.proofs.Common.{HearsFrames, IsUnheard, traffic_left, traffic_events_left, HearsTraffic, HearsWith, IsSoundTraffic}
+use Rattle.mobile_core.proofs.Common.{HearsFrames, IsUnheard, traffic_left, traffic_events_left, HearsTraffic, HearsWith, IsSoundHandoff}
 use Rattle.mobile_core.proofs.Common.{IsTrafficDue, at_of, ◌∷◌, kept_in, next_end, noted_by, sets_left_of, traffic_heard, GivesFirst}
-use Rattle.mobile_core.proofs.Common.{WaitsAt, traffic_left_of, told_left_with, Tuning, Event, Leg, Mark, Traffic, TrafficReceiver}
-use Rattle.mobile_core.proofs.Common.{option_map, told_behind}
+use Rattle.mobile_core.proofs.Common.{WaitsAt, traffic_left_of, told_left_with, Tuning, Event, Leg, Mark, Traffic, SoftHandoff, option_map}
+use Rattle.mobile_core.proofs.Common.{told_behind}
 use Rattle.heard_events.specs.declared.channel.Channel.TheVariants.{Traffic as OnTraffic}
 use Rattle.mobile_core.proofs.FramesHeard.{none_come, none_kept, not_left, told_go}
 use Rattle.mobile_core.proofs.FramesTold.{hears_noted, moments_are}
@@ -29,7 +29,7 @@ unheard t None mark samples n h = refl
 unheard t (Some traffic) mark samples n h =
     ap (λ (x : Option Mark). told_behind t (Some (OnTraffic traffic)) x samples n) h
 
--- THE RECEIVER
+-- THE CHANNEL AND ITS SETS
 -- a moment lies there, or none does
 set_there : (t : Tuning) (traffic : Traffic) (m : Mark) (samples : List Sample) (n j : ℕ) →
     moments_before m n ≡ j → take n samples ≡ samples → length samples ≡ n →
@@ -47,8 +47,8 @@ no_set t traffic m samples n j moments elsewhere =
     (λ e. elsewhere (omega (arith, e, moments))) in
     rw none refl
 
-module _ {t : Tuning} {traffic : Traffic} {m : Mark} {r : TrafficReceiver} {heard : List Sample}
-    {pages : List Event} (st : HearsTraffic t traffic m r heard pages) (sound : IsSoundTraffic r)
+module _ {t : Tuning} {traffic : Traffic} {m : Mark} {r : SoftHandoff} {heard : List Sample}
+    {pages : List Event} (st : HearsTraffic t traffic m r heard pages) (sound : IsSoundHandoff r)
     (none : ¬ IsTrafficDue r) where
   place_is : coming_place r.sets ≡ moment_place m (r.sets.passed + 1)
   place_is =
@@ -57,7 +57,7 @@ module _ {t : Tuning} {traffic : Traffic} {m : Mark} {r : TrafficReceiver} {hear
       ∙ ap (λ (x : Mark). moment_place x (r.sets.passed + 1)) st.tuned.mark_is
 
   ends_at : (n : ℕ) → n ≤ next_end r →
-      (n ≤ r.frames.clock.end) × (n ≤ moment_place m (r.sets.passed + 1))
+      (n ≤ r.receiver.frames.clock.end) × (n ≤ moment_place m (r.sets.passed + 1))
   ends_at n h = let place = place_is in (omega (arith, h), omega (arith, h, place))
 
   moments_here : (n : ℕ) → length heard < n → n ≤ moment_place m (r.sets.passed + 1) →
@@ -84,12 +84,12 @@ module _ {t : Tuning} {traffic : Traffic} {m : Mark} {r : TrafficReceiver} {hear
       GoesOn (all_told t traffic m) (λ samples. traffic_left_of t traffic m samples r) heard end
   receiver_goes end ends = both told_goes sets_goes
     where
-      parts : (end ≤ r.frames.clock.end) × (end ≤ moment_place m (r.sets.passed + 1))
+      parts : (end ≤ r.receiver.frames.clock.end) × (end ≤ moment_place m (r.sets.passed + 1))
       parts = ends_at end ends
 
       told_goes : GoesOn
           (λ samples n. told_at t traffic m (legs_at t traffic m samples n) (take n samples) n)
-          (λ samples. told_left_with t traffic m samples r (kept_in t traffic m r samples)) heard end
+          (λ samples. told_left_with t traffic m samples r.receiver (kept_in t traffic m r samples)) heard end
       told_goes =
           let go = told_go st sound (none_come r sound none) (none_kept r none) end parts.0
           (omega (arith, parts.1)) in
@@ -101,7 +101,7 @@ module _ {t : Tuning} {traffic : Traffic} {m : Mark} {r : TrafficReceiver} {hear
                 ∙ go.quiet more n past before;
             come = λ more some most.
                 let n : ℕ = length (heard ++ more) in
-                ap (told_left_with t traffic m (heard ++ more) r) (kept_more more)
+                ap (told_left_with t traffic m (heard ++ more) r.receiver) (kept_more more)
                 ∙ go.come more some most
                 ∙ sym (ap (λ (legs : ℕ → List Leg). told_at t traffic m legs (take n (heard ++ more)) n)
                 (legs_here more n (omega (arith, length-append heard more, some))
@@ -125,11 +125,11 @@ module _ {t : Tuning} {traffic : Traffic} {m : Mark} {r : TrafficReceiver} {hear
             (take_all n (heard ++ more) (omega arith)) refl);
       }
 
--- THE RECEIVER BEHIND THE MARK
-module _ {t : Tuning} {assigned : Option Traffic} {mark : Option Mark} {r : TrafficReceiver}
+-- BEHIND THE MARK
+module _ {t : Tuning} {assigned : Option Traffic} {mark : Option Mark} {r : SoftHandoff}
     {heard : List Sample} {pages : List Event} (st : FollowsTraffic t assigned mark r heard pages) where
   -- it has heard more, or more is left to be heard
-  pub tells_on : (after : TrafficReceiver) (samples : List Sample) (later : List Event) →
+  pub tells_on : (after : SoftHandoff) (samples : List Sample) (later : List Event) →
       HearsTraffic t st.traffic st.set after samples later →
       FollowsTraffic t assigned mark after samples later
   tells_on after samples later hears = record {
@@ -140,7 +140,7 @@ module _ {t : Tuning} {assigned : Option Traffic} {mark : Option Mark} {r : Traf
     hears = hears;
   }
 
-  pub left_is : (samples : List Sample) (after : TrafficReceiver) →
+  pub left_is : (samples : List Sample) (after : SoftHandoff) →
       traffic_left t assigned mark samples after ≡ traffic_left_of t st.traffic st.set samples after
   left_is samples after = rw (st.traffic_is, st.set_is) refl
 
@@ -150,7 +150,7 @@ module _ {t : Tuning} {assigned : Option Traffic} {mark : Option Mark} {r : Traf
   told_is samples n = rw (st.traffic_is, st.set_is) refl
 
   -- what was due first has been heard
-  pub tells_first : (after : TrafficReceiver) (given later : List Event) →
+  pub tells_first : (after : SoftHandoff) (given later : List Event) →
       GivesFirst t st.traffic st.set heard r after given later →
       FollowsTraffic t assigned mark after heard later
       × (given ++ traffic_left t assigned mark heard after ≡ traffic_left t assigned mark heard r)
@@ -158,7 +158,7 @@ module _ {t : Tuning} {assigned : Option Traffic} {mark : Option Mark} {r : Traf
       (tells_on after heard later gives.0, rw (left_is heard after, left_is heard r) gives.1)
 
 -- the sets have taken what an event of the paging channel tells
-pub frames_noted : {t : Tuning} {assigned : Option Traffic} {mark : Option Mark} {r : TrafficReceiver}
+pub frames_noted : {t : Tuning} {assigned : Option Traffic} {mark : Option Mark} {r : SoftHandoff}
     {heard : List Sample} {pages : List Event} (event : Event) → FollowsTraffic t assigned mark r heard (event ∷ pages) →
     at_of event ≡ length heard → FollowsTraffic t assigned mark (noted_by event r) heard pages
     × (traffic_left t assigned mark heard (noted_by event r) ≡ traffic_left t assigned mark heard r)
@@ -166,21 +166,21 @@ frames_noted {heard = heard} {pages = pages} event st here =
     (tells_on st (noted_by event _) heard pages (hears_noted event st.hears here), refl)
 
 -- what has been heard is a small number
-pub told_few : (r : TrafficReceiver) → IsSoundTraffic r → traffic_heard r < 2 ^ 40
+pub told_few : (r : SoftHandoff) → IsSoundHandoff r → traffic_heard r < 2 ^ 40
 told_few r is =
     let few = is.keeper.few in
-    omega (arith, is.start_least, is.start_most, is.frames.clocked.next_have, few)
+    omega (arith, is.start_least, is.receiver.start_most, is.receiver.frames.clocked.next_have, few)
 
 -- what an event of the paging channel tells leaves what waits
-pub noted_waits : (n : ℕ) (r : TrafficReceiver) (event : Event) → WaitsAt n r →
+pub noted_waits : (n : ℕ) (r : SoftHandoff) (event : Event) → WaitsAt n r →
     WaitsAt n (noted_by event r)
 noted_waits n r event waits = record { before = waits.before; due = waits.due }
 
 -- WHETHER A CHANNEL IS FOLLOWED OR NOT
 module _ (t : Tuning) (assigned : Option Traffic) (mark : Option Mark) (heard : List Sample)
     (pages : List Event) where
-  pub frames_go : (receiver : Option TrafficReceiver) → HearsFrames t assigned mark receiver heard pages →
-      ForSome receiver IsSoundTraffic → ¬ IsSomeAnd receiver IsTrafficDue → (end : ℕ) →
+  pub frames_go : (receiver : Option SoftHandoff) → HearsFrames t assigned mark receiver heard pages →
+      ForSome receiver IsSoundHandoff → ¬ IsSomeAnd receiver IsTrafficDue → (end : ℕ) →
       ForSome receiver (λ r. end ≤ next_end r) →
       GoesOn (told_behind t (option_map OnTraffic assigned) mark)
       (λ samples. traffic_events_left t assigned mark samples receiver) heard end
@@ -192,8 +192,8 @@ module _ (t : Tuning) (assigned : Option Traffic) (mark : Option Mark) (heard : 
       (λ samples. left_is behind samples r)
 
   -- more samples, up to the end of the frame that comes next
-  pub frames_more : (receiver : Option TrafficReceiver) → HearsFrames t assigned mark receiver heard pages →
-      ForSome receiver IsSoundTraffic → ¬ IsSomeAnd receiver IsTrafficDue →
+  pub frames_more : (receiver : Option SoftHandoff) → HearsFrames t assigned mark receiver heard pages →
+      ForSome receiver IsSoundHandoff → ¬ IsSomeAnd receiver IsTrafficDue →
       (more : List Sample) → 0 < length more → length heard + length more ≤ t.count →
       ForSome receiver (WaitsAt (length heard)) →
       ForSome receiver (λ r. length heard + length more ≤ next_end r) → pages ≡ [] →
@@ -224,12 +224,12 @@ module _ (t : Tuning) (assigned : Option Traffic) (mark : Option Mark) (heard : 
 
 -- WHERE A MARK IS SET
 -- nothing is due of a receiver that has heard nothing
-none_opened : (r : TrafficReceiver) → r.frames.clock.have ≡ r.frames.clock.next → r.kept ≡ None → r.sets.due ≡ false →
-    ¬ IsTrafficDue r
+none_opened : (r : SoftHandoff) → r.receiver.frames.clock.have ≡ r.receiver.frames.clock.next →
+    r.receiver.kept ≡ None → r.sets.due ≡ false → ¬ IsTrafficDue r
 none_opened r fresh empty idle = λ due.
     elim due [
       | inl (inl some) ↦
-          let is : is_some r.kept ≡ true = some in
+          let is : is_some r.receiver.kept ≡ true = some in
           let none : false ≡ true = rw empty at is in
           absurd (cc)
       | inl (inr come) ↦ omega (arith, fresh, come)
@@ -238,8 +238,8 @@ none_opened r fresh empty idle = λ due.
 
 -- a receiver that is open now has heard nothing
 pub frames_opened : (t : Tuning) (assigned : Option Traffic) (heard : List Sample) (traffic : Traffic)
-    (m : Mark) (r : TrafficReceiver) → assigned ≡ Some traffic → IsSoundTraffic r → r.frames.clock.have ≡ r.frames.clock.next →
-    r.kept ≡ None → r.sets.due ≡ false → length heard < next_end r →
+    (m : Mark) (r : SoftHandoff) → assigned ≡ Some traffic → IsSoundHandoff r →
+    r.receiver.frames.clock.have ≡ r.receiver.frames.clock.next → r.receiver.kept ≡ None → r.sets.due ≡ false → length heard < next_end r →
     HearsTraffic t traffic m r heard [] →
     FollowsTraffic t assigned (Some m) r heard [] × (traffic_left t assigned (Some m) heard r ≡ [])
 frames_opened t assigned heard traffic m r followed sound fresh empty idle early hears =

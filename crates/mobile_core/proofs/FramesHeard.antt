@@ -1,20 +1,20 @@
--- What the receiver of a traffic channel stands for, step by step.
+-- What a traffic channel and the pilot sets beside it stand for, step by step.
 use Rattle.mobile_core.proofs.Common.{◌≡◌, ℕ, ◌+◌, ◌-◌, ◌*◌, ◌/◌, ◌^◌, ◌<◌, ◌≤◌, List, [], ◌++◌, Bool, ℤ, length, map, take, refl, sym}
-use Rattle.mobile_core.proofs.Common.{◌==◌, false, ne_eqb, sets_left_of, length-append, ap, ◌∙◌, arith, inl, inr, subst, true, Option, None}
-use Rattle.mobile_core.proofs.Common.{Some, IsTrue, is_some, cases_lt, cases_order, take_all, places, Sample, power_bit, decoded}
-use Rattle.mobile_core.proofs.Common.{PowerSofts, Decoded, after, traffic_mask, after-after, Standing, StandsFor, softs, Finger, Data}
-use Rattle.mobile_core.proofs.Common.{power_places, scrambling, sums_on, all_fingers, legs_of, subchannels, heard_from, legs_by, moment_of}
-use Rattle.mobile_core.proofs.Common.{moment_place, told_by, all_noted, page_event, pages_behind, unscrambled, message_events, frame_end}
-use Rattle.mobile_core.proofs.Common.{all_sums, power_bits_at, decoded_at, raw_softs, HearsUpTo, HearsWith, IsSoundTraffic, IsTrafficDue}
+use Rattle.mobile_core.proofs.Common.{◌==◌, false, ne_eqb, sets_left_of, length-append, ap, ◌∙◌, arith, inl, inr, subst, true, Option, None, Some}
+use Rattle.mobile_core.proofs.Common.{IsTrue, is_some, cases_lt, cases_order, take_all, places, Sample, power_bit, decoded, PowerSofts}
+use Rattle.mobile_core.proofs.Common.{Decoded, after, traffic_mask, after-after, Standing, StandsFor, softs, Finger, Data, power_places}
+use Rattle.mobile_core.proofs.Common.{scrambling, sums_on, all_fingers, legs_of, subchannels, heard_from, legs_by, moment_of, moment_place}
+use Rattle.mobile_core.proofs.Common.{told_by, all_noted, page_event, pages_behind, unscrambled, message_events, frame_end, all_sums}
+use Rattle.mobile_core.proofs.Common.{power_bits_at, decoded_at, raw_softs, HearsUpTo, HearsWith, IsSoundHandoff, IsTrafficDue}
 use Rattle.mobile_core.proofs.Common.{told_left_with, chips_behind, frame_known, frame_state, has_frame, replaced_in, traffic_start, Tuning}
-use Rattle.mobile_core.proofs.Common.{Event, Leg, frame_chips, Mark, Traffic, SpelledSignal, TrafficReceiver, flat_map}
+use Rattle.mobile_core.proofs.Common.{Event, Leg, frame_chips, Mark, Traffic, SpelledSignal, SoftHandoff, TrafficReceiver, flat_map}
 use Rattle.mobile_core.specs.TrafficReceiving.{frame_taken, tuned_to}
 use Rattle.rake_finger.proofs.CloseFingers.{close_ends}
 use Rattle.heard_events.proofs.FrameBounds.{AreCloseAll, has_here, known_high, known_is, known_later, known_low}
 use Rattle.heard_events.proofs.Arrivals.{left}
-use Rattle.heard_events.proofs.TrafficGrowth.{frames_of, signals_sooner}
+use Rattle.heard_events.proofs.TrafficGrowth.{frames_of, signals_sooner, heard_grown, heard_none, told_at, told_first, told_is, told_left}
+use Rattle.heard_events.proofs.TrafficGrowth.{told_none}
 use Rattle.heard_events.proofs.GoesOn.{GoesOn, goes_as, things_go}
-use Rattle.heard_events.proofs.TrafficGrowth.{heard_grown, heard_none, told_at, told_first, told_is, told_left, told_none}
 use Rattle.heard_events.specs.Left.{frames_left_of, messages_left_of}
 use Rattle.heard_events.specs.Signaling.{message_heard, messages_by}
 use Rattle.heard_events.specs.TrafficEvents.{frame_heard, frames_by}
@@ -30,19 +30,20 @@ state_on traffic m state k is =
     ∙ ap (after m.state) sum
 
 -- where nothing is due no message is kept
-pub none_kept : (r : TrafficReceiver) → ¬ IsTrafficDue r → r.kept ≡ None
-none_kept r none = by_kept r.kept (λ some. none (inl (inl some)))
+pub none_kept : (r : SoftHandoff) → ¬ IsTrafficDue r → r.receiver.kept ≡ None
+none_kept r none = by_kept r.receiver.kept (λ some. none (inl (inl some)))
   where
     by_kept : (kept : Option SpelledSignal) → ¬ IsTrue (is_some kept) → kept ≡ None
     by_kept None h = refl
     by_kept (Some message) h = absurd (h refl)
 
 -- and no frame has come
-pub none_come : (r : TrafficReceiver) → IsSoundTraffic r → ¬ IsTrafficDue r → r.frames.clock.have ≡ r.frames.clock.next
+pub none_come : (r : SoftHandoff) → IsSoundHandoff r → ¬ IsTrafficDue r →
+    r.receiver.frames.clock.have ≡ r.receiver.frames.clock.next
 none_come r sound none =
-    elim (cases_lt r.frames.clock.next r.frames.clock.have) [
+    elim (cases_lt r.receiver.frames.clock.next r.receiver.frames.clock.have) [
       | inl less ↦ absurd (none (inl (inr less)))
-      | inr more ↦ let order = sound.frames.clocked.next_have in omega (arith, more, order)
+      | inr more ↦ let order = sound.receiver.frames.clocked.next_have in omega (arith, more, order)
     ]
 
 -- a frame begins at the moment that tells its pilots, or behind it
@@ -68,9 +69,9 @@ left_unkept t traffic m samples r kept empty =
     ap (λ (k : Option SpelledSignal). message_events (length samples) k
     ++ told_left t traffic m (legs_by traffic m kept) samples r.frames.clock.next) empty
 
-module _ {t : Tuning} {traffic : Traffic} {m : Mark} {r : TrafficReceiver} {heard : List Sample}
+module _ {t : Tuning} {traffic : Traffic} {m : Mark} {r : SoftHandoff} {heard : List Sample}
     {pages : List Event} {kept : ℕ → Standing}
-    (st : HearsWith t traffic m r heard pages kept) (sound : IsSoundTraffic r) where
+    (st : HearsWith t traffic m r heard pages kept) (sound : IsSoundHandoff r) where
   -- the pilots of each frame, and when it is known
   abbrev legs : ℕ → List Leg
   legs = legs_by traffic m kept
@@ -80,13 +81,13 @@ module _ {t : Tuning} {traffic : Traffic} {m : Mark} {r : TrafficReceiver} {hear
 
   -- the frame that is heard next, and the one that comes next, with its end
   abbrev next : ℕ
-  next = r.frames.clock.next
+  next = r.receiver.frames.clock.next
 
   abbrev coming : ℕ
-  coming = r.frames.clock.have
+  coming = r.receiver.frames.clock.have
 
   abbrev end : ℕ
-  end = r.frames.clock.end
+  end = r.receiver.frames.clock.end
 
   -- the moment that passed last, and the one behind it
   abbrev place : ℕ
@@ -97,10 +98,10 @@ module _ {t : Tuning} {traffic : Traffic} {m : Mark} {r : TrafficReceiver} {hear
 
   -- whether a moment that has passed told the pilots of the frame that comes next
   abbrev IsTold : Type 0
-  IsTold = moment_of traffic r.frames.clock.have < r.sets.passed + 1
+  IsTold = moment_of traffic r.receiver.frames.clock.have < r.sets.passed + 1
 
   abbrev left_of : List Sample → List Event
-  left_of samples = told_left_with t traffic m samples r kept
+  left_of samples = told_left_with t traffic m samples r.receiver kept
 
   pub far : 2 ^ 16 ≤ m.sample
   far =
@@ -112,19 +113,20 @@ module _ {t : Tuning} {traffic : Traffic} {m : Mark} {r : TrafficReceiver} {hear
   -- THE FRAME THAT COMES NEXT
   -- it is heard on the fingers of its own pilots, from where it begins
   parts_are : {A : Type 0} (f : ℕ → List ℤ → List Leg → ℕ → A) → IsTold →
-      f r.phase (take r.near.count r.near.deltas) r.legs r.frames.clock.start
+      f r.receiver.phase (take r.receiver.near.count r.receiver.near.deltas) r.receiver.legs
+      r.receiver.frames.clock.start
       ≡ f t.phase t.deltas (legs coming) (traffic_start traffic m coming)
   parts_are f told =
-      let start : ℕ = r.frames.clock.start in
-      ap (λ (p : ℕ). f p (take r.near.count r.near.deltas) r.legs start) st.tuned.phase_is
-      ∙ ap (λ (ds : List ℤ). f t.phase ds r.legs start) st.tuned.deltas_are
+      let start : ℕ = r.receiver.frames.clock.start in
+      ap (λ (p : ℕ). f p (take r.receiver.near.count r.receiver.near.deltas) r.receiver.legs start) st.tuned.phase_is
+      ∙ ap (λ (ds : List ℤ). f t.phase ds r.receiver.legs start) st.tuned.deltas_are
       ∙ ap (λ (ls : List Leg). f t.phase t.deltas ls start) (st.legs_are told)
       ∙ ap (f t.phase t.deltas (legs coming)) st.frames.start_is
 
   end_is : IsTold → end ≡ known coming
   end_is told =
-      sound.frames.ends
-      ∙ ap (λ (fs : List Finger). frame_end fs Data r.frames.clock.start) sound.fingers_are
+      sound.receiver.frames.ends
+      ∙ ap (λ (fs : List Finger). frame_end fs Data r.receiver.frames.clock.start) sound.receiver.fingers_are
       ∙ parts_are (λ p ds ls u. frame_end (all_fingers p ds ls) Data u) told
       ∙ sym (known_is t traffic m legs coming)
 
@@ -133,8 +135,8 @@ module _ {t : Tuning} {traffic : Traffic} {m : Mark} {r : TrafficReceiver} {hear
   told_by_end ends =
       elim (cases_lt r.sets.passed (moment_of traffic coming)) [
         | inl later ↦
-            let low = (close_ends r.frames.clock.start r.frames.fingers sound.frames.close).0 in
-            let end' = sound.frames.ends in
+            let low = (close_ends r.receiver.frames.clock.start r.receiver.frames.fingers sound.receiver.frames.close).0 in
+            let end' = sound.receiver.frames.ends in
             let start = st.frames.start_is in
             let behind = start_moment traffic m coming in
             absurd (omega (arith, later, low, end', start, behind, ends))
@@ -162,7 +164,7 @@ module _ {t : Tuning} {traffic : Traffic} {m : Mark} {r : TrafficReceiver} {hear
       ]
 
   -- so nothing is told before the next frame ends, and what is told there is left
-  pub told_go : coming ≡ next → r.kept ≡ None → (n : ℕ) → n ≤ end → n ≤ moment + 24350 →
+  pub told_go : coming ≡ next → r.receiver.kept ≡ None → (n : ℕ) → n ≤ end → n ≤ moment + 24350 →
       GoesOn (λ samples i. told_at t traffic m legs (take i samples) i) left_of heard n
   unfolding frames_by messages_by frames_left_of messages_left_of
   told_go idle empty n ends early =
@@ -173,12 +175,12 @@ module _ {t : Tuning} {traffic : Traffic} {m : Mark} {r : TrafficReceiver} {hear
       heard n (λ k less inside. st.frames.ended k less)
       (λ k above inside. from_next idle n ends early k above))
       (λ xs i. refl)
-      (λ xs. left_unkept t traffic m xs r kept empty
+      (λ xs. left_unkept t traffic m xs r.receiver kept empty
       ∙ ap (λ (ys : List Sample). gives ys (length xs)
       (left (frames_of t traffic m legs) next (length xs)))
       (sym (take_all (length xs) xs (omega arith))))
 
-  pub told_given : coming ≡ next → r.kept ≡ None → length heard < end → left_of heard ≡ []
+  pub told_given : coming ≡ next → r.receiver.kept ≡ None → length heard < end → left_of heard ≡ []
   told_given idle empty waits =
       let early = st.among.coming in
       (told_go idle empty (length heard + 1) (omega (arith, waits)) (omega (arith, early))).given
@@ -296,7 +298,7 @@ module _ {t : Tuning} {traffic : Traffic} {m : Mark} {r : TrafficReceiver} {hear
             start_is = st.frames.start_is;
             ended = λ k less. let e = st.frames.ended k less in omega (arith, long, e);
             come = λ come. absurd (omega (arith, come, idle));
-            framed = subst (StandsFor r.framer) (sym signals) st.frames.framed;
+            framed = subst (StandsFor r.receiver.framer) (sym signals) st.frames.framed;
           };
           close = st.close;
           legs_are = st.legs_are;
@@ -308,30 +310,31 @@ module _ {t : Tuning} {traffic : Traffic} {m : Mark} {r : TrafficReceiver} {hear
 
   -- the places of a frame's power control bits
   places_at : (k : ℕ) →
-      power_places (after r.frames.scrambling.state (24576 * k)) r.frames.scrambling.mask
+      power_places (after r.receiver.frames.scrambling.state (24576 * k)) r.receiver.frames.scrambling.mask
       ≡ replaced_in traffic m k
   places_at k =
-      ap (λ (n : ℕ). power_places n r.frames.scrambling.mask)
-      (state_on traffic m r.frames.scrambling.state k st.tuned.state_is)
+      ap (λ (n : ℕ). power_places n r.receiver.frames.scrambling.mask)
+      (state_on traffic m r.receiver.frames.scrambling.state k st.tuned.state_is)
       ∙ ap (power_places (frame_state traffic m k)) st.tuned.mask_is
 
   -- A FRAME
   -- The soft values of the frame whose last sample has just come: the pilots of the one behind it
   -- are still to be told.
   pub hears_come : (fresh : List ℤ) (power : PowerSofts) (replaced : List ℕ) → coming ≡ next →
-      end ≡ length heard → fresh ≡ softs heard r.frames.fingers Data r.frames.clock.start →
-      replaced ≡ power_places (after r.frames.scrambling.state (24576 * coming)) r.frames.scrambling.mask →
+      end ≡ length heard → fresh ≡ softs heard r.receiver.frames.fingers Data r.receiver.frames.clock.start →
+      replaced ≡ power_places (after r.receiver.frames.scrambling.state (24576 * coming)) r.receiver.frames.scrambling.mask →
       frames.subchannels power
-      ≡ map (sums_on heard r.phase (take r.near.count r.near.deltas) r.legs r.frames.clock.start replaced)
-      (subchannels r.legs) →
-      HearsUpTo r.sets.passed t traffic m (frame_taken fresh power r) heard pages kept
+      ≡ map (sums_on heard r.receiver.phase (take r.receiver.near.count r.receiver.near.deltas) r.receiver.legs
+      r.receiver.frames.clock.start replaced)
+      (subchannels r.receiver.legs) →
+      HearsUpTo r.sets.passed t traffic m (record r { receiver = frame_taken fresh power r.receiver }) heard pages kept
   hears_come fresh power replaced idle ended softs_is replaced_is power_is =
       let early = st.among.coming in
       let told = told_by_end (omega (arith, ended, early)) in
       let here = end_is told in
       let high = known_high t traffic m legs closes coming in
       let was = st.frames.start_is in
-      let form : frame_chips r.frames.clock.form ≡ 24576 = ap frame_chips sound.frames.form_is in
+      let form : frame_chips r.receiver.frames.clock.form ≡ 24576 = ap frame_chips sound.receiver.frames.form_is in
       let same = ap known idle in
       let offset = st.tuned.offset in
       let begun = st.among.begun in
@@ -344,7 +347,7 @@ module _ {t : Tuning} {traffic : Traffic} {m : Mark} {r : TrafficReceiver} {hear
           come = λ come. record {
             known = omega (arith, same, here, ended);
             softs_are = softs_is
-                ∙ ap (λ (fs : List Finger). softs heard fs Data r.frames.clock.start) sound.fingers_are
+                ∙ ap (λ (fs : List Finger). softs heard fs Data r.receiver.frames.clock.start) sound.receiver.fingers_are
                 ∙ parts_are (λ p ds ls u. softs heard (all_fingers p ds ls) Data u) told
                 ∙ ap (raw_softs t traffic m legs heard) idle;
             power_is = power_is
@@ -378,54 +381,54 @@ module _ {t : Tuning} {traffic : Traffic} {m : Mark} {r : TrafficReceiver} {hear
   -- what is decoded of the frame that is due, and its power control bits
   pub next_here : next < coming → (replaced : List ℕ) (descrambled : List ℤ) (frame : Decoded)
       (told : List Bool) →
-      replaced ≡ power_places (after r.frames.scrambling.state (24576 * next)) r.frames.scrambling.mask →
+      replaced ≡ power_places (after r.receiver.frames.scrambling.state (24576 * next)) r.receiver.frames.scrambling.mask →
       descrambled
       ≡ unscrambled
-      (scrambling (after r.frames.scrambling.state (24576 * next)) r.frames.scrambling.mask) r.softs →
+      (scrambling (after r.receiver.frames.scrambling.state (24576 * next)) r.receiver.frames.scrambling.mask) r.receiver.softs →
       frame ≡ decoded replaced descrambled →
-      told ≡ map (power_bit (frames.subchannels r.power)) (places 16) →
+      told ≡ map (power_bit (frames.subchannels r.receiver.power)) (places 16) →
       (frame ≡ decoded_at t traffic m legs heard next)
       × (told ≡ power_bits_at t traffic m legs heard next)
   unfolding decoded_at power_bits_at
   next_here come replaced descrambled frame told replaced_is descrambled_is frame_is told_is =
       let bits = scrambling (frame_state traffic m next) (traffic_mask traffic.esn) in
       let bits_are =
-      ap (λ (n : ℕ). scrambling n r.frames.scrambling.mask)
-      (state_on traffic m r.frames.scrambling.state next st.tuned.state_is)
+      ap (λ (n : ℕ). scrambling n r.receiver.frames.scrambling.mask)
+      (state_on traffic m r.receiver.frames.scrambling.state next st.tuned.state_is)
       ∙ ap (scrambling (frame_state traffic m next)) st.tuned.mask_is in (
         frame_is
             ∙ ap (λ (ps : List ℕ). decoded ps descrambled) (replaced_is ∙ places_at next)
             ∙ ap (decoded (replaced_in traffic m next))
             (descrambled_is
-            ∙ ap (λ (b : List Bool). unscrambled b r.softs) bits_are
+            ∙ ap (λ (b : List Bool). unscrambled b r.receiver.softs) bits_are
             ∙ ap (unscrambled bits) (st.frames.come come).softs_are),
         told_is
             ∙ ap (λ (sums : List (List ℤ)). map (power_bit sums) (places 16)) (st.frames.come come).power_is,
       )
 
 -- The pilots of the frame that comes next have been taken, where the last moment tells them.
-pub hears_tuned : {t : Tuning} {traffic : Traffic} {m : Mark} {r : TrafficReceiver}
+pub hears_tuned : {t : Tuning} {traffic : Traffic} {m : Mark} {r : SoftHandoff}
     {heard : List Sample} {pages : List Event} {kept : ℕ → Standing} (legs : List Leg) (end : ℕ)
     (fingers : List Finger) → HearsUpTo r.sets.passed t traffic m r heard pages kept →
-    ((r.frames.clock.start - r.sets.mark.sample) / 98304 ≡ r.sets.passed →
+    ((r.receiver.frames.clock.start - r.sets.mark.sample) / 98304 ≡ r.sets.passed →
     legs ≡ legs_of r.sets.mark r.sets.sets) →
-    (¬ ((r.frames.clock.start - r.sets.mark.sample) / 98304 ≡ r.sets.passed) → legs ≡ r.legs) →
-    HearsWith t traffic m (tuned_to legs end fingers r) heard pages kept
+    (¬ ((r.receiver.frames.clock.start - r.sets.mark.sample) / 98304 ≡ r.sets.passed) → legs ≡ r.receiver.legs) →
+    HearsWith t traffic m (record r { receiver = tuned_to legs end fingers r.receiver }) heard pages kept
 hears_tuned {traffic = traffic} {m = m} {r = r} {kept = kept} legs end fingers st tuned stays =
     let sample = ap (λ (x : Mark). x.sample) st.tuned.mark_is in
     let start = st.frames.start_is in
-    let moment : (r.frames.clock.start - r.sets.mark.sample) / 98304
-    ≡ moment_of traffic r.frames.clock.have = omega (arith, sample, start) in
+    let moment : (r.receiver.frames.clock.start - r.sets.mark.sample) / 98304
+    ≡ moment_of traffic r.receiver.frames.clock.have = omega (arith, sample, start) in
     record {
       tuned = st.tuned;
       among = st.among;
       frames = st.frames;
       close = st.close;
       legs_are = λ early.
-          elim (cases_lt (moment_of traffic r.frames.clock.have) r.sets.passed) [
+          elim (cases_lt (moment_of traffic r.receiver.frames.clock.have) r.sets.passed) [
             | inl less ↦ stays (λ here. omega (arith, here, moment, less)) ∙ st.legs_are less
             | inr last ↦
-                let here : r.sets.passed ≡ moment_of traffic r.frames.clock.have =
+                let here : r.sets.passed ≡ moment_of traffic r.receiver.frames.clock.have =
                 omega (arith, early, last) in
                 tuned (moment ∙ sym here)
                 ∙ ap (λ (x : Mark). legs_of x r.sets.sets) st.tuned.mark_is

@@ -1,15 +1,14 @@
--- What the receiver of a traffic channel stands for as it is opened.
-use Rattle.mobile_core.proofs.Common.{◌≡◌, ℕ, ◌-◌, ◌≤◌, List, [], ◌∷◌, length, ℤ, refl, sym, ap, ◌∙◌, arith, subst, None, true, false, pos}
+-- What a traffic channel and the pilot sets beside it stand for as they are opened.
+use Rattle.mobile_core.proofs.Common.{◌≡◌, ℕ, ◌-◌, ◌≤◌, List, [], ◌∷◌, length, ℤ, refl, sym, ap, ◌∙◌, arith, subst, None, true, pos}
 use Rattle.mobile_core.proofs.Common.{replicate, append-nil, get_or, ◌==◌, Some, slice_get, eq-eqb, unsigned_abs, sum_by, sum_by-replicate}
 use Rattle.mobile_core.proofs.Common.{places, Sample, Standing, new_standing, StandsFor, AreClose, all_close, paths_close, all_fingers}
 use Rattle.mobile_core.proofs.Common.{legs_of, pilot_finger, heard_from, kept_to, moment_place, all_noted, signals_before, HearsTraffic}
-use Rattle.mobile_core.proofs.Common.{told_left_with, traffic_start, Tuning, fingers_of, Event, Leg, Mark, SetsKeeper, Traffic}
-use Rattle.mobile_core.proofs.Common.{TrafficReceiver}
+use Rattle.mobile_core.proofs.Common.{told_left_with, traffic_start, Tuning, fingers_of, Event, Leg, Mark, Traffic, TrafficReceiver}
 use Rattle.heard_events.proofs.FrameBounds.{known_low}
 use Rattle.heard_events.proofs.MarkStays.{pilot_alone}
 use Rattle.mobile_core.proofs.FramesHeard.{left_unkept}
 use Rattle.heard_events.proofs.LegFingers.{paths_fingers}
-use Rattle.mobile_core.specs.TrafficReceiving.{IsTunedIn}
+use Rattle.mobile_core.specs.TrafficReceiving.{IsTunedIn, beside, first_keeper}
 use Rattle.heard_events.proofs.TrafficGrowth.{heard_none, told_left_none}
 
 -- no soft value has come
@@ -39,24 +38,14 @@ signals_start : (t : Tuning) (traffic : Traffic) (m : Mark) (legs : ℕ → List
 unfolding signals_before places
 signals_start t traffic m legs samples = refl
 
--- at the mark the sets are new, and nothing has passed
-abbrev pub first_keeper : Mark → ℕ → SetsKeeper
-first_keeper m row = record {
-  sets = new_standing m.pilot row;
-  mark = m;
-  passed = 0;
-  due = false;
-}
-
 module _ {t : Tuning} {traffic : Traffic} {m : Mark} {r : TrafficReceiver} {heard : List Sample}
-    (sets : r.sets ≡ first_keeper m traffic.row)
     (tuned : IsTunedIn t traffic m m r.phase r.near r.frames.scrambling)
     (next : r.frames.clock.next ≡ 0) (have : r.frames.clock.have ≡ 0) (empty : r.kept ≡ None)
     (legs_is : r.legs ≡ legs_of m (new_standing m.pilot traffic.row))
     (close : AreClose (all_fingers t.phase t.deltas (legs_of m (new_standing m.pilot traffic.row))))
     (within : length heard ≤ t.count) (early : length heard ≤ m.sample) where
   pub hears_opened : r.frames.clock.start ≡ traffic_start traffic m 0 → StandsFor r.framer [] →
-      HearsTraffic t traffic m r heard []
+      HearsTraffic t traffic m (beside (first_keeper m traffic.row) r) heard []
   unfolding kept_to
   hears_opened start framed =
       let new : Standing = new_standing m.pilot traffic.row in
@@ -67,8 +56,7 @@ module _ {t : Tuning} {traffic : Traffic} {m : Mark} {r : TrafficReceiver} {hear
       (λ k above.
       let low = known_low t traffic m legs (λ i. close) k in omega (arith, low, early)) in
       let count : length heard - moment_place m 0 ≡ 0 = omega (arith, early) in
-      subst (λ (k : SetsKeeper). HearsTraffic t traffic m (record r { sets = k }) heard []) (sym sets)
-      (record {
+      record {
         tuned = tuned;
         among = record {
           within = within;
@@ -91,4 +79,4 @@ module _ {t : Tuning} {traffic : Traffic} {m : Mark} {r : TrafficReceiver} {hear
         sets_are = ap (λ (es : List Event). all_noted m es new) none_left
             ∙ sym (heard_none t traffic m (λ i. new) 0 heard [])
             ∙ sym (ap (heard_from t traffic m (λ i. new) heard 0) count);
-      })
+      }

@@ -1,16 +1,15 @@
--- What the receiver of a traffic channel stands for as it tells what has come.
+-- What a traffic channel and the pilot sets beside it stand for, as they tell what has come.
 use Rattle.mobile_core.proofs.Common.{◌≡◌, ℕ, ◌+◌, ◌<◌, ◌≤◌, List, [], ◌∷◌, ◌++◌, Bool, true, false, length, refl, sym, ap, ◌∙◌, arith}
 use Rattle.mobile_core.proofs.Common.{subst, Option, None, Some, inl, inr, ◌==◌, if◌then◌else◌, option_to_list, cases_lt, Sample, Decoded}
 use Rattle.mobile_core.proofs.Common.{PagingMessage, accepted_of, direction_fault, Standing, unless_refused, with_neighbors}
 use Rattle.mobile_core.proofs.Common.{with_thresholds, DirectionFault, Accepted, StandsFor, TrafficBody, at_of, legs_of, legs_by}
 use Rattle.mobile_core.proofs.Common.{moment_place, all_noted, body_noted, moment_from, moments_before, noted, noted_with, page_noted}
 use Rattle.mobile_core.proofs.Common.{system_thresholds, capsule_with, message_at, message_events, signal_at, signal_in, signal_of}
-use Rattle.mobile_core.proofs.Common.{signals_before, GivesFirst, HearsTraffic, HearsWith, IsSoundTraffic, noted_by, told_left_with}
+use Rattle.mobile_core.proofs.Common.{signals_before, GivesFirst, HearsTraffic, HearsWith, IsSoundHandoff, noted_by, told_left_with}
 use Rattle.mobile_core.proofs.Common.{frame_known, Tuning, Leg, kept_in, sets_left_of, frame_heard, Event, Mark, Traffic, SpelledSignal}
-use Rattle.mobile_core.proofs.Common.{TrafficReceiver}
-use Rattle.heard_events.proofs.TrafficGrowth.{signals_more}
+use Rattle.mobile_core.proofs.Common.{SoftHandoff}
+use Rattle.heard_events.proofs.TrafficGrowth.{signals_more, told_left, told_next}
 use Rattle.mobile_core.proofs.FramesHeard.{closes, due_inside, left_unkept}
-use Rattle.heard_events.proofs.TrafficGrowth.{told_left, told_next}
 use Rattle.heard_events.specs.TrafficEvents.{power_bits_at, decoded_at, frame_event, frame_heard as heard_frame}
 use Rattle.paging_message.specs.declared.message.PagingMessage.TheVariants as pages
 use Rattle.traffic_message.specs.declared.body.TrafficBody.TheVariants as bodies
@@ -58,12 +57,12 @@ moments_are m j n early behind =
 
 -- THE SETS TAKE WHAT AN EVENT TELLS
 pub hears_noted : {t : Tuning} {traffic : Traffic} {m : Mark} {heard : List Sample}
-    {kept : ℕ → Standing} {r : TrafficReceiver} {pages : List Event} (event : Event) →
+    {kept : ℕ → Standing} {r : SoftHandoff} {pages : List Event} (event : Event) →
     HearsWith t traffic m r heard (event ∷ pages) kept → at_of event ≡ length heard →
     HearsWith t traffic m (noted_by event r) heard pages kept
 hears_noted {t} {traffic} {m} {heard} {kept} {r} {pages} event st at' =
     let j : ℕ = r.sets.passed in
-    let left = told_left_with t traffic m heard r kept in
+    let left = told_left_with t traffic m heard r.receiver kept in
     let before =
     moments_are m j (length heard) st.among.coming (st.behind event (pages ++ left) refl) in
     let first : j + 1 ≡ moment_from m (length heard) = omega (arith, before) in
@@ -87,27 +86,29 @@ hears_noted {t} {traffic} {m} {heard} {kept} {r} {pages} event st at' =
 -- THE FRAME THAT IS DUE
 -- It was heard so, and its event is the first of those left; the framer has taken its signaling,
 -- and gives the message that this completes, which follows.
-module _ {t : Tuning} {traffic : Traffic} {m : Mark} {r : TrafficReceiver} {heard : List Sample}
-    (st : HearsTraffic t traffic m r heard []) (sound : IsSoundTraffic r)
-    (come : r.frames.clock.next < r.frames.clock.have) (empty : r.kept ≡ None) where
+module _ {t : Tuning} {traffic : Traffic} {m : Mark} {r : SoftHandoff} {heard : List Sample}
+    (st : HearsTraffic t traffic m r heard []) (sound : IsSoundHandoff r)
+    (come : r.receiver.frames.clock.next < r.receiver.frames.clock.have) (empty : r.receiver.kept ≡ None) where
   abbrev legs : ℕ → List Leg
   legs = legs_by traffic m (kept_in t traffic m r heard)
 
   abbrev next : ℕ
-  next = r.frames.clock.next
+  next = r.receiver.frames.clock.next
 
   pub hears_heard : (frame : Decoded) (told : List Bool) (framer : Option (List Bool))
       (message : Option SpelledSignal) → frame ≡ decoded_at t traffic m legs heard next →
       told ≡ power_bits_at t traffic m legs heard next →
-      ((signals : List (List Bool)) → StandsFor r.framer signals →
+      ((signals : List (List Bool)) → StandsFor r.receiver.framer signals →
       StandsFor framer (signals ++ option_to_list (signal_of frame))) →
-      ((signals : List (List Bool)) → StandsFor r.framer signals →
+      ((signals : List (List Bool)) → StandsFor r.receiver.framer signals →
       message ≡ signal_in t.check16 (capsule_with signals (signal_of frame))) →
       GivesFirst t traffic m heard r
       (record r {
-        frames = record r.frames { clock = frame_heard r.frames.clock };
-        framer = framer;
-        kept = message;
+        receiver = record r.receiver {
+          frames = record r.receiver.frames { clock = frame_heard r.receiver.frames.clock };
+          framer = framer;
+          kept = message;
+        };
       }) (frame_event (length heard) frame told ∷ [])
       (frame_event (length heard) frame told ∷ [])
   unfolding signal_at message_at
@@ -116,8 +117,8 @@ module _ {t : Tuning} {traffic : Traffic} {m : Mark} {r : TrafficReceiver} {hear
       let before = signals_before t traffic m legs heard next in
       let inside = due_inside st sound come in
       let known = (st.frames.come come).known in
-      let most = sound.have_most in
-      let order : r.frames.clock.have ≡ next + 1 = omega (arith, most, come) in
+      let most = sound.receiver.have_most in
+      let order : r.receiver.frames.clock.have ≡ next + 1 = omega (arith, most, come) in
       let event : Event = frame_event n frame told in
       let same : event ≡ heard_frame t traffic m legs heard n next =
       ap (λ (f : Decoded). frame_event n f told) frame_is
@@ -129,12 +130,12 @@ module _ {t : Tuning} {traffic : Traffic} {m : Mark} {r : TrafficReceiver} {hear
       ∙ ap (λ (s : Option (List Bool)). signal_in t.check16 (capsule_with before s)) signal in
       let rest = told_left t traffic m legs heard (next + 1) in
       let left : event ∷ (message_events n message ++ rest)
-      ≡ told_left_with t traffic m heard r (kept_in t traffic m r heard) =
+      ≡ told_left_with t traffic m heard r.receiver (kept_in t traffic m r heard) =
       ap (λ (e : Event). e ∷ (message_events n message ++ rest)) same
       ∙ ap (λ (x : Option SpelledSignal).
       heard_frame t traffic m legs heard n next ∷ (message_events n x ++ rest)) message_is
       ∙ sym (told_next t traffic m legs (closes st sound) heard next inside known)
-      ∙ sym (left_unkept t traffic m heard r (kept_in t traffic m r heard) empty) in (
+      ∙ sym (left_unkept t traffic m heard r.receiver (kept_in t traffic m r heard) empty) in (
         record {
           tuned = st.tuned;
           among = st.among;

@@ -1,11 +1,11 @@
--- What the receiver of a traffic channel stands for as a moment passes.
-use Rattle.mobile_core.proofs.Common.{◌≡◌, ℕ, ◌+◌, ◌-◌, ◌<◌, ◌≤◌, List, [], ◌∷◌, ◌++◌, length, take, sym, ap, ◌∙◌, arith}
-use Rattle.mobile_core.proofs.Common.{subst, Option, None, inl, inr, true, false, ◌==◌, flat_map, option_to_list, cases_lt, eq-eqb}
-use Rattle.mobile_core.proofs.Common.{take_all, Sample, filter_ext_places, flat_map_ext_filter_places, Standing, StandsFor, AreClose}
-use Rattle.mobile_core.proofs.Common.{listed, all_fingers, legs_of, heard_from, kept_to, legs_by, moment_of, moment_place, passed}
-use Rattle.mobile_core.proofs.Common.{sets_events, all_noted, signal_at, signals_before, decoded_at, HearsTraffic, HearsUntuned}
-use Rattle.mobile_core.proofs.Common.{kept_in, sets_left_of, told_left_with, traffic_left_of, frame_known, has_frame, Tuning, Event, Leg}
-use Rattle.mobile_core.proofs.Common.{IsSoundTraffic, Mark, SetsKeeper, Traffic, TrafficReceiver}
+-- What a traffic channel and the pilot sets beside it stand for as a moment passes.
+use Rattle.mobile_core.proofs.Common.{◌≡◌, ℕ, ◌+◌, ◌-◌, ◌<◌, ◌≤◌, List, [], ◌∷◌, ◌++◌, length, take, sym, ap, ◌∙◌, arith, subst, Option}
+use Rattle.mobile_core.proofs.Common.{None, inl, inr, true, false, ◌==◌, flat_map, option_to_list, cases_lt, eq-eqb, take_all, Sample}
+use Rattle.mobile_core.proofs.Common.{filter_ext_places, flat_map_ext_filter_places, Standing, StandsFor, AreClose, listed, all_fingers}
+use Rattle.mobile_core.proofs.Common.{legs_of, heard_from, kept_to, legs_by, moment_of, moment_place, passed, sets_events, all_noted}
+use Rattle.mobile_core.proofs.Common.{signal_at, signals_before, decoded_at, HearsTraffic, HearsUntuned, kept_in, sets_left_of}
+use Rattle.mobile_core.proofs.Common.{told_left_with, traffic_left_of, frame_known, has_frame, Tuning, Event, Leg, IsSoundHandoff, Mark}
+use Rattle.mobile_core.proofs.Common.{SetsKeeper, Traffic, SoftHandoff}
 use Rattle.std.proofs.lemmas.List.{append-nil}
 use Rattle.heard_events.proofs.FrameBounds.{known_low}
 use Rattle.mobile_core.proofs.FramesHeard.{closes, from_next, left_unkept, not_left, start_moment, told_given}
@@ -32,10 +32,10 @@ module _ (t : Tuning) (traffic : Traffic) (m : Mark) (legs legs' : ℕ → List 
       (λ k below inside.
       ap (λ (ls : List Leg). option_to_list (signal_at t traffic m (λ i. ls) xs k)) (same k below))
 
-module _ {t : Tuning} {traffic : Traffic} {m : Mark} {r : TrafficReceiver} {heard : List Sample}
-    (st : HearsTraffic t traffic m r heard []) (sound : IsSoundTraffic r)
-    (idle : r.frames.clock.have ≡ r.frames.clock.next) (empty : r.kept ≡ None)
-    (waits : length heard < r.frames.clock.end)
+module _ {t : Tuning} {traffic : Traffic} {m : Mark} {r : SoftHandoff} {heard : List Sample}
+    (st : HearsTraffic t traffic m r heard []) (sound : IsSoundHandoff r)
+    (idle : r.receiver.frames.clock.have ≡ r.receiver.frames.clock.next) (empty : r.receiver.kept ≡ None)
+    (waits : length heard < r.receiver.frames.clock.end)
     (here : length heard ≡ moment_place m (r.sets.passed + 1)) where
   -- what is kept before the moment and with it, and the pilots of each frame
   abbrev kept_now : ℕ → Standing
@@ -76,7 +76,7 @@ module _ {t : Tuning} {traffic : Traffic} {m : Mark} {r : TrafficReceiver} {hear
   old_here : (k : ℕ) → moment_of traffic k ≤ last → legs_then k ≡ legs_now k
   old_here k early = ap (legs_of m) (kept_old t traffic m heard last (moment_of traffic k) early)
 
-  heard_here : (k : ℕ) → k < r.frames.clock.next → legs_then k ≡ legs_now k
+  heard_here : (k : ℕ) → k < r.receiver.frames.clock.next → legs_then k ≡ legs_now k
   heard_here k less =
       let ended = st.frames.ended k less in
       let low = known_low t traffic m legs_now (closes st sound) k in
@@ -95,8 +95,8 @@ module _ {t : Tuning} {traffic : Traffic} {m : Mark} {r : TrafficReceiver} {hear
       (k_is : k ≡ record { sets = k.sets; mark = r.sets.mark; passed = last + 1; due = false })
       (sets_is : k.sets ≡ passed m heard (last + 1) r.sets.sets)
       (close : AreClose (all_fingers t.phase t.deltas (legs_of m k.sets))) where
-    -- the receiver, whose next frame is still to be tuned
-    abbrev then : TrafficReceiver
+    -- with these sets the next frame is still to be tuned
+    abbrev then : SoftHandoff
     then = record r { sets = record { sets = k.sets; mark = r.sets.mark; passed = last + 1; due = false } }
 
     new_here : (i : ℕ) → last < i → legs_of m k.sets ≡ legs_of m (kept_then i)
@@ -113,7 +113,7 @@ module _ {t : Tuning} {traffic : Traffic} {m : Mark} {r : TrafficReceiver} {hear
         ]
 
     -- no frame ends at the moment that hasn't been heard
-    none_ends : (i : ℕ) → r.frames.clock.next ≤ i → length heard + 1 ≤ frame_known t traffic m legs_then i
+    none_ends : (i : ℕ) → r.receiver.frames.clock.next ≤ i → length heard + 1 ≤ frame_known t traffic m legs_then i
     none_ends i above =
         elim (cases_lt last (moment_of traffic i)) [
           | inl later ↦
@@ -127,10 +127,10 @@ module _ {t : Tuning} {traffic : Traffic} {m : Mark} {r : TrafficReceiver} {hear
               omega (arith, same, ends)
         ]
 
-    told_none : told_left_with t traffic m heard then kept_then ≡ []
+    told_none : told_left_with t traffic m heard then.receiver kept_then ≡ []
     told_none =
-        left_unkept t traffic m heard then kept_then empty
-        ∙ told_left_none t traffic m legs_then heard r.frames.clock.next none_ends
+        left_unkept t traffic m heard then.receiver kept_then empty
+        ∙ told_left_none t traffic m legs_then heard r.receiver.frames.clock.next none_ends
 
     hears_then : HearsUntuned t traffic m then heard []
     hears_then =
@@ -150,12 +150,12 @@ module _ {t : Tuning} {traffic : Traffic} {m : Mark} {r : TrafficReceiver} {hear
                 let was = st.frames.ended i less in
                 omega (arith, same, was);
             come = λ come. absurd (omega (arith, come, idle));
-            framed = subst (StandsFor r.framer)
-                (sym (signals_same t traffic m legs_now legs_then heard r.frames.clock.next heard_here))
+            framed = subst (StandsFor r.receiver.framer)
+                (sym (signals_same t traffic m legs_now legs_then heard r.receiver.frames.clock.next heard_here))
                 st.frames.framed;
           };
           close = new_close;
-          legs_are = λ early. st.legs_are early ∙ sym (old_here r.frames.clock.have (omega (arith, early)));
+          legs_are = λ early. st.legs_are early ∙ sym (old_here r.receiver.frames.clock.have (omega (arith, early)));
           pilots_are = new_here (last + 1) (omega arith);
           behind = λ e rest left some.
               let lost : [] ≡ e ∷ rest = sym told_none ∙ left in

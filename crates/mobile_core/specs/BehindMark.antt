@@ -14,7 +14,7 @@ use Rattle.heard_events.specs.declared.event.Event.{Event}
 use Rattle.heard_events.specs.declared.mark.Mark.{Mark}
 use Rattle.mobile_core.specs.declared.paging_receiver.PagingReceiver.{PagingReceiver}
 use Rattle.heard_events.specs.SpelledMessages.{SpelledPage}
-use Rattle.mobile_core.specs.declared.traffic_receiver.TrafficReceiver.{TrafficReceiver}
+use Rattle.mobile_core.specs.declared.soft_handoff.SoftHandoff.{SoftHandoff}
 
 -- What is told by n samples leaves the mark, or sets one that lies behind them.
 abbrev pub SetsMark : ℕ → Option Mark → Option Mark → Type 0
@@ -67,7 +67,7 @@ IsUnheard (Some traffic) mark = mark ≡ None
 -- A receiver that follows the channel that is assigned from the mark on; the events `pages` of the
 -- paging channel haven't been heard.
 pub record FollowsTraffic (t : Tuning) (assigned : Option Traffic) (mark : Option Mark)
-    (r : TrafficReceiver) (heard : List Sample) (pages : List Event) : Type 0 where
+    (r : SoftHandoff) (heard : List Sample) (pages : List Event) : Type 0 where
   pub traffic : Traffic
   pub traffic_is : assigned ≡ Some traffic
   pub set : Mark
@@ -75,7 +75,7 @@ pub record FollowsTraffic (t : Tuning) (assigned : Option Traffic) (mark : Optio
   pub hears : HearsTraffic t traffic set r heard pages
 
 -- the events of these samples' end that it has still to give
-abbrev pub traffic_left : Tuning → Option Traffic → Option Mark → List Sample → TrafficReceiver →
+abbrev pub traffic_left : Tuning → Option Traffic → Option Mark → List Sample → SoftHandoff →
     List Event
 traffic_left t assigned mark samples r =
     if_followed (λ traffic m. traffic_left_of t traffic m samples r) assigned mark

@@ -8,14 +8,14 @@ use Rattle.mobile_core.specs.BehindMark.{FollowsPages, FollowsTraffic, IsSoundAs
 use Rattle.mobile_core.specs.BehindMark.{IsUnpaged, paging_due, paging_left, traffic_left}
 use Rattle.reception.specs.Clocks.{IsDueAt}
 use Rattle.mobile_core.specs.PagingReceiving.{IsSoundPaging, bits_heard}
-use Rattle.mobile_core.specs.TrafficReceiving.{IsSoundTraffic, IsTrafficDue, WaitsAt, next_end}
+use Rattle.mobile_core.specs.TrafficReceiving.{IsSoundHandoff, IsTrafficDue, WaitsAt, next_end}
 use Rattle.mobile_core.specs.TrafficReceiving.{traffic_due, traffic_heard}
 use Rattle.heard_events.specs.Tuning.{Tuning}
 use Rattle.heard_events.specs.declared.event.Event.{Event}
 use Rattle.mobile_core.specs.declared.followed.Followed.{Followed}
 use Rattle.heard_events.specs.declared.mark.Mark.{Mark}
 use Rattle.mobile_core.specs.declared.paging_receiver.PagingReceiver.{PagingReceiver}
-use Rattle.mobile_core.specs.declared.traffic_receiver.TrafficReceiver.{TrafficReceiver}
+use Rattle.mobile_core.specs.declared.soft_handoff.SoftHandoff.{SoftHandoff}
 
 -- what each receiver stands for; there is none where the channel isn't heard, nor a traffic
 -- channel's where none is assigned
@@ -23,7 +23,7 @@ abbrev pub HearsPages : Tuning → Option Mark → Option PagingReceiver → Lis
 HearsPages t mark receiver heard =
     MatchOption receiver (IsUnpaged mark) (λ r. FollowsPages t mark r heard)
 
-abbrev pub HearsFrames : Tuning → Option Traffic → Option Mark → Option TrafficReceiver →
+abbrev pub HearsFrames : Tuning → Option Traffic → Option Mark → Option SoftHandoff →
     List Sample → List Event → Type 0
 HearsFrames t assigned mark receiver heard pages =
     MatchOption receiver (IsUnheard assigned mark)
@@ -35,7 +35,7 @@ abbrev pub paging_events_left : Tuning → Option Mark → List Sample → Optio
 paging_events_left t mark samples receiver = option_map_or (paging_left t mark samples) receiver []
 
 abbrev pub traffic_events_left : Tuning → Option Traffic → Option Mark → List Sample →
-    Option TrafficReceiver → List Event
+    Option SoftHandoff → List Event
 traffic_events_left t assigned mark samples receiver =
     option_map_or (traffic_left t assigned mark samples) receiver []
 
@@ -91,4 +91,4 @@ pub record IsSoundFollowed (f : Followed) : Type 0 where
   pub most : f.near.count ≤ 3
   pub first : slice_get f.near.deltas 0 ≡ Some (pos 0)
   pub paging : ForSome f.paging IsSoundPaging
-  pub traffic : ForSome f.traffic IsSoundTraffic
+  pub traffic : ForSome f.traffic IsSoundHandoff

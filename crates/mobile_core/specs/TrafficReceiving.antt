@@ -1,13 +1,13 @@
--- What the receiver of a traffic channel stands for.
+-- What the receiver of a traffic channel and the pilot sets beside it stand for.
 use Rattle.std.specs.Prelude.{◌≡◌, ◌⊎◌, ℕ, ◌+◌, ◌-◌, ◌*◌, ◌<◌, ◌≤◌, ◌^◌, true, List, ◌∷◌, ◌++◌}
 use Rattle.std.specs.Prelude.{length, take, sum_by, unsigned_abs, IsTrue, Option, Some, None}
-use Rattle.std.specs.Prelude.{is_some, min, if◌then◌else◌, ℤ, Bool}
+use Rattle.std.specs.Prelude.{is_some, min, if◌then◌else◌, ℤ, Bool, false}
 use Rattle.chip_core.specs.declared.sample.Sample.{Sample}
 use Rattle.frame_decoder.specs.TrafficFrames.{subchannels}
 use Rattle.frame_decoder.specs.declared.power.PowerSofts.{PowerSofts}
 use Rattle.long_code.specs.LongCode.{traffic_mask}
 use Rattle.pilot_search.specs.declared.paths.Near.{Near}
-use Rattle.pilot_sets.specs.Standing.{Standing}
+use Rattle.pilot_sets.specs.Standing.{Standing, new_standing}
 use Rattle.quality_bits.specs.Pieces.{StandsFor}
 use Rattle.rake_finger.specs.declared.finger.Finger.{Finger}
 use Rattle.heard_events.specs.Close as closes
@@ -25,12 +25,28 @@ use Rattle.heard_events.specs.Tuning.{Tuning}
 use Rattle.heard_events.specs.declared.event.Event.{Event}
 use Rattle.heard_events.specs.declared.mark.Mark.{Mark}
 use Rattle.heard_events.specs.declared.leg.Leg.{Leg}
+use Rattle.heard_events.specs.declared.sets_keeper.SetsKeeper.{SetsKeeper}
 use Rattle.chip_core.specs.declared.assignment.Traffic.{Traffic}
 use Rattle.heard_events.specs.SpelledMessages.{SpelledSignal}
 use Rattle.reception.specs.Clocks.{frame_come}
 use Rattle.reception.specs.Sound.{IsSoundReceiver}
 use Rattle.reception.specs.declared.scrambling.Scrambling.{Scrambling}
+use Rattle.mobile_core.specs.declared.soft_handoff.SoftHandoff.{SoftHandoff}
 use Rattle.mobile_core.specs.declared.traffic_receiver.TrafficReceiver.{TrafficReceiver}
+
+-- THE PILOT SETS
+-- sets beside a receiver
+abbrev pub beside : SetsKeeper → TrafficReceiver → SoftHandoff
+beside sets receiver = record { receiver = receiver; sets = sets }
+
+-- at the mark they are new, and nothing has passed
+abbrev pub first_keeper : Mark → ℕ → SetsKeeper
+first_keeper m row = record {
+  sets = new_standing m.pilot row;
+  mark = m;
+  passed = 0;
+  due = false;
+}
 
 -- THE EVENTS THAT ARE LEFT
 -- What a receiver has still to tell of the channel, from what is kept behind each moment: the
@@ -43,28 +59,28 @@ told_left_with t traffic m samples r kept =
     ++ messages_left_of t traffic m (legs_by traffic m kept) samples r.frames.clock.next)
 
 -- what is kept behind the moments that have passed
-abbrev pub kept_in : Tuning → Traffic → Mark → TrafficReceiver → List Sample → (ℕ → Standing)
+abbrev pub kept_in : Tuning → Traffic → Mark → SoftHandoff → List Sample → (ℕ → Standing)
 kept_in t traffic m r heard = kept_to t traffic m heard r.sets.passed
 
--- all that it has still to tell, the moment last
-abbrev pub traffic_left_of : Tuning → Traffic → Mark → List Sample → TrafficReceiver → List Event
+-- all that is still to be told, the moment last
+abbrev pub traffic_left_of : Tuning → Traffic → Mark → List Sample → SoftHandoff → List Event
 traffic_left_of t traffic m samples r =
-    told_left_with t traffic m samples r (kept_in t traffic m r samples)
+    told_left_with t traffic m samples r.receiver (kept_in t traffic m r samples)
     ++ sets_left_of t traffic m samples r.sets.passed
 
--- WHAT A RECEIVER STANDS FOR
+-- WHAT THEY STAND FOR
 -- the fingers of the pilots that the frame is heard from which comes next
 abbrev pub fingers_in : TrafficReceiver → List Finger
 fingers_in r = all_fingers r.phase (take r.near.count r.near.deltas) r.legs
 
 -- how many samples have been taken when that frame ends, or at the next moment, where that comes
 -- first
-abbrev pub next_end : TrafficReceiver → ℕ
-next_end r = min r.frames.clock.end (coming_place r.sets)
+abbrev pub next_end : SoftHandoff → ℕ
+next_end r = min r.receiver.frames.clock.end (coming_place r.sets)
 
 -- the frame that comes next ends later than so many samples, and so lies the next moment; one that
 -- has come lies there
-pub record WaitsAt (taken : ℕ) (r : TrafficReceiver) : Type 0 where
+pub record WaitsAt (taken : ℕ) (r : SoftHandoff) : Type 0 where
   pub before : taken < next_end r
   pub due : r.sets.due ≡ true → taken ≡ moment_place r.sets.mark (r.sets.passed + 1)
 
@@ -107,41 +123,43 @@ pub record HasHeard (t : Tuning) (traffic : Traffic) (m : Mark) (legs : ℕ → 
 -- `kept` is what is kept behind the moments that have passed, and those before moment `until` have
 -- told the pilots of the frame that comes next. The sets are those of the definition, but for what
 -- is still to be told, and a moment passes where nothing is.
-pub record HearsUpTo (until : ℕ) (t : Tuning) (traffic : Traffic) (m : Mark) (r : TrafficReceiver)
+pub record HearsUpTo (until : ℕ) (t : Tuning) (traffic : Traffic) (m : Mark) (r : SoftHandoff)
     (heard : List Sample) (pages : List Event) (kept : ℕ → Standing) : Type 0 where
-  pub tuned : IsTunedIn t traffic m r.sets.mark r.phase r.near r.frames.scrambling
+  pub tuned : IsTunedIn t traffic m r.sets.mark r.receiver.phase r.receiver.near
+      r.receiver.frames.scrambling
   pub among : IsAmong m t.count (length heard) r.sets.passed r.sets.due
-  pub frames : HasHeard t traffic m (legs_by traffic m kept) heard r.frames.clock.next
-      r.frames.clock.have r.frames.clock.start r.softs r.power r.framer
+  pub frames : HasHeard t traffic m (legs_by traffic m kept) heard r.receiver.frames.clock.next
+      r.receiver.frames.clock.have r.receiver.frames.clock.start r.receiver.softs r.receiver.power
+      r.receiver.framer
   pub close : (i : ℕ) →
       AreClose (all_fingers t.phase t.deltas (legs_of m (kept i)))
-  pub legs_are : moment_of traffic r.frames.clock.have < until →
-      r.legs ≡ legs_by traffic m kept r.frames.clock.have
+  pub legs_are : moment_of traffic r.receiver.frames.clock.have < until →
+      r.receiver.legs ≡ legs_by traffic m kept r.receiver.frames.clock.have
   pub pilots_are : legs_of m r.sets.sets ≡ legs_of m (kept r.sets.passed)
   pub behind : (event : Event) (rest : List Event) →
-      pages ++ told_left_with t traffic m heard r kept ≡ event ∷ rest →
+      pages ++ told_left_with t traffic m heard r.receiver kept ≡ event ∷ rest →
       0 < r.sets.passed → moment_place m r.sets.passed < length heard
-  pub sets_are : all_noted m (pages ++ told_left_with t traffic m heard r kept) r.sets.sets
+  pub sets_are : all_noted m (pages ++ told_left_with t traffic m heard r.receiver kept) r.sets.sets
       ≡ heard_from t traffic m kept heard r.sets.passed
       (length heard - moment_place m r.sets.passed)
 
 -- all moments that have passed have told them, or all but the last
-abbrev pub HearsWith : Tuning → Traffic → Mark → TrafficReceiver → List Sample → List Event →
+abbrev pub HearsWith : Tuning → Traffic → Mark → SoftHandoff → List Sample → List Event →
     (ℕ → Standing) → Type 0
 HearsWith t traffic m r = HearsUpTo (r.sets.passed + 1) t traffic m r
 
-abbrev pub HearsTraffic : Tuning → Traffic → Mark → TrafficReceiver → List Sample → List Event →
+abbrev pub HearsTraffic : Tuning → Traffic → Mark → SoftHandoff → List Sample → List Event →
     Type 0
 HearsTraffic t traffic m r heard pages =
     HearsWith t traffic m r heard pages (kept_in t traffic m r heard)
 
-abbrev pub HearsUntuned : Tuning → Traffic → Mark → TrafficReceiver → List Sample → List Event →
+abbrev pub HearsUntuned : Tuning → Traffic → Mark → SoftHandoff → List Sample → List Event →
     Type 0
 HearsUntuned t traffic m r heard pages =
     HearsUpTo r.sets.passed t traffic m r heard pages (kept_in t traffic m r heard)
 
 -- What was due first is given, and the rest is left; of this the sets haven't taken `pages` yet.
-abbrev pub GivesFirst : Tuning → Traffic → Mark → List Sample → TrafficReceiver → TrafficReceiver →
+abbrev pub GivesFirst : Tuning → Traffic → Mark → List Sample → SoftHandoff → SoftHandoff →
     List Event → List Event → Type 0
 GivesFirst t traffic m heard before after given pages =
     HearsTraffic t traffic m after heard pages
@@ -153,26 +171,31 @@ abbrev pub HasTold : TrafficReceiver → Type 0
 HasTold r = IsTrue (is_some r.kept) ⊎ (r.frames.clock.next < r.frames.clock.have)
 
 -- or a moment has come that hasn't passed
-abbrev pub IsTrafficDue : TrafficReceiver → Type 0
-IsTrafficDue r = HasTold r ⊎ IsTrue r.sets.due
+abbrev pub IsTrafficDue : SoftHandoff → Type 0
+IsTrafficDue r = HasTold r.receiver ⊎ IsTrue r.sets.due
 
 -- how many messages are kept
 abbrev pub kept_by : Option SpelledSignal → ℕ
 kept_by None = 0
 kept_by (Some message) = 1
 
--- how much has been heard, where each frame counts as two, itself and what it completes; and how
--- much has come that hasn't been heard
-abbrev pub traffic_heard : TrafficReceiver → ℕ
-traffic_heard r = 2 * r.frames.clock.next + 1 - kept_by r.kept + r.sets.passed
+-- how much has been heard of the frames, where each counts as two, itself and what it completes;
+-- and how much has come that hasn't been heard
+abbrev pub told_heard : TrafficReceiver → ℕ
+told_heard r = 2 * r.frames.clock.next + 1 - kept_by r.kept
 
-abbrev pub traffic_due : TrafficReceiver → ℕ
-traffic_due r =
-    let clock = r.frames.clock in
-    2 * (clock.have - clock.next) + kept_by r.kept + (if r.sets.due then 1 else 0)
+abbrev pub told_due : TrafficReceiver → ℕ
+told_due r = 2 * (r.frames.clock.have - r.frames.clock.next) + kept_by r.kept
+
+-- and with the moments
+abbrev pub traffic_heard : SoftHandoff → ℕ
+traffic_heard r = told_heard r.receiver + r.sets.passed
+
+abbrev pub traffic_due : SoftHandoff → ℕ
+traffic_due r = told_due r.receiver + (if r.sets.due then 1 else 0)
 
 -- the sets have taken what an event tells
-abbrev pub noted_by : Event → TrafficReceiver → TrafficReceiver
+abbrev pub noted_by : Event → SoftHandoff → SoftHandoff
 noted_by event r =
     record r {
       sets = record r.sets {
@@ -218,12 +241,17 @@ pub record IsSoundlySet (near : Near) : Type 0 where
 -- fingers of these pilots, and soft values that a decoder takes
 pub record IsSoundTraffic (r : TrafficReceiver) : Type 0 where
   pub set : IsSoundlySet r.near
-  pub keeper : IsSoundKeeper r.sets
   pub frames : IsSoundReceiver r.frames
   pub fingers_are : r.frames.fingers ≡ fingers_in r
   pub have_most : r.frames.clock.have ≤ r.frames.clock.next + 1
-  pub start_least : r.sets.mark.sample + 24576 * r.frames.clock.have ≤ r.frames.clock.start
   pub start_most : r.frames.clock.start ≤ 2 ^ 29 + 2 ^ 16
   pub legs : HasSoundLegs r.legs
   pub small : sum_by unsigned_abs r.softs ≤ 3 * 2 ^ 60
   pub subchannels : r.power.count ≤ 6
+
+-- and sets, of whose mark no frame begins ahead
+pub record IsSoundHandoff (r : SoftHandoff) : Type 0 where
+  pub receiver : IsSoundTraffic r.receiver
+  pub keeper : IsSoundKeeper r.sets
+  pub start_least :
+      r.sets.mark.sample + 24576 * r.receiver.frames.clock.have ≤ r.receiver.frames.clock.start

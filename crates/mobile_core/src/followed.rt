@@ -2,7 +2,7 @@
 
 use crate::paging_receiver::PagingReceiver;
 use crate::receive::Receive;
-use crate::traffic_receiver::TrafficReceiver;
+use crate::soft_handoff::SoftHandoff;
 use chip_core::{CheckForm, Phase, Traffic};
 use heard_events::{Event, Mark, Settings};
 use pilot_search::Near;
@@ -26,8 +26,8 @@ pub(crate) struct Followed {
     check: CheckForm,
     /// The paging channel's receiver, where a mark is set with a PRAT that stands for a rate.
     paging: Option<PagingReceiver>,
-    /// The traffic channel's receiver, where one is assigned and a mark is set.
-    traffic: Option<TrafficReceiver>,
+    /// The traffic channel with its pilot sets, where one is assigned and a mark is set.
+    traffic: Option<SoftHandoff>,
 }
 
 impl Followed {
@@ -43,7 +43,7 @@ impl Followed {
     ghost use Rattle.mobile_core.specs.FollowedChannels.{traffic_events_left};
     ghost use Rattle.heard_events.specs.Given.{at_of, listed};
     ghost use Rattle.heard_events.specs.SoundMarks.{IsSoundMark};
-    ghost use Rattle.mobile_core.specs.TrafficReceiving.{IsSoundTraffic, WaitsAt, traffic_due};
+    ghost use Rattle.mobile_core.specs.TrafficReceiving.{IsSoundHandoff, WaitsAt, traffic_due};
     ghost use Rattle.mobile_core.specs.TrafficReceiving.{traffic_heard};
     ghost use Rattle.heard_events.specs.Tuning.{Tuning};
     ghost use Rattle.heard_events.specs.declared.event.Event.{Event as TheEvent};
@@ -101,8 +101,8 @@ impl Followed {
         }
         self.paging = PagingReceiver::open(mark, self.channel, self.phase, &self.near);
         let Some(traffic) = self.assigned else { return };
-        let receiver = TrafficReceiver::open(mark, &traffic, self.phase, &self.near);
-        self.traffic = Some(receiver);
+        let handoff = SoftHandoff::open(mark, &traffic, self.phase, &self.near);
+        self.traffic = Some(handoff);
     }
 
     /// Whether no receiver is open, and a mark lies behind so many samples.
@@ -114,9 +114,9 @@ impl Followed {
     }
 
     /// Lets the pilot sets of a traffic channel take what an event of the paging channel tells.
-    fn note(traffic: &mut Option<TrafficReceiver>, event: &Option<Event>)
-        requires { ForSome traffic.old IsSoundTraffic }
-        ensures sound { ForSome traffic.new IsSoundTraffic }
+    fn note(traffic: &mut Option<SoftHandoff>, event: &Option<Event>)
+        requires { ForSome traffic.old IsSoundHandoff }
+        ensures sound { ForSome traffic.new IsSoundHandoff }
         ensures waits { (n : ℕ) → ForSome traffic.old (WaitsAt n) →
             ForSome traffic.new (WaitsAt n) }
         ensures heard { option_map_or traffic_heard traffic.new 0
@@ -132,8 +132,8 @@ impl Followed {
             ≡ traffic_events_left t assigned mark heard traffic.old) }
     {
         let Some(event) = event else { return };
-        if let Some(receiver) = traffic {
-            receiver.note(event);
+        if let Some(handoff) = traffic {
+            handoff.sets.note(event);
         }
     }
 }

@@ -6,6 +6,7 @@ mod mobile;
 mod paging_receiver;
 mod receive;
 mod scrambling;
+mod soft_handoff;
 mod sync_receiver;
 mod traffic_receiver;
 

@@ -29,17 +29,17 @@ returns-clause-hears c = λ t before heard taken within sets st.
     let channel : f.assigned ≡ Some traffic = search rules in
     let opens = c.opens.ensures.0 (search rules) in
     let paging = c.open-self.ensures in
-    let receiver = c.open-receiver.ensures in
+    let receiver = c.open-handoff.ensures in
     let early = opens.0 in
     let pages = pages_opened t heard m f.channel st.channel_is (omega (arith, taken, early))
     c.open-self.result paging.some paging.begins paging.fresh
     (paging.hears t heard (sym st.phase_is) (sym st.deltas_are) (omega (arith, taken, within))
     (omega (arith, taken, early))) in
     let begins = receiver.begins in
-    let frames = frames_opened t t.traffic heard traffic m c.open-receiver.result
+    let frames = frames_opened t t.traffic heard traffic m c.open-handoff.result
     (sym st.assigned_is ∙ channel) receiver.sound receiver.fresh receiver.empty receiver.idle
     (omega (arith, taken, early, begins))
     (receiver.hears t heard (sym st.phase_is) (sym st.deltas_are) (omega (arith, taken, within))
     (omega (arith, taken, early))) in
     rw set
-    (opened st c.open-self.result (Some c.open-receiver.result) m opens.1.0 opens.1.1 pages frames)
+    (opened st c.open-self.result (Some c.open-handoff.result) m opens.1.0 opens.1.1 pages frames)

@@ -3,13 +3,13 @@ use Rattle.mobile_core.proofs.FramesTold.{hears_heard}
 use Rattle.mobile_core.proofs.traffic_receiver.TrafficReceiver.hear_told.Goals as goal
 
 pub returns-clause-hears : goal.returns-clause-hears
-returns-clause-hears c = λ t traffic m heard at' check st.
+returns-clause-hears c = λ t traffic m sets heard at' check sound st.
     let r = c.args.self.now in
     let none : r.kept ≡ None = search rules in
     let come : r.frames.clock.next < r.frames.clock.have = search rules in
     let next = c.next_frame-frame.result in
-    let says = c.next_frame-frame.ensures.says t traffic m heard [] _ come st in
+    let says = c.next_frame-frame.ensures.says t traffic m sets heard [] _ come sound st in
     let signal = c.hear_signal-self in
     rw (c.hear.ensures.value, c.frame_event.ensures.value, at')
-    (hears_heard st c.requires.sound come none next.0 next.1 signal.new.framer signal.result says.0
+    (hears_heard st sound come none next.0 next.1 signal.new.framer signal.result says.0
     says.1 signal.ensures.framed (rw check at signal.ensures.message))

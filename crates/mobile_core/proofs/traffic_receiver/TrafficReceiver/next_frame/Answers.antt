@@ -4,8 +4,8 @@ use Rattle.heard_events.proofs.SignalParts.{decoded_long}
 use Rattle.mobile_core.proofs.traffic_receiver.TrafficReceiver.next_frame.Goals as goal
 
 pub returns-clause-says : goal.returns-clause-says
-returns-clause-says c = λ t traffic m heard pages told come st.
-    next_here st c.requires.sound come c.power_places-replaced.result c.descramble.new.softs
+returns-clause-says c = λ t traffic m sets heard pages told come sound st.
+    next_here st sound come c.power_places-replaced.result c.descramble.new.softs
     c.traffic_frame-decoded.result c.commands.result
     (c.power_places-replaced.ensures.value
     ∙ ap (λ (n : ℕ). power_places n c.args.self.now.frames.scrambling.mask) c.state_at.ensures)

@@ -1,6 +1,6 @@
-use Rattle.mobile_core.proofs.Common.{◌≡◌, ◌+◌, ◌*◌, ◌∙◌, ℕ, ℤ, List, true, false, ap, sym, subst, arith, refl, rules, take, length-take}
-use Rattle.mobile_core.proofs.Common.{pos, new_standing, AreClose, all_begun, all_close, all_fingers, legs_of, FrameClock, Leg, Scrambling}
-use Rattle.mobile_core.proofs.Common.{SetsKeeper, clock_from, Data, if◌then◌else◌}
+use Rattle.mobile_core.proofs.Common.{◌≡◌, ◌+◌, ◌*◌, ◌∙◌, ℕ, ℤ, List, true, false, ap, sym, subst, arith, refl, take, length-take, pos}
+use Rattle.mobile_core.proofs.Common.{new_standing, AreClose, all_begun, all_close, all_fingers, legs_of, FrameClock, Leg, Scrambling}
+use Rattle.mobile_core.proofs.Common.{clock_from, Data, if◌then◌else◌}
 use Rattle.mobile_core.proofs.FramesOpened.{first_paths, hears_opened, paths_some, zeros_few}
 use Rattle.rake_finger.proofs.CloseFingers.{close_begun}
 use Rattle.mobile_core.proofs.traffic_receiver.TrafficReceiver.open.Goals.{After-new-frames}
@@ -11,12 +11,6 @@ are_close : (c : After-new-frames) → AreClose c.leg_fingers-fingers.result
 are_close c =
     let fingers = c.leg_fingers-fingers.ensures in
     record { some = fingers.least; close = fingers.close }
-
-legs_first : (c : After-new-frames) →
-    c.legs-legs.result ≡ legs_of c.args.mark.now (new_standing c.args.mark.now.pilot c.args.traffic.now.row)
-legs_first c =
-    c.legs-legs.ensures.value
-    ∙ ap (λ (k : SetsKeeper). legs_of k.mark k.sets) c.new-sets.ensures.value
 
 -- frame 0 begins in the file
 first_clock : (c : After-new-frames) →
@@ -41,15 +35,13 @@ returns-clause-sound c =
     let paths = take near.count near.deltas in
     let fingers = c.leg_fingers-fingers.ensures in
     let marked = c.requires.mark in
-    let keeper = c.new-sets.ensures in
     let clock = first_clock here in
     let start = ap (λ (k : FrameClock). k.start) clock in
     let have = ap (λ (k : FrameClock). k.have) clock in
     let next = ap (λ (k : FrameClock). k.next) clock in
-    let place = ap (λ (k : SetsKeeper). k.mark.sample) keeper.value in
     let first : all_close (all_fingers c.args.phase paths
     (legs_of m (new_standing m.pilot row))) ≡ true =
-    sym (ap all_close (fingers.value ∙ ap (all_fingers c.args.phase paths) (legs_first here)))
+    sym (ap all_close (fingers.value ∙ ap (all_fingers c.args.phase paths) c.requires.active))
     ∙ fingers.close in
     record {
       set = record {
@@ -63,13 +55,11 @@ returns-clause-sound c =
         );
         paths = first_paths m row c.args.phase paths first;
       };
-      keeper = keeper.sound;
       frames = c.new-frames.ensures.sound;
       fingers_are = c.new-frames.ensures.fingers ∙ fingers.value;
       have_most = omega (arith, have);
-      start_least = omega (arith, start, have, place);
       start_most = omega (arith, start, marked.early, c.requires.offset, c.from.ensures);
-      legs = search rules;
+      legs = c.requires.legs;
       small = omega (arith, zeros_few);
       subchannels = omega (arith, c.empty.ensures.count);
     }
@@ -86,10 +76,10 @@ returns-clause-hears c = λ t heard phase deltas within early.
     let start = ap (λ (k : FrameClock). k.start) clock in
     let first : List Leg = legs_of m (new_standing m.pilot c.args.traffic.now.row) in
     let fingers_are = c.leg_fingers-fingers.ensures.value
-    ∙ ap (all_fingers c.args.phase paths) (legs_first here)
+    ∙ ap (all_fingers c.args.phase paths) c.requires.active
     ∙ ap (λ (p : ℕ). all_fingers p paths first) (sym phase)
     ∙ ap (λ (ds : List ℤ). all_fingers t.phase ds first) (sym deltas) in
-    hears_opened c.new-sets.ensures.value
+    hears_opened
     (record {
       mark_is = refl;
       phase_is = sym phase;
@@ -99,5 +89,5 @@ returns-clause-hears c = λ t heard phase deltas within early.
       offset = c.requires.offset;
     })
     (ap (λ (k : FrameClock). k.next) clock) (ap (λ (k : FrameClock). k.have) clock) refl
-    (legs_first here) (subst AreClose fingers_are (are_close here)) within early
+    c.requires.active (subst AreClose fingers_are (are_close here)) within early
     (omega (arith, start, c.from.ensures)) c.new.ensures

@@ -32,9 +32,9 @@ returns-clause-sound c =
     c.requires.idle (omega (arith, few, ended)) (rw value at c.advance.ensures.sound))
 
 pub returns-clause-hears : goal.returns-clause-hears
-returns-clause-hears c = λ t traffic m heard pages holds st.
+returns-clause-hears c = λ t traffic m sets heard pages holds sound st.
     rw c.advance.ensures.value
-    (hears_come st c.requires.sound c.raw.result c.power_softs.result c.power_places-replaced.result
+    (hears_come st sound c.raw.result c.power_softs.result c.power_places-replaced.result
     c.requires.idle (sym c.requires.ended ∙ holds.taken) (c.raw.ensures.value heard holds)
     (c.power_places-replaced.ensures.value
     ∙ ap (λ (n : ℕ). power_places n c.args.self.now.frames.scrambling.mask) c.state_at.ensures)

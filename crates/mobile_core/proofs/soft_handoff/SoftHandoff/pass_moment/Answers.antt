@@ -1,8 +1,8 @@
-use Rattle.mobile_core.proofs.Common.{◌∙◌, ◌++◌, ◌+◌, ◌*◌, [], sym, ap, arith, listed, traffic_left_of, Mark, SetsKeeper, TrafficReceiver}
+use Rattle.mobile_core.proofs.Common.{◌∙◌, ◌++◌, ◌+◌, ◌*◌, [], sym, ap, arith, listed, traffic_left_of, Mark, SetsKeeper, SoftHandoff}
 use Rattle.mobile_core.proofs.MomentPassed.{hears_passed}
 use Rattle.mobile_core.proofs.SoundFrames.{passed_close}
 use Rattle.heard_events.specs.Moments.{sets_events, passed as passed_of}
-use Rattle.mobile_core.proofs.traffic_receiver.TrafficReceiver.pass_moment.Goals as goal
+use Rattle.mobile_core.proofs.soft_handoff.SoftHandoff.pass_moment.Goals as goal
 
 pub returns-clause-hears : goal.returns-clause-hears
 returns-clause-hears c = λ t traffic m heard holds st.
@@ -18,9 +18,9 @@ returns-clause-hears c = λ t traffic m heard holds st.
     let on = hears_passed st c.requires.sound c.requires.idle c.requires.empty
     (omega (arith, holds.taken, waits)) here k passed.same
     (passes.0 ∙ ap (λ (x : Mark). passed_of x heard (r.sets.passed + 1) r.sets.sets) mark)
-    (passed_close st.tuned c.requires.sound k (ap (λ (x : SetsKeeper). x.mark) passed.same ∙ mark)
+    (passed_close st.tuned c.requires.sound.receiver k (ap (λ (x : SetsKeeper). x.mark) passed.same ∙ mark)
     tuned.some tuned.close) event
     (passes.1 ∙ ap (λ (x : Mark). sets_events x heard (r.sets.passed + 1) r.sets.sets) mark) in (
       tuned.hears t traffic m heard [] on.0,
-      ap (λ (x : TrafficReceiver). listed event ++ traffic_left_of t traffic m heard x) tuned.same ∙ on.1,
+      ap (λ (x : SoftHandoff). listed event ++ traffic_left_of t traffic m heard x) tuned.same ∙ on.1,
     )

@@ -1,16 +1,18 @@
 use Rattle.mobile_core.proofs.Common.{◌∙◌, [], ◌∷◌, listed, noted_by}
 use Rattle.mobile_core.proofs.FramesFollowed.{tells_first}
 use Rattle.mobile_core.proofs.FramesTold.{hears_noted}
-use Rattle.mobile_core.proofs.traffic_receiver.TrafficReceiverReceive.hear_next.Goals as goal
+use Rattle.mobile_core.specs.TrafficReceiving.{beside}
+use Rattle.mobile_core.proofs.soft_handoff.SoftHandoffReceive.hear_next.Goals as goal
 
 pub returns-clause-hears : goal.returns-clause-hears
 returns-clause-hears c = λ t _ mark heard holds check count behind.
     let event = c.hear_told-event.result in
+    let sets = c.args.self.now.sets in
     let told = c.hear_told-event.ensures in
     let at' = c.taken.ensures.value ∙ holds.taken in
-    let next = told.hears t behind.traffic behind.set heard at' check behind.hears in
+    let next = told.hears t behind.traffic behind.set sets heard at' check c.requires.sound behind.hears in
     rw c.note.ensures.value
-    (tells_first behind (noted_by event c.hear_told-event.new.self) (event ∷ []) []
+    (tells_first behind (noted_by event (beside sets c.hear_told-event.new.self)) (event ∷ []) []
     (hears_noted event next.0 (told.ends ∙ at'), next.1))
 
 pub returns-then-not-has_told-clause-hears : goal.returns-then-not-has_told-clause-hears
