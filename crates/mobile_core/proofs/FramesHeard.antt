@@ -1,11 +1,11 @@
 -- What a traffic channel and the pilot sets beside it stand for, step by step.
 use Rattle.mobile_core.proofs.Common.{◌≡◌, ℕ, ◌+◌, ◌-◌, ◌*◌, ◌/◌, ◌^◌, ◌<◌, ◌≤◌, List, [], ◌++◌, Bool, ℤ, length, map, take, refl, sym}
-use Rattle.mobile_core.proofs.Common.{◌==◌, false, ne_eqb, sets_left_of, length-append, ap, ◌∙◌, arith, inl, inr, subst, true, Option, None, Some}
-use Rattle.mobile_core.proofs.Common.{IsTrue, is_some, cases_lt, cases_order, take_all, places, Sample, power_bit, decoded, PowerSofts}
-use Rattle.mobile_core.proofs.Common.{Decoded, after, traffic_mask, after-after, Standing, StandsFor, softs, Finger, Data, power_places}
-use Rattle.mobile_core.proofs.Common.{scrambling, sums_on, all_fingers, legs_of, subchannels, heard_from, legs_by, moment_of, moment_place}
-use Rattle.mobile_core.proofs.Common.{told_by, all_noted, page_event, pages_behind, unscrambled, message_events, frame_end, all_sums}
-use Rattle.mobile_core.proofs.Common.{power_bits_at, decoded_at, raw_softs, HearsUpTo, HearsWith, IsSoundHandoff, IsTrafficDue}
+use Rattle.mobile_core.proofs.Common.{◌==◌, false, ne_eqb, sets_left_of, length-append, ap, ◌∙◌, arith, inl, inr, subst, true, Option, None}
+use Rattle.mobile_core.proofs.Common.{Some, IsTrue, is_some, cases_lt, cases_order, take_all, places, Sample, power_bit, decoded}
+use Rattle.mobile_core.proofs.Common.{PowerSofts, Decoded, after, traffic_mask, after-after, Standing, StandsFor, softs, Finger, Data}
+use Rattle.mobile_core.proofs.Common.{power_places, scrambling, sums_on, all_fingers, legs_of, subchannels, heard_from, legs_by, moment_of}
+use Rattle.mobile_core.proofs.Common.{moment_place, told_by, all_noted, page_event, pages_behind, unscrambled, message_events, frame_end}
+use Rattle.mobile_core.proofs.Common.{all_sums, power_bits_at, decoded_at, raw_softs, HearsUpTo, HearsWith, IsSoundHandoff, IsTrafficDue}
 use Rattle.mobile_core.proofs.Common.{told_left_with, chips_behind, frame_known, frame_state, has_frame, replaced_in, traffic_start, Tuning}
 use Rattle.mobile_core.proofs.Common.{Event, Leg, frame_chips, Mark, Traffic, SpelledSignal, SoftHandoff, TrafficReceiver, flat_map}
 use Rattle.mobile_core.specs.TrafficReceiving.{frame_taken, tuned_to}
