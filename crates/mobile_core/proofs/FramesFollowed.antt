@@ -1,6 +1,6 @@
 -- What a handset's traffic channel has still to give, as samples come.
 use Rattle.mobile_core.proofs.Common.{◌≡◌, ℕ, ◌+◌, ◌^◌, ◌<◌, ◌≤◌, ◌==◌, List, [], ◌++◌, length, refl, sym, ap, subst, ◌∙◌, arith, inl, inr}
-use Rattle.mobile_core.proofs.Common.{Option, Some, None, take, true, false, length-append, Bool, is_some, if◌then◌else◌, ForSome}
+use Rattle.mobile_core.proofs.Common.{Option, Some, None, take, true, false, length-append, Bool, if◌then◌else◌, ForSome}
 use Rattle.mobile_core.proofs.Common.{IsSomeAnd, false_from_ne_true, ne_eqb, take_all, Sample, frames_at, kept_to, legs_at, legs_by}
 use Rattle.mobile_core.proofs.Common.{messages_at, moment_place, moments_before, sets_at, pages_behind, coming_place, FollowsTraffic}
 use Rattle.mobile_core.proofs.Common.{HearsFrames, IsUnheard, traffic_left, traffic_events_left, HearsTraffic, HearsWith, IsSoundHandoff}
@@ -169,7 +169,8 @@ frames_noted {heard = heard} {pages = pages} event st here =
 pub told_few : (r : SoftHandoff) → IsSoundHandoff r → traffic_heard r < 2 ^ 40
 told_few r is =
     let few = is.keeper.few in
-    omega (arith, is.start_least, is.receiver.start_most, is.receiver.frames.clocked.next_have, few)
+    let r = is.receiver in
+    omega (arith, r.start_least, r.start_most, r.frames.clocked.next_have, few)
 
 -- what an event of the paging channel tells leaves what waits
 pub noted_waits : (n : ℕ) (r : SoftHandoff) (event : Event) → WaitsAt n r →
@@ -223,30 +224,16 @@ module _ (t : Tuning) (assigned : Option Traffic) (mark : Option Mark) (heard : 
       (sym (kept_more st known none more)) grown)
 
 -- WHERE A MARK IS SET
--- nothing is due of a receiver that has heard nothing
-none_opened : (r : SoftHandoff) → r.receiver.frames.clock.have ≡ r.receiver.frames.clock.next →
-    r.receiver.kept ≡ None → r.sets.due ≡ false → ¬ IsTrafficDue r
-none_opened r fresh empty idle = λ due.
-    elim due [
-      | inl (inl some) ↦
-          let is : is_some r.receiver.kept ≡ true = some in
-          let none : false ≡ true = rw empty at is in
-          absurd (cc)
-      | inl (inr come) ↦ omega (arith, fresh, come)
-      | inr moment ↦ absurd (cc)
-    ]
-
 -- a receiver that is open now has heard nothing
 pub frames_opened : (t : Tuning) (assigned : Option Traffic) (heard : List Sample) (traffic : Traffic)
-    (m : Mark) (r : SoftHandoff) → assigned ≡ Some traffic → IsSoundHandoff r →
-    r.receiver.frames.clock.have ≡ r.receiver.frames.clock.next → r.receiver.kept ≡ None → r.sets.due ≡ false → length heard < next_end r →
-    HearsTraffic t traffic m r heard [] →
+    (m : Mark) (r : SoftHandoff) → assigned ≡ Some traffic → IsSoundHandoff r → ¬ IsTrafficDue r →
+    length heard < next_end r → HearsTraffic t traffic m r heard [] →
     FollowsTraffic t assigned (Some m) r heard [] × (traffic_left t assigned (Some m) heard r ≡ [])
-frames_opened t assigned heard traffic m r followed sound fresh empty idle early hears =
+frames_opened t assigned heard traffic m r followed sound none early hears =
     let behind : FollowsTraffic t assigned (Some m) r heard [] =
     record { traffic = traffic; traffic_is = followed; set = m; set_is = refl; hears = hears } in (
       behind,
       left_is behind heard r
-          ∙ (receiver_goes hears sound (none_opened r fresh empty idle) (length heard + 1)
+          ∙ (receiver_goes hears sound none (length heard + 1)
           (omega (arith, early))).given (omega arith),
     )

@@ -35,12 +35,14 @@ module _ {r : TrafficReceiver} (is : IsSoundTraffic r) where
   sound_taken softs power small few idle early frames =
       let ends = is.frames.ends in
       let low = (close_ends r.frames.clock.start r.frames.fingers is.frames.close).0 in
+      let least = is.start_least in
       let chips = ap frame_chips is.frames.form_is in
       record {
         set = is.set;
         frames = frames;
         fingers_are = is.fingers_are;
         have_most = omega (arith, idle);
+        start_least = omega (arith, least, chips);
         start_most = omega (arith, ends, low, early, chips);
         legs = is.legs;
         small = small;

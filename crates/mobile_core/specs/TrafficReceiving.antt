@@ -244,14 +244,14 @@ pub record IsSoundTraffic (r : TrafficReceiver) : Type 0 where
   pub frames : IsSoundReceiver r.frames
   pub fingers_are : r.frames.fingers ≡ fingers_in r
   pub have_most : r.frames.clock.have ≤ r.frames.clock.next + 1
+  pub start_least : 2 ^ 16 + 24576 * r.frames.clock.have ≤ r.frames.clock.start
   pub start_most : r.frames.clock.start ≤ 2 ^ 29 + 2 ^ 16
   pub legs : HasSoundLegs r.legs
   pub small : sum_by unsigned_abs r.softs ≤ 3 * 2 ^ 60
   pub subchannels : r.power.count ≤ 6
 
--- and sets, of whose mark no frame begins ahead
+-- and sets, from whose mark on the frames lie
 pub record IsSoundHandoff (r : SoftHandoff) : Type 0 where
   pub receiver : IsSoundTraffic r.receiver
   pub keeper : IsSoundKeeper r.sets
-  pub start_least :
-      r.sets.mark.sample + 24576 * r.receiver.frames.clock.have ≤ r.receiver.frames.clock.start
+  pub begun : r.sets.mark.sample ≤ r.receiver.frames.clock.start

@@ -37,8 +37,9 @@ impl SoftHandoff {
     ghost use Rattle.heard_events.specs.declared.event.Event.{Event as TheEvent};
     ghost use Rattle.heard_events.specs.declared.mark.Mark.{Mark as TheMark};
     ghost use Rattle.mobile_core.specs.TrafficReceiving.{GivesFirst, HearsTraffic, HearsUntuned};
-    ghost use Rattle.mobile_core.specs.TrafficReceiving.{IsSoundHandoff, WaitsAt, beside, next_end};
-    ghost use Rattle.mobile_core.specs.TrafficReceiving.{traffic_due, traffic_heard, tuned_to};
+    ghost use Rattle.mobile_core.specs.TrafficReceiving.{IsSoundHandoff, IsTrafficDue, WaitsAt};
+    ghost use Rattle.mobile_core.specs.TrafficReceiving.{beside, next_end, told_heard, traffic_due};
+    ghost use Rattle.mobile_core.specs.TrafficReceiving.{traffic_heard, tuned_to};
     ghost use Rattle.rake_finger.specs.Held.{HoldsLast};
 
     /// A channel of which no frame has been heard, for a base station at a phase and near it.
@@ -50,9 +51,7 @@ impl SoftHandoff {
         requires most { near.now.count ≤ 3 }
         requires first { slice_get near.now.deltas 0 ≡ Some (pos 0) }
         ensures begins { mark.now.sample < next_end result }
-        ensures fresh { result.receiver.frames.clock.have ≡ result.receiver.frames.clock.next }
-        ensures empty { result.receiver.kept ≡ None }
-        ensures idle { result.sets.due ≡ false }
+        ensures idle { ¬ IsTrafficDue result }
         ensures sound { IsSoundHandoff result }
         ensures hears { (t : Tuning) (heard : List Sample) → t.phase ≡ phase →
             t.deltas ≡ take near.now.count near.now.deltas → length heard ≤ t.count →
@@ -72,8 +71,7 @@ impl SoftHandoff {
         requires few { ring.now.taken ≤ 67108864 }
         requires room { ring.now.room ≡ 65536 }
         requires ended { ring.now.taken ≤ self.old.receiver.frames.clock.end }
-        ensures next { self.new.receiver.frames.clock.next ≡ self.old.receiver.frames.clock.next }
-        ensures kept { self.new.receiver.kept ≡ self.old.receiver.kept }
+        ensures same { told_heard self.new.receiver ≡ told_heard self.old.receiver }
         ensures sets { self.new.sets ≡ self.old.sets }
         ensures waits { ring.now.taken < self.new.receiver.frames.clock.end }
         ensures sound { IsSoundHandoff self.new }

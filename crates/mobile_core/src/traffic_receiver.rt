@@ -82,10 +82,8 @@ impl TrafficReceiver {
         requires most { near.now.count ≤ 3 }
         requires first { slice_get near.now.deltas 0 ≡ Some (pos 0) }
         ensures begins { mark.now.sample < result.frames.clock.end }
-        ensures start { mark.now.sample + 24576 * result.frames.clock.have
-            ≤ result.frames.clock.start }
-        ensures fresh { result.frames.clock.have ≡ result.frames.clock.next }
-        ensures empty { result.kept ≡ None }
+        ensures begun { mark.now.sample ≤ result.frames.clock.start }
+        ensures idle { ¬ HasTold result }
         ensures sound { IsSoundTraffic result }
         ensures hears { (t : Tuning) (heard : List Sample) → t.phase ≡ phase →
             t.deltas ≡ take near.now.count near.now.deltas → length heard ≤ t.count →
@@ -156,7 +154,6 @@ impl TrafficReceiver {
         requires room { decoder.old ≡ 576 }
         ensures waits { self.new.frames.clock.end ≡ self.old.frames.clock.end }
         ensures starts { self.new.frames.clock.start ≡ self.old.frames.clock.start }
-        ensures same { self.new.frames.clock.have ≡ self.old.frames.clock.have }
         ensures further { told_heard self.old < told_heard self.new }
         ensures nearer { told_due self.new < told_due self.old }
         ensures sound { IsSoundTraffic self.new }
@@ -184,7 +181,6 @@ impl TrafficReceiver {
     pub(crate) fn tune(&mut self, legs: Legs)
         requires sound { IsSoundTraffic self.old }
         requires legs { HasSoundLegs legs }
-        requires late { 226 ≤ self.old.frames.clock.start }
         ensures same { self.new ≡ tuned_to legs self.new.frames.clock.end
             self.new.frames.fingers self.old }
         ensures waits { (n : ℕ) → n ≤ self.old.frames.clock.start + 226 →

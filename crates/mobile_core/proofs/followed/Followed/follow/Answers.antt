@@ -37,7 +37,7 @@ returns-clause-hears c = λ t before heard taken within sets st.
     (omega (arith, taken, early))) in
     let begins = receiver.begins in
     let frames = frames_opened t t.traffic heard traffic m c.open-handoff.result
-    (sym st.assigned_is ∙ channel) receiver.sound receiver.fresh receiver.empty receiver.idle
+    (sym st.assigned_is ∙ channel) receiver.sound receiver.idle
     (omega (arith, taken, early, begins))
     (receiver.hears t heard (sym st.phase_is) (sym st.deltas_are) (omega (arith, taken, within))
     (omega (arith, taken, early))) in

@@ -1,8 +1,15 @@
-use Rattle.mobile_core.proofs.Common.{◌≡◌, ◌∷◌, ◌++◌, Some, IfSome, rules, length, subst, sym, at_of, listed, HearsFrames, WaitsAt}
-use Rattle.mobile_core.proofs.Common.{IsSoundHandoff, SetsKeeper, ap, arith}
+use Rattle.mobile_core.proofs.Common.{◌≡◌, ◌∙◌, ◌∷◌, ◌++◌, Some, IfSome, rules, length, subst, sym, at_of, listed, HearsFrames, WaitsAt}
+use Rattle.mobile_core.proofs.Common.{Event, IsSoundHandoff, SetsKeeper, SoftHandoff, ap, noted_by}
+use Rattle.heard_events.specs.SetsKeeping.{IsSoundKeeper}
 use Rattle.mobile_core.proofs.FramesFollowed.{frames_noted, noted_waits}
 use Rattle.mobile_core.specs.TrafficReceiving.{beside}
 use Rattle.mobile_core.proofs.followed.Followed.note.Goals as goal
+
+-- the sets that have taken the event stand beside the receiver
+noted : (r x : SoftHandoff) (event : Event) (k : SetsKeeper) → k ≡ (noted_by event r).sets →
+    Some (beside k r.receiver) ≡ Some x → noted_by event r ≡ x
+noted r x event k value e =
+    let same : beside k r.receiver ≡ x = cc in ap (λ (k : SetsKeeper). beside k r.receiver) (sym value) ∙ same
 
 pub note-requires : goal.note-requires
 note-requires c = (c.requires c.in-Some-traffic.handoff (search rules)).keeper
@@ -10,24 +17,16 @@ note-requires c = (c.requires c.in-Some-traffic.handoff (search rules)).keeper
 pub returns-in-Some-traffic-clause-sound : goal.returns-in-Some-traffic-clause-sound
 returns-in-Some-traffic-clause-sound c = λ x e.
     let r = c.in-Some-traffic.handoff in
-    let same : beside c.note.new.self r.receiver ≡ x = cc in
-    let mark = ap (λ (k : SetsKeeper). k.mark.sample) c.note.ensures.value in
     let is = c.requires r (search rules) in
-    subst IsSoundHandoff same
-    (record {
-      receiver = is.receiver;
-      keeper = c.note.ensures.sound;
-      start_least = let least = is.start_least in omega (arith, least, mark);
-    })
+    let value = c.note.ensures.value in
+    subst IsSoundHandoff (noted r x c.in-Some.event c.note.new.self value e)
+    (record { receiver = is.receiver; keeper = subst IsSoundKeeper value c.note.ensures.sound; begun = is.begun })
 
 pub returns-in-Some-traffic-clause-waits : goal.returns-in-Some-traffic-clause-waits
 returns-in-Some-traffic-clause-waits c = λ n before x e.
     let r = c.in-Some-traffic.handoff in
-    let is : c.args.traffic.now ≡ Some r = search rules in
-    let same : beside c.note.new.self r.receiver ≡ x = cc in
-    subst (WaitsAt n) same
-    (subst (λ (k : SetsKeeper). WaitsAt n (beside k r.receiver)) (sym c.note.ensures.value)
-    (noted_waits n r c.in-Some.event (before r is)))
+    subst (WaitsAt n) (noted r x c.in-Some.event c.note.new.self c.note.ensures.value e)
+    (noted_waits n r c.in-Some.event (before r (search rules)))
 
 pub returns-in-Some-traffic-clause-hears : goal.returns-in-Some-traffic-clause-hears
 returns-in-Some-traffic-clause-hears c = λ t assigned mark heard pages ends st.

@@ -2,5 +2,4 @@ use Rattle.mobile_core.proofs.soft_handoff.SoftHandoff.open.Goals as goal
 
 pub returns-clause-hears : goal.returns-clause-hears
 returns-clause-hears c = λ t heard phase deltas within early.
-    rw c.new-sets.ensures.value
-    (c.open-receiver.ensures.hears t heard phase deltas within early)
+    rw c.new-sets.ensures.value (c.open-receiver.ensures.hears t heard phase deltas within early)

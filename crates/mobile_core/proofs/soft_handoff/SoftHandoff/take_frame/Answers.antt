@@ -16,23 +16,3 @@ returns-clause-waits c =
     let start' = ap (λ (x : TrafficReceiver). x.frames.clock.start) same in
     c.tune.ensures.waits c.args.ring.now.taken (omega (arith, ended, taken, end', chips))
     (λ e. omega (arith, high, ends, ended, taken, start', chips))
-
-pub tune-requires : goal.tune-requires
-tune-requires c =
-    let same = c.take_softs.ensures.same in
-    let least = c.requires.sound.start_least in
-    let chips = ap frame_chips c.requires.sound.receiver.frames.form_is in
-    let start = ap (λ (x : TrafficReceiver). x.frames.clock.start) same in
-    let have = ap (λ (x : TrafficReceiver). x.frames.clock.have) same in
-    record {
-      sound = record {
-        receiver = c.take_softs.ensures.sound;
-        keeper = c.requires.sound.keeper;
-        start_least = omega (arith, least, chips, start, have);
-      };
-    }
-
-pub returns-clause-hears : goal.returns-clause-hears
-returns-clause-hears c = λ t traffic m heard pages holds st.
-    c.tune.ensures.hears t traffic m heard pages
-    (c.take_softs.ensures.hears t traffic m c.args.self.now.sets heard pages holds c.requires.sound st)

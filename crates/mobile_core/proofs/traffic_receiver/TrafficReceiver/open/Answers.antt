@@ -58,6 +58,7 @@ returns-clause-sound c =
       frames = c.new-frames.ensures.sound;
       fingers_are = c.new-frames.ensures.fingers ∙ fingers.value;
       have_most = omega (arith, have);
+      start_least = omega (arith, start, have, marked.late);
       start_most = omega (arith, start, marked.early, c.requires.offset, c.from.ensures);
       legs = c.requires.legs;
       small = omega (arith, zeros_few);
