@@ -1,11 +1,11 @@
 -- What a handset's traffic channel has still to give, as samples come.
-use Rattle.mobile_core.proofs.Common.{◌≡◌, ℕ, ◌+◌, ◌^◌, ◌<◌, ◌≤◌, ◌==◌, List, [], ◌++◌, length, refl, sym, ap, subst, ◌∙◌, arith, inl, inr}
-use Rattle.mobile_core.proofs.Common.{Option, Some, None, take, true, false, length-append, Bool, if◌then◌else◌, ForSome}
-use Rattle.mobile_core.proofs.Common.{IsSomeAnd, false_from_ne_true, ne_eqb, take_all, Sample, frames_at, kept_to, legs_at, legs_by}
-use Rattle.mobile_core.proofs.Common.{messages_at, moment_place, moments_before, sets_at, pages_behind, coming_place, FollowsTraffic}
-use Rattle.mobile_core.proofs.Common.{HearsFrames, IsUnheard, traffic_left, traffic_events_left, HearsTraffic, HearsWith, IsSoundHandoff}
-use Rattle.mobile_core.proofs.Common.{IsTrafficDue, at_of, ◌∷◌, kept_in, next_end, noted_by, sets_left_of, traffic_heard, GivesFirst}
-use Rattle.mobile_core.proofs.Common.{WaitsAt, traffic_left_of, told_left_with, Tuning, Event, Leg, Mark, Traffic, SoftHandoff, option_map}
+use Rattle.mobile_core.proofs.Common.{◌≡◌, ℕ, ◌+◌, ◌^◌, ◌<◌, ◌≤◌, ◌==◌, List, [], ◌++◌, length, refl, sym, ap, subst, ◌∙◌, arith, inr}
+use Rattle.mobile_core.proofs.Common.{Option, Some, None, take, false, length-append, Bool, if◌then◌else◌, ForSome, IsSomeAnd}
+use Rattle.mobile_core.proofs.Common.{false_from_ne_true, ne_eqb, take_all, Sample, frames_at, kept_to, legs_at, legs_by, messages_at}
+use Rattle.mobile_core.proofs.Common.{moment_place, moments_before, sets_at, pages_behind, coming_place, FollowsTraffic, HearsFrames}
+use Rattle.mobile_core.proofs.Common.{IsUnheard, traffic_left, traffic_events_left, HearsTraffic, HearsWith, IsSoundHandoff, IsTrafficDue}
+use Rattle.mobile_core.proofs.Common.{at_of, ◌∷◌, kept_in, next_end, noted_by, sets_left_of, traffic_heard, GivesFirst, WaitsAt}
+use Rattle.mobile_core.proofs.Common.{traffic_left_of, told_left_with, Tuning, Event, Leg, Mark, Traffic, SoftHandoff, option_map}
 use Rattle.mobile_core.proofs.Common.{told_behind}
 use Rattle.heard_events.specs.declared.channel.Channel.TheVariants.{Traffic as OnTraffic}
 use Rattle.mobile_core.proofs.FramesHeard.{none_come, none_kept, not_left, told_go}

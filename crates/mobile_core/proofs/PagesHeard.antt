@@ -8,8 +8,7 @@ use Rattle.mobile_core.proofs.Common.{PagingReceiver, SpelledPage}
 use Rattle.std.proofs.lemmas.List.{append-nil}
 use Rattle.paging_message.specs.HalfFrames.{StandsFor}
 use Rattle.reception.proofs.ClockSteps.{due_inside, due_known, before_next}
-use Rattle.heard_events.proofs.PageGrowth.{bits_before_more, bits_before_none, bits_before_sooner}
-use Rattle.heard_events.proofs.PageGrowth.{left_next, pages_behind_last, pages_next}
+use Rattle.heard_events.proofs.PageGrowth.{bits_before_more, bits_before_none, bits_before_sooner, left_next, pages_behind_last, pages_next}
 use Rattle.reception.proofs.Received.{receives_heard, receives_more}
 use Rattle.mobile_core.specs.PagingReceiving.{IsOfChannel}
 

@@ -67,9 +67,8 @@ pub struct Mobile {
 }
 
 impl Mobile {
-    ghost use Rattle.std.specs.Prelude.{◌≡◌, ◌<◌, ◌≤◌, ◌↔◌, ◌-◌, List, [], ◌∷◌, ◌++◌, length};
-    ghost use Rattle.std.specs.Prelude.{ℕ, IsTrue, IfOk, None, false};
-    ghost use Rattle.std.specs.Prelude.{Some, is_some, pos, slice_get};
+    ghost use Rattle.std.specs.Prelude.{◌≡◌, ◌<◌, ◌≤◌, ◌↔◌, ◌-◌, List, [], ◌∷◌, ◌++◌, length, ℕ};
+    ghost use Rattle.std.specs.Prelude.{IsTrue, IfOk, None, false, Some, is_some, pos, slice_get};
     ghost use Rattle.std.specs.Option.{ForSome};
     ghost use Rattle.std.specs.List.{list_any};
     ghost use Rattle.chip_core.specs.declared.sample.Sample.{Sample};

@@ -1,12 +1,11 @@
 -- The text of the frames behind a mark, as it is written frame by frame.
-use Rattle.tuned_listener.proofs.Common.{◌≡◌, ℕ, zero, suc, ◌+◌, ◌≤◌, Bool, true, false, List, [], ◌∷◌, ◌++◌, map, filter}
-use Rattle.tuned_listener.proofs.Common.{length, take, drop, refl, sym, ap, ◌∙◌, subst, arith, inl, inr, nat_le, Option, None, Some}
-use Rattle.tuned_listener.proofs.Common.{append_assoc, take-add, length-append, StartsWith, Appends, range_with_len, option_to_list}
-use Rattle.tuned_listener.proofs.Common.{Appends-nil, Appends-trans, and_from, cases_Bool, cases_lt, false_from_ne_true, le-leb}
-use Rattle.tuned_listener.proofs.Common.{map-append, take-append-drop, take_all, places, Sample, AppendsPrefix}
-use Rattle.tuned_listener.proofs.Common.{channel_stream, paging_bound, frames_within, soft_frame, soft_frames}
-use Rattle.tuned_listener.proofs.Common.{IsTimed, IsTunedTo, IsTunerStep, Tuning, Channel, Mark, SoftFrame, Tuner, TunerStep}
-use Rattle.tuned_listener.proofs.Common.{frames_sooner, HoldsFrames, WritesFrames, WritesFramesPart}
+use Rattle.tuned_listener.proofs.Common.{◌≡◌, ℕ, zero, suc, ◌+◌, ◌≤◌, Bool, true, false, List, [], ◌∷◌, ◌++◌, map, filter, length, take}
+use Rattle.tuned_listener.proofs.Common.{drop, refl, sym, ap, ◌∙◌, subst, arith, inl, inr, nat_le, Option, None, Some, append_assoc}
+use Rattle.tuned_listener.proofs.Common.{take-add, length-append, StartsWith, Appends, range_with_len, option_to_list, Appends-nil}
+use Rattle.tuned_listener.proofs.Common.{Appends-trans, and_from, cases_Bool, cases_lt, false_from_ne_true, le-leb, map-append}
+use Rattle.tuned_listener.proofs.Common.{take-append-drop, take_all, places, Sample, AppendsPrefix, channel_stream, paging_bound}
+use Rattle.tuned_listener.proofs.Common.{frames_within, soft_frame, soft_frames, IsTimed, IsTunedTo, IsTunerStep, Tuning, Channel, Mark}
+use Rattle.tuned_listener.proofs.Common.{SoftFrame, Tuner, TunerStep, frames_sooner, HoldsFrames, WritesFrames, WritesFramesPart}
 use Rattle.tuned_listener.proofs.Common.{slot_behind, slot_more, frame_text, frames_text, text_from, FrameWriter, TunedText}
 use Rattle.tuned_listener.proofs.FrameTexts.{kept_behind, kept_behind_none, kept_behind_one, text_of_none, text_of_one, texts_joined}
 use Rattle.tuned_listener.proofs.Prefixes.{begins_more, prefix_before, prefix_behind, taken_begins}

@@ -44,8 +44,7 @@ pub struct TunedListener {
 
 impl TunedListener {
     ghost use Rattle.std.specs.Prelude.{◌≡◌, ◌≤◌, ◌+◌, ◌++◌, List, [], length, pos, slice_get};
-    ghost use Rattle.std.specs.Prelude.{take};
-    ghost use Rattle.std.specs.Prelude.{IfOk, OnOk, OnErr, Some, is_some, true};
+    ghost use Rattle.std.specs.Prelude.{take, IfOk, OnOk, OnErr, Some, is_some, true};
     ghost use Rattle.cdma_io.specs.Outside.{HasCause};
     ghost use Rattle.chip_core.specs.declared.sample.Sample.{Sample as TheSample};
     ghost use Rattle.heard_events.specs.Marks.{mark};
