@@ -1,7 +1,7 @@
 -- What the proofs of this crate cite of what lies below, and of its own definitions, passed on from one place.
 pub use Rattle.std.proofs.Common.{All, Bool, FitsSigned, List, [], add-one, ap, append-nil, append_assoc, arith, below_more, cond, drop}
 pub use Rattle.std.proofs.Common.{false, filter, get_or, inl, inr, length, length-append, length-drop, length-take-le, map, nat_eq, not}
-pub use Rattle.std.proofs.Common.{pos, refl, replicate, reverse, rules, set, subst, suc, sum_by, sym, take, take_all, true, unsigned_abs}
+pub use Rattle.std.proofs.Common.{negsuc, pos, refl, replicate, reverse, rules, set, subst, suc, sum_by, sym, take, take_all, true, unsigned_abs}
 pub use Rattle.std.proofs.Common.{zero, ℕ, ℤ, ⊎_elim, ◌&&◌, ◌*◌, ◌++◌, ◌+ℤ◌, ◌+◌, ◌-◌, ◌<◌, ◌^◌, ◌||◌, ◌∙◌, ◌∷◌, ◌≡◌, ◌≢◌, ◌≤ℤ◌, ◌≤◌, ◌⊎◌}
 pub use Rattle.std.proofs.Math.Bool.{beq}
 pub use Rattle.std.proofs.Math.Nat.{mul-le-mul, mul-le-mul_right}
@@ -14,7 +14,7 @@ pub use Rattle.std.proofs.lemmas.List.{get_or-set_same, get_or-take, get_or_past
 pub use Rattle.std.proofs.lemmas.List.{take-take, take_at, take_more}
 pub use Rattle.std.proofs.lemmas.List.Elements.{All-cons, All-head, All-nil, All-tail}
 pub use Rattle.std.proofs.lemmas.List.Folds.{list_all_more, list_any-append}
-pub use Rattle.std.proofs.lemmas.List.Sums.{get_or-le-sum_by, sum_by-append, sum_by-set, sum_by-take-drop, sum_by-take-le}
+pub use Rattle.std.proofs.lemmas.List.Sums.{get_or-le-sum_by, sum_by-append, sum_by-cons, sum_by-set, sum_by-take-drop, sum_by-take-le}
 pub use Rattle.std.proofs.lemmas.Nat.{pow_pos}
 pub use Rattle.std.proofs.lemmas.Slice.{take-put_mid}
 pub use Rattle.std.specs.Bool.{Decides, one_answer}
@@ -49,8 +49,7 @@ unfoldable pub use Rattle.symbol_path.specs.SentOrder.{sent}
 pub use Rattle.symbol_path.specs.SentOrderTwo.{repeated_symbol}
 pub use Rattle.symbol_path.specs.declared.kinds.Kind.{Kind}
 pub use Rattle.symbol_path.specs.declared.kinds.Kind.TheVariants.{Data}
-pub use Rattle.viterbi.proofs.Agreement.{symbol_part}
-pub use Rattle.viterbi.proofs.Sent.{zero_codeword_best}
+pub use Rattle.viterbi.proofs.Sent.{zero_codeword_best, zeros_score}
 pub use Rattle.viterbi.proofs.Unique.{allowed_at, by_definition, codeword_at_allowed}
 pub use Rattle.viterbi.specs.Best.{IsAllowed, IsBestCodeword, spelled}
 pub use Rattle.viterbi.specs.Codewords.{Codeword, correlation, score_of, codeword_at, codeword_count}

@@ -9,9 +9,9 @@ pub mod ZeroCodewords
 pub mod RateCodewords
 pub mod FormatCodewords
 pub mod Unreplaced
-pub mod MaskedScores
 pub mod ShownSymbols
 pub mod FormatChoice
+pub mod SignedScores
 pub mod SentFormats
 pub mod Chosen
 pub mod SentFrames

@@ -1,16 +1,18 @@
 -- A sent frame of any rate set comes back, and soft values of 0 give none.
 use Rattle.frame_decoder.proofs.Common.{◌≡◌, ℕ, ◌-◌, ◌*◌, ◌<◌, inl, inr, ⊎_elim, Bool, true, false, List, [], ◌∷◌, ◌++◌, length, map, take}
-use Rattle.frame_decoder.proofs.Common.{drop, replicate, refl, sym, ap, subst, ◌∙◌, arith, ℤ, pos, length-append, append_assoc, ◌≤ℤ◌}
-use Rattle.frame_decoder.proofs.Common.{int_lt, All, get_or, None, Some, option_map, booleans_Decides, pointwise_decides, ints, cases_Bool}
+use Rattle.frame_decoder.proofs.Common.{drop, replicate, refl, sym, ap, ◌∙◌, arith, ℤ, pos, length-append, append_assoc, ◌≤ℤ◌}
+use Rattle.frame_decoder.proofs.Common.{int_lt, All, get_or, None, Some, option_map, booleans_Decides, pointwise_decides, cases_Bool}
 use Rattle.frame_decoder.proofs.Common.{take_at, drop_at, length-replicate, All-cons, All-nil, code_symbols, quality_indicator}
 use Rattle.frame_decoder.proofs.Common.{quality_length, length-quality_indicator, Codeword, score_of, IsAllowed, Zero, by_definition}
-use Rattle.frame_decoder.proofs.Common.{zero_codeword_best, FrameFormat, DecodedFrame, is_replaced, unreplaced, ShowSymbols, AgreeElsewhere}
-use Rattle.frame_decoder.proofs.Common.{kept_count, bits_in, symbols_in, score_in, codeword_in, is_right, frame_in, candidate_of, rising}
+use Rattle.frame_decoder.proofs.Common.{zero_codeword_best, FrameFormat, DecodedFrame, unreplaced, AgreeElsewhere}
+use Rattle.frame_decoder.proofs.Common.{bits_in, symbols_in, score_in, codeword_in, is_right, frame_in, candidate_of, rising}
 use Rattle.frame_decoder.proofs.Common.{not_good, frame_of, shown_of}
-use Rattle.frame_decoder.proofs.MaskedScores.{masked, weight, own_score, alone, zeros_score}
+use Rattle.frame_decoder.proofs.Common.{◌<ℤ◌, zeros_score}
+use Rattle.frame_decoder.proofs.SignedScores.{agree_left, own_some}
+use Rattle.frame_decoder.specs.Signs.{KeepSigns}
 use Rattle.frame_decoder.proofs.FormatChoice.{Below, IsAmong, chosen_is, candidate_below, first_found, silent_shown}
 use Rattle.frame_decoder.proofs.FormatCodewords.{bits_least, length-symbols_in}
-use Rattle.frame_decoder.proofs.ShownSymbols.{lt_true, le_of_false, lt_of_true, kept_is, count_is, some_left, positive}
+use Rattle.frame_decoder.proofs.ShownSymbols.{lt_true, le_of_false, lt_of_true}
 use Rattle.frame_decoder.proofs.Unreplaced.{zeros_kept}
 use Rattle.frame_decoder.proofs.ZeroCodewords.{best_zero_codeword_allowed, best_zero_codeword_greatest, best_zero_codeword-same}
 
@@ -100,52 +102,36 @@ IsUnsharedIn {R} format_of replaced rate w =
     AgreeElsewhere replaced (symbols_in (format_of rate) w) (symbols_in (format_of r) v) →
     (r ≡ rate) × (v ≡ w)
 
-abbrev good_frame : {R : Type 0} → R → List Bool → ℕ → DecodedFrame R
+abbrev good_frame : {R : Type 0} → R → List Bool → ℤ → DecodedFrame R
 good_frame rate information m =
-    record { rate = rate; good = true; bits = information; score = pos m }
+    record { rate = rate; good = true; bits = information; score = m }
 
 -- the codeword of a frame as a decoded frame
-shown_own : {R : Type 0} (rate : R) (format : FrameFormat R) (information : List Bool) (m : ℕ) → 0 < m →
+shown_own : {R : Type 0} (rate : R) (format : FrameFormat R) (information : List Bool) (m : ℤ) → pos 0 <ℤ m →
     format.rate ≡ rate → length information ≡ format.information →
-    frame_in format (sent_bits format information) (pos m) ≡ good_frame rate information m
+    frame_in format (sent_bits format information) m ≡ good_frame rate information m
 shown_own {R} rate format information m some named long =
     let with : R → Bool → List Bool → DecodedFrame R =
-    λ r good bits. record { rate = r; good = good; bits = bits; score = pos m } in
-    ap (λ (r : R). with r (int_lt (pos 0) (pos m))
+    λ r good bits. record { rate = r; good = good; bits = bits; score = m } in
+    ap (λ (r : R). with r (int_lt (pos 0) m)
     (take format.information (sent_bits format information))) named
     ∙ ap (λ (good : Bool). with rate good (take format.information (sent_bits format information)))
-    (lt_true (pos 0) (pos m) (omega (arith, ints, some)))
+    (lt_true (pos 0) m some)
     ∙ ap (with rate true) (front_is format information long)
 
 -- a codeword of a rate that is the sent one
 frame_same : {R : Type 0} (format_of : R → FrameFormat R) (softs : List ℤ) (rate r : R)
-    (information : List Bool) (v : Codeword) (m : ℕ) → 0 < m → (format_of rate).rate ≡ rate →
-    length information ≡ (format_of rate).information →
-    score_in softs (format_of rate) (sent_codeword (format_of rate) information) ≡ pos m →
-    r ≡ rate → v ≡ sent_codeword (format_of rate) information →
+    (information : List Bool) (v : Codeword) →
+    let w = sent_codeword (format_of rate) information in
+    let m = score_in softs (format_of rate) w in
+    pos 0 <ℤ m → (format_of rate).rate ≡ rate → length information ≡ (format_of rate).information →
+    r ≡ rate → v ≡ w →
     frame_in (format_of r) v.bits (score_in softs (format_of r) v) ≡ good_frame rate information m
-frame_same {R} format_of softs rate r information v m some named long own rates codewords =
+frame_same {R} format_of softs rate r information v some named long rates codewords =
     let w = sent_codeword (format_of rate) information in
     ap (λ (u : Codeword). frame_in (format_of r) u.bits (score_in softs (format_of r) u)) codewords
     ∙ ap (λ (q : R). frame_in (format_of q) w.bits (score_in softs (format_of q) w)) rates
-    ∙ ap (frame_in (format_of rate) w.bits) own
-    ∙ shown_own rate (format_of rate) information m some named long
-
--- a codeword that scores as much as the sent one is the sent one
-no_other : {R : Type 0} (format_of : R → FrameFormat R) (n : ℕ) (replaced : List ℕ) (rate r : R)
-    (w v : Codeword) → 0 < n → IsUnsharedIn format_of replaced rate w →
-    IsAllowed Zero (bits_in (format_of r)) v →
-    pos (n * weight (is_replaced replaced) 0 (symbols_in (format_of rate) w))
-    ≤ℤ score_in (masked n (is_replaced replaced) 0 (symbols_in (format_of rate) w)) (format_of r) v →
-    (r ≡ rate) × (v ≡ w)
-no_other format_of n replaced rate r w v some unshared allowed reaches =
-    let xs = symbols_in (format_of rate) w in
-    let ys = symbols_in (format_of r) v in
-    let size = length-symbols_in (format_of rate) w in
-    let same : length xs ≡ length ys = size ∙ sym (length-symbols_in (format_of r) v) in
-    unshared r v allowed
-    (λ i lt h.
-    alone n (is_replaced replaced) xs ys some same reaches i (omega (arith, lt, size)) h)
+    ∙ shown_own rate (format_of rate) information (score_in softs (format_of rate) w) some named long
 
 -- what is known of the codewords among which each rate's candidate is
 pub record AreCodewords {R : Type 0} (format_of : R → FrameFormat R) (softs : List ℤ)
@@ -153,83 +139,60 @@ pub record AreCodewords {R : Type 0} (format_of : R → FrameFormat R) (softs : 
   pub allowed : (r : R) → All (IsAllowed Zero (bits_in (format_of r))) (codewords r)
   pub first : (r : R) → take 1 (codewords r) ≡ codeword_in softs (format_of r) ∷ []
 
-masked_chosen : {R : Type 0} (format_of : R → FrameFormat R) (rates : List R) (n : ℕ) (replaced : List ℕ)
-    (rate : R) (information : List Bool) (codewords : R → List Codeword) → 0 < n →
-    (format_of rate).rate ≡ rate → IsAmong rate rates →
-    length information ≡ (format_of rate).information →
-    let w = sent_codeword (format_of rate) information in
-    let xs = symbols_in (format_of rate) w in
-    let out = is_replaced replaced in
-    let kept = masked n out 0 xs in
-    0 < n * weight out 0 xs → IsUnsharedIn format_of replaced rate w → AreCodewords format_of kept codewords →
-    rising None (map (λ r. candidate_of kept (format_of r) (codewords r)) rates)
-    ≡ Some (good_frame rate information (n * weight out 0 xs))
-masked_chosen {R} format_of rates n replaced rate information codewords some named among long more unshared
-    known =
-    let format = format_of rate in
-    let w = sent_codeword format information in
-    let xs = symbols_in format w in
-    let out = is_replaced replaced in
-    let kept = masked n out 0 xs in
-    let m = n * weight out 0 xs in
-    let d : DecodedFrame R = good_frame rate information m in
-    let own : score_in kept format w ≡ pos m = own_score n out xs in
-    let same : (r : R) (v : Codeword) → IsAllowed Zero (bits_in (format_of r)) v →
-    pos m ≤ℤ score_in kept (format_of r) v → (r ≡ rate) × (v ≡ w) = λ r v allowed reaches.
-    no_other format_of n replaced rate r w v some unshared allowed reaches in
-    let low : (r : R) (v : Codeword) → IsAllowed Zero (bits_in (format_of r)) v →
-    Below d (frame_in (format_of r) v.bits (score_in kept (format_of r) v)) = λ r v allowed.
-    let s = score_in kept (format_of r) v in
-    ⊎_elim
-    (λ (t : int_lt s (pos m) ≡ true). inr (lt_of_true s (pos m) t))
-    (λ (t : int_lt s (pos m) ≡ false).
-    let e = same r v allowed (le_of_false s (pos m) t) in
-    inl (frame_same format_of kept rate r information v m more named long own e.0 e.1))
-    (cases_Bool (int_lt s (pos m))) in
-    let reach : pos m ≤ℤ score_in kept format (codeword_in kept format) =
-    subst (λ (z : ℤ). z ≤ℤ score_in kept format (codeword_in kept format)) own
-    (codeword_in_greatest kept format w (codeword_allowed format information long)) in
-    let found : codeword_in kept format ≡ w =
-    (same rate (codeword_in kept format) (codeword_in_allowed kept format) reach).1 in
-    let right : is_right format (codeword_in kept format).bits ≡ true =
-    ap (λ (v : Codeword). is_right format v.bits) found ∙ codeword_right format information long in
-    chosen_is d (λ r. candidate_of kept (format_of r) (codewords r)) rate rates among
-    (λ r. candidate_below d kept (format_of r) (codewords r)
-    (λ i v b. low r (get_or (codewords r) i v) (known.allowed r i v b)))
-    (ap (option_map (λ v. frame_in format v.bits (score_in kept format v)))
-    (first_found (λ v. is_right format v.bits) (codewords rate) (codeword_in kept format) (known.first rate)
-    right)
-    ∙ ap Some
-    (frame_same format_of kept rate rate information (codeword_in kept format) m more named long own refl
-    found))
-
--- soft values that show the symbols of a frame which no other codeword shares have that frame chosen
-pub sent_chosen : {R : Type 0} (format_of : R → FrameFormat R) (rates : List R) (n : ℕ) (replaced : List ℕ)
+-- Soft values with the signs of the symbols of a frame, which no other codeword shares, have that frame chosen,
+-- whatever their sizes: its codeword agrees with what is kept of them, and no other one as well.
+pub signs_chosen : {R : Type 0} (format_of : R → FrameFormat R) (rates : List R) (replaced : List ℕ)
     (rate : R) (information : List Bool) (softs : List ℤ) (codewords : List ℤ → R → List Codeword) →
     ((r : R) → (format_of r).rate ≡ r) → ((r : R) → IsAmong r rates) →
     ((kept : List ℤ) → AreCodewords format_of kept (codewords kept)) →
     let w = sent_codeword (format_of rate) information in
     let kept = unreplaced replaced softs in
-    0 < n → length replaced < 384 → length softs ≡ 384 →
+    length replaced < 384 → length softs ≡ 384 →
     length information ≡ (format_of rate).information →
-    ShowSymbols replaced n (symbols_in (format_of rate) w) softs →
+    KeepSigns replaced (symbols_in (format_of rate) w) softs →
     IsUnsharedIn format_of replaced rate w →
     rising None (map (λ r. candidate_of kept (format_of r) (codewords kept r)) rates)
-    ≡ Some (good_frame rate information (n * kept_count replaced))
-sent_chosen {R} format_of rates n replaced rate information softs codewords named among known some few long
-    long' shows unshared =
-    let w = sent_codeword (format_of rate) information in
-    let out = is_replaced replaced in
-    let xs = symbols_in (format_of rate) w in
-    let size = length-symbols_in (format_of rate) w in
-    let kept = masked n out 0 xs in
-    let more : 0 < n * weight out 0 xs =
-    positive n (weight out 0 xs) some (some_left replaced xs few size) in
-    ap (λ (ks : List ℤ). rising None (map (λ r. candidate_of ks (format_of r) (codewords ks r)) rates))
-    (kept_is n replaced xs softs long size shows)
-    ∙ masked_chosen format_of rates n replaced rate information (codewords kept) some (named rate)
-    (among rate) long' more unshared (known kept)
-    ∙ ap (λ (k : ℕ). Some (good_frame rate information (n * k))) (count_is replaced xs size)
+    ≡ Some (good_frame rate information (score_in kept (format_of rate) w))
+signs_chosen {R} format_of rates replaced rate information softs codewords named among known few long long'
+    keeps unshared =
+    let format = format_of rate in
+    let w = sent_codeword format information in
+    let xs = symbols_in format w in
+    let size = length-symbols_in format w in
+    let kept = unreplaced replaced softs in
+    let all = known kept in
+    let m = score_in kept format w in
+    let more : pos 0 <ℤ m = own_some replaced xs softs few long size keeps in
+    let d : DecodedFrame R = good_frame rate information m in
+    let same : (r : R) (v : Codeword) → IsAllowed Zero (bits_in (format_of r)) v →
+    m ≤ℤ score_in kept (format_of r) v → (r ≡ rate) × (v ≡ w) =
+    λ r v allowed reaches.
+    unshared r v allowed
+    (agree_left replaced xs (symbols_in (format_of r) v) softs long size
+    (length-symbols_in (format_of r) v) keeps reaches) in
+    let low : (r : R) (v : Codeword) → IsAllowed Zero (bits_in (format_of r)) v →
+    Below d (frame_in (format_of r) v.bits (score_in kept (format_of r) v)) = λ r v allowed.
+    let s = score_in kept (format_of r) v in
+    ⊎_elim
+    (λ (t : int_lt s m ≡ true). inr (lt_of_true s m t))
+    (λ (t : int_lt s m ≡ false).
+    let e = same r v allowed (le_of_false s m t) in
+    inl (frame_same format_of kept rate r information v more (named rate) long' e.0 e.1))
+    (cases_Bool (int_lt s m)) in
+    let found : codeword_in kept format ≡ w =
+    (same rate (codeword_in kept format) (codeword_in_allowed kept format)
+    (codeword_in_greatest kept format w (codeword_allowed format information long'))).1 in
+    let right : is_right format (codeword_in kept format).bits ≡ true =
+    ap (λ (v : Codeword). is_right format v.bits) found ∙ codeword_right format information long' in
+    chosen_is d (λ r. candidate_of kept (format_of r) (codewords kept r)) rate rates (among rate)
+    (λ r. candidate_below d kept (format_of r) (codewords kept r)
+    (λ i v b. low r (get_or (codewords kept r) i v) (all.allowed r i v b)))
+    (ap (option_map (λ v. frame_in format v.bits (score_in kept format v)))
+    (first_found (λ v. is_right format v.bits) (codewords kept rate) (codeword_in kept format)
+    (all.first rate) right)
+    ∙ ap Some
+    (frame_same format_of kept rate rate information (codeword_in kept format) more (named rate) long' refl
+    found))
 
 -- the best codewords alone
 pub best_codewords : {R : Type 0} (format_of : R → FrameFormat R) (kept : List ℤ) →

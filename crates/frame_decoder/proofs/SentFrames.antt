@@ -5,7 +5,12 @@ use Rattle.frame_decoder.proofs.Common.{frame_of, unreplaced, frame_codeword, Is
 use Rattle.frame_decoder.proofs.Chosen.{as_decoded, decoded_is}
 use Rattle.frame_decoder.proofs.RateCodewords.{bits_are}
 use Rattle.frame_decoder.proofs.FormatChoice.{IsAmong}
-use Rattle.frame_decoder.proofs.SentFormats.{IsUnsharedIn, best_codewords, sent_chosen}
+use Rattle.frame_decoder.proofs.Common.{true, ℤ, code_symbols, data_shape, length-sent, Decoded}
+use Rattle.quality_bits.specs.TrafficCodewords.{repeats_of}
+use Rattle.frame_decoder.specs.TrafficFrames.{frame_symbols}
+use Rattle.frame_decoder.proofs.SentFormats.{IsUnsharedIn, best_codewords, signs_chosen}
+use Rattle.frame_decoder.proofs.SignedScores.{shown_keep, shown_score}
+use Rattle.frame_decoder.specs.Signs.{IsDecodedBySigns}
 
 -- the rates, the lowest first
 abbrev pub rates : List Rate
@@ -24,14 +29,27 @@ unfolding symbols_in sent
 unshared_in replaced rate w unshared r v allowed agree =
     unshared r v (subst (λ (n : ℕ). IsAllowed Zero n v) (bits_are r) allowed) agree
 
-pub sent_frame : IsSentFrameDecoded
+pub signs_frame : IsDecodedBySigns
 unfolding frame_of symbols_in sent
-sent_frame n replaced rate information softs some few long long' shows unshared =
+signs_frame replaced rate information softs few long long' keeps unshared =
     let kept = unreplaced replaced softs in
     let codeword = codeword_in kept (format_of R9600) in
     sym (decoded_is replaced softs)
     ∙ ap (λ (best : Option (DecodedFrame Rate)).
     as_decoded (good_or (format_of R9600) codeword.bits (score_in kept (format_of R9600) codeword) best))
-    (sent_chosen format_of rates n replaced rate information softs
-    (λ ks r. codeword_in ks (format_of r) ∷ []) (λ r. refl) among (best_codewords format_of) some few long long'
-    shows (unshared_in replaced rate (frame_codeword rate information) unshared))
+    (signs_chosen format_of rates replaced rate information softs
+    (λ ks r. codeword_in ks (format_of r) ∷ []) (λ r. refl) among (best_codewords format_of) few long long'
+    keeps (unshared_in replaced rate (frame_codeword rate information) unshared))
+
+-- one number times the signs has the signs, and its sum is the score
+pub sent_frame : IsSentFrameDecoded
+unfolding sent
+sent_frame n replaced rate information softs some few long long' shows unshared =
+    let w = frame_codeword rate information in
+    let xs = frame_symbols rate w in
+    signs_frame replaced rate information softs few long long' (shown_keep n replaced xs softs some shows)
+    unshared
+    ∙ ap (λ (score : ℤ).
+    let frame : Decoded = record { rate = rate; good = true; bits = information; score = score } in frame)
+    (shown_score n replaced xs softs some long
+    (length-sent data_shape (repeats_of rate) (code_symbols w.start w.bits)) shows)

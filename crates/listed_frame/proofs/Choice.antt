@@ -13,7 +13,7 @@ use Rattle.frame_decoder.specs.declared.traffic.Decoded.{Decoded}
 use Rattle.frame_decoder.specs.Formats.{format_of, symbols_in, score_in, codeword_in, candidate_of, rising, frame_of}
 use Rattle.frame_decoder.specs.Formats as formats
 use Rattle.frame_decoder.specs.TrafficFrames.{frame_score, unreplaced, shown, best_candidate, good_or}
-use Rattle.frame_decoder.proofs.Chosen.{as_decoded, framed, framed_is, Is, more_is, lower_is, shown_is, decoded_is}
+use Rattle.frame_decoder.proofs.Chosen.{as_decoded, framed, framed_is, Is, lower_formats, more_is, lower_is, shown_is, decoded_is}
 use Rattle.frame_decoder.proofs.RateCodewords.{bits_are, codeword_is}
 use Rattle.frame_decoder.proofs.SentFrames.{rates}
 use Rattle.list_viterbi.specs.First.{first_codewords, codeword_of}
@@ -73,13 +73,7 @@ one_listed softs rate =
 low_listed : (k : ℕ) (softs : List ℤ) →
     Is (rising None (map (listed_choice k softs) (R1200 ∷ R2400 ∷ [])))
     (best_candidate softs (R2400 ∷ []))
-low_listed k softs =
-    ap (λ (c : Option (DecodedFrame Rate)). option_map as_decoded
-    (formats.preferred (listed_choice k softs R2400) (formats.preferred c None))) (one_listed softs R1200)
-    ∙ ap (λ (c : Option (DecodedFrame Rate)). option_map as_decoded
-    (formats.preferred c (formats.preferred (formats.candidate_in softs (format_of R1200)) None)))
-    (one_listed softs R2400)
-    ∙ lower_is softs
+low_listed k softs = rw (one_listed softs R1200, one_listed softs R2400) (lower_is softs)
 
 best_is : (k : ℕ) (softs : List ℤ) →
     Is (rising None (map (listed_choice k softs) rates)) (best_listed k softs)
@@ -108,32 +102,18 @@ listed_is k replaced softs =
     ∙ ap (λ (w : Codeword). good_or w.bits (best_listed k kept)) (codeword_is kept R9600)
 
 -- ---- with one codeword
-same_choice : (f g : Rate → Option (DecodedFrame Rate)) → ((r : Rate) → f r ≡ g r) →
-    (rs : List Rate) → map f rs ≡ map g rs
-same_choice f g same [] = refl
-same_choice f g same (r ∷ rs) =
-    ap (λ (c : Option (DecodedFrame Rate)). c ∷ map f rs) (same r)
-    ∙ ap (λ (cs : List (Option (DecodedFrame Rate))). g r ∷ cs) (same_choice f g same rs)
-
-each_one : (softs : List ℤ) (rate : Rate) →
-    listed_choice 1 softs rate ≡ formats.candidate_in softs (format_of rate)
-each_one softs R9600 = one_listed softs R9600
-each_one softs R4800 = one_listed softs R4800
-each_one softs R2400 = one_listed softs R2400
-each_one softs R1200 = one_listed softs R1200
-
 pub decoded_by_one_codeword : IsDecodedByOneCodeword
 unfolding frame_of
 decoded_by_one_codeword replaced softs =
     let kept = unreplaced replaced softs in
-    let codeword = codeword_in kept (format_of R9600) in
-    let score = score_in kept (format_of R9600) codeword in
-    sym (listed_is 1 replaced softs)
-    ∙ ap (λ (cs : List (Option (DecodedFrame Rate))).
-    as_decoded (formats.good_or (format_of R9600) codeword.bits score (rising None cs)))
-    (same_choice (listed_choice 1 kept) (λ r. formats.candidate_in kept (format_of r)) (each_one kept)
-    rates)
-    ∙ decoded_is replaced softs
+    let same : listed_in 1 kept ≡ frame_of (format_of R9600) lower_formats replaced softs =
+    rw (
+      one_listed kept R9600,
+      one_listed kept R4800,
+      one_listed kept R2400,
+      one_listed kept R1200,
+    ) refl in
+    sym (listed_is 1 replaced softs) ∙ ap as_decoded same ∙ decoded_is replaced softs
 
 -- ---- the code's choice
 none_lower : (c : Option (DecodedFrame Rate)) → c ≡ formats.preferred c None
@@ -155,43 +135,18 @@ pub decoded_by : (k : ℕ) (replaced : List ℕ) (softs kept : List ℤ) (format
     as_decoded (record f { score = score }) ≡ listed k replaced softs
 decoded_by k replaced softs kept format entries first eighth quarter half full low mid all f own score
     some is at codewords scores top a b d e l m n o g scored =
-    let highest : FrameFormat Rate = format_of R9600 in
-    let codeword = codeword_in kept highest in
     let choice : Rate → Option (DecodedFrame Rate) = listed_choice k kept in
-    let best : Option (DecodedFrame Rate) = rising None (map choice rates) in
-    let found : full ≡ choice R9600 =
-    e
-    ∙ candidate_is k kept format entries codewords scores
-    ∙ ap (λ (r : FrameFormat Rate). candidate_of kept r (codewords_in k kept r)) at in
-    let lows : low ≡ formats.preferred (choice R2400) (formats.preferred (choice R1200) None) =
-    l
-    ∙ ap (λ (c : Option (DecodedFrame Rate)). formats.preferred c eighth) b
-    ∙ ap (λ (c : Option (DecodedFrame Rate)). formats.preferred (choice R2400) c)
-    (a ∙ none_lower (choice R1200)) in
-    let mids : mid
-    ≡ formats.preferred (choice R4800)
-    (formats.preferred (choice R2400) (formats.preferred (choice R1200) None)) =
-    m
-    ∙ ap (λ (c : Option (DecodedFrame Rate)). formats.preferred c low) d
-    ∙ ap (λ (c : Option (DecodedFrame Rate)). formats.preferred (choice R4800) c) lows in
-    let chosen : all ≡ best =
-    n
-    ∙ ap (λ (c : Option (DecodedFrame Rate)). formats.preferred c mid) found
-    ∙ ap (λ (c : Option (DecodedFrame Rate)). formats.preferred (choice R9600) c) mids in
-    let same : codeword_of first ≡ codeword =
-    best_bits k kept format entries first some codewords top
-    ∙ ap (λ (r : FrameFormat Rate). codeword_in kept r) at in
-    let own_is : own ≡ score_in kept highest codeword =
-    o
-    ∙ best_score kept format entries first scores top
-    ∙ ap (λ (r : FrameFormat Rate). score_in kept r (codeword_of first)) at
-    ∙ ap (score_in kept highest) same in
+    let first_codeword = codeword_in kept format in
+    let same : codeword_of first ≡ first_codeword =
+    best_bits k kept format entries first some codewords top in
+    let own_is : own ≡ score_in kept format first_codeword =
+    o ∙ best_score kept format entries first scores top ∙ ap (score_in kept format) same in
+    let found : full ≡ candidate_of kept format (codewords_in k kept format) =
+    e ∙ candidate_is k kept format entries codewords scores in
+    let best : all ≡ rising None (map choice rates) =
+    rw (n, m, l, a ∙ none_lower (choice R1200), b, d, found, at) refl in
     let shown : f ≡ listed_in k kept =
-    g
-    ∙ ap (λ (r : FrameFormat Rate). formats.good_or r first.word.bits own all) at
-    ∙ ap (λ (w : Codeword). formats.good_or highest w.bits own all) same
-    ∙ ap (λ (z : ℤ). formats.good_or highest codeword.bits z all) own_is
-    ∙ ap (formats.good_or highest codeword.bits (score_in kept highest codeword)) chosen in
+    g ∙ ap (λ (w : Codeword). formats.good_or format w.bits own all) same ∙ rw (own_is, best, at) refl in
     ap (λ (z : ℤ). as_decoded (record f { score = z })) scored
     ∙ ap as_decoded shown
     ∙ ap (λ (ks : List ℤ). as_decoded (listed_in k ks)) is

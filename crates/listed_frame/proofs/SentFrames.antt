@@ -1,17 +1,22 @@
 -- A sent frame is shown, however many codewords are listed.
 use Rattle.std.proofs.Common.{ℕ, ◌<◌, List, refl, sym, ap, ◌∙◌, arith, ℤ}
-use Rattle.std.specs.Prelude.{Option}
+use Rattle.std.specs.Prelude.{Option, true}
+use Rattle.conv_code.specs.ConvCode.{code_symbols}
+use Rattle.quality_bits.specs.TrafficCodewords.{repeats_of}
 use Rattle.quality_bits.specs.declared.rate.Rate.{Rate}
 use Rattle.quality_bits.specs.declared.rate.Rate.TheVariants.{R9600, R4800, R2400, R1200}
-use Rattle.symbol_path.specs.SentOrder.{sent}
+use Rattle.symbol_path.specs.SentOrder.{data_shape, sent}
+use Rattle.symbol_path.proofs.Agreement.{length-sent}
 use Rattle.frame_decoder.specs.declared.formats.DecodedFrame.{DecodedFrame}
 use Rattle.frame_decoder.specs.Formats.{format_of, symbols_in, codeword_in, score_in, good_or}
-use Rattle.frame_decoder.specs.TrafficFrames.{unreplaced}
+use Rattle.frame_decoder.specs.TrafficFrames.{frame_symbols, unreplaced}
+use Rattle.frame_decoder.specs.declared.traffic.Decoded.{Decoded}
 use Rattle.frame_decoder.specs.Laws.{frame_codeword}
 use Rattle.frame_decoder.proofs.Chosen.{as_decoded}
 use Rattle.frame_decoder.proofs.SentFrames.{rates, among, unshared_in}
-use Rattle.frame_decoder.proofs.SentFormats.{AreCodewords, sent_chosen}
-use Rattle.listed_frame.specs.Laws.{IsSentFrameListed}
+use Rattle.frame_decoder.proofs.SentFormats.{AreCodewords, signs_chosen}
+use Rattle.frame_decoder.proofs.SignedScores.{shown_keep, shown_score}
+use Rattle.listed_frame.specs.Laws.{IsListedBySigns, IsSentFrameListed}
 use Rattle.listed_frame.proofs.Choice.{count_of, listed_codewords, listed_is}
 use Rattle.listed_frame.proofs.FirstCodewords.{codewords_allowed, best_first}
 
@@ -27,14 +32,27 @@ are_codewords k some kept = record {
   first = λ r. best_first (count_of k r) kept (format_of r) (some_listed k r some);
 }
 
-pub sent_frame_listed : IsSentFrameListed
+pub signs_frame_listed : IsListedBySigns
 unfolding symbols_in sent
-sent_frame_listed k n replaced rate information softs listing some few long long' shows unshared =
+signs_frame_listed k replaced rate information softs listing few long long' keeps unshared =
     let kept = unreplaced replaced softs in
     let codeword = codeword_in kept (format_of R9600) in
     sym (listed_is k replaced softs)
     ∙ ap (λ (best : Option (DecodedFrame Rate)).
     as_decoded (good_or (format_of R9600) codeword.bits (score_in kept (format_of R9600) codeword) best))
-    (sent_chosen format_of rates n replaced rate information softs (listed_codewords k) (λ r. refl) among
-    (are_codewords k listing) some few long long' shows
+    (signs_chosen format_of rates replaced rate information softs (listed_codewords k) (λ r. refl) among
+    (are_codewords k listing) few long long' keeps
     (unshared_in replaced rate (frame_codeword rate information) unshared))
+
+-- one number times the signs has the signs, and its sum is the score
+pub sent_frame_listed : IsSentFrameListed
+unfolding sent
+sent_frame_listed k n replaced rate information softs listing some few long long' shows unshared =
+    let w = frame_codeword rate information in
+    let xs = frame_symbols rate w in
+    signs_frame_listed k replaced rate information softs listing few long long'
+    (shown_keep n replaced xs softs some shows) unshared
+    ∙ ap (λ (score : ℤ).
+    let frame : Decoded = record { rate = rate; good = true; bits = information; score = score } in frame)
+    (shown_score n replaced xs softs some long
+    (length-sent data_shape (repeats_of rate) (code_symbols w.start w.bits)) shows)

@@ -2,7 +2,8 @@
 use Rattle.std.specs.Prelude.{◌≡◌, ℕ, ◌*◌, ◌<◌, Bool, true, List, length, ℤ, pos}
 use Rattle.quality_bits.specs.TrafficCodewords.{information_of}
 use Rattle.quality_bits.specs.declared.rate.Rate.{Rate}
-use Rattle.frame_decoder.specs.TrafficFrames.{frame_symbols, decoded}
+use Rattle.frame_decoder.specs.Signs.{KeepSigns}
+use Rattle.frame_decoder.specs.TrafficFrames.{decoded, frame_score, frame_symbols, unreplaced}
 use Rattle.frame_decoder.specs.Laws.{frame_codeword, ShowSymbols, IsUnshared, kept_count}
 use Rattle.listed_frame.specs.ListedFrames.{listed}
 
@@ -26,4 +27,20 @@ IsSentFrameListed =
       good = true;
       bits = information;
       score = pos (strength * kept_count replaced);
+    }
+
+-- so do soft values with the signs of these symbols, whatever their sizes: the score is what they
+-- add up to
+abbrev pub IsListedBySigns : Type 0
+IsListedBySigns =
+    (k : ℕ) (replaced : List ℕ) (rate : Rate) (information : List Bool) (softs : List ℤ) →
+    let w = frame_codeword rate information in
+    0 < k → length replaced < 384 → length softs ≡ 384 →
+    length information ≡ information_of rate → KeepSigns replaced (frame_symbols rate w) softs →
+    IsUnshared replaced rate w →
+    listed k replaced softs ≡ record {
+      rate = rate;
+      good = true;
+      bits = information;
+      score = frame_score (unreplaced replaced softs) rate w;
     }

@@ -1,6 +1,7 @@
 //! Laws of the definition: each function does nothing, and its contract is the law.
 
-ghost use Rattle.listed_frame.specs.Laws.{IsDecodedByOneCodeword, IsSentFrameListed};
+ghost use Rattle.listed_frame.specs.Laws.{IsDecodedByOneCodeword, IsListedBySigns};
+ghost use Rattle.listed_frame.specs.Laws.{IsSentFrameListed};
 
 /// With one codeword of each rate the frame is that of the best codewords.
 pub fn listing_one_codeword_changes_nothing()
@@ -13,4 +14,10 @@ pub fn listing_one_codeword_changes_nothing()
 /// symbols there.
 pub fn sent_frame_is_listed()
     ensures { IsSentFrameListed }
+{}
+
+/// So it does where they have the symbols' signs and none is 0, whatever their sizes: its score is
+/// what they add up to.
+pub fn sent_frame_is_listed_by_signs()
+    ensures { IsListedBySigns }
 {}

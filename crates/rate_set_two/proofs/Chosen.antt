@@ -13,7 +13,7 @@ use Rattle.frame_decoder.specs.Formats as formats
 use Rattle.frame_decoder.specs.TrafficFrames.{unreplaced}
 use Rattle.rate_set_two.specs.declared.traffic.Decoded2.{Decoded2}
 use Rattle.rate_set_two.specs.TrafficFrames.{format_of, frame_score, has_quality, shown, preferred, best_candidate, not_good, good_or}
-use Rattle.rate_set_two.specs.TrafficFrames.{rate_set_2, decoded2}
+use Rattle.rate_set_two.specs.TrafficFrames.{decoded2}
 use Rattle.rate_set_two.proofs.RateFormats.{codeword_is}
 
 -- a frame of the formats as a frame of rate set 2
@@ -49,13 +49,8 @@ best_is : (softs : List ℤ) (rate : Rate2) (rates : List Rate2) (best : Option 
     ≡ best_candidate softs (rate ∷ rates)
 best_is softs rate rates best is =
     let w = codeword_in softs (format_of rate) in
-    let right = has_quality rate w.bits in
-    let lower : Option Decoded2 = best_candidate softs rates in
-    let frame : Codeword → Decoded2 = λ v. shown rate v.bits (frame_score softs rate v) in
-    more_is (framed softs rate) w best right
-    ∙ ap (preferred right (as_decoded (framed softs rate w))) is
-    ∙ ap (λ (d : Decoded2). preferred right d lower) (framed_is softs rate w)
-    ∙ ap (λ (v : Codeword). preferred (has_quality rate v.bits) (frame v) lower) (codeword_is softs rate)
+    more_is (framed softs rate) w best (has_quality rate w.bits)
+    ∙ rw (is, framed_is softs rate w, codeword_is softs rate) refl
 
 -- what is shown
 either_good : (b : Bool) (best : DecodedFrame Rate2) (bits : List Bool) →
@@ -93,8 +88,5 @@ decoded_is replaced softs =
     let half = best_is kept R7200 (R3600 ∷ R1800 ∷ []) (step R3600 (step R1800 None)) quarter in
     let full = best_is kept R14400 (R7200 ∷ R3600 ∷ R1800 ∷ [])
     (step R7200 (step R3600 (step R1800 None))) half in
-    let best : Option Decoded2 = best_candidate kept rate_set_2 in
     shown_is codeword.bits score (step R14400 (step R7200 (step R3600 (step R1800 None))))
-    ∙ ap (good_or codeword.bits score) full
-    ∙ ap (λ (z : ℤ). good_or codeword.bits z best) (score_is kept codeword)
-    ∙ ap (λ (w : Codeword). good_or w.bits (frame_score kept R14400 w) best) (codeword_is kept R14400)
+    ∙ rw (full, score_is kept codeword, codeword_is kept R14400) refl

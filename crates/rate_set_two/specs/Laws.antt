@@ -5,12 +5,15 @@ use Rattle.viterbi.specs.Best.{IsAllowed}
 use Rattle.viterbi.specs.Codewords.{Codeword}
 use Rattle.viterbi.specs.declared.codeword.Ends.TheVariants.{Zero}
 use Rattle.frame_decoder.specs.Laws.{ShowSymbols, AgreeElsewhere, kept_count}
+use Rattle.frame_decoder.specs.Signs.{KeepSigns}
+use Rattle.frame_decoder.specs.TrafficFrames.{unreplaced}
 use Rattle.symbol_path.specs.declared.rate_two.Rate2.{Rate2}
 use Rattle.symbol_path.specs.declared.rate_two.Rate2.TheVariants.{R14400}
 use Rattle.symbol_path.specs.RatesTwo.{information_of, frame_bits, symbols_of}
 use Rattle.symbol_path.specs.SentOrderTwo.{sent2}
 use Rattle.rate_set_two.specs.SentOrder.{gathered2}
-use Rattle.rate_set_two.specs.TrafficFrames.{frame_codeword, frame_symbols, decoded2}
+use Rattle.rate_set_two.specs.declared.traffic.Decoded2.{Decoded2}
+use Rattle.rate_set_two.specs.TrafficFrames.{frame_codeword, frame_score, frame_symbols, decoded2}
 
 -- ---- the sums
 -- soft values agree with what is sent as their sums agree with the code symbols
@@ -27,6 +30,11 @@ IsUnshared replaced rate w =
     (r : Rate2) (v : Codeword) → IsAllowed Zero (frame_bits r) v →
     AgreeElsewhere replaced (frame_symbols rate w) (frame_symbols r v) → (r ≡ rate) × (v ≡ w)
 
+-- a good frame with these information bits
+abbrev pub good_frame : Rate2 → List Bool → ℤ → Decoded2
+good_frame rate information score =
+    record { rate = rate; good = true; bits = information; score = score }
+
 -- soft values that show the symbols of a frame which no other codeword shares give that frame
 abbrev pub IsSentFrameDecoded : Type 0
 IsSentFrameDecoded =
@@ -35,12 +43,18 @@ IsSentFrameDecoded =
     0 < strength → length replaced < 384 → length softs ≡ 384 →
     length information ≡ information_of rate →
     ShowSymbols replaced strength (frame_symbols rate w) softs → IsUnshared replaced rate w →
-    decoded2 replaced softs ≡ record {
-      rate = rate;
-      good = true;
-      bits = information;
-      score = pos (strength * kept_count replaced);
-    }
+    decoded2 replaced softs ≡ good_frame rate information (pos (strength * kept_count replaced))
+
+-- so do soft values with the signs of these symbols, whatever their sizes: the score is what they
+-- add up to
+abbrev pub IsDecodedBySigns : Type 0
+IsDecodedBySigns =
+    (replaced : List ℕ) (rate : Rate2) (information : List Bool) (softs : List ℤ) →
+    let w = frame_codeword rate information in
+    length replaced < 384 → length softs ≡ 384 → length information ≡ information_of rate →
+    KeepSigns replaced (frame_symbols rate w) softs → IsUnshared replaced rate w →
+    decoded2 replaced softs ≡
+    good_frame rate information (frame_score (unreplaced replaced softs) rate w)
 
 -- where all soft values are 0, no frame is good, and the bits are zeros
 abbrev pub IsNothingGood : Type 0

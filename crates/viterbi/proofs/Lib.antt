@@ -9,6 +9,7 @@ pub mod Unique
 pub mod Taps
 pub mod Made
 pub mod Rooms
+pub mod Zipped
 pub mod Agreement
 pub mod Sent
 pub mod Traced

@@ -1,5 +1,6 @@
 pub mod Codewords
 pub mod Best
+pub mod Signs
 pub mod Laws
 pub mod States
 pub mod Survivors
