@@ -5,34 +5,36 @@ pub use Rattle.std.proofs.Common.{refl, replicate, rules, subst, suc, sym, take,
 pub use Rattle.std.proofs.Common.{◌++◌, ◌+◌, ◌-◌, ◌/◌, ◌<◌, ◌==◌, ◌^◌, ◌||◌, ◌∙◌, ◌∷◌, ◌≡◌, ◌≢◌, ◌≤◌, ◌⊎◌}
 pub use Rattle.std.proofs.Math.Bool.{beq}
 pub use Rattle.std.proofs.Math.IntN.{+ℤ_idl, +ℤ_idr}
-pub use Rattle.std.proofs.Math.Nat.{div-add-mod, div-add-mod', div-div-eq-div-mul, div-eq_of_eq-mul_left, mod-eq-sub-mul-div, mod_self}
-pub use Rattle.std.proofs.Math.Nat.{mul-add-div, mul-add-mod_self_left, mul-div-le, mul-le-mul_left, mul-le-mul_right, mul-pos}
+pub use Rattle.std.proofs.Math.Nat.{div-add-mod, div-add-mod', div-div-eq-div-mul, div-eq_of_eq-mul_left, lt_of_mul-lt-mul_left}
+pub use Rattle.std.proofs.Math.Nat.{mod-eq-sub-mul-div, mod_self, mul-add-div, mul-add-mod_self_left, mul-div-le, mul-le-mul_left}
+pub use Rattle.std.proofs.Math.Nat.{mul-le-mul_right, mul-lt-mul_of_pos_left, mul-pos}
 pub use Rattle.std.proofs.Math.Seq.{take-add, take-append-add, take-nil}
 pub use Rattle.std.proofs.lemmas.Bool.{and_from, and_left, and_parts, and_right, cases_Bool, cases_eq, cases_lt, cases_order, eq-eqb}
 pub use Rattle.std.proofs.lemmas.Bool.{eqb-false, eqb-true, false_from_ne_true, le-leb, le-ltb, leb-true, lt-leb, lt-ltb, ltb-true, ne_eqb}
 pub use Rattle.std.proofs.lemmas.Bool.{not-true, or_cases, or_left, or_right}
 pub use Rattle.std.proofs.lemmas.Grind.{flat_map-append}
-pub use Rattle.std.proofs.lemmas.Int.{by_lt_z, int_rem_euclid_is, ints}
-pub use Rattle.std.proofs.lemmas.List.{append-nil, drop-append-le, drop-drop, drop-replicate, drop-take, drop_at, ext_get_or}
-pub use Rattle.std.proofs.lemmas.List.{get_or-append-add, get_or-drop, get_or-map, get_or-replicate, get_or_append_left, length-map}
-pub use Rattle.std.proofs.lemmas.List.{length-replicate, length-take-le, map-append, nil_from_length, replicate-append-replicate}
-pub use Rattle.std.proofs.lemmas.List.{take-append-drop, take-append-le, take-replicate, take-take, take_all, take_at}
+pub use Rattle.std.proofs.lemmas.Int.{by_lt_z, int_rem_euclid_is, ints, unsigned_abs-mul}
+pub use Rattle.std.proofs.lemmas.List.{get_or-append-add, get_or-replicate, get_or_append_left, nil_from_length, replicate-append-replicate}
+pub use Rattle.std.proofs.lemmas.List.{drop-append-le, drop-replicate, length-replicate, length-take-le, take-append-drop, take-append-le}
+pub use Rattle.std.proofs.lemmas.List.{append-nil, ext_get_or, get_or-drop, get_or-map, length-map, length-take, map-append, take-replicate}
+pub use Rattle.std.proofs.lemmas.List.{drop-drop, drop-take, drop_at, take-take, take_all, take_at}
 pub use Rattle.std.proofs.lemmas.List.Elements.{All-append, All-cons, All-contains, All-contains_itself, All-get_or, All-head, All-map}
 pub use Rattle.std.proofs.lemmas.List.Elements.{All-nil, All-same, All-tail, All-weaker, Contains-append_left, Contains-append_right}
-pub use Rattle.std.proofs.lemmas.List.Elements.{filter-append}
+pub use Rattle.std.proofs.lemmas.List.Elements.{filter-append, length_all_zip}
 pub use Rattle.std.proofs.lemmas.List.Folds.{flat_map-map, list_all-append, list_all-map, list_all_at, list_any-append, list_any_at}
-pub use Rattle.std.proofs.lemmas.Nat.{div-mul-add, div_below, le-div, mod-mul-add, mod_below}
+pub use Rattle.std.proofs.lemmas.Nat.{div-mul-add, div_below, le-div, mod-mul-add, mod_below, mul-le}
 pub use Rattle.std.proofs.lemmas.Simd.{map-map}
+pub use Rattle.std.proofs.lemmas.Slice.Zip.{AllZip-long, AllZip-map}
 pub use Rattle.std.specs.Cmp.{booleans_Decides}
 pub use Rattle.std.specs.Cmp.Lexicographic.{pointwise, pointwise_decides}
-pub use Rattle.std.specs.List.{Contains, flat_map, list_all, list_any, range_with_len}
-pub use Rattle.std.specs.Option.{option_to_list}
-pub use Rattle.std.specs.Prelude.{if◌then◌else◌, int_le, int_lt, is_some, neg_ℤ, ◌*ℤ◌, ◌+ℤ◌, ◌-ℤ◌, ◌<ℤ◌, ◌≤ℤ◌}
+pub use Rattle.std.specs.List.{AllZip, Contains, flat_map, list_all, list_any, range_with_len}
+pub use Rattle.std.specs.Option.{option_map, option_to_list}
+pub use Rattle.std.specs.Prelude.{if◌then◌else◌, int_le, int_lt, is_some, neg_ℤ, unwrap_or, ◌*ℤ◌, ◌+ℤ◌, ◌-ℤ◌, ◌<ℤ◌}
 pub use Rattle.cdma_io.specs.SampleFile.{most_samples}
-pub use Rattle.cell_plan.proofs.Amplitudes.{pilot_amplitude, signal_of_carriers, walsh-pilot}
+pub use Rattle.cell_plan.proofs.Amplitudes.{chip_most, pilot_amplitude, signal_of_carriers, walsh-pilot}
 pub use Rattle.cell_plan.proofs.LaidPages.{size_large}
 pub use Rattle.cell_plan.proofs.Pieces.{no_sample}
-pub use Rattle.cell_plan.proofs.SentBits.{last_eight}
+pub use Rattle.cell_plan.proofs.SentBits.{continued_is, last_eight}
 pub use Rattle.cell_plan.proofs.SentMessages.{length-sending, length-sync, refilled_is, superframes_few, superframes_some, told_early}
 pub use Rattle.cell_plan.proofs.SyncFrames.{length-sync_frame_bits}
 pub use Rattle.cell_plan.specs.PageCycles.{Cycle, cycle_frame_bits, frame_scrambling, paging_frame_size}
@@ -46,10 +48,11 @@ unfoldable pub use Rattle.cell_plan.specs.Sampled.{made_samples}
 pub use Rattle.cell_plan.specs.Sendings.{padded_sending, superframes_a_sending, told_superframes}
 unfoldable pub use Rattle.cell_plan.specs.Sendings.{bits_before, continued_symbols, message_of, sync_frame_bits, sync_symbols}
 pub use Rattle.cell_plan.specs.Signal.{Carrier, amplitude, amplitudes, cycle_of, frames_of, level, level_of, paging_carrier, pilot_carrier}
-pub use Rattle.cell_plan.specs.Signal.{sample_of, scaled, symbol_at, sync_carrier, sync_carriers, traffic_carrier}
-unfoldable pub use Rattle.cell_plan.specs.Signal.{carriers, samples_of}
+pub use Rattle.cell_plan.specs.Signal.{scaled, symbol_at, sync_carrier, sync_carriers, traffic_carrier}
+unfoldable pub use Rattle.cell_plan.specs.Signal.{carriers, sample_of, samples_of}
 pub use Rattle.cell_plan.specs.Stated.{AreHeard, IsReceivable, IsStatedPaging}
-pub use Rattle.cell_plan.specs.TrafficFrames.{IsTrafficFrame, IsTrafficFrame2, cycled_frame, set_one, set_two}
+pub use Rattle.cell_plan.specs.TrafficFrames.{AreTrafficFrames, IsTrafficFrame, IsTrafficFrame2, cycled_frame, frame_count, set_one}
+pub use Rattle.cell_plan.specs.TrafficFrames.{set_two}
 pub use Rattle.cell_plan.specs.Transmitter.{IsSendable, phase_at}
 pub use Rattle.cell_plan.specs.declared.frame_list.FrameList.{FrameList}
 pub use Rattle.cell_plan.specs.declared.frame_list.FrameList.TheVariants.{SetOne, SetTwo}
@@ -89,33 +92,28 @@ pub use Rattle.conv_code.proofs.Pairs.{symbols_at}
 pub use Rattle.conv_code.specs.ConvCode.{code_symbols, g0, g1, state_after, symbol}
 pub use Rattle.frame_decoder.proofs.BestCodewords.{best_codeword-same, own_is}
 pub use Rattle.frame_decoder.proofs.Gathered.{length-gathered_span}
-pub use Rattle.frame_decoder.proofs.MaskedScores.{alone, masked, own_score, weight}
 pub use Rattle.frame_decoder.proofs.Parts.{frames-more, frames-none, length-frames, take-frames, within}
+pub use Rattle.frame_decoder.proofs.RateCodewords.{bits_least}
 pub use Rattle.frame_decoder.proofs.Scores.{score_is}
-pub use Rattle.frame_decoder.proofs.SentFrames.{sent_frame}
-pub use Rattle.frame_decoder.specs.Laws.{AgreeElsewhere, IsUnshared, ShowSymbols, frame_codeword, kept_count}
+pub use Rattle.frame_decoder.proofs.SentFrames.{sent_frame, signs_frame}
+pub use Rattle.frame_decoder.proofs.ShownSymbols.{le_false, lt_true}
+pub use Rattle.frame_decoder.proofs.SignedScores.{agree_left, shown_keep}
+pub use Rattle.frame_decoder.specs.Laws.{AgreeElsewhere, IsUnshared, frame_codeword}
+pub use Rattle.frame_decoder.specs.Signs.{AreKept, KeepSigns}
 pub use Rattle.frame_decoder.specs.Spans.{Channel, channel_for, gathered_span, own_bits, score, sending, sent_symbols}
-pub use Rattle.frame_decoder.specs.TrafficFrames.{power_bit, decoded, frame_bits, frame_symbols, group_sum, group_sums, is_replaced}
+pub use Rattle.frame_decoder.specs.TrafficFrames.{decoded, frame_bits, frame_symbols, group_sum, group_sums, is_replaced, power_bit}
 pub use Rattle.frame_decoder.specs.TrafficFrames.{unreplaced}
 pub use Rattle.frame_decoder.specs.declared.span_format.FrameKind.{FrameKind}
 pub use Rattle.frame_decoder.specs.declared.span_format.FrameKind.TheVariants.{Paging}
 pub use Rattle.frame_decoder.specs.declared.traffic.Decoded.{Decoded}
-pub use Rattle.long_code.proofs.After.{after-after, after_lt, after_none, after_one, stepped}
-pub use Rattle.long_code.proofs.Before.{after-before, before_lt}
-pub use Rattle.long_code.proofs.Period.{IsState-after, IsState-before, after-injective}
-pub use Rattle.long_code.specs.LongCode.{IsState, after, paging_mask}
-unfoldable pub use Rattle.long_code.specs.LongCode.{long_chip, traffic_mask}
 pub use Rattle.heard_events.proofs.EventPlaces.{AreAt, IsAt, all_at, all_each}
-pub use Rattle.rake_finger.proofs.FingerTimes.{timed_in}
 pub use Rattle.heard_events.proofs.FrameBounds.{AreCloseAll}
-pub use Rattle.heard_events.proofs.TrafficGrowth.{frames_sooner, messages_sooner}
-pub use Rattle.rake_finger.proofs.FrameTimes.{known_between, known_le}
 pub use Rattle.heard_events.proofs.LegLists.{map_same}
 pub use Rattle.heard_events.proofs.MarkGrowth.{mark_is}
 pub use Rattle.heard_events.proofs.MarkStays.{OpensBehind, by_one_mark, frames_later, messages_later, opens_followed, pages_from_mark}
 pub use Rattle.heard_events.proofs.MarkStays.{pilot_alone}
 pub use Rattle.heard_events.proofs.MomentGrowth.{kept_new, kept_old}
-pub use Rattle.rake_finger.specs.Near.{AreClose, AreNear}
+pub use Rattle.heard_events.proofs.TrafficGrowth.{frames_sooner, messages_sooner}
 pub use Rattle.heard_events.specs.Events.{events, told_behind}
 unfoldable pub use Rattle.heard_events.specs.Events.{events_at, heard_within}
 pub use Rattle.heard_events.specs.FramesAlone.{traffic_channel}
@@ -130,34 +128,34 @@ pub use Rattle.heard_events.specs.Noted.{all_noted, body_noted, in_traffic_thres
 pub use Rattle.heard_events.specs.PagingEvents.{page_event, page_in, pages_behind, with_page}
 unfoldable pub use Rattle.heard_events.specs.PagingEvents.{bits_up_to, page_at, pages_at, pages_from}
 pub use Rattle.heard_events.specs.PagingStreams.{paging_bound, paging_stream}
-pub use Rattle.rake_finger.specs.Scrambled.{Scrambles, descrambled, unscrambled}
 pub use Rattle.heard_events.specs.Signaling.{capsule_with, message_events, message_heard, signal_in, signal_of}
 unfoldable pub use Rattle.heard_events.specs.Signaling.{message_at, messages_by, signal_at, signals_before}
-pub use Rattle.heard_events.specs.SoftFrames.{soft_frame, soft_frames, raw_at}
+pub use Rattle.heard_events.specs.SoftFrames.{raw_at, soft_frame, soft_frames}
 unfoldable pub use Rattle.heard_events.specs.SoftFrames.{frames_within}
 pub use Rattle.heard_events.specs.Streams.{Stream}
-pub use Rattle.rake_finger.specs.Streams.{frame_end, frame_softs, frame_start, is_in_file, is_within, known_at, known_by, known_now}
-pub use Rattle.rake_finger.specs.Streams.{span_first, span_frames}
 unfoldable pub use Rattle.heard_events.specs.Streams.{frame_own_bits}
 pub use Rattle.heard_events.specs.SyncEvents.{events_of, heard_in, with_message}
 unfoldable pub use Rattle.heard_events.specs.SyncEvents.{frames_before, heard_at, sync_capsule_at, sync_events_at}
-pub use Rattle.rake_finger.specs.Timing.{IsTimed}
-pub use Rattle.heard_events.specs.TrafficEvents.{all_sums, frame_event, frame_heard, if_followed, subchannel_sums, raw_by, raw_softs}
-unfoldable pub use Rattle.heard_events.specs.TrafficEvents.{power_bits_at, decoded_at, frames_by}
+pub use Rattle.heard_events.specs.TrafficEvents.{all_sums, frame_event, frame_heard, if_followed, raw_by, raw_softs, subchannel_sums}
+unfoldable pub use Rattle.heard_events.specs.TrafficEvents.{decoded_at, frames_by, power_bits_at}
 pub use Rattle.heard_events.specs.TrafficStreams.{ends_now, frame_state, frames_bound, frames_now, has_frame, replaced_in, stream_of}
 pub use Rattle.heard_events.specs.TrafficStreams.{traffic_start, traffic_stream}
 pub use Rattle.heard_events.specs.Tuning.{Tuning, sync_bound, sync_stream}
-pub use Rattle.rake_finger.specs.Paths.{fingers_of, modulo_code}
 pub use Rattle.heard_events.specs.declared.event.Event.{Event}
 pub use Rattle.heard_events.specs.declared.event.Event.TheVariants.{Pilot}
 pub use Rattle.heard_events.specs.declared.leg.Leg.{Leg}
 pub use Rattle.heard_events.specs.declared.mark.Mark.{Mark}
 pub use Rattle.heard_events.specs.declared.soft_frame.PowerControl.{PowerControl}
 pub use Rattle.heard_events.specs.declared.soft_frame.SoftFrame.{SoftFrame}
+pub use Rattle.long_code.proofs.After.{after-after, after_lt, after_none, after_one, stepped}
+pub use Rattle.long_code.proofs.Before.{after-before, before_lt}
+pub use Rattle.long_code.proofs.Period.{IsState-after, IsState-before, after-injective}
+pub use Rattle.long_code.specs.LongCode.{IsState, after, paging_mask}
+unfoldable pub use Rattle.long_code.specs.LongCode.{long_chip, traffic_mask}
 pub use Rattle.paging_message.proofs.Carried.{rate_large}
 pub use Rattle.paging_message.proofs.Chains.{is_there}
 pub use Rattle.paging_message.proofs.Cutting.{halves_more, mark_ends, part}
-pub use Rattle.paging_message.proofs.Layings.{below_more, below_push, framed_whole, not_begun}
+pub use Rattle.paging_message.proofs.Layings.{any_other, below_more, below_push, framed_whole, half_front, not_begun}
 pub use Rattle.paging_message.proofs.Readings.{reads_body, reads_capsule}
 pub use Rattle.paging_message.specs.Admitted.{HasMessage}
 pub use Rattle.paging_message.specs.HalfFrames.{half_frame_body}
@@ -190,23 +188,31 @@ pub use Rattle.quality_bits.specs.declared.kind.Kind.TheVariants.{M30}
 pub use Rattle.quality_bits.specs.declared.rate.Rate.{Rate}
 pub use Rattle.quality_bits.specs.declared.rate.Rate.TheVariants.{R1200, R2400, R4800, R9600}
 pub use Rattle.rake_finger.proofs.CoveredSums.{covered_sum-more, row_sign, same_parts}
-pub use Rattle.rake_finger.proofs.SoftValues.{pilot_is, soft_is, symbol_is}
-pub use Rattle.rake_finger.specs.Soft.{covered_from, despread_at, frame_chips, pilot_sum, soft, symbol_chips, symbol_sum, symbols}
-pub use Rattle.rake_finger.specs.Soft.{turned_part, window_chips}
+pub use Rattle.rake_finger.proofs.FingerTimes.{timed_in}
+pub use Rattle.rake_finger.proofs.FrameTimes.{known_between, known_le}
+pub use Rattle.rake_finger.proofs.SoftValues.{pilot_is, soft_is, symbol_is, turned_part-is}
+pub use Rattle.rake_finger.specs.Near.{AreClose, AreNear}
+pub use Rattle.rake_finger.specs.Paths.{fingers_of, modulo_code}
+pub use Rattle.rake_finger.specs.Scrambled.{Scrambles, descrambled, unscrambled}
+pub use Rattle.rake_finger.specs.Soft.{covered_from, despread_at, finger_place, frame_chips, pilot_sum, soft, symbol_chips, symbol_sum}
+pub use Rattle.rake_finger.specs.Soft.{symbols, turned_part, window_chips}
 unfoldable pub use Rattle.rake_finger.specs.Soft.{softs}
+pub use Rattle.rake_finger.specs.Streams.{frame_end, frame_softs, frame_start, is_in_file, is_within, known_at, known_by, known_now}
+pub use Rattle.rake_finger.specs.Streams.{span_first, span_frames}
+pub use Rattle.rake_finger.specs.Timing.{IsTimed}
 pub use Rattle.rake_finger.specs.declared.finger.Finger.{Finger}
 pub use Rattle.rake_finger.specs.declared.form.Form.{Form}
 pub use Rattle.rake_finger.specs.declared.form.Form.TheVariants.{Data, Sync}
 pub use Rattle.short_code.specs.Despread.{code_point, despread}
 pub use Rattle.short_code.specs.ShortCode.{pilot_chip}
 pub use Rattle.symbol_path.proofs.Agreement.{get_or-sent, length-sent}
+pub use Rattle.symbol_path.proofs.CodewordsTwo.{length-codeword_bits}
 pub use Rattle.symbol_path.proofs.Interleaving.{repeats_some, size_some}
 pub use Rattle.symbol_path.proofs.Permutation.{address-place, place_lt}
 pub use Rattle.symbol_path.proofs.PowerPlaces.{ArePairs, pairs_below, pairs_in_groups, pairs_neighbours, power_place_in_groups}
 pub use Rattle.symbol_path.proofs.SentOnceTwo.{kept_once}
 pub use Rattle.symbol_path.proofs.SentTwo.{get_or-sent2, length-sent2}
 pub use Rattle.symbol_path.proofs.SymbolChips.{on_again}
-pub use Rattle.symbol_path.proofs.CodewordsTwo.{length-codeword_bits}
 pub use Rattle.symbol_path.specs.FramesTwo.{codeword_bits}
 pub use Rattle.symbol_path.specs.Scrambling.{group_scrambling, power_place, power_start, scrambling, symbol_or_power_bit}
 unfoldable pub use Rattle.symbol_path.specs.Scrambling.{power_places, with_power_bits}
@@ -223,60 +229,66 @@ unfoldable pub use Rattle.sync_message.specs.SyncMessage.{sync_body, sync_capsul
 pub use Rattle.sync_message.specs.declared.fields.SyncFields.{SyncFields}
 unfoldable pub use Rattle.traffic_message.specs.Multiplex.{split_9600}
 pub use Rattle.traffic_message.specs.declared.body.TrafficBody.{TrafficBody}
-pub use Rattle.viterbi.proofs.Agreement.{agrees_alone}
+pub use Rattle.viterbi.proofs.Agreement.{signs_agree_alone}
 pub use Rattle.viterbi.proofs.Choices.{codewords_same}
-pub use Rattle.viterbi.proofs.Sent.{zero_codeword_best}
+pub use Rattle.viterbi.proofs.Sent.{zero_codeword_best, zeros_score}
 pub use Rattle.viterbi.proofs.Unique.{by_definition}
+pub use Rattle.viterbi.proofs.Zipped.{zipped_append, zipped_at, zipped_by_place}
 pub use Rattle.viterbi.specs.Best.{IsAllowed, IsBestCodeword}
-pub use Rattle.viterbi.specs.Laws.{signed}
 pub use Rattle.viterbi.specs.Codewords.{Codeword, best_codeword, correlation, score_of}
+pub use Rattle.viterbi.specs.Laws.{signed}
+pub use Rattle.viterbi.specs.Signs.{HasSign, HaveSigns}
 pub use Rattle.viterbi.specs.declared.codeword.Ends.TheVariants.{Free, Zero}
 pub use Rattle.walsh.proofs.RowTable.{orthogonal}
 pub use Rattle.walsh.specs.Walsh.{walsh}
 unfoldable pub use Rattle.walsh.specs.Walsh.{row_sum}
-pub use Rattle.clean_link.specs.CleanLaws.{AreZeroWithoutSync, FramesAreZeros, FramesComeBack, HaveSentSigns, IsMarkedWhereHeard}
-pub use Rattle.clean_link.specs.CleanLaws.{MarksAreTrue, SentCodewordsAreTheOnlyBest, WholeSendingsComeBack}
+pub use Rattle.clean_link.specs.BoundedNoise.{NoisyChannelsHaveSentSigns, NoisyCodewordsAreTheOnlyBest, NoisyStreamsShowSymbols, with_added}
+pub use Rattle.clean_link.specs.BoundedNoise.{AllBear, Bears, IsClosePair, IsCloseSample, IsNear, NoisyFramesComeBack, OtherCellsAreNoise}
+pub use Rattle.clean_link.specs.CleanLaws.{PagingCodewordsAreTheOnlyBest, SentCodewordsAreTheOnlyBest, SilentPagingFramesAreZeros}
+pub use Rattle.clean_link.specs.CleanLaws.{NoisyIsMarkedWhereHeard, NoisyPagingFramesComeBack, NoisySendingsComeBack, WholeSendingsComeBack}
+pub use Rattle.clean_link.specs.CleanLaws.{AreZeroWithoutSync, MarksAreTrue, PagingFramesComeBack, PagingHaveSentSigns, UnmarkedWithoutSync}
+pub use Rattle.clean_link.specs.CleanLaws.{IsMarkedWhereHeard, MarksTellTheRate, NoisyMarksAreTrue, NoisyPagesComeBack, SilentPagingIsZero}
+pub use Rattle.clean_link.specs.CleanLaws.{FramesAreZeros, FramesComeBack, HaveSentSigns, HearsSync, ShowsSync, ordered_symbols}
 pub use Rattle.clean_link.specs.CleanLink.{IsNoDirection, IsNotDirected, IsOnPath, IsTrueMark, IsTunedTo, events_of_channel}
 pub use Rattle.clean_link.specs.CleanLink.{first_sync_frame, heard_behind, is_whole, sending_begins, sending_ends, sending_event}
 pub use Rattle.clean_link.specs.CleanLink.{soft_strength, tuning_to, whole_sendings}
 unfoldable pub use Rattle.clean_link.specs.CleanLink.{sync_sent}
-pub use Rattle.clean_link.specs.DistinctFrames.{FullRateFramesAreDistinct, full_rate_symbols, is_hidden, is_kept, is_seen, lost_symbols}
-pub use Rattle.clean_link.specs.DistinctFrames.{shows_full_rate, tells_all_bits}
-unfoldable pub use Rattle.clean_link.specs.DistinctFrames.{stays_apart}
-pub use Rattle.clean_link.specs.DistinctPlan.{channel_on, HasMark, HasSetOne, HasSetTwo, bits_of, bits_of2, distinct_plan, first_channel}
+pub use Rattle.clean_link.specs.DistinctFrames.{AFullRateFrameIsDistinct, AreDistinctBySharing, AreDistinctBySharing2}
+pub use Rattle.clean_link.specs.DistinctFrames.{FullRateFramesAreDistinct, ZerosAreShared, full_rate_symbols, gives, is_hidden, is_kept}
+pub use Rattle.clean_link.specs.DistinctFrames.{is_known2, is_seen, lost_symbols, lost_symbols2, replaced_places, sharing, sharing2}
+pub use Rattle.clean_link.specs.DistinctFrames.{shown_of, shows_full_rate, some_information, tells_all_bits}
+unfoldable pub use Rattle.clean_link.specs.DistinctFrames.{codewords_giving, stays_apart}
+pub use Rattle.clean_link.specs.DistinctPlan.{HasMark, HasSetOne, HasSetTwo, bits_of, bits_of2, channel_on, distinct_plan, first_channel}
 pub use Rattle.clean_link.specs.DistinctPlan.{frame2_at, frame_at, on_row, second_channel, told_message}
-pub use Rattle.clean_link.specs.DistinctWorked.{AFullRateFrameIsDistinct, ZerosAreShared, replaced_places, some_information}
 pub use Rattle.clean_link.specs.HeardEach.{AreEventsOf, AreFramesBehind, AreMessagesBehind, EachChannelComesBack, FollowsOne, IsEventOf}
-pub use Rattle.clean_link.specs.HeardEach.{is_frame, is_message, is_page, is_sync}
-pub use Rattle.clean_link.specs.HeardFrames.{AreDistinct, IsAssigned, IsDistinctFrame, IsOnePilot, SendsSetOne, SendsSetTwo, SendsSymbols}
-pub use Rattle.clean_link.specs.HeardFrames.{ShowPowerBits, ShowFrame, frame_chip, frame_ends, frame_told, frames_of_channel, is_received}
-pub use Rattle.clean_link.specs.HeardFrames.{received_frames, replaced_of, sent_power_bits, sent_frame_event, told_on, codeword_symbols}
-unfoldable pub use Rattle.clean_link.specs.HeardFrames.{frames_sent, sent_bits}
-pub use Rattle.clean_link.specs.HeardPages.{KnownPage, PagesComeBack, ReadPage, end_chip, known_page, message_in, page_told, pages_numbered}
-pub use Rattle.clean_link.specs.HeardPages.{pages_of_channel, pages_within, placed_pages, round_sent, type_within}
+pub use Rattle.clean_link.specs.HeardEach.{NoEventIsDirectedByNoise, NoisyEachChannelComesBack, is_frame, is_message, is_page, is_sync}
+pub use Rattle.clean_link.specs.HeardFrames.{codeword_symbols, frames_of_channel, messages_of_channel, sent_frame_event, signals_received}
+pub use Rattle.clean_link.specs.HeardFrames.{IsDistinctFrame, SendsSymbols, ShowPowerBits, message_told, received_frames, sent_power_bits}
+pub use Rattle.clean_link.specs.HeardFrames.{AreDistinct, IsAssigned, SendsSetOne, SendsSetTwo, is_received, replaced_of, signal_sent}
+pub use Rattle.clean_link.specs.HeardFrames.{IsOnePilot, ShowFrame, frame_chip, frame_ends, frame_told, signals_in, told_on}
+unfoldable pub use Rattle.clean_link.specs.HeardFrames.{frames_sent, messages_sent, sent_bits}
+pub use Rattle.clean_link.specs.HeardPages.{AreWholePages, KnownPage, PageSendingsComeBack, PagesComeBack, Placed, ReadPage}
+pub use Rattle.clean_link.specs.HeardPages.{WholePagesComeBack, capsules_with_frames, cycle_half_frames, end_chip, frame_capsules}
+pub use Rattle.clean_link.specs.HeardPages.{is_between, is_whole_page, known_page, message_in, page_told, pages_numbered, pages_of_channel}
+pub use Rattle.clean_link.specs.HeardPages.{pages_within, placed, placed_pages, round_sent, sending_of, type_within}
 unfoldable pub use Rattle.clean_link.specs.HeardPages.{pages_sent}
-pub use Rattle.clean_link.specs.HeardSignals.{message_told, messages_of_channel, signal_sent, signals_in, signals_received}
-unfoldable pub use Rattle.clean_link.specs.HeardSignals.{messages_sent}
-pub use Rattle.clean_link.specs.OnlyBestFrames.{HeardAreTheOnlyBest, IsOnlyBestFrame, IsOnlyBestFrame2, ReceivedAreTheOnlyBest}
-pub use Rattle.clean_link.specs.OnlyBestFrames.{SetTwoAreTheOnlyBest}
-pub use Rattle.clean_link.specs.PageLaws.{PageSendingsComeBack, WholePagesComeBack}
-pub use Rattle.clean_link.specs.PagingLaws.{MarksTellTheRate, PagingFramesComeBack, PagingHaveSentSigns, PagingCodewordsAreTheOnlyBest}
-pub use Rattle.clean_link.specs.PagingLaws.{SilentPagingFramesAreZeros, SilentPagingIsZero, UnmarkedWithoutSync, ordered_symbols}
-pub use Rattle.clean_link.specs.ReceivedFrames.{AreReceived, IsDistinctFrame2, IsReceivedAs, IsSentFrame2, cycled_frame2, codeword_symbols2}
-pub use Rattle.clean_link.specs.ReceivedLaws.{EachFrameIsReceived, FramesBehindMark, FramesShowPowerBits, FramesShowSymbols, SetOneSends}
-pub use Rattle.clean_link.specs.ReceivedLaws.{SetTwoBehindMark, SetTwoFramesComeBack, SetTwoSends}
-unfoldable pub use Rattle.clean_link.specs.EventKinds.{frame_events_at, message_events_at, paging_events_at, sets_events_at}
+pub use Rattle.clean_link.specs.NearFiles.{AreRounded, IsRounded, louder, louder_sample, over_link}
+pub use Rattle.clean_link.specs.ReceivedFrames.{AreReceived, IsDistinctFrame2, IsReceived, IsReceivedAs, IsSentFrame2, codeword_symbols2}
+pub use Rattle.clean_link.specs.ReceivedFrames.{cycled_frame2}
+pub use Rattle.clean_link.specs.ReceivedLaws.{EachFrameIsReceived, FramesBehindMark, FramesShowPowerBits, FramesShowSymbols}
+pub use Rattle.clean_link.specs.ReceivedLaws.{IsReceivedBySigns, IsSentFrame2BySigns, NoisyFramesAreReceived, NoisyFramesBehindMark}
+pub use Rattle.clean_link.specs.ReceivedLaws.{NoisyReceivedAreTheOnlyBest, NoisySetTwoAreTheOnlyBest, NoisySetTwoBehindMark}
+pub use Rattle.clean_link.specs.ReceivedLaws.{NoisySetTwoFramesComeBack, SetOneSends, SetTwoBehindMark, SetTwoFramesComeBack, SetTwoSends}
 pub use Rattle.clean_link.specs.SentEvents.{FollowsSent, NoEventIsDirected, WholeMessagesComeBack, by_places, is_at, known_event}
 pub use Rattle.clean_link.specs.SentEvents.{pages_behind_mark, pages_with_sync, told_by_first, told_followed, told_with_sync}
-unfoldable pub use Rattle.clean_link.specs.SentEvents.{paging_sent, sent_events, sets_heard, signaling_sent, traffic_sent}
-pub use Rattle.clean_link.specs.SentCodewords.{AreReadBy, IsOnlyBest, IsWholeChannel, scrambled, span_softs, span_codeword}
-pub use Rattle.clean_link.specs.SharedCodewords.{AreDistinctBySharing, AreDistinctBySharing2, gives, is_known2, lost_symbols2, sharing}
-pub use Rattle.clean_link.specs.SharedCodewords.{sharing2, shown_of}
-unfoldable pub use Rattle.clean_link.specs.SharedCodewords.{codewords_giving}
-pub use Rattle.clean_link.specs.Signals.{AreApart, HaveOwnRows, IsAligned, IsFrameAt, IsFrameOf, IsHeardBy, level_at, path_finger}
-pub use Rattle.clean_link.specs.Signals.{reference_finger, row_level}
-pub use Rattle.clean_link.specs.TrafficLaws.{PowerBitsComeBack, EachFrameIsHeard, HearsTraffic, IsHeardAs, IsUndirected, NoneIsDirected}
-pub use Rattle.clean_link.specs.TrafficLaws.{OnePilotIsHeard, SentFramesComeBack, SentMessagesComeBack, SixteenPowerBitsAreSent}
-pub use Rattle.clean_link.specs.TrafficLaws.{TrafficFramesComeBack, TrafficHaveSentSigns}
-pub use Rattle.clean_link.specs.WholePages.{AreWholePages, Placed, capsules_with_frames, cycle_half_frames, frame_capsules, is_between}
-pub use Rattle.clean_link.specs.WholePages.{is_whole_page, placed, sending_of}
+unfoldable pub use Rattle.clean_link.specs.SentEvents.{frame_events_at, message_events_at, paging_events_at, paging_sent, sent_events}
+unfoldable pub use Rattle.clean_link.specs.SentEvents.{sets_events_at, sets_heard, signaling_sent, traffic_sent}
+pub use Rattle.clean_link.specs.Signals.{HaveOwnRows, IsOnlyBest, IsWholeChannel, path_finger, reference_finger, span_codeword, span_softs}
+pub use Rattle.clean_link.specs.Signals.{AreApart, AreReadBy, IsAligned, IsFrameAt, IsFrameOf, IsHeardBy, level_at, row_level, scrambled}
+pub use Rattle.clean_link.specs.TrafficLaws.{ArePowered, EachFrameIsHeard, HavePowerSigns, HeardAreTheOnlyBest, HearsTraffic, IsHeardAs}
+pub use Rattle.clean_link.specs.TrafficLaws.{IsOnlyBestFrame, IsOnlyBestFrame2, IsUndirected, NoisyEachFrameIsHeard, NoisyFrame}
+pub use Rattle.clean_link.specs.TrafficLaws.{NoisyFramesAreTheOnlyBest, NoisyPowerBitsComeBack, NoisySentFramesComeBack}
+pub use Rattle.clean_link.specs.TrafficLaws.{NoisySentMessagesComeBack, NoisyTrafficFramesComeBack, NoisyTrafficHasSentSigns}
+pub use Rattle.clean_link.specs.TrafficLaws.{NoneIsDirected, NoneIsDirectedByNoise, OnePilotIsHeard, PowerBitsComeBack}
+pub use Rattle.clean_link.specs.TrafficLaws.{ReceivedAreTheOnlyBest, SentFramesComeBack, SentMessagesComeBack, SetTwoAreTheOnlyBest}
+pub use Rattle.clean_link.specs.TrafficLaws.{ShowsTraffic, SixteenPowerBitsAreSent, TrafficFramesComeBack, TrafficHaveSentSigns}

@@ -1,3 +1,2 @@
 -- The mark that a sync message sets.
 pub mod MarksTrue
-pub mod FirstMark

@@ -1,23 +1,9 @@
 -- The frames of traffic channels, and the messages in them.
-pub mod Symbols
-pub mod OnePilot
 pub mod Steady
-pub mod ByKinds
-pub mod Undirected
-pub mod Times
 pub mod Signs
-pub mod PowerBits
 pub mod Frames
-pub mod OnlyBest
-pub mod Signaling
-pub mod NoneSent
 pub mod Back
 pub mod Received
-pub mod KeptSymbols
 pub mod HiddenCodewords
-pub mod FullRate
-pub mod WorkedFrames
-pub mod SharedCodewords
 pub mod SharedFrames
-pub mod PowerPlaces
 pub mod DistinctPlan

@@ -2,21 +2,12 @@
 use Rattle.std.specs.Prelude.{ℕ, ◌+◌, ◌<◌, ◌≤◌, ◌≡◌, ◌≢◌, true, All, Bool, List, [], ◌∷◌, length}
 use Rattle.std.specs.Prelude.{pos, replicate}
 use Rattle.std.specs.List.{Contains}
-use Rattle.rake_finger.specs.Soft.{frame_chips, softs, symbols}
-use Rattle.rake_finger.specs.declared.form.Form.{Form}
-use Rattle.symbol_path.specs.SentOrder.{sent}
-use Rattle.viterbi.specs.Laws.{signed}
-use Rattle.chip_core.specs.declared.width.Width.{Width}
-use Rattle.cell_plan.specs.Sampled.{made_samples}
-use Rattle.cell_plan.specs.Sendings.{continued_symbols}
-use Rattle.cell_plan.specs.Signal.{Carrier, carriers}
-use Rattle.cell_plan.specs.declared.plan.CellPlan.{CellPlan}
-use Rattle.heard_events.specs.Streams.{Stream, frame_own_bits}
-use Rattle.rake_finger.specs.Streams.{frame_softs, is_in_file, span_first}
-use Rattle.rake_finger.specs.Streams.{span_frames}
-use Rattle.cell_plan.specs.Stated.{IsReceivable}
+use Rattle.clean_link.specs.Common.{frame_chips, softs, symbols, Form, sent, signed, Width}
+use Rattle.clean_link.specs.Common.{made_samples, continued_symbols, Carrier, carriers, CellPlan}
+use Rattle.clean_link.specs.Common.{Stream, frame_own_bits, frame_softs, is_in_file, span_first}
+use Rattle.clean_link.specs.Common.{span_frames, IsReceivable}
 use Rattle.clean_link.specs.CleanLink.{soft_strength}
-use Rattle.clean_link.specs.SentCodewords.{AreReadBy, IsOnlyBest, span_codeword}
+use Rattle.clean_link.specs.Signals.{AreReadBy, IsOnlyBest, span_codeword}
 use Rattle.clean_link.specs.Signals.{IsFrameAt, IsFrameOf, IsHeardBy, path_finger}
 
 -- The soft values of a frame, not turned by scrambling, are one number times the signs of the

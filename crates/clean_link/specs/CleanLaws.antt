@@ -1,26 +1,21 @@
--- What a clean link gives back of the sync channel.
+-- What a clean link, and a link with bounded noise, gives back of the sync channel and of paging
+-- channels, the latter behind a true mark with the sync message's PRAT.
 use Rattle.std.specs.Prelude.{ℕ, ◌+◌, ◌<◌, ◌≡◌, true, false, nat_lt, length, replicate, pos}
-use Rattle.std.specs.Prelude.{is_some, None, Some}
-use Rattle.std.specs.List.{flat_map}
-use Rattle.chip_core.specs.Bits.{places}
+use Rattle.std.specs.Prelude.{is_some, None, Some, List, ◌*◌, ◌≤◌, ◌≢◌, All, Bool}
+use Rattle.std.specs.List.{flat_map, Contains}
+use Rattle.clean_link.specs.Common.{places, signed, Width, made_samples, sync_frame_bits}
+use Rattle.clean_link.specs.Common.{sync_symbols, CellPlan, SyncPlan, mark, frame_own_bits}
+use Rattle.clean_link.specs.Common.{frame_softs, is_in_file, span_first, span_frames}
+use Rattle.clean_link.specs.Common.{sync_events_at, Tuning, sync_stream, Mark, IsReceivable, Sample}
+use Rattle.clean_link.specs.Common.{cycle_frame_bits, paging_rate, cycle_of, IsStatedPaging}
+use Rattle.clean_link.specs.Common.{PagingPlan, paging_stream, Data, data_shape, sent, repeats_of}
+use Rattle.clean_link.specs.Common.{Cycle, IsFreeOf, continued_symbols}
 use Rattle.rake_finger.specs.declared.form.Form.TheVariants.{Sync}
-use Rattle.viterbi.specs.Laws.{signed}
-use Rattle.chip_core.specs.declared.width.Width.{Width}
-use Rattle.cell_plan.specs.Sampled.{made_samples}
-use Rattle.cell_plan.specs.Sendings.{sync_frame_bits, sync_symbols}
-use Rattle.cell_plan.specs.declared.plan.CellPlan.{CellPlan}
-use Rattle.cell_plan.specs.declared.plan.SyncPlan.{SyncPlan}
-use Rattle.heard_events.specs.Marks.{mark}
-use Rattle.heard_events.specs.Streams.{frame_own_bits}
-use Rattle.rake_finger.specs.Streams.{frame_softs, is_in_file, span_first}
-use Rattle.rake_finger.specs.Streams.{span_frames}
-use Rattle.heard_events.specs.SyncEvents.{sync_events_at}
-use Rattle.heard_events.specs.Tuning.{Tuning, sync_stream}
-use Rattle.heard_events.specs.declared.mark.Mark.{Mark}
-use Rattle.clean_link.specs.SentCodewords.{IsOnlyBest, span_codeword}
+use Rattle.clean_link.specs.Signals.{IsOnlyBest, span_codeword}
 use Rattle.clean_link.specs.CleanLink.{IsOnPath, IsTrueMark, first_sync_frame, soft_strength}
 use Rattle.clean_link.specs.CleanLink.{sync_sent}
-use Rattle.cell_plan.specs.Stated.{IsReceivable}
+use Rattle.clean_link.specs.BoundedNoise.{Bears, IsNear}
+use Rattle.clean_link.specs.HeardPages.{pages_of_channel, pages_within}
 
 -- the soft values of a received sync frame are one positive number times the signs of the symbols
 -- that were sent
@@ -87,3 +82,153 @@ IsMarkedWhereHeard = (width : Width) (plan : CellPlan) (t : Tuning) →
     IsReceivable width plan → IsOnPath plan t →
     is_some (mark t (made_samples plan) plan.link.samples) ≡
     nat_lt 0 (length (sync_sent plan))
+
+-- ---- samples from which sync frames come back
+
+-- The cell can be received. As a handset with one finger on its path reads the samples, the bits
+-- of each sync frame in the file are those that the cell's sync channel sends in it, and zeros
+-- where the cell sends none.
+pub record ShowsSync (width : Width) (plan : CellPlan) (samples : List Sample) : Type 0 where
+  pub receivable : IsReceivable width plan
+  pub back : (sync : SyncPlan) (t : Tuning) (k : ℕ) → plan.sync ≡ Some sync → IsOnPath plan t →
+      is_in_file t.count (sync_stream t) k ≡ true →
+      frame_own_bits t.count samples (sync_stream t) k ≡
+      sync_frame_bits plan.cell sync.message (first_sync_frame plan + k)
+  pub none : (t : Tuning) (k : ℕ) → plan.sync ≡ None → IsOnPath plan t →
+      is_in_file t.count (sync_stream t) k ≡ true →
+      frame_own_bits t.count samples (sync_stream t) k ≡ replicate 32 false
+
+-- ---- the sync channel
+
+-- A file's samples are near, within e, to those of a cell that can be received and sends a sync
+-- channel, and the sync channel bears noise of that size.
+pub record HearsSync (width : Width) (plan : CellPlan) (sync : SyncPlan) (e : ℕ)
+    (samples : List Sample) : Type 0 where
+  pub receivable : IsReceivable width plan
+  pub sends : plan.sync ≡ Some sync
+  pub near : IsNear e samples (made_samples plan)
+  pub bears : Bears plan sync.gain e
+
+-- A handset with one finger on the cell's path hears of the sync channel the whole transmissions,
+-- each with its message, in order, and nothing else.
+abbrev pub NoisySendingsComeBack : Type 0
+NoisySendingsComeBack = (width : Width) (plan : CellPlan) (sync : SyncPlan) (e : ℕ)
+    (samples : List Sample) (t : Tuning) → HearsSync width plan sync e samples → IsOnPath plan t →
+    flat_map (sync_events_at t samples) (places (plan.link.samples + 1)) ≡ sync_sent plan
+
+-- A mark has the system time and the long code's state that the cell has at its sample, and the
+-- sync message's PRAT.
+abbrev pub NoisyMarksAreTrue : Type 0
+NoisyMarksAreTrue = (width : Width) (plan : CellPlan) (sync : SyncPlan) (e : ℕ)
+    (samples : List Sample) (t : Tuning) (n : ℕ) (m : Mark) →
+    HearsSync width plan sync e samples → IsOnPath plan t → mark t samples n ≡ Some m →
+    ((superframes : ℕ) × IsTrueMark plan m superframes) × (m.prat ≡ sync.message.prat)
+
+-- There is a mark in the file just where a transmission is whole.
+abbrev pub NoisyIsMarkedWhereHeard : Type 0
+NoisyIsMarkedWhereHeard = (width : Width) (plan : CellPlan) (sync : SyncPlan) (e : ℕ)
+    (samples : List Sample) (t : Tuning) → HearsSync width plan sync e samples → IsOnPath plan t →
+    is_some (mark t samples plan.link.samples) ≡ nat_lt 0 (length (sync_sent plan))
+
+-- ---- a paging channel that bears the noise, after a true mark
+
+-- The bits of each frame in the file are the ones that the channel sends in it.
+abbrev pub NoisyPagingFramesComeBack : Type 0
+NoisyPagingFramesComeBack = (width : Width) (plan : CellPlan) (sync : SyncPlan) (p : PagingPlan)
+    (t : Tuning) (m : Mark) (superframes k e : ℕ) (samples : List Sample) →
+    IsReceivable width plan → plan.sync ≡ Some sync → Contains plan.paging p → IsOnPath plan t →
+    IsTrueMark plan m superframes → m.prat ≡ sync.message.prat →
+    is_in_file t.count (paging_stream t p.number m) k ≡ true →
+    IsNear e samples (made_samples plan) → Bears plan p.gain e →
+    frame_own_bits t.count samples (paging_stream t p.number m) k ≡
+    cycle_frame_bits (cycle_of plan p) (4 * superframes + k)
+
+-- A handset hears of the channel the whole pages, in order, and nothing else.
+abbrev pub NoisyPagesComeBack : Type 0
+NoisyPagesComeBack = (width : Width) (plan : CellPlan) (sync : SyncPlan) (p : PagingPlan)
+    (t : Tuning) (m : Mark) (superframes e : ℕ) (samples : List Sample) →
+    IsReceivable width plan → Contains plan.paging p → IsStatedPaging (paging_rate plan.sync) p →
+    IsOnPath plan t → plan.sync ≡ Some sync → m.prat ≡ sync.message.prat → m.prat < 2 →
+    IsTrueMark plan m superframes → IsNear e samples (made_samples plan) → Bears plan p.gain e →
+    pages_within t p.number (Some m) samples plan.link.samples ≡
+    pages_of_channel plan p (plan.link.start + m.sample)
+
+-- ---- channels that are sent
+
+-- the 384 symbols of a frame before scrambling, in the order in which they are sent
+abbrev pub ordered_symbols : Cycle → ℕ → List Bool
+ordered_symbols c frame =
+    sent data_shape (repeats_of c.rate) (continued_symbols (cycle_frame_bits c) frame)
+
+-- Something holds of frame k behind a true mark of a paging channel that is sent, where the frame
+-- lies in the file.
+abbrev pub HoldsOfPaging : (CellPlan → PagingPlan → Tuning → Mark → ℕ → ℕ → Type 0) → Type 0
+HoldsOfPaging P = (width : Width) (plan : CellPlan) (sync : SyncPlan) (p : PagingPlan) (t : Tuning)
+    (m : Mark) (superframes k : ℕ) →
+    IsReceivable width plan → plan.sync ≡ Some sync → Contains plan.paging p → IsOnPath plan t →
+    IsTrueMark plan m superframes → m.prat ≡ sync.message.prat →
+    is_in_file t.count (paging_stream t p.number m) k ≡ true → P plan p t m superframes k
+
+-- Frame k behind the mark is the frame that the channel sends k frames behind the mark's
+-- superframe, of which each has four. Its soft values are one positive number times the signs of
+-- the symbols before scrambling.
+abbrev pub PagingHaveSentSigns : Type 0
+PagingHaveSentSigns = HoldsOfPaging (λ plan p t m superframes k.
+    (0 < soft_strength plan Data p.gain)
+    × (frame_softs (made_samples plan) (paging_stream t p.number m) k ≡
+    signed (soft_strength plan Data p.gain)
+    (ordered_symbols (cycle_of plan p) (4 * superframes + k))))
+
+-- so its own bits are the ones that were sent
+abbrev pub PagingFramesComeBack : Type 0
+PagingFramesComeBack = HoldsOfPaging (λ plan p t m superframes k.
+    frame_own_bits t.count (made_samples plan) (paging_stream t p.number m) k ≡
+    cycle_frame_bits (cycle_of plan p) (4 * superframes + k))
+
+-- And the codeword that was sent in the frame's span, with the bits before it, is the only one of
+-- greatest score.
+abbrev pub PagingCodewordsAreTheOnlyBest : Type 0
+PagingCodewordsAreTheOnlyBest = HoldsOfPaging (λ plan p t m superframes k.
+    IsOnlyBest t.count (made_samples plan) (paging_stream t p.number m) k
+    (span_codeword (cycle_frame_bits (cycle_of plan p))
+    (4 * superframes + span_first t.count (paging_stream t p.number m) k)
+    (span_frames t.count (paging_stream t p.number m) k)))
+
+-- ---- channels that are not
+
+-- on the row of a channel that the cell doesn't send the soft values are all 0, where no traffic
+-- channel has it
+abbrev pub SilentPagingIsZero : Type 0
+SilentPagingIsZero = (width : Width) (plan : CellPlan) (t : Tuning) (m : Mark)
+    (superframes channel k : ℕ) →
+    IsReceivable width plan → 1 ≤ channel → channel ≤ 7 →
+    All (λ (p : PagingPlan). p.number ≢ channel) plan.paging → IsFreeOf plan.traffic channel →
+    IsOnPath plan t →
+    IsTrueMark plan m superframes → is_in_file t.count (paging_stream t channel m) k ≡ true →
+    frame_softs (made_samples plan) (paging_stream t channel m) k ≡ replicate 384 (pos 0)
+
+-- so a frame's bits are zeros
+abbrev pub SilentPagingFramesAreZeros : Type 0
+SilentPagingFramesAreZeros = (width : Width) (plan : CellPlan) (t : Tuning) (m : Mark)
+    (superframes channel k : ℕ) →
+    IsReceivable width plan → 1 ≤ channel → channel ≤ 7 →
+    All (λ (p : PagingPlan). p.number ≢ channel) plan.paging → IsFreeOf plan.traffic channel →
+    IsOnPath plan t →
+    IsTrueMark plan m superframes → is_in_file t.count (paging_stream t channel m) k ≡ true →
+    frame_own_bits t.count (made_samples plan) (paging_stream t channel m) k ≡
+    replicate (paging_stream t channel m).channel.bits false
+
+-- ---- the mark
+
+-- a mark of the samples has the sync message's PRAT
+abbrev pub MarksTellTheRate : Type 0
+MarksTellTheRate = (width : Width) (plan : CellPlan) (sync : SyncPlan) (t : Tuning) (n : ℕ)
+    (m : Mark) →
+    IsReceivable width plan → plan.sync ≡ Some sync → IsOnPath plan t →
+    mark t (made_samples plan) n ≡ Some m → m.prat ≡ sync.message.prat
+
+-- and without a sync channel there is none
+abbrev pub UnmarkedWithoutSync : Type 0
+UnmarkedWithoutSync = (width : Width) (plan : CellPlan) (t : Tuning) (n : ℕ) →
+    IsReceivable width plan → plan.sync ≡ None → IsOnPath plan t →
+    mark t (made_samples plan) n ≡ None

@@ -1,34 +1,14 @@
 -- A clean link: a file that holds what one cell sends over one path, without noise, and what a
 -- handset has to hear in it.
 use Rattle.std.specs.Prelude.{ℕ, ◌+◌, ◌-◌, ◌*◌, ◌/◌, ◌%◌, ◌≤◌, ◌≡◌, ◌&&◌, Bool, if◌then◌else◌}
-use Rattle.std.specs.Prelude.{nat_le, List, [], ◌∷◌, length, map, take, filter, pos, Option, None}
-use Rattle.std.specs.Prelude.{Some}
-use Rattle.chip_core.specs.Bits.{places}
-use Rattle.chip_core.specs.Complex.{norm}
-use Rattle.chip_core.specs.declared.sample.Sample.{Sample}
-use Rattle.long_code.specs.LongCode.{after}
-use Rattle.cdma_io.specs.declared.header.Header.{Header}
-use Rattle.chip_core.specs.declared.width.Width.{Width}
-use Rattle.pilot_search.specs.Search.{best_phase}
-use Rattle.rake_finger.specs.Soft.{symbol_chips, window_chips}
-use Rattle.rake_finger.specs.declared.form.Form.{Form}
-use Rattle.sync_message.specs.SyncMessage.{sync_capsule}
-use Rattle.sync_message.specs.declared.fields.SyncFields.{SyncFields}
-use Rattle.cell_plan.specs.Plan.{IsFreeOf}
-use Rattle.cell_plan.specs.Sampled.{made_samples}
-use Rattle.cell_plan.specs.Stated.{IsReceivable}
-use Rattle.cell_plan.specs.Sendings.{message_of, superframes_a_sending}
-use Rattle.cell_plan.specs.Transmitter.{phase_at}
-use Rattle.cell_plan.specs.declared.plan.CellPlan.{CellPlan}
-use Rattle.cell_plan.specs.declared.plan.SyncPlan.{SyncPlan}
-use Rattle.traffic_message.specs.declared.body.TrafficBody.{TrafficBody}
+use Rattle.std.specs.Prelude.{nat_le, List, [], ◌∷◌, length, map, filter, pos, Option, None, Some}
+use Rattle.clean_link.specs.Common.{places, norm, after, symbol_chips, window_chips, Form}
+use Rattle.clean_link.specs.Common.{sync_capsule, SyncFields, IsFreeOf, message_of}
+use Rattle.clean_link.specs.Common.{superframes_a_sending, phase_at, CellPlan, SyncPlan}
+use Rattle.clean_link.specs.Common.{TrafficBody, Tuning, Event, Frame, Paging, Pilot, Sets, Sync}
+use Rattle.clean_link.specs.Common.{Mark, Traffic}
 use Rattle.traffic_message.specs.declared.body.TrafficBody.TheVariants as bodies
-use Rattle.heard_events.specs.Tuning.{Tuning}
-use Rattle.heard_events.specs.declared.event.Event.{Event}
-use Rattle.heard_events.specs.declared.event.Event.TheVariants.{Frame, Paging, Pilot, Sets, Sync}
 use Rattle.heard_events.specs.declared.event.Event.TheVariants.{Traffic as OnTraffic}
-use Rattle.heard_events.specs.declared.mark.Mark.{Mark}
-use Rattle.chip_core.specs.declared.assignment.Traffic.{Traffic}
 
 -- ---- handoff
 
@@ -64,18 +44,6 @@ tuning_to plan energy paging traffic = record {
   paging = paging;
   traffic = traffic;
 }
-
--- A file holds what a lawful cell sends: its flags and samples are the cell's, the search finds the
--- cell's path, and there is one finger. The link's delay is in the chip at which the file starts,
--- its rotation and strength are in the factor.
-pub record IsPlanFile (width : Width) (plan : CellPlan) (span fingers : ℕ) (header : Header)
-    (samples : List Sample) : Type 0 where
-  pub receivable : IsReceivable width plan
-  pub sent : samples ≡ made_samples plan
-  pub checks_of_30 : header.check30 ≡ plan.cell.check30
-  pub checks_of_16 : header.check16 ≡ plan.cell.check16
-  pub found : best_phase (take span samples) ≡ phase_at plan plan.link.start
-  pub alone : fingers ≡ 1
 
 -- a handset with one finger, which lies on the cell's path
 pub record IsOnPath (plan : CellPlan) (t : Tuning) : Type 0 where

@@ -1,14 +1,18 @@
--- Frames of 9,600 bits a second of a traffic channel that no other codeword shares.
+-- Frames of a traffic channel that no other codeword shares.
 use Rattle.std.specs.Prelude.{◌≡◌, ℕ, zero, suc, ◌+◌, ◌-◌, ◌*◌, Bool, true, false, not, ◌&&◌, List}
-use Rattle.std.specs.Prelude.{[], ◌∷◌, ◌++◌, length, map, filter, get_or, drop, replicate}
-use Rattle.std.specs.List.{list_all, list_any}
-use Rattle.chip_core.specs.Bits.{places, xor}
-use Rattle.conv_code.specs.ConvCode.{code_symbols, g0, g1, symbol}
-use Rattle.symbol_path.specs.SentOrder.{address, data_shape}
-use Rattle.quality_bits.specs.TrafficCodewords.{traffic_codeword}
-use Rattle.quality_bits.specs.declared.rate.Rate.TheVariants.{R9600}
-use Rattle.frame_decoder.specs.Laws.{frame_codeword, IsUnshared}
-use Rattle.frame_decoder.specs.TrafficFrames.{is_replaced}
+use Rattle.std.specs.Prelude.{[], ◌∷◌, ◌++◌, length, map, filter, get_or, drop, replicate, ◌≢◌, ◌/◌}
+use Rattle.std.specs.Prelude.{if◌then◌else◌}
+use Rattle.std.specs.List.{list_all, list_any, flat_map, range_with_len}
+use Rattle.std.proofs.Math.Bool.{beq}
+use Rattle.clean_link.specs.Common.{places, xor, code_symbols, g0, g1, symbol, address, data_shape}
+use Rattle.clean_link.specs.Common.{traffic_codeword, R9600, frame_codeword, IsUnshared}
+use Rattle.clean_link.specs.Common.{is_replaced, repeats_of, Rate, codeword_bits, is_dropped}
+use Rattle.clean_link.specs.Common.{repeated_symbol, Rate2, frame_bits, binary, R2400, R1200}
+use Rattle.clean_link.specs.Common.{TrafficFrame}
+use Rattle.symbol_path.specs.RatesTwo as rates_two
+use Rattle.rate_set_two.specs.Laws as laws_two
+use Rattle.rate_set_two.specs.TrafficFrames as frames_two
+use Rattle.clean_link.specs.HeardFrames.{IsDistinctFrame}
 
 -- the code symbols that are sent at these places
 abbrev pub lost_symbols : List ℕ → List ℕ
@@ -61,3 +65,111 @@ FullRateFramesAreDistinct = (replaced : List ℕ) (information : List Bool) →
     length information ≡ 172 → tells_all_bits (lost_symbols replaced) ≡ true →
     shows_full_rate (lost_symbols replaced) (full_rate_symbols information) ≡ true →
     IsUnshared replaced R9600 (frame_codeword R9600 information)
+
+-- ---- codewords that give what is shown
+
+-- Of each code symbol something may be shown, by each of its repeated symbols that is sent and that
+-- no power control bit replaces. Whether the last of nine bits, which is bit j, gives it:
+abbrev pub gives : (ℕ → List Bool) → ℕ → List Bool → Bool
+gives shown j nine =
+    list_all (beq (symbol g0 nine 0)) (shown (2 * j)) &&
+    list_all (beq (symbol g1 nine 0)) (shown (2 * j + 1))
+
+-- the codewords of n bits, from bit j on behind these eight, that give all that is shown of their
+-- code symbols, and end in eight zeros
+unfoldable pub codewords_giving : (ℕ → List Bool) → ℕ → ℕ → List Bool → List (List Bool)
+codewords_giving shown zero j eight = if list_any (λ bit. bit) eight then [] else [] ∷ []
+codewords_giving shown (suc n) j eight =
+    flat_map
+    (λ nine. map (λ bits. get_or nine 8 false ∷ bits)
+    (codewords_giving shown n (j + 1) (drop 1 nine)))
+    (filter (gives shown j) ((eight ++ false ∷ []) ∷ (eight ++ true ∷ []) ∷ []))
+
+-- What a frame's repeated symbols, so many of each of its code symbols, show of the code symbols of
+-- a codeword that repeats each of its own another number of times
+abbrev pub shown_of : (ℕ → Bool) → List Bool → ℕ → ℕ → ℕ → List Bool
+shown_of known symbols repeats others c =
+    map (λ k. get_or symbols (k / repeats) false)
+    (filter known (range_with_len (others * c) others))
+
+-- so the codewords of n bits that share all that is known of a frame's code symbols
+abbrev pub codewords_sharing : (ℕ → Bool) → List Bool → ℕ → ℕ → ℕ → List (List Bool)
+codewords_sharing known symbols repeats others n =
+    codewords_giving (shown_of known symbols repeats others) n 0 (replicate 8 false)
+
+-- Of the codewords of each rate that share a frame's symbols, only its own does.
+pub record SharesNone {R : Type 0} (sharing : R → List (List Bool)) (rate : R) (bits : List Bool) :
+    Type 0 where
+  pub own : sharing rate ≡ bits ∷ []
+  pub others : (r : R) → r ≢ rate → sharing r ≡ []
+
+-- ---- rate set 1
+
+-- those of rate r, where a frame of some rate has these bits, and these code symbols are lost
+abbrev pub sharing : List ℕ → Rate → List Bool → Rate → List (List Bool)
+sharing lost rate bits r =
+    codewords_sharing (is_kept lost) (code_symbols (replicate 8 false) bits)
+    (repeats_of rate) (repeats_of r) (frame_bits r)
+
+-- where it has none but its own the frame is distinct
+abbrev pub AreDistinctBySharing : Type 0
+AreDistinctBySharing = (replaced : List ℕ) (rate : Rate) (information : List Bool) →
+    SharesNone (sharing (lost_symbols replaced) rate (traffic_codeword rate information)) rate
+    (traffic_codeword rate information) →
+    IsUnshared replaced rate (frame_codeword rate information)
+
+-- ---- rate set 2
+
+-- the repeated symbols that are sent at these places
+abbrev pub lost_symbols2 : List ℕ → List ℕ
+lost_symbols2 replaced = map repeated_symbol replaced
+
+-- whether a repeated symbol is sent, and isn't one that power control bits replace
+abbrev pub is_known2 : List ℕ → ℕ → Bool
+is_known2 lost k = not (is_dropped k) && is_kept lost k
+
+abbrev pub sharing2 : List ℕ → Rate2 → List Bool → Rate2 → List (List Bool)
+sharing2 lost rate bits r =
+    codewords_sharing (is_known2 lost) (code_symbols (replicate 8 false) bits)
+    (rates_two.repeats_of rate) (rates_two.repeats_of r) (rates_two.frame_bits r)
+
+abbrev pub AreDistinctBySharing2 : Type 0
+AreDistinctBySharing2 = (replaced : List ℕ) (rate : Rate2) (information : List Bool) →
+    SharesNone (sharing2 (lost_symbols2 replaced) rate (codeword_bits rate information)) rate
+    (codeword_bits rate information) →
+    laws_two.IsUnshared replaced rate (frames_two.frame_codeword rate information)
+
+-- ---- worked frames
+
+-- The places of the symbols that 16 power control bits replace, two of each group of 24. A model
+-- outside gives these for the long code's state 2^41 at the frame's first chip, under the mask
+-- 0x31891126c01.
+abbrev pub replaced_places : List ℕ
+replaced_places =
+    10 ∷ 11 ∷ 33 ∷ 34 ∷ 54 ∷ 55 ∷ 75 ∷ 76 ∷ 107 ∷ 108 ∷ 127 ∷ 128 ∷ 153 ∷ 154 ∷ 183 ∷ 184
+    ∷ 198 ∷ 199 ∷ 224 ∷ 225 ∷ 254 ∷ 255 ∷ 276 ∷ 277 ∷ 294 ∷ 295 ∷ 327 ∷ 328 ∷ 346 ∷ 347 ∷ 368
+    ∷ 369 ∷ []
+
+-- 172 information bits
+abbrev pub some_information : List Bool
+some_information =
+    binary 64 0x6eb96f6d68690b65 ++ binary 64 0xaa73026f6b41c7ad ++ binary 44 0x3f68aa22065
+
+-- a frame that tells a handset to lower its power
+abbrev pub frame_with : Rate → List Bool → TrafficFrame
+frame_with rate information = record {
+  rate = rate;
+  information = information;
+  power_bits = replicate 16 true;
+}
+
+-- at 9,600 bits a second that frame is distinct
+abbrev pub AFullRateFrameIsDistinct : Type 0
+AFullRateFrameIsDistinct = IsDistinctFrame replaced_places (frame_with R9600 some_information)
+
+-- Frames of zeros at 2,400 and at 1,200 bits a second aren't, whatever is replaced: they have no
+-- quality bits, and all their symbols are 0.
+abbrev pub ZerosAreShared : Type 0
+ZerosAreShared = (replaced : List ℕ) →
+    (IsDistinctFrame replaced (frame_with R2400 (replicate 40 false)) → ⊥)
+    × (IsDistinctFrame replaced (frame_with R1200 (replicate 16 false)) → ⊥)

@@ -1,28 +1,13 @@
 -- A cell with a mark, and behind it a distinct frame of each rate of both rate sets.
-use Rattle.std.specs.Prelude.{◌≡◌, ℕ, true, All, Bool, List, [], ◌∷◌, ◌++◌, map, replicate}
-use Rattle.std.specs.Prelude.{pos, negsuc, Some}
+use Rattle.std.specs.Prelude.{◌≡◌, ℕ, true, All, Bool, List, [], ◌∷◌, ◌++◌, map, replicate, pos}
+use Rattle.std.specs.Prelude.{negsuc, Some}
 use Rattle.std.specs.List.{Contains, flat_map}
-use Rattle.chip_core.specs.Bits.{binary}
-use Rattle.chip_core.specs.declared.check_form.CheckForm.TheVariants.{Plain}
-use Rattle.chip_core.specs.declared.width.Width.TheVariants.{Sixteen}
-use Rattle.long_code.specs.LongCode.{before}
-use Rattle.quality_bits.specs.declared.rate.Rate.{Rate}
-use Rattle.quality_bits.specs.declared.rate.Rate.TheVariants.{R9600, R4800, R2400, R1200}
-use Rattle.symbol_path.specs.declared.rate_two.Rate2.{Rate2}
-use Rattle.symbol_path.specs.declared.rate_two.Rate2.TheVariants.{R14400, R7200, R3600, R1800}
-use Rattle.sync_message.specs.declared.fields.SyncFields.{SyncFields}
-use Rattle.cell_plan.specs.Signal.{frames_of}
-use Rattle.cell_plan.specs.SomeMessage.{some_message, some_sync}
-use Rattle.cell_plan.specs.TrafficFrames.{cycled_frame}
-use Rattle.cell_plan.specs.declared.frame_list.FrameList.{FrameList}
-use Rattle.cell_plan.specs.declared.frame_list.FrameList.TheVariants.{SetOne, SetTwo}
-use Rattle.cell_plan.specs.declared.plan.CellPlan.{CellPlan}
-use Rattle.cell_plan.specs.declared.plan.TrafficPlan.{TrafficPlan}
-use Rattle.cell_plan.specs.declared.traffic_frame.TrafficFrame.{TrafficFrame}
-use Rattle.cell_plan.specs.declared.traffic_frame2.TrafficFrame2.{TrafficFrame2}
-use Rattle.chip_core.specs.declared.assignment.Traffic.{Traffic}
-use Rattle.cell_plan.specs.Stated.{IsReceivable}
-use Rattle.clean_link.specs.DistinctWorked.{frame_with}
+use Rattle.clean_link.specs.Common.{binary, Plain, Sixteen, before, Rate, R9600, R4800, R2400}
+use Rattle.clean_link.specs.Common.{R1200, Rate2, R14400, R7200, R3600, R1800, SyncFields}
+use Rattle.clean_link.specs.Common.{frames_of, some_message, some_sync, cycled_frame, FrameList}
+use Rattle.clean_link.specs.Common.{SetOne, SetTwo, CellPlan, TrafficPlan, TrafficFrame}
+use Rattle.clean_link.specs.Common.{TrafficFrame2, Traffic, IsReceivable}
+use Rattle.clean_link.specs.DistinctFrames.{frame_with}
 use Rattle.clean_link.specs.HeardFrames.{is_received, received_frames, replaced_of, IsAssigned}
 use Rattle.clean_link.specs.HeardFrames.{SendsSetTwo}
 use Rattle.clean_link.specs.ReceivedFrames.{cycled_frame2, IsDistinctFrame2}

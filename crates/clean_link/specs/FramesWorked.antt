@@ -1,13 +1,7 @@
 -- Worked values of the frames of a traffic channel on a clean link, which the checker computes.
 use Rattle.std.specs.Prelude.{◌≡◌, ℕ, refl, true, false, List, [], ◌∷◌, length, map, replicate}
-use Rattle.chip_core.specs.Bits.{places}
-use Rattle.chip_core.specs.declared.check_form.CheckForm.TheVariants.{Plain}
-use Rattle.quality_bits.specs.declared.rate.Rate.TheVariants.{R1200, R2400}
-use Rattle.cell_plan.specs.declared.plan.CellPlan.{CellPlan}
-use Rattle.cell_plan.specs.declared.traffic_frame.TrafficFrame.{TrafficFrame}
-use Rattle.heard_events.specs.Given.{at_of}
-use Rattle.heard_events.specs.declared.event.Event.{Event}
-use Rattle.heard_events.specs.declared.event.Event.TheVariants.{Frame, Paging, Pilot, Sets, Sync}
+use Rattle.clean_link.specs.Common.{places, Plain, R1200, R2400, CellPlan, TrafficFrame, at_of}
+use Rattle.clean_link.specs.Common.{Event, Frame, Paging, Pilot, Sets, Sync}
 use Rattle.heard_events.specs.declared.event.Event.TheVariants.{Traffic}
 use Rattle.clean_link.specs.HeardFrames.{frames_sent, sent_bits, sent_power_bits}
 use Rattle.clean_link.specs.WorkedCells.{cell_of_frames}

@@ -1,31 +1,20 @@
--- What a handset hears of a clean link's cell, channel by channel and frame by frame.
+-- What a handset hears of a clean link's cell, and of one whose link has bounded noise, channel by
+-- channel and frame by frame.
 use Rattle.std.specs.Prelude.{◌≡◌, ◌≤◌, ℕ, ◌*◌, true, false, All, Bool, List, [], ◌∷◌, map, filter}
 use Rattle.std.specs.Prelude.{None, Option, Some}
 use Rattle.std.specs.List.{Contains}
-use Rattle.chip_core.specs.declared.width.Width.{Width}
-use Rattle.frame_decoder.specs.declared.traffic.Decoded.{Decoded}
-use Rattle.cell_plan.specs.Plan.{IsFreeOf}
-use Rattle.cell_plan.specs.Sampled.{made_samples}
-use Rattle.cell_plan.specs.Signal.{frames_of}
-use Rattle.cell_plan.specs.TrafficFrames.{cycled_frame}
-use Rattle.cell_plan.specs.declared.plan.CellPlan.{CellPlan}
-use Rattle.cell_plan.specs.declared.plan.PagingPlan.{PagingPlan}
-use Rattle.cell_plan.specs.declared.plan.TrafficPlan.{TrafficPlan}
-use Rattle.cell_plan.specs.declared.traffic_frame.TrafficFrame.{TrafficFrame}
-use Rattle.heard_events.specs.Events.{events}
-use Rattle.heard_events.specs.TrafficEvents.{frame_event}
-use Rattle.heard_events.specs.Tuning.{Tuning}
-use Rattle.heard_events.specs.declared.event.Event.{Event}
-use Rattle.heard_events.specs.declared.event.Event.TheVariants.{Frame, Paging, Sync}
+use Rattle.clean_link.specs.Common.{Width, Decoded, IsFreeOf, made_samples, frames_of, cycled_frame}
+use Rattle.clean_link.specs.Common.{CellPlan, PagingPlan, TrafficPlan, TrafficFrame, events}
+use Rattle.clean_link.specs.Common.{frame_event, Tuning, Event, Frame, Paging, Sync, Traffic}
+use Rattle.clean_link.specs.Common.{IsReceivable, Sample, SyncPlan}
 use Rattle.heard_events.specs.declared.event.Event.TheVariants.{Traffic as OnTraffic}
-use Rattle.chip_core.specs.declared.assignment.Traffic.{Traffic}
 use Rattle.clean_link.specs.CleanLink.{IsNotDirected, IsOnPath, sync_sent}
-use Rattle.cell_plan.specs.Stated.{IsReceivable}
 use Rattle.clean_link.specs.HeardFrames.{frame_ends, is_received, received_frames, replaced_of}
 use Rattle.clean_link.specs.HeardFrames.{sent_power_bits, sent_frame_event, AreDistinct, IsAssigned}
-use Rattle.clean_link.specs.HeardFrames.{IsDistinctFrame, SendsSetOne}
-use Rattle.clean_link.specs.HeardSignals.{messages_of_channel}
-use Rattle.clean_link.specs.SentEvents.{paging_sent, told_with_sync}
+use Rattle.clean_link.specs.HeardFrames.{IsDistinctFrame, SendsSetOne, messages_of_channel}
+use Rattle.clean_link.specs.SentEvents.{paging_sent, told_with_sync, FollowsSent, signaling_sent}
+use Rattle.clean_link.specs.BoundedNoise.{Bears}
+use Rattle.clean_link.specs.CleanLaws.{HearsSync}
 
 -- ---- events of a kind
 
@@ -120,3 +109,39 @@ EachChannelComesBack = (width : Width) (plan : CellPlan) (t : Tuning) →
     IsReceivable width plan → IsOnPath plan t → 1 ≤ t.paging → t.paging ≤ 7 →
     All IsNotDirected (events t (made_samples plan)) →
     HearsEach plan t.paging t.traffic (events t (made_samples plan))
+
+-- ---- a link with bounded noise
+
+-- What is heard of the sync channel is just the whole transmissions. What is heard of the followed
+-- paging channel is just the whole pages, where the cell sends the channel and it bears the noise.
+-- Where the cell sends the followed traffic channel with frames of rate set 1, and it bears the
+-- noise, there is one event for each of its frames from the mark on, and the messages are those in
+-- them.
+pub record HearsBearing (plan : CellPlan) (e paging : ℕ) (followed : Option Traffic)
+    (heard : List Event) : Type 0 where
+  pub sync : filter is_sync heard ≡ sync_sent plan
+  pub pages : (q : PagingPlan) → Contains plan.paging q → q.number ≡ paging →
+      Bears plan q.gain e → filter is_page heard ≡ paging_sent plan paging
+  pub frames : (p : TrafficPlan) → FollowsOne plan followed p → Bears plan p.gain e →
+      AreFramesBehind plan p (told_with_sync plan plan.sync) (filter is_frame heard)
+  pub messages : (p : TrafficPlan) → FollowsOne plan followed p → Bears plan p.gain e →
+      AreMessagesBehind plan p (told_with_sync plan plan.sync) (filter is_message heard)
+
+-- So it is with a handset that has one finger on the cell's path, where the sync channel bears the
+-- noise and no handoff is directed.
+abbrev pub NoisyEachChannelComesBack : Type 0
+NoisyEachChannelComesBack = (width : Width) (plan : CellPlan) (sync : SyncPlan) (e : ℕ)
+    (samples : List Sample) (t : Tuning) → HearsSync width plan sync e samples → IsOnPath plan t →
+    All IsNotDirected (events t samples) →
+    HearsBearing plan e t.paging t.traffic (events t samples)
+
+-- No handoff is directed where each frame from the mark on of the channel that is followed is
+-- distinct, the channel bears the noise, and no message that it is sent directs one. None is
+-- directed where no channel is followed.
+abbrev pub NoEventIsDirectedByNoise : Type 0
+NoEventIsDirectedByNoise = (width : Width) (plan : CellPlan) (sync : SyncPlan) (e : ℕ)
+    (samples : List Sample) (t : Tuning) → HearsSync width plan sync e samples → IsOnPath plan t →
+    FollowsSent plan t.traffic →
+    ((p : TrafficPlan) (traffic : Traffic) → t.traffic ≡ Some traffic → Contains plan.traffic p →
+    IsAssigned p traffic → Bears plan p.gain e) →
+    All IsNotDirected (signaling_sent plan t.traffic) → All IsNotDirected (events t samples)

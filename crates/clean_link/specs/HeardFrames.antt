@@ -2,24 +2,15 @@
 -- mark on, as a handset hears them (TIA/EIA-95-B, 7.1.3.5).
 use Rattle.std.specs.Prelude.{ℕ, ◌+◌, ◌-◌, ◌*◌, ◌/◌, ◌<◌, ◌≤◌, ◌≡◌, ◌==◌, ◌&&◌, Bool, true, false}
 use Rattle.std.specs.Prelude.{if◌then◌else◌, nat_le, List, [], ◌∷◌, map, filter, length, get_or, ℤ}
-use Rattle.std.specs.Prelude.{pos, ◌*ℤ◌, All}
+use Rattle.std.specs.Prelude.{pos, ◌*ℤ◌, All, Option}
 use Rattle.std.specs.List.{flat_map}
-use Rattle.chip_core.specs.Bits.{places, sign}
-use Rattle.long_code.specs.LongCode.{traffic_mask}
-use Rattle.symbol_path.specs.Scrambling.{power_places}
-use Rattle.frame_decoder.specs.Laws.{frame_codeword, IsUnshared, ShowSymbols}
-use Rattle.frame_decoder.specs.TrafficFrames.{frame_symbols, is_replaced}
-use Rattle.cell_plan.specs.Signal.{frames_of}
-use Rattle.cell_plan.specs.TrafficFrames.{cycled_frame, frame_state, sent_with, set_one, set_two}
-use Rattle.cell_plan.specs.TrafficFrames.{traffic_frame_symbols}
-use Rattle.cell_plan.specs.declared.plan.CellPlan.{CellPlan}
-use Rattle.cell_plan.specs.declared.plan.TrafficPlan.{TrafficPlan}
-use Rattle.cell_plan.specs.declared.traffic_frame.TrafficFrame.{TrafficFrame}
-use Rattle.rake_finger.specs.declared.finger.Finger.{Finger}
-use Rattle.heard_events.specs.declared.event.Event.{Event}
-use Rattle.heard_events.specs.declared.event.Event.TheVariants.{Frame}
-use Rattle.heard_events.specs.declared.leg.Leg.{Leg}
-use Rattle.chip_core.specs.declared.assignment.Traffic.{Traffic}
+use Rattle.std.specs.Option.{option_to_list}
+use Rattle.clean_link.specs.Common.{places, sign, traffic_mask, power_places, frame_codeword}
+use Rattle.clean_link.specs.Common.{IsUnshared, ShowSymbols, frame_symbols, is_replaced, frames_of}
+use Rattle.clean_link.specs.Common.{cycled_frame, frame_state, sent_with, set_one, set_two}
+use Rattle.clean_link.specs.Common.{traffic_frame_symbols, CellPlan, TrafficPlan, TrafficFrame}
+use Rattle.clean_link.specs.Common.{Finger, Event, Frame, Leg, Traffic, split, capsule_with}
+use Rattle.clean_link.specs.Common.{message_events, signal_in}
 use Rattle.clean_link.specs.HeardPages.{end_chip}
 
 -- ---- a channel that is followed
@@ -139,3 +130,41 @@ told_on told (p ∷ traffic) row = if p.row == row then told p else told_on told
 unfoldable pub frames_sent : CellPlan → ℕ → ℕ → List Event
 frames_sent plan row mark_chip =
     told_on (λ (p : TrafficPlan). frames_of_channel plan p mark_chip) plan.traffic row
+
+-- ---- the messages that the signaling spells (TIA/EIA-95-B, 7.1.3.5.11 and 7.7.3)
+
+-- a frame's signaling, where it has any
+abbrev pub signal_sent : TrafficFrame → Option (List Bool)
+signal_sent f = (split f.rate f.information).signal
+
+-- that of the one that is sent as frame `frame`
+abbrev pub signals_in : CellPlan → TrafficPlan → ℕ → List (List Bool)
+signals_in plan p frame =
+    flat_map (λ (f : TrafficFrame). option_to_list (signal_sent f))
+    (cycled_frame (frames_of plan p) frame)
+
+-- the signaling parts of the received frames before frame `frame`, in order, where the mark is at
+-- this local chip
+abbrev pub signals_received : CellPlan → TrafficPlan → ℕ → ℕ → List (List Bool)
+signals_received plan p mark_chip frame =
+    flat_map (signals_in plan p) (filter (is_received plan p mark_chip) (places frame))
+
+-- what a handset tells, at the end of frame `frame`, of a capsule whose last bit lies in that
+-- frame, where the capsule spells a message
+abbrev pub message_told : CellPlan → TrafficPlan → ℕ → ℕ → List Event
+message_told plan p mark_chip frame =
+    flat_map
+    (λ (f : TrafficFrame). message_events (frame_ends plan p frame)
+    (signal_in plan.cell.check16
+    (capsule_with (signals_received plan p mark_chip frame) (signal_sent f))))
+    (cycled_frame (frames_of plan p) frame)
+
+-- the messages of a channel's received frames, in order
+abbrev pub messages_of_channel : CellPlan → TrafficPlan → ℕ → List Event
+messages_of_channel plan p mark_chip =
+    flat_map (message_told plan p mark_chip) (received_frames plan p mark_chip)
+
+-- those of the cell's traffic channel on a row
+unfoldable pub messages_sent : CellPlan → ℕ → ℕ → List Event
+messages_sent plan row mark_chip =
+    told_on (λ (p : TrafficPlan). messages_of_channel plan p mark_chip) plan.traffic row

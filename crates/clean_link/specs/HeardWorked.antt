@@ -1,17 +1,13 @@
--- Worked values of the whole pages of a clean link, which the checker computes.
+-- Worked values of the whole pages of a clean link, and of a cycle of them, which the checker
+-- computes.
 use Rattle.std.specs.Prelude.{◌≡◌, ℕ, refl, Bool, true, false, List, [], ◌∷◌, ◌++◌, map, replicate}
 use Rattle.std.specs.Prelude.{None}
-use Rattle.chip_core.specs.Bits.{binary, places}
-use Rattle.chip_core.specs.declared.check_form.CheckForm.TheVariants.{Plain}
-use Rattle.quality_bits.specs.Capsules.{capsule}
-use Rattle.quality_bits.specs.Quality.{check_bits}
-use Rattle.paging_message.specs.Laying.{fill, framed, half_frames_of, laid_on}
-use Rattle.paging_message.specs.Reading.{number_at}
-use Rattle.cell_plan.specs.Pages.{page_cycle}
-use Rattle.cell_plan.specs.declared.plan.CellPlan.{CellPlan}
-use Rattle.cell_plan.specs.declared.plan.Page.{Page}
+use Rattle.clean_link.specs.Common.{binary, places, Plain, capsule, check_bits, fill, framed}
+use Rattle.clean_link.specs.Common.{half_frames_of, laid_on, number_at, page_cycle, CellPlan, Page}
+use Rattle.clean_link.specs.Common.{M30, R9600}
 use Rattle.clean_link.specs.HeardPages.{KnownPage, pages_sent}
 use Rattle.clean_link.specs.WorkedCells.{cell_with}
+use Rattle.clean_link.specs.HeardPages.{cycle_half_frames, sendings_between, whole_page_sendings}
 
 -- nine octets with a message type
 page : Bool → ℕ → Page
@@ -55,3 +51,53 @@ before_the_mark = refl
 no_such_channel : heard 860160 2 ≡ []
 unfolding heard cell pages_sent
 no_such_channel = refl
+
+-- ---- a cycle of pages
+
+-- The second page follows the first, 48 and 56 bits in two half-frames, and the third begins a run
+-- of its own in a third one.
+pages : List Page
+pages =
+    record { follows = false; body = replicate 10 true } ∷
+    record { follows = true; body = replicate 18 false } ∷
+    record { follows = false; body = replicate 10 false } ∷ []
+
+-- the capsules of the three
+first : List Bool
+first = capsule M30 Plain (replicate 10 true)
+
+second : List Bool
+second = capsule M30 Plain (replicate 18 false)
+
+third : List Bool
+third = capsule M30 Plain (replicate 10 false)
+
+three_half_frames : cycle_half_frames R9600 Plain pages ≡ 3
+unfolding pages page_cycle half_frames_of framed laid_on fill
+    capsule check_bits places binary
+three_half_frames = refl
+
+-- From frame 1 on, half-frame 2: the third page ends there, and then the next round begins in
+-- half-frame 3.
+from_frame_1 : sendings_between R9600 Plain pages 1 2 3
+    ≡ (0, third) ∷ (0, first) ∷ (1, second) ∷ (1, third) ∷ []
+unfolding pages first second third page_cycle half_frames_of framed laid_on fill
+    capsule check_bits places binary
+from_frame_1 = refl
+
+-- in frame 2 alone the run that began in half-frame 3 isn't heard
+in_frame_2 : sendings_between R9600 Plain pages 2 1 3 ≡ (0, third) ∷ []
+unfolding pages third page_cycle half_frames_of framed laid_on fill
+    capsule check_bits places binary
+in_frame_2 = refl
+
+-- a file that ends with frame 2, or one chip before its end
+to_the_end : whole_page_sendings R9600 Plain pages 2 73728 ≡ (0, third) ∷ []
+unfolding pages third page_cycle half_frames_of framed laid_on fill
+    capsule check_bits places binary
+to_the_end = refl
+
+before_the_end : whole_page_sendings R9600 Plain pages 2 73727 ≡ []
+unfolding pages page_cycle half_frames_of framed laid_on fill
+    capsule check_bits places binary
+before_the_end = refl

@@ -1,16 +1,11 @@
 -- The frames of a traffic channel of either rate set that a clean link gives back, each received of
 -- the reference base station alone (TIA/EIA-95-B, 7.1.3.5).
-use Rattle.std.specs.Prelude.{ℕ, ◌*◌, ◌≡◌, true, Bool, List, map, pos, Some}
-use Rattle.frame_decoder.specs.Laws.{kept_count}
-use Rattle.rake_finger.specs.declared.form.Form.TheVariants.{Data}
+use Rattle.std.specs.Prelude.{ℕ, ◌*◌, ◌≡◌, true, Bool, List, map, ℤ, pos, Some}
+use Rattle.clean_link.specs.Common.{kept_count, Data, good_frame, decoded2, Decoded2, set_two}
+use Rattle.clean_link.specs.Common.{FrameCycle, CellPlan, TrafficPlan, TrafficFrame2, SoftFrame}
 use Rattle.rate_set_two.specs.Laws.{IsUnshared}
-use Rattle.rate_set_two.specs.TrafficFrames.{decoded2, frame_symbols, frame_codeword}
-use Rattle.rate_set_two.specs.declared.traffic.Decoded2.{Decoded2}
-use Rattle.cell_plan.specs.TrafficFrames.{cycled, set_two, FrameCycle}
-use Rattle.cell_plan.specs.declared.plan.CellPlan.{CellPlan}
-use Rattle.cell_plan.specs.declared.plan.TrafficPlan.{TrafficPlan}
-use Rattle.cell_plan.specs.declared.traffic_frame2.TrafficFrame2.{TrafficFrame2}
-use Rattle.heard_events.specs.declared.soft_frame.SoftFrame.{SoftFrame}
+use Rattle.rate_set_two.specs.TrafficFrames.{frame_symbols, frame_codeword}
+use Rattle.cell_plan.specs.TrafficFrames.{cycled}
 use Rattle.clean_link.specs.CleanLink.{soft_strength}
 use Rattle.clean_link.specs.HeardFrames.{frame_ends, is_received, received_frames, replaced_of}
 use Rattle.clean_link.specs.HeardFrames.{sent_bits, ShowFrame}
@@ -18,18 +13,22 @@ use Rattle.clean_link.specs.SentEvents.{told_with_sync}
 
 -- ---- any frame
 
--- What is received of frame `frame` of a channel, where it sends these symbols and these power
--- control bits: it ends at its own end, its power control bits are the sent ones, and its
--- descrambled soft values show the symbols.
-pub record IsReceivedAs (plan : CellPlan) (p : TrafficPlan) (frame : ℕ)
-    (symbols power_bits : List Bool) (soft : SoftFrame) : Type 0 where
+-- What is received of frame `frame` of a channel, where it sends these power control bits: it ends
+-- at its own end, its power control bits are the sent ones, and of its descrambled soft values
+-- something is true.
+pub record IsReceived (plan : CellPlan) (p : TrafficPlan) (frame : ℕ) (power_bits : List Bool)
+    (Show : List ℤ → Type 0) (soft : SoftFrame) : Type 0 where
   pub ends : soft.end ≡ frame_ends plan p frame
   pub powered : soft.power ≡ Some (record {
     replaced = replaced_of plan p frame;
     power_bits = sent_bits power_bits;
   })
-  pub shown : ShowFrame (replaced_of plan p frame) (soft_strength plan Data p.gain) symbols
-      soft.descrambled
+  pub shown : Show soft.descrambled
+
+-- On a clean link they show the symbols that the frame sends.
+abbrev pub IsReceivedAs : CellPlan → TrafficPlan → ℕ → List Bool → List Bool → SoftFrame → Type 0
+IsReceivedAs plan p frame symbols power_bits soft = IsReceived plan p frame power_bits
+    (ShowFrame (replaced_of plan p frame) (soft_strength plan Data p.gain) symbols) soft
 
 -- ---- frames of rate set 2
 
@@ -48,12 +47,8 @@ IsDistinctFrame2 replaced f = IsUnshared replaced f.rate (frame_codeword f.rate 
 
 -- what is decoded of a frame that comes back, which is sent as frame `frame`
 abbrev pub sent_decoded2 : CellPlan → TrafficPlan → ℕ → TrafficFrame2 → Decoded2
-sent_decoded2 plan p frame f = record {
-  rate = f.rate;
-  good = true;
-  bits = f.information;
-  score = pos (soft_strength plan Data p.gain * kept_count (replaced_of plan p frame));
-}
+sent_decoded2 plan p frame f = good_frame f.rate f.information
+    (pos (soft_strength plan Data p.gain * kept_count (replaced_of plan p frame)))
 
 -- What is received of frame `frame`, which is this one: where it is distinct, its rate and its
 -- information bits are decoded of it, as a good frame.

@@ -1,30 +1,24 @@
 -- What a clean link gives back of a traffic channel of either rate set, whose frames are received
 -- of the reference base station alone.
 use Rattle.std.specs.Prelude.{ℕ, ◌+◌, ◌-◌, ◌*◌, ◌≡◌, true, Bool, List, [], ◌∷◌, length, map, Some}
+use Rattle.std.specs.Prelude.{ℤ}
 use Rattle.std.specs.List.{Contains}
-use Rattle.chip_core.specs.declared.width.Width.{Width}
-use Rattle.rake_finger.specs.declared.form.Form.TheVariants.{Data}
-use Rattle.cell_plan.specs.Sampled.{made_samples}
-use Rattle.cell_plan.specs.Signal.{frames_of}
-use Rattle.cell_plan.specs.TrafficFrames.{cycled_frame, IsTrafficFrame2}
-use Rattle.cell_plan.specs.declared.plan.CellPlan.{CellPlan}
-use Rattle.cell_plan.specs.declared.plan.TrafficPlan.{TrafficPlan}
-use Rattle.cell_plan.specs.declared.traffic_frame.TrafficFrame.{TrafficFrame}
-use Rattle.cell_plan.specs.declared.traffic_frame2.TrafficFrame2.{TrafficFrame2}
-use Rattle.heard_events.specs.FramesAlone.{traffic_channel}
-use Rattle.heard_events.specs.Marks.{mark}
-use Rattle.heard_events.specs.SoftFrames.{raw_at, soft_frame, soft_frames}
-use Rattle.heard_events.specs.Tuning.{Tuning}
-use Rattle.heard_events.specs.declared.mark.Mark.{Mark}
-use Rattle.chip_core.specs.declared.assignment.Traffic.{Traffic}
-use Rattle.heard_events.specs.declared.soft_frame.SoftFrame.{SoftFrame}
+use Rattle.clean_link.specs.Common.{IsTrafficFrame2, TrafficFrame2, frame_codeword, traffic_channel}
+use Rattle.clean_link.specs.Common.{IsTrafficFrame, TrafficFrame, Width, cycled_frame, made_samples}
+use Rattle.clean_link.specs.Common.{IsReceivable, TrafficPlan, good_frame, soft_frame, soft_frames}
+use Rattle.clean_link.specs.Common.{CellPlan, Decoded2, SoftFrame, SyncPlan, decoded2, frames_of}
+use Rattle.clean_link.specs.Common.{Data, Mark, Sample, Traffic, Tuning, mark, raw_at}
 use Rattle.clean_link.specs.CleanLink.{IsOnPath, soft_strength}
-use Rattle.cell_plan.specs.Stated.{IsReceivable}
 use Rattle.clean_link.specs.HeardFrames.{is_received, received_frames, codeword_symbols, IsAssigned}
 use Rattle.clean_link.specs.HeardFrames.{replaced_of, SendsSetTwo, SendsSymbols, ShowPowerBits}
-use Rattle.clean_link.specs.ReceivedFrames.{cycled_frame2, codeword_symbols2, AreReceived}
-use Rattle.clean_link.specs.ReceivedFrames.{IsReceivedAs, IsSentFrame2}
-use Rattle.clean_link.specs.TrafficLaws.{HearsTraffic}
+use Rattle.clean_link.specs.HeardFrames.{IsDistinctFrame}
+use Rattle.clean_link.specs.ReceivedFrames.{IsDistinctFrame2, codeword_symbols2, cycled_frame2}
+use Rattle.clean_link.specs.ReceivedFrames.{AreReceived, IsReceived, IsReceivedAs, IsSentFrame2}
+use Rattle.clean_link.specs.TrafficLaws.{HavePowerSigns, IsOnlyBestFrame, IsOnlyBestFrame2}
+use Rattle.clean_link.specs.TrafficLaws.{HearsTraffic, HoldsOfBearing, NoisyFrame}
+use Rattle.rate_set_two.specs.TrafficFrames as second
+use Rattle.clean_link.specs.BoundedNoise.{Bears}
+use Rattle.clean_link.specs.CleanLaws.{HearsSync}
 
 -- ---- what is sent
 
@@ -42,14 +36,14 @@ SetTwoSends = (plan : CellPlan) (p : TrafficPlan) (frame : ℕ) (f : TrafficFram
 -- ---- what is received
 
 -- The frames that are received are, in order, one for each frame of the channel that begins at the
--- mark or behind it and lies in the file: each superframe has four.
+-- mark or behind it and lies in the file: each superframe has four. So it is in any file that is as
+-- long as the cell's, whatever its samples are.
 abbrev pub EachFrameIsReceived : Type 0
 EachFrameIsReceived = (width : Width) (plan : CellPlan) (p : TrafficPlan) (t : Tuning)
-    (traffic : Traffic) (m : Mark) (superframes : ℕ) →
-    HearsTraffic width plan p t traffic m superframes →
-    soft_frames t (traffic_channel traffic) m (made_samples plan) ≡
-    map (λ frame. soft_frame t (traffic_channel traffic) m (made_samples plan)
-    (frame - 4 * superframes))
+    (traffic : Traffic) (m : Mark) (superframes : ℕ) (samples : List Sample) →
+    HearsTraffic width plan p t traffic m superframes → length samples ≡ plan.link.samples →
+    soft_frames t (traffic_channel traffic) m samples ≡
+    map (λ frame. soft_frame t (traffic_channel traffic) m samples (frame - 4 * superframes))
     (received_frames plan p (plan.link.start + m.sample))
 
 -- Each of them shows what it sends, whatever that is.
@@ -104,3 +98,93 @@ SetTwoBehindMark = (width : Width) (plan : CellPlan) (p : TrafficPlan) (t : Tuni
     (λ frame soft. (f : TrafficFrame2) × (cycled_frame2 (frames_of plan p) frame ≡ f ∷ [])
     × IsSentFrame2 plan p frame f soft)
     (soft_frames t (traffic_channel traffic) m (made_samples plan))
+
+-- ---- any frame
+
+-- What is received of frame `frame` of a channel, where it sends these symbols and these power
+-- control bits: it ends at its own end, its power control bits are the sent ones, and its
+-- descrambled soft values have the signs of the symbols at the places that those bits leave.
+abbrev pub IsReceivedBySigns : CellPlan → TrafficPlan → ℕ → List Bool → List Bool → SoftFrame →
+    Type 0
+IsReceivedBySigns plan p frame symbols power_bits soft = IsReceived plan p frame power_bits
+    (NoisyFrame (replaced_of plan p frame) symbols) soft
+
+-- Each frame of a channel that bears the noise is received so, from the mark on, whatever it sends.
+-- At the places that its power control bits replace, its raw soft values have their signs.
+abbrev pub NoisyFramesAreReceived : Type 0
+NoisyFramesAreReceived = HoldsOfBearing (λ plan p t traffic m superframes samples.
+    (frame : ℕ) (symbols power_bits : List Bool) →
+    is_received plan p (plan.link.start + m.sample) frame ≡ true →
+    SendsSymbols plan p frame symbols power_bits →
+    IsReceivedBySigns plan p frame symbols power_bits
+    (soft_frame t (traffic_channel traffic) m samples (frame - 4 * superframes))
+    × HavePowerSigns (replaced_of plan p frame) power_bits
+    (raw_at t (traffic_channel traffic) m samples (frame - 4 * superframes)))
+
+-- So of all codewords of every rate the one that a distinct frame of rate set 1 sends alone has the
+-- greatest score,
+abbrev pub NoisyReceivedAreTheOnlyBest : Type 0
+NoisyReceivedAreTheOnlyBest = (plan : CellPlan) (p : TrafficPlan) (frame : ℕ) (f : TrafficFrame)
+    (soft : SoftFrame) → IsTrafficFrame f →
+    IsReceivedBySigns plan p frame (codeword_symbols f) f.power_bits soft →
+    IsDistinctFrame (replaced_of plan p frame) f →
+    IsOnlyBestFrame (replaced_of plan p frame) soft.descrambled f.rate
+    (frame_codeword f.rate f.information)
+
+-- ---- frames of rate set 2
+
+-- and so has the one that a distinct frame of rate set 2 sends.
+abbrev pub NoisySetTwoAreTheOnlyBest : Type 0
+NoisySetTwoAreTheOnlyBest = (plan : CellPlan) (p : TrafficPlan) (frame : ℕ) (f : TrafficFrame2)
+    (soft : SoftFrame) → IsTrafficFrame2 f →
+    IsReceivedBySigns plan p frame (codeword_symbols2 f) f.power_bits soft →
+    IsDistinctFrame2 (replaced_of plan p frame) f →
+    IsOnlyBestFrame2 (replaced_of plan p frame) soft.descrambled f.rate
+    (second.frame_codeword f.rate f.information)
+
+-- What is decoded of a frame that comes back: its rate and its information bits, as a good frame,
+-- with any score.
+pub record IsDecodedAs2 (f : TrafficFrame2) (decoded : Decoded2) : Type 0 where
+  pub score : ℤ
+  pub same : decoded ≡ good_frame f.rate f.information score
+
+-- What is received of frame `frame`, which is this one: where it is distinct, it is decoded so.
+pub record IsSentFrame2BySigns (plan : CellPlan) (p : TrafficPlan) (frame : ℕ)
+    (f : TrafficFrame2) (soft : SoftFrame) : Type 0 where
+  pub received : IsReceivedBySigns plan p frame (codeword_symbols2 f) f.power_bits soft
+  pub decoded : IsDistinctFrame2 (replaced_of plan p frame) f →
+      IsDecodedAs2 f (decoded2 (replaced_of plan p frame) soft.descrambled)
+
+-- A frame of rate set 2 that is received by the signs of its symbols comes back.
+abbrev pub NoisySetTwoFramesComeBack : Type 0
+NoisySetTwoFramesComeBack = (plan : CellPlan) (p : TrafficPlan) (frame : ℕ) (f : TrafficFrame2)
+    (soft : SoftFrame) → IsTrafficFrame2 f →
+    IsReceivedBySigns plan p frame (codeword_symbols2 f) f.power_bits soft →
+    IsSentFrame2BySigns plan p frame f soft
+
+-- ---- in a file
+
+-- What holds of the frames that are received from the mark on, of near samples, where the sync
+-- channel and the traffic channel bear the noise.
+abbrev pub HoldsBehindMark : (CellPlan → TrafficPlan → List SoftFrame → Type 0) → Type 0
+HoldsBehindMark P = (width : Width) (plan : CellPlan) (sync : SyncPlan) (p : TrafficPlan) (e : ℕ)
+    (samples : List Sample) (t : Tuning) (traffic : Traffic) (m : Mark) →
+    HearsSync width plan sync e samples → Bears plan p.gain e → IsOnPath plan t →
+    Contains plan.traffic p → IsAssigned p traffic → mark t samples (length samples) ≡ Some m →
+    P plan p (soft_frames t (traffic_channel traffic) m samples)
+
+-- They are just the channel's frames that begin there or later and lie in the file, in order, and
+-- each shows what it sends by its signs.
+abbrev pub NoisyFramesBehindMark : Type 0
+NoisyFramesBehindMark = HoldsBehindMark (λ plan p frames.
+    AreReceived plan p
+    (λ frame soft. (symbols power_bits : List Bool) → SendsSymbols plan p frame symbols power_bits →
+    IsReceivedBySigns plan p frame symbols power_bits soft) frames)
+
+-- Where the channel's frames are of rate set 2, each is one that was sent, with its power control
+-- bits, and with its rate and its information bits, as a good frame, where it is distinct.
+abbrev pub NoisySetTwoBehindMark : Type 0
+NoisySetTwoBehindMark = HoldsBehindMark (λ plan p frames. SendsSetTwo p →
+    AreReceived plan p
+    (λ frame soft. (f : TrafficFrame2) × (cycled_frame2 (frames_of plan p) frame ≡ f ∷ [])
+    × IsSentFrame2BySigns plan p frame f soft) frames)

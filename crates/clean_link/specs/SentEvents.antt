@@ -2,28 +2,36 @@
 use Rattle.std.specs.Prelude.{ℕ, ◌+◌, ◌*◌, ◌==◌, ◌≡◌, Bool, if◌then◌else◌, nat_lt, List, [], ◌∷◌}
 use Rattle.std.specs.Prelude.{◌++◌, map, filter, All, Option, None, Some}
 use Rattle.std.specs.List.{Contains, flat_map}
-use Rattle.chip_core.specs.Bits.{places}
-use Rattle.chip_core.specs.declared.width.Width.{Width}
-use Rattle.sync_message.specs.declared.fields.SyncFields.{SyncFields}
-use Rattle.cell_plan.specs.Sampled.{made_samples}
-use Rattle.cell_plan.specs.Sendings.{told_superframes}
-use Rattle.cell_plan.specs.Transmitter.{phase_at}
-use Rattle.cell_plan.specs.declared.plan.CellPlan.{CellPlan}
-use Rattle.cell_plan.specs.declared.plan.SyncPlan.{SyncPlan}
-use Rattle.cell_plan.specs.declared.plan.TrafficPlan.{TrafficPlan}
-use Rattle.clean_link.specs.EventKinds.{sets_events_at}
-use Rattle.heard_events.specs.Events.{events}
-use Rattle.heard_events.specs.Given.{at_of}
-use Rattle.heard_events.specs.Tuning.{Tuning}
-use Rattle.heard_events.specs.declared.event.Event.{Event}
-use Rattle.heard_events.specs.declared.event.Event.TheVariants.{Paging, Pilot}
-use Rattle.chip_core.specs.declared.assignment.Traffic.{Traffic}
+use Rattle.clean_link.specs.Common.{places, Width, SyncFields, made_samples, told_superframes}
+use Rattle.clean_link.specs.Common.{phase_at, CellPlan, SyncPlan, TrafficPlan, events, at_of}
+use Rattle.clean_link.specs.Common.{Tuning, Event, Paging, Pilot, Traffic, IsReceivable, Sample}
+use Rattle.clean_link.specs.Common.{mark, frames_at, messages_at, sets_at, page_event, pages_behind}
+use Rattle.clean_link.specs.Common.{if_followed}
 use Rattle.clean_link.specs.CleanLink.{sync_sent, IsNotDirected, IsOnPath, IsTunedTo, tuning_to}
 use Rattle.clean_link.specs.CleanLink.{whole_sendings}
-use Rattle.cell_plan.specs.Stated.{IsReceivable}
 use Rattle.clean_link.specs.HeardFrames.{frames_sent, AreDistinct, IsAssigned, SendsSetOne}
 use Rattle.clean_link.specs.HeardPages.{KnownPage, pages_sent}
-use Rattle.clean_link.specs.HeardSignals.{messages_sent}
+use Rattle.clean_link.specs.HeardFrames.{messages_sent}
+
+-- those of the paging channel that end when just n samples have been taken
+unfoldable pub paging_events_at : Tuning → List Sample → ℕ → List Event
+paging_events_at t samples n =
+    map (page_event n) (pages_behind t t.paging (mark t samples n) samples n)
+
+-- those of the traffic channel's frames
+unfoldable pub frame_events_at : Tuning → List Sample → ℕ → List Event
+frame_events_at t samples n =
+    if_followed (λ traffic m. frames_at t traffic m samples n) t.traffic (mark t samples n)
+
+-- and of the messages that these frames complete
+unfoldable pub message_events_at : Tuning → List Sample → ℕ → List Event
+message_events_at t samples n =
+    if_followed (λ traffic m. messages_at t traffic m samples n) t.traffic (mark t samples n)
+
+-- and that of the pilot sets
+unfoldable pub sets_events_at : Tuning → List Sample → ℕ → List Event
+sets_events_at t samples n =
+    if_followed (λ traffic m. sets_at t traffic m samples n) t.traffic (mark t samples n)
 
 -- ---- the paging channel
 

@@ -1,13 +1,13 @@
 -- Channels that are sent together, and one of them as a stream hears it over the cell's path.
 use Rattle.std.specs.Prelude.{ℕ, ◌+◌, ◌*◌, ◌%◌, ◌<◌, ◌≤◌, ◌≡◌, ◌≢◌, ◌==◌, if◌then◌else◌, All, List}
-use Rattle.std.specs.Prelude.{[], ◌∷◌, ℤ, pos, ◌+ℤ◌}
+use Rattle.std.specs.Prelude.{[], ◌∷◌, ℤ, pos, ◌+ℤ◌, Bool, length, ◌<ℤ◌}
+use Rattle.std.specs.List.{flat_map}
+use Rattle.clean_link.specs.Common.{Finger, Form, Carrier, level, phase_at, CellPlan, Stream}
+use Rattle.clean_link.specs.Common.{places, xor, zip_with, Sample, sent, shape_of, size, Kind}
+use Rattle.clean_link.specs.Common.{Codeword, IsAllowed, Free, Channel, score, sending, bits_before}
+use Rattle.clean_link.specs.Common.{continued_symbols, Scrambles, frame_softs, span_first}
+use Rattle.clean_link.specs.Common.{span_frames}
 use Rattle.rake_finger.specs.Soft as soft
-use Rattle.rake_finger.specs.declared.finger.Finger.{Finger}
-use Rattle.rake_finger.specs.declared.form.Form.{Form}
-use Rattle.cell_plan.specs.Signal.{Carrier, level}
-use Rattle.cell_plan.specs.Transmitter.{phase_at}
-use Rattle.cell_plan.specs.declared.plan.CellPlan.{CellPlan}
-use Rattle.heard_events.specs.Streams.{Stream}
 
 -- ---- channels that can be told apart
 
@@ -70,3 +70,60 @@ pub record IsHeardBy (plan : CellPlan) (c : Carrier) (s : Stream) (base : ℕ) :
   pub frame_long : c.form.frame_chips ≡ soft.frame_chips s.form
   pub symbol_long : c.form.symbol_chips ≡ soft.symbol_chips s.form
   pub begins : plan.link.start + s.first ≡ c.first + soft.frame_chips s.form * base
+
+-- ---- codewords
+
+-- symbols as they are sent under a frame's scrambling bits, where there are any (TIA/EIA-95-B,
+-- 7.1.3.1.6)
+abbrev pub scrambled : List Bool → List Bool → List Bool
+scrambled [] symbols = symbols
+scrambled (b ∷ bits) symbols = zip_with xor symbols (b ∷ bits)
+
+-- Frames of so many symbols, which the code symbols of eight bits or more fill, each of them sent
+-- equally often.
+pub record IsWholeChannel (c : Channel) (symbols : ℕ) : Type 0 where
+  pub kind : Kind
+  pub shape : c.shape ≡ shape_of kind
+  pub count : size c.shape ≡ symbols
+  pub fills : 2 * c.bits * c.repeats ≡ size c.shape
+  pub enough : 8 ≤ c.bits
+
+-- The symbols of a channel's frames, from frame `base` on, are those of a source's frames of bits,
+-- whose encoder goes on from one to the next, in the order and under the scrambling by which a
+-- stream reads them.
+pub record AreReadBy (c : Carrier) (s : Stream) (bits_of : ℕ → List Bool) (base : ℕ) : Type 0 where
+  pub whole : IsWholeChannel s.channel (soft.symbols s.form)
+  pub each : (k : ℕ) → length (bits_of k) ≡ s.channel.bits
+  pub scrambles : (k : ℕ) → Scrambles (s.scrambling k) (soft.symbols s.form)
+  pub sent : (k : ℕ) →
+      c.symbols (base + k) ≡
+      scrambled (s.scrambling k)
+      (sent s.channel.shape s.channel.repeats (continued_symbols bits_of (base + k)))
+
+-- The codeword of so many frames of a source: the encoder's eight bits before the first of them,
+-- and theirs.
+abbrev pub span_codeword : (ℕ → List Bool) → ℕ → ℕ → Codeword
+span_codeword bits_of first frames = record {
+  start = bits_before bits_of first;
+  bits = flat_map (λ j. bits_of (first + j)) (places frames);
+}
+
+-- the soft values of the span by which frame k is decoded
+abbrev pub span_softs : ℕ → List Sample → Stream → ℕ → List ℤ
+span_softs count samples s k =
+    flat_map (λ j. frame_softs samples s (span_first count s k + j))
+    (places (span_frames count s k))
+
+-- how well a codeword agrees with them
+abbrev pub span_score : ℕ → List Sample → Stream → ℕ → Codeword → ℤ
+span_score count samples s k w =
+    score (span_softs count samples s k) (sending s.channel (span_frames count s k)) w
+
+-- A codeword of the span's length, with its eight start bits, such that every other one has a
+-- lesser score.
+pub record IsOnlyBest (count : ℕ) (samples : List Sample) (s : Stream) (k : ℕ)
+    (best : Codeword) : Type 0 where
+  pub allowed : IsAllowed Free (s.channel.bits * span_frames count s k) best
+  pub lesser : (w : Codeword) → IsAllowed Free (s.channel.bits * span_frames count s k) w →
+      w ≢ best →
+      span_score count samples s k w <ℤ span_score count samples s k best

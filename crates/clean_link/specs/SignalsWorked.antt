@@ -1,23 +1,14 @@
 -- Worked values of the messages of a traffic channel on a clean link, which the checker computes.
 use Rattle.std.specs.Prelude.{◌≡◌, ℕ, refl, Bool, true, false, List, [], ◌∷◌, ◌++◌, take, drop}
 use Rattle.std.specs.Prelude.{replicate}
-use Rattle.chip_core.specs.Bits.{binary, places}
-use Rattle.chip_core.specs.declared.check_form.CheckForm.TheVariants.{Complemented}
-use Rattle.message_layout.specs.Reading.{fields_at, group_at, number_part, octets_at, part_at}
-use Rattle.message_layout.specs.Reading.{presence_at, reading, records_at}
-use Rattle.quality_bits.specs.Capsules.{capsule, front_capsule, is_stated}
-use Rattle.quality_bits.specs.Pieces.{capsule_ending}
-use Rattle.quality_bits.specs.Quality.{check_bits}
-use Rattle.quality_bits.specs.declared.rate.Rate.TheVariants.{R1200, R9600}
-use Rattle.traffic_message.specs.Messages.{Message, message_body, traffic_capsule}
-use Rattle.traffic_message.specs.Multiplex.{split, split_9600}
-use Rattle.traffic_message.specs.Reading.{body_reading, head_at, head_of, is_body, part_reading}
-use Rattle.traffic_message.specs.Reading.{traffic_reading}
-use Rattle.traffic_message.specs.declared.body.TrafficBody.TheVariants.{Other}
-use Rattle.cell_plan.specs.declared.plan.CellPlan.{CellPlan}
-use Rattle.cell_plan.specs.declared.traffic_frame.TrafficFrame.{TrafficFrame}
+use Rattle.clean_link.specs.Common.{binary, places, Complemented, fields_at, group_at, number_part}
+use Rattle.clean_link.specs.Common.{octets_at, part_at, presence_at, reading, records_at, capsule}
+use Rattle.clean_link.specs.Common.{front_capsule, is_stated, capsule_ending, check_bits, R1200}
+use Rattle.clean_link.specs.Common.{R9600, Message, message_body, traffic_capsule, split}
+use Rattle.clean_link.specs.Common.{split_9600, body_reading, head_at, head_of, is_body}
+use Rattle.clean_link.specs.Common.{part_reading, traffic_reading, Other, CellPlan, TrafficFrame}
 use Rattle.heard_events.specs.declared.event.Event.TheVariants.{Traffic}
-use Rattle.clean_link.specs.HeardSignals.{messages_sent}
+use Rattle.clean_link.specs.HeardFrames.{messages_sent}
 use Rattle.clean_link.specs.WorkedCells.{cell_of_frames}
 
 -- a message of twelve octets, whose capsule has 120 bits

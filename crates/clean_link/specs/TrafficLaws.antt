@@ -1,32 +1,26 @@
--- What a clean link gives back of a traffic channel, behind a true mark.
+-- What a clean link, and a link with bounded noise, gives back of a traffic channel, behind a true
+-- mark (TIA/EIA-95-B, 7.1.3.5).
 use Rattle.std.specs.Prelude.{ℕ, ◌+◌, ◌-◌, ◌*◌, ◌<◌, ◌≤◌, ◌≡◌, true, List, [], ◌∷◌, length, map}
-use Rattle.std.specs.Prelude.{pos, All}
+use Rattle.std.specs.Prelude.{pos, All, ℤ, ◌<ℤ◌, ◌/◌, Bool, false, get_or}
 use Rattle.std.specs.List.{Contains, flat_map}
-use Rattle.chip_core.specs.Bits.{places}
-use Rattle.chip_core.specs.declared.sample.Sample.{Sample}
-use Rattle.chip_core.specs.declared.width.Width.{Width}
-use Rattle.frame_decoder.specs.Laws.{kept_count, ShowSymbols}
-use Rattle.rake_finger.specs.declared.form.Form.TheVariants.{Data}
-use Rattle.cell_plan.specs.Sampled.{made_samples}
-use Rattle.cell_plan.specs.Signal.{frames_of}
-use Rattle.cell_plan.specs.TrafficFrames.{cycled_frame}
-use Rattle.cell_plan.specs.declared.plan.CellPlan.{CellPlan}
-use Rattle.cell_plan.specs.declared.plan.TrafficPlan.{TrafficPlan}
-use Rattle.cell_plan.specs.declared.traffic_frame.TrafficFrame.{TrafficFrame}
-use Rattle.heard_events.specs.Moments.{frames_at, legs_at, messages_at}
-use Rattle.rake_finger.specs.Streams.{frame_softs}
-use Rattle.heard_events.specs.TrafficEvents.{power_bits_at, decoded_at, frame_heard, raw_softs}
-use Rattle.heard_events.specs.TrafficStreams.{has_frame, replaced_in, stream_of}
-use Rattle.heard_events.specs.Tuning.{Tuning}
-use Rattle.heard_events.specs.declared.leg.Leg.{Leg}
-use Rattle.heard_events.specs.declared.mark.Mark.{Mark}
-use Rattle.chip_core.specs.declared.assignment.Traffic.{Traffic}
+use Rattle.clean_link.specs.Common.{places, Sample, Width, kept_count, ShowSymbols, Data}
+use Rattle.clean_link.specs.Common.{made_samples, frames_of, cycled_frame, CellPlan, TrafficPlan}
+use Rattle.clean_link.specs.Common.{TrafficFrame, frames_at, legs_at, messages_at, frame_softs}
+use Rattle.clean_link.specs.Common.{power_bits_at, decoded_at, frame_heard, raw_softs, has_frame}
+use Rattle.clean_link.specs.Common.{replaced_in, stream_of, Tuning, Leg, Mark, Traffic}
+use Rattle.clean_link.specs.Common.{IsReceivable, Decoded, Rate, Rate2, IsAllowed, Codeword, Zero}
+use Rattle.clean_link.specs.Common.{frame_codeword, frame_bits, frame_score, unreplaced}
+use Rattle.clean_link.specs.Common.{IsTrafficFrame, IsTrafficFrame2, TrafficFrame2, SoftFrame}
+use Rattle.clean_link.specs.Common.{HasSign, KeepSigns, is_replaced}
 use Rattle.clean_link.specs.CleanLink.{IsNotDirected, IsOnPath, IsTrueMark, soft_strength}
-use Rattle.cell_plan.specs.Stated.{IsReceivable}
 use Rattle.clean_link.specs.HeardFrames.{frame_ends, frames_of_channel, received_frames}
 use Rattle.clean_link.specs.HeardFrames.{sent_power_bits, codeword_symbols, AreDistinct, IsAssigned}
 use Rattle.clean_link.specs.HeardFrames.{IsDistinctFrame, IsOnePilot, SendsSetOne, ShowPowerBits}
-use Rattle.clean_link.specs.HeardSignals.{messages_of_channel}
+use Rattle.clean_link.specs.HeardFrames.{messages_of_channel, replaced_of}
+use Rattle.symbol_path.specs.RatesTwo as rates_two
+use Rattle.rate_set_two.specs.TrafficFrames as second
+use Rattle.clean_link.specs.ReceivedFrames.{codeword_symbols2, IsDistinctFrame2, IsReceivedAs}
+use Rattle.clean_link.specs.BoundedNoise.{Bears, IsNear}
 
 -- A handset behind a true mark, which was assigned a traffic channel that the cell sends.
 pub record HearsTraffic (width : Width) (plan : CellPlan) (p : TrafficPlan) (t : Tuning)
@@ -61,44 +55,43 @@ OnePilotIsHeard = (t : Tuning) (traffic : Traffic) (m : Mark) (samples : List Sa
 
 -- ---- soft values
 
+-- Something holds of each frame of a clean link that is heard so.
+abbrev pub HoldsOfCleanFrames : (CellPlan → TrafficPlan → Tuning → Traffic → Mark →
+    (ℕ → List Leg) → ℕ → TrafficFrame → Type 0) → Type 0
+HoldsOfCleanFrames P = (width : Width) (plan : CellPlan) (p : TrafficPlan) (t : Tuning)
+    (traffic : Traffic) (m : Mark) (legs : ℕ → List Leg) (superframes k : ℕ) (f : TrafficFrame) →
+    HearsTraffic width plan p t traffic m superframes →
+    IsHeardAs plan p t traffic m legs superframes k f → P plan p t traffic m legs k f
+
 -- At the places that no power control bit replaces, the soft values of a frame, turned by its
 -- scrambling, are one positive number times the signs of its symbols before scrambling. At the
 -- others, raw, they are that number times the signs of the power control bits.
 abbrev pub TrafficHaveSentSigns : Type 0
-TrafficHaveSentSigns = (width : Width) (plan : CellPlan) (p : TrafficPlan) (t : Tuning)
-    (traffic : Traffic) (m : Mark) (legs : ℕ → List Leg) (superframes k : ℕ) (f : TrafficFrame) →
-    HearsTraffic width plan p t traffic m superframes →
-    IsHeardAs plan p t traffic m legs superframes k f →
+TrafficHaveSentSigns = HoldsOfCleanFrames (λ plan p t traffic m legs k f.
     (0 < soft_strength plan Data p.gain)
     × ShowSymbols (replaced_in traffic m k) (soft_strength plan Data p.gain) (codeword_symbols f)
     (frame_softs (made_samples plan) (stream_of t traffic m legs k) k)
     × ShowPowerBits (replaced_in traffic m k) (soft_strength plan Data p.gain) f.power_bits
-    (raw_softs t traffic m legs (made_samples plan) k)
+    (raw_softs t traffic m legs (made_samples plan) k))
 
 -- ---- frames
 
 -- So its power control bits are the ones that were sent,
 abbrev pub PowerBitsComeBack : Type 0
-PowerBitsComeBack = (width : Width) (plan : CellPlan) (p : TrafficPlan) (t : Tuning)
-    (traffic : Traffic) (m : Mark) (legs : ℕ → List Leg) (superframes k : ℕ) (f : TrafficFrame) →
-    HearsTraffic width plan p t traffic m superframes →
-    IsHeardAs plan p t traffic m legs superframes k f →
-    power_bits_at t traffic m legs (made_samples plan) k ≡ sent_power_bits f
+PowerBitsComeBack = HoldsOfCleanFrames (λ plan p t traffic m legs k f.
+    power_bits_at t traffic m legs (made_samples plan) k ≡ sent_power_bits f)
 
 -- and where no other codeword shares its symbols, it is decoded with its rate and its information
 -- bits, and is good.
 abbrev pub TrafficFramesComeBack : Type 0
-TrafficFramesComeBack = (width : Width) (plan : CellPlan) (p : TrafficPlan) (t : Tuning)
-    (traffic : Traffic) (m : Mark) (legs : ℕ → List Leg) (superframes k : ℕ) (f : TrafficFrame) →
-    HearsTraffic width plan p t traffic m superframes →
-    IsHeardAs plan p t traffic m legs superframes k f →
+TrafficFramesComeBack = HoldsOfCleanFrames (λ plan p t traffic m legs k f.
     IsDistinctFrame (replaced_in traffic m k) f →
     decoded_at t traffic m legs (made_samples plan) k ≡ record {
       rate = f.rate;
       good = true;
       bits = f.information;
       score = pos (soft_strength plan Data p.gain * kept_count (replaced_in traffic m k));
-    }
+    })
 
 -- a list of 16 power control bits is sent as it is
 abbrev pub SixteenPowerBitsAreSent : Type 0
@@ -151,3 +144,191 @@ NoneIsDirected = (width : Width) (plan : CellPlan) (p : TrafficPlan) (t : Tuning
     AreDistinct plan p (plan.link.start + m.sample) →
     All IsNotDirected (messages_of_channel plan p (plan.link.start + m.sample)) →
     IsUndirected t traffic m (made_samples plan) plan.link.samples
+
+-- ---- samples from which the frames come back
+
+-- A frame is decoded as it was sent: with its rate and its information bits, and as a good frame,
+-- whatever its score is.
+pub record IsDecodedAs (f : TrafficFrame) (decoded : Decoded) : Type 0 where
+  pub score : ℤ
+  pub same : decoded ≡ record {
+    rate = f.rate;
+    good = true;
+    bits = f.information;
+    score = score;
+  }
+
+-- There are as many samples as the cell's. Of each frame that is heard from the reference's pilot
+-- alone the power control bits come back, and so do its rate and its information bits where it is
+-- distinct.
+pub record ShowsTraffic (plan : CellPlan) (p : TrafficPlan) (t : Tuning) (traffic : Traffic)
+    (m : Mark) (superframes : ℕ) (samples : List Sample) : Type 0 where
+  pub long : length samples ≡ plan.link.samples
+  pub decoded : (legs : ℕ → List Leg) (k : ℕ) (f : TrafficFrame) →
+      IsHeardAs plan p t traffic m legs superframes k f →
+      IsDistinctFrame (replaced_in traffic m k) f →
+      IsDecodedAs f (decoded_at t traffic m legs samples k)
+  pub power_bits : (legs : ℕ → List Leg) (k : ℕ) (f : TrafficFrame) →
+      IsHeardAs plan p t traffic m legs superframes k f →
+      power_bits_at t traffic m legs samples k ≡ sent_power_bits f
+
+-- ---- rate set 1
+
+-- how well a codeword of a rate agrees with a frame's soft values at the places that power control
+-- bits leave
+abbrev pub kept_score : List ℕ → List ℤ → Rate → Codeword → ℤ
+kept_score replaced softs rate w = frame_score (unreplaced replaced softs) rate w
+
+-- A codeword of a rate, such that every other codeword of any of the four rates, its quality
+-- indicator right or not, has a lesser score.
+pub record IsOnlyBestFrame (replaced : List ℕ) (softs : List ℤ) (rate : Rate) (best : Codeword) :
+    Type 0 where
+  pub allowed : IsAllowed Zero (frame_bits rate) best
+  pub lesser : (r : Rate) (w : Codeword) → IsAllowed Zero (frame_bits r) w →
+      ¬ ((r ≡ rate) × (w ≡ best)) →
+      kept_score replaced softs r w <ℤ kept_score replaced softs rate best
+
+-- So it is of the codeword of a distinct frame that a handset hears behind a true mark,
+abbrev pub HeardAreTheOnlyBest : Type 0
+HeardAreTheOnlyBest = HoldsOfCleanFrames (λ plan p t traffic m legs k f.
+    IsDistinctFrame (replaced_in traffic m k) f →
+    IsOnlyBestFrame (replaced_in traffic m k)
+    (frame_softs (made_samples plan) (stream_of t traffic m legs k) k) f.rate
+    (frame_codeword f.rate f.information))
+
+-- and of one that is received of the reference base station alone.
+abbrev pub ReceivedAreTheOnlyBest : Type 0
+ReceivedAreTheOnlyBest = (plan : CellPlan) (p : TrafficPlan) (frame : ℕ) (f : TrafficFrame)
+    (soft : SoftFrame) → IsTrafficFrame f →
+    IsReceivedAs plan p frame (codeword_symbols f) f.power_bits soft →
+    IsDistinctFrame (replaced_of plan p frame) f →
+    IsOnlyBestFrame (replaced_of plan p frame) soft.descrambled f.rate
+    (frame_codeword f.rate f.information)
+
+-- ---- rate set 2
+
+abbrev pub kept_score2 : List ℕ → List ℤ → Rate2 → Codeword → ℤ
+kept_score2 replaced softs rate w = second.frame_score (unreplaced replaced softs) rate w
+
+pub record IsOnlyBestFrame2 (replaced : List ℕ) (softs : List ℤ) (rate : Rate2) (best : Codeword) :
+    Type 0 where
+  pub allowed : IsAllowed Zero (rates_two.frame_bits rate) best
+  pub lesser : (r : Rate2) (w : Codeword) → IsAllowed Zero (rates_two.frame_bits r) w →
+      ¬ ((r ≡ rate) × (w ≡ best)) →
+      kept_score2 replaced softs r w <ℤ kept_score2 replaced softs rate best
+
+-- so it is of a distinct frame of that set
+abbrev pub SetTwoAreTheOnlyBest : Type 0
+SetTwoAreTheOnlyBest = (plan : CellPlan) (p : TrafficPlan) (frame : ℕ) (f : TrafficFrame2)
+    (soft : SoftFrame) → IsTrafficFrame2 f →
+    IsReceivedAs plan p frame (codeword_symbols2 f) f.power_bits soft →
+    IsDistinctFrame2 (replaced_of plan p frame) f →
+    IsOnlyBestFrame2 (replaced_of plan p frame) soft.descrambled f.rate
+    (second.frame_codeword f.rate f.information)
+
+-- ---- a channel that bears noise
+
+-- At each place of a frame that a power control bit replaces, the bit of the place's group of 24
+-- and the soft value stand in a relation.
+abbrev pub ArePowered : (Bool → ℤ → Type 0) → List ℕ → List Bool → List ℤ → Type 0
+ArePowered Related replaced power_bits softs =
+    (i : ℕ) → i < 384 → is_replaced replaced i ≡ true →
+    Related (get_or power_bits (i / 24) false) (get_or softs i (pos 0))
+
+-- The soft values at these places have the signs of the power control bits.
+abbrev pub HavePowerSigns : List ℕ → List Bool → List ℤ → Type 0
+HavePowerSigns = ArePowered HasSign
+
+-- A frame has 384 soft values, which have the signs of these symbols at the places that no power
+-- control bit replaces.
+pub record NoisyFrame (replaced : List ℕ) (symbols : List Bool) (softs : List ℤ) : Type 0 where
+  pub long : length softs ≡ 384
+  pub keeps : KeepSigns replaced symbols softs
+
+-- ---- a frame that is heard from the reference's pilot alone
+
+-- Something holds of each such frame of a channel that bears the noise, whatever messages are
+-- heard.
+abbrev pub HoldsOfHeardFrames : (Tuning → Traffic → Mark → (ℕ → List Leg) → ℕ → TrafficFrame →
+    List Sample → Type 0) → Type 0
+HoldsOfHeardFrames P = (width : Width) (plan : CellPlan) (p : TrafficPlan) (t : Tuning)
+    (traffic : Traffic) (m : Mark) (legs : ℕ → List Leg) (superframes k e : ℕ) (f : TrafficFrame)
+    (samples : List Sample) →
+    HearsTraffic width plan p t traffic m superframes →
+    IsHeardAs plan p t traffic m legs superframes k f → IsNear e samples (made_samples plan) →
+    Bears plan p.gain e → P t traffic m legs k f samples
+
+-- Its 384 soft values, descrambled, have the signs of its symbols before scrambling where no power
+-- control bit replaces them. Raw, they have the signs of its power control bits at the other
+-- places.
+abbrev pub NoisyTrafficHasSentSigns : Type 0
+NoisyTrafficHasSentSigns = HoldsOfHeardFrames (λ t traffic m legs k f samples.
+    (length (frame_softs samples (stream_of t traffic m legs k) k) ≡ 384)
+    × KeepSigns (replaced_in traffic m k) (codeword_symbols f)
+    (frame_softs samples (stream_of t traffic m legs k) k)
+    × HavePowerSigns (replaced_in traffic m k) f.power_bits (raw_softs t traffic m legs samples k))
+
+-- Its power control bits are the ones that were sent.
+abbrev pub NoisyPowerBitsComeBack : Type 0
+NoisyPowerBitsComeBack = HoldsOfHeardFrames (λ t traffic m legs k f samples.
+    power_bits_at t traffic m legs samples k ≡ sent_power_bits f)
+
+-- Where no other codeword shares its symbols, its codeword alone has the greatest score of all
+-- codewords of every rate.
+abbrev pub NoisyFramesAreTheOnlyBest : Type 0
+NoisyFramesAreTheOnlyBest = HoldsOfHeardFrames (λ t traffic m legs k f samples.
+    IsDistinctFrame (replaced_in traffic m k) f →
+    IsOnlyBestFrame (replaced_in traffic m k)
+    (frame_softs samples (stream_of t traffic m legs k) k) f.rate
+    (frame_codeword f.rate f.information))
+
+-- There it is decoded with its rate and its information bits, and is good.
+abbrev pub NoisyTrafficFramesComeBack : Type 0
+NoisyTrafficFramesComeBack = HoldsOfHeardFrames (λ t traffic m legs k f samples.
+    IsDistinctFrame (replaced_in traffic m k) f →
+    IsDecodedAs f (decoded_at t traffic m legs samples k))
+
+-- ---- a file in which no handoff is directed
+
+-- Something holds of each channel that bears the noise, as a handset hears it after a true mark.
+abbrev pub HoldsOfBearing : (CellPlan → TrafficPlan → Tuning → Traffic → Mark → ℕ →
+    List Sample → Type 0) → Type 0
+HoldsOfBearing P = (width : Width) (plan : CellPlan) (p : TrafficPlan) (t : Tuning)
+    (traffic : Traffic) (m : Mark) (superframes e : ℕ) (samples : List Sample) →
+    HearsTraffic width plan p t traffic m superframes → IsNear e samples (made_samples plan) →
+    Bears plan p.gain e → P plan p t traffic m superframes samples
+
+-- There is one event for each frame that begins at the mark or later and lies in the file. It comes
+-- at the frame's own end, and the events are in order.
+abbrev pub NoisyEachFrameIsHeard : Type 0
+NoisyEachFrameIsHeard = HoldsOfBearing (λ plan p t traffic m superframes samples.
+    (legs : ℕ → List Leg) → IsUndirected t traffic m samples plan.link.samples →
+    ((k : ℕ) → IsOnePilot traffic (legs k)) →
+    flat_map (frames_at t traffic m samples) (places (plan.link.samples + 1)) ≡
+    map (λ frame. frame_heard t traffic m legs samples (frame_ends plan p frame)
+    (frame - 4 * superframes))
+    (received_frames plan p (plan.link.start + m.sample)))
+
+-- Where each of them is distinct, they are the frames that were sent.
+abbrev pub NoisySentFramesComeBack : Type 0
+NoisySentFramesComeBack = HoldsOfBearing (λ plan p t traffic m superframes samples.
+    SendsSetOne p → IsUndirected t traffic m samples plan.link.samples →
+    AreDistinct plan p (plan.link.start + m.sample) →
+    flat_map (frames_at t traffic m samples) (places (plan.link.samples + 1)) ≡
+    frames_of_channel plan p (plan.link.start + m.sample))
+
+-- There the messages are those that the signaling in the sent frames spells.
+abbrev pub NoisySentMessagesComeBack : Type 0
+NoisySentMessagesComeBack = HoldsOfBearing (λ plan p t traffic m superframes samples.
+    SendsSetOne p → IsUndirected t traffic m samples plan.link.samples →
+    AreDistinct plan p (plan.link.start + m.sample) →
+    flat_map (messages_at t traffic m samples) (places (plan.link.samples + 1)) ≡
+    messages_of_channel plan p (plan.link.start + m.sample))
+
+-- Where each of the frames from the mark on is distinct and none of these messages directs a
+-- handoff, no message that is heard directs one.
+abbrev pub NoneIsDirectedByNoise : Type 0
+NoneIsDirectedByNoise = HoldsOfBearing (λ plan p t traffic m superframes samples.
+    SendsSetOne p → AreDistinct plan p (plan.link.start + m.sample) →
+    All IsNotDirected (messages_of_channel plan p (plan.link.start + m.sample)) →
+    IsUndirected t traffic m samples plan.link.samples)

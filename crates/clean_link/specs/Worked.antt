@@ -1,13 +1,8 @@
 -- Worked values of a clean link, which the checker computes.
 use Rattle.std.specs.Prelude.{◌≡◌, refl, ℕ, ◌-◌, List, [], ◌∷◌, map, Some}
-use Rattle.chip_core.specs.declared.check_form.CheckForm.TheVariants.{Plain}
-use Rattle.quality_bits.specs.Capsules.{capsule}
-use Rattle.quality_bits.specs.Quality.{check_bits}
-use Rattle.chip_core.specs.Bits.{binary, places}
-use Rattle.rake_finger.specs.declared.form.Form.TheVariants.{Sync, Data}
-use Rattle.sync_message.specs.SyncMessage.{sync_body, sync_capsule}
-use Rattle.cell_plan.specs.declared.plan.CellPlan.{CellPlan}
-use Rattle.cell_plan.specs.SomeMessage.{some_sync}
+use Rattle.clean_link.specs.Common.{Plain, capsule, check_bits, binary, places, Data, sync_body}
+use Rattle.clean_link.specs.Common.{sync_capsule, CellPlan, some_sync}
+use Rattle.rake_finger.specs.declared.form.Form.TheVariants.{Sync}
 use Rattle.clean_link.specs.CleanLink.{first_sync_frame, heard_behind, sending_ends, soft_strength}
 use Rattle.clean_link.specs.CleanLink.{whole_sendings}
 use Rattle.clean_link.specs.DistinctPlan.{told_message}

@@ -1,13 +1,7 @@
 -- Cells of which values are worked out.
 use Rattle.std.specs.Prelude.{ℕ, ◌^◌, pos, negsuc, List, [], ◌∷◌, Option, None}
-use Rattle.chip_core.specs.declared.check_form.CheckForm.{CheckForm}
-use Rattle.chip_core.specs.declared.check_form.CheckForm.TheVariants.{Plain}
-use Rattle.cell_plan.specs.declared.frame_list.FrameList.TheVariants.{SetOne}
-use Rattle.cell_plan.specs.declared.plan.CellPlan.{CellPlan}
-use Rattle.cell_plan.specs.declared.plan.PagingPlan.{PagingPlan}
-use Rattle.cell_plan.specs.declared.plan.SyncPlan.{SyncPlan}
-use Rattle.cell_plan.specs.declared.plan.TrafficPlan.{TrafficPlan}
-use Rattle.cell_plan.specs.declared.traffic_frame.TrafficFrame.{TrafficFrame}
+use Rattle.clean_link.specs.Common.{CheckForm, Plain, SetOne, CellPlan, PagingPlan, SyncPlan}
+use Rattle.clean_link.specs.Common.{TrafficPlan, TrafficFrame}
 
 -- so much of a cell, from a local chip on, with these channels, and this form of checks of 16 bits
 abbrev pub cell_with : ℕ → ℕ → CheckForm → Option SyncPlan → List PagingPlan → List TrafficPlan →

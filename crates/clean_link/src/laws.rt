@@ -5,6 +5,10 @@
 //! mark their second. Soft values of a traffic channel behind a mark are a third. Those of a cycle
 //! of pages speak of bits alone.
 
+ghost use Rattle.clean_link.specs.BoundedNoise.{LessIsBorne, MarginsAreOne, NoNoiseIsBorne};
+ghost use Rattle.clean_link.specs.BoundedNoise.{NoisyChannelsHaveSentSigns, NoisyFramesComeBack};
+ghost use Rattle.clean_link.specs.BoundedNoise.{NoisyCodewordsAreTheOnlyBest, OtherCellsAreNoise};
+ghost use Rattle.clean_link.specs.BoundedNoise.{NoisyStreamsShowSymbols, TheLeastBearsForAll};
 ghost use Rattle.clean_link.specs.ChannelLaws.{ChannelFramesComeBack};
 ghost use Rattle.clean_link.specs.ChannelLaws.{ChannelCodewordsAreTheOnlyBest};
 ghost use Rattle.clean_link.specs.ChannelLaws.{ChannelsHaveSentSigns, EarlyFramesAreZero};
@@ -13,28 +17,42 @@ ghost use Rattle.clean_link.specs.ChannelLaws.{StrengthsArePositive};
 ghost use Rattle.clean_link.specs.CleanLaws.{AreZeroWithoutSync, FramesAreZeros, FramesComeBack};
 ghost use Rattle.clean_link.specs.CleanLaws.{HaveSentSigns, IsMarkedWhereHeard, MarksAreTrue};
 ghost use Rattle.clean_link.specs.CleanLaws.{SentCodewordsAreTheOnlyBest, WholeSendingsComeBack};
+ghost use Rattle.clean_link.specs.CleanLaws.{NoisyIsMarkedWhereHeard, NoisyMarksAreTrue};
+ghost use Rattle.clean_link.specs.CleanLaws.{NoisyPagesComeBack, NoisyPagingFramesComeBack};
+ghost use Rattle.clean_link.specs.CleanLaws.{NoisySendingsComeBack, MarksTellTheRate};
+ghost use Rattle.clean_link.specs.CleanLaws.{PagingFramesComeBack, PagingHaveSentSigns};
+ghost use Rattle.clean_link.specs.CleanLaws.{PagingCodewordsAreTheOnlyBest};
+ghost use Rattle.clean_link.specs.CleanLaws.{SilentPagingFramesAreZeros, SilentPagingIsZero};
+ghost use Rattle.clean_link.specs.CleanLaws.{UnmarkedWithoutSync};
 ghost use Rattle.clean_link.specs.DistinctFrames.{FullRateFramesAreDistinct};
+ghost use Rattle.clean_link.specs.DistinctFrames.{AFullRateFrameIsDistinct, ZerosAreShared};
+ghost use Rattle.clean_link.specs.DistinctFrames.{AreDistinctBySharing, AreDistinctBySharing2};
 ghost use Rattle.clean_link.specs.DistinctPlan.{HasMark, HasSetOne, HasSetTwo};
-ghost use Rattle.clean_link.specs.DistinctWorked.{AFullRateFrameIsDistinct, ZerosAreShared};
-ghost use Rattle.clean_link.specs.HeardEach.{EachChannelComesBack};
+ghost use Rattle.clean_link.specs.HeardEach.{EachChannelComesBack, NoEventIsDirectedByNoise};
+ghost use Rattle.clean_link.specs.HeardEach.{NoisyEachChannelComesBack};
 ghost use Rattle.clean_link.specs.HeardPages.{PagesComeBack};
-ghost use Rattle.clean_link.specs.OnlyBestFrames.{HeardAreTheOnlyBest, ReceivedAreTheOnlyBest};
-ghost use Rattle.clean_link.specs.OnlyBestFrames.{SetTwoAreTheOnlyBest};
-ghost use Rattle.clean_link.specs.PageLaws.{PageSendingsComeBack, WholePagesComeBack};
-ghost use Rattle.clean_link.specs.PagingLaws.{MarksTellTheRate, PagingFramesComeBack};
-ghost use Rattle.clean_link.specs.PagingLaws.{PagingHaveSentSigns, PagingCodewordsAreTheOnlyBest};
-ghost use Rattle.clean_link.specs.PagingLaws.{SilentPagingFramesAreZeros, SilentPagingIsZero};
-ghost use Rattle.clean_link.specs.PagingLaws.{UnmarkedWithoutSync};
-ghost use Rattle.clean_link.specs.ReceivedLaws.{EachFrameIsReceived, FramesBehindMark};
-ghost use Rattle.clean_link.specs.ReceivedLaws.{FramesShowPowerBits, FramesShowSymbols};
-ghost use Rattle.clean_link.specs.ReceivedLaws.{SetOneSends, SetTwoBehindMark};
+ghost use Rattle.clean_link.specs.NearFiles.{NearWithinNoneIsSame, NoiseAddsUp};
+ghost use Rattle.clean_link.specs.NearFiles.{LouderLinksAreLouder, OtherPathsAreNoise};
+ghost use Rattle.clean_link.specs.NearFiles.{RoundingIsNoise};
+ghost use Rattle.clean_link.specs.ReceivedLaws.{NoisyFramesAreReceived, NoisyFramesBehindMark};
+ghost use Rattle.clean_link.specs.ReceivedLaws.{NoisyReceivedAreTheOnlyBest};
+ghost use Rattle.clean_link.specs.ReceivedLaws.{NoisySetTwoAreTheOnlyBest, NoisySetTwoBehindMark};
+ghost use Rattle.clean_link.specs.ReceivedLaws.{NoisySetTwoFramesComeBack, EachFrameIsReceived};
+ghost use Rattle.clean_link.specs.ReceivedLaws.{FramesBehindMark, FramesShowPowerBits};
+ghost use Rattle.clean_link.specs.ReceivedLaws.{FramesShowSymbols, SetOneSends, SetTwoBehindMark};
 ghost use Rattle.clean_link.specs.ReceivedLaws.{SetTwoFramesComeBack, SetTwoSends};
-ghost use Rattle.clean_link.specs.SentEvents.{NoEventIsDirected, WholeMessagesComeBack};
-ghost use Rattle.clean_link.specs.SharedCodewords.{AreDistinctBySharing, AreDistinctBySharing2};
+ghost use Rattle.clean_link.specs.TrafficLaws.{NoisyFramesAreTheOnlyBest, NoisyPowerBitsComeBack};
+ghost use Rattle.clean_link.specs.TrafficLaws.{NoisyTrafficFramesComeBack};
+ghost use Rattle.clean_link.specs.TrafficLaws.{NoisyTrafficHasSentSigns, NoisyEachFrameIsHeard};
+ghost use Rattle.clean_link.specs.TrafficLaws.{NoisySentFramesComeBack, NoisySentMessagesComeBack};
+ghost use Rattle.clean_link.specs.TrafficLaws.{NoneIsDirectedByNoise, HeardAreTheOnlyBest};
+ghost use Rattle.clean_link.specs.TrafficLaws.{ReceivedAreTheOnlyBest, SetTwoAreTheOnlyBest};
 ghost use Rattle.clean_link.specs.TrafficLaws.{PowerBitsComeBack, EachFrameIsHeard, NoneIsDirected};
 ghost use Rattle.clean_link.specs.TrafficLaws.{OnePilotIsHeard, SentFramesComeBack};
 ghost use Rattle.clean_link.specs.TrafficLaws.{SentMessagesComeBack, SixteenPowerBitsAreSent};
 ghost use Rattle.clean_link.specs.TrafficLaws.{TrafficFramesComeBack, TrafficHaveSentSigns};
+ghost use Rattle.clean_link.specs.HeardPages.{PageSendingsComeBack, WholePagesComeBack};
+ghost use Rattle.clean_link.specs.SentEvents.{NoEventIsDirected, WholeMessagesComeBack};
 
 /// On a clean link the soft values of each frame in the file are `4 |h|^2 g0 g V C` times the signs
 /// of the symbols that the channel sends in it, where h is the link, g0 and g are the gains of the
@@ -192,4 +210,98 @@ pub fn frames_of_each_rate_are_distinct()
     ensures marked { HasMark }
     ensures set_one { HasSetOne }
     ensures set_two { HasSetTwo }
+{}
+
+/// A channel bears noise of the size e where an inequality of the gains, the link and e holds, by
+/// which no noise turns the sign of one of its symbols that changes each sample of a file by at
+/// most e in I and by at most e in Q. A lesser noise is borne too, and so is it by a louder
+/// channel: the margin of several channels, the greatest noise that all of them bear, is that of
+/// the least gain. Noise of the size 0 is borne by each channel with a gain of a cell that can be
+/// received, and another cell, or another path, is noise of the size of its loudness.
+///
+/// In such a file the soft values of each frame of a channel that bears the noise have the signs
+/// of the symbols that were sent, and none is 0. So the frame's bits come back, and of all
+/// codewords of its span the sent one alone has the greatest score. So do the power control bits
+/// of a traffic frame that is heard from the reference's pilot alone, and where the frame is
+/// distinct its codeword alone has the greatest score among those of all rates.
+pub fn bounded_noise()
+    ensures less { LessIsBorne }
+    ensures least { TheLeastBearsForAll }
+    ensures one { MarginsAreOne }
+    ensures none { NoNoiseIsBorne }
+    ensures other { OtherCellsAreNoise }
+    ensures channel { NoisyChannelsHaveSentSigns }
+    ensures descrambled { NoisyStreamsShowSymbols }
+    ensures frames { NoisyFramesComeBack }
+    ensures codewords { NoisyCodewordsAreTheOnlyBest }
+    ensures traffic { NoisyTrafficHasSentSigns }
+    ensures power_bits { NoisyPowerBitsComeBack }
+    ensures distinct { NoisyFramesAreTheOnlyBest }
+{}
+
+/// Where the sync channel bears the noise of a file, a handset hears of it just the whole
+/// transmissions, and the mark is true and tells the paging channels' rate. After such a mark the
+/// frames of a paging channel that bears the noise come back, and so the handset hears of it just
+/// the whole pages.
+pub fn channels_come_back_through_noise()
+    ensures sendings { NoisySendingsComeBack }
+    ensures marks { NoisyMarksAreTrue }
+    ensures marked { NoisyIsMarkedWhereHeard }
+    ensures frames { NoisyPagingFramesComeBack }
+    ensures pages { NoisyPagesComeBack }
+{}
+
+/// Where a traffic channel bears the noise of a file, its distinct frames come back, with their
+/// rates and their information bits, as good ones. In a file in which no handoff is directed one
+/// frame is heard for each that begins at the mark or later. Where each of these is distinct, they
+/// are the frames that were sent, and the messages are those that the signaling in them spells;
+/// and no handoff is directed where none is sent.
+pub fn traffic_comes_back_through_noise()
+    ensures frames { NoisyTrafficFramesComeBack }
+    ensures each { NoisyEachFrameIsHeard }
+    ensures sent { NoisySentFramesComeBack }
+    ensures messages { NoisySentMessagesComeBack }
+    ensures undirected { NoneIsDirectedByNoise }
+{}
+
+/// Where the sync channel bears the noise of a file and no handoff is directed, a handset hears of
+/// each channel that bears the noise what it hears of a clean link: of the sync channel just the
+/// whole transmissions, of the paging channel that it follows just the whole pages, and of the
+/// traffic channel that it follows one frame for each from the mark on and, where each of these is
+/// distinct, just the messages in them. No handoff is directed where each of these is distinct and
+/// no message that the channel is sent directs one.
+pub fn each_channel_comes_back_through_noise()
+    ensures heard { NoisyEachChannelComesBack }
+    ensures undirected { NoEventIsDirectedByNoise }
+{}
+
+/// So of the reference base station alone the frames of a traffic channel that bears the noise are
+/// received, one for each from the mark on that lies in the file, whatever messages are heard. Each
+/// shows by the signs of its soft values what it sends, of whichever rate set, so its power control
+/// bits come back. Where no other codeword of any rate of its rate set shares its symbols at the
+/// places that they leave, its codeword alone has the greatest score; then a frame of rate set 2
+/// comes back, rate and information bits, as a good frame. Behind the mark that the first whole
+/// transmission of the sync channel tells that is so of any near file in which the sync channel
+/// bears the noise too.
+pub fn noisy_frames_are_received()
+    ensures shown { NoisyFramesAreReceived }
+    ensures only_best { NoisyReceivedAreTheOnlyBest }
+    ensures set_two_only_best { NoisySetTwoAreTheOnlyBest }
+    ensures decoded { NoisySetTwoFramesComeBack }
+    ensures behind { NoisyFramesBehindMark }
+    ensures file { NoisySetTwoBehindMark }
+{}
+
+/// Samples that are near to others within 0 are the others, and noise upon noise is noise of the
+/// sum of both sizes. A second path to the cell is noise, as another cell is: it differs by at most
+/// the sum of its link's absolute parts, times the sum of the cell's gains. So is rounding. Over a
+/// link d times as strong the cell's samples are d times as large; samples that differ from those
+/// by at most e times d, divided by d and rounded, up, down or to the nearest, differ from the
+/// cell's by at most e. A file of 16 bits can be brought to 8 so.
+pub fn rounding_is_noise()
+    ensures none { NearWithinNoneIsSame }
+    ensures sum { NoiseAddsUp }
+    ensures path { OtherPathsAreNoise }
+    ensures louder { LouderLinksAreLouder }
+    ensures rounded { RoundingIsNoise }
 {}

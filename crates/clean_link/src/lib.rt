@@ -16,6 +16,10 @@
 //! messages are heard, of either rate set (`ReceivedLaws`). What a handset hears of all channels is
 //! said channel by channel and frame by frame (`HeardEach`), and, where each frame is distinct, as
 //! one list (`SentEvents`).
+//!
+//! Where each sample differs a little from what the cell sends, whatever the difference is, each
+//! channel that bears noise of that size still comes back (`BoundedNoise`, `NearFiles`): another
+//! cell, another path and rounding are such noise (`Rounding`).
 #![tactic(auto)]
 
 pub mod laws;

@@ -1,44 +1,373 @@
--- What is written of a clean link's file, slot by slot.
+-- What is written of a file, slot by slot.
 use Rattle.std.proofs.Common.{◌≡◌, ℕ, ◌+◌, ◌-◌, ◌*◌, ◌<◌, ◌≤◌, ◌&&◌, Bool, true, false, List, [], length, filter, refl, sym, ap, ◌∙◌, arith}
-use Rattle.std.proofs.Common.{inl, inr, nat_le, nat_lt, Option, None, Some}
+use Rattle.std.proofs.Common.{inl, inr, nat_le, nat_lt, Option, None, Some, subst, zero, suc, ◌++◌, take, drop, ℤ, ◌∷◌, map, length-append}
 use Rattle.std.specs.Prelude.{if◌then◌else◌}
 use Rattle.std.specs.List.{Contains, flat_map}
+use Rattle.std.proofs.Math.Bool.{and-false, and-true}
 use Rattle.std.proofs.lemmas.Bool.{and_from, and_parts, cases_Bool, false_from_ne_true, le-leb}
 use Rattle.chip_core.specs.Bits.{places}
-use Rattle.chip_core.proofs.Ranges.{filter_enough, filter_ext_places, filter_none_places, flat_map_ext_filter_places}
+use Rattle.chip_core.proofs.Ranges.{filter_enough, filter_ext_places, filter_none_places, flat_map_ext_filter_places, flat_map_ext_places}
+use Rattle.chip_core.specs.declared.sample.Sample.{Sample}
 use Rattle.chip_core.specs.declared.width.Width.{Width}
 use Rattle.slot_mode.specs.Slots.{is_monitored}
-use Rattle.cell_plan.specs.Pages.{paging_rate}
+use Rattle.cell_plan.specs.Pages.{paging_rate, page_cycle}
 use Rattle.cell_plan.specs.Sampled.{made_samples}
 use Rattle.cell_plan.specs.declared.plan.CellPlan.{CellPlan}
 use Rattle.cell_plan.specs.declared.plan.PagingPlan.{PagingPlan}
 use Rattle.cell_plan.specs.declared.plan.SyncPlan.{SyncPlan}
 use Rattle.heard_events.specs.Channels.{channel_stream}
 use Rattle.heard_events.specs.Marks.{mark}
-use Rattle.rake_finger.specs.Streams.{is_in_file}
+use Rattle.rake_finger.specs.Streams.{is_in_file, frame_softs}
 use Rattle.heard_events.specs.Streams.{Stream}
 use Rattle.heard_events.specs.Tuning.{Tuning}
 use Rattle.heard_events.specs.declared.channel.Channel.TheVariants.{Paging}
 use Rattle.heard_events.specs.declared.mark.Mark.{Mark}
 use Rattle.event_tap.specs.SlotLines.{frame_of_slot, frame_of_slot_end, is_heard, is_slot_within, lines_behind, lines_by_times}
-use Rattle.event_tap.specs.SlotLines.{lines_of_slot, slot_bound, slot_lines}
+use Rattle.event_tap.specs.SlotLines.{lines_of_slot, lines_of_slots, slot_bound, slot_lines, slot_softs, slot_pages}
+use Rattle.clean_link.specs.BoundedNoise.{Bears, IsNear}
 use Rattle.clean_link.specs.CleanLink.{IsOnPath, IsTrueMark}
-use Rattle.cell_plan.specs.Stated.{IsReceivable}
 use Rattle.clean_link.specs.SentEvents.{told_with_sync}
-use Rattle.clean_link.proofs.frames.PagingTimes.{paging_alone, paging_file_from, paging_file_to}
-use Rattle.clean_link.proofs.frames.Times.{known_at_once, IsAlone}
-use Rattle.clean_link.proofs.marks.MarksTrue.{marks_rate, marks_true, unmarked}
+use Rattle.clean_link.specs.CleanLaws.{ShowsSync}
+use Rattle.clean_link.proofs.frames.Times.{paging_alone, paging_file_from, paging_file_to, known_at_once, IsAlone}
+use Rattle.clean_link.proofs.frames.ChannelFrames.{clean_sync, heard_sync, paging_borne, paging_shown}
+use Rattle.clean_link.proofs.marks.MarksTrue.{marks_in, rate_in, unmarked_in}
+use Rattle.clean_link.proofs.noise.Near.{length-near, near-self, zipped_frames}
 use Rattle.clean_link.proofs.signal.Samples.{length-made}
-use Rattle.clean_link.proofs.traffic.Back.{told_behind_mark, untold}
-use Rattle.slot_link.specs.Laws.{HearsSlots, SlotTextsComeBack}
-use Rattle.slot_link.specs.SentSlots.{monitored_slots, sent_slot, slots_behind_mark, slots_sent, slots_to_end, slots_with_sync}
-use Rattle.slot_link.specs.SlotPages.{pages_in_slot}
-use Rattle.slot_link.proofs.Slots.{slot_back}
+use Rattle.clean_link.proofs.traffic.Back.{told_behind_mark_in, untold_in}
+use Rattle.slot_link.specs.Laws.{HearsSlots, NoisySlotTextsComeBack, SlotTextsComeBack, AreSlotPages, NoisySlotsComeBack, SlotsComeBack}
+use Rattle.slot_link.specs.Laws.{sent_in_span, SlotBitsComeBack, SlotBitsComeBackBySigns, SpansComeBack, SpansComeBackBySigns}
+use Rattle.slot_link.specs.Laws.{SlotPagesComeBack, monitored_slots, sent_slot, slots_behind_mark, slots_sent, slots_to_end}
+use Rattle.slot_link.specs.Laws.{slots_with_sync, pages_in_slot, bits_in_slot, placed_message, round_in_slot}
+use Rattle.std.proofs.lemmas.List.Elements.{All-contains}
+use Rattle.chip_core.specs.declared.check_form.CheckForm.{CheckForm}
+use Rattle.quality_bits.specs.declared.rate.Rate.{Rate}
+use Rattle.viterbi.specs.Signs.{HasSign, HaveSigns}
+use Rattle.slot_mode.specs.Frames.{slot_bits, frame_bits}
+use Rattle.cell_plan.specs.PageCycles.{cycle_frame_bits, cycled, paging_frame_size}
+use Rattle.cell_plan.specs.Stated.{IsStatedPaging}
+use Rattle.cell_plan.specs.Signal.{cycle_of}
+use Rattle.heard_events.specs.PagingStreams as streams
+use Rattle.clean_link.proofs.frames.Heard.{order_of}
+use Rattle.clean_link.proofs.pages.CyclesBack.{stated_pages, cycle_some, page_sendings_back}
+use Rattle.std.proofs.lemmas.List.{drop_at, take_at, take-append-le}
+use Rattle.chip_core.proofs.Counted.{flat_map-add, flat_map-next, flat_map-zero}
+use Rattle.symbol_path.specs.SentOrder.{data_shape, sent}
+use Rattle.quality_bits.specs.TrafficCodewords.{repeats_of}
+use Rattle.symbol_path.proofs.Agreement.{length-sent}
+use Rattle.viterbi.specs.Best.{IsAllowed}
+use Rattle.viterbi.specs.Laws.{signed}
+use Rattle.viterbi.specs.declared.codeword.Ends.TheVariants.{Free}
+use Rattle.frame_decoder.specs.Spans.{own_bits, paging_channel, Channel}
+use Rattle.frame_decoder.specs.declared.span_format.FrameKind.TheVariants as kinds
+use Rattle.frame_decoder.proofs.Parts.{length-frames}
+use Rattle.cell_plan.specs.Sendings.{continued_symbols}
+use Rattle.clean_link.specs.Signals.{span_codeword}
+use Rattle.clean_link.proofs.frames.Scores.{ShowCodeword, shown_codeword_own, whole_frames, frame_at, length-before, sent_as_one}
+use Rattle.viterbi.proofs.Agreement.{signed_have}
+use Rattle.std.specs.Option.{option_to_list}
+use Rattle.std.proofs.Math.Nat.{mul-le-mul_right}
+use Rattle.std.proofs.Math.Seq.{take-append-add}
+use Rattle.std.proofs.lemmas.List.Folds.{flat_map-map}
+use Rattle.quality_bits.specs.Capsules.{capsule}
+use Rattle.quality_bits.specs.declared.kind.Kind.TheVariants.{M30}
+use Rattle.paging_message.specs.HalfFrames.{capsules_in, half_frame_body, half_frame_capsule_ending}
+use Rattle.paging_message.specs.Reading.{paging_reading}
+use Rattle.paging_message.specs.declared.message.PagingMessage.{PagingMessage}
+use Rattle.cell_plan.proofs.LaidPages.{size_large}
+use Rattle.heard_events.specs.PagingEvents.{with_page}
+use Rattle.clean_link.specs.HeardPages.{ReadPage}
+use Rattle.clean_link.specs.HeardPages.{capsules_with_frames, cycle_half_frames, frame_capsules, is_between, placed, sending_of, Placed}
+use Rattle.clean_link.proofs.pages.Back.{flat_map-flat_map, pages_placed, told_each, IsPlaced, page_read}
+
+-- ---- any span
+
+-- the codeword of a span has the span's length
+codeword_allowed : (c : Channel) (bits_of : ℕ → List Bool) (first frames : ℕ) → 8 ≤ c.bits →
+    ((k : ℕ) → length (bits_of k) ≡ c.bits) →
+    IsAllowed Free (c.bits * frames) (span_codeword bits_of first frames)
+codeword_allowed c bits_of first frames enough each = record {
+  start_long = length-before bits_of c.bits first enough each;
+  bits_long = length-frames (λ j. bits_of (first + j)) c.bits frames (λ j. each (first + j));
+  begins = tt;
+  closes = tt;
+}
+
+pub signed_spans_back : SpansComeBackBySigns
+signed_spans_back c symbols bits_of first frames own softs whole each inside have =
+    let codeword = span_codeword bits_of first frames in
+    let shown : ShowCodeword c frames codeword softs =
+    subst (λ (order : List Bool). HaveSigns order softs)
+    (sym (sent_as_one c bits_of first frames whole.enough each)) have in
+    shown_codeword_own c symbols frames own codeword softs whole shown inside
+    (codeword_allowed c bits_of first frames whole.enough each)
+    ∙ frame_at (λ j. bits_of (first + j)) c.bits frames own (λ j. each (first + j)) inside
+
+pub spans_back : SpansComeBack
+spans_back c symbols strength bits_of first frames own whole each some inside =
+    let order = sent_in_span c bits_of first frames in
+    signed_spans_back c symbols bits_of first frames own (signed strength order) whole each inside
+    (signed_have strength order some)
+
+-- ---- parts of soft values have the signs of parts of the symbols
+
+signs-take : (n : ℕ) (bits : List Bool) (zs : List ℤ) → HaveSigns bits zs →
+    HaveSigns (take n bits) (take n zs)
+signs-take zero bits zs have = tt
+signs-take (suc n) [] [] have = tt
+signs-take (suc n) [] (z ∷ zs) have = absurd have
+signs-take (suc n) (b ∷ bits) [] have = absurd have
+signs-take (suc n) (b ∷ bits) (z ∷ zs) have = (have.0, signs-take n bits zs have.1)
+
+signs-drop : (n : ℕ) (bits : List Bool) (zs : List ℤ) → HaveSigns bits zs →
+    HaveSigns (drop n bits) (drop n zs)
+signs-drop zero bits zs have = have
+signs-drop (suc n) [] [] have = tt
+signs-drop (suc n) [] (z ∷ zs) have = absurd have
+signs-drop (suc n) (b ∷ bits) [] have = absurd have
+signs-drop (suc n) (b ∷ bits) (z ∷ zs) have = signs-drop n bits zs have.1
+
+-- ---- a slot
+
+-- n frames behind the first a of them
+frames_within : {A : Type 0} (f : ℕ → List A) (size a n b : ℕ) →
+    ((k : ℕ) → length (f k) ≡ size) →
+    take (size * n) (drop (size * a) (flat_map f (places (a + (n + b))))) ≡
+    flat_map (λ j. f (a + j)) (places n)
+frames_within {A} f size a n b each =
+    let front = flat_map f (places a) in
+    let own = flat_map (λ j. f (a + j)) (places n) in
+    let rest = flat_map (λ j. f (a + (n + j))) (places b) in
+    ap (λ (xs : List A). take (size * n) (drop (size * a) xs))
+    (flat_map-add f a (n + b)
+    ∙ ap (λ (xs : List A). front ++ xs) (flat_map-add (λ j. f (a + j)) n b))
+    ∙ ap (take (size * n)) (drop_at front (own ++ rest) (size * a) (length-frames f size a each))
+    ∙ take_at own rest (size * n)
+    (length-frames (λ j. f (a + j)) size n (λ j. each (a + j)))
+
+module _ (rate : Rate) (bits_of : ℕ → List Bool) (first : ℕ) (softs : List ℤ)
+    (each : (k : ℕ) → length (bits_of k) ≡ (paging_channel rate).bits)
+    (have : HaveSigns (sent_in_span (paging_channel rate) bits_of first 4) softs) where
+  -- the symbols of frame k of the slot
+  abbrev order : ℕ → List Bool
+  order k = sent data_shape (repeats_of rate) (continued_symbols bits_of (first + k))
+
+  order_long : (k : ℕ) → length (order k) ≡ 384
+  order_long k = length-sent data_shape (repeats_of rate) (continued_symbols bits_of (first + k))
+
+  -- those of n frames behind the first a of them
+  span_order : (a n b : ℕ) → a + (n + b) ≡ 4 →
+      take (384 * n) (drop (384 * a) (sent_in_span (paging_channel rate) bits_of first 4)) ≡
+      sent_in_span (paging_channel rate) bits_of (first + a) n
+  span_order a n b all =
+      ap (λ (m : ℕ). take (384 * n) (drop (384 * a) (flat_map order (places m)))) (sym all)
+      ∙ frames_within order 384 a n b order_long
+      ∙ flat_map_ext_places (λ j. order (a + j))
+      (λ j. sent data_shape (repeats_of rate) (continued_symbols bits_of (first + a + j))) n
+      (λ j lt.
+      let behind : first + (a + j) ≡ first + a + j = omega arith in
+      ap (λ (k : ℕ). sent data_shape (repeats_of rate) (continued_symbols bits_of k)) behind)
+
+  -- a frame of the slot, by the span of these
+  frame_of_span : (a n b own : ℕ) → a + (n + b) ≡ 4 → own < n →
+      own_bits (paging_channel rate) n own (take (384 * n) (drop (384 * a) softs))
+      ≡ bits_of (first + (a + own))
+  frame_of_span a n b own all inside =
+      let part = take (384 * n) (drop (384 * a) softs) in
+      let whole = sent_in_span (paging_channel rate) bits_of first 4 in
+      let place : first + a + own ≡ first + (a + own) = omega arith in
+      signed_spans_back (paging_channel rate) 384 bits_of (first + a) n own part
+      (whole_frames (kinds.Paging rate)) each inside
+      (subst (λ (xs : List Bool). HaveSigns xs part) (span_order a n b all)
+      (signs-take (384 * n) (drop (384 * a) whole) (drop (384 * a) softs)
+      (signs-drop (384 * a) whole softs have)))
+      ∙ ap bits_of place
+
+  frame_of_four : (k : ℕ) → k < 4 → frame_bits rate softs k ≡ bits_of (first + k)
+  frame_of_four zero inside = frame_of_span 0 2 2 0 refl (omega arith)
+  frame_of_four (suc zero) inside = frame_of_span 0 3 1 1 refl (omega arith)
+  frame_of_four (suc (suc zero)) inside = frame_of_span 1 3 0 1 refl (omega arith)
+  frame_of_four (suc (suc (suc zero))) inside = frame_of_span 2 2 0 1 refl (omega arith)
+  frame_of_four (suc (suc (suc (suc k)))) inside = absurd (omega (arith, inside))
+
+pub signed_slot_bits_back : SlotBitsComeBackBySigns
+unfolding slot_bits
+signed_slot_bits_back rate bits_of first softs each have =
+    flat_map_ext_places (frame_bits rate softs) (λ k. bits_of (first + k)) 4
+    (λ k inside. frame_of_four rate bits_of first softs each have k inside)
+
+pub slot_bits_back : SlotBitsComeBack
+slot_bits_back rate strength bits_of first each some =
+    let order = sent_in_span (paging_channel rate) bits_of first 4 in
+    signed_slot_bits_back rate bits_of first (signed strength order) each
+    (signed_have strength order some)
+
+-- ---- capsules frame by frame
+
+-- what more bits end behind others
+capsules-append : (size : ℕ) (before own : List Bool) →
+    capsules_in size (before ++ own) ≡ capsules_in size before ++
+    flat_map (λ i. option_to_list (half_frame_capsule_ending size (before ++ take (i + 1) own)))
+    (places (length own))
+unfolding capsules_in
+capsules-append size before own =
+    let all = before ++ own in
+    let ended = λ (bits : List Bool). option_to_list (half_frame_capsule_ending size bits) in
+    let first = flat_map (λ i. ended (take (i + 1) before)) (places (length before)) in
+    ap (λ (n : ℕ). flat_map (λ i. ended (take (i + 1) all)) (places n)) (length-append before own)
+    ∙ flat_map-add (λ i. ended (take (i + 1) all)) (length before) (length own)
+    ∙ ap (λ (l : List (List Bool)). l ++
+    flat_map (λ i. ended (take (length before + i + 1) all)) (places (length own)))
+    (flat_map_ext_places (λ i. ended (take (i + 1) all)) (λ i. ended (take (i + 1) before))
+    (length before)
+    (λ i lt. ap ended (take-append-le (i + 1) before own (omega (arith, lt)))))
+    ∙ ap (λ (l : List (List Bool)). first ++ l)
+    (flat_map_ext_places (λ i. ended (take (length before + i + 1) all))
+    (λ i. ended (before ++ take (i + 1) own)) (length own)
+    (λ i lt.
+    let e : length before + i + 1 ≡ length before + (i + 1) = omega arith in
+    ap (λ (n : ℕ). ended (take n all)) e ∙ ap ended (take-append-add before own (i + 1))))
+
+capsules_of_frames : (size : ℕ) (own : ℕ → List Bool) (n : ℕ) →
+    capsules_in size (flat_map own (places n)) ≡ flat_map (frame_capsules size own) (places n)
+unfolding capsules_in
+capsules_of_frames size own zero =
+    let none = flat_map-zero own in
+    ap (capsules_in size) none
+    ∙ flat_map-zero (λ i. option_to_list (half_frame_capsule_ending size (take (i + 1) [])))
+    ∙ sym (flat_map-zero (frame_capsules size own))
+capsules_of_frames size own (suc n) =
+    ap (capsules_in size) (flat_map-next own n)
+    ∙ capsules-append size (flat_map own (places n)) (own n)
+    ∙ ap (λ (l : List (List Bool)). l ++ frame_capsules size own n)
+    (capsules_of_frames size own n)
+    ∙ sym (flat_map-next (frame_capsules size own) n)
+
+-- ---- their messages
+
+-- the messages of a capsule: one, or none where it has a fault
+abbrev messages_of : CheckForm → List Bool → List PagingMessage
+messages_of form c = option_to_list (paging_reading form c)
+
+abbrev messages_with : CheckForm → ℕ × List Bool → List PagingMessage
+messages_with form sending = messages_of form sending.1
+
+-- those of frames are those of their capsules
+pages_of_frames : (form : CheckForm) (rate : Rate) (own : ℕ → List Bool) (n : ℕ) →
+    slot_pages form rate (flat_map own (places n)) ≡
+    flat_map (messages_with form) (capsules_with_frames (half_frame_body rate) own n)
+unfolding slot_pages
+pages_of_frames form rate own n =
+    let size = half_frame_body rate in
+    let capsules : ℕ → List (List Bool) = frame_capsules size own in
+    let each : ℕ → List (ℕ × List Bool) = λ k. map (λ (c : List Bool). (k, c)) (capsules k) in
+    ap (flat_map (messages_of form)) (capsules_of_frames size own n)
+    ∙ flat_map-flat_map (messages_of form) capsules (places n)
+    ∙ flat_map_ext_places (λ k. flat_map (messages_of form) (capsules k))
+    (λ k. flat_map (messages_with form) (each k)) n
+    (λ k lt. sym (flat_map-map (messages_with form) (λ (c : List Bool). (k, c)) (capsules k)))
+    ∙ sym (flat_map-flat_map (messages_with form) each (places n))
+
+-- the message of a page that is told, where one is
+abbrev message_told : Option ReadPage → List PagingMessage
+message_told None = []
+message_told (Some page) = page.message ∷ []
+
+told_is : (c : List Bool) (o : Option PagingMessage) →
+    message_told (with_page c o) ≡ option_to_list o
+told_is c None = refl
+told_is c (Some m) = refl
+
+-- the capsule of a page is read as its message
+page_told : (form : CheckForm) (first half_frames : ℕ) (p : Placed) → IsPlaced p →
+    messages_with form (sending_of form first half_frames p) ≡ placed_message p ∷ []
+page_told form first half_frames p there =
+    let c = capsule M30 form p.page.body in
+    sym (told_is c (paging_reading form c))
+    ∙ ap message_told (page_read form p.page.body there.message)
+
+-- ---- the law
+
+pub slot_pages_back : SlotPagesComeBack
+unfolding pages_in_slot
+slot_pages_back rate form pages first whole =
+    let size = half_frame_body rate in
+    let own : ℕ → List Bool = λ k.
+    cycled (page_cycle rate form pages) (paging_frame_size rate) (first + k) in
+    let cycle = cycle_half_frames rate form pages in
+    let rounds = 2 * (first + 4) in
+    let laid = placed size form 0 0 pages in
+    let kept : ℕ → Placed → Bool = λ r. is_between (2 * first) (2 * (first + 4)) (cycle * r) in
+    let sendings : ℕ → List (ℕ × List Bool) = λ r.
+    map (sending_of form first (cycle * r)) (filter (kept r) laid) in
+    let room : 1 * rounds ≤ cycle * rounds =
+    mul-le-mul_right rounds (cycle_some rate form pages whole) in
+    let large = size_large rate in
+    pages_of_frames form rate own 4
+    ∙ ap (flat_map (messages_with form))
+    (page_sendings_back rate form pages first 4 rounds whole (omega (arith, room)))
+    ∙ flat_map-flat_map (messages_with form) sendings (places rounds)
+    ∙ flat_map_ext_places (λ r. flat_map (messages_with form) (sendings r))
+    (λ r. round_in_slot first (cycle * r) laid) rounds
+    (λ r lt.
+    told_each IsPlaced (messages_with form) (sending_of form first (cycle * r)) placed_message
+    (kept r) laid (pages_placed size form 0 0 0 pages large (omega arith) whole.heard)
+    (λ p there is. page_told form first (cycle * r) p there))
+
+module _ (width : Width) (plan : CellPlan) (sync : SyncPlan) (p : PagingPlan) (t : Tuning)
+    (m : Mark) (superframes : ℕ) (is : HearsSlots width plan sync p t m superframes) where
+  -- the handset takes the channel to have the cell's rate
+  same_rate : streams.paging_rate m.prat ≡ paging_rate plan.sync
+  same_rate = ap streams.paging_rate is.rate ∙ sym (ap paging_rate is.sends)
+
+  -- the frames of a slot that ends in the file lie in it
+  there : (i k : ℕ) → i < slots_to_end plan superframes → k < 4 →
+      is_in_file t.count (streams.paging_stream t p.number m) (4 * i + k) ≡ true
+  there i k inside low =
+      let place = is.marked.place in
+      paging_file_from t p.number m is.tuned.alone (4 * i + k)
+      (omega (arith, inside, low, place, is.tuned.count))
+
+  -- So of near samples their soft values have the signs of what is sent, and the pages come back.
+  pub slot_back : (e : ℕ) (samples : List Sample) → IsNear e samples (made_samples plan) →
+      Bears plan p.gain e → (i : ℕ) → i < slots_to_end plan superframes →
+      AreSlotPages plan p t m superframes i samples
+  slot_back e samples near bears i inside =
+      let rate = paging_rate plan.sync in
+      let bits_of = cycle_frame_bits (cycle_of plan p) in
+      let first : ℕ = 4 * (superframes + i) in
+      let s = streams.paging_stream t p.number m in
+      let form = plan.cell.check30 in
+      let shown = paging_shown width plan sync p t m superframes e samples is.receivable is.sends is.sent
+      is.tuned is.marked is.rate near bears in
+      ap (λ (c : CheckForm). slot_pages c (streams.paging_rate m.prat)
+      (slot_bits (streams.paging_rate m.prat) (slot_softs samples s i))) is.tuned.checks_of_30
+      ∙ ap (slot_pages form (streams.paging_rate m.prat))
+      (signed_slot_bits_back (streams.paging_rate m.prat) bits_of first (slot_softs samples s i) shown.each
+      (zipped_frames HasSign (λ k. order_of s bits_of (first + k))
+      (λ k. frame_softs samples s (4 * i + k)) 4
+      (λ k low.
+      let same : 4 * superframes + (4 * i + k) ≡ first + k = omega arith in
+      subst (λ (n : ℕ). HaveSigns (order_of s bits_of n) (frame_softs samples s (4 * i + k))) same
+      (shown.shown (4 * i + k) (there i k inside low)))))
+      ∙ ap (λ (r : Rate). slot_pages form r (bits_in_slot bits_of first)) same_rate
+      ∙ slot_pages_back rate form p.pages first
+      (stated_pages rate p
+      (All-contains (IsStatedPaging rate) plan.paging p is.receivable.pages is.sent))
+
+pub noisy_slots_back : NoisySlotsComeBack
+noisy_slots_back width plan sync p t m superframes i e samples is near bears inside =
+    slot_back width plan sync p t m superframes is e samples near bears i inside
+
+pub slots_back : SlotsComeBack
+slots_back width plan sync p t m superframes i is inside =
+    slot_back width plan sync p t m superframes is 0 (made_samples plan)
+    (near-self 0 (made_samples plan)) (paging_borne width plan p is.receivable is.sent) i inside
 
 -- ---- the slots in the file
 
 module _ (plan : CellPlan) (t : Tuning) (number : ℕ) (m : Mark) (superframes : ℕ)
-    (tuned : IsOnPath plan t) (marked : IsTrueMark plan m superframes) where
+    (tuned : IsOnPath plan t) (marked : IsTrueMark plan m superframes) (samples : List Sample)
+    (long : length samples ≡ plan.link.samples) where
   abbrev stream : Stream
   stream = channel_stream t (Paging number) m
 
@@ -57,7 +386,7 @@ module _ (plan : CellPlan) (t : Tuning) (number : ℕ) (m : Mark) (superframes :
   abbrev is_there : ℕ → ℕ → Bool
   is_there slot i =
       is_in_file t.count stream (frame_of_slot slot i)
-      && nat_le (frame_of_slot_end stream slot i) (length (made_samples plan))
+      && nat_le (frame_of_slot_end stream slot i) (length samples)
 
   frame_there : (slot i : ℕ) → slot < slots_to_end plan superframes → i < 4 →
       is_there slot i ≡ true
@@ -66,14 +395,13 @@ module _ (plan : CellPlan) (t : Tuning) (number : ℕ) (m : Mark) (superframes :
       let room : m.sample + 24576 * (4 * slot + i + 1) ≤ plan.link.samples =
       omega (arith, inside, low, place) in
       and_from (is_in_file t.count stream (frame_of_slot slot i))
-      (nat_le (frame_of_slot_end stream slot i) (length (made_samples plan)))
+      (nat_le (frame_of_slot_end stream slot i) (length samples))
       (paging_file_from t number m tuned.alone (frame_of_slot slot i)
-      (omega (arith, room, tuned.count)))
-      (le-leb (frame_of_slot_end stream slot i) (length (made_samples plan))
-      (omega (arith, room, end_is slot i, length-made plan)))
+      (omega (arith, room, tuned.count))) (le-leb (frame_of_slot_end stream slot i) (length samples)
+      (omega (arith, room, end_is slot i, long)))
 
   slot_within : (slot : ℕ) → slot < slots_to_end plan superframes →
-      is_slot_within t.count stream (length (made_samples plan)) slot ≡ true
+      is_slot_within t.count stream (length samples) slot ≡ true
   unfolding places
   slot_within slot inside =
       rw (
@@ -84,7 +412,7 @@ module _ (plan : CellPlan) (t : Tuning) (number : ℕ) (m : Mark) (superframes :
       ) refl
 
   slot_outside : (slot : ℕ) → slots_to_end plan superframes ≤ slot →
-      is_slot_within t.count stream (length (made_samples plan)) slot ≡ false
+      is_slot_within t.count stream (length samples) slot ≡ false
   unfolding places
   slot_outside slot past =
       let there = is_there slot in
@@ -95,7 +423,7 @@ module _ (plan : CellPlan) (t : Tuning) (number : ℕ) (m : Mark) (superframes :
       let two = and_parts (there 2) (there 3 && true) last.1 in
       let one = and_parts (there 3) true two.1 in
       let inside = and_parts (is_in_file t.count stream (frame_of_slot slot 3))
-      (nat_le (frame_of_slot_end stream slot 3) (length (made_samples plan))) one.0 in
+      (nat_le (frame_of_slot_end stream slot 3) (length samples)) one.0 in
       let room = paging_file_to t number m tuned.alone (frame_of_slot slot 3) inside.0 in
       let place = marked.place in
       omega (arith, room, past, place, tuned.count))
@@ -103,72 +431,52 @@ module _ (plan : CellPlan) (t : Tuning) (number : ℕ) (m : Mark) (superframes :
   -- those that are heard are the monitored ones of them, at a rate of a paging channel
   module _ (key cycle : ℕ) where
     abbrev heard : ℕ → Bool
-    heard = is_heard key cycle t.count stream m (length (made_samples plan))
-
-    heard_where : (slot : ℕ) (low within : Bool) → nat_lt m.prat 2 ≡ low →
-        is_slot_within t.count stream (length (made_samples plan)) slot ≡ within →
-        heard slot ≡ (is_monitored (m.time + slot) key cycle && low && within)
-    heard_where slot low within rate lies = rw (rate, lies) refl
+    heard = is_heard key cycle t.count stream m (length samples)
 
     heard_past : (slot : ℕ) → slots_to_end plan superframes ≤ slot → heard slot ≡ false
     heard_past slot past =
-        heard_where slot (nat_lt m.prat 2) false refl (slot_outside slot past)
-        ∙ none_of (is_monitored (m.time + slot) key cycle) (nat_lt m.prat 2)
-      where
-        none_of : (a b : Bool) → (a && b && false) ≡ false
-        none_of true true = refl
-        none_of true false = refl
-        none_of false b = refl
+        let others = is_monitored (m.time + slot) key cycle && nat_lt m.prat 2 in
+        rw (slot_outside slot past, and-false others) refl
 
     heard_low : nat_lt m.prat 2 ≡ true → (slot : ℕ) → slot < slots_to_end plan superframes →
         heard slot ≡ is_monitored (plan.cell.time + (superframes + slot)) key cycle
     heard_low low slot inside =
+        let monitored = is_monitored (plan.cell.time + (superframes + slot)) key cycle in
         let time : m.time + slot ≡ plan.cell.time + (superframes + slot) =
         omega (arith, marked.time) in
-        heard_where slot true true low (slot_within slot inside)
-        ∙ all_of (is_monitored (m.time + slot) key cycle)
-        ∙ ap (λ (now : ℕ). is_monitored now key cycle) time
-      where
-        all_of : (a : Bool) → (a && true && true) ≡ a
-        all_of true = refl
-        all_of false = refl
+        rw (low, slot_within slot inside, time, and-true monitored, and-true monitored) refl
 
     heard_high : nat_lt m.prat 2 ≡ false → (slot : ℕ) → heard slot ≡ false
-    heard_high high slot =
-        let within = is_slot_within t.count stream (length (made_samples plan)) slot in
-        heard_where slot false within high refl
-        ∙ none_of (is_monitored (m.time + slot) key cycle) within
-      where
-        none_of : (a b : Bool) → (a && false && b) ≡ false
-        none_of true b = refl
-        none_of false b = refl
+    heard_high high slot = rw (high, and-false (is_monitored (m.time + slot) key cycle)) refl
 
     -- no slot ends behind the file
-    slots_low : nat_lt m.prat 2 ≡ true →
-        filter heard (places (slot_bound (length (made_samples plan)))) ≡
+    slots_low : nat_lt m.prat 2 ≡ true → filter heard (places (slot_bound (length samples))) ≡
         monitored_slots key cycle plan superframes
     slots_low low =
         let place = marked.place in
-        filter_enough heard (slot_bound (length (made_samples plan)))
-        (slots_to_end plan superframes)
-        (λ slot past. heard_past slot (omega (arith, past, place, length-made plan))) heard_past
+        filter_enough heard (slot_bound (length samples)) (slots_to_end plan superframes)
+        (λ slot past. heard_past slot (omega (arith, past, place, long))) heard_past
         ∙ filter_ext_places heard
         (λ i. is_monitored (plan.cell.time + (superframes + i)) key cycle)
         (slots_to_end plan superframes) (λ slot inside. heard_low low slot inside)
 
-    slots_high : nat_lt m.prat 2 ≡ false →
-        filter heard (places (slot_bound (length (made_samples plan)))) ≡ []
+    slots_high : nat_lt m.prat 2 ≡ false → filter heard (places (slot_bound (length samples))) ≡ []
     slots_high high =
-        filter_none_places heard (slot_bound (length (made_samples plan)))
+        filter_none_places heard (slot_bound (length samples))
         (λ slot below. heard_high high slot)
 
 -- ---- their lines
 
 module _ (width : Width) (plan : CellPlan) (sync : SyncPlan) (p : PagingPlan) (t : Tuning)
-    (m : Mark) (superframes : ℕ) (is : HearsSlots width plan sync p t m superframes) where
+    (m : Mark) (superframes : ℕ) (is : HearsSlots width plan sync p t m superframes) (e : ℕ)
+    (samples : List Sample) (near : IsNear e samples (made_samples plan))
+    (bears : Bears plan p.gain e) where
+  long : length samples ≡ plan.link.samples
+  long = length-near e samples (made_samples plan) near ∙ length-made plan
+
   -- the lines of a slot are those that are sent
   lines_back : (slot : ℕ) → slot < slots_to_end plan superframes →
-      lines_of_slot t.check30 m (made_samples plan) (channel_stream t (Paging p.number) m) slot ≡
+      lines_of_slot t.check30 m samples (channel_stream t (Paging p.number) m) slot ≡
       sent_slot plan p (superframes + slot)
   lines_back slot inside =
       let s = channel_stream t (Paging p.number) m in
@@ -177,65 +485,57 @@ module _ (width : Width) (plan : CellPlan) (sync : SyncPlan) (p : PagingPlan) (t
       let place = is.marked.place in
       let ends : frame_of_slot_end s slot 3 ≡
       98304 * (superframes + slot + 1) - plan.link.start =
-      omega (arith, place, end_is plan t p.number m superframes is.tuned is.marked slot 3) in
+      omega (arith, place, end_is plan t p.number m superframes is.tuned is.marked samples long slot 3) in
       let time : m.time + slot ≡ plan.cell.time + (superframes + slot) =
       omega (arith, is.marked.time) in
       ap (slot_lines (frame_of_slot_end s slot 3) (m.time + slot))
-      (slot_back width plan sync p t m superframes is slot inside)
+      (slot_back width plan sync p t m superframes is e samples near bears slot inside)
       ∙ ap (λ (at : ℕ). slot_lines at (m.time + slot) pages) ends
       ∙ ap (λ (now : ℕ). slot_lines (98304 * (superframes + slot + 1) - plan.link.start) now pages)
       time
 
   -- so is the whole text, at either rate of a paging channel, and none at another one
   text_low : (key cycle : ℕ) → nat_lt m.prat 2 ≡ true →
-      lines_by_times key cycle t p.number m (made_samples plan) ≡
+      lines_by_times key cycle t p.number m samples ≡
       slots_behind_mark key cycle plan p (Some superframes)
   text_low key cycle low =
-      let lines = lines_of_slot t.check30 m (made_samples plan)
-      (channel_stream t (Paging p.number) m) in
-      ap (flat_map lines) (slots_low plan t p.number m superframes is.tuned is.marked key cycle low)
+      let lines = lines_of_slot t.check30 m samples (channel_stream t (Paging p.number) m) in
+      ap (flat_map lines) (slots_low plan t p.number m superframes is.tuned is.marked samples long key cycle low)
       ∙ flat_map_ext_filter_places
       (λ i. is_monitored (plan.cell.time + (superframes + i)) key cycle) lines
       (λ i. sent_slot plan p (superframes + i)) (slots_to_end plan superframes)
       (λ slot inside kept. lines_back slot inside)
 
   text_high : (key cycle : ℕ) → nat_lt m.prat 2 ≡ false →
-      lines_by_times key cycle t p.number m (made_samples plan) ≡ []
+      lines_by_times key cycle t p.number m samples ≡ []
   text_high key cycle high =
       ap
-      (flat_map
-      (lines_of_slot t.check30 m (made_samples plan) (channel_stream t (Paging p.number) m)))
-      (slots_high plan t p.number m superframes is.tuned is.marked key cycle high)
+      (flat_map (lines_of_slot t.check30 m samples (channel_stream t (Paging p.number) m)))
+      (slots_high plan t p.number m superframes is.tuned is.marked samples long key cycle high)
 
   text_back : (key cycle : ℕ) → told_with_sync plan (Some sync) ≡ Some superframes →
-      lines_by_times key cycle t p.number m (made_samples plan) ≡
-      slots_with_sync key cycle plan p (Some sync)
+      lines_by_times key cycle t p.number m samples ≡ slots_with_sync key cycle plan p (Some sync)
   text_back key cycle told =
-      let behind = slots_behind_mark key cycle plan p in
       let same : nat_lt m.prat 2 ≡ nat_lt sync.message.prat 2 =
       ap (λ (n : ℕ). nat_lt n 2) is.rate in
       elim (cases_Bool (nat_lt sync.message.prat 2)) [
-        | inl low ↦
-            text_low key cycle (same ∙ low)
-            ∙ ap behind (sym told)
-            ∙ sym (ap (λ (b : Bool). if b then behind (told_with_sync plan (Some sync)) else [])
-            low)
-        | inr high ↦
-            text_high key cycle (same ∙ high)
-            ∙ sym (ap (λ (b : Bool). if b then behind (told_with_sync plan (Some sync)) else [])
-            high)
+        | inl low ↦ rw (low, told) (text_low key cycle (same ∙ low))
+        | inr high ↦ rw high (text_high key cycle (same ∙ high))
       ]
 
 -- ---- the law
 
-either_none : {A : Type 0} (b : Bool) (xs : List A) → xs ≡ [] → (if b then xs else []) ≡ []
+either_none : (b : Bool) (xs : List ℕ) → xs ≡ [] → (if b then xs else []) ≡ []
 either_none true xs none = none
 either_none false xs none = refl
 
-module _ (width : Width) (plan : CellPlan) (p : PagingPlan) (t : Tuning) (key cycle : ℕ)
-    (is : IsReceivable width plan) (tuned : IsOnPath plan t) (sent : Contains plan.paging p) where
-  count : length (made_samples plan) ≡ t.count
-  count = length-made plan ∙ sym tuned.count
+-- Of near samples that show the frames of the sync channel, and which the paging channel bears.
+module _ (width : Width) (plan : CellPlan) (p : PagingPlan) (t : Tuning) (key cycle e : ℕ)
+    (samples : List Sample) (shows : ShowsSync width plan samples)
+    (near : IsNear e samples (made_samples plan)) (bears : Bears plan p.gain e)
+    (tuned : IsOnPath plan t) (sent : Contains plan.paging p) where
+  count : length samples ≡ t.count
+  count = length-near e samples (made_samples plan) near ∙ length-made plan ∙ sym tuned.count
 
   -- without a mark none is sent
   none_sent : (sync : Option SyncPlan) → told_with_sync plan sync ≡ None →
@@ -248,34 +548,41 @@ module _ (width : Width) (plan : CellPlan) (p : PagingPlan) (t : Tuning) (key cy
 
   -- with the mark that is set
   by_sync : (sync : Option SyncPlan) (m : Mark) → plan.sync ≡ sync →
-      mark t (made_samples plan) t.count ≡ Some m →
-      lines_by_times key cycle t p.number m (made_samples plan) ≡
-      slots_with_sync key cycle plan p sync
+      mark t samples t.count ≡ Some m →
+      lines_by_times key cycle t p.number m samples ≡ slots_with_sync key cycle plan p sync
   by_sync None m silent set =
-      let unset = unmarked width plan t t.count is silent tuned in absurd (cc)
+      let unset = unmarked_in shows tuned t.count silent in absurd (cc)
   by_sync (Some sync) m sends set =
-      let (superframes, true_mark) = marks_true width plan t t.count m is tuned set in
+      let (superframes, true_mark) = marks_in shows tuned t.count m set in
       text_back width plan sync p t m superframes
       (record {
-        receivable = is;
+        receivable = shows.receivable;
         tuned = tuned;
         sends = sends;
         sent = sent;
         marked = true_mark;
-        rate = marks_rate width plan sync t t.count m is sends tuned set;
-      })
-      key cycle
-      (told_behind_mark width plan t is tuned (Some sync) m sends set superframes true_mark.time)
+        rate = rate_in shows tuned sync t.count m sends set;
+      }) e samples near bears key cycle
+      (told_behind_mark_in shows tuned (Some sync) m sends set superframes true_mark.time)
 
-  by_mark : (set : Option Mark) → mark t (made_samples plan) t.count ≡ set →
-      lines_behind key cycle t p.number (made_samples plan) set ≡ slots_sent key cycle plan p
+  by_mark : (set : Option Mark) → mark t samples t.count ≡ set →
+      lines_behind key cycle t p.number samples set ≡ slots_sent key cycle plan p
   unfolding slots_sent
-  by_mark None unset = sym (none_sent plan.sync (untold width plan t is tuned plan.sync refl unset))
+  by_mark None unset =
+      sym (none_sent plan.sync (untold_in shows tuned plan.sync refl unset))
   by_mark (Some m) set = by_sync plan.sync m refl set
+
+  slot_texts : lines_of_slots key cycle t p.number samples ≡ slots_sent key cycle plan p
+  slot_texts =
+      ap (λ (n : ℕ). lines_behind key cycle t p.number samples (mark t samples n)) count
+      ∙ by_mark (mark t samples t.count) refl
+
+pub noisy_slot_texts_back : NoisySlotTextsComeBack
+noisy_slot_texts_back width plan sync p t key cycle e samples is tuned sent bears =
+    slot_texts width plan p t key cycle e samples (heard_sync width plan sync e samples is) is.near bears
+    tuned sent
 
 pub slot_texts_back : SlotTextsComeBack
 slot_texts_back width plan p t key cycle is tuned sent =
-    ap
-    (λ (n : ℕ). lines_behind key cycle t p.number (made_samples plan)
-    (mark t (made_samples plan) n)) (count width plan p t key cycle is tuned sent)
-    ∙ by_mark width plan p t key cycle is tuned sent (mark t (made_samples plan) t.count) refl
+    slot_texts width plan p t key cycle 0 (made_samples plan) (clean_sync width plan is)
+    (near-self 0 (made_samples plan)) (paging_borne width plan p is sent) tuned sent

@@ -1,12 +1,15 @@
--- The laws of slots on a clean link.
-use Rattle.std.specs.Prelude.{ℕ, ◌+◌, ◌*◌, ◌<◌, ◌≡◌, Bool, List, length, Some}
+-- The laws of slots on a clean link, and on one with bounded noise.
+use Rattle.std.specs.Prelude.{ℕ, ◌+◌, ◌*◌, ◌<◌, ◌≡◌, Bool, List, length, ℤ, Some, ◌-◌, ◌/◌}
+use Rattle.std.specs.Prelude.{if◌then◌else◌, nat_lt, [], filter, Option, None, map}
 use Rattle.std.specs.List.{Contains, flat_map}
 use Rattle.chip_core.specs.Bits.{places}
 use Rattle.chip_core.specs.declared.check_form.CheckForm.{CheckForm}
+use Rattle.chip_core.specs.declared.sample.Sample.{Sample}
 use Rattle.chip_core.specs.declared.width.Width.{Width}
 use Rattle.symbol_path.specs.SentOrder.{sent}
 use Rattle.quality_bits.specs.declared.rate.Rate.{Rate}
 use Rattle.viterbi.specs.Laws.{signed}
+use Rattle.viterbi.specs.Signs.{HaveSigns}
 use Rattle.frame_decoder.specs.Spans.{Channel, own_bits, paging_channel}
 use Rattle.slot_mode.specs.Frames.{slot_bits}
 use Rattle.cell_plan.specs.PageCycles.{cycled, paging_frame_size}
@@ -22,13 +25,81 @@ use Rattle.heard_events.specs.PagingStreams as heard
 use Rattle.heard_events.specs.Tuning.{Tuning}
 use Rattle.heard_events.specs.declared.channel.Channel.TheVariants as channels
 use Rattle.heard_events.specs.declared.mark.Mark.{Mark}
-use Rattle.event_tap.specs.SlotLines.{lines_of_slots, slot_pages, slot_softs}
-use Rattle.clean_link.specs.CleanLink.{IsOnPath, IsTrueMark}
+use Rattle.event_tap.specs.SlotLines.{lines_of_slots, slot_pages, slot_softs, slot_lines}
+use Rattle.clean_link.specs.BoundedNoise.{Bears, IsNear}
+use Rattle.clean_link.specs.CleanLink.{IsOnPath, IsTrueMark, whole_sendings}
+use Rattle.clean_link.specs.CleanLaws.{HearsSync}
 use Rattle.cell_plan.specs.Stated.{IsReceivable}
-use Rattle.clean_link.specs.SentCodewords.{IsWholeChannel}
-use Rattle.clean_link.specs.WholePages.{AreWholePages}
-use Rattle.slot_link.specs.SentSlots.{slots_sent, slots_to_end}
-use Rattle.slot_link.specs.SlotPages.{bits_in_slot, pages_in_slot}
+use Rattle.clean_link.specs.Signals.{IsWholeChannel}
+use Rattle.clean_link.specs.HeardPages.{AreWholePages, end_chip, message_in, cycle_half_frames}
+use Rattle.clean_link.specs.HeardPages.{is_between, placed, Placed}
+use Rattle.slot_mode.specs.Slots.{is_monitored}
+use Rattle.clean_link.specs.SentEvents.{told_by_first}
+use Rattle.paging_message.specs.HalfFrames.{half_frame_body}
+use Rattle.paging_message.specs.declared.message.PagingMessage.{PagingMessage}
+
+-- the bits of the four frames from frame `first` on, where a channel sends these in each frame
+abbrev pub bits_in_slot : (ℕ → List Bool) → ℕ → List Bool
+bits_in_slot bits_of first = flat_map (λ k. bits_of (first + k)) (places 4)
+
+-- the message of a page that is sent
+abbrev pub placed_message : Placed → PagingMessage
+placed_message p = message_in p.page.body
+
+-- Of the pages of one round of a cycle, which begins so many half-frames behind the first one,
+-- those whose run begins in the four frames from frame `first` on, and which end in them too, in
+-- order. A run begins with a half-frame; a page ends with its last bit.
+abbrev pub round_in_slot : ℕ → ℕ → List Placed → List PagingMessage
+round_in_slot first half_frames pages =
+    map placed_message (filter (is_between (2 * first) (2 * (first + 4)) half_frames) pages)
+
+-- Those of all rounds of the cycle: no round but the first so many begins before the slot ends.
+unfoldable pub pages_in_slot : Rate → CheckForm → List Page → ℕ → List PagingMessage
+pages_in_slot rate form pages first =
+    flat_map
+    (λ r. round_in_slot first (cycle_half_frames rate form pages * r)
+    (placed (half_frame_body rate) form 0 0 pages))
+    (places (2 * (first + 4)))
+
+-- Slot n is that of the cell's superframe n, of 98,304 chips from local chip 98,304 n on, and has
+-- the paging channels' frames from 4 n on. How many of the slots from slot `first` on end in the
+-- file:
+abbrev pub slots_to_end : CellPlan → ℕ → ℕ
+slots_to_end plan first = end_chip plan / 98304 - first
+
+-- the line of slot n, with the number of samples at which it ends and its time, and those of its
+-- pages
+abbrev pub sent_slot : CellPlan → PagingPlan → ℕ → List ℕ
+sent_slot plan p n =
+    slot_lines (98304 * (n + 1) - plan.link.start) (plan.cell.time + n)
+    (pages_in_slot (paging_rate plan.sync) plan.cell.check30 p.pages (4 * n))
+
+-- of the slots from slot `first` on that end in the file, counted from it on, those that the
+-- handset of a key monitors in a cycle
+abbrev pub monitored_slots : ℕ → ℕ → CellPlan → ℕ → List ℕ
+monitored_slots key cycle plan first =
+    filter (λ i. is_monitored (plan.cell.time + (first + i)) key cycle)
+    (places (slots_to_end plan first))
+
+-- what is written of these behind a mark at the first chip of slot `first`, where one is set
+abbrev pub slots_behind_mark : ℕ → ℕ → CellPlan → PagingPlan → Option ℕ → List ℕ
+slots_behind_mark key cycle plan p None = []
+slots_behind_mark key cycle plan p (Some first) =
+    flat_map (λ i. sent_slot plan p (first + i)) (monitored_slots key cycle plan first)
+
+-- with the values 2 and 3 of PRAT no paging channel is heard
+abbrev pub slots_with_sync : ℕ → ℕ → CellPlan → PagingPlan → Option SyncPlan → List ℕ
+slots_with_sync key cycle plan p None = []
+slots_with_sync key cycle plan p (Some sync) =
+    if nat_lt sync.message.prat 2
+    then slots_behind_mark key cycle plan p
+    (told_by_first plan sync.message (whole_sendings plan sync.message))
+    else []
+
+-- What is written for the handset of a key that monitors one of the cell's paging channels in a
+-- cycle: the first whole transmission of the sync channel tells the mark.
+unfoldable pub slots_sent : ℕ → ℕ → CellPlan → PagingPlan → List ℕ
+slots_sent key cycle plan p = slots_with_sync key cycle plan p plan.sync
 
 -- ---- frames
 
@@ -38,8 +109,17 @@ abbrev pub sent_in_span : Channel → (ℕ → List Bool) → ℕ → ℕ → Li
 sent_in_span c bits_of first frames =
     flat_map (λ j. sent c.shape c.repeats (continued_symbols bits_of (first + j))) (places frames)
 
--- Soft values that are one positive number times the signs of these symbols give back the bits of
--- each frame, wherever the span begins: the encoder's bits before it needn't be known.
+-- Soft values with the signs of these symbols, whatever their sizes, give back the bits of each
+-- frame, wherever the span begins: the encoder's bits before it needn't be known.
+abbrev pub SpansComeBackBySigns : Type 0
+SpansComeBackBySigns =
+    (c : Channel) (symbols : ℕ) (bits_of : ℕ → List Bool) (first frames own : ℕ)
+    (softs : List ℤ) →
+    IsWholeChannel c symbols → ((k : ℕ) → length (bits_of k) ≡ c.bits) → own < frames →
+    HaveSigns (sent_in_span c bits_of first frames) softs →
+    own_bits c frames own softs ≡ bits_of (first + own)
+
+-- So do those that are one positive number times the signs.
 abbrev pub SpansComeBack : Type 0
 SpansComeBack =
     (c : Channel) (symbols strength : ℕ) (bits_of : ℕ → List Bool) (first frames own : ℕ) →
@@ -50,6 +130,13 @@ SpansComeBack =
 
 -- So the bits of a slot are those that are sent in its four frames, though each is decoded with its
 -- neighbours in the slot alone.
+abbrev pub SlotBitsComeBackBySigns : Type 0
+SlotBitsComeBackBySigns =
+    (rate : Rate) (bits_of : ℕ → List Bool) (first : ℕ) (softs : List ℤ) →
+    ((k : ℕ) → length (bits_of k) ≡ (paging_channel rate).bits) →
+    HaveSigns (sent_in_span (paging_channel rate) bits_of first 4) softs →
+    slot_bits rate softs ≡ bits_in_slot bits_of first
+
 abbrev pub SlotBitsComeBack : Type 0
 SlotBitsComeBack =
     (rate : Rate) (strength : ℕ) (bits_of : ℕ → List Bool) (first : ℕ) →
@@ -82,19 +169,43 @@ pub record HearsSlots (width : Width) (plan : CellPlan) (sync : SyncPlan) (p : P
   pub marked : IsTrueMark plan m superframes
   pub rate : m.prat ≡ sync.message.prat
 
--- Of each slot behind the mark that ends in the file, just the pages come back that are sent in it.
+-- Of slot i, counted from the mark on, just the pages come back that are sent in it.
+abbrev pub AreSlotPages : CellPlan → PagingPlan → Tuning → Mark → ℕ → ℕ → List Sample → Type 0
+AreSlotPages plan p t m superframes i samples =
+    slot_pages t.check30 (heard.paging_rate m.prat)
+    (slot_bits (heard.paging_rate m.prat)
+    (slot_softs samples (channel_stream t (channels.Paging p.number) m) i))
+    ≡ pages_in_slot (paging_rate plan.sync) plan.cell.check30 p.pages (4 * (superframes + i))
+
+-- So it is of each slot from the mark on that ends in the file, where the samples are near to the
+-- cell's within what the paging channel bears.
+abbrev pub NoisySlotsComeBack : Type 0
+NoisySlotsComeBack =
+    (width : Width) (plan : CellPlan) (sync : SyncPlan) (p : PagingPlan) (t : Tuning) (m : Mark)
+    (superframes i e : ℕ) (samples : List Sample) →
+    HearsSlots width plan sync p t m superframes → IsNear e samples (made_samples plan) →
+    Bears plan p.gain e → i < slots_to_end plan superframes →
+    AreSlotPages plan p t m superframes i samples
+
+-- On a clean link it is so, since a noise of 0 is borne by every channel.
 abbrev pub SlotsComeBack : Type 0
 SlotsComeBack =
     (width : Width) (plan : CellPlan) (sync : SyncPlan) (p : PagingPlan) (t : Tuning) (m : Mark)
     (superframes i : ℕ) →
     HearsSlots width plan sync p t m superframes → i < slots_to_end plan superframes →
-    slot_pages t.check30 (heard.paging_rate m.prat)
-    (slot_bits (heard.paging_rate m.prat)
-    (slot_softs (made_samples plan) (channel_stream t (channels.Paging p.number) m) i))
-    ≡ pages_in_slot (paging_rate plan.sync) plan.cell.check30 p.pages (4 * (superframes + i))
+    AreSlotPages plan p t m superframes i (made_samples plan)
 
--- So the lines of the slots of a file, for a handset that sleeps through all but those of a key and
--- a cycle, are what the cell sends: slot by slot the slot's line, and the lines of its pages.
+-- So the lines of the slots of a file in which the sync channel bears the noise too, for a handset
+-- that sleeps through all but those of a key and a cycle, are what the cell sends: slot by slot the
+-- slot's line, and the lines of its pages.
+abbrev pub NoisySlotTextsComeBack : Type 0
+NoisySlotTextsComeBack =
+    (width : Width) (plan : CellPlan) (sync : SyncPlan) (p : PagingPlan) (t : Tuning)
+    (key cycle e : ℕ) (samples : List Sample) →
+    HearsSync width plan sync e samples → IsOnPath plan t → Contains plan.paging p →
+    Bears plan p.gain e → lines_of_slots key cycle t p.number samples ≡ slots_sent key cycle plan p
+
+-- So are those of a clean link's file, also where the cell sends no sync channel.
 abbrev pub SlotTextsComeBack : Type 0
 SlotTextsComeBack =
     (width : Width) (plan : CellPlan) (p : PagingPlan) (t : Tuning) (key cycle : ℕ) →

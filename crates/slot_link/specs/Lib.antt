@@ -1,4 +1,2 @@
 pub mod Laws
-pub mod SentSlots
-pub mod SlotPages
 mod Worked

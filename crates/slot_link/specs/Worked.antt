@@ -11,7 +11,7 @@ use Rattle.paging_message.specs.declared.message.PagingMessage.{PagingMessage}
 use Rattle.paging_message.specs.declared.message.PagingMessage.TheVariants.{Other}
 use Rattle.cell_plan.specs.Pages.{page_cycle}
 use Rattle.cell_plan.specs.declared.plan.Page.{Page}
-use Rattle.slot_link.specs.SlotPages.{pages_in_slot}
+use Rattle.slot_link.specs.Laws.{pages_in_slot}
 
 -- A page of 10 bits of body, and one of 146: in half-frames of 95 bits the first one lies in a
 -- half-frame of its own, and the second in two. So the cycle has three half-frames.

@@ -1,12 +1,13 @@
-//! What a sleeping handset hears on a clean link: laws over the definitions of what a base station
-//! sends and of the slots that a handset monitors.
+//! What a sleeping handset hears on a clean link, and on one with bounded noise: laws over the
+//! definitions of what a base station sends and of the slots that a handset monitors.
 //!
 //! A clean link is a sample file that holds what one cell sends over one path, without noise. The
 //! bits of a slot come from its four frames alone: the span of the slot's first frame has none
 //! before it, and the span of its last none behind it. On a clean link they are still the bits that
 //! were sent, because the sent codeword has the greatest score in any span of frames. So the
 //! messages of a slot are the pages whose run begins in it and which end in it, in order, and the
-//! lines of a file's slots are, slot by slot, what the cell sends.
+//! lines of a file's slots are, slot by slot, what the cell sends. That is so beside noise too, of
+//! any size that the sync channel and the paging channel bear.
 #![tactic(auto)]
 
 pub mod laws;

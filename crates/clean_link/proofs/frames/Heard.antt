@@ -1,49 +1,74 @@
 -- The frames that a channel sends come back from any stream that hears and reads it, and zeros
 -- where nothing is sent.
-use Rattle.clean_link.proofs.Common.{◌≡◌, ℕ, zero, suc, ◌+◌, ◌-◌, ◌*◌, ◌<◌, ◌≤◌, Bool, true, false, List, [], ◌∷◌, ◌++◌, length, replicate}
-use Rattle.clean_link.proofs.Common.{refl, sym, ap, subst, ◌∙◌, ⊎_elim, arith, ℤ, pos, negsuc, ◌*ℤ◌, ◌<ℤ◌, neg_ℤ, Contains, flat_map}
-use Rattle.clean_link.proofs.Common.{mul-le-mul_left, ints, replicate-append-replicate, places, sign, xor, zip_with, Sample, times_neg}
-use Rattle.clean_link.proofs.Common.{frame_chips, softs, symbols, Finger, Form, Sync, Data, sent, length-sent, IsAllowed, signed, Codeword}
-use Rattle.clean_link.proofs.Common.{Free, own_bits, score, sending, frames-none, frames-more, length-frames, CellPlan, made_samples}
-use Rattle.clean_link.proofs.Common.{continued_symbols, Carrier, carriers, phase_at, Scrambles, descrambled, unscrambled, Stream}
+use Rattle.clean_link.proofs.Common.{AllZip, HasSign, HaveSigns, path_finger, ◌≡◌, ℕ, zero, suc, ◌+◌, ◌-◌, ◌*◌, ◌<◌, ◌≤◌, Bool, true, false}
+use Rattle.clean_link.proofs.Common.{List, [], ◌∷◌, ◌++◌, length, replicate, refl, sym, ap, subst, ◌∙◌, ⊎_elim, arith, ℤ, pos, flat_map}
+use Rattle.clean_link.proofs.Common.{mul-le-mul_left, replicate-append-replicate, places, xor, zip_with, Sample, frame_chips, softs}
+use Rattle.clean_link.proofs.Common.{symbols, Finger, Form, Sync, Data, sent, length-sent, IsAllowed, Codeword, Free, own_bits, frames-none}
+use Rattle.clean_link.proofs.Common.{frames-more, length-frames, CellPlan, continued_symbols, Carrier, phase_at, Scrambles, Stream}
 use Rattle.clean_link.proofs.Common.{frame_own_bits, frame_softs, frame_start, is_in_file, span_first, span_frames, flat_map_ext_places}
-use Rattle.clean_link.proofs.Common.{soft_strength, AreReadBy, IsOnlyBest, IsWholeChannel, scrambled, span_softs, span_codeword, AreApart}
-use Rattle.clean_link.proofs.Common.{IsFrameOf, IsHeardBy}
-use Rattle.clean_link.proofs.frames.Scores.{sent_alone, sent_own, silent_own, codeword_softs}
-use Rattle.clean_link.proofs.frames.Spans.{in_span}
-use Rattle.clean_link.proofs.frames.Codewords.{frame_at, length-before, sent_as_one, signed-frames}
-use Rattle.clean_link.proofs.signal.Frames.{channel_softs}
+use Rattle.clean_link.proofs.Common.{AreReadBy, IsOnlyBest, IsWholeChannel, scrambled, span_softs, span_codeword, IsFrameOf, IsHeardBy}
+use Rattle.clean_link.proofs.Common.{if◌then◌else◌, cases_eq}
+use Rattle.clean_link.proofs.frames.Scores.{ShowCodeword, shown_codeword_alone, shown_codeword_own, silent_own, frame_at, length-before}
+use Rattle.clean_link.proofs.frames.Scores.{sent_as_one}
+use Rattle.clean_link.proofs.noise.Near.{Relates, Turns, signs_turn, unscrambled_related, zipped_frames}
 use Rattle.clean_link.proofs.frames.Times.{room_alone}
 
--- ---- scrambling is turned back
+pub record IsInSpan (P : ℕ → Bool) (k first frames : ℕ) : Type 0 where
+  pub from : first ≤ k
+  pub to : k - first < frames
+  pub there : (j : ℕ) → j < frames → P (first + j) ≡ true
 
-pub descrambled_symbol : (strength : ℕ) (a b : Bool) →
-    sign a *ℤ (pos strength *ℤ sign (xor b a)) ≡ pos strength *ℤ sign b
-descrambled_symbol n true true = omega (arith, ints)
-descrambled_symbol n true false =
-    let e : pos n *ℤ negsuc 0 ≡ neg_ℤ (pos n) = omega (arith, ints) in
-    ap (λ (z : ℤ). negsuc 0 *ℤ z) e ∙ times_neg (negsuc 0) (pos n) ∙ omega (arith, ints)
-descrambled_symbol n false true = omega (arith, ints)
-descrambled_symbol n false false = omega (arith, ints)
+moved : (P : ℕ → Bool) (a b : ℕ) → a ≡ b → P a ≡ true → P b ≡ true
+moved P a b e h = subst (λ (n : ℕ). P n ≡ true) e h
 
-turns_back : (strength : ℕ) (bits symbols : List Bool) → length bits ≡ length symbols →
-    descrambled bits (signed strength (zip_with xor symbols bits)) ≡ signed strength symbols
-turns_back n [] [] long = refl
-turns_back n [] (b ∷ symbols) long = absurd (omega (arith, long))
-turns_back n (a ∷ bits) [] long = absurd (omega (arith, long))
-turns_back n (a ∷ bits) (b ∷ symbols) long =
-    let here = descrambled_symbol n a b in
-    let rest = turns_back n bits symbols (omega (arith, long)) in
-    cc
+-- the span of a frame without one before it
+from_here : (P : ℕ → Bool) (k : ℕ) (b : Bool) → P (k + 1) ≡ b → P k ≡ true →
+    IsInSpan P k k ((if b then k + 2 else k + 1) - k)
+from_here P k true next here = record {
+  from = omega arith;
+  to = omega arith;
+  there = λ j lt. ⊎_elim (λ (e : j ≡ 0). moved P k (k + j) (omega (arith, e)) here)
+      (λ (n : ¬ (j ≡ 0)). moved P (k + 1) (k + j) (omega (arith, lt, n)) next) (cases_eq j 0);
+}
+from_here P k false next here = record {
+  from = omega arith;
+  to = omega arith;
+  there = λ j lt. moved P k (k + j) (omega (arith, lt)) here;
+}
 
-clean_symbols : (strength n : ℕ) (bits symbols : List Bool) → Scrambles bits n →
-    length symbols ≡ n →
-    unscrambled bits (signed strength (scrambled bits symbols)) ≡ signed strength symbols
-clean_symbols strength n [] symbols scrambles long = refl
-clean_symbols strength n (b ∷ bits) symbols scrambles long = ⊎_elim
-    (λ (none : b ∷ bits ≡ []). absurd (cc))
-    (λ (all : length (b ∷ bits) ≡ n). turns_back strength (b ∷ bits) symbols (all ∙ sym long))
-    scrambles
+-- and of one with a frame before it
+from_before : (P : ℕ → Bool) (k : ℕ) (b : Bool) → P (suc k + 1) ≡ b → P (suc k) ≡ true →
+    P k ≡ true → IsInSpan P (suc k) k ((if b then suc k + 2 else suc k + 1) - k)
+from_before P k true next here before = record {
+  from = omega arith;
+  to = omega arith;
+  there = λ j lt. ⊎_elim (λ (e : j ≡ 0). moved P k (k + j) (omega (arith, e)) before)
+      (λ (n : ¬ (j ≡ 0)). ⊎_elim (λ (e : j ≡ 1). moved P (suc k) (k + j) (omega (arith, e)) here)
+      (λ (m : ¬ (j ≡ 1)). moved P (suc k + 1) (k + j) (omega (arith, lt, n, m)) next)
+      (cases_eq j 1)) (cases_eq j 0);
+}
+from_before P k false next here before = record {
+  from = omega arith;
+  to = omega arith;
+  there = λ j lt. ⊎_elim (λ (e : j ≡ 0). moved P k (k + j) (omega (arith, e)) before)
+      (λ (n : ¬ (j ≡ 0)). moved P (suc k) (k + j) (omega (arith, lt, n)) here) (cases_eq j 0);
+}
+
+either : (P : ℕ → Bool) (k : ℕ) (a b : Bool) → P k ≡ a → P (suc k + 1) ≡ b → P (suc k) ≡ true →
+    IsInSpan P (suc k) (if a then k else suc k)
+    ((if b then suc k + 2 else suc k + 1) - (if a then k else suc k))
+either P k true b before next here = from_before P k b next here before
+either P k false b before next here = from_here P (suc k) b next here
+
+-- a frame in the file lies in its span, whose frames are all in the file
+pub in_span : (count : ℕ) (s : Stream) (k : ℕ) → is_in_file count s k ≡ true →
+    IsInSpan (is_in_file count s) k (span_first count s k) (span_frames count s k)
+in_span count s zero here = from_here (is_in_file count s) 0 (is_in_file count s (0 + 1)) refl here
+in_span count s (suc k) here =
+    either (is_in_file count s) k (is_in_file count s k) (is_in_file count s (suc k + 1)) refl refl
+    here
+
+-- ---- scrambled symbols
 
 length-descrambled : (bits symbols : List Bool) → length bits ≡ length symbols →
     length (zip_with xor symbols bits) ≡ length symbols
@@ -53,7 +78,7 @@ length-descrambled (a ∷ bits) [] long = absurd (omega (arith, long))
 length-descrambled (a ∷ bits) (b ∷ symbols) long =
     ap suc (length-descrambled bits symbols (omega (arith, long)))
 
-length-scrambled : (n : ℕ) (bits symbols : List Bool) → Scrambles bits n → length symbols ≡ n →
+pub length-scrambled : (n : ℕ) (bits symbols : List Bool) → Scrambles bits n → length symbols ≡ n →
     length (scrambled bits symbols) ≡ n
 length-scrambled n [] symbols scrambles long = long
 length-scrambled n (b ∷ bits) symbols scrambles long = ⊎_elim
@@ -64,53 +89,22 @@ length-scrambled n (b ∷ bits) symbols scrambles long = ⊎_elim
 
 -- ---- a stream whose soft values show the frames of a source
 
-pub record IsShown (count strength : ℕ) (samples : List Sample) (s : Stream)
-    (bits_of : ℕ → List Bool) (base : ℕ) : Type 0 where
+-- the symbols of a frame of it, in the order in which they are sent and before scrambling
+abbrev pub order_of : Stream → (ℕ → List Bool) → ℕ → List Bool
+order_of s bits_of frame = sent s.channel.shape s.channel.repeats (continued_symbols bits_of frame)
+
+-- They have the signs of its symbols, whatever their sizes.
+pub record IsShown (count : ℕ) (samples : List Sample) (s : Stream) (bits_of : ℕ → List Bool)
+    (base : ℕ) : Type 0 where
   pub whole : IsWholeChannel s.channel (symbols s.form)
-  pub some : 0 < strength
   pub each : (k : ℕ) → length (bits_of k) ≡ s.channel.bits
   pub shown : (k : ℕ) → is_in_file count s k ≡ true →
-      frame_softs samples s k ≡
-      signed strength
-      (sent s.channel.shape s.channel.repeats (continued_symbols bits_of (base + k)))
+      HaveSigns (order_of s bits_of (base + k)) (frame_softs samples s k)
 
 -- the sent codeword of the span of a frame
 abbrev pub sent_codeword : ℕ → Stream → (ℕ → List Bool) → ℕ → ℕ → Codeword
 sent_codeword count s bits_of base k =
     span_codeword bits_of (base + span_first count s k) (span_frames count s k)
-
-span_is : (count strength base k : ℕ) (samples : List Sample) (s : Stream)
-    (bits_of : ℕ → List Bool) → IsShown count strength samples s bits_of base →
-    is_in_file count s k ≡ true →
-    span_softs count samples s k ≡
-    codeword_softs strength s.channel (span_frames count s k) (sent_codeword count s bits_of base k)
-span_is count strength base k samples s bits_of is here =
-    let c = s.channel in
-    let first = span_first count s k in
-    let frames = span_frames count s k in
-    let at = in_span count s k here in
-    let frame = λ (n : ℕ). sent c.shape c.repeats (continued_symbols bits_of n) in
-    flat_map_ext_places (λ j. frame_softs samples s (first + j))
-    (λ j. signed strength (frame (base + first + j))) frames
-    (λ j lt.
-    let e : base + (first + j) ≡ base + first + j = omega arith in
-    is.shown (first + j) (at.there j lt) ∙ ap (λ (n : ℕ). signed strength (frame n)) e)
-    ∙ sym (signed-frames strength (λ j. frame (base + first + j)) (places frames))
-    ∙ ap (signed strength)
-    (sym (sent_as_one c bits_of (base + first) frames is.whole.enough is.each))
-
-codeword_allowed : (count strength base k : ℕ) (samples : List Sample) (s : Stream)
-    (bits_of : ℕ → List Bool) → IsShown count strength samples s bits_of base →
-    IsAllowed Free (s.channel.bits * span_frames count s k) (sent_codeword count s bits_of base k)
-codeword_allowed count strength base k samples s bits_of is =
-    let first = base + span_first count s k in
-    record {
-      start_long = length-before bits_of s.channel.bits first is.whole.enough is.each;
-      bits_long = length-frames (λ j. bits_of (first + j)) s.channel.bits
-          (span_frames count s k) (λ j. is.each (first + j));
-      begins = tt;
-      closes = tt;
-    }
 
 -- a frame's own bits, of the soft values of its span
 own-is : (count : ℕ) (samples : List Sample) (s : Stream) (k : ℕ) →
@@ -120,52 +114,67 @@ own-is : (count : ℕ) (samples : List Sample) (s : Stream) (k : ℕ) →
 unfolding frame_own_bits
 own-is count samples s k = refl
 
--- a frame in the file has the bits that were sent
-pub shown_back : (count strength base k : ℕ) (samples : List Sample) (s : Stream)
-    (bits_of : ℕ → List Bool) → IsShown count strength samples s bits_of base →
-    is_in_file count s k ≡ true → frame_own_bits count samples s k ≡ bits_of (base + k)
-shown_back count strength base k samples s bits_of is here =
-    let at = in_span count s k here in
-    let first = span_first count s k in
-    let frames = span_frames count s k in
-    let place : base + first + (k - first) ≡ base + k = omega (arith, at.from) in
-    own-is count samples s k
-    ∙ ap (own_bits s.channel frames (k - first))
-    (span_is count strength base k samples s bits_of is here)
-    ∙ sent_own s.channel (symbols s.form) frames (k - first) strength
-    (sent_codeword count s bits_of base k) is.whole is.some at.to
-    (codeword_allowed count strength base k samples s bits_of is)
-    ∙ frame_at (λ j. bits_of (base + first + j)) s.channel.bits frames (k - first)
-    (λ j. is.each (base + first + j)) at.to
-    ∙ ap bits_of place
+module _ {count : ℕ} {samples : List Sample} {s : Stream} {bits_of : ℕ → List Bool} {base : ℕ}
+    (is : IsShown count samples s bits_of base) (k : ℕ) (here : is_in_file count s k ≡ true) where
+  abbrev first : ℕ
+  first = span_first count s k
 
--- and the codeword that was sent is the only best one of its span
-pub shown_alone : (count strength base k : ℕ) (samples : List Sample) (s : Stream)
-    (bits_of : ℕ → List Bool) → IsShown count strength samples s bits_of base →
-    is_in_file count s k ≡ true →
-    IsOnlyBest count samples s k (sent_codeword count s bits_of base k)
-shown_alone count strength base k samples s bits_of is here =
-    let c = s.channel in
-    let frames = span_frames count s k in
-    let best = sent_codeword count s bits_of base k in
-    let p = codeword_allowed count strength base k samples s bits_of is in
-    let at = in_span count s k here in
-    let enough : 8 ≤ c.bits * frames =
-    at_least c.bits frames is.whole.enough (omega (arith, at.to)) in
-    record {
-      allowed = p;
-      lesser = λ w q other.
-          subst
-          (λ (softs : List ℤ). score softs (sending c frames) w
-          <ℤ score softs (sending c frames) best)
-          (sym (span_is count strength base k samples s bits_of is here))
-          (sent_alone c (symbols s.form) frames strength best w is.whole enough is.some p q other);
-    }
-  where
-    at_least : (bits frames : ℕ) → 8 ≤ bits → 0 < frames → 8 ≤ bits * frames
-    at_least bits frames enough some =
-        let more : bits * 1 ≤ bits * frames = mul-le-mul_left bits some in
-        omega (arith, more, enough)
+  abbrev frames : ℕ
+  frames = span_frames count s k
+
+  -- the soft values of the span have the signs of the sent codeword's symbols
+  span_shows : ShowCodeword s.channel frames (sent_codeword count s bits_of base k)
+      (span_softs count samples s k)
+  span_shows =
+      let at = in_span count s k here in
+      subst (λ (xs : List Bool). HaveSigns xs (span_softs count samples s k))
+      (sym (sent_as_one s.channel bits_of (base + first) frames is.whole.enough is.each))
+      (zipped_frames HasSign (λ j. order_of s bits_of (base + first + j))
+      (λ j. frame_softs samples s (first + j)) frames
+      (λ j lt.
+      let e : base + (first + j) ≡ base + first + j = omega arith in
+      subst (λ (n : ℕ). HaveSigns (order_of s bits_of n) (frame_softs samples s (first + j))) e
+      (is.shown (first + j) (at.there j lt))))
+
+  codeword_allowed : IsAllowed Free (s.channel.bits * frames) (sent_codeword count s bits_of base k)
+  codeword_allowed = record {
+    start_long = length-before bits_of s.channel.bits (base + first) is.whole.enough is.each;
+    bits_long = length-frames (λ j. bits_of (base + first + j)) s.channel.bits frames
+        (λ j. is.each (base + first + j));
+    begins = tt;
+    closes = tt;
+  }
+
+  -- a frame in the file has the bits that were sent
+  pub shown_back : frame_own_bits count samples s k ≡ bits_of (base + k)
+  shown_back =
+      let at = in_span count s k here in
+      let place : base + first + (k - first) ≡ base + k = omega (arith, at.from) in
+      own-is count samples s k
+      ∙ shown_codeword_own s.channel (symbols s.form) frames (k - first)
+      (sent_codeword count s bits_of base k) (span_softs count samples s k) is.whole span_shows at.to
+      codeword_allowed
+      ∙ frame_at (λ j. bits_of (base + first + j)) s.channel.bits frames (k - first)
+      (λ j. is.each (base + first + j)) at.to
+      ∙ ap bits_of place
+
+  -- and the codeword that was sent is the only best one of its span
+  pub shown_alone : IsOnlyBest count samples s k (sent_codeword count s bits_of base k)
+  shown_alone =
+      let at = in_span count s k here in
+      record {
+        allowed = codeword_allowed;
+        lesser = λ w q other.
+            shown_codeword_alone s.channel (symbols s.form) frames
+            (sent_codeword count s bits_of base k) w (span_softs count samples s k) is.whole
+            (at_least s.channel.bits frames is.whole.enough (omega (arith, at.to))) span_shows
+            codeword_allowed q other;
+      }
+    where
+      at_least : (bits frames : ℕ) → 8 ≤ bits → 0 < frames → 8 ≤ bits * frames
+      at_least bits frames enough some =
+          let more : bits * 1 ≤ bits * frames = mul-le-mul_left bits some in
+          omega (arith, more, enough)
 
 -- ---- a stream whose soft values are 0
 
@@ -209,7 +218,7 @@ heard_begins Sync start first channel_first base k is = omega (arith, is)
 heard_begins Data start first channel_first base k is = omega (arith, is)
 
 -- a frame of the stream is one of the channel's
-heard_frame : (plan : CellPlan) (c : Carrier) (s : Stream) (base k : ℕ) → IsHeardBy plan c s base →
+pub heard_frame : (plan : CellPlan) (c : Carrier) (s : Stream) (base k : ℕ) → IsHeardBy plan c s base →
     is_in_file plan.link.samples s k ≡ true →
     IsFrameOf plan c s.form (frame_start s k) (base + k)
 heard_frame plan c s base k heard here = record {
@@ -225,38 +234,35 @@ heard_frame plan c s base k heard here = record {
   begins = heard_begins s.form plan.link.start s.first c.first base k heard.begins;
 }
 
--- its descrambled soft values show the channel's symbols before scrambling
-pub heard_softs : (plan : CellPlan) (c : Carrier) (s : Stream) (bits_of : ℕ → List Bool)
-    (base k : ℕ) → plan.cell.pn < 512 → AreApart plan.pilot.gain (carriers plan) →
-    Contains (carriers plan) c → IsHeardBy plan c s base → AreReadBy c s bits_of base →
-    is_in_file plan.link.samples s k ≡ true →
-    frame_softs (made_samples plan) s k ≡
-    signed (soft_strength plan s.form c.gain)
-    (sent s.channel.shape s.channel.repeats (continued_symbols bits_of (base + k)))
-heard_softs plan c s bits_of base k low apart has heard read here =
-    let bits = s.scrambling k in
-    let strength = soft_strength plan s.form c.gain in
-    let code = continued_symbols bits_of (base + k) in
-    let order = sent s.channel.shape s.channel.repeats code in
-    let long : length order ≡ symbols s.form =
-    length-sent s.channel.shape s.channel.repeats code ∙ read.whole.count in
-    let u = frame_start s k in
-    ap (λ (fs : List Finger). unscrambled bits (softs (made_samples plan) fs s.form u)) heard.alone
-    ∙ ap (unscrambled bits)
-    (channel_softs plan c s.form u (base + k) low apart has
-    (heard_frame plan c s base k heard here)
-    (ap length (read.sent k) ∙ length-scrambled (symbols s.form) bits order (read.scrambles k) long)
-    ∙ ap (signed strength) (read.sent k))
-    ∙ clean_symbols strength (symbols s.form) bits order (read.scrambles k) long
+module _ (R : Bool → ℤ → Type 0) (turns : Turns R) {plan : CellPlan} {c : Carrier} {s : Stream}
+    {bits_of : ℕ → List Bool} {base : ℕ} (samples : List Sample)
+    (relates : Relates R plan c s.form samples) (heard : IsHeardBy plan c s base)
+    (read : AreReadBy c s bits_of base) where
+  -- its descrambled soft values stand to the symbols before scrambling as the raw ones to those sent
+  pub stream_related : (k : ℕ) → is_in_file plan.link.samples s k ≡ true →
+      AllZip R (order_of s bits_of (base + k)) (frame_softs samples s k)
+  stream_related k here =
+      let bits = s.scrambling k in
+      let code = continued_symbols bits_of (base + k) in
+      let order = sent s.channel.shape s.channel.repeats code in
+      let long : length order ≡ symbols s.form =
+      length-sent s.channel.shape s.channel.repeats code ∙ read.whole.count in
+      let u = frame_start s k in
+      let all : length (c.symbols (base + k)) ≡ symbols s.form =
+      ap length (read.sent k)
+      ∙ length-scrambled (symbols s.form) bits order (read.scrambles k) long in
+      unscrambled_related R turns (symbols s.form) bits order (softs samples s.fingers s.form u)
+      (read.scrambles k) long
+      (subst (λ (fs : List Finger). AllZip R (scrambled bits order) (softs samples fs s.form u))
+      (sym heard.alone)
+      (subst (λ (xs : List Bool). AllZip R xs (softs samples (path_finger plan c.row ∷ []) s.form u))
+      (read.sent k) (relates u (base + k) (heard_frame plan c s base k heard here) all)))
 
-pub heard_shown : (plan : CellPlan) (c : Carrier) (s : Stream) (bits_of : ℕ → List Bool)
-    (base : ℕ) → plan.cell.pn < 512 → AreApart plan.pilot.gain (carriers plan) →
-    Contains (carriers plan) c → IsHeardBy plan c s base → AreReadBy c s bits_of base →
-    0 < soft_strength plan s.form c.gain →
-    IsShown plan.link.samples (soft_strength plan s.form c.gain) (made_samples plan) s bits_of base
-heard_shown plan c s bits_of base low apart has heard read some = record {
+pub heard_shown : {plan : CellPlan} {c : Carrier} {s : Stream} {bits_of : ℕ → List Bool} {base : ℕ}
+    (samples : List Sample) → Relates HasSign plan c s.form samples → IsHeardBy plan c s base →
+    AreReadBy c s bits_of base → IsShown plan.link.samples samples s bits_of base
+heard_shown samples relates heard read = record {
   whole = read.whole;
-  some = some;
   each = read.each;
-  shown = λ k here. heard_softs plan c s bits_of base k low apart has heard read here;
+  shown = stream_related HasSign signs_turn samples relates heard read;
 }

@@ -1,19 +1,127 @@
 -- The codeword that clean soft values show has the greatest score alone, and so it is decoded.
-use Rattle.clean_link.proofs.Common.{◌≡◌, ◌≢◌, ℕ, zero, suc, ◌+◌, ◌-◌, ◌*◌, ◌/◌, ◌<◌, ◌≤◌, Bool, false, List, ◌++◌, length}
-use Rattle.clean_link.proofs.Common.{get_or, take, drop, replicate, refl, sym, ap, subst, ◌∙◌, arith, inl, ℤ, ◌<ℤ◌, ◌*ℤ◌, pos, flat_map}
-use Rattle.clean_link.proofs.Common.{mul-le-mul_right, div-eq_of_eq-mul_left, by_lt_z, ints, ext_get_or, length-map, length-replicate}
-use Rattle.clean_link.proofs.Common.{length-take-le, drop-replicate, take-replicate, take_all, places, sign, code_symbols}
-use Rattle.clean_link.proofs.Common.{length-code_symbols, distinct, Shape, place, sent, shape_of, size, repeats_of, Kind, Rate, R9600}
-use Rattle.clean_link.proofs.Common.{R4800, R2400, R1200, FrameKind, Paging, length-sent, get_or-sent, repeats_some, size_some, place_lt}
-use Rattle.clean_link.proofs.Common.{address-place, IsAllowed, IsBestCodeword, signed, Codeword, best_codeword, score_of, Free}
-use Rattle.clean_link.proofs.Common.{agrees_alone, codewords_same, zero_codeword_best, by_definition, Channel, channel_for, gathered_span}
-use Rattle.clean_link.proofs.Common.{own_bits, score, sending, sent_symbols, best_codeword-same, own_is, length-gathered_span, within}
-use Rattle.clean_link.proofs.Common.{frames-none, frames-more, length-frames, take-frames, score_is, flat_map_ext_places, IsWholeChannel}
-use Rattle.std.proofs.lemmas.List.{length-drop}
+use Rattle.clean_link.proofs.Common.{HasSign, HaveSigns, zeros_score, ◌≡◌, ◌≢◌, ℕ, zero, suc, ◌+◌, ◌-◌, ◌*◌, ◌/◌, ◌<◌, ◌≤◌, Bool, false}
+use Rattle.clean_link.proofs.Common.{List, ◌++◌, length, get_or, take, drop, replicate, refl, sym, ap, subst, ◌∙◌, arith, inl, ℤ, ◌<ℤ◌, pos}
+use Rattle.clean_link.proofs.Common.{flat_map, mul-le-mul_right, div-eq_of_eq-mul_left, by_lt_z, ints, ext_get_or, length-replicate}
+use Rattle.clean_link.proofs.Common.{length-take-le, drop-replicate, take-replicate, take_all, places, code_symbols, length-code_symbols}
+use Rattle.clean_link.proofs.Common.{distinct, Shape, place, sent, shape_of, size, repeats_of, Kind, Rate, R9600, R4800, R2400, R1200}
+use Rattle.clean_link.proofs.Common.{FrameKind, Paging, length-sent, get_or-sent, repeats_some, size_some, place_lt, address-place}
+use Rattle.clean_link.proofs.Common.{IsAllowed, IsBestCodeword, Codeword, best_codeword, score_of, Free, codewords_same, zero_codeword_best}
+use Rattle.clean_link.proofs.Common.{by_definition, Channel, channel_for, gathered_span, own_bits, score, sending, sent_symbols}
+use Rattle.clean_link.proofs.Common.{best_codeword-same, own_is, length-gathered_span, within, frames-none, frames-more, length-frames}
+use Rattle.clean_link.proofs.Common.{take-frames, score_is, flat_map_ext_places, IsWholeChannel, length-drop, AllZip-long}
+use Rattle.clean_link.proofs.Common.{signs_agree_alone, inr, cases_lt, drop_at, drop-append-le, take-append-le, state_after, continued}
+use Rattle.clean_link.proofs.Common.{code_symbols-none, length-state_after, state_after-none, state_after-append, bits_before}
+use Rattle.clean_link.proofs.Common.{continued_symbols, last_eight, span_codeword, continued_is}
 use Rattle.frame_decoder.specs.declared.span_format.FrameKind.TheVariants.{Sync}
-use Rattle.clean_link.proofs.frames.Codewords.{frame_at}
 use Rattle.symbol_path.specs.declared.kinds.Kind as kinds
-use Rattle.frame_decoder.proofs.MaskedScores.{zeros_score}
+
+-- frame k of frames that follow one another
+pub frame_at : {A : Type 0} (f : ℕ → List A) (b m k : ℕ) → ((j : ℕ) → length (f j) ≡ b) → k < m →
+    take b (drop (b * k) (flat_map f (places m))) ≡ f k
+frame_at f b zero k each lt = absurd (omega (arith, lt))
+frame_at {A} f b (suc m) k each lt =
+    let front = flat_map f (places m) in
+    let long : length front ≡ b * m = length-frames f b m each in
+    ap (λ (xs : List A). take b (drop (b * k) xs)) (frames-more f m)
+    ∙ elim (cases_lt k m) [
+      | inl low ↦
+          let room = within b m k low in
+          ap (take b) (drop-append-le (b * k) front (f m) (omega (arith, room, long)))
+          ∙ take-append-le b (drop (b * k) front) (f m)
+          (omega (arith, room, long, length-drop (b * k) front))
+          ∙ frame_at f b m k each low
+      | inr high ↦
+          let e : k ≡ m = omega (arith, lt, high) in
+          ap (λ (n : ℕ). take b (drop (b * n) (front ++ f m))) e
+          ∙ ap (take b) (drop_at front (f m) (b * m) long)
+          ∙ take_all b (f m) (omega (arith, each m))
+          ∙ ap f (sym e)
+    ]
+
+-- ---- the encoder goes on
+
+pub length-before : (bits_of : ℕ → List Bool) (n k : ℕ) → 8 ≤ n →
+    ((j : ℕ) → length (bits_of j) ≡ n) → length (bits_before bits_of k) ≡ 8
+unfolding bits_before
+length-before bits_of n zero enough each = refl
+length-before bits_of n (suc k) enough each =
+    length-drop (length (bits_of k) - 8) (bits_of k) ∙ omega (arith, enough, each k)
+
+next_before : (bits_of : ℕ → List Bool) (k : ℕ) →
+    drop (length (bits_of k) - 8) (bits_of k) ≡ bits_before bits_of (suc k)
+unfolding bits_before
+next_before bits_of k = refl
+
+-- behind the frames of a span the encoder is where the next frame begins
+state_behind : (bits_of : ℕ → List Bool) (n first frames : ℕ) → 8 ≤ n →
+    ((j : ℕ) → length (bits_of j) ≡ n) →
+    state_after (bits_before bits_of first) (span_codeword bits_of first frames).bits ≡
+    bits_before bits_of (first + frames)
+state_behind bits_of n first zero enough each =
+    let none : first ≡ first + 0 = omega arith in
+    ap (state_after (bits_before bits_of first)) (frames-none (λ j. bits_of (first + j)))
+    ∙ state_after-none (bits_before bits_of first)
+    ∙ ap (bits_before bits_of) none
+state_behind bits_of n first (suc m) enough each =
+    let next : suc (first + m) ≡ first + suc m = omega arith in
+    let start = bits_before bits_of first in
+    let front = (span_codeword bits_of first m).bits in
+    let here = bits_of (first + m) in
+    let eight : length (state_after start front) ≡ 8 = length-state_after start front ∙
+    length-before bits_of n first enough each in
+    ap (state_after start) (frames-more (λ j. bits_of (first + j)) m)
+    ∙ state_after-append start front here
+    ∙ last_eight (state_after start front) here eight (omega (arith, enough, each (first + m)))
+    ∙ next_before bits_of (first + m)
+    ∙ ap (bits_before bits_of) next
+
+-- the code symbols of the frames of a span are those of one codeword
+one_codeword : (bits_of : ℕ → List Bool) (n first frames : ℕ) → 8 ≤ n →
+    ((j : ℕ) → length (bits_of j) ≡ n) →
+    flat_map (λ j. continued_symbols bits_of (first + j)) (places frames) ≡
+    code_symbols (bits_before bits_of first) (span_codeword bits_of first frames).bits
+one_codeword bits_of n first zero enough each =
+    frames-none (λ j. continued_symbols bits_of (first + j))
+    ∙ sym (ap (code_symbols (bits_before bits_of first))
+    (frames-none (λ j. bits_of (first + j))) ∙
+    code_symbols-none (bits_before bits_of first))
+one_codeword bits_of n first (suc m) enough each =
+    let start = bits_before bits_of first in
+    let front = (span_codeword bits_of first m).bits in
+    let here = bits_of (first + m) in
+    frames-more (λ j. continued_symbols bits_of (first + j)) m
+    ∙ ap (λ (xs : List Bool). xs ++ continued_symbols bits_of (first + m))
+    (one_codeword bits_of n first m enough each)
+    ∙ ap (λ (xs : List Bool). code_symbols start front ++ xs) (continued_is bits_of (first + m))
+    ∙ ap (λ (xs : List Bool). code_symbols start front ++ code_symbols xs here)
+    (sym (state_behind bits_of n first m enough each))
+    ∙ sym (continued start front here (length-before bits_of n first enough each))
+    ∙ ap (code_symbols start) (sym (frames-more (λ j. bits_of (first + j)) m))
+
+length-continued : (bits_of : ℕ → List Bool) (n k : ℕ) → ((j : ℕ) → length (bits_of j) ≡ n) →
+    length (continued_symbols bits_of k) ≡ 2 * n
+length-continued bits_of n k each =
+    ap length (continued_is bits_of k) ∙ length-code_symbols (bits_before bits_of k) (bits_of k) ∙
+    ap (λ (m : ℕ). 2 * m) (each k)
+
+-- so the symbols of the codeword, as they are sent, are the frames' one behind the other
+pub sent_as_one : (c : Channel) (bits_of : ℕ → List Bool) (first frames : ℕ) → 8 ≤ c.bits →
+    ((j : ℕ) → length (bits_of j) ≡ c.bits) →
+    sent_symbols (sending c frames) (span_codeword bits_of first frames) ≡
+    flat_map (λ j. sent c.shape c.repeats (continued_symbols bits_of (first + j))) (places frames)
+sent_as_one c bits_of first frames enough each =
+    let code = λ (j : ℕ). continued_symbols bits_of (first + j) in
+    let n = 2 * c.bits in
+    flat_map_ext_places
+    (λ j. sent c.shape c.repeats
+    (take n (drop (n * j)
+    (code_symbols (bits_before bits_of first) (span_codeword bits_of first frames).bits))))
+    (λ j. sent c.shape c.repeats (code j)) frames
+    (λ j lt.
+    ap (λ (xs : List Bool). sent c.shape c.repeats (take n (drop (n * j) xs)))
+    (sym (one_codeword bits_of c.bits first frames enough each))
+    ∙ ap (sent c.shape c.repeats)
+    (frame_at code n frames j (λ i. length-continued bits_of c.bits (first + i) each) lt))
 
 -- ---- equal sent symbols come from equal codewords
 
@@ -122,69 +230,60 @@ length-sent_symbols c n w =
     (take (2 * c.bits) (drop (2 * c.bits * k) (code_symbols w.start w.bits)))) (size c.shape) n
     (λ k. length-sent c.shape c.repeats _)
 
--- soft values of one positive number times the signs of a codeword's symbols, as they are sent
-abbrev pub codeword_softs : ℕ → Channel → ℕ → Codeword → List ℤ
-codeword_softs strength c n w = signed strength (sent_symbols (sending c n) w)
+-- soft values with the signs of a codeword's symbols, as they are sent
+abbrev pub ShowCodeword : Channel → ℕ → Codeword → List ℤ → Type 0
+ShowCodeword c n w softs = HaveSigns (sent_symbols (sending c n) w) softs
 
--- every other codeword has a lesser score under them
-kind_alone : (kind : Kind) (bits repeats n strength : ℕ) (best w : Codeword) →
-    2 * bits * repeats ≡ size (shape_of kind) → 8 ≤ bits * n → 0 < strength →
-    IsAllowed Free (bits * n) best → IsAllowed Free (bits * n) w → w ≢ best →
-    score (codeword_softs strength (channel kind bits repeats) n best)
-    (sending (channel kind bits repeats) n) w
-    <ℤ score (codeword_softs strength (channel kind bits repeats) n best)
-    (sending (channel kind bits repeats) n) best
-kind_alone kind bits repeats n strength best w fills enough some p q other =
-    let c = channel kind bits repeats in
-    let softs = codeword_softs strength c n best in
-    by_lt_z (score softs (sending c n) w) (score softs (sending c n) best)
-    (λ less. less)
-    (λ reaches. absurd (other (codeword_same kind bits repeats n w best fills enough q p
-    (sym (agrees_alone strength (sent_symbols (sending c n) best) (sent_symbols (sending c n) w)
-    some (length-sent_symbols c n best ∙ sym (length-sent_symbols c n w)) reaches)))))
+module _ (kind : Kind) (bits repeats n : ℕ) (best : Codeword) (softs : List ℤ)
+    (fills : 2 * bits * repeats ≡ size (shape_of kind)) (enough : 8 ≤ bits * n)
+    (show : ShowCodeword (channel kind bits repeats) n best softs)
+    (p : IsAllowed Free (bits * n) best) where
+  abbrev c : Channel
+  c = channel kind bits repeats
 
--- so it is decoded from the gathered soft values
-kind_best : (kind : Kind) (bits repeats n strength : ℕ) (best : Codeword) →
-    2 * bits * repeats ≡ size (shape_of kind) → 8 ≤ bits * n → 0 < strength →
-    IsAllowed Free (bits * n) best →
-    IsBestCodeword
-    (gathered_span (channel kind bits repeats) n
-    (codeword_softs strength (channel kind bits repeats) n best)) Free best
-kind_best kind bits repeats n strength best fills enough some p =
-    let c = channel kind bits repeats in
-    let softs = codeword_softs strength c n best in
-    let size_is : length softs ≡ size c.shape * n =
-    length-map (sent_symbols (sending c n) best) (λ b. pos strength *ℤ sign b) ∙
-    length-sent_symbols c n best in
-    record {
-      half = ap (λ (k : ℕ). 2 * k) p.bits_long ∙
-          sym (length-gathered_span kind bits repeats n softs fills ∙ omega arith);
-      allowed = subst (λ (k : ℕ). IsAllowed Free k best) (sym p.bits_long) p;
-      first = λ w q other.
-          let q' : IsAllowed Free (bits * n) w =
-          subst (λ (k : ℕ). IsAllowed Free k w) p.bits_long q in
-          let less =
-          kind_alone kind bits repeats n strength best w fills enough some p q' other in
-          let one = score_is kind bits repeats n softs w fills size_is q'.bits_long in
-          let two = score_is kind bits repeats n softs best fills size_is p.bits_long in
-          inl (omega (arith, ints, less, one, two));
-    }
+  -- every other codeword has a lesser score under them
+  kind_alone : (w : Codeword) → IsAllowed Free (bits * n) w → w ≢ best →
+      score softs (sending c n) w <ℤ score softs (sending c n) best
+  kind_alone w q other =
+      by_lt_z (score softs (sending c n) w) (score softs (sending c n) best)
+      (λ less. less)
+      (λ reaches. absurd (other (codeword_same kind bits repeats n w best fills enough q p
+      (sym (signs_agree_alone softs (sent_symbols (sending c n) best)
+      (sent_symbols (sending c n) w) show
+      (length-sent_symbols c n best ∙ sym (length-sent_symbols c n w)) reaches)))))
+
+  -- so it is decoded from the gathered soft values
+  kind_best : IsBestCodeword (gathered_span c n softs) Free best
+  kind_best =
+      let size_is : length softs ≡ size c.shape * n =
+      AllZip-long HasSign (sent_symbols (sending c n) best) softs show
+      ∙ length-sent_symbols c n best in
+      record {
+        half = ap (λ (k : ℕ). 2 * k) p.bits_long ∙
+            sym (length-gathered_span kind bits repeats n softs fills ∙ omega arith);
+        allowed = subst (λ (k : ℕ). IsAllowed Free k best) (sym p.bits_long) p;
+        first = λ w q other.
+            let q' : IsAllowed Free (bits * n) w =
+            subst (λ (k : ℕ). IsAllowed Free k w) p.bits_long q in
+            let less = kind_alone w q' other in
+            let one = score_is kind bits repeats n softs w fills size_is q'.bits_long in
+            let two = score_is kind bits repeats n softs best fills size_is p.bits_long in
+            inl (omega (arith, ints, less, one, two));
+      }
 
 -- the bits of a frame of it
-kind_own : (kind : Kind) (bits repeats n own strength : ℕ) (best : Codeword) →
-    2 * bits * repeats ≡ size (shape_of kind) → 8 ≤ bits → 0 < strength → own < n →
+kind_own : (kind : Kind) (bits repeats n own : ℕ) (best : Codeword) (softs : List ℤ) →
+    2 * bits * repeats ≡ size (shape_of kind) → 8 ≤ bits →
+    ShowCodeword (channel kind bits repeats) n best softs → own < n →
     IsAllowed Free (bits * n) best →
-    own_bits (channel kind bits repeats) n own
-    (codeword_softs strength (channel kind bits repeats) n best) ≡
-    take bits (drop (bits * own) best.bits)
-kind_own kind bits repeats n own strength best fills enough some lt p =
+    own_bits (channel kind bits repeats) n own softs ≡ take bits (drop (bits * own) best.bits)
+kind_own kind bits repeats n own best softs fills enough show lt p =
     let c = channel kind bits repeats in
     let room = within bits n own lt in
-    sym (own_is kind bits repeats n own (codeword_softs strength c n best) best enough fills
-    (length-map (sent_symbols (sending c n) best) (λ b. pos strength *ℤ sign b) ∙
-    length-sent_symbols c n best)
+    sym (own_is kind bits repeats n own softs best enough fills
+    (AllZip-long HasSign (sent_symbols (sending c n) best) softs show ∙ length-sent_symbols c n best)
     lt
-    (kind_best kind bits repeats n strength best fills (omega (arith, room, enough)) some p))
+    (kind_best kind bits repeats n best softs fills (omega (arith, room, enough)) show p))
 
 -- ---- soft values of 0
 
@@ -251,26 +350,23 @@ kind_of c symbols whole =
     } in
     ap shaped whole.shape
 
-pub sent_alone : (c : Channel) (symbols n strength : ℕ) (best w : Codeword) →
-    IsWholeChannel c symbols → 8 ≤ c.bits * n → 0 < strength → IsAllowed Free (c.bits * n) best →
-    IsAllowed Free (c.bits * n) w → w ≢ best →
-    score (codeword_softs strength c n best) (sending c n) w
-    <ℤ score (codeword_softs strength c n best) (sending c n) best
-sent_alone c symbols n strength best w whole enough some p q other =
-    subst
-    (λ (d : Channel). score (codeword_softs strength d n best) (sending d n) w
-    <ℤ score (codeword_softs strength d n best) (sending d n) best)
-    (sym (kind_of c symbols whole))
-    (kind_alone whole.kind c.bits c.repeats n strength best w
-    (whole.fills ∙ ap size whole.shape) enough some p q other)
+pub shown_codeword_alone : (c : Channel) (symbols n : ℕ) (best w : Codeword) (softs : List ℤ) →
+    IsWholeChannel c symbols → 8 ≤ c.bits * n → ShowCodeword c n best softs →
+    IsAllowed Free (c.bits * n) best → IsAllowed Free (c.bits * n) w → w ≢ best →
+    score softs (sending c n) w <ℤ score softs (sending c n) best
+shown_codeword_alone c symbols n best w softs whole enough show p q other =
+    let is = kind_of c symbols whole in
+    subst (λ (d : Channel). score softs (sending d n) w <ℤ score softs (sending d n) best) (sym is)
+    (kind_alone whole.kind c.bits c.repeats n best softs (whole.fills ∙ ap size whole.shape) enough
+    (subst (λ (d : Channel). ShowCodeword d n best softs) is show) p w q other)
 
-pub sent_own : (c : Channel) (symbols n own strength : ℕ) (best : Codeword) →
-    IsWholeChannel c symbols → 0 < strength → own < n → IsAllowed Free (c.bits * n) best →
-    own_bits c n own (codeword_softs strength c n best) ≡ take c.bits (drop (c.bits * own) best.bits)
-sent_own c symbols n own strength best whole some lt p =
-    subst
-    (λ (d : Channel). own_bits d n own (codeword_softs strength d n best) ≡
-    take c.bits (drop (c.bits * own) best.bits))
-    (sym (kind_of c symbols whole))
-    (kind_own whole.kind c.bits c.repeats n own strength best (whole.fills ∙ ap size whole.shape)
-    whole.enough some lt p)
+pub shown_codeword_own : (c : Channel) (symbols n own : ℕ) (best : Codeword) (softs : List ℤ) →
+    IsWholeChannel c symbols → ShowCodeword c n best softs → own < n →
+    IsAllowed Free (c.bits * n) best →
+    own_bits c n own softs ≡ take c.bits (drop (c.bits * own) best.bits)
+shown_codeword_own c symbols n own best softs whole show lt p =
+    let is = kind_of c symbols whole in
+    subst (λ (d : Channel). own_bits d n own softs ≡ take c.bits (drop (c.bits * own) best.bits))
+    (sym is)
+    (kind_own whole.kind c.bits c.repeats n own best softs (whole.fills ∙ ap size whole.shape)
+    whole.enough (subst (λ (d : Channel). ShowCodeword d n best softs) is show) lt p)

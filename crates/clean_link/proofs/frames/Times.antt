@@ -2,7 +2,8 @@
 use Rattle.clean_link.proofs.Common.{◌≡◌, ℕ, ◌+◌, ◌≤◌, ◌&&◌, Bool, true, false, [], ◌∷◌, refl, sym, ap, ◌∙◌, arith, subst, max, nat_le, pos}
 use Rattle.clean_link.proofs.Common.{unsigned_abs, ◌+ℤ◌, ◌-ℤ◌, if◌then◌else◌, int_le, List, le-leb, leb-true, ints, frame_chips, Finger}
 use Rattle.clean_link.proofs.Common.{Form, Stream, frame_end, frame_start, is_in_file, is_within, known_at, IsTimed, timed_in, heard_behind}
-use Rattle.clean_link.proofs.Common.{reference_finger}
+use Rattle.clean_link.proofs.Common.{reference_finger, ◌-◌, ◌*◌, ◌/◌, ◌%◌, ◌<◌, ℤ, phase_at, CellPlan, Tuning, fingers_of, modulo_code}
+use Rattle.clean_link.proofs.Common.{sync_stream, first_sync_frame, paging_stream, Mark}
 use Rattle.rake_finger.specs.Near as near
 
 -- ---- one finger
@@ -98,3 +99,86 @@ known_at_once count s k alone waits =
     (λ (w : Bool). frame_end s.fingers s.form
     (frame_start s (if w && is_in_file count s (k + 1) then k + 1 else k))) waits
     ∙ known_if s k false alone
+
+-- ---- one finger
+
+abbrev pub one_path : List ℤ
+one_path = pos 0 ∷ []
+
+sync_alone : (t : Tuning) → t.deltas ≡ one_path → IsAlone (sync_stream t)
+sync_alone t alone = record {
+  phase = modulo_code (pos t.phase +ℤ pos 0);
+  row = 32;
+  fingers = ap (fingers_of 32 t.phase) alone;
+}
+
+pub sync_timed : (t : Tuning) → t.deltas ≡ one_path → IsTimed t.count (sync_stream t) 0
+sync_timed t alone = timed_alone t.count (sync_stream t) (sync_alone t alone)
+
+-- the number of samples at which frame k ends
+abbrev pub end_of_frame : Tuning → ℕ → ℕ
+end_of_frame t k = (32768 - t.phase) % 32768 + 32768 * (k + 1)
+
+pub in_file_from : (t : Tuning) (k : ℕ) → t.deltas ≡ one_path → end_of_frame t k ≤ t.count →
+    is_in_file t.count (sync_stream t) k ≡ true
+in_file_from t k alone h =
+    inside_alone t.count (sync_stream t) k (sync_alone t alone) (omega (arith, h))
+
+pub in_file_to : (t : Tuning) (k : ℕ) → t.deltas ≡ one_path →
+    is_in_file t.count (sync_stream t) k ≡ true → end_of_frame t k ≤ t.count
+in_file_to t k alone h =
+    omega (arith, room_alone t.count (sync_stream t) k (sync_alone t alone) h)
+
+pub known_is : (t : Tuning) (k : ℕ) → t.deltas ≡ one_path →
+    known_at t.count (sync_stream t) k ≡ heard_behind 32768 t.count (end_of_frame t k)
+known_is t k alone =
+    known_alone t.count (sync_stream t) k (sync_alone t alone) refl ∙
+    ap (heard_behind 32768 t.count) (omega arith)
+
+-- ---- the cell's frames
+
+begins_at : (start phase pn j : ℕ) → pn < 512 → phase ≡ (start + 32768 - 64 * pn) % 32768 →
+    start + ((32768 - phase) % 32768 + 32768 * j) ≡
+    64 * pn + 32768 * ((start + (32768 - phase) % 32768 - 64 * pn) / 32768 + j)
+begins_at start phase pn j low is = omega arith
+
+-- the local chip at which frame j begins
+pub frames_begin : (plan : CellPlan) (t : Tuning) (j : ℕ) → plan.cell.pn < 512 →
+    t.phase ≡ phase_at plan plan.link.start →
+    plan.link.start + ((32768 - t.phase) % 32768 + 32768 * j) ≡
+    64 * plan.cell.pn + 32768 * (first_sync_frame plan + j)
+frames_begin plan t j low is =
+    rw is (begins_at plan.link.start (phase_at plan plan.link.start) plan.cell.pn j low refl)
+
+-- ---- a paging channel
+
+-- the number of samples at which frame k ends
+abbrev pub end_behind : Mark → ℕ → ℕ
+end_behind m k = m.sample + 24576 * (k + 1)
+
+module _ (t : Tuning) (channel : ℕ) (m : Mark) (alone : t.deltas ≡ one_path) where
+  pub paging_alone : IsAlone (paging_stream t channel m)
+  paging_alone = record {
+    phase = modulo_code (pos t.phase +ℤ pos 0);
+    row = channel;
+    fingers = ap (fingers_of channel t.phase) alone;
+  }
+
+  pub paging_timed : IsTimed t.count (paging_stream t channel m) 0
+  paging_timed = timed_alone t.count (paging_stream t channel m) paging_alone
+
+  pub paging_file_from : (k : ℕ) → end_behind m k ≤ t.count →
+      is_in_file t.count (paging_stream t channel m) k ≡ true
+  paging_file_from k h =
+      inside_alone t.count (paging_stream t channel m) k paging_alone (omega (arith, h))
+
+  pub paging_file_to : (k : ℕ) → is_in_file t.count (paging_stream t channel m) k ≡ true →
+      end_behind m k ≤ t.count
+  paging_file_to k h =
+      omega (arith, room_alone t.count (paging_stream t channel m) k paging_alone h)
+
+  pub paging_known_is : (k : ℕ) →
+      known_at t.count (paging_stream t channel m) k ≡ heard_behind 24576 t.count (end_behind m k)
+  paging_known_is k =
+      known_alone t.count (paging_stream t channel m) k paging_alone refl ∙
+      ap (heard_behind 24576 t.count) (omega arith)

@@ -4,16 +4,17 @@ use Rattle.clean_link.proofs.Common.{refl, sym, ap, ◌∙◌, arith, subst, nat
 use Rattle.clean_link.proofs.Common.{places, Sample, Width, IsState, after, after-after, IsState-after, Piece, from_last_start}
 use Rattle.clean_link.proofs.Common.{superframes_of, sync_capsule, SyncFields, IsLawfulPlan, message_of, superframes_a_sending}
 use Rattle.clean_link.proofs.Common.{told_superframes, CellPlan, SyncPlan, length-sending, first_of, frames_open, mark, marks_at, marks_of}
-use Rattle.clean_link.proofs.Common.{frame_start, heard_at, with_message, Tuning, sync_stream, sync_bound, Mark, FramesAreZeros}
-use Rattle.clean_link.proofs.Common.{FramesComeBack, MarksAreTrue, IsOnPath, IsTrueMark, first_sync_frame, IsReceivable, MarksTellTheRate}
-use Rattle.clean_link.proofs.Common.{UnmarkedWithoutSync, made_samples}
-use Rattle.clean_link.proofs.frames.SyncFrames.{frames_back, frames_zero}
-use Rattle.clean_link.proofs.sendings.Pieces.{length-run}
-use Rattle.clean_link.proofs.sendings.Capsules.{IsSentAt, begun, is_at, piece_of, sending_frames}
-use Rattle.clean_link.proofs.frames.SyncTimes.{frames_begin}
-use Rattle.clean_link.proofs.sendings.Events.{first_among, in_file, known}
-use Rattle.clean_link.proofs.sendings.Heard.{ends_sending, heard_nothing, heard_sending, none_heard, heard_pieces}
-use Rattle.clean_link.proofs.sendings.Places.{ends_tells, threefold}
+use Rattle.clean_link.proofs.Common.{frame_start, heard_at, with_message, Tuning, sync_stream, sync_bound, Mark, MarksAreTrue, IsOnPath}
+use Rattle.clean_link.proofs.Common.{IsTrueMark, first_sync_frame, MarksTellTheRate, UnmarkedWithoutSync, NoisyMarksAreTrue, ShowsSync, map}
+use Rattle.clean_link.proofs.Common.{filter, flat_map, map-append, flat_map-append, nat_lt, is_some, length-map, IsMarkedWhereHeard}
+use Rattle.clean_link.proofs.Common.{events_of, Event, events_of_channel, sending_event, sync_sent, whole_sendings, NoisyIsMarkedWhereHeard}
+use Rattle.clean_link.proofs.frames.ChannelFrames.{clean_sync, heard_sync}
+use Rattle.clean_link.proofs.sendings.Capsules.{length-run, IsSentAt, begun, is_at, piece_of, sending_frames}
+use Rattle.clean_link.proofs.frames.Times.{frames_begin, sync_timed}
+use Rattle.clean_link.proofs.sendings.Order.{first_among, in_file, known, first_there, frame_events, frames_of, mark_of_all}
+use Rattle.clean_link.proofs.sendings.Heard.{ends_sending, heard_nothing, heard_sending, none_heard, heard_pieces, ends_tells, threefold}
+use Rattle.clean_link.proofs.sendings.Heard.{sendings_by_frames}
+use Rattle.heard_events.specs.declared.event.Event.TheVariants.{Sync}
 
 -- ---- the mark that a transmission sets
 -- which transmission and which of its frames the file's frame k is, where it ends the transmission
@@ -62,38 +63,6 @@ pub marks_sent : (plan : CellPlan) (m : SyncFields) (q first : ℕ) → IsState 
     (with_message (sync_capsule plan.cell.check30 (message_of plan.cell m q))
     (Some (message_of plan.cell m q))) ≡ sent_mark plan m q first ∷ []
 marks_sent plan m q first is = rw (lc_some plan m q is) refl
-
--- the frames of the transmission under way
-frames_open_is : FramesComeBack →
-    (width : Width) (plan : CellPlan) (sync : SyncPlan) (t : Tuning) (k q w : ℕ) →
-    IsReceivable width plan → plan.sync ≡ Some sync → IsOnPath plan t → in_file t k ≡ true →
-    EndsAt plan sync.message k q w →
-    frames_open t (made_samples plan) (k + 1) ≡ w + 1
-unfolding frames_open
-frames_open_is back width plan sync t k q w is sends tuned there at =
-    let m = sync.message in
-    let tells = ends_tells plan m k w at.ends in
-    ap (λ (l : List Piece). length (from_last_start l))
-    (heard_pieces back width plan sync t k is sends tuned there)
-    ∙ ap length (begun plan m (first_sync_frame plan) k q w at.place tells.begun)
-    ∙ length-run (piece_of plan m (first_sync_frame plan)) (k - w) (suc w) ∙ omega arith
-
--- at the reference sample at which its first frame begins
-marks_are : FramesComeBack →
-    (width : Width) (plan : CellPlan) (sync : SyncPlan) (t : Tuning) (k q w : ℕ) →
-    IsReceivable width plan → plan.sync ≡ Some sync → IsOnPath plan t → in_file t k ≡ true →
-    EndsAt plan sync.message k q w →
-    marks_at t (made_samples plan) k ≡
-    sent_mark plan sync.message q (frame_start (sync_stream t) (k - w)) ∷ []
-unfolding marks_at
-marks_are back width plan sync t k q w is sends tuned there at =
-    let m = sync.message in
-    let first : k + 1 - frames_open t (made_samples plan) (k + 1) ≡ k - w =
-    omega (arith, frames_open_is back width plan sync t k q w is sends tuned there at) in
-    ap (λ j. marks_of (frame_start (sync_stream t) j) (heard_at t (made_samples plan) k)) first
-    ∙ ap (marks_of (frame_start (sync_stream t) (k - w)))
-    (heard_sending back width plan sync t k q w is sends tuned there at.place at.ends)
-    ∙ marks_sent plan m q (frame_start (sync_stream t) (k - w)) is.lawful.lc
 
 marks_none : (t : Tuning) (samples : List Sample) (k : ℕ) → heard_at t samples k ≡ None →
     marks_at t samples k ≡ []
@@ -151,60 +120,6 @@ record IsOfSending (plan : CellPlan) (m : SyncFields) (t : Tuning) (k : ℕ)
   ends : EndsAt plan m k sending frame
   same : sent_mark plan m sending (frame_start (sync_stream t) (k - frame)) ≡ set
 
-frame_sets : FramesComeBack →
-    (width : Width) (plan : CellPlan) (sync : SyncPlan) (t : Tuning) (k : ℕ) (m : Mark) →
-    IsReceivable width plan → plan.sync ≡ Some sync → IsOnPath plan t → in_file t k ≡ true →
-    first_of (marks_at t (made_samples plan) k) ≡ Some m → IsOfSending plan sync.message t k m
-frame_sets back width plan sync t k m is sends tuned there set =
-    let q = (first_sync_frame plan + k) / sending_frames plan sync.message in
-    let w = (first_sync_frame plan + k) % sending_frames plan sync.message in
-    let place : IsSentAt plan sync.message (first_sync_frame plan) k q w =
-    is_at plan sync.message (first_sync_frame plan) k in
-    ⊎_elim
-    (λ (ends : ends_sending plan sync.message k w ≡ true).
-    let at : EndsAt plan sync.message k q w = record { place = place; ends = ends } in
-    let marks = marks_are back width plan sync t k q w is sends tuned there at in
-    record {
-      sending = q;
-      frame = w;
-      ends = at;
-      same = first_one (sent_mark plan sync.message q (frame_start (sync_stream t) (k - w))) m
-          (sym (ap first_of marks) ∙ set);
-    })
-    (λ (over : ends_sending plan sync.message k w ≡ false).
-    let none =
-    marks_none t (made_samples plan) k
-    (heard_nothing back width plan sync t k q w is sends tuned there place over) in
-    no_first m _ (sym (ap first_of none) ∙ set))
-    (cases_Bool (ends_sending plan sync.message k w))
-
--- a frame's mark is true
-frame_true : FramesComeBack →
-    (width : Width) (plan : CellPlan) (sync : SyncPlan) (t : Tuning) (k : ℕ) (m : Mark) →
-    IsReceivable width plan → plan.sync ≡ Some sync → IsOnPath plan t → in_file t k ≡ true →
-    first_of (marks_at t (made_samples plan) k) ≡ Some m →
-    (superframes : ℕ) × IsTrueMark plan m superframes
-frame_true back width plan sync t k m is sends tuned there set =
-    let sent = frame_sets back width plan sync t k m is sends tuned there set in
-    let superframes = told_superframes plan.cell sync.message sent.sending in (
-      superframes,
-      subst (λ x. IsTrueMark plan x superframes) sent.same
-          (is_true width plan sync.message t k sent.sending sent.frame is.lawful tuned sent.ends),
-    )
-
-frame_true_if : FramesComeBack → FramesAreZeros →
-    (width : Width) (plan : CellPlan) (t : Tuning) (k : ℕ) (m : Mark) (channel : Option SyncPlan) →
-    IsReceivable width plan → plan.sync ≡ channel → IsOnPath plan t → in_file t k ≡ true →
-    first_of (marks_at t (made_samples plan) k) ≡ Some m →
-    (superframes : ℕ) × IsTrueMark plan m superframes
-frame_true_if back zeros width plan t k m None is silent tuned there set =
-    no_first m _
-    (sym (ap first_of
-    (marks_none t (made_samples plan) k
-    (none_heard zeros width plan t k is silent tuned there))) ∙ set)
-frame_true_if back zeros width plan t k m (Some sync) is sends tuned there set =
-    frame_true back width plan sync t k m is sends tuned there set
-
 mark_among : (t : Tuning) (samples : List Sample) (n : ℕ) (m : Mark) → mark t samples n ≡ Some m →
     (k : ℕ) × ((in_file t k ≡ true) × (first_of (marks_at t samples k) ≡ Some m))
 unfolding mark
@@ -213,40 +128,272 @@ mark_among t samples n m set =
     let (k, both) = first_among p (marks_at t samples) (places (sync_bound n)) m set in
     (k, ((and_parts (in_file t k) (nat_le (known t k) n) both.0).0, both.1))
 
-pub marks_from : FramesComeBack → FramesAreZeros → MarksAreTrue
-marks_from back zeros width plan t n m is tuned set =
-    let (k, both) = mark_among t (made_samples plan) n m set in
-    frame_true_if back zeros width plan t k m plan.sync is refl tuned both.0 both.1
+-- ---- the marks of samples that show the frames of the sync channel
 
--- ---- it tells the paging channels' rate
+module _ {width : Width} {plan : CellPlan} {samples : List Sample} {t : Tuning}
+    (is : ShowsSync width plan samples) (tuned : IsOnPath plan t) where
+  module _ (sync : SyncPlan) (sends : plan.sync ≡ Some sync) where
+    -- the frames of the transmission under way
+    frames_open_is : (k q w : ℕ) → in_file t k ≡ true → EndsAt plan sync.message k q w →
+        frames_open t samples (k + 1) ≡ w + 1
+    unfolding frames_open
+    frames_open_is k q w there at =
+        let m = sync.message in
+        let tells = ends_tells plan m k w at.ends in
+        ap (λ (l : List Piece). length (from_last_start l))
+        (heard_pieces is tuned sync sends k there)
+        ∙ ap length (begun plan m (first_sync_frame plan) k q w at.place tells.begun)
+        ∙ length-run (piece_of plan m (first_sync_frame plan)) (k - w) (suc w) ∙ omega arith
 
-pub rate_from : FramesComeBack → MarksTellTheRate
-rate_from back width plan sync t n m is sends tuned set =
-    let (k, both) = mark_among t (made_samples plan) n m set in
-    let sent = frame_sets back width plan sync t k m is sends tuned both.0 both.1 in
-    ap (λ (x : Mark). x.prat) (sym sent.same) ∙ prat_of plan sync.message sent.sending
+    -- at the reference sample at which its first frame begins
+    marks_are : (k q w : ℕ) → in_file t k ≡ true → EndsAt plan sync.message k q w →
+        marks_at t samples k ≡
+        sent_mark plan sync.message q (frame_start (sync_stream t) (k - w)) ∷ []
+    unfolding marks_at
+    marks_are k q w there at =
+        let m = sync.message in
+        let first : k + 1 - frames_open t samples (k + 1) ≡ k - w =
+        omega (arith, frames_open_is k q w there at) in
+        ap (λ j. marks_of (frame_start (sync_stream t) j) (heard_at t samples k)) first
+        ∙ ap (marks_of (frame_start (sync_stream t) (k - w)))
+        (heard_sending is tuned sync sends k q w there at.place at.ends)
+        ∙ marks_sent plan m q (frame_start (sync_stream t) (k - w)) is.receivable.lawful.lc
 
-pub unmarked_from : FramesAreZeros → UnmarkedWithoutSync
-unmarked_from zeros width plan t n is silent tuned =
-    no_mark (mark t (made_samples plan) n) refl
-  where
-    no_mark : (set : Option Mark) → mark t (made_samples plan) n ≡ set →
-        mark t (made_samples plan) n ≡ None
-    no_mark None e = e
-    no_mark (Some m) e =
-        let (k, both) = mark_among t (made_samples plan) n m e in
-        no_first m _
-        (sym (ap first_of
-        (marks_none t (made_samples plan) k
-        (none_heard zeros width plan t k is silent tuned both.0))) ∙ both.1)
+    frame_sets : (k : ℕ) (m : Mark) → in_file t k ≡ true →
+        first_of (marks_at t samples k) ≡ Some m → IsOfSending plan sync.message t k m
+    frame_sets k m there set =
+        let q = (first_sync_frame plan + k) / sending_frames plan sync.message in
+        let w = (first_sync_frame plan + k) % sending_frames plan sync.message in
+        let place : IsSentAt plan sync.message (first_sync_frame plan) k q w =
+        is_at plan sync.message (first_sync_frame plan) k in
+        ⊎_elim
+        (λ (ends : ends_sending plan sync.message k w ≡ true).
+        let at : EndsAt plan sync.message k q w = record { place = place; ends = ends } in
+        let marks = marks_are k q w there at in
+        record {
+          sending = q;
+          frame = w;
+          ends = at;
+          same = first_one (sent_mark plan sync.message q (frame_start (sync_stream t) (k - w))) m
+              (sym (ap first_of marks) ∙ set);
+        })
+        (λ (over : ends_sending plan sync.message k w ≡ false).
+        let none =
+        marks_none t samples k (heard_nothing is tuned sync sends k q w there place over) in
+        no_first m _ (sym (ap first_of none) ∙ set))
+        (cases_Bool (ends_sending plan sync.message k w))
+
+    -- a frame's mark is true
+    frame_true : (k : ℕ) (m : Mark) → in_file t k ≡ true →
+        first_of (marks_at t samples k) ≡ Some m → (superframes : ℕ) × IsTrueMark plan m superframes
+    frame_true k m there set =
+        let sent = frame_sets k m there set in
+        let superframes = told_superframes plan.cell sync.message sent.sending in (
+          superframes,
+          subst (λ x. IsTrueMark plan x superframes) sent.same
+              (is_true width plan sync.message t k sent.sending sent.frame is.receivable.lawful tuned sent.ends),
+        )
+
+  frame_true_if : (channel : Option SyncPlan) → plan.sync ≡ channel → (k : ℕ) (m : Mark) →
+      in_file t k ≡ true → first_of (marks_at t samples k) ≡ Some m →
+      (superframes : ℕ) × IsTrueMark plan m superframes
+  frame_true_if None silent k m there set =
+      no_first m _
+      (sym (ap first_of (marks_none t samples k (none_heard is tuned silent k there))) ∙ set)
+  frame_true_if (Some sync) sends k m there set = frame_true sync sends k m there set
+
+  pub marks_in : (n : ℕ) (m : Mark) → mark t samples n ≡ Some m →
+      (superframes : ℕ) × IsTrueMark plan m superframes
+  marks_in n m set =
+      let (k, both) = mark_among t samples n m set in
+      frame_true_if plan.sync refl k m both.0 both.1
+
+  -- it tells the paging channels' rate
+  pub rate_in : (sync : SyncPlan) (n : ℕ) (m : Mark) → plan.sync ≡ Some sync →
+      mark t samples n ≡ Some m → m.prat ≡ sync.message.prat
+  rate_in sync n m sends set =
+      let (k, both) = mark_among t samples n m set in
+      let sent = frame_sets sync sends k m both.0 both.1 in
+      ap (λ (x : Mark). x.prat) (sym sent.same) ∙ prat_of plan sync.message sent.sending
+
+  -- and none is set without a sync channel
+  pub unmarked_in : (n : ℕ) → plan.sync ≡ None → mark t samples n ≡ None
+  unmarked_in n silent =
+      no_mark (mark t samples n) refl
+    where
+      no_mark : (set : Option Mark) → mark t samples n ≡ set → mark t samples n ≡ None
+      no_mark None e = e
+      no_mark (Some m) e =
+          let (k, both) = mark_among t samples n m e in
+          no_first m _
+          (sym (ap first_of (marks_none t samples k (none_heard is tuned silent k both.0))) ∙ both.1)
 
 -- ---- the laws
 
 pub marks_true : MarksAreTrue
-marks_true = marks_from frames_back frames_zero
+marks_true width plan t n m is tuned set = marks_in (clean_sync width plan is) tuned n m set
 
 pub marks_rate : MarksTellTheRate
-marks_rate = rate_from frames_back
+marks_rate width plan sync t n m is sends tuned set =
+    rate_in (clean_sync width plan is) tuned sync n m sends set
 
 pub unmarked : UnmarkedWithoutSync
-unmarked = unmarked_from frames_zero
+unmarked width plan t n is silent tuned = unmarked_in (clean_sync width plan is) tuned n silent
+
+pub noisy_marks : NoisyMarksAreTrue
+noisy_marks width plan sync e samples t n m is tuned set =
+    let shows = heard_sync width plan sync e samples is in
+    (marks_in shows tuned n m set, rate_in shows tuned sync n m is.sends set)
+
+-- ---- times
+abbrev mark_time : Mark → ℕ
+mark_time m = m.time
+
+-- the time that an event tells
+abbrev times_in : Event → List ℕ
+times_in (Sync n capsule message) = message.time ∷ []
+times_in other = []
+
+-- a frame's mark has the time of its event
+same_times : (plan : CellPlan) (m : SyncFields) (q first n : ℕ) → IsState plan.cell.lc →
+    map mark_time (marks_of first
+    (with_message (sync_capsule plan.cell.check30 (message_of plan.cell m q))
+    (Some (message_of plan.cell m q))))
+    ≡ flat_map times_in (events_of n
+    (with_message (sync_capsule plan.cell.check30 (message_of plan.cell m q))
+    (Some (message_of plan.cell m q))))
+same_times plan m q first n is = ap (map mark_time) (marks_sent plan m q first is)
+
+gathered_times : (P : ℕ → Bool) (f : ℕ → List Mark) (g : ℕ → List Event) (ks : List ℕ) →
+    ((k : ℕ) → P k ≡ true → map mark_time (f k) ≡ flat_map times_in (g k)) →
+    map mark_time (flat_map f (filter P ks)) ≡ flat_map times_in (flat_map g (filter P ks))
+gathered_times P f g [] same = refl
+gathered_times P f g (k ∷ ks) same =
+    let rest = gathered_times P f g ks same in
+    ⊎_elim
+    (λ (there : P k ≡ true).
+    let here = same k there in
+    rw (there, map-append, flat_map-append, here, rest) refl)
+    (λ (gone : P k ≡ false). rw gone rest)
+    (cases_Bool (P k))
+
+sent_times : (plan : CellPlan) (m : SyncFields) (sendings : List ℕ) →
+    flat_map times_in (map (sending_event plan m) sendings)
+    ≡ map (λ q. (message_of plan.cell m q).time) sendings
+sent_times plan m [] = refl
+sent_times plan m (q ∷ sendings) =
+    ap (λ (ts : List ℕ). (message_of plan.cell m q).time ∷ ts) (sent_times plan m sendings)
+
+-- one of each
+sent_count : (plan : CellPlan) (channel : Option SyncPlan) →
+    length (flat_map times_in (events_of_channel plan channel))
+    ≡ length (events_of_channel plan channel)
+sent_count plan None = refl
+sent_count plan (Some sync) =
+    let sendings = whole_sendings plan sync.message in
+    ap length (sent_times plan sync.message sendings)
+    ∙ length-map sendings (λ (q : ℕ). (message_of plan.cell sync.message q).time)
+    ∙ sym (length-map sendings (sending_event plan sync.message))
+
+sync_sent_is : (plan : CellPlan) (sync : SyncPlan) → plan.sync ≡ Some sync →
+    sync_sent plan ≡ map (sending_event plan sync.message) (whole_sendings plan sync.message)
+unfolding sync_sent
+sync_sent_is plan sync sends = ap (events_of_channel plan) sends
+
+-- the transmission whose time a mark has, the first of these
+pub record IsFirstTold (f : ℕ → ℕ) (sendings : List ℕ) (m : Mark) : Type 0 where
+  pub sending : ℕ
+  pub others : List ℕ
+  pub first : sendings ≡ sending ∷ others
+  pub time : m.time ≡ f sending
+
+first_told : (f : ℕ → ℕ) (marks : List Mark) (sendings : List ℕ) (m : Mark) →
+    map mark_time marks ≡ map f sendings → first_of marks ≡ Some m → IsFirstTold f sendings m
+first_told f [] sendings m times set = absurd (cc)
+first_told f (x ∷ marks) [] m times set = absurd (cc)
+first_told f (x ∷ marks) (q ∷ sendings) m times set =
+    let same : x ≡ m = cc in
+    let time : mark_time x ≡ f q = cc in
+    record {
+      sending = q;
+      others = sendings;
+      first = refl;
+      time = ap mark_time (sym same) ∙ time;
+    }
+
+none_told : (f : ℕ → ℕ) (marks : List Mark) (sendings : List ℕ) →
+    map mark_time marks ≡ map f sendings → first_of marks ≡ None → sendings ≡ []
+none_told f [] [] times unset = refl
+none_told f [] (q ∷ sendings) times unset = absurd (cc)
+none_told f (x ∷ marks) sendings times unset = absurd (cc)
+
+-- ---- of samples that show the frames of the sync channel
+
+module _ {width : Width} {plan : CellPlan} {samples : List Sample} {t : Tuning}
+    (is : ShowsSync width plan samples) (tuned : IsOnPath plan t) where
+  frame_times : (channel : Option SyncPlan) → plan.sync ≡ channel → (k : ℕ) → in_file t k ≡ true →
+      map mark_time (marks_at t samples k) ≡ flat_map times_in (frame_events t samples k)
+  unfolding marks_at
+  frame_times None silent k there = rw (none_heard is tuned silent k there) refl
+  frame_times (Some sync) sends k there =
+      let m = sync.message in
+      let q = (first_sync_frame plan + k) / sending_frames plan m in
+      let w = (first_sync_frame plan + k) % sending_frames plan m in
+      let place : IsSentAt plan m (first_sync_frame plan) k q w =
+      is_at plan m (first_sync_frame plan) k in
+      ⊎_elim
+      (λ (ends : ends_sending plan m k w ≡ true).
+      rw (heard_sending is tuned sync sends k q w there place ends)
+      (same_times plan m q _ (known t k) is.receivable.lawful.lc))
+      (λ (over : ends_sending plan m k w ≡ false).
+      rw (heard_nothing is tuned sync sends k q w there place over) refl)
+      (cases_Bool (ends_sending plan m k w))
+
+  -- the marks of all frames have the times of the whole transmissions
+  all_times : map mark_time (flat_map (marks_at t samples) (filter (in_file t) (frames_of t)))
+      ≡ flat_map times_in (sync_sent plan)
+  all_times =
+      gathered_times (in_file t) (marks_at t samples) (frame_events t samples) (frames_of t)
+      (frame_times plan.sync refl)
+      ∙ ap (flat_map times_in) (sendings_by_frames is tuned)
+
+  pub marked_in : is_some (mark t samples plan.link.samples) ≡ nat_lt 0 (length (sync_sent plan))
+  unfolding sync_sent
+  marked_in =
+      let marks = flat_map (marks_at t samples) (filter (in_file t) (frames_of t)) in
+      ap (λ n. is_some (mark t samples n)) (sym tuned.count)
+      ∙ ap is_some (mark_of_all t (sync_timed t tuned.alone) samples)
+      ∙ first_there marks
+      ∙ ap (nat_lt 0) (sym (length-map marks mark_time) ∙ ap length all_times
+      ∙ sent_count plan plan.sync)
+
+  module _ (sync : SyncPlan) (sends : plan.sync ≡ Some sync) where
+    times_are : map mark_time
+        (flat_map (marks_at t samples) (filter (in_file t) (frames_of t)))
+        ≡ map (λ q. (message_of plan.cell sync.message q).time) (whole_sendings plan sync.message)
+    times_are =
+        all_times
+        ∙ ap (flat_map times_in) (sync_sent_is plan sync sends)
+        ∙ sent_times plan sync.message (whole_sendings plan sync.message)
+
+    -- the mark has the time of the first whole transmission, and where there is none it isn't set
+    pub first_in : (m : Mark) → mark t samples t.count ≡ Some m →
+        IsFirstTold (λ q. (message_of plan.cell sync.message q).time)
+        (whole_sendings plan sync.message) m
+    first_in m set =
+        first_told (λ q. (message_of plan.cell sync.message q).time) _
+        (whole_sendings plan sync.message) m times_are
+        (sym (mark_of_all t (sync_timed t tuned.alone) samples) ∙ set)
+
+    pub unset_in : mark t samples t.count ≡ None → whole_sendings plan sync.message ≡ []
+    unset_in unset =
+        none_told (λ q. (message_of plan.cell sync.message q).time) _
+        (whole_sendings plan sync.message) times_are
+        (sym (mark_of_all t (sync_timed t tuned.alone) samples) ∙ unset)
+
+pub marked_where_heard : IsMarkedWhereHeard
+marked_where_heard width plan t is tuned = marked_in (clean_sync width plan is) tuned
+
+pub noisy_marked : NoisyIsMarkedWhereHeard
+noisy_marked width plan sync e samples t is tuned =
+    marked_in (heard_sync width plan sync e samples is) tuned

@@ -1,14 +1,14 @@
 -- Which of a handset's events are of which kind.
 use Rattle.clean_link.proofs.Common.{◌≡◌, ℕ, ◌+◌, ◌==◌, ◌||◌, Bool, true, false, List, [], ◌∷◌, ◌++◌, filter, refl, ap, ◌∙◌, take, Option}
-use Rattle.clean_link.proofs.Common.{None, Some, nat_eq, if◌then◌else◌, All, flat_map, append-nil, All-append, All-cons, All-head, All-map}
-use Rattle.clean_link.proofs.Common.{All-nil, All-tail, filter-append, Plain, Sample, Standing, SetChange, events_at, frame_events_at}
+use Rattle.clean_link.proofs.Common.{None, Some, nat_eq, if◌then◌else◌, All, flat_map, append-nil, All-cons, All-head, All-map, All-nil}
+use Rattle.clean_link.proofs.Common.{All-tail, filter-append, Plain, Sample, Standing, SetChange, events_at, frame_events_at}
 use Rattle.clean_link.proofs.Common.{message_events_at, paging_events_at, sets_events_at, mark, changed, frames_at, heard_from, kept_to}
 use Rattle.clean_link.proofs.Common.{legs_at, messages_at, moment_events, moment_place, moments_before, passed, sets_at, page_event}
 use Rattle.clean_link.proofs.Common.{pages_behind, message_at, message_events, message_heard, messages_by, signal_in, known_now, events_of}
 use Rattle.clean_link.proofs.Common.{heard_at, sync_events_at, with_message, frame_heard, frames_by, if_followed, frames_now, Tuning}
 use Rattle.clean_link.proofs.Common.{sync_bound, sync_stream, all_each, Event, Leg, Mark, Traffic, is_frame, is_message, is_page, is_sync}
 use Rattle.clean_link.proofs.Common.{type_within}
-use Rattle.clean_link.proofs.traffic.ByKinds.{events_at_all}
+use Rattle.clean_link.proofs.traffic.Steady.{events_at_all}
 use Rattle.heard_events.specs.declared.event.Event.TheVariants.{Frame, Paging, Pilot, Sets, Sync, Traffic as OnTraffic}
 
 -- ---- kinds by number

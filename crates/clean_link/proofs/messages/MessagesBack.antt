@@ -6,20 +6,76 @@ use Rattle.clean_link.proofs.Common.{inr, nat_lt, Option, None, Some, ℤ, pos, 
 use Rattle.clean_link.proofs.Common.{map-append, places, CheckForm, Sample, Width, made_samples, told_superframes, phase_at, CellPlan}
 use Rattle.clean_link.proofs.Common.{SyncPlan, events, events_at, frame_events_at, heard_within, message_events_at, paging_events_at}
 use Rattle.clean_link.proofs.Common.{sets_events_at, mark, page_event, pages_at, pages_behind, sync_events_at, Tuning, Event, Pilot, Mark}
-use Rattle.clean_link.proofs.Common.{AreAt, IsAt, all_at, by_one_mark, pages_from_mark}
-use Rattle.clean_link.proofs.Common.{flat_map_ext_places, IsNotDirected, IsOnPath, IsTunedTo, sync_sent, tuning_to, whole_sendings}
-use Rattle.clean_link.proofs.Common.{IsReceivable, ReadPage, known_page, pages_sent, pages_within, FollowsSent, WholeMessagesComeBack}
-use Rattle.clean_link.proofs.Common.{known_event, paging_sent, pages_behind_mark, pages_with_sync, sent_events, by_places, sets_heard}
-use Rattle.clean_link.proofs.Common.{signaling_sent, subst, told_by_first, traffic_sent}
-use Rattle.clean_link.proofs.traffic.ByKinds.{events_at_all}
-use Rattle.clean_link.proofs.messages.EventPlaces.{gathered_by_places}
-use Rattle.clean_link.proofs.traffic.Steady.{right_all}
-use Rattle.clean_link.proofs.marks.FirstMark.{mark_of_first, unset_without}
-use Rattle.clean_link.proofs.marks.MarksTrue.{marks_rate, marks_true, time_of, unmarked}
-use Rattle.clean_link.proofs.pages.Back.{pages_back}
-use Rattle.clean_link.proofs.sendings.Back.{sendings_back}
+use Rattle.clean_link.proofs.Common.{AreAt, IsAt, all_at, by_one_mark, pages_from_mark, flat_map_ext_places, IsNotDirected, IsOnPath}
+use Rattle.clean_link.proofs.Common.{IsTunedTo, sync_sent, tuning_to, whole_sendings, IsReceivable, ReadPage, known_page, pages_sent}
+use Rattle.clean_link.proofs.Common.{pages_within, FollowsSent, WholeMessagesComeBack, known_event, paging_sent, pages_behind_mark}
+use Rattle.clean_link.proofs.Common.{pages_with_sync, sent_events, by_places, sets_heard, signaling_sent, subst, told_by_first}
+use Rattle.clean_link.proofs.Common.{traffic_sent, ◌<◌, All-contains, Contains, IsStatedPaging, IsTrueMark, PagingPlan, paging_rate, Bears}
+use Rattle.clean_link.proofs.Common.{HearsSync, ShowsSync, zero, suc, ◌≤◌, filter, range_with_len, cases_order, eq-eqb, ne_eqb, append-nil}
+use Rattle.clean_link.proofs.Common.{filter-append, at_of, All-head, All-tail, is_at}
+use Rattle.clean_link.proofs.traffic.Steady.{events_at_all, right_all, left_all}
+use Rattle.clean_link.proofs.marks.MarksTrue.{first_in, unset_in, marks_in, rate_in, time_of, unmarked_in}
+use Rattle.clean_link.proofs.frames.ChannelFrames.{clean_sync}
+use Rattle.clean_link.proofs.pages.Back.{noisy_pages, pages_back, sent_of_number}
+use Rattle.clean_link.proofs.sendings.Heard.{sendings_back}
 use Rattle.clean_link.proofs.signal.Samples.{length-made}
 use Rattle.clean_link.proofs.traffic.Back.{frames_all, messages_all, one_near}
+
+-- ---- events of one number of samples
+kept_here : (n : ℕ) (es : List Event) → AreAt n es → filter (is_at n) es ≡ es
+kept_here n [] here = refl
+kept_here n (e ∷ es) here =
+    let same : is_at n e ≡ true = eq-eqb (at_of e) n (All-head (IsAt n) e es here) in
+    rw same
+    (ap (λ (xs : List Event). e ∷ xs) (kept_here n es (All-tail (IsAt n) e es here)))
+
+left_out : (n k : ℕ) (es : List Event) → ¬ (k ≡ n) → AreAt k es → filter (is_at n) es ≡ []
+left_out n k [] other there = refl
+left_out n k (e ∷ es) other there =
+    let here = All-head (IsAt k) e es there in
+    let off : is_at n e ≡ false = ne_eqb (at_of e) n (λ same. other (sym here ∙ same)) in
+    rw off (left_out n k es other (All-tail (IsAt k) e es there))
+
+-- ---- those of one number among those of many
+none_at : (f : ℕ → List Event) (n a len : ℕ) → ((k : ℕ) → AreAt k (f k)) → n < a →
+    filter (is_at n) (flat_map f (range_with_len a len)) ≡ []
+none_at f n a zero each past = refl
+none_at f n a (suc len) each past =
+    let off = left_out n a (f a) (λ same. omega (arith, same, past)) (each a) in
+    let rest = none_at f n (a + 1) len each (omega (arith, past)) in
+    rw (filter-append, off, rest) refl
+
+found_at : (f : ℕ → List Event) (n a len : ℕ) → ((k : ℕ) → AreAt k (f k)) → a ≤ n →
+    n < a + len → filter (is_at n) (flat_map f (range_with_len a len)) ≡ f n
+found_at f n a zero each low below = absurd (omega (arith, low, below))
+found_at f n a (suc len) each low below =
+    elim (cases_order a n) [
+      | inl same ↦
+          let here = kept_here a (f a) (each a) in
+          let rest = none_at f a (a + 1) len each (omega arith) in
+          rw (← same, filter-append, here, rest) (append-nil (f a))
+      | inr (inl less) ↦
+          let off = left_out n a (f a) (λ same. omega (arith, same, less)) (each a) in
+          let rest = found_at f n (a + 1) len each (omega (arith, less)) (omega (arith, below)) in
+          rw (filter-append, off) rest
+      | inr (inr more) ↦ absurd (omega (arith, more, low))
+    ]
+
+-- what two channels give at each number, from the lists of what each gives
+pub gathered_by_places : (f g : ℕ → List Event) (count : ℕ) (one other : List Event) →
+    ((k : ℕ) → AreAt k (f k ++ g k)) → flat_map f (places (count + 1)) ≡ one →
+    flat_map g (places (count + 1)) ≡ other →
+    flat_map (λ n. f n ++ g n) (places (count + 1)) ≡ by_places count one other
+unfolding places
+gathered_by_places f g count one other each one_is other_is =
+    let fs = λ (k : ℕ). left_all (IsAt k) (f k) (g k) (each k) in
+    let gs = λ (k : ℕ). right_all (IsAt k) (f k) (g k) (each k) in
+    rw (← one_is, ← other_is)
+    (flat_map_ext_places (λ n. f n ++ g n) _ (count + 1)
+    (λ n below.
+    let first = found_at f n 0 (count + 1) fs (omega arith) (omega (arith, below)) in
+    let second = found_at g n 0 (count + 1) gs (omega arith) (omega (arith, below)) in
+    rw (first, second) refl))
 
 -- ---- the paging channel
 map_known : (n : ℕ) (pages : List ReadPage) →
@@ -62,35 +118,43 @@ with_sync_is plan channel sync rated told rated_is told_is =
     (told_by_first plan sync.message (whole_sendings plan sync.message)) else []) rated_is
     ∙ ap (λ (o : Option ℕ). if rated then pages_behind_mark plan channel o else []) told_is
 
-module _ (width : Width) (plan : CellPlan) (t : Tuning) (is : IsReceivable width plan)
-    (tuned : IsTunedTo plan t) where
+-- Behind a true mark that tells the rate, what is heard of the followed channel is its whole pages.
+abbrev pub PagesShown : CellPlan → Tuning → List Sample → Type 0
+PagesShown plan t samples = (sync : SyncPlan) (m : Mark) (superframes : ℕ) →
+    plan.sync ≡ Some sync → m.prat ≡ sync.message.prat → m.prat < 2 →
+    IsTrueMark plan m superframes →
+    pages_within t t.paging (Some m) samples plan.link.samples ≡
+    pages_sent plan t.paging (plan.link.start + m.sample)
+
+module _ {width : Width} {plan : CellPlan} {t : Tuning} {samples : List Sample}
+    (is : ShowsSync width plan samples) (tuned : IsOnPath plan t)
+    (shown : PagesShown plan t samples) where
   -- by the mark of all samples
-  by_last_mark : flat_map (paging_events_at t (made_samples plan)) (places (plan.link.samples + 1))
+  by_last_mark : flat_map (paging_events_at t samples) (places (plan.link.samples + 1))
       ≡ map known_event
-      (pages_within t t.paging (mark t (made_samples plan) t.count) (made_samples plan)
+      (pages_within t t.paging (mark t samples t.count) samples
       plan.link.samples)
   unfolding paging_events_at
   by_last_mark =
-      let samples = made_samples plan in
       let last = mark t samples t.count in
-      let count = tuned.path.count in
+      let count = tuned.count in
       flat_map_ext_places
       (λ n. map (page_event n) (pages_behind t t.paging (mark t samples n) samples n))
       (λ n. map (page_event n) (pages_behind t t.paging last samples n)) (plan.link.samples + 1)
       (λ n below.
       ap (map (page_event n))
-      (by_one_mark t (one_near t plan tuned.path) samples n t.count n _
+      (by_one_mark t (one_near t plan tuned) samples n t.count n _
       (omega (arith, below, count)) (omega arith)
-      (pages_from_mark t (one_near t plan tuned.path) t.paging samples n)))
+      (pages_from_mark t (one_near t plan tuned) t.paging samples n)))
       ∙ gathered_known (λ n. pages_behind t t.paging last samples n)
       (places (plan.link.samples + 1))
 
   module _ (sync : SyncPlan) (sends : plan.sync ≡ Some sync) where
     -- where no transmission is whole
-    unset : mark t (made_samples plan) t.count ≡ None →
+    unset : mark t samples t.count ≡ None →
         pages_with_sync plan t.paging (Some sync) ≡ []
     unset none_set =
-        let none = unset_without width plan sync t is sends tuned.path none_set in
+        let none = unset_in is tuned sync sends none_set in
         with_sync_is plan t.paging sync (nat_lt sync.message.prat 2) None refl
         (ap (told_by_first plan sync.message) none)
         ∙ either (nat_lt sync.message.prat 2)
@@ -100,15 +164,14 @@ module _ (width : Width) (plan : CellPlan) (t : Tuning) (is : IsReceivable width
         either false = refl
 
     -- behind the mark that is set
-    marked : (m : Mark) → mark t (made_samples plan) t.count ≡ Some m →
+    marked : (m : Mark) → mark t samples t.count ≡ Some m →
         map known_event
-        (pages_within t t.paging (Some m) (made_samples plan) plan.link.samples)
+        (pages_within t t.paging (Some m) samples plan.link.samples)
         ≡ pages_with_sync plan t.paging (Some sync)
     marked m set =
-        let samples = made_samples plan in
-        let rate = marks_rate width plan sync t t.count m is sends tuned.path set in
-        let (superframes, true_mark) = marks_true width plan t t.count m is tuned.path set in
-        let first = mark_of_first width plan sync t is sends tuned.path m set in
+        let rate = rate_in is tuned sync t.count m sends set in
+        let (superframes, true_mark) = marks_in is tuned t.count m set in
+        let first = first_in is tuned sync sends m set in
         let told : superframes ≡ told_superframes plan.cell sync.message first.sending =
         omega (
           arith,
@@ -125,8 +188,7 @@ module _ (width : Width) (plan : CellPlan) (t : Tuning) (is : IsReceivable width
         elim (cases_Bool (nat_lt m.prat 2)) [
           | inl on ↦
               let low = ltb-true m.prat 2 on in
-              let pages = pages_back width plan sync t t.paging m superframes is is.pages tuned.path
-              tuned.first_channel tuned.last_channel tuned.free sends rate low true_mark in
+              let pages = shown sync m superframes sends rate low true_mark in
               ap (map known_event) (pages ∙ ap (pages_sent plan t.paging) chip)
               ∙ sym (with_sync_is plan t.paging sync true _ (rated ∙ on) first_is)
           | inr off ↦
@@ -135,13 +197,13 @@ module _ (width : Width) (plan : CellPlan) (t : Tuning) (is : IsReceivable width
         ]
 
   pages_by : (channel : Option SyncPlan) (last : Option Mark) → plan.sync ≡ channel →
-      mark t (made_samples plan) t.count ≡ last →
-      map known_event (pages_within t t.paging last (made_samples plan) plan.link.samples)
+      mark t samples t.count ≡ last →
+      map known_event (pages_within t t.paging last samples plan.link.samples)
       ≡ pages_with_sync plan t.paging channel
   pages_by None last silent set =
-      let none = sym set ∙ unmarked width plan t t.count is silent tuned.path in
+      let none = sym set ∙ unmarked_in is tuned t.count silent in
       ap (λ (m : Option Mark). map known_event
-      (pages_within t t.paging m (made_samples plan) plan.link.samples)) none
+      (pages_within t t.paging m samples plan.link.samples)) none
       ∙ ap (map known_event) (none_gathered (places (plan.link.samples + 1)))
   pages_by (Some sync) None sends none =
       ap (map known_event) (none_gathered (places (plan.link.samples + 1)))
@@ -149,11 +211,42 @@ module _ (width : Width) (plan : CellPlan) (t : Tuning) (is : IsReceivable width
   pages_by (Some sync) (Some m) sends set = marked sync sends m set
 
   -- its events are the whole pages
-  pub pages_all : flat_map (paging_events_at t (made_samples plan)) (places (plan.link.samples + 1))
+  pub pages_shown : flat_map (paging_events_at t samples) (places (plan.link.samples + 1))
       ≡ paging_sent plan t.paging
   unfolding paging_sent
-  pages_all =
-      by_last_mark ∙ pages_by plan.sync (mark t (made_samples plan) t.count) refl refl
+  pages_shown =
+      by_last_mark ∙ pages_by plan.sync (mark t samples t.count) refl refl
+
+-- of a clean link
+pub clean_pages : (width : Width) (plan : CellPlan) (t : Tuning) → IsReceivable width plan →
+    IsTunedTo plan t → PagesShown plan t (made_samples plan)
+clean_pages width plan t is tuned sync m superframes sends rate low true_mark =
+    pages_back width plan sync t t.paging m superframes is is.pages tuned.path tuned.first_channel
+    tuned.last_channel tuned.free sends rate low true_mark
+
+pages_all : (width : Width) (plan : CellPlan) (t : Tuning) → IsReceivable width plan →
+    IsTunedTo plan t →
+    flat_map (paging_events_at t (made_samples plan)) (places (plan.link.samples + 1))
+    ≡ paging_sent plan t.paging
+pages_all width plan t is tuned =
+    pages_shown (clean_sync width plan is) tuned.path (clean_pages width plan t is tuned)
+
+-- and of near samples
+pub noisy_pages_shown : (width : Width) (plan : CellPlan) (sync : SyncPlan) (e : ℕ)
+    (samples : List Sample) (t : Tuning) (q : PagingPlan) → HearsSync width plan sync e samples →
+    IsOnPath plan t → Contains plan.paging q → q.number ≡ t.paging → Bears plan q.gain e →
+    PagesShown plan t samples
+noisy_pages_shown width plan sync e samples t q is tuned has numbered bears other m superframes
+    sends rate low true_mark =
+    let stated = All-contains (IsStatedPaging (paging_rate plan.sync)) plan.paging q
+    is.receivable.pages has in
+    subst
+    (λ (channel : ℕ). pages_within t channel (Some m) samples plan.link.samples ≡
+    pages_sent plan channel (plan.link.start + m.sample))
+    numbered
+    (noisy_pages width plan other q t m superframes e samples is.receivable has stated tuned sends
+    rate low true_mark is.near bears
+    ∙ sym (sent_of_number plan q (plan.link.start + m.sample) is.receivable.lawful.apart has))
 
 -- ---- the pilot sets
 

@@ -1,23 +1,383 @@
 -- On a clean link a handset hears the whole pages of a paging channel, in order, and nothing else.
-use Rattle.clean_link.proofs.Common.{◌≡◌, ◌≢◌, ℕ, ◌+◌, ◌-◌, ◌*◌, ◌/◌, ◌<◌, ◌≤◌, ◌==◌, ⊎_elim, Bool, true, false, List, [], ◌∷◌, map, filter}
-use Rattle.clean_link.proofs.Common.{replicate, refl, sym, ap, ◌∙◌, arith, subst, Option, Some, All, Contains, flat_map, option_to_list}
-use Rattle.clean_link.proofs.Common.{cases_Bool, eqb-true, eqb-false, false_from_ne_true, All-cons, All-contains, All-contains_itself}
-use Rattle.clean_link.proofs.Common.{All-head, All-nil, All-tail, All-weaker, places, CheckForm, Width, capsule, M30, Rate, half_frame_body}
-use Rattle.clean_link.proofs.Common.{rate_large, cycle_frame_bits, paging_rate, made_samples, IsStatedPaging, cycle_of, CellPlan}
-use Rattle.clean_link.proofs.Common.{PagingPlan, SyncPlan, page_in, frame_own_bits, is_in_file, known_at, Stream, IsTimed, Tuning, Mark}
-use Rattle.clean_link.proofs.Common.{flat_map_ext_places, heard_behind, IsOnPath, IsTrueMark, IsReceivable, end_chip, known_page, KnownPage}
-use Rattle.clean_link.proofs.Common.{message_in, page_told, pages_numbered, pages_of_channel, pages_sent, pages_within, PagesComeBack}
-use Rattle.clean_link.proofs.Common.{placed_pages, ReadPage, round_sent, AreWholePages, capsules_with_frames, cycle_half_frames}
-use Rattle.clean_link.proofs.Common.{is_whole_page, Placed, sending_of, WholePagesComeBack, PagingFramesComeBack}
-use Rattle.clean_link.proofs.Common.{SilentPagingFramesAreZeros}
-use Rattle.clean_link.proofs.pages.InOrder.{flat_map-flat_map, HasFrames, pages_by_capsules, told_of}
-use Rattle.clean_link.proofs.pages.Placed.{ends_so, IsPlaced, pages_placed, told_each}
-use Rattle.clean_link.proofs.pages.Read.{page_read}
-use Rattle.clean_link.proofs.pages.Silent.{zero_frames_end_none}
-use Rattle.clean_link.proofs.pages.Whole.{stated_pages, whole_pages_back}
-use Rattle.clean_link.proofs.frames.PagingFrames.{paging_frames_back, silent_paging_back}
-use Rattle.clean_link.proofs.frames.PagingTimes.{paging_file_from, paging_file_to, paging_known_is, paging_timed}
+use Rattle.clean_link.proofs.Common.{HaveOwnNumbers, eq-eqb, get_or, length, ne_eqb, suc, zero, ◌≡◌, ◌≢◌, ℕ, ◌+◌, ◌-◌, ◌*◌, ◌/◌, ◌<◌, ◌≤◌}
+use Rattle.clean_link.proofs.Common.{◌==◌, ⊎_elim, Bool, true, false, List, [], ◌∷◌, map, filter, replicate, refl, sym, ap, ◌∙◌, arith}
+use Rattle.clean_link.proofs.Common.{subst, Option, Some, All, Contains, flat_map, option_to_list, cases_Bool, eqb-true, eqb-false}
+use Rattle.clean_link.proofs.Common.{false_from_ne_true, All-cons, All-contains, All-contains_itself, All-head, All-nil, All-tail}
+use Rattle.clean_link.proofs.Common.{All-weaker, places, CheckForm, Width, capsule, M30, Rate, half_frame_body, rate_large}
+use Rattle.clean_link.proofs.Common.{cycle_frame_bits, paging_rate, made_samples, IsStatedPaging, cycle_of, CellPlan, PagingPlan, SyncPlan}
+use Rattle.clean_link.proofs.Common.{page_in, frame_own_bits, is_in_file, known_at, Stream, IsTimed, Tuning, Mark, flat_map_ext_places}
+use Rattle.clean_link.proofs.Common.{heard_behind, IsOnPath, IsTrueMark, IsReceivable, end_chip, known_page, KnownPage, message_in}
+use Rattle.clean_link.proofs.Common.{page_told, pages_numbered, pages_of_channel, pages_sent, pages_within, PagesComeBack, placed_pages}
+use Rattle.clean_link.proofs.Common.{ReadPage, round_sent, AreWholePages, capsules_with_frames, cycle_half_frames, is_whole_page, Placed}
+use Rattle.clean_link.proofs.Common.{sending_of, Sample, NoisyPagesComeBack, ◌++◌, nat_le, if◌then◌else◌, mul-div-le, and_parts, leb-true}
+use Rattle.clean_link.proofs.Common.{le-div, length-capsule, HasMessage, laid_behind, AreHeard, Page, placed, None, paging_capsule}
+use Rattle.clean_link.proofs.Common.{body_reading, is_body, paging_reading, PagingMessage, reads_body, reads_capsule, with_page, take}
+use Rattle.clean_link.proofs.Common.{range_with_len, lt-ltb, append-nil, map-append, flat_map-map, flat_map-append, frame_chips}
+use Rattle.clean_link.proofs.Common.{half_frame_capsule_ending, bits_up_to, page_at, pages_at, pages_behind, pages_from, paging_bound}
+use Rattle.clean_link.proofs.Common.{paging_stream, known_now, known_between, known_le, filter_enough, filter_ext_places}
+use Rattle.clean_link.proofs.Common.{flat_map_ext_filter, flat_map_ext_filter_places, frame_capsules}
+use Rattle.clean_link.proofs.pages.Scans.{zero_frames_end_none}
+use Rattle.clean_link.proofs.pages.CyclesBack.{stated_pages, whole_pages_back}
+use Rattle.clean_link.proofs.frames.ChannelFrames.{noisy_paging_back, paging_borne, silent_paging_back}
+use Rattle.clean_link.proofs.noise.Near.{near-self}
+use Rattle.clean_link.proofs.frames.Times.{paging_file_from, paging_file_to, paging_known_is, paging_timed}
+use Rattle.heard_events.specs.PagingEvents.{bits_before}
+use Rattle.clean_link.proofs.sendings.Order.{all_kept, at_key, below_key, in_order, IsRising}
 use Rattle.heard_events.specs.PagingStreams as streams
+
+-- ---- lists of lists
+
+map-flat_map : {A B C : Type 0} (h : B → C) (f : A → List B) (xs : List A) →
+    map h (flat_map f xs) ≡ flat_map (λ x. map h (f x)) xs
+map-flat_map h f [] = refl
+map-flat_map {A} {B} {C} h f (x ∷ xs) =
+    map-append h (f x) (flat_map f xs)
+    ∙ ap (λ (l : List C). map h (f x) ++ l) (map-flat_map h f xs)
+
+pub flat_map-flat_map : {A B C : Type 0} (g : B → List C) (f : A → List B) (xs : List A) →
+    flat_map g (flat_map f xs) ≡ flat_map (λ x. flat_map g (f x)) xs
+flat_map-flat_map g f [] = refl
+flat_map-flat_map {A} {B} {C} g f (x ∷ xs) =
+    flat_map-append g (f x) (flat_map f xs)
+    ∙ ap (λ (l : List C). flat_map g (f x) ++ l) (flat_map-flat_map g f xs)
+
+-- ---- the frames of any stream, in the order in which they are known
+
+-- frames that end within n samples have numbers below a bound
+abbrev pub IsBound : Stream → (ℕ → ℕ) → Type 0
+IsBound s bound = (n k : ℕ) → frame_chips s.form * (k + 1) ≤ n → k < bound n
+
+-- the frames in a file are the first so many
+pub record HasFrames (count : ℕ) (s : Stream) (frames : ℕ) : Type 0 where
+  pub inside : (k : ℕ) → k < frames → is_in_file count s k ≡ true
+  pub outside : (k : ℕ) → frames ≤ k → is_in_file count s k ≡ false
+
+module _ {count low : ℕ} (s : Stream) (timed : IsTimed count s low) (bound : ℕ → ℕ)
+    (enough : IsBound s bound) where
+  -- a frame that is known within n samples has an early number
+  known_early : (n k : ℕ) → is_in_file count s k ≡ true → known_at count s k ≤ n → k < bound n
+  known_early n k there before =
+      let early = timed.early k in
+      let between = known_between s timed k there in
+      enough n k (omega (arith, early, between.low, before))
+
+  -- a frame that is known at n
+  now_is : (n k : ℕ) → at_key (is_in_file count s) (known_at count s) n k ≡ true →
+      (is_in_file count s k ≡ true) × (known_at count s k ≡ n)
+  now_is n k h =
+      let parts = and_parts (is_in_file count s k) (known_at count s k == n) h in
+      (parts.0, eqb-true (known_at count s k) n parts.1)
+
+  -- what the frames give that are known at n, over the frames of the whole file
+  given_now : {X : Type 0} (f : ℕ → ℕ → List X) (n : ℕ) →
+      flat_map (f n) (known_now count s n (bound n))
+      ≡ flat_map (λ k. f (known_at count s k) k)
+      (filter (at_key (is_in_file count s) (known_at count s) n) (places (bound count)))
+  given_now {X} f n =
+      let now = at_key (is_in_file count s) (known_at count s) n in
+      let g : ℕ → List X = λ k. f (known_at count s k) k in
+      flat_map_ext_filter now (f n) g (places (bound n))
+      (λ k h. ap (λ (i : ℕ). f i k) (sym (now_is n k h).1))
+      ∙ ap (flat_map g)
+      (filter_enough now (bound n) (bound count)
+      (λ k past. false_from_ne_true (now k)
+      (λ h.
+      let is = now_is n k h in
+      let early = known_early n k is.0 (omega (arith, is.1)) in
+      omega (arith, early, past)))
+      (λ k past. false_from_ne_true (now k)
+      (λ h.
+      let is = now_is n k h in
+      let early = known_early count k is.0 (known_between s timed k is.0).most in
+      omega (arith, early, past))))
+
+  -- later frames are known no sooner, and all of them by the file's end
+  rising : IsRising (is_in_file count s) (known_at count s)
+  rising =
+      record { rises = λ i j less there there'. known_le s timed i j there there' (omega arith) }
+
+  all_known : (k : ℕ) →
+      below_key (is_in_file count s) (known_at count s) (count + 1) k ≡ is_in_file count s k
+  all_known k = ⊎_elim
+      (λ (there : is_in_file count s k ≡ true).
+      let between = known_between s timed k there in
+      let below = lt-ltb (known_at count s k) (count + 1) (omega (arith, between.most)) in
+      rw (there, below) refl)
+      (λ (gone : is_in_file count s k ≡ false). rw gone refl)
+      (cases_Bool (is_in_file count s k))
+
+  -- what the frames in the file give, number of samples by number of samples
+  pub given_in_order : {X : Type 0} (f : ℕ → ℕ → List X) →
+      flat_map (λ n. flat_map (f n) (known_now count s n (bound n))) (places (count + 1))
+      ≡ flat_map (λ k. f (known_at count s k) k)
+      (filter (is_in_file count s) (places (bound count)))
+  given_in_order {X} f =
+      let g : ℕ → List X = λ k. f (known_at count s k) k in
+      let inside = is_in_file count s in
+      let known = known_at count s in
+      flat_map_ext_places (λ n. flat_map (f n) (known_now count s n (bound n)))
+      (λ n. flat_map g (filter (at_key inside known n) (places (bound count)))) (count + 1)
+      (λ n below. given_now f n)
+      ∙ in_order inside known g (bound count) (count + 1) rising
+      ∙ ap (flat_map g)
+      (filter_ext_places (below_key inside known (count + 1)) inside (bound count)
+      (λ k below. all_known k))
+
+  -- and those frames are the first so many
+  pub frames_first : (frames : ℕ) → HasFrames count s frames →
+      filter (is_in_file count s) (places (bound count)) ≡ places frames
+  frames_first frames has =
+      filter_enough (is_in_file count s) (bound count) frames
+      (λ k past. false_from_ne_true (is_in_file count s k)
+      (λ there.
+      let early = known_early count k there (known_between s timed k there).most in
+      omega (arith, early, past)))
+      has.outside
+      ∙ all_kept (is_in_file count s) frames has.inside
+
+-- ---- the capsules of a frame, as they are read
+
+-- what is told of a capsule whose frame is known at n: nothing where it has a fault
+abbrev pub told : CheckForm → ℕ → List Bool → List KnownPage
+told form n c = map (known_page n) (option_to_list (page_in form (Some c)))
+
+-- a capsule that a bit may end
+option_told : (form : CheckForm) (n : ℕ) (o : Option (List Bool)) →
+    map (known_page n) (option_to_list (page_in form o)) ≡
+    flat_map (told form n) (option_to_list o)
+option_told form n None = refl
+option_told form n (Some c) = sym (append-nil (told form n c))
+
+-- the bits of a frame, one after another
+frame_told : (form : CheckForm) (n : ℕ) (e : ℕ → Option (List Bool)) (is : List ℕ) →
+    map (known_page n) (flat_map (λ i. option_to_list (page_in form (e i))) is) ≡
+    flat_map (told form n) (flat_map (λ i. option_to_list (e i)) is)
+frame_told form n e [] = refl
+frame_told form n e (i ∷ is) =
+    let pages : ℕ → List ReadPage = λ j. option_to_list (page_in form (e j)) in
+    let capsules : ℕ → List (List Bool) = λ j. option_to_list (e j) in
+    map-append (known_page n) (pages i) (flat_map pages is)
+    ∙ ap (λ (l : List KnownPage). l ++ map (known_page n) (flat_map pages is))
+    (option_told form n (e i))
+    ∙ ap (λ (l : List KnownPage). flat_map (told form n) (capsules i) ++ l)
+    (frame_told form n e is)
+    ∙ sym (flat_map-append (told form n) (capsules i) (flat_map capsules is))
+
+-- ---- the frames of a paging channel, whose bits are known
+
+-- what is told of a capsule that a frame of this number ends
+abbrev pub told_of : Tuning → ℕ → Mark → ℕ × List Bool → List KnownPage
+told_of t channel m sent =
+    told t.check30 (known_at t.count (paging_stream t channel m) sent.0) sent.1
+
+module _ (t : Tuning) (channel : ℕ) (m : Mark) (samples : List Sample) (own : ℕ → List Bool)
+    (frames : ℕ) (has : HasFrames t.count (paging_stream t channel m) frames)
+    (bits : (k : ℕ) → is_in_file t.count (paging_stream t channel m) k ≡ true →
+    frame_own_bits t.count samples (paging_stream t channel m) k ≡ own k) where
+  -- the bits of the frames before one of them
+  before_is : (k : ℕ) → k < frames →
+      bits_before t.count samples (paging_stream t channel m) k ≡ flat_map own (places k)
+  unfolding bits_before
+  before_is k below =
+      let inside = is_in_file t.count (paging_stream t channel m) in
+      flat_map_ext_filter_places inside
+      (frame_own_bits t.count samples (paging_stream t channel m)) own k
+      (λ j less there. bits j there)
+      ∙ ap (flat_map own) (all_kept inside k (λ j less. has.inside j (omega arith)))
+
+  -- the capsule that bit i of frame k ends
+  abbrev ending : ℕ → ℕ → Option (List Bool)
+  ending k i =
+      half_frame_capsule_ending (half_frame_body (streams.paging_rate m.prat))
+      (flat_map own (places k) ++ take (i + 1) (own k))
+
+  -- what it completes, and what the bits of the frame do
+  page_is : (k i : ℕ) → k < frames →
+      page_at t channel m samples k i ≡ page_in t.check30 (ending k i)
+  unfolding page_at bits_up_to
+  page_is k i below =
+      let s = paging_stream t channel m in
+      let size = half_frame_body (streams.paging_rate m.prat) in
+      ap (λ (before : List Bool). page_in t.check30
+      (half_frame_capsule_ending size
+      (before ++ take (i + 1) (frame_own_bits t.count samples s k)))) (before_is k below)
+      ∙ ap (λ (b : List Bool). page_in t.check30
+      (half_frame_capsule_ending size (flat_map own (places k) ++ take (i + 1) b)))
+      (bits k (has.inside k below))
+
+  frame_pages : (k : ℕ) → k < frames →
+      pages_from t channel m samples k 0 ≡
+      flat_map (λ i. option_to_list (page_in t.check30 (ending k i))) (places (length (own k)))
+  unfolding pages_from places
+  frame_pages k below =
+      let given : ℕ → List ReadPage = λ i. option_to_list (page_at t channel m samples k i) in
+      let all : length (own k) - 0 ≡ length (own k) = omega arith in
+      ap (λ (b : List Bool). flat_map given (range_with_len 0 (length b - 0)))
+      (bits k (has.inside k below))
+      ∙ ap (λ (n : ℕ). flat_map given (range_with_len 0 n)) all
+      ∙ flat_map_ext_places given (λ i. option_to_list (page_in t.check30 (ending k i)))
+      (length (own k)) (λ i less. ap option_to_list (page_is k i below))
+
+  -- what is told of one frame
+  frame_gives : (n k : ℕ) → k < frames →
+      map (known_page n) (pages_from t channel m samples k 0) ≡
+      flat_map (told t.check30 n) (frame_capsules (half_frame_body (streams.paging_rate m.prat)) own k)
+  frame_gives n k below =
+      ap (map (known_page n)) (frame_pages k below)
+      ∙ frame_told t.check30 n (ending k) (places (length (own k)))
+
+  -- and of all of them
+  frames_give :
+      flat_map
+      (λ k. map (known_page (known_at t.count (paging_stream t channel m) k))
+      (pages_from t channel m samples k 0)) (places frames)
+      ≡ flat_map (told_of t channel m)
+      (capsules_with_frames (half_frame_body (streams.paging_rate m.prat)) own frames)
+  frames_give =
+      let known = known_at t.count (paging_stream t channel m) in
+      let capsules : ℕ → List (List Bool) =
+      frame_capsules (half_frame_body (streams.paging_rate m.prat)) own in
+      let each : ℕ → List (ℕ × List Bool) = λ k. map (λ (c : List Bool). (k, c)) (capsules k) in
+      flat_map_ext_places
+      (λ k. map (known_page (known k)) (pages_from t channel m samples k 0))
+      (λ k. flat_map (told_of t channel m) (each k)) frames
+      (λ k below. frame_gives (known k) k below
+      ∙ sym (flat_map-map (told_of t channel m) (λ (c : List Bool). (k, c)) (capsules k)))
+      ∙ sym (flat_map-flat_map (told_of t channel m) each (places frames))
+
+  -- frames that end within so many samples are few enough
+  bound_enough : IsBound (paging_stream t channel m) paging_bound
+  bound_enough n k ends = omega (arith, ends)
+
+  -- the pages that the samples give one after another
+  pages_are : (n : ℕ) →
+      map (known_page n) (pages_at t channel m samples n) ≡
+      flat_map (λ k. map (known_page n) (pages_from t channel m samples k 0))
+      (known_now t.count (paging_stream t channel m) n (paging_bound n))
+  unfolding pages_at
+  pages_are n =
+      map-flat_map (known_page n) (λ k. pages_from t channel m samples k 0)
+      (known_now t.count (paging_stream t channel m) n (paging_bound n))
+
+  -- behind a mark with PRAT 0 or 1 a channel is heard
+  behind_is : (n : ℕ) → m.prat < 2 →
+      pages_behind t channel (Some m) samples n ≡ pages_at t channel m samples n
+  behind_is n few = let e = lt-ltb m.prat 2 few in rw e refl
+
+  -- All pages of a file are those of the capsules in its frames, each known with its frame.
+  pub pages_by_capsules : {low : ℕ} → IsTimed t.count (paging_stream t channel m) low →
+      m.prat < 2 →
+      pages_within t channel (Some m) samples t.count ≡
+      flat_map (told_of t channel m)
+      (capsules_with_frames (half_frame_body (streams.paging_rate m.prat)) own frames)
+  pages_by_capsules timed few =
+      let s = paging_stream t channel m in
+      let f : ℕ → ℕ → List KnownPage =
+      λ n k. map (known_page n) (pages_from t channel m samples k 0) in
+      flat_map_ext_places (λ n. map (known_page n) (pages_behind t channel (Some m) samples n))
+      (λ n. flat_map (f n) (known_now t.count s n (paging_bound n))) (t.count + 1)
+      (λ n below. ap (map (known_page n)) (behind_is n few) ∙ pages_are n)
+      ∙ given_in_order s timed paging_bound bound_enough f
+      ∙ ap (flat_map (λ k. f (known_at t.count s k) k))
+      (frames_first s timed paging_bound bound_enough frames has)
+      ∙ frames_give
+
+-- what is given where a test holds
+given_one : (b : Bool) (x y : PagingMessage) → (if b then Some x else None) ≡ Some y → x ≡ y
+given_one true x y e = cc
+given_one false x y e = absurd (cc)
+
+-- a body's message is the one that stands at the places of its fields
+message_read : (body : List Bool) (m : PagingMessage) → body_reading body ≡ Some m →
+    message_in body ≡ m
+unfolding body_reading
+message_read body m e = given_one (is_body body) (message_in body) m e
+
+-- and so its capsule is read
+pub page_read : (form : CheckForm) (body : List Bool) → HasMessage body →
+    page_in form (Some (capsule M30 form body)) ≡
+    with_page (capsule M30 form body) (Some (message_in body))
+unfolding paging_capsule
+page_read form body has =
+    let m = has.message in
+    let c = capsule M30 form body in
+    let same : message_in body ≡ m =
+    message_read body m (ap body_reading has.same ∙ reads_body m has.spelled) in
+    let spelled : c ≡ paging_capsule form m = ap (capsule M30 form) has.same in
+    let read : paging_reading form c ≡ Some m =
+    ap (paging_reading form) spelled ∙ reads_capsule form m has.spelled in
+    ap (with_page c) (read ∙ ap Some (sym same))
+
+-- ---- where a page lies
+
+-- A page with a message, whose last bit isn't sent before its run begins.
+pub record IsPlaced (p : Placed) : Type 0 where
+  pub ordered : p.run ≤ p.last
+  pub message : HasMessage p.page.body
+
+-- a run begins with the first bit of its half-frame, or earlier
+run_begun : (size from run : ℕ) (follows : Bool) → 0 < size → run * size ≤ from →
+    (if follows then run
+    else (if follows then from else (from + size - 1) / size * size) / size) * size
+    ≤ (if follows then from else (from + size - 1) / size * size)
+run_begun size from run true large begun = begun
+run_begun size from run false large begun =
+    let begins = (from + size - 1) / size * size in
+    omega (arith, mul-div-le begins size)
+
+-- the pages behind so many body bits of a cycle
+pub pages_placed : (size : ℕ) (form : CheckForm) (from run count : ℕ) (pages : List Page) →
+    0 < size → run * size ≤ from → AreHeard size count pages →
+    All IsPlaced (placed size form from run pages)
+pages_placed size form from run count [] large begun heard = All-nil IsPlaced
+pages_placed size form from run count (page ∷ pages) large begun heard =
+    let begins = if page.follows then from else (from + size - 1) / size * size in
+    let began = if page.follows then run else begins / size in
+    let ends = begins + length (capsule M30 form page.body) in
+    let before : began * size ≤ begins = run_begun size from run page.follows large begun in
+    let some : 1 ≤ length (capsule M30 form page.body) =
+    omega (arith, length-capsule M30 form page.body) in
+    All-cons IsPlaced (record { run = began; last = (ends - 1) / size; page = page })
+    (placed size form ends began pages)
+    (record {
+      ordered = le-div began (ends - 1) size large (omega (arith, before, some));
+      message = heard.0;
+    })
+    (pages_placed size form ends began
+    (laid_behind size count page.follows (38 + length page.body)) pages large
+    (omega (arith, before)) heard.2)
+
+-- ---- what is told of the whole ones
+
+-- The last bit of one lies in the frame that ends where what is sent says, where frame `first`
+-- begins at the mark.
+pub ends_so : (plan : CellPlan) (sample first h : ℕ) (p : Placed) →
+    plan.link.start + sample ≡ 24576 * first → p.run ≤ p.last →
+    is_whole_page (24576 * first) (end_chip plan) h p ≡ true →
+    sample + 24576 * ((h + p.last) / 2 - first + 1) ≡
+    24576 * ((h + p.last) / 2 + 1) - plan.link.start
+ends_so plan sample first h p marked ordered whole =
+    let both =
+    and_parts (nat_le (24576 * first) (12288 * (h + p.run)))
+    (nat_le (24576 * ((h + p.last) / 2 + 1)) (end_chip plan)) whole in
+    let begun = leb-true (24576 * first) (12288 * (h + p.run)) both.0 in
+    omega (arith, begun, marked, ordered)
+
+-- things that are sent where a test keeps them, of which each tells one thing
+pub told_each : {A B C : Type 0} (P : A → Type 0) (tells : B → List C) (send : A → B)
+    (tell : A → C) (kept : A → Bool) (xs : List A) → All P xs →
+    ((x : A) → P x → kept x ≡ true → tells (send x) ≡ tell x ∷ []) →
+    flat_map tells (map send (filter kept xs)) ≡ map tell (filter kept xs)
+told_each P tells send tell kept [] all one = refl
+told_each {A} {B} {C} P tells send tell kept (x ∷ xs) all one =
+    let rest = told_each P tells send tell kept xs (All-tail P x xs all) one in
+    let more = flat_map tells (map send (filter kept xs)) in
+    ⊎_elim
+    (λ (yes' : kept x ≡ true). rw yes'
+    (ap (λ (l : List C). l ++ more) (one x (All-head P x xs all) yes')
+    ∙ ap (λ (l : List C). tell x ∷ l) rest))
+    (λ (no' : kept x ≡ false). rw no' rest)
+    (cases_Bool (kept x))
 
 -- ---- when frames are known
 
@@ -57,8 +417,8 @@ pub record HearsPages (width : Width) (plan : CellPlan) (sync : SyncPlan) (t : T
 abbrev pub frames_behind : CellPlan → ℕ → ℕ
 frames_behind plan superframes = end_chip plan / 24576 - 4 * superframes
 
-module _ (width : Width) (plan : CellPlan) (sync : SyncPlan) (t : Tuning) (channel : ℕ) (m : Mark)
-    (superframes : ℕ) (is : HearsPages width plan sync t m superframes)
+module _ {width : Width} {plan : CellPlan} {sync : SyncPlan} {t : Tuning} (channel : ℕ) {m : Mark}
+    {superframes : ℕ} (is : HearsPages width plan sync t m superframes)
     (time : IsTimedFrom t.count (streams.paging_stream t channel m) m.sample) where
   -- the mark is where a frame begins
   at_frame : plan.link.start + m.sample ≡ 24576 * (4 * superframes)
@@ -81,16 +441,16 @@ module _ (width : Width) (plan : CellPlan) (sync : SyncPlan) (t : Tuning) (chann
   }
 
   -- the pages are those of the capsules of the frames, whose bits are known
-  by_capsules : (own : ℕ → List Bool) →
+  by_capsules : (samples : List Sample) (own : ℕ → List Bool) →
       ((k : ℕ) → is_in_file t.count (streams.paging_stream t channel m) k ≡ true →
-      frame_own_bits t.count (made_samples plan) (streams.paging_stream t channel m) k ≡ own k) →
-      pages_within t channel (Some m) (made_samples plan) plan.link.samples ≡
+      frame_own_bits t.count samples (streams.paging_stream t channel m) k ≡ own k) →
+      pages_within t channel (Some m) samples plan.link.samples ≡
       flat_map (told_of t channel m)
       (capsules_with_frames (half_frame_body (paging_rate plan.sync)) own
       (frames_behind plan superframes))
-  by_capsules own bits =
-      ap (pages_within t channel (Some m) (made_samples plan)) (sym is.tuned.count)
-      ∙ pages_by_capsules t channel m (made_samples plan) own (frames_behind plan superframes)
+  by_capsules samples own bits =
+      ap (pages_within t channel (Some m) samples) (sym is.tuned.count)
+      ∙ pages_by_capsules t channel m samples own (frames_behind plan superframes)
       has_frames bits time.timed is.low
       ∙ ap (λ (rate : Rate). flat_map (told_of t channel m)
       (capsules_with_frames (half_frame_body rate) own (frames_behind plan superframes))) same_rate
@@ -145,14 +505,13 @@ module _ (width : Width) (plan : CellPlan) (sync : SyncPlan) (t : Tuning) (chann
       (λ q there kept. page_tells h q there kept)
 
   -- and of all rounds
-  channel_tells : WholePagesComeBack → (p : PagingPlan) →
-      AreWholePages (paging_rate plan.sync) p.pages →
+  channel_tells : (p : PagingPlan) → AreWholePages (paging_rate plan.sync) p.pages →
       flat_map (told_of t channel m)
       (capsules_with_frames (half_frame_body (paging_rate plan.sync))
       (λ k. cycle_frame_bits (cycle_of plan p) (4 * superframes + k))
       (frames_behind plan superframes))
       ≡ pages_of_channel plan p (plan.link.start + m.sample)
-  channel_tells ends p whole =
+  channel_tells p whole =
       let first = 4 * superframes in
       let rate = paging_rate plan.sync in
       let form = plan.cell.check30 in
@@ -160,7 +519,7 @@ module _ (width : Width) (plan : CellPlan) (sync : SyncPlan) (t : Tuning) (chann
       let rounds = end_chip plan / 12288 + 1 in
       let sendings : ℕ → List (ℕ × List Bool) = λ r. map (sending_of form first (cycle * r))
       (filter (is_whole_page (24576 * first) (end_chip plan) (cycle * r)) (placed_pages plan p)) in
-      ap (flat_map (told_of t channel m)) (ends rate form p.pages first (end_chip plan) whole)
+      ap (flat_map (told_of t channel m)) (whole_pages_back rate form p.pages first (end_chip plan) whole)
       ∙ flat_map-flat_map (told_of t channel m) sendings (places rounds)
       ∙ flat_map_ext_places (λ r. flat_map (told_of t channel m) (sendings r))
       (round_sent plan p (24576 * first)) rounds (λ r below. round_tells p r whole)
@@ -192,25 +551,10 @@ found plan channel mark_chip pages (p ∷ paging) each none =
 
 -- ---- the law
 
--- the bits of a frame, on the channel of a plan that has the number
-sent_bits : PagingFramesComeBack → (width : Width) (plan : CellPlan) (sync : SyncPlan) (t : Tuning)
-    (channel : ℕ) (m : Mark) (superframes : ℕ) (p : PagingPlan) (k : ℕ) →
-    HearsPages width plan sync t m superframes → Contains plan.paging p → p.number ≡ channel →
-    is_in_file t.count (streams.paging_stream t channel m) k ≡ true →
-    frame_own_bits t.count (made_samples plan) (streams.paging_stream t channel m) k ≡
-    cycle_frame_bits (cycle_of plan p) (4 * superframes + k)
-sent_bits sent width plan sync t channel m superframes p k is has numbered =
-    subst (λ (c : ℕ). is_in_file t.count (streams.paging_stream t c m) k ≡ true →
-    frame_own_bits t.count (made_samples plan) (streams.paging_stream t c m) k ≡
-    cycle_frame_bits (cycle_of plan p) (4 * superframes + k)) numbered
-    (sent width plan sync p t m superframes k is.receivable is.sends has is.tuned is.marked is.rate)
-
--- the pages of a channel come back, where its frames do and a cycle's frames end its pages
-pub pages_from : PagingFramesComeBack → SilentPagingFramesAreZeros → WholePagesComeBack →
-    PagesComeBack
-unfolding pages_sent
-pages_from sent silent ends width plan sync t channel m superframes receivable stated tuned first
-    last free sends rate low marked =
+-- of samples near to the cell's, where the channel bears the noise
+pub noisy_pages : NoisyPagesComeBack
+noisy_pages width plan sync p t m superframes e samples receivable has stated tuned sends rate low marked near
+    bears =
     let is : HearsPages width plan sync t m superframes = record {
       receivable = receivable;
       tuned = tuned;
@@ -219,29 +563,68 @@ pages_from sent silent ends width plan sync t channel m superframes receivable s
       low = low;
       marked = marked;
     } in
-    let time = frames_timed plan t channel m tuned in
+    let time = frames_timed plan t p.number m tuned in
+    by_capsules p.number is time samples
+    (λ k. cycle_frame_bits (cycle_of plan p) (4 * superframes + k))
+    (λ k there. noisy_paging_back width plan sync p t m superframes k e samples receivable sends has tuned
+    marked rate there near bears)
+    ∙ channel_tells p.number is time p (stated_pages (paging_rate plan.sync) p stated)
+
+-- of a clean link, on whatever row
+pub pages_back : PagesComeBack
+unfolding pages_sent
+pages_back width plan sync t channel m superframes receivable stated tuned first last free sends rate low
+    marked =
+    let is : HearsPages width plan sync t m superframes = record {
+      receivable = receivable;
+      tuned = tuned;
+      sends = sends;
+      rate = rate;
+      low = low;
+      marked = marked;
+    } in
+    let samples = made_samples plan in
     let mark_chip = plan.link.start + m.sample in
-    let pages = pages_within t channel (Some m) (made_samples plan) plan.link.samples in
+    let pages = pages_within t channel (Some m) samples plan.link.samples in
     let size = half_frame_body (paging_rate plan.sync) in
     let bits = (streams.paging_stream t channel m).channel.bits in
     found plan channel mark_chip pages plan.paging
     (All-weaker (Contains plan.paging)
     (λ (p : PagingPlan). p.number ≡ channel → pages ≡ pages_of_channel plan p mark_chip)
     (λ p has numbered.
-    by_capsules width plan sync t channel m superframes is time
-    (λ k. cycle_frame_bits (cycle_of plan p) (4 * superframes + k))
-    (λ k there. sent_bits sent width plan sync t channel m superframes p k is has numbered there)
-    ∙ channel_tells width plan sync t channel m superframes is time ends p
-    (stated_pages (paging_rate plan.sync) p
-    (All-contains (IsStatedPaging (paging_rate plan.sync)) plan.paging p stated has)))
+    subst
+    (λ (c : ℕ). pages_within t c (Some m) samples plan.link.samples ≡ pages_of_channel plan p mark_chip)
+    numbered
+    (noisy_pages width plan sync p t m superframes 0 samples receivable has
+    (All-contains (IsStatedPaging (paging_rate plan.sync)) plan.paging p stated has) tuned sends rate low
+    marked (near-self 0 samples) (paging_borne width plan p receivable has)))
     plan.paging (All-contains_itself plan.paging))
     (λ others.
-    by_capsules width plan sync t channel m superframes is time (λ k. replicate bits false)
-    (λ k there. silent width plan t m superframes channel k receivable first last others free
+    by_capsules channel is (frames_timed plan t channel m tuned) samples (λ k. replicate bits false)
+    (λ k there. silent_paging_back width plan t m superframes channel k receivable first last others free
     tuned marked there)
     ∙ ap (flat_map (told_of t channel m))
     (zero_frames_end_none size (λ k. replicate bits false) bits (frames_behind plan superframes)
     (λ k below. refl)))
 
-pub pages_back : PagesComeBack
-pages_back = pages_from paging_frames_back silent_paging_back whole_pages_back
+-- ---- the channel's pages by its number
+
+numbered_alone : (plan : CellPlan) (q : PagingPlan) (chip i : ℕ) (paging : List PagingPlan) →
+    HaveOwnNumbers paging → i < length paging → get_or paging i q ≡ q →
+    pages_numbered plan paging q.number chip ≡ pages_of_channel plan q chip
+numbered_alone plan q chip i [] apart below is = absurd (omega (arith, below))
+numbered_alone plan q chip zero (p ∷ paging) apart below is =
+    let here = eq-eqb p.number q.number (ap (λ (x : PagingPlan). x.number) is) in
+    rw here (ap (λ (x : PagingPlan). pages_of_channel plan x chip) is)
+numbered_alone plan q chip (suc i) (p ∷ paging) apart below is =
+    let there : Contains paging q = (i, omega (arith, below), is) in
+    let other : q.number ≢ p.number =
+    All-contains (λ (x : PagingPlan). x.number ≢ p.number) paging q apart.0 there in
+    let differ = ne_eqb p.number q.number (λ e. other (sym e)) in
+    rw differ (numbered_alone plan q chip i paging apart.1 (omega (arith, below)) is)
+
+pub sent_of_number : (plan : CellPlan) (q : PagingPlan) (chip : ℕ) → HaveOwnNumbers plan.paging →
+    Contains plan.paging q → pages_sent plan q.number chip ≡ pages_of_channel plan q chip
+unfolding pages_sent
+sent_of_number plan q chip apart has =
+    numbered_alone plan q chip has.0 plan.paging apart has.1 has.2

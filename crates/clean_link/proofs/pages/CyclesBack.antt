@@ -4,19 +4,263 @@ use Rattle.clean_link.proofs.Common.{refl, sym, ap, ◌∙◌, subst, arith, inl
 use Rattle.clean_link.proofs.Common.{append-nil, length-take-le, nil_from_length, map-map, mul-le-mul_left, places, length-map-places}
 use Rattle.clean_link.proofs.Common.{CheckForm, Piece, Rate, half_frame_body, cycled, laid_pages, page_cycle, put_of, AreSendable, AreHeard}
 use Rattle.clean_link.proofs.Common.{Page, size_large, PageSendingsComeBack, capsules_with_frames, cycle_half_frames, is_between, placed}
-use Rattle.clean_link.proofs.Common.{sending_of, AreWholePages, Placed, flat_map-zero, flat_map-repeated, repeated, repeated-part}
-use Rattle.std.specs.List.{filter}
-use Rattle.clean_link.proofs.pages.Chains.{joined}
-use Rattle.clean_link.proofs.pages.Frames.{cycle_has_frames, heard_piece}
-use Rattle.clean_link.proofs.pages.Pieces.{length-stream, no_piece, stream, whole-append, whole-map, AreWhole}
-use Rattle.clean_link.proofs.pages.Rounds.{later, repeated_are_runs, rounds_placed, rounds_said}
-use Rattle.clean_link.proofs.pages.Runs.{length-padded, no_width, run_bits, run_piece, run_pieces, run_width, run_width_some}
-use Rattle.clean_link.proofs.pages.Scans.{frames_scanned, in_frame, scan}
+use Rattle.clean_link.proofs.Common.{sending_of, AreWholePages, Placed, flat_map-zero, flat_map-repeated, repeated, repeated-part, filter}
+use Rattle.clean_link.proofs.Common.{true, nat_le, nat_lt, ◌&&◌, and_left, and_right, cases_lt, le-leb, le-ltb, lt-leb, lt-ltb, le-div}
+use Rattle.clean_link.proofs.Common.{paging_frame_size, IsStatedPaging, PagingPlan, flat_map_ext_places, WholePagesComeBack, frame_capsules}
+use Rattle.clean_link.proofs.Common.{is_whole_page, flat_map-nothing, zero, append_assoc, map-append, filter-append, mul-add-div}
+use Rattle.clean_link.proofs.Common.{flat_map-next, length-repeated, ◌%◌, get_or, get_or-append-add, get_or_append_left, mod-mul-add}
+use Rattle.clean_link.proofs.Common.{mod_below, div-add-mod, map-places-all, map_ext_places, map-add}
+use Rattle.clean_link.proofs.pages.Runs.{joined, length-padded, no_width, run_bits, run_piece, run_pieces, run_width, run_width_some}
+use Rattle.clean_link.proofs.pages.Runs.{AreChained}
+use Rattle.clean_link.proofs.pages.Scans.{length-stream, no_piece, stream, whole-append, whole-map, AreWhole, frames_scanned, in_frame}
+use Rattle.clean_link.proofs.pages.Scans.{scan, bits_of, AreFrames}
 use Rattle.clean_link.proofs.pages.Laid.{length-page, page_capsule, pages_placed, placed-begins, runs-begin, runs-follow, runs_laid}
-use Rattle.clean_link.proofs.pages.Laid.{runs_of, turned_back, under_way, whole_rows}
-use Rattle.clean_link.proofs.pages.RunsHeard.{from_within, is_inside, pieces_of, placed_runs, selected, spelled, told, AreRuns}
-use Rattle.clean_link.proofs.pages.RunsLawful.{first_begins, first_runs}
+use Rattle.clean_link.proofs.pages.Laid.{runs_of, turned_back, under_way, whole_rows, first_begins, first_runs, placed-follows}
+use Rattle.clean_link.proofs.pages.RunsHeard.{from_within, is_inside, pieces_of, placed_runs, selected, spelled, told, AreRuns, placed_run}
 use Rattle.paging_message.specs.Laying as laying
+
+-- ---- a later round
+
+-- a page, so many half-frames later
+abbrev pub later : ℕ → Placed → Placed
+later x p = record { run = x + p.run; last = x + p.last; page = p.page }
+
+run_later : (size : ℕ) (spell : Page → List Bool) (x run at at' y : ℕ) (pages : List Page) →
+    0 < size → AreChained size y (map spell pages) → at' ≡ size * x + at →
+    placed_run size spell (x + run) at' pages ≡ map (later x) (placed_run size spell run at pages)
+run_later size spell x run at at' y [] large chained e = refl
+run_later size spell x run at at' y (page ∷ pages) large chained e =
+    let n = length (spell page) in
+    let whole = chained.0 in
+    let far : at' + n - 1 ≡ size * x + (at + n - 1) = omega (arith, e, whole.told) in
+    let last : (at' + n - 1) / size ≡ x + (at + n - 1) / size =
+    ap (λ (k : ℕ). k / size) far ∙ mul-add-div large x (at + n - 1) in
+    let here : Placed = record { run = x + run; last = x + (at + n - 1) / size; page = page } in
+    ap (λ (k : ℕ). let p : Placed = record { run = x + run; last = k; page = page } in
+    p ∷ placed_run size spell (x + run) (at' + n) pages) last
+    ∙ ap (λ (l : List Placed). here ∷ l)
+    (run_later size spell x run (at + n) (at' + n) (y + n) pages large chained.2
+    (omega (arith, e)))
+
+runs_later : (size : ℕ) (spell : Page → List Bool) (x o o' : ℕ) (runs : List (List Page)) →
+    0 < size → AreRuns size spell runs → o' ≡ x + o →
+    placed_runs size spell o' runs ≡ map (later x) (placed_runs size spell o runs)
+runs_later size spell x o o' [] large are e = refl
+runs_later size spell x o o' (run ∷ runs) large are e =
+    let w = run_width size (map spell run) in
+    let first = placed_run size spell o (size * o) run in
+    let rest = placed_runs size spell (o + w) runs in
+    let far : size * o' ≡ size * x + size * o =
+    ap (λ (n : ℕ). size * n) e ∙ omega arith in
+    ap (λ (l : List Placed). l ++ placed_runs size spell (o' + w) runs)
+    (ap (λ (n : ℕ). placed_run size spell n (size * o') run) e
+    ∙ run_later size spell x o (size * o) (size * o') 0 run large are.0 far)
+    ∙ ap (λ (l : List Placed). map (later x) first ++ l)
+    (runs_later size spell x (o + w) (o' + w) runs large are.2 (omega (arith, e)))
+    ∙ sym (map-append (later x) first rest)
+
+-- ---- all rounds
+
+pub runs-append : (size : ℕ) (spell : Page → List Bool) (xs ys : List (List Page)) →
+    AreRuns size spell xs → AreRuns size spell ys → AreRuns size spell (xs ++ ys)
+runs-append size spell [] ys a b = b
+runs-append size spell (x ∷ xs) ys a b = (a.0, a.1, runs-append size spell xs ys a.2 b)
+
+pub repeated_are_runs : (size : ℕ) (spell : Page → List Bool) (n : ℕ) (runs : List (List Page)) →
+    AreRuns size spell runs → AreRuns size spell (repeated n runs)
+repeated_are_runs size spell zero runs are = tt
+repeated_are_runs size spell (suc n) runs are =
+    runs-append size spell (repeated n runs) runs (repeated_are_runs size spell n runs are) are
+
+-- where the pages of more runs lie
+placed-append : (size : ℕ) (spell : Page → List Bool) (o : ℕ) (xs ys : List (List Page)) →
+    placed_runs size spell o (xs ++ ys)
+    ≡ placed_runs size spell o xs ++
+    placed_runs size spell (o + length (pieces_of size spell xs)) ys
+placed-append size spell o [] ys =
+    let e : o ≡ o + 0 = omega arith in ap (λ (n : ℕ). placed_runs size spell n ys) e
+placed-append size spell o (x ∷ xs) ys =
+    let cs = map spell x in
+    let w = run_width size cs in
+    let first = placed_run size spell o (size * o) x in
+    let own : length (run_pieces size cs) ≡ w = length-map-places (run_piece size cs) w in
+    let e : o + w + length (pieces_of size spell xs) ≡ o + length (pieces_of size spell (x ∷ xs)) =
+    omega (arith, length-append (run_pieces size cs) (pieces_of size spell xs), own) in
+    let rest = placed_runs size spell (o + w) xs in
+    ap (λ (l : List Placed). first ++ l) (placed-append size spell (o + w) xs ys)
+    ∙ sym (append_assoc first rest
+    (placed_runs size spell (o + w + length (pieces_of size spell xs)) ys))
+    ∙ ap (λ (n : ℕ). (first ++ rest) ++ placed_runs size spell n ys) e
+
+-- the pages of the rounds, round by round
+pub rounds_placed : (size : ℕ) (spell : Page → List Bool) (n : ℕ) (runs : List (List Page)) →
+    0 < size → AreRuns size spell runs →
+    placed_runs size spell 0 (repeated n runs)
+    ≡ flat_map
+    (λ r. map (later (length (pieces_of size spell runs) * r)) (placed_runs size spell 0 runs))
+    (places n)
+rounds_placed size spell zero runs large are =
+    sym (flat_map-zero (λ r. map (later (length (pieces_of size spell runs) * r))
+    (placed_runs size spell 0 runs)))
+rounds_placed size spell (suc n) runs large are =
+    let w = length (pieces_of size spell runs) in
+    let g = λ (r : ℕ). map (later (w * r)) (placed_runs size spell 0 runs) in
+    let before = length (pieces_of size spell (repeated n runs)) in
+    let long : before ≡ w * n =
+    ap (λ (l : List Piece). length l)
+    (flat_map-repeated (λ run. run_pieces size (map spell run)) n runs)
+    ∙ length-repeated n (pieces_of size spell runs) in
+    let e : 0 + before ≡ w * n + 0 = omega (arith, long) in
+    placed-append size spell 0 (repeated n runs) runs
+    ∙ ap (λ (l : List Placed). l ++ placed_runs size spell (0 + before) runs)
+    (rounds_placed size spell n runs large are)
+    ∙ ap (λ (l : List Placed). flat_map g (places n) ++ l)
+    (runs_later size spell (w * n) 0 (0 + before) runs large are e)
+    ∙ sym (flat_map-next g n)
+
+-- what is said of a round's pages that are inside
+round_said : {X : Type 0} (h : Placed → X) (low high x : ℕ) (ps : List Placed) →
+    map h (filter (is_inside low high) (map (later x) ps))
+    ≡ map (λ p. h (later x p)) (filter (is_between low high x) ps)
+round_said h low high x [] = refl
+round_said {X} h low high x (p ∷ ps) =
+    let rest = round_said h low high x ps in
+    elim (cases_Bool (is_between low high x p)) [
+      | inl t ↦ rw t (ap (λ (l : List X). h (later x p) ∷ l) rest)
+      | inr f ↦ rw f rest
+    ]
+
+-- and of those of all rounds
+pub rounds_said : {X : Type 0} (h : Placed → X) (low high n w : ℕ) (ps : List Placed) →
+    map h (filter (is_inside low high) (flat_map (λ r. map (later (w * r)) ps) (places n)))
+    ≡ flat_map
+    (λ r. map (λ p. h (later (w * r) p)) (filter (is_between low high (w * r)) ps)) (places n)
+rounds_said h low high zero w ps =
+    ap (λ (l : List Placed). map h (filter (is_inside low high) l))
+    (flat_map-zero (λ r. map (later (w * r)) ps))
+    ∙ sym (flat_map-zero (λ r. map (λ p. h (later (w * r) p))
+    (filter (is_between low high (w * r)) ps)))
+rounds_said {X} h low high (suc n) w ps =
+    let g = λ (r : ℕ). map (later (w * r)) ps in
+    let s = λ (r : ℕ). map (λ p. h (later (w * r) p)) (filter (is_between low high (w * r)) ps) in
+    let inside = filter (is_inside low high) in
+    ap (λ (l : List Placed). map h (inside l)) (flat_map-next g n)
+    ∙ ap (map h) (filter-append (is_inside low high) (flat_map g (places n)) (g n))
+    ∙ map-append h (inside (flat_map g (places n))) (inside (g n))
+    ∙ ap (λ (l : List X). l ++ map h (inside (g n))) (rounds_said h low high n w ps)
+    ∙ ap (λ (l : List X). flat_map s (places n) ++ l) (round_said h low high (w * n) ps)
+    ∙ sym (flat_map-next s n)
+
+long_at : (size : ℕ) (pieces : List Piece) (t : ℕ) → AreWhole size pieces → t < length pieces →
+    length (get_or pieces t no_piece).body ≡ size
+long_at size [] t are lt = absurd (omega (arith, lt))
+long_at size (p ∷ pieces) zero are lt = are.0
+long_at size (p ∷ pieces) (suc t) are lt = long_at size pieces t are.1 (omega (arith, lt))
+
+-- bit i of half-frame t
+bit_at : (size : ℕ) (pieces : List Piece) (t i : ℕ) → AreWhole size pieces → t < length pieces →
+    i < size + 1 →
+    get_or (stream pieces) ((size + 1) * t + i) false
+    ≡ get_or (bits_of (get_or pieces t no_piece)) i false
+bit_at size [] t i are lt low = absurd (omega (arith, lt))
+bit_at size (p ∷ pieces) zero i are lt low =
+    let e : (size + 1) * zero + i ≡ i = omega arith in
+    ap (λ (k : ℕ). get_or (stream (p ∷ pieces)) k false) e
+    ∙ get_or_append_left (bits_of p) (stream pieces) false i (omega (arith, low, are.0))
+bit_at size (p ∷ pieces) (suc t) i are lt low =
+    let own = bits_of p in
+    let rest = stream pieces in
+    let e : (size + 1) * suc t + i ≡ length own + ((size + 1) * t + i) = omega (arith, are.0) in
+    ap (λ (k : ℕ). get_or (own ++ rest) k false) e
+    ∙ get_or-append-add own rest ((size + 1) * t + i) false
+    ∙ bit_at size pieces t i are.1 (omega (arith, lt)) low
+
+-- where bit i of half-frame g lies in a cycle of so many half-frames
+place_in_cycle : (h cycle g i : ℕ) → 0 < cycle → i < h →
+    (h * g + i) % (h * cycle) ≡ h * (g % cycle) + i
+place_in_cycle h cycle g i some lt =
+    let q = g / cycle in
+    let t = g % cycle in
+    let low : t < cycle = mod_below g cycle some in
+    let room : h * suc t ≤ h * cycle = mul-le-mul_left h low in
+    let e : h * g + i ≡ q * (h * cycle) + (h * t + i) =
+    ap (λ (k : ℕ). h * k + i) (sym (div-add-mod g cycle)) ∙ turned h cycle q t i in
+    ap (λ (k : ℕ). k % (h * cycle)) e
+    ∙ mod-mul-add q (h * cycle) (h * t + i) (omega (arith, room, lt))
+  where
+    turned : (h cycle q t i : ℕ) →
+        h * (cycle * q + t) + i ≡ q * (h * cycle) + (h * t + i)
+    turned h cycle q t i = omega arith
+
+-- the bits of half-frame g
+half_frame_at : (size : ℕ) (pieces : List Piece) (g : ℕ) → AreWhole size pieces →
+    0 < length pieces →
+    map (λ i. get_or (stream pieces) (((size + 1) * g + i) % length (stream pieces)) false)
+    (places (size + 1))
+    ≡ bits_of (get_or pieces (g % length pieces) no_piece)
+half_frame_at size pieces g are some =
+    let w = length pieces in
+    let t = g % w in
+    let low : t < w = mod_below g w some in
+    let long = length-stream size pieces are in
+    let own : length (bits_of (get_or pieces t no_piece)) ≡ size + 1 =
+    omega (arith, long_at size pieces t are low) in
+    sym (map-places-all
+    (λ i. get_or (stream pieces) (((size + 1) * g + i) % length (stream pieces)) false)
+    (bits_of (get_or pieces t no_piece)) (size + 1) false own
+    (λ i lt. sym (ap (λ (k : ℕ). get_or (stream pieces) (((size + 1) * g + i) % k) false) long
+    ∙ ap (λ (k : ℕ). get_or (stream pieces) k false) (place_in_cycle (size + 1) w g i some lt)
+    ∙ bit_at size pieces t i are low lt)))
+
+-- a frame is two half-frames
+frame_at : (size : ℕ) (pieces : List Piece) (k : ℕ) → AreWhole size pieces → 0 < length pieces →
+    cycled (stream pieces) (2 * (size + 1)) k
+    ≡ bits_of (get_or pieces ((2 * k) % length pieces) no_piece) ++
+    bits_of (get_or pieces (suc (2 * k) % length pieces) no_piece)
+unfolding cycled
+frame_at size pieces k are some =
+    let h = size + 1 in
+    let bit = λ (n : ℕ). get_or (stream pieces) (n % length (stream pieces)) false in
+    let two : 2 * h ≡ h + h = omega arith in
+    ap (λ (m : ℕ). map (λ i. bit (2 * h * k + i)) (places m)) two
+    ∙ map-add (λ i. bit (2 * h * k + i)) h h
+    ∙ ap (λ (l : List Bool). l ++ map (λ i. bit (2 * h * k + (h + i))) (places h))
+    (map_ext_places (λ i. bit (2 * h * k + i)) (λ i. bit (h * (2 * k) + i)) h
+    (λ i lt. ap bit (first_place h k i))
+    ∙ half_frame_at size pieces (2 * k) are some)
+    ∙ ap (λ (l : List Bool). bits_of (get_or pieces ((2 * k) % length pieces) no_piece) ++ l)
+    (map_ext_places (λ i. bit (2 * h * k + (h + i))) (λ i. bit (h * suc (2 * k) + i)) h
+    (λ i lt. ap bit (second_place h k i))
+    ∙ half_frame_at size pieces (suc (2 * k)) are some)
+  where
+    first_place : (h k i : ℕ) → 2 * h * k + i ≡ h * (2 * k) + i
+    first_place h k i = omega arith
+
+    second_place : (h k i : ℕ) → 2 * h * k + (h + i) ≡ h * suc (2 * k) + i
+    second_place h k i = omega arith
+
+-- half-frame j behind frame `first`
+abbrev pub heard_piece : List Piece → ℕ → ℕ → Piece
+heard_piece pieces first j = get_or pieces ((2 * first + j) % length pieces) no_piece
+
+-- From frame `first` on, the frames of a cycle are those of its half-frames, round and round.
+pub cycle_has_frames : (size : ℕ) (pieces : List Piece) (first : ℕ) → AreWhole size pieces →
+    0 < length pieces →
+    AreFrames size (λ k. cycled (stream pieces) (2 * (size + 1)) (first + k))
+    (heard_piece pieces first)
+cycle_has_frames size pieces first are some = record {
+  long = λ j. long_at size pieces ((2 * first + j) % length pieces) are
+      (mod_below (2 * first + j) (length pieces) some);
+  each = λ k.
+      let w = length pieces in
+      let a : 2 * (first + k) ≡ 2 * first + 2 * k = omega arith in
+      let b : suc (2 * (first + k)) ≡ 2 * first + suc (2 * k) = omega arith in
+      let second = bits_of (get_or pieces (suc (2 * (first + k)) % w) no_piece) in
+      frame_at size pieces (first + k) are some
+      ∙ ap (λ (n : ℕ). bits_of (get_or pieces (n % w) no_piece) ++ second) a
+      ∙ ap (λ (n : ℕ). bits_of (get_or pieces ((2 * first + 2 * k) % w) no_piece) ++
+      bits_of (get_or pieces (n % w) no_piece)) b;
+}
 
 -- ---- the half-frames of runs
 
@@ -245,3 +489,141 @@ cycle_some rate form (page ∷ pages) are =
     let count = cycle_count size form page pages (page_cycle rate form (page ∷ pages)) large f
     (cycle_is rate form (page ∷ pages)) in
     omega (arith, count, some)
+
+-- ---- the two tests
+
+-- a run behind a mark at the beginning of a frame
+begun_same : (first half : ℕ) → nat_le (2 * first) half ≡ nat_le (24576 * first) (12288 * half)
+begun_same first half =
+    elim (cases_lt half (2 * first)) [
+      | inl less ↦
+          lt-leb (2 * first) half less
+          ∙ sym (lt-leb (24576 * first) (12288 * half) (omega (arith, less)))
+      | inr more ↦
+          le-leb (2 * first) half more
+          ∙ sym (le-leb (24576 * first) (12288 * half) (omega (arith, more)))
+    ]
+
+-- a half-frame of a frame that is there whole
+ended_same : (half frames end_chip : ℕ) → frames ≡ end_chip / 24576 →
+    nat_lt half (2 * frames) ≡ nat_le (24576 * (half / 2 + 1)) end_chip
+ended_same half frames end_chip e =
+    elim (cases_lt half (2 * frames)) [
+      | inl less ↦
+          lt-ltb half (2 * frames) less
+          ∙ sym (le-leb (24576 * (half / 2 + 1)) end_chip (omega (arith, less, e)))
+      | inr more ↦
+          le-ltb half (2 * frames) more
+          ∙ sym (lt-leb (24576 * (half / 2 + 1)) end_chip (omega (arith, more, e)))
+    ]
+
+whole_same : (first frames end_chip x : ℕ) (p : Placed) → frames ≡ end_chip / 24576 →
+    is_between (2 * first) (2 * frames) x p ≡ is_whole_page (24576 * first) end_chip x p
+whole_same first frames end_chip x p e =
+    ap (λ (b : Bool). b && nat_lt (x + p.last) (2 * frames)) (begun_same first (x + p.run))
+    ∙ ap (λ (b : Bool). nat_le (24576 * first) (12288 * (x + p.run)) && b)
+    (ended_same (x + p.last) frames end_chip e)
+
+filter_same : (f g : Placed → Bool) (ps : List Placed) → ((p : Placed) → f p ≡ g p) →
+    filter f ps ≡ filter g ps
+filter_same f g [] same = refl
+filter_same f g (p ∷ ps) same =
+    let here = same p in
+    let rest = filter_same f g ps same in
+    elim (cases_Bool (g p)) [
+      | inl t ↦ let own : f p ≡ true = here ∙ t in
+          rw (own, t) (ap (λ (l : List Placed). p ∷ l) rest)
+      | inr n ↦ let own : f p ≡ false = here ∙ n in rw (own, n) rest
+    ]
+
+-- ---- a mark behind the last whole frame
+
+-- a page ends in the half-frame in which its run begins, or later
+abbrev pub EndLater : List Placed → Type 0
+EndLater [] = Unit {0}
+EndLater (p ∷ ps) = (p.run ≤ p.last) × EndLater ps
+
+end_later : (size : ℕ) (form : CheckForm) (at run : ℕ) (pages : List Page) → 0 < size →
+    size * run ≤ at → EndLater (placed size form at run pages)
+end_later size form at run [] large begun = tt
+end_later size form at run (page ∷ pages) large begun =
+    let n = length (page_capsule form page) in
+    let some : 0 < n = omega (arith, length-page form page) in
+    elim (cases_Bool page.follows) [
+      | inl t ↦
+          subst EndLater (sym (placed-follows size form at run page pages t)) (
+            le-div run (at + n - 1) size large (omega (arith, begun, some)),
+            end_later size form (at + n) run pages large (omega (arith, begun)),
+          )
+      | inr f ↦
+          let o = (at + size - 1) / size in
+          let start : o * size ≡ size * o = omega arith in
+          subst EndLater
+          (sym (placed-begins size form at run o page pages f start (turned_back size o large))) (
+            le-div o (size * o + n - 1) size large (omega (arith, some)),
+            end_later size form (size * o + n) o pages large (omega arith),
+          )
+    ]
+
+none_whole : (first end_chip x : ℕ) (ps : List Placed) → end_chip / 24576 ≤ first → EndLater ps →
+    filter (is_whole_page (24576 * first) end_chip x) ps ≡ []
+none_whole first end_chip x [] past are = refl
+none_whole first end_chip x (p ∷ ps) past are =
+    let begun = nat_le (24576 * first) (12288 * (x + p.run)) in
+    let ended = nat_le (24576 * ((x + p.last) / 2 + 1)) end_chip in
+    let order = are.0 in
+    let out : is_whole_page (24576 * first) end_chip x p ≡ false =
+    elim (cases_lt (x + p.run) (2 * first)) [
+      | inl early ↦
+          and_left begun ended
+          (lt-leb (24576 * first) (12288 * (x + p.run)) (omega (arith, early)))
+      | inr late ↦
+          and_right begun ended
+          (lt-leb (24576 * ((x + p.last) / 2 + 1)) end_chip (omega (arith, late, order, past)))
+    ] in
+    rw out (none_whole first end_chip x ps past are.1)
+
+-- ---- the law
+
+pub whole_pages_back : WholePagesComeBack
+whole_pages_back rate form pages first end_chip are =
+    let size = half_frame_body rate in
+    let frames = end_chip / 24576 in
+    let n = frames - first in
+    let own = λ (k : ℕ).
+    cycled (page_cycle rate form pages) (paging_frame_size rate) (first + k) in
+    let cycle = cycle_half_frames rate form pages in
+    let ps = placed size form 0 0 pages in
+    let rounds = end_chip / 12288 + 1 in
+    let whole = λ (r : ℕ). map (sending_of form first (cycle * r))
+    (filter (is_whole_page (24576 * first) end_chip (cycle * r)) ps) in
+    elim (cases_lt frames first) [
+      | inl past ↦
+          let none : n ≡ 0 = omega (arith, past) in
+          ap (capsules_with_frames size own) none
+          ∙ flat_map-zero (λ k. map (λ (c : List Bool). (k, c)) (frame_capsules size own k))
+          ∙ sym (flat_map-nothing whole rounds
+          (λ r lt. ap (map (sending_of form first (cycle * r)))
+          (none_whole first end_chip (cycle * r) ps (omega (arith, past))
+          (end_later size form 0 0 pages (size_large rate) (omega arith)))))
+      | inr inside ↦
+          let all : first + n ≡ frames = omega (arith, inside) in
+          let some : rounds * 1 ≤ rounds * cycle =
+          mul-le-mul_left rounds (cycle_some rate form pages are) in
+          let turned : rounds * cycle ≡ cycle * rounds = omega arith in
+          let room : 2 * (first + n) ≤ cycle * rounds = omega (arith, all, some, turned) in
+          page_sendings_back rate form pages first n rounds are room
+          ∙ flat_map_ext_places
+          (λ r. map (sending_of form first (cycle * r))
+          (filter (is_between (2 * first) (2 * (first + n)) (cycle * r)) ps))
+          whole rounds
+          (λ r lt. ap (map (sending_of form first (cycle * r)))
+          (filter_same (is_between (2 * first) (2 * (first + n)) (cycle * r))
+          (is_whole_page (24576 * first) end_chip (cycle * r)) ps
+          (λ p. whole_same first (first + n) end_chip (cycle * r) p all)))
+    ]
+
+-- the pages of a stated channel are such pages
+pub stated_pages : (rate : Rate) (p : PagingPlan) → IsStatedPaging rate p →
+    AreWholePages rate p.pages
+stated_pages rate p is = record { some = is.some; sendable = is.pages; heard = is.heard }

@@ -4,13 +4,10 @@ use Rattle.clean_link.proofs.Common.{take, drop, refl, sym, ap, ◌∙◌, arith
 use Rattle.clean_link.proofs.Common.{option_to_list, and_left, and_right, cases_lt, le-leb, le-ltb, lt-leb, lt-ltb, append-nil, drop-drop}
 use Rattle.clean_link.proofs.Common.{drop_at, map-append, take-append-le, filter-append, div_below, le-div, mul-le-mul_left}
 use Rattle.clean_link.proofs.Common.{take-append-add, take-nil, places, length-map-places, Piece, Page, flat_map_ext_places, Placed}
-use Rattle.clean_link.proofs.Common.{flat_map-add, flat_map-next, flat_map-nothing, map-add, take-map-places}
-use Rattle.std.specs.List.{filter}
-use Rattle.clean_link.proofs.pages.Chains.{ended_of, joined, AreChained}
-use Rattle.clean_link.proofs.pages.Pieces.{none_starts-map, NoneStarts}
-use Rattle.clean_link.proofs.pages.Runs.{ended-before, ended-behind, ended-first, ended-past, ending_at, fills, later_begins_none}
-use Rattle.clean_link.proofs.pages.Runs.{run_piece, run_pieces, run_scanned, run_width}
-use Rattle.clean_link.proofs.pages.Scans.{scan, scan-append, scan_silent, with_number}
+use Rattle.clean_link.proofs.Common.{flat_map-add, flat_map-next, flat_map-nothing, map-add, take-map-places, filter}
+use Rattle.clean_link.proofs.pages.Runs.{ended_of, joined, AreChained, ended-before, ended-behind, ended-first, ended-past, ending_at}
+use Rattle.clean_link.proofs.pages.Runs.{fills, later_begins_none, run_piece, run_pieces, run_scanned, run_width}
+use Rattle.clean_link.proofs.pages.Scans.{none_starts-map, NoneStarts, scan, scan-append, scan_silent, with_number}
 
 -- ---- where the pages of runs lie
 

@@ -5,9 +5,114 @@ use Rattle.clean_link.proofs.Common.{option_to_list, cases_lt, ne_eqb, flat_map-
 use Rattle.clean_link.proofs.Common.{take-append-le, mod-mul-add, take-append-add, places, length-map-places, Piece, bodies}
 use Rattle.clean_link.proofs.Common.{from_last_start, ends_chain, half_frames, half_frame_capsule_ending, mark_ends, flat_map_ext_places}
 use Rattle.clean_link.proofs.Common.{capsules_with_frames, frame_capsules, flat_map-add, flat_map-next, flat_map-nothing, flat_map-zero}
-use Rattle.clean_link.proofs.Common.{map-next, map-zero}
-use Rattle.clean_link.proofs.pages.Pieces.{bits_of, from_no_start, half_frames_of_stream, length-stream, none_starts-append, stream}
-use Rattle.clean_link.proofs.pages.Pieces.{whole-append, whole-map, AreWhole, NoneStarts}
+use Rattle.clean_link.proofs.Common.{map-next, map-zero, true, cond, drop, replicate, length-replicate, replicate-append-replicate}
+use Rattle.clean_link.proofs.Common.{take-replicate, piece, get_or, drop-drop, drop_at, take_at, map-places-all, part, halves_more}
+use Rattle.clean_link.proofs.sendings.Capsules.{started_behind}
+
+-- ---- the bits
+
+-- the bits of a half-frame
+abbrev pub bits_of : Piece → List Bool
+bits_of p = p.starts ∷ p.body
+
+-- those of many
+abbrev pub stream : List Piece → List Bool
+stream pieces = flat_map bits_of pieces
+
+-- whole half-frames
+abbrev pub AreWhole : ℕ → List Piece → Type 0
+AreWhole size [] = Unit {0}
+AreWhole size (p ∷ pieces) = (length p.body ≡ size) × AreWhole size pieces
+
+pub whole-append : (size : ℕ) (xs ys : List Piece) → AreWhole size xs → AreWhole size ys →
+    AreWhole size (xs ++ ys)
+whole-append size [] ys a b = b
+whole-append size (x ∷ xs) ys a b = (a.0, whole-append size xs ys a.1 b)
+
+pub whole-map : (size : ℕ) (f : ℕ → Piece) (n : ℕ) →
+    ((j : ℕ) → j < n → length (f j).body ≡ size) → AreWhole size (map f (places n))
+whole-map size f zero long = rw (map-zero f) tt
+whole-map size f (suc n) long =
+    rw (map-next f n) (whole-append size (map f (places n)) (f n ∷ [])
+    (whole-map size f n (λ j lt. long j (omega (arith, lt)))) (long n (omega arith), tt))
+
+pub length-stream : (size : ℕ) (pieces : List Piece) → AreWhole size pieces →
+    length (stream pieces) ≡ (size + 1) * length pieces
+length-stream size [] are = omega arith
+length-stream size (p ∷ pieces) are =
+    omega (
+      arith,
+      length-append (bits_of p) (stream pieces),
+      length-stream size pieces are.1,
+      are.0,
+    )
+
+-- the default where there is no half-frame
+pub no_piece : Piece
+no_piece = record { starts = false; body = [] }
+
+-- half-frame h of a stream
+part_is : (size : ℕ) (pieces : List Piece) (h : ℕ) → AreWhole size pieces → h < length pieces →
+    get_or pieces h no_piece ≡ part size (stream pieces) h
+part_is size [] h are lt = absurd (omega (arith, lt))
+part_is size (p ∷ pieces) zero are lt =
+    let e : (size + 1) * zero ≡ 0 = omega arith in
+    sym (ap (λ (k : ℕ). piece (take (size + 1) (drop k (stream (p ∷ pieces))))) e
+    ∙ ap piece (take_at (bits_of p) (stream pieces) (size + 1) (omega (arith, are.0))))
+part_is size (p ∷ pieces) (suc h) are lt =
+    let own = bits_of p in
+    let rest = stream pieces in
+    let e : (size + 1) * suc h ≡ (size + 1) + (size + 1) * h = omega arith in
+    part_is size pieces h are.1 (omega (arith, lt))
+    ∙ sym (ap (λ (k : ℕ). piece (take (size + 1) (drop k (own ++ rest)))) e
+    ∙ ap (λ (l : List Bool). piece (take (size + 1) l))
+    (sym (drop-drop ((size + 1) * h) (size + 1) (own ++ rest))
+    ∙ ap (drop ((size + 1) * h)) (drop_at own rest (size + 1) (omega (arith, are.0)))))
+
+-- the half-frames of a stream, of which the last may be cut short
+pub half_frames_of_stream : (size : ℕ) (pieces : List Piece) (more : List Bool) →
+    AreWhole size pieces → 0 < length more → length more ≤ size + 1 →
+    half_frames size (stream pieces ++ more) ≡ pieces ++ piece more ∷ []
+half_frames_of_stream size pieces more are some most =
+    let n = length pieces in
+    halves_more size n (stream pieces) more (length-stream size pieces are) some most
+    ∙ ap (λ (l : List Piece). l ++ piece more ∷ [])
+    (sym (map-places-all (part size (stream pieces)) pieces n no_piece refl
+    (λ h lt. part_is size pieces h are lt)))
+
+-- ---- the message
+
+-- no run begins in these half-frames
+abbrev pub NoneStarts : List Piece → Type 0
+NoneStarts [] = Unit {0}
+NoneStarts (p ∷ pieces) = (p.starts ≡ false) × NoneStarts pieces
+
+pub none_starts-append : (xs ys : List Piece) → NoneStarts xs → NoneStarts ys →
+    NoneStarts (xs ++ ys)
+none_starts-append [] ys a b = b
+none_starts-append (x ∷ xs) ys a b = (a.0, none_starts-append xs ys a.1 b)
+
+pub none_starts-map : (f : ℕ → Piece) (n : ℕ) → ((k : ℕ) → (f k).starts ≡ false) →
+    NoneStarts (map f (places n))
+none_starts-map f zero none = rw (map-zero f) tt
+none_starts-map f (suc n) none =
+    rw (map-next f n) (none_starts-append (map f (places n)) (f n ∷ [])
+    (none_starts-map f n none) (none n, tt))
+
+pub from_no_start : (pieces : List Piece) → NoneStarts pieces → from_last_start pieces ≡ []
+from_no_start [] none = refl
+from_no_start (p ∷ pieces) none =
+    let rest = from_no_start pieces none.1 in
+    let here = none.0 in
+    rw (rest, here) refl
+
+-- the half-frames of a run that has begun, whatever was heard before
+pub from_start_of_run : (before : List Piece) (p : Piece) (pieces : List Piece) →
+    p.starts ≡ true → NoneStarts pieces → from_last_start (before ++ p ∷ pieces) ≡ p ∷ pieces
+from_start_of_run before p pieces begins none =
+    let rest = from_no_start pieces none in
+    let own : from_last_start (p ∷ pieces) ≡ p ∷ pieces = rw (rest, begins) refl in
+    started_behind before (p ∷ pieces) own (omega arith)
 
 -- ---- the capsules that half-frames end
 
@@ -330,3 +435,82 @@ frames_scanned size own f first (suc n) large are =
     ∙ sym (framed_two first n o cs ds (omega arith) (omega arith)))
     ∙ sym (ap (map (in_frame first)) (scan_two size first n f)
     ∙ map-append (in_frame first) so_far last)
+
+-- ---- half-frames of zeros
+
+zero_piece : (a b n : ℕ) → (piece (take a (drop b (replicate n false)))).starts ≡ false
+zero_piece zero zero n = refl
+zero_piece (suc a) zero zero = refl
+zero_piece (suc a) zero (suc n) = refl
+zero_piece zero (suc b) zero = refl
+zero_piece (suc a) (suc b) zero = refl
+zero_piece a (suc b) (suc n) = zero_piece a b n
+
+silent_pieces : (size n : ℕ) → NoneStarts (half_frames size (replicate n false))
+unfolding half_frames
+silent_pieces size n =
+    none_starts-map (λ h. piece (take (size + 1) (drop ((size + 1) * h) (replicate n false))))
+    ((length (replicate n false) + size) / (size + 1))
+    (λ h. zero_piece (size + 1) ((size + 1) * h) n)
+
+ending_is : (size : ℕ) (bits : List Bool) →
+    half_frame_capsule_ending size bits
+    ≡ cond (length bits % (size + 1) == 1) None (ended size (half_frames size bits))
+unfolding half_frame_capsule_ending
+ending_is size bits = refl
+
+pub zeros_end_none : (size n : ℕ) → half_frame_capsule_ending size (replicate n false) ≡ None
+zeros_end_none size n =
+    let bits = replicate n false in
+    let inside = length bits % (size + 1) == 1 in
+    ending_is size bits
+    ∙ either_none inside (ended size (half_frames size bits))
+    (ended_none size (half_frames size bits) (silent_pieces size n))
+  where
+    either_none : (b : Bool) (o : Option (List Bool)) → o ≡ None → cond b None o ≡ None
+    either_none true o e = refl
+    either_none false o e = e
+
+zero_frames : (own : ℕ → List Bool) (many n : ℕ) →
+    ((k : ℕ) → k < n → own k ≡ replicate many false) →
+    flat_map own (places n) ≡ replicate (many * n) false
+zero_frames own many zero zeros =
+    let e : many * zero ≡ 0 = omega arith in
+    flat_map-zero own ∙ sym (ap (λ (k : ℕ). replicate k false) e)
+zero_frames own many (suc n) zeros =
+    let e : many * n + many ≡ many * suc n = omega arith in
+    flat_map-next own n
+    ∙ ap (λ (l : List Bool). l ++ own n)
+    (zero_frames own many n (λ k lt. zeros k (omega (arith, lt))))
+    ∙ ap (λ (l : List Bool). replicate (many * n) false ++ l) (zeros n (omega arith))
+    ∙ replicate-append-replicate (many * n) many false
+    ∙ ap (λ (k : ℕ). replicate k false) e
+
+zero_frame_ends_none : (size : ℕ) (own : ℕ → List Bool) (many n k : ℕ) → k < n →
+    ((j : ℕ) → j < n → own j ≡ replicate many false) → frame_capsules size own k ≡ []
+zero_frame_ends_none size own many n k lt zeros =
+    let front = flat_map own (places k) in
+    let same = zeros k lt in
+    let before = zero_frames own many k (λ j less. zeros j (omega (arith, less, lt))) in
+    flat_map-nothing
+    (λ i. option_to_list (half_frame_capsule_ending size (front ++ take (i + 1) (own k))))
+    (length (own k))
+    (λ i less.
+    let room : i + 1 ≤ many =
+    omega (arith, less, ap length same, length-replicate many false) in
+    ap (λ (l : List Bool). option_to_list
+    (half_frame_capsule_ending size (l ++ take (i + 1) (own k)))) before
+    ∙ ap (λ (l : List Bool). option_to_list
+    (half_frame_capsule_ending size (replicate (many * k) false ++ l)))
+    (ap (take (i + 1)) same ∙ take-replicate (i + 1) many false room)
+    ∙ ap (λ (l : List Bool). option_to_list (half_frame_capsule_ending size l))
+    (replicate-append-replicate (many * k) (i + 1) false)
+    ∙ ap option_to_list (zeros_end_none size (many * k + (i + 1))))
+
+-- frames of zeros end no capsule
+pub zero_frames_end_none : (size : ℕ) (own : ℕ → List Bool) (many n : ℕ) →
+    ((k : ℕ) → k < n → own k ≡ replicate many false) → capsules_with_frames size own n ≡ []
+zero_frames_end_none size own many n zeros =
+    flat_map-nothing (λ k. map (λ (c : List Bool). (k, c)) (frame_capsules size own k)) n
+    (λ k lt. ap (map (λ (c : List Bool). (k, c)))
+    (zero_frame_ends_none size own many n k lt zeros))

@@ -1,19 +1,23 @@
 -- What a handset hears in each sync frame of a clean link.
-use Rattle.clean_link.proofs.Common.{◌≡◌, ℕ, suc, ◌+◌, ◌*◌, ◌^◌, ◌<◌, ◌≤◌, ◌&&◌, Bool, true, false, List, [], length, map}
-use Rattle.clean_link.proofs.Common.{filter, replicate, refl, ap, ◌∙◌, arith, nat_lt, nat_le, Some, None, if◌then◌else◌}
-use Rattle.clean_link.proofs.Common.{mul-le-mul_left, map-map, places, CheckForm, Sample, most_samples, Width}
-use Rattle.clean_link.proofs.Common.{Eight, Sixteen, after, after_lt, Piece, piece, from_last_start, capsule_ending, IsSyncMessage}
-use Rattle.clean_link.proofs.Common.{sync_capsule, SyncFields, IsLawfulPlan, IsSyncPlan, message_of, told_superframes}
-use Rattle.clean_link.proofs.Common.{superframes_a_sending, sync_frame_bits, IsSendable, CellPlan, SyncPlan, length-sync, refilled_is}
-use Rattle.clean_link.proofs.Common.{superframes_few, told_early, frame_own_bits, frames_before, sync_capsule_at, heard_in, heard_at}
-use Rattle.clean_link.proofs.Common.{with_message, Tuning, sync_stream, map_ext_filter_places, FramesAreZeros}
-use Rattle.clean_link.proofs.Common.{FramesComeBack, IsOnPath, first_sync_frame, IsReceivable, made_samples}
+use Rattle.clean_link.proofs.Common.{◌≡◌, ℕ, suc, ◌+◌, ◌*◌, ◌^◌, ◌<◌, ◌≤◌, ◌&&◌, Bool, true, false, List, [], length, map, filter}
+use Rattle.clean_link.proofs.Common.{replicate, refl, ap, ◌∙◌, arith, nat_lt, nat_le, Some, None, if◌then◌else◌, mul-le-mul_left, map-map}
+use Rattle.clean_link.proofs.Common.{places, CheckForm, Sample, most_samples, Width, Eight, Sixteen, after, after_lt, Piece, piece}
+use Rattle.clean_link.proofs.Common.{from_last_start, capsule_ending, IsSyncMessage, sync_capsule, SyncFields, IsLawfulPlan, IsSyncPlan}
+use Rattle.clean_link.proofs.Common.{message_of, told_superframes, superframes_a_sending, sync_frame_bits, IsSendable, CellPlan, SyncPlan}
+use Rattle.clean_link.proofs.Common.{length-sync, refilled_is, superframes_few, told_early, frame_own_bits, frames_before, sync_capsule_at}
+use Rattle.clean_link.proofs.Common.{heard_in, heard_at, with_message, Tuning, sync_stream, map_ext_filter_places, IsOnPath}
+use Rattle.clean_link.proofs.Common.{first_sync_frame, ShowsSync, ◌-◌, ◌/◌, and_parts, and_from, and_right, lt-ltb, le-leb, lt-leb}
+use Rattle.clean_link.proofs.Common.{leb-true, ltb-true, superframes_some, is_whole, sending_begins, sending_ends, ◌≢◌, ⊎_elim, cond, ◌∷◌}
+use Rattle.clean_link.proofs.Common.{sym, Option, flat_map, cases_Bool, false_from_ne_true, events_of, sync_events_at, sync_bound, Event}
+use Rattle.clean_link.proofs.Common.{flat_map_ext_filter, WholeSendingsComeBack, events_of_channel, heard_behind, sending_event, sync_sent}
+use Rattle.clean_link.proofs.Common.{NoisySendingsComeBack}
 use Rattle.sync_message.proofs.Readings.{reads_capsule}
-use Rattle.clean_link.proofs.sendings.Pieces.{run, run-places, none_starts}
-use Rattle.clean_link.proofs.sendings.Capsules.{IsSentAt, piece_of, pieces_end, sending_frames}
-use Rattle.clean_link.proofs.frames.SyncTimes.{frames_begin, in_file_from, in_file_to, one_path}
-use Rattle.clean_link.proofs.sendings.Events.{in_file}
-use Rattle.clean_link.proofs.sendings.Order.{all_kept}
+use Rattle.clean_link.proofs.sendings.Capsules.{run, run-places, none_starts, IsSentAt, piece_of, pieces_end, sending_frames}
+use Rattle.clean_link.proofs.frames.Times.{frames_begin, in_file_from, in_file_to, one_path, end_of_frame, known_is, sync_timed}
+use Rattle.clean_link.proofs.sendings.Order.{in_file, all_kept, blocks, given_where, flat_map-filter, map-filter, moved_up, quiet}
+use Rattle.clean_link.proofs.sendings.Order.{events_by_frames, frame_events, frames_of, known}
+use Rattle.heard_events.specs.declared.event.Event.TheVariants.{Sync}
+use Rattle.clean_link.proofs.frames.ChannelFrames.{clean_sync, heard_sync}
 
 -- ---- the pieces
 
@@ -45,16 +49,6 @@ pieces_from t samples bits k alone there back =
     ∙ run-places (λ j. piece (bits j)) (k + 1)
     ∙ ap (run (λ j. piece (bits j)) 0) (let e : k + 1 ≡ suc k = omega arith in e)
 
-pub heard_pieces : FramesComeBack →
-    (width : Width) (plan : CellPlan) (sync : SyncPlan) (t : Tuning) (k : ℕ) →
-    IsReceivable width plan → plan.sync ≡ Some sync → IsOnPath plan t → in_file t k ≡ true →
-    map piece (frames_before t (made_samples plan) (k + 1)) ≡
-    run (piece_of plan sync.message (first_sync_frame plan)) 0 (suc k)
-heard_pieces back width plan sync t k is sends tuned there =
-    pieces_from t (made_samples plan)
-    (λ j. sync_frame_bits plan.cell sync.message (first_sync_frame plan + j)) k tuned.alone there
-    (λ j here. back width plan sync t j is sends tuned here)
-
 -- ---- what is heard without a sync channel
 capsule_is : (t : Tuning) (samples : List Sample) (k : ℕ) →
     heard_at t samples k ≡
@@ -66,19 +60,7 @@ none_ends : (pieces : List Piece) → from_last_start pieces ≡ [] → capsule_
 unfolding capsule_ending
 none_ends pieces none = rw none refl
 
-pub none_heard : FramesAreZeros → (width : Width) (plan : CellPlan) (t : Tuning) (k : ℕ) →
-    IsReceivable width plan → plan.sync ≡ None → IsOnPath plan t → in_file t k ≡ true →
-    heard_at t (made_samples plan) k ≡ None
-none_heard zeros width plan t k is silent tuned there =
-    let pieces =
-    pieces_from t (made_samples plan) (λ j. replicate 32 false) k tuned.alone there
-    (λ j here. zeros width plan t j is silent tuned here) in
-    capsule_is t (made_samples plan) k
-    ∙ ap (heard_in t.check30) (ap capsule_ending pieces ∙
-    none_ends (run (λ j. piece (replicate 32 false)) 0 (suc k))
-    (none_starts (λ j. piece (replicate 32 false)) 0 (suc k) (λ i lt. refl)))
-
--- ---- what is heard with one
+-- ---- what a transmission's frames end
 -- whether frame w of a transmission, which is the file's frame k, ends it, and its first frame is in the
 -- file
 abbrev pub ends_sending : CellPlan → SyncFields → ℕ → ℕ → Bool
@@ -128,54 +110,385 @@ heard_choice : (form : CheckForm) (b : Bool) (m : SyncFields) → IsSyncMessage 
 heard_choice form true m is = ap (with_message (sync_capsule form m)) (reads_capsule form m is)
 heard_choice form false m is = refl
 
--- frame w of transmission q, which is the file's frame k
-pub heard_is : FramesComeBack →
-    (width : Width) (plan : CellPlan) (sync : SyncPlan) (t : Tuning) (k q w : ℕ) →
-    IsReceivable width plan → plan.sync ≡ Some sync → IsOnPath plan t → in_file t k ≡ true →
-    IsSentAt plan sync.message (first_sync_frame plan) k q w →
-    heard_at t (made_samples plan) k ≡
-    (if ends_sending plan sync.message k w
-    then with_message (sync_capsule plan.cell.check30 (message_of plan.cell sync.message q))
-    (Some (message_of plan.cell sync.message q)) else None)
-heard_is back width plan sync t k q w is sends tuned there place =
-    let m = sync.message in
-    let sendable = sendable_of width plan sync is.lawful sends in
-    let early : q < 2 ^ 20 =
+-- ---- what is heard in a frame, of samples that show the frames of the sync channel
+
+module _ {width : Width} {plan : CellPlan} {samples : List Sample} {t : Tuning}
+    (is : ShowsSync width plan samples) (tuned : IsOnPath plan t) where
+  -- nothing without a sync channel
+  pub none_heard : plan.sync ≡ None → (k : ℕ) → in_file t k ≡ true → heard_at t samples k ≡ None
+  none_heard silent k there =
+      let pieces =
+      pieces_from t samples (λ j. replicate 32 false) k tuned.alone there
+      (λ j here. is.none t j silent tuned here) in
+      capsule_is t samples k
+      ∙ ap (heard_in t.check30) (ap capsule_ending pieces ∙
+      none_ends (run (λ j. piece (replicate 32 false)) 0 (suc k))
+      (none_starts (λ j. piece (replicate 32 false)) 0 (suc k) (λ i lt. refl)))
+
+  -- the transmission that ends there with one
+  module _ (sync : SyncPlan) (sends : plan.sync ≡ Some sync) where
+    pub heard_pieces : (k : ℕ) → in_file t k ≡ true → map piece (frames_before t samples (k + 1)) ≡
+        run (piece_of plan sync.message (first_sync_frame plan)) 0 (suc k)
+    heard_pieces k there =
+        pieces_from t samples
+        (λ j. sync_frame_bits plan.cell sync.message (first_sync_frame plan + j)) k tuned.alone there
+        (λ j here. is.back sync t j sends tuned here)
+
+    -- frame w of transmission q, which is the file's frame k
+    pub heard_is : (k q w : ℕ) → in_file t k ≡ true →
+        IsSentAt plan sync.message (first_sync_frame plan) k q w → heard_at t samples k ≡
+        (if ends_sending plan sync.message k w
+        then with_message (sync_capsule plan.cell.check30 (message_of plan.cell sync.message q))
+        (Some (message_of plan.cell sync.message q)) else None)
+    heard_is k q w there place =
+        let m = sync.message in
+        let sendable = sendable_of width plan sync is.receivable.lawful sends in
+        let early : q < 2 ^ 20 =
+        omega (
+          arith,
+          frame_early width plan t k is.receivable.lawful tuned there,
+          sending_early plan m (first_sync_frame plan) k q w place,
+        ) in
+        capsule_is t samples k
+        ∙ ap (λ form. heard_in form
+        (capsule_ending (map piece (frames_before t samples (k + 1))))) tuned.checks_of_30
+        ∙ ap (heard_in plan.cell.check30) (ap capsule_ending (heard_pieces k there) ∙
+        pieces_end plan m (first_sync_frame plan) k q w sendable.message.fills place)
+        ∙ heard_choice plan.cell.check30 (ends_sending plan m k w) (message_of plan.cell m q)
+        (message_is plan m q sendable early)
+
+    pub heard_nothing : (k q w : ℕ) → in_file t k ≡ true →
+        IsSentAt plan sync.message (first_sync_frame plan) k q w →
+        ends_sending plan sync.message k w ≡ false → heard_at t samples k ≡ None
+    heard_nothing k q w there place over =
+        heard_is k q w there place
+        ∙ ap (λ b. if b
+        then with_message (sync_capsule plan.cell.check30 (message_of plan.cell sync.message q))
+        (Some (message_of plan.cell sync.message q)) else None) over
+
+    pub heard_sending : (k q w : ℕ) → in_file t k ≡ true →
+        IsSentAt plan sync.message (first_sync_frame plan) k q w →
+        ends_sending plan sync.message k w ≡ true → heard_at t samples k ≡
+        with_message (sync_capsule plan.cell.check30 (message_of plan.cell sync.message q))
+        (Some (message_of plan.cell sync.message q))
+    heard_sending k q w there place last =
+        heard_is k q w there place
+        ∙ ap (λ b. if b
+        then with_message (sync_capsule plan.cell.check30 (message_of plan.cell sync.message q))
+        (Some (message_of plan.cell sync.message q)) else None) last
+
+-- ---- the frame of a transmission that ends it
+abbrev pub last_frame : CellPlan → SyncFields → ℕ
+last_frame plan m = (length (sync_capsule plan.cell.check30 m) + 30) / 31 - 1
+
+pub last_within : (plan : CellPlan) (m : SyncFields) → last_frame plan m < sending_frames plan m
+last_within plan m = omega (arith, length-sync plan.cell.check30 m)
+
+pub ends_there : (plan : CellPlan) (m : SyncFields) (k w : ℕ) → w ≡ last_frame plan m → w ≤ k →
+    ends_sending plan m k w ≡ true
+ends_there plan m k w is begun =
+    let size = length (sync_capsule plan.cell.check30 m) in
+    let long = length-sync plan.cell.check30 m in
+    and_from (nat_le w k && nat_lt (31 * w) size) (nat_le size (31 * (w + 1)))
+    (and_from (nat_le w k) (nat_lt (31 * w) size) (le-leb w k begun)
+    (lt-ltb (31 * w) size (omega (arith, is, long))))
+    (le-leb size (31 * (w + 1)) (omega (arith, is, long)))
+
+-- what a frame that ends a transmission tells
+pub record Ends (plan : CellPlan) (m : SyncFields) (k w : ℕ) : Type 0 where
+  pub begun : w ≤ k
+  pub last : w ≡ last_frame plan m
+
+pub ends_tells : (plan : CellPlan) (m : SyncFields) (k w : ℕ) → ends_sending plan m k w ≡ true →
+    Ends plan m k w
+ends_tells plan m k w h =
+    let size = length (sync_capsule plan.cell.check30 m) in
+    let both = and_parts (nat_le w k && nat_lt (31 * w) size) (nat_le size (31 * (w + 1))) h in
+    let front = and_parts (nat_le w k) (nat_lt (31 * w) size) both.0 in
+    let more = ltb-true (31 * w) size front.1 in
+    let whole = leb-true size (31 * (w + 1)) both.1 in
+    record { begun = leb-true w k front.0; last = omega (arith, more, whole) }
+
+-- ---- where a transmission lies
+-- Its last frame is the file's frame k.
+abbrev pub IsLast : CellPlan → SyncFields → ℕ → ℕ → Type 0
+IsLast plan m k q = IsSentAt plan m (first_sync_frame plan) k q (last_frame plan m)
+
+pub threefold : (q n : ℕ) → q * (3 * n) ≡ 3 * (q * n)
+threefold q n = omega arith
+
+pub ends_where : (width : Width) (plan : CellPlan) (m : SyncFields) (t : Tuning) (k q : ℕ) →
+    IsLawfulPlan width plan → IsOnPath plan t → IsLast plan m k q →
+    sending_ends plan m q ≡ plan.link.start + end_of_frame t k
+ends_where width plan m t k q lawful tuned is =
     omega (
       arith,
-      frame_early width plan t k is.lawful tuned there,
-      sending_early plan m (first_sync_frame plan) k q w place,
-    ) in
-    capsule_is t (made_samples plan) k
-    ∙ ap (λ form. heard_in form
-    (capsule_ending (map piece (frames_before t (made_samples plan) (k + 1))))) tuned.checks_of_30
-    ∙ ap (heard_in plan.cell.check30)
-    (ap capsule_ending (heard_pieces back width plan sync t k is sends tuned there) ∙
-    pieces_end plan m (first_sync_frame plan) k q w sendable.message.fills place)
-    ∙ heard_choice plan.cell.check30 (ends_sending plan m k w) (message_of plan.cell m q)
-    (message_is plan m q sendable early)
+      frames_begin plan t k lawful.pn tuned.phase,
+      is.parts,
+      threefold q (superframes_a_sending plan.cell m),
+      length-sync plan.cell.check30 m,
+    )
 
-pub heard_nothing : FramesComeBack →
-    (width : Width) (plan : CellPlan) (sync : SyncPlan) (t : Tuning) (k q w : ℕ) →
-    IsReceivable width plan → plan.sync ≡ Some sync → IsOnPath plan t → in_file t k ≡ true →
-    IsSentAt plan sync.message (first_sync_frame plan) k q w →
-    ends_sending plan sync.message k w ≡ false → heard_at t (made_samples plan) k ≡ None
-heard_nothing back width plan sync t k q w is sends tuned there place over =
-    heard_is back width plan sync t k q w is sends tuned there place
-    ∙ ap (λ b. if b
-    then with_message (sync_capsule plan.cell.check30 (message_of plan.cell sync.message q))
-    (Some (message_of plan.cell sync.message q)) else None) over
+-- it begins in the file just where the file's first frame isn't later than its first
+begins_from : (width : Width) (plan : CellPlan) (m : SyncFields) (t : Tuning) (q : ℕ) →
+    IsLawfulPlan width plan → IsOnPath plan t →
+    first_sync_frame plan ≤ q * sending_frames plan m → plan.link.start ≤ sending_begins plan m q
+begins_from width plan m t q lawful tuned early =
+    omega (
+      arith,
+      frames_begin plan t 0 lawful.pn tuned.phase,
+      early,
+      threefold q (superframes_a_sending plan.cell m),
+    )
 
-pub heard_sending : FramesComeBack →
-    (width : Width) (plan : CellPlan) (sync : SyncPlan) (t : Tuning) (k q w : ℕ) →
-    IsReceivable width plan → plan.sync ≡ Some sync → IsOnPath plan t → in_file t k ≡ true →
-    IsSentAt plan sync.message (first_sync_frame plan) k q w →
-    ends_sending plan sync.message k w ≡ true →
-    heard_at t (made_samples plan) k ≡
-    with_message (sync_capsule plan.cell.check30 (message_of plan.cell sync.message q))
-    (Some (message_of plan.cell sync.message q))
-heard_sending back width plan sync t k q w is sends tuned there place last =
-    heard_is back width plan sync t k q w is sends tuned there place
-    ∙ ap (λ b. if b
-    then with_message (sync_capsule plan.cell.check30 (message_of plan.cell sync.message q))
-    (Some (message_of plan.cell sync.message q)) else None) last
+begins_to : (width : Width) (plan : CellPlan) (m : SyncFields) (t : Tuning) (q : ℕ) →
+    IsLawfulPlan width plan → IsOnPath plan t →
+    plan.link.start ≤ sending_begins plan m q → first_sync_frame plan ≤ q * sending_frames plan m
+begins_to width plan m t q lawful tuned inside =
+    omega (
+      arith,
+      frames_begin plan t 0 lawful.pn tuned.phase,
+      inside,
+      threefold q (superframes_a_sending plan.cell m),
+    )
+
+pub whole_from : (width : Width) (plan : CellPlan) (m : SyncFields) (t : Tuning) (k q : ℕ) →
+    IsLawfulPlan width plan → IsOnPath plan t → IsLast plan m k q →
+    last_frame plan m ≤ k → in_file t k ≡ true → is_whole plan m q ≡ true
+whole_from width plan m t k q lawful tuned is begun there =
+    let ends = ends_where width plan m t k q lawful tuned is in
+    let fits = in_file_to t k tuned.alone there in
+    and_from (nat_le plan.link.start (sending_begins plan m q))
+    (nat_le (sending_ends plan m q) (plan.link.start + plan.link.samples))
+    (le-leb plan.link.start (sending_begins plan m q)
+    (begins_from width plan m t q lawful tuned (omega (arith, is.parts, begun))))
+    (le-leb (sending_ends plan m q) (plan.link.start + plan.link.samples)
+    (omega (arith, ends, fits, tuned.count)))
+
+-- a whole transmission's last frame
+pub record IsInside (plan : CellPlan) (m : SyncFields) (t : Tuning) (k q : ℕ) : Type 0 where
+  pub last : IsLast plan m k q
+  pub begun : last_frame plan m ≤ k
+  pub there : in_file t k ≡ true
+
+pub whole_to : (width : Width) (plan : CellPlan) (m : SyncFields) (t : Tuning) (q : ℕ) →
+    IsLawfulPlan width plan → IsOnPath plan t → is_whole plan m q ≡ true →
+    (first_sync_frame plan ≤ q * sending_frames plan m) ×
+    IsInside plan m t (q * sending_frames plan m + last_frame plan m - first_sync_frame plan) q
+whole_to width plan m t q lawful tuned whole =
+    let both =
+    and_parts (nat_le plan.link.start (sending_begins plan m q))
+    (nat_le (sending_ends plan m q) (plan.link.start + plan.link.samples)) whole in
+    let early =
+    begins_to width plan m t q lawful tuned
+    (leb-true plan.link.start (sending_begins plan m q) both.0) in
+    let inside = leb-true (sending_ends plan m q) (plan.link.start + plan.link.samples) both.1 in
+    let k = q * sending_frames plan m + last_frame plan m - first_sync_frame plan in
+    let is : IsLast plan m k q = record {
+      parts = omega (arith, early);
+      low = last_within plan m;
+    } in (
+      early,
+      record {
+        last = is;
+        begun = omega (arith, early);
+        there = in_file_from t k tuned.alone
+            (omega (arith, ends_where width plan m t k q lawful tuned is, inside, tuned.count));
+      },
+    )
+
+-- transmissions that are whole have small numbers
+pub late_sending : (plan : CellPlan) (m : SyncFields) (q : ℕ) →
+    (plan.link.start + plan.link.samples) / 98304 + 1 ≤ q → is_whole plan m q ≡ false
+late_sending plan m q late =
+    let more : q * 1 ≤ q * superframes_a_sending plan.cell m =
+    mul-le-mul_left q (superframes_some plan.cell.check30 m) in
+    and_right (nat_le plan.link.start (sending_begins plan m q))
+    (nat_le (sending_ends plan m q) (plan.link.start + plan.link.samples))
+    (lt-leb (sending_ends plan m q) (plan.link.start + plan.link.samples)
+    (omega (arith, more, late, length-sync plan.cell.check30 m)))
+
+-- ---- the frames of the cell, of which those in the file tell something
+abbrev tells : CellPlan → List Sample → Tuning → ℕ → List Event
+tells plan samples t j =
+    cond (nat_le (first_sync_frame plan) j && in_file t (j - first_sync_frame plan))
+    (frame_events t samples (j - first_sync_frame plan)) []
+
+tells_early : (plan : CellPlan) (samples : List Sample) (t : Tuning) (j : ℕ) → j < first_sync_frame plan →
+    tells plan samples t j ≡ []
+tells_early plan samples t j early = let e = lt-leb (first_sync_frame plan) j early in rw e refl
+
+tells_moved : (plan : CellPlan) (samples : List Sample) (t : Tuning) (k : ℕ) →
+    tells plan samples t (first_sync_frame plan + k) ≡
+    given_where (in_file t) (frame_events t samples) k
+tells_moved plan samples t k =
+    let e = le-leb (first_sync_frame plan) (first_sync_frame plan + k) (omega arith) in
+    let same : first_sync_frame plan + k - first_sync_frame plan ≡ k = omega arith in
+    ap (λ b. cond (b && in_file t (first_sync_frame plan + k - first_sync_frame plan))
+    (frame_events t samples (first_sync_frame plan + k - first_sync_frame plan)) []) e
+    ∙ ap (given_where (in_file t) (frame_events t samples)) same
+
+-- a frame that isn't in the file tells nothing
+tells_if : (plan : CellPlan) (samples : List Sample) (t : Tuning) (j : ℕ) →
+    (first_sync_frame plan ≤ j → in_file t (j - first_sync_frame plan) ≡ true →
+    frame_events t samples (j - first_sync_frame plan) ≡ []) → tells plan samples t j ≡ []
+tells_if plan samples t j none = ⊎_elim
+    (λ (yes' : (nat_le (first_sync_frame plan) j && in_file t (j - first_sync_frame plan)) ≡ true).
+    let both =
+    and_parts (nat_le (first_sync_frame plan) j) (in_file t (j - first_sync_frame plan)) yes' in
+    rw yes' (none (leb-true (first_sync_frame plan) j both.0) both.1))
+    (λ (no' : (nat_le (first_sync_frame plan) j && in_file t (j - first_sync_frame plan)) ≡ false).
+    rw no'
+    refl)
+    (cases_Bool (nat_le (first_sync_frame plan) j && in_file t (j - first_sync_frame plan)))
+
+-- the file ends before this frame
+tells_late : (plan : CellPlan) (samples : List Sample) (t : Tuning) (i : ℕ) → IsOnPath plan t →
+    tells plan samples t (first_sync_frame plan + sync_bound t.count + i) ≡ []
+tells_late plan samples t i tuned =
+    tells_if plan samples t (first_sync_frame plan + sync_bound t.count + i)
+    (λ early there. absurd
+    (omega (
+      arith,
+      in_file_to t (first_sync_frame plan + sync_bound t.count + i - first_sync_frame plan)
+          tuned.alone there,
+    )))
+
+-- numbers at which nothing is known
+pub none_known : (ks : List ℕ) →
+    flat_map (λ (n : ℕ). let none : List Event = [] in none) ks ≡ []
+none_known [] = refl
+none_known (k ∷ ks) = none_known ks
+
+-- ---- what frames tell, of samples that show the frames of the sync channel
+
+module _ {width : Width} {plan : CellPlan} {samples : List Sample} {t : Tuning}
+    (is : ShowsSync width plan samples) (tuned : IsOnPath plan t) where
+  module _ (sync : SyncPlan) (sends : plan.sync ≡ Some sync) where
+    tells_none : (k q w : ℕ) → in_file t k ≡ true →
+        IsSentAt plan sync.message (first_sync_frame plan) k q w →
+        ends_sending plan sync.message k w ≡ false → frame_events t samples k ≡ []
+    tells_none k q w there place over =
+        ap (events_of (known t k)) (heard_nothing is tuned sync sends k q w there place over)
+
+    tells_sending : (k q : ℕ) → IsInside plan sync.message t k q →
+        frame_events t samples k ≡ sending_event plan sync.message q ∷ []
+    tells_sending k q inside =
+        let m = sync.message in
+        let heard =
+        heard_sending is tuned sync sends k q (last_frame plan m) inside.there
+        inside.last (ends_there plan m k (last_frame plan m) refl inside.begun) in
+        let ends : end_of_frame t k ≡ sending_ends plan m q - plan.link.start =
+        omega (arith, ends_where width plan m t k q is.receivable.lawful tuned inside.last) in
+        let when : known t k ≡
+        heard_behind 32768 plan.link.samples (sending_ends plan m q - plan.link.start) =
+        known_is t k tuned.alone ∙ ap (λ n. heard_behind 32768 n (end_of_frame t k)) tuned.count ∙
+        ap (heard_behind 32768 plan.link.samples) ends in
+        ap (events_of (known t k)) heard
+        ∙ ap (λ (n : ℕ). let e : Event = Sync n
+        (sync_capsule plan.cell.check30 (message_of plan.cell m q))
+        (message_of plan.cell m q) in e ∷ []) when
+
+    -- other frames than a transmission's last tell nothing
+    tells_other : (q w : ℕ) →
+        w < sending_frames plan sync.message → w ≢ last_frame plan sync.message →
+        tells plan samples t (q * sending_frames plan sync.message + w) ≡ []
+    tells_other q w low other =
+        let m = sync.message in
+        let j = q * sending_frames plan m + w in
+        tells_if plan samples t j
+        (λ early there.
+        let k = j - first_sync_frame plan in
+        let over : ends_sending plan m k w ≡ false =
+        false_from_ne_true (ends_sending plan m k w) (λ h. other (ends_tells plan m k w h).last) in
+        tells_none k q w there (record { parts = omega (arith, early); low = low }) over)
+
+    -- the last tells of the transmission where it is whole
+    tells_last : (q : ℕ) →
+        tells plan samples t (q * sending_frames plan sync.message + last_frame plan sync.message) ≡
+        given_where (is_whole plan sync.message) (λ s. sending_event plan sync.message s ∷ []) q
+    tells_last q =
+        let m = sync.message in
+        let j = q * sending_frames plan m + last_frame plan m in
+        let k = j - first_sync_frame plan in
+        ⊎_elim
+        (λ (whole : is_whole plan m q ≡ true).
+        let (early, inside) = whole_to width plan m t q is.receivable.lawful tuned whole in
+        let e = le-leb (first_sync_frame plan) j (omega (arith, early)) in
+        let there = inside.there in
+        let given = tells_sending k q inside in
+        ap (λ b. cond b (frame_events t samples k) [])
+        (and_from (nat_le (first_sync_frame plan) j) (in_file t k) e there)
+        ∙ given ∙ sym (ap (λ b. cond b (sending_event plan m q ∷ []) []) whole))
+        (λ (part : is_whole plan m q ≡ false). tells_if plan samples t j
+        (λ early there.
+        let place : IsSentAt plan m (first_sync_frame plan) k q (last_frame plan m) =
+        record { parts = omega (arith, early); low = last_within plan m } in
+        let over : ends_sending plan m k (last_frame plan m) ≡ false =
+        false_from_ne_true (ends_sending plan m k (last_frame plan m))
+        (λ h.
+        let whole =
+        whole_from width plan m t k q is.receivable.lawful tuned place
+        (ends_tells plan m k (last_frame plan m) h).begun there in
+        cc) in
+        tells_none k q (last_frame plan m) there place over)
+        ∙ sym (ap (λ b. cond b (sending_event plan m q ∷ []) []) part))
+        (cases_Bool (is_whole plan m q))
+
+    -- all of them
+    channel_back : flat_map (frame_events t samples) (filter (in_file t) (frames_of t)) ≡
+        events_of_channel plan (Some sync)
+    channel_back =
+        let m = sync.message in
+        let base = first_sync_frame plan in
+        let b = sync_bound t.count in
+        let f = sending_frames plan m in
+        let c = (plan.link.start + plan.link.samples) / 98304 + 1 in
+        let n = c + (base + b) in
+        let H = given_where (is_whole plan m) (λ s. sending_event plan m s ∷ []) in
+        let some : 1 ≤ f = omega (arith, length-sync plan.cell.check30 m) in
+        let more : n * 1 ≤ n * f = mul-le-mul_left n some in
+        let room : base + b + (n * f - (base + b)) ≡ n * f = omega (arith, more) in
+        flat_map-filter (in_file t) (frame_events t samples) (places b)
+        ∙ sym (moved_up (given_where (in_file t) (frame_events t samples)) (tells plan samples t)
+        base b
+        (λ i lt. tells_early plan samples t i lt) (λ k. tells_moved plan samples t k))
+        ∙ sym (quiet (tells plan samples t) (base + b) (n * f - (base + b)) (λ i lt. tells_late plan samples t i tuned))
+        ∙ ap (λ i. flat_map (tells plan samples t) (places i)) room
+        ∙ blocks (tells plan samples t) H f (last_frame plan m) n (last_within plan m)
+        tells_last tells_other
+        ∙ quiet H c (base + b)
+        (λ i lt. ap (λ x. cond x (sending_event plan m (c + i) ∷ []) [])
+        (late_sending plan m (c + i) (omega arith)))
+        ∙ sym (map-filter (is_whole plan m) (sending_event plan m) (places c))
+
+  silence_back : plan.sync ≡ None →
+      flat_map (frame_events t samples) (filter (in_file t) (frames_of t)) ≡ []
+  silence_back silent =
+      flat_map_ext_filter (in_file t) (frame_events t samples) (λ k. []) (frames_of t)
+      (λ k there. ap (events_of (known t k)) (none_heard is tuned silent k there))
+      ∙ none_known (filter (in_file t) (frames_of t))
+
+  by_frames : (channel : Option SyncPlan) → plan.sync ≡ channel →
+      flat_map (frame_events t samples) (filter (in_file t) (frames_of t)) ≡
+      events_of_channel plan channel
+  by_frames None silent = silence_back silent
+  by_frames (Some sync) sends = channel_back sync sends
+
+  pub sendings_by_frames : flat_map (frame_events t samples) (filter (in_file t) (frames_of t)) ≡
+      sync_sent plan
+  unfolding sync_sent
+  sendings_by_frames = by_frames plan.sync refl
+
+  pub sendings_in : flat_map (sync_events_at t samples) (places (plan.link.samples + 1)) ≡ sync_sent plan
+  sendings_in =
+      ap (λ n. flat_map (sync_events_at t samples) (places (n + 1))) (sym tuned.count)
+      ∙ events_by_frames t (sync_timed t tuned.alone) samples
+      ∙ sendings_by_frames
+
+pub sendings_back : WholeSendingsComeBack
+sendings_back width plan t is tuned = sendings_in (clean_sync width plan is) tuned
+
+pub noisy_sendings : NoisySendingsComeBack
+noisy_sendings width plan sync e samples t is tuned =
+    sendings_in (heard_sync width plan sync e samples is) tuned

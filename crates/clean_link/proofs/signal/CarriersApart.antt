@@ -5,9 +5,8 @@ use Rattle.clean_link.proofs.Common.{All-map, All-nil, All-tail, All-weaker, Con
 use Rattle.clean_link.proofs.Common.{paging_rate, HaveOwnNumbers, HaveOwnTrafficRows, IsFreeOf, IsLawfulPlan, IsPagingPlan, IsTrafficPlan}
 use Rattle.clean_link.proofs.Common.{Carrier, carriers, level, paging_carrier, pilot_carrier, sync_carrier, sync_carriers, traffic_carrier}
 use Rattle.clean_link.proofs.Common.{CellPlan, PagingPlan, SyncPlan, TrafficPlan, pilot_amplitude, walsh-pilot, AreApart, HaveOwnRows}
-use Rattle.clean_link.proofs.Common.{IsAligned}
-use Rattle.std.proofs.Math.ListN.{get_or-map}
-use Rattle.clean_link.proofs.signal.Levels.{level_at-none}
+use Rattle.clean_link.proofs.Common.{IsAligned, get_or-map}
+use Rattle.clean_link.proofs.signal.Rows.{level_at-none}
 
 -- ---- each of the channels
 
@@ -75,7 +74,7 @@ has_mapped : {A B : Type 0} (f : A → B) (xs : List A) (x : A) → Contains xs 
 has_mapped f xs x has = (
   has.0,
   omega (arith, has.1, length-map xs f),
-  get_or-map f xs has.0 x ∙ ap f (has.2),
+  get_or-map f xs has.0 x (f x) has.1 ∙ ap f has.2,
 )
 
 -- what is true of the sync channel of a cell is true of those that it has

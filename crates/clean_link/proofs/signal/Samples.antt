@@ -5,8 +5,7 @@ use Rattle.clean_link.proofs.Common.{get_or-map, sign, origin, plus, times, conj
 use Rattle.clean_link.proofs.Common.{length-map-places, get_or-map-places, mul_assoc_ℤ, split, diff-plus, diff-times, diff-same, code_point}
 use Rattle.clean_link.proofs.Common.{despread, pilot_chip, walsh, covered_from, despread_at, row_sign, covered_sum-more, same_parts}
 use Rattle.clean_link.proofs.Common.{CellPlan, amplitudes, carriers, scaled, sample_of, samples_of, phase_at, signal_of_carriers, no_sample}
-use Rattle.clean_link.proofs.Common.{made_samples, sample_with}
-use Rattle.std.proofs.lemmas.List.{length-drop}
+use Rattle.clean_link.proofs.Common.{made_samples, sample_with, length-drop}
 
 -- ---- a code point times its conjugate is 2
 

@@ -4,18 +4,16 @@ use Rattle.clean_link.proofs.Common.{◌≡◌, ℕ, zero, suc, ◌+◌, ◌*◌
 use Rattle.clean_link.proofs.Common.{Option, None, Some, ◌≢◌, All, Contains, flat_map, eq-eqb, ne_eqb, All-contains, places, Width}
 use Rattle.clean_link.proofs.Common.{HaveOwnTrafficRows, made_samples, told_superframes, CellPlan, SyncPlan, TrafficPlan, events}
 use Rattle.clean_link.proofs.Common.{frame_events_at, message_events_at, mark, AreNear, frames_at, messages_at, if_followed, Tuning}
-use Rattle.clean_link.proofs.Common.{sync_stream, Event, Mark, Traffic, by_one_mark}
-use Rattle.clean_link.proofs.Common.{flat_map_ext_places, IsNotDirected, IsOnPath, IsReceivable, frames_of_channel, frames_sent, told_on}
-use Rattle.clean_link.proofs.Common.{AreDistinct, SendsSetOne, messages_of_channel, messages_sent, signaling_sent, told_by_first}
-use Rattle.clean_link.proofs.Common.{told_followed, told_with_sync, traffic_sent, FollowsSent, HearsTraffic, IsUndirected}
-use Rattle.clean_link.proofs.traffic.ByKinds.{frames_from_mark, messages_from_mark}
-use Rattle.clean_link.proofs.marks.FirstMark.{mark_of_first, unset_without}
-use Rattle.clean_link.proofs.marks.MarksTrue.{marks_true, time_of, unmarked}
-use Rattle.clean_link.proofs.traffic.Frames.{sent_frames_back}
-use Rattle.clean_link.proofs.traffic.Signaling.{sent_messages_back}
+use Rattle.clean_link.proofs.Common.{sync_stream, Event, Mark, Traffic, by_one_mark, flat_map_ext_places, IsNotDirected, IsOnPath}
+use Rattle.clean_link.proofs.Common.{IsReceivable, frames_of_channel, frames_sent, told_on, AreDistinct, SendsSetOne, messages_of_channel}
+use Rattle.clean_link.proofs.Common.{messages_sent, signaling_sent, told_by_first, told_followed, told_with_sync, traffic_sent, FollowsSent}
+use Rattle.clean_link.proofs.Common.{HearsTraffic, IsUndirected, IsAssigned, Sample, ShowsSync}
+use Rattle.clean_link.proofs.traffic.Steady.{frames_from_mark, messages_from_mark, undirected_behind}
+use Rattle.clean_link.proofs.marks.MarksTrue.{first_in, unset_in, marks_in, time_of, unmarked_in}
+use Rattle.clean_link.proofs.frames.ChannelFrames.{clean_sync}
+use Rattle.clean_link.proofs.traffic.Frames.{sent_frames_back, sent_messages_back}
 use Rattle.clean_link.proofs.signal.Samples.{length-made}
-use Rattle.clean_link.proofs.traffic.Undirected.{undirected_behind}
-use Rattle.clean_link.proofs.sendings.Back.{none_known}
+use Rattle.clean_link.proofs.sendings.Heard.{none_known}
 
 pub one_near : (t : Tuning) (plan : CellPlan) → IsOnPath plan t →
     AreNear (sync_stream t).fingers
@@ -49,83 +47,96 @@ on_row width plan p row told is has on =
 -- What is heard of a traffic channel at each number of samples comes back: the mark of all samples
 -- tells it, and behind it, where it is true, it is what a channel tells that is sent, each of whose
 -- received frames is distinct.
-record ComesBack (width : Width) (plan : CellPlan) (t : Tuning)
+record ComesBack (width : Width) (plan : CellPlan) (t : Tuning) (samples : List Sample)
     (heard : ℕ → Traffic → Mark → List Event) (told : TrafficPlan → ℕ → List Event) : Type 0 where
   pub once : (n : ℕ) → n ≤ t.count →
-      if_followed (heard n) t.traffic (mark t (made_samples plan) n)
-      ≡ if_followed (heard n) t.traffic (mark t (made_samples plan) t.count)
+      if_followed (heard n) t.traffic (mark t samples n)
+      ≡ if_followed (heard n) t.traffic (mark t samples t.count)
   pub back : (p : TrafficPlan) (traffic : Traffic) (m : Mark) (superframes : ℕ) →
-      t.traffic ≡ Some traffic → mark t (made_samples plan) t.count ≡ Some m →
+      t.traffic ≡ Some traffic → mark t samples t.count ≡ Some m →
       HearsTraffic width plan p t traffic m superframes → SendsSetOne p →
       AreDistinct plan p (plan.link.start + m.sample) →
       flat_map (λ n. heard n traffic m) (places (plan.link.samples + 1))
       ≡ told p (plan.link.start + m.sample)
 
--- a channel of the cell that a handset follows behind a true mark
+-- a handset hears a channel after a true mark, whose superframes the first whole transmission tells
+pub record HearsBehind (width : Width) (plan : CellPlan) (p : TrafficPlan) (t : Tuning)
+    (traffic : Traffic) (m : Mark) : Type 0 where
+  pub superframes : ℕ
+  pub hears : HearsTraffic width plan p t traffic m superframes
+  pub told : told_with_sync plan plan.sync ≡ Some superframes
+
+-- and it follows the channel, each of whose frames from there on is distinct
 pub record IsHeardBehind (width : Width) (plan : CellPlan) (t : Tuning) (traffic : Traffic)
     (m : Mark) : Type 0 where
   pub p : TrafficPlan
-  pub superframes : ℕ
-  pub hears : HearsTraffic width plan p t traffic m superframes
+  pub behind : HearsBehind width plan p t traffic m
   pub one : SendsSetOne p
   pub distinct : AreDistinct plan p (plan.link.start + m.sample)
-  pub told : told_with_sync plan plan.sync ≡ Some superframes
 
 -- what the channel on a row tells behind a local chip
 abbrev pub told_behind : CellPlan → (TrafficPlan → ℕ → List Event) → ℕ → ℕ → List Event
 told_behind plan told row chip = told_on (λ (p : TrafficPlan). told p chip) plan.traffic row
 
-module _ (width : Width) (plan : CellPlan) (t : Tuning) (is : IsReceivable width plan)
-    (tuned : IsOnPath plan t) where
+module _ {width : Width} {plan : CellPlan} {t : Tuning} {samples : List Sample}
+    (is : ShowsSync width plan samples) (tuned : IsOnPath plan t) where
   -- the superframes of the mark are those that the first whole transmission tells
   told_so : (sync : SyncPlan) (m : Mark) → plan.sync ≡ Some sync →
-      mark t (made_samples plan) t.count ≡ Some m → (superframes : ℕ) →
+      mark t samples t.count ≡ Some m → (superframes : ℕ) →
       m.time ≡ plan.cell.time + superframes →
       told_with_sync plan (Some sync) ≡ Some superframes
   told_so sync m sends set superframes time =
-      let first = mark_of_first width plan sync t is sends tuned m set in
+      let first = first_in is tuned sync sends m set in
       let told : told_superframes plan.cell sync.message first.sending ≡ superframes =
       omega (arith, time, first.time, time_of plan sync.message first.sending) in
       ap (told_by_first plan sync.message) first.first ∙ ap (λ (n : ℕ). Some n) told
 
   -- and there is a sync channel that sends it
-  pub told_behind_mark : (channel : Option SyncPlan) (m : Mark) → plan.sync ≡ channel →
-      mark t (made_samples plan) t.count ≡ Some m → (superframes : ℕ) →
+  pub told_behind_mark_in : (channel : Option SyncPlan) (m : Mark) → plan.sync ≡ channel →
+      mark t samples t.count ≡ Some m → (superframes : ℕ) →
       m.time ≡ plan.cell.time + superframes → told_with_sync plan channel ≡ Some superframes
-  told_behind_mark None m silent set superframes time =
-      let unset = unmarked width plan t t.count is silent tuned in absurd (cc)
-  told_behind_mark (Some sync) m sends set superframes time =
+  told_behind_mark_in None m silent set superframes time =
+      let unset = unmarked_in is tuned t.count silent in absurd (cc)
+  told_behind_mark_in (Some sync) m sends set superframes time =
       told_so sync m sends set superframes time
 
   -- where no mark is set none is told
-  pub untold : (channel : Option SyncPlan) → plan.sync ≡ channel →
-      mark t (made_samples plan) t.count ≡ None → told_with_sync plan channel ≡ None
-  untold None silent unset = refl
-  untold (Some sync) sends unset =
-      ap (told_by_first plan sync.message) (unset_without width plan sync t is sends tuned unset)
+  pub untold_in : (channel : Option SyncPlan) → plan.sync ≡ channel →
+      mark t samples t.count ≡ None → told_with_sync plan channel ≡ None
+  untold_in None silent unset = refl
+  untold_in (Some sync) sends unset =
+      ap (told_by_first plan sync.message) (unset_in is tuned sync sends unset)
 
-  -- the channel that is followed behind the mark that is set
-  pub heard_behind_mark : (traffic : Traffic) (m : Mark) →
-      mark t (made_samples plan) t.count ≡ Some m → FollowsSent plan (Some traffic) →
-      IsHeardBehind width plan t traffic m
-  heard_behind_mark traffic m set follows =
-      let (p, followed) = follows in
-      let (superframes, true_mark) = marks_true width plan t t.count m is tuned set in
-      let told = told_behind_mark plan.sync m refl set superframes true_mark.time in
+  -- a channel that is sent, after the mark that is set
+  pub hears_behind : (p : TrafficPlan) (traffic : Traffic) (m : Mark) → Contains plan.traffic p →
+      IsAssigned p traffic → mark t samples t.count ≡ Some m → HearsBehind width plan p t traffic m
+  hears_behind p traffic m sent assigned set =
+      let (superframes, true_mark) = marks_in is tuned t.count m set in
       record {
-        p = p;
         superframes = superframes;
         hears = record {
-          receivable = is;
-          sent = followed.sent;
-          assigned = followed.assigned;
+          receivable = is.receivable;
+          sent = sent;
+          assigned = assigned;
           tuned = tuned;
           marked = true_mark;
         };
+        told = told_behind_mark_in plan.sync m refl set superframes true_mark.time;
+      }
+
+  -- and the one that is followed
+  pub heard_behind_mark : (traffic : Traffic) (m : Mark) →
+      mark t samples t.count ≡ Some m → FollowsSent plan (Some traffic) →
+      IsHeardBehind width plan t traffic m
+  heard_behind_mark traffic m set follows =
+      let (p, followed) = follows in
+      let behind = hears_behind p traffic m followed.sent followed.assigned set in
+      record {
+        p = p;
+        behind = behind;
         one = followed.one;
-        distinct = subst (AreDistinct plan p) (sym true_mark.place)
-            (followed.distinct superframes told);
-        told = told;
+        distinct = subst (AreDistinct plan p) (sym behind.hears.marked.place)
+            (followed.distinct behind.superframes behind.told);
       }
 
   -- what is told of it is told of the channel on its row
@@ -134,37 +145,37 @@ module _ (width : Width) (plan : CellPlan) (t : Tuning) (is : IsReceivable width
       told b.p (plan.link.start + m.sample)
       ≡ told_followed (told_behind plan told) (Some traffic) (told_with_sync plan plan.sync)
   told_there traffic m told b =
-      ap (told b.p) b.hears.marked.place
+      let hears = b.behind.hears in
+      ap (told b.p) hears.marked.place
       ∙ sym
       (on_row width plan b.p traffic.row
-      (λ (q : TrafficPlan). told q (98304 * b.superframes)) is b.hears.sent
-      b.hears.assigned.row)
-      ∙ sym (ap (told_followed (told_behind plan told) (Some traffic)) b.told)
+      (λ (q : TrafficPlan). told q (98304 * b.behind.superframes)) is.receivable hears.sent
+      hears.assigned.row)
+      ∙ sym (ap (told_followed (told_behind plan told) (Some traffic)) b.behind.told)
 
   module _ (heard : ℕ → Traffic → Mark → List Event) (told : TrafficPlan → ℕ → List Event)
-      (comes : ComesBack width plan t heard told) where
+      (comes : ComesBack width plan t samples heard told) where
     -- what is heard by the mark of all samples, where it is set and a channel is followed, and else
     behind_last : (followed : Option Traffic) (last : Option Mark) → t.traffic ≡ followed →
-        mark t (made_samples plan) t.count ≡ last → FollowsSent plan followed →
+        mark t samples t.count ≡ last → FollowsSent plan followed →
         flat_map (λ n. if_followed (heard n) followed last) (places (plan.link.samples + 1))
         ≡ told_followed (told_behind plan told) followed (told_with_sync plan plan.sync)
     behind_last None last assigned set follows = none_known (places (plan.link.samples + 1))
     behind_last (Some traffic) None assigned unset follows =
         none_known (places (plan.link.samples + 1))
         ∙ sym
-        (ap (told_followed (told_behind plan told) (Some traffic)) (untold plan.sync refl unset))
+        (ap (told_followed (told_behind plan told) (Some traffic)) (untold_in plan.sync refl unset))
     behind_last (Some traffic) (Some m) assigned set follows =
         let b = heard_behind_mark traffic m set follows in
-        comes.back b.p traffic m b.superframes assigned set b.hears b.one b.distinct
+        comes.back b.p traffic m b.behind.superframes assigned set b.behind.hears b.one b.distinct
         ∙ told_there traffic m told b
 
     -- by the mark that each number of samples has
     all_heard : FollowsSent plan t.traffic →
-        flat_map (λ n. if_followed (heard n) t.traffic (mark t (made_samples plan) n))
+        flat_map (λ n. if_followed (heard n) t.traffic (mark t samples n))
         (places (plan.link.samples + 1))
         ≡ told_followed (told_behind plan told) t.traffic (told_with_sync plan plan.sync)
     all_heard follows =
-        let samples = made_samples plan in
         let last = mark t samples t.count in
         let count = tuned.count in
         flat_map_ext_places (λ n. if_followed (heard n) t.traffic (mark t samples n))
@@ -172,21 +183,26 @@ module _ (width : Width) (plan : CellPlan) (t : Tuning) (is : IsReceivable width
         (λ n below. comes.once n (omega (arith, below, count)))
         ∙ behind_last t.traffic last refl refl follows
 
+-- of a clean link
+pub untold : (width : Width) (plan : CellPlan) (t : Tuning) → IsReceivable width plan →
+    IsOnPath plan t → (channel : Option SyncPlan) → plan.sync ≡ channel →
+    mark t (made_samples plan) t.count ≡ None → told_with_sync plan channel ≡ None
+untold width plan t is tuned = untold_in (clean_sync width plan is) tuned
+
+-- no handoff is directed after the mark of all samples
+pub undirected : (plan : CellPlan) (t : Tuning) (samples : List Sample) → IsOnPath plan t →
+    length samples ≡ plan.link.samples → All IsNotDirected (events t samples) →
+    (traffic : Traffic) (m : Mark) → t.traffic ≡ Some traffic → mark t samples t.count ≡ Some m →
+    IsUndirected t traffic m samples plan.link.samples
+undirected plan t samples tuned long not_directed traffic m followed set =
+    let last : mark t samples (length samples) ≡ Some m =
+    ap (mark t samples) (long ∙ sym tuned.count) ∙ set in
+    subst (IsUndirected t traffic m samples) long
+    (undirected_behind t (one_near t plan tuned) samples not_directed traffic m followed last)
+
 module _ (width : Width) (plan : CellPlan) (t : Tuning) (is : IsReceivable width plan)
     (tuned : IsOnPath plan t)
     (not_directed : All IsNotDirected (events t (made_samples plan))) where
-  -- no handoff is directed behind the mark of all samples
-  pub undirected : (traffic : Traffic) (m : Mark) → t.traffic ≡ Some traffic →
-      mark t (made_samples plan) t.count ≡ Some m →
-      IsUndirected t traffic m (made_samples plan) plan.link.samples
-  undirected traffic m followed set =
-      let samples = made_samples plan in
-      let long : length samples ≡ plan.link.samples = length-made plan in
-      let last : mark t samples (length samples) ≡ Some m =
-      ap (mark t samples) (long ∙ sym tuned.count) ∙ set in
-      subst (IsUndirected t traffic m samples) long
-      (undirected_behind t (one_near t plan tuned) samples not_directed traffic m followed last)
-
   -- its events are the frames that are sent
   pub frames_all : FollowsSent plan t.traffic →
       flat_map (frame_events_at t (made_samples plan)) (places (plan.link.samples + 1))
@@ -194,7 +210,7 @@ module _ (width : Width) (plan : CellPlan) (t : Tuning) (is : IsReceivable width
   unfolding traffic_sent frames_sent frame_events_at
   frames_all follows =
       let samples = made_samples plan in
-      all_heard width plan t is tuned (λ n traffic m. frames_at t traffic m samples n)
+      all_heard (clean_sync width plan is) tuned (λ n traffic m. frames_at t traffic m samples n)
       (frames_of_channel plan)
       (record {
         once = λ n most.
@@ -202,7 +218,7 @@ module _ (width : Width) (plan : CellPlan) (t : Tuning) (is : IsReceivable width
             (frames_from_mark t (one_near t plan tuned) t.traffic samples n);
         back = λ p traffic m superframes assigned set hears one.
             sent_frames_back width plan p t traffic m superframes hears one
-            (undirected traffic m assigned set);
+            (undirected plan t samples tuned (length-made plan) not_directed traffic m assigned set);
       }) follows
 
   -- and the messages that their signaling spells
@@ -212,7 +228,7 @@ module _ (width : Width) (plan : CellPlan) (t : Tuning) (is : IsReceivable width
   unfolding signaling_sent messages_sent message_events_at
   messages_all follows =
       let samples = made_samples plan in
-      all_heard width plan t is tuned (λ n traffic m. messages_at t traffic m samples n)
+      all_heard (clean_sync width plan is) tuned (λ n traffic m. messages_at t traffic m samples n)
       (messages_of_channel plan)
       (record {
         once = λ n most.
@@ -220,5 +236,5 @@ module _ (width : Width) (plan : CellPlan) (t : Tuning) (is : IsReceivable width
             (messages_from_mark t (one_near t plan tuned) t.traffic samples n);
         back = λ p traffic m superframes assigned set hears one.
             sent_messages_back width plan p t traffic m superframes hears one
-            (undirected traffic m assigned set);
+            (undirected plan t samples tuned (length-made plan) not_directed traffic m assigned set);
       }) follows

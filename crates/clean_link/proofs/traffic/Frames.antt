@@ -1,25 +1,30 @@
 -- The frames of a traffic channel come back: each received one is heard at its own end, as it was
 -- sent where it is distinct.
 use Rattle.clean_link.proofs.Common.{◌≡◌, ℕ, zero, suc, ◌+◌, ◌-◌, ◌*◌, ◌/◌, ◌%◌, ◌<◌, ◌≤◌, ⊎_elim, Bool, true, false, List, [], ◌∷◌, length}
-use Rattle.clean_link.proofs.Common.{cases_lt, inl, inr, map, filter, take, drop, refl, sym, ap, ◌∙◌, arith, subst, nat_le, cond, pos, All}
+use Rattle.clean_link.proofs.Common.{cases_lt, inl, inr, map, filter, take, drop, refl, sym, ap, ◌∙◌, arith, subst, nat_le, cond, All}
 use Rattle.clean_link.proofs.Common.{flat_map, and_from, and_parts, cases_Bool, false_from_ne_true, le-leb, leb-true, All-head, All-tail}
-use Rattle.clean_link.proofs.Common.{places, Sample, Width, traffic_mask, power_places, kept_count, Decoded, sent_frame, Data, made_samples}
-use Rattle.clean_link.proofs.Common.{frames_of, cycled_frame, set_one, IsTrafficFrame, CellPlan, TrafficPlan, TrafficFrame, frame_softs}
-use Rattle.clean_link.proofs.Common.{is_in_file, known_at, known_now, Stream, frames_at, power_bits_at, decoded_at, frame_event}
-use Rattle.clean_link.proofs.Common.{frame_heard, frames_by, frame_state, frames_bound, frames_now, replaced_in, stream_of, Tuning, Event}
-use Rattle.clean_link.proofs.Common.{Leg, Mark, Traffic, filter_enough, flat_map_ext_filter_places, flat_map_ext_places, soft_strength}
-use Rattle.clean_link.proofs.Common.{frame_chip, frame_ends, frame_told, frames_of_channel, is_received, received_frames, replaced_of}
-use Rattle.clean_link.proofs.Common.{sent_power_bits, sent_frame_event, AreDistinct, IsDistinctFrame, IsOnePilot, SendsSetOne, end_chip}
-use Rattle.clean_link.proofs.Common.{EachFrameIsHeard, HearsTraffic, IsHeardAs, IsUndirected, SentFramesComeBack, TrafficFramesComeBack}
-use Rattle.clean_link.proofs.pages.InOrder.{given_in_order, IsBound}
+use Rattle.clean_link.proofs.Common.{places, Sample, Width, traffic_mask, power_places, Decoded, sent_frame, Data, made_samples, frames_of}
+use Rattle.clean_link.proofs.Common.{cycled_frame, set_one, IsTrafficFrame, CellPlan, TrafficPlan, TrafficFrame, frame_softs, is_in_file}
+use Rattle.clean_link.proofs.Common.{known_at, known_now, Stream, frames_at, power_bits_at, decoded_at, frame_event, frame_heard, frames_by}
+use Rattle.clean_link.proofs.Common.{frame_state, frames_bound, frames_now, replaced_in, stream_of, Tuning, Event, Leg, Mark, Traffic}
+use Rattle.clean_link.proofs.Common.{filter_enough, flat_map_ext_filter_places, flat_map_ext_places, soft_strength, frame_chip, frame_ends}
+use Rattle.clean_link.proofs.Common.{frame_told, frames_of_channel, is_received, received_frames, replaced_of, sent_power_bits}
+use Rattle.clean_link.proofs.Common.{sent_frame_event, AreDistinct, IsDistinctFrame, IsOnePilot, SendsSetOne, end_chip, EachFrameIsHeard}
+use Rattle.clean_link.proofs.Common.{HearsTraffic, IsHeardAs, IsUndirected, SentFramesComeBack, TrafficFramesComeBack, ℤ, signs_frame}
+use Rattle.clean_link.proofs.Common.{Bears, IsNear, NoisyEachFrameIsHeard, NoisySentFramesComeBack, NoisyTrafficFramesComeBack}
+use Rattle.clean_link.proofs.Common.{ShowsTraffic, Option, option_to_list, append-nil, CheckForm, messages_at, capsule_with, message_at}
+use Rattle.clean_link.proofs.Common.{message_events, message_heard, messages_by, signal_at, signal_in, signal_of, signals_before, has_frame}
+use Rattle.clean_link.proofs.Common.{filter_ext_places, message_told, messages_of_channel, signal_sent, signals_in, signals_received}
+use Rattle.clean_link.proofs.Common.{SentMessagesComeBack, NoisySentMessagesComeBack, IsNotDirected, NoneIsDirected, NoneIsDirectedByNoise}
+use Rattle.clean_link.proofs.pages.Back.{given_in_order, IsBound}
 use Rattle.clean_link.proofs.sendings.Order.{flat_map-filter, given_where, moved_up}
-use Rattle.clean_link.proofs.traffic.PowerBits.{power_bits_back, power_pairs}
+use Rattle.clean_link.proofs.noise.Near.{length-near, near-self}
+use Rattle.clean_link.proofs.traffic.Signs.{noisy_power_bits, power_pairs, lawful_traffic, noisy_traffic_signs, same_state, traffic_borne}
+use Rattle.clean_link.proofs.traffic.Signs.{traffic_signs}
 use Rattle.clean_link.proofs.signal.Samples.{length-made}
-use Rattle.clean_link.proofs.traffic.OnePilot.{one_now, one_stream, one_stream_is}
-use Rattle.clean_link.proofs.traffic.Signs.{heard_shown, lawful_traffic, same_state}
-use Rattle.clean_link.proofs.traffic.Times.{traffic_file_from, traffic_file_to, traffic_known_is, traffic_timed}
-use Rattle.clean_link.proofs.traffic.Steady.{one_pilot_heard}
-use Rattle.clean_link.proofs.traffic.Undirected.{first_legs, first_pilot, frames_of_one}
+use Rattle.clean_link.proofs.traffic.Steady.{one_now, one_stream, one_stream_is, traffic_file_from, traffic_file_to, traffic_known_is}
+use Rattle.clean_link.proofs.traffic.Steady.{traffic_timed, one_pilot_heard, first_legs, first_pilot, frames_of_one, each_of_all}
+use Rattle.clean_link.proofs.traffic.Steady.{one_pilot_before, messages_of_one}
 
 -- ---- one of a list
 
@@ -48,11 +53,11 @@ one_each {A} {B} f (x ∷ xs) = ap (λ (ys : List B). f x ∷ ys) (one_each f xs
 -- ---- one frame
 
 -- it has as many information bits as its rate
-pub sized : (width : Width) (plan : CellPlan) (p : TrafficPlan) (t : Tuning) (traffic : Traffic)
-    (m : Mark) (legs : ℕ → List Leg) (superframes k : ℕ) (f : TrafficFrame) →
+pub sized : {width : Width} {plan : CellPlan} {p : TrafficPlan} {t : Tuning} {traffic : Traffic}
+    {m : Mark} {legs : ℕ → List Leg} {superframes k : ℕ} {f : TrafficFrame} →
     HearsTraffic width plan p t traffic m superframes →
     IsHeardAs plan p t traffic m legs superframes k f → IsTrafficFrame f
-sized width plan p t traffic m legs superframes k f is heard =
+sized {width} {plan} {p} {superframes = superframes} {k = k} {f = f} is heard =
     let frames = set_one p.frames in
     one_taken IsTrafficFrame frames ((4 * superframes + k) % length frames) f
     (lawful_traffic width plan p is.receivable.lawful is.sent).sized.one heard.frame
@@ -62,15 +67,16 @@ pub frame_back : TrafficFramesComeBack
 unfolding decoded_at
 frame_back width plan p t traffic m legs superframes k f is heard distinct =
     let few = (power_pairs (frame_state traffic m k) (traffic_mask traffic.esn)).long in
-    let shown = heard_shown width plan p t traffic m legs superframes k f is heard in
+    let signs = traffic_signs width plan p t traffic m legs superframes k f is heard in
+    let long = (noisy_traffic_signs width plan p t traffic m legs superframes k 0 f (made_samples plan) is
+    heard (near-self 0 (made_samples plan)) (traffic_borne is)).0 in
     sent_frame (soft_strength plan Data p.gain) (replaced_in traffic m k) f.rate f.information
-    (frame_softs (made_samples plan) (stream_of t traffic m legs k) k) shown.strong
-    (omega (arith, few)) shown.long
-    (sized width plan p t traffic m legs superframes k f is heard) shown.shows distinct
+    (frame_softs (made_samples plan) (stream_of t traffic m legs k) k) signs.0 (omega (arith, few)) long
+    (sized is heard) signs.1 distinct
 
 -- what is heard of it
-pub heard_as : (n : ℕ) (f : TrafficFrame) (score : ℕ) (frame : Decoded) (power_bits : List Bool) →
-    frame ≡ record { rate = f.rate; good = true; bits = f.information; score = pos score } →
+pub heard_as : (n : ℕ) (f : TrafficFrame) (score : ℤ) (frame : Decoded) (power_bits : List Bool) →
+    frame ≡ record { rate = f.rate; good = true; bits = f.information; score = score } →
     power_bits ≡ sent_power_bits f → frame_event n frame power_bits ≡ sent_frame_event n f
 heard_as n f score frame power_bits is sent =
     ap (λ (d : Decoded). frame_event n d power_bits) is
@@ -79,7 +85,7 @@ heard_as n f score frame power_bits is sent =
       rate = f.rate;
       good = true;
       bits = f.information;
-      score = pos score;
+      score = score;
     }) bits) sent
 
 -- ---- in a file
@@ -89,11 +95,10 @@ pub bound_enough : (t : Tuning) (traffic : Traffic) (m : Mark) →
     IsBound (one_stream t traffic m) frames_bound
 bound_enough t traffic m n k ends = omega (arith, ends)
 
-module _ (width : Width) (plan : CellPlan) (p : TrafficPlan) (t : Tuning) (traffic : Traffic)
-    (m : Mark) (superframes : ℕ) (is : HearsTraffic width plan p t traffic m superframes)
-    (latest : p.offset ≤ 15) where
-  abbrev samples : List Sample
-  samples = made_samples plan
+module _ {width : Width} {plan : CellPlan} {p : TrafficPlan} {t : Tuning} {traffic : Traffic}
+    {m : Mark} {superframes : ℕ} (is : HearsTraffic width plan p t traffic m superframes) where
+  latest : p.offset ≤ 15
+  latest = (lawful_traffic width plan p is.receivable.lawful is.sent).latest
 
   abbrev stream : Stream
   stream = one_stream t traffic m
@@ -244,105 +249,330 @@ module _ (width : Width) (plan : CellPlan) (p : TrafficPlan) (t : Tuning) (traff
       frame = frame;
     }
 
-    -- a distinct frame is told as it was sent
-    told_is : (k : ℕ) (f : TrafficFrame) → inside k ≡ true →
-        cycled_frame (frames_of plan p) (4 * superframes + k) ≡ f ∷ [] →
-        IsDistinctFrame (replaced_in traffic m k) f →
-        frame_heard t traffic m legs samples (known_at t.count stream k) k ∷ []
-        ≡ frame_told plan p (4 * superframes + k)
-    told_is k f there frame distinct =
-        let heard = heard_there k f there frame in
-        let score = soft_strength plan Data p.gain * kept_count (replaced_in traffic m k) in
-        let ends = frame_ends plan p (4 * superframes + k) in
-        ap (λ (n : ℕ). frame_heard t traffic m legs samples n k ∷ []) (known_is k)
-        ∙ ap (λ (e : Event). e ∷ [])
-        (heard_as ends f score (decoded_at t traffic m legs samples k)
-        (power_bits_at t traffic m legs samples k)
-        (frame_back width plan p t traffic m legs superframes k f is heard distinct)
-        (power_bits_back width plan p t traffic m legs superframes k f is heard))
-        ∙ sym (ap (map (sent_frame_event ends)) frame)
+    module _ (samples : List Sample)
+        (shows : ShowsTraffic plan p t traffic m superframes samples) where
+      -- a distinct frame is told as it was sent
+      told_is : (k : ℕ) (f : TrafficFrame) → inside k ≡ true →
+          cycled_frame (frames_of plan p) (4 * superframes + k) ≡ f ∷ [] →
+          IsDistinctFrame (replaced_in traffic m k) f →
+          frame_heard t traffic m legs samples (known_at t.count stream k) k ∷ []
+          ≡ frame_told plan p (4 * superframes + k)
+      told_is k f there frame distinct =
+          let heard = heard_there k f there frame in
+          let decoded = shows.decoded legs k f heard distinct in
+          let ends = frame_ends plan p (4 * superframes + k) in
+          ap (λ (n : ℕ). frame_heard t traffic m legs samples n k ∷ []) (known_is k)
+          ∙ ap (λ (e : Event). e ∷ [])
+          (heard_as ends f decoded.score (decoded_at t traffic m legs samples k)
+          (power_bits_at t traffic m legs samples k)
+          decoded.same (shows.power_bits legs k f heard))
+          ∙ sym (ap (map (sent_frame_event ends)) frame)
 
-    -- the frames that end at a number of samples
-    frames_each : (n : ℕ) → frames_by t traffic m legs samples n
-        ≡ flat_map (λ k. frame_heard t traffic m legs samples n k ∷ [])
-        (known_now t.count stream n (frames_bound n))
-    unfolding frames_by
-    frames_each n =
-        one_each (frame_heard t traffic m legs samples n) (frames_now t traffic m legs n)
-        ∙ ap (flat_map (λ k. frame_heard t traffic m legs samples n k ∷ []))
-        (one_now t traffic m legs one n)
-
-    module _ (undirected : IsUndirected t traffic m samples plan.link.samples) where
-      -- what is heard at a number of samples
-      heard_at_once : (n : ℕ) → n < t.count + 1 → frames_at t traffic m samples n
+      -- the frames that end at a number of samples
+      frames_each : (n : ℕ) → frames_by t traffic m legs samples n
           ≡ flat_map (λ k. frame_heard t traffic m legs samples n k ∷ [])
           (known_now t.count stream n (frames_bound n))
-      heard_at_once n below =
-          let count = is.tuned.count in
-          let made = length-made plan in
-          frames_of_one t traffic m legs samples one n (omega (arith, below, count, made))
-          (λ k. one_pilot_heard t traffic m samples n k
-          (λ i most. undirected i (omega (arith, most, below, count))))
-          ∙ frames_each n
+      unfolding frames_by
+      frames_each n =
+          one_each (frame_heard t traffic m legs samples n) (frames_now t traffic m legs n)
+          ∙ ap (flat_map (λ k. frame_heard t traffic m legs samples n k ∷ []))
+          (one_now t traffic m legs one n)
 
-      -- what is heard, frame by frame
-      heard_by_frames : flat_map (frames_at t traffic m samples) (places (plan.link.samples + 1))
-          ≡ flat_map (λ k. frame_heard t traffic m legs samples (known_at t.count stream k) k ∷ [])
-          (filter inside (places (frames_bound t.count)))
-      heard_by_frames =
-          let f : ℕ → ℕ → List Event = λ n k. frame_heard t traffic m legs samples n k ∷ [] in
-          ap (λ (n : ℕ). flat_map (frames_at t traffic m samples) (places (n + 1)))
-          (sym is.tuned.count)
-          ∙ flat_map_ext_places (frames_at t traffic m samples)
-          (λ n. flat_map (f n) (known_now t.count stream n (frames_bound n))) (t.count + 1)
-          heard_at_once
-          ∙ given_in_order stream (traffic_timed t traffic m is.tuned.alone) frames_bound
-          (bound_enough t traffic m) f
+      module _ (undirected : IsUndirected t traffic m samples plan.link.samples) where
+        -- what is heard at a number of samples
+        heard_at_once : (n : ℕ) → n < t.count + 1 → frames_at t traffic m samples n
+            ≡ flat_map (λ k. frame_heard t traffic m legs samples n k ∷ [])
+            (known_now t.count stream n (frames_bound n))
+        heard_at_once n below =
+            let count = is.tuned.count in
+            let made = shows.long in
+            frames_of_one t traffic m legs samples one n (omega (arith, below, count, made))
+            (λ k. one_pilot_heard t traffic m samples n k
+            (λ i most. undirected i (omega (arith, most, below, count))))
+            ∙ frames_each n
 
-      -- so one event is heard for each received frame
-      pub each_heard : flat_map (frames_at t traffic m samples) (places (plan.link.samples + 1)) ≡
-          map (λ frame. frame_heard t traffic m legs samples (frame_ends plan p frame)
-          (frame - 4 * superframes)) (received_frames plan p mark_chip)
-      each_heard =
-          let told : ℕ → Event =
-          λ frame. frame_heard t traffic m legs samples (frame_ends plan p frame)
-          (frame - 4 * superframes) in
-          heard_by_frames
-          ∙ flat_map_ext_filter_places inside
-          (λ k. frame_heard t traffic m legs samples (known_at t.count stream k) k ∷ [])
-          (λ k. told (4 * superframes + k) ∷ []) (frames_bound t.count)
-          (λ k below there.
-          let behind : k ≡ 4 * superframes + k - 4 * superframes = omega arith in
-          ap (λ (n : ℕ). frame_heard t traffic m legs samples n k ∷ []) (known_is k)
-          ∙ ap (λ (j : ℕ).
-          frame_heard t traffic m legs samples (frame_ends plan p (4 * superframes + k)) j ∷ [])
-          behind)
-          ∙ sym (by_marks_frames (λ frame. told frame ∷ []))
-          ∙ sym (one_each told (received_frames plan p mark_chip))
+        -- what is heard, frame by frame
+        heard_by_frames : flat_map (frames_at t traffic m samples) (places (plan.link.samples + 1))
+            ≡ flat_map (λ k. frame_heard t traffic m legs samples (known_at t.count stream k) k ∷ [])
+            (filter inside (places (frames_bound t.count)))
+        heard_by_frames =
+            let f : ℕ → ℕ → List Event = λ n k. frame_heard t traffic m legs samples n k ∷ [] in
+            ap (λ (n : ℕ). flat_map (frames_at t traffic m samples) (places (n + 1)))
+            (sym is.tuned.count)
+            ∙ flat_map_ext_places (frames_at t traffic m samples)
+            (λ n. flat_map (f n) (known_now t.count stream n (frames_bound n))) (t.count + 1)
+            heard_at_once
+            ∙ given_in_order stream (traffic_timed t traffic m is.tuned.alone) frames_bound
+            (bound_enough t traffic m) f
 
-      -- and where all of them are distinct, what was sent
-      pub sent_heard : SendsSetOne p → AreDistinct plan p mark_chip →
-          flat_map (frames_at t traffic m samples) (places (plan.link.samples + 1)) ≡
-          frames_of_channel plan p mark_chip
-      sent_heard some distinct =
-          heard_by_frames
-          ∙ flat_map_ext_filter_places inside
-          (λ k. frame_heard t traffic m legs samples (known_at t.count stream k) k ∷ [])
-          (λ k. frame_told plan p (4 * superframes + k)) (frames_bound t.count)
-          (λ k below there.
-          let (f, frame) = frame_there some k in
-          told_is k f there frame (distinct_there distinct k f there frame))
-          ∙ sym (by_marks_frames (frame_told plan p))
+        -- so one event is heard for each received frame
+        pub each_heard : flat_map (frames_at t traffic m samples) (places (plan.link.samples + 1)) ≡
+            map (λ frame. frame_heard t traffic m legs samples (frame_ends plan p frame)
+            (frame - 4 * superframes)) (received_frames plan p mark_chip)
+        each_heard =
+            let told : ℕ → Event =
+            λ frame. frame_heard t traffic m legs samples (frame_ends plan p frame)
+            (frame - 4 * superframes) in
+            heard_by_frames
+            ∙ flat_map_ext_filter_places inside
+            (λ k. frame_heard t traffic m legs samples (known_at t.count stream k) k ∷ [])
+            (λ k. told (4 * superframes + k) ∷ []) (frames_bound t.count)
+            (λ k below there.
+            let behind : k ≡ 4 * superframes + k - 4 * superframes = omega arith in
+            ap (λ (n : ℕ). frame_heard t traffic m legs samples n k ∷ []) (known_is k)
+            ∙ ap (λ (j : ℕ).
+            frame_heard t traffic m legs samples (frame_ends plan p (4 * superframes + k)) j ∷ [])
+            behind)
+            ∙ sym (by_marks_frames (λ frame. told frame ∷ []))
+            ∙ sym (one_each told (received_frames plan p mark_chip))
+
+        -- and where all of them are distinct, what was sent
+        pub sent_heard : SendsSetOne p → AreDistinct plan p mark_chip →
+            flat_map (frames_at t traffic m samples) (places (plan.link.samples + 1)) ≡
+            frames_of_channel plan p mark_chip
+        sent_heard some distinct =
+            heard_by_frames
+            ∙ flat_map_ext_filter_places inside
+            (λ k. frame_heard t traffic m legs samples (known_at t.count stream k) k ∷ [])
+            (λ k. frame_told plan p (4 * superframes + k)) (frames_bound t.count)
+            (λ k below there.
+            let (f, frame) = frame_there some k in
+            told_is k f there frame (distinct_there distinct k f there frame))
+            ∙ sym (by_marks_frames (frame_told plan p))
+
+-- ---- near samples show the channel's frames
+
+pub noisy_frame_back : NoisyTrafficFramesComeBack
+unfolding decoded_at
+noisy_frame_back width plan p t traffic m legs superframes k e f samples is heard near bears distinct =
+    let few = (power_pairs (frame_state traffic m k) (traffic_mask traffic.esn)).long in
+    let signs = noisy_traffic_signs width plan p t traffic m legs superframes k e f samples is heard near
+    bears in
+    record {
+      score = _;
+      same = signs_frame (replaced_in traffic m k) f.rate f.information
+          (frame_softs samples (stream_of t traffic m legs k) k) (omega (arith, few)) signs.0
+          (sized is heard) signs.1 distinct;
+    }
+
+pub noisy_traffic : {width : Width} {plan : CellPlan} {p : TrafficPlan} {t : Tuning}
+    {traffic : Traffic} {m : Mark} {superframes : ℕ} →
+    HearsTraffic width plan p t traffic m superframes → (e : ℕ) (samples : List Sample) →
+    IsNear e samples (made_samples plan) → Bears plan p.gain e →
+    ShowsTraffic plan p t traffic m superframes samples
+noisy_traffic {width} {plan} {p} {t} {traffic} {m} {superframes} is e samples near bears = record {
+  long = length-near e samples (made_samples plan) near ∙ length-made plan;
+  decoded = λ legs k f heard distinct.
+      noisy_frame_back width plan p t traffic m legs superframes k e f samples is heard near bears
+      distinct;
+  power_bits = λ legs k f heard.
+      noisy_power_bits width plan p t traffic m legs superframes k e f samples is heard near bears;
+}
+
+-- so do those of a clean link
+pub clean_traffic : {width : Width} {plan : CellPlan} {p : TrafficPlan} {t : Tuning}
+    {traffic : Traffic} {m : Mark} {superframes : ℕ} →
+    HearsTraffic width plan p t traffic m superframes →
+    ShowsTraffic plan p t traffic m superframes (made_samples plan)
+clean_traffic {plan = plan} is =
+    noisy_traffic is 0 (made_samples plan) (near-self 0 (made_samples plan)) (traffic_borne is)
 
 -- ---- the laws
 
+pub noisy_each_frame : NoisyEachFrameIsHeard
+noisy_each_frame width plan p t traffic m superframes e samples is near bears legs undirected one =
+    each_heard is legs one samples (noisy_traffic is e samples near bears) undirected
+
+pub noisy_sent_frames : NoisySentFramesComeBack
+noisy_sent_frames width plan p t traffic m superframes e samples is near bears some undirected distinct =
+    sent_heard is (first_legs traffic m) (first_pilot traffic m) samples
+    (noisy_traffic is e samples near bears) undirected some distinct
+
 pub each_frame_heard : EachFrameIsHeard
 each_frame_heard width plan p t traffic m superframes legs is undirected one =
-    each_heard width plan p t traffic m superframes is
-    (lawful_traffic width plan p is.receivable.lawful is.sent).latest legs one undirected
+    noisy_each_frame width plan p t traffic m superframes 0 (made_samples plan) is
+    (near-self 0 (made_samples plan)) (traffic_borne is) legs undirected one
 
 pub sent_frames_back : SentFramesComeBack
-sent_frames_back width plan p t traffic m superframes is some undirected distinct =
-    let lawful = lawful_traffic width plan p is.receivable.lawful is.sent in
-    sent_heard width plan p t traffic m superframes is lawful.latest (first_legs traffic m)
-    (first_pilot traffic m) undirected some distinct
+sent_frames_back width plan p t traffic m superframes is =
+    noisy_sent_frames width plan p t traffic m superframes 0 (made_samples plan) is
+    (near-self 0 (made_samples plan)) (traffic_borne is)
+
+-- ---- messages
+
+-- what one thing gives, of a list that holds it alone
+of_one : {A B : Type 0} (f : A → List B) (xs : List A) (x : A) → xs ≡ x ∷ [] → flat_map f xs ≡ f x
+of_one f xs x is = ap (flat_map f) is ∙ append-nil (f x)
+
+module _ {width : Width} {plan : CellPlan} {p : TrafficPlan} {t : Tuning} {traffic : Traffic}
+    {m : Mark} {superframes : ℕ} (is : HearsTraffic width plan p t traffic m superframes)
+    (some : SendsSetOne p)
+    (distinct : AreDistinct plan p (plan.link.start + m.sample)) (legs : ℕ → List Leg)
+    (one : (k : ℕ) → IsOnePilot traffic (legs k)) (samples : List Sample)
+    (shows : ShowsTraffic plan p t traffic m superframes samples) where
+  abbrev channel : Stream
+  channel = one_stream t traffic m
+
+  abbrev first_chip : ℕ
+  first_chip = plan.link.start + m.sample
+
+  -- the signaling of a frame is what was sent in it
+  signal_is : (k : ℕ) (f : TrafficFrame) → is_in_file t.count channel k ≡ true →
+      cycled_frame (frames_of plan p) (4 * superframes + k) ≡ f ∷ [] →
+      signal_at t traffic m legs samples k ≡ signal_sent f
+  unfolding signal_at
+  signal_is k f there frame =
+      let apart =
+      distinct_there is distinct k f there frame in
+      let heard : IsHeardAs plan p t traffic m legs superframes k f =
+      heard_there is legs one k f there frame in
+      ap signal_of (shows.decoded legs k f heard apart).same
+
+  signals_is : (k : ℕ) → is_in_file t.count channel k ≡ true →
+      option_to_list (signal_at t traffic m legs samples k)
+      ≡ signals_in plan p (4 * superframes + k)
+  signals_is k there =
+      let (f, frame) = frame_there is some k in
+      ap option_to_list (signal_is k f there frame)
+      ∙ sym
+      (of_one (λ (x : TrafficFrame). option_to_list (signal_sent x))
+      (cycled_frame (frames_of plan p) (4 * superframes + k)) f frame)
+
+  -- and so is that of the frames before it
+  before_is : (k : ℕ) →
+      signals_before t traffic m legs samples k
+      ≡ signals_received plan p first_chip (4 * superframes + k)
+  unfolding signals_before
+  before_is k =
+      ap (flat_map (λ j. option_to_list (signal_at t traffic m legs samples j)))
+      (filter_ext_places (has_frame t traffic m legs) (is_in_file t.count channel) k
+      (λ j below.
+      ap (λ (s : Stream). is_in_file t.count s j) (one_stream_is t traffic m legs j (one j))))
+      ∙ flat_map_ext_filter_places (is_in_file t.count channel)
+      (λ j. option_to_list (signal_at t traffic m legs samples j)) (λ j. signals_in plan p (4 * superframes + j)) k
+      (λ j below there. signals_is j there)
+      ∙ sym (by_marks_numbers is (signals_in plan p) k)
+
+  -- so a message is told as the sent frames spell it
+  message_is : (k : ℕ) → is_in_file t.count channel k ≡ true →
+      message_heard t traffic m legs samples (known_at t.count channel k) k
+      ≡ message_told plan p first_chip (4 * superframes + k)
+  unfolding message_at
+  message_is k there =
+      let number = 4 * superframes + k in
+      let (f, frame) = frame_there is some k in
+      let told : ℕ → CheckForm → List (List Bool) → Option (List Bool) → List Event =
+      λ n form before signal. message_events n (signal_in form (capsule_with before signal)) in
+      let before = signals_before t traffic m legs samples k in
+      let signal = signal_at t traffic m legs samples k in
+      let known = known_at t.count channel k in
+      let ends = frame_ends plan p number in
+      ap (λ (n : ℕ). told n t.check16 before signal) (known_is is k)
+      ∙ ap (λ (form : CheckForm). told ends form before signal) is.tuned.checks_of_16
+      ∙ ap (λ (parts : List (List Bool)). told ends plan.cell.check16 parts signal) (before_is k)
+      ∙ ap (told ends plan.cell.check16 (signals_received plan p first_chip number))
+      (signal_is k f there frame)
+      ∙ sym
+      (of_one
+      (λ (x : TrafficFrame). told ends plan.cell.check16 (signals_received plan p first_chip number)
+      (signal_sent x)) (cycled_frame (frames_of plan p) number) f frame)
+
+  -- the messages that are known at a number of samples
+  messages_each : (n : ℕ) → messages_by t traffic m legs samples n
+      ≡ flat_map (message_heard t traffic m legs samples n)
+      (known_now t.count channel n (frames_bound n))
+  unfolding messages_by
+  messages_each n =
+      ap (flat_map (message_heard t traffic m legs samples n)) (one_now t traffic m legs one n)
+
+  -- all of them
+  pub messages_by_one :
+      flat_map (messages_by t traffic m legs samples) (places (plan.link.samples + 1))
+      ≡ messages_of_channel plan p first_chip
+  messages_by_one =
+      let heard : ℕ → ℕ → List Event = message_heard t traffic m legs samples in
+      ap (λ (n : ℕ). flat_map (messages_by t traffic m legs samples) (places (n + 1)))
+      (sym is.tuned.count)
+      ∙ flat_map_ext_places (messages_by t traffic m legs samples)
+      (λ n. flat_map (heard n) (known_now t.count channel n (frames_bound n))) (t.count + 1)
+      (λ n below. messages_each n)
+      ∙ given_in_order channel (traffic_timed t traffic m is.tuned.alone) frames_bound
+      (bound_enough t traffic m) heard
+      ∙ flat_map_ext_filter_places (is_in_file t.count channel) (λ k. heard (known_at t.count channel k) k)
+      (λ k. message_told plan p first_chip (4 * superframes + k)) (frames_bound t.count)
+      (λ k below there. message_is k there)
+      ∙ sym (by_marks_frames is (message_told plan p first_chip))
+
+  -- as they are heard where no handoff is directed
+  pub messages_heard : IsUndirected t traffic m samples plan.link.samples →
+      flat_map (messages_at t traffic m samples) (places (plan.link.samples + 1))
+      ≡ messages_of_channel plan p first_chip
+  messages_heard undirected =
+      let made = shows.long in
+      flat_map_ext_places (messages_at t traffic m samples) (messages_by t traffic m legs samples)
+      (plan.link.samples + 1)
+      (λ n below.
+      messages_of_one t traffic m legs samples one n (omega (arith, below, made))
+      (λ k. one_pilot_heard t traffic m samples n k
+      (λ i most. undirected i (omega (arith, most, below)))) is.tuned.alone)
+      ∙ messages_by_one
+
+-- ---- the law
+
+pub sent_messages_back : SentMessagesComeBack
+sent_messages_back width plan p t traffic m superframes is some undirected distinct =
+    messages_heard is some distinct
+    (first_legs traffic m) (first_pilot traffic m) (made_samples plan) (clean_traffic is) undirected
+
+pub noisy_messages : NoisySentMessagesComeBack
+noisy_messages width plan p t traffic m superframes e samples is near bears some undirected distinct =
+    messages_heard is some distinct (first_legs traffic m) (first_pilot traffic m) samples
+    (noisy_traffic is e samples near bears) undirected
+
+module _ {width : Width} {plan : CellPlan} {p : TrafficPlan} {t : Tuning} {traffic : Traffic}
+    {m : Mark} {superframes : ℕ} (is : HearsTraffic width plan p t traffic m superframes)
+    (some : SendsSetOne p)
+    (distinct : AreDistinct plan p (plan.link.start + m.sample))
+    (none : All IsNotDirected (messages_of_channel plan p (plan.link.start + m.sample)))
+    (samples : List Sample) (shows : ShowsTraffic plan p t traffic m superframes samples) where
+  abbrev legs : ℕ → List Leg
+  legs = first_legs traffic m
+
+  -- the one pilot tells what is sent
+  none_of_one : (n : ℕ) → n ≤ plan.link.samples →
+      All IsNotDirected (messages_by t traffic m legs samples n)
+  unfolding places
+  none_of_one n most =
+      let sent = messages_by_one is some distinct legs (first_pilot traffic m) samples shows in
+      each_of_all IsNotDirected (messages_by t traffic m legs samples) 0 (plan.link.samples + 1) n
+      (omega arith) (omega (arith, most)) (subst (All IsNotDirected) (sym sent) none)
+
+  -- and it is heard alone at a number of samples where no message before it is a direction
+  none_before : (n : ℕ) → n ≤ plan.link.samples + 1 → (i : ℕ) → i < n →
+      All IsNotDirected (messages_at t traffic m samples i)
+  none_before zero most i less = absurd (omega (arith, less))
+  none_before (suc n) most i less =
+      let before = none_before n (omega (arith, most)) in
+      elim (cases_lt i n) [
+        | inl earlier ↦ before i earlier
+        | inr last ↦
+            let here : n ≡ i = omega (arith, less, last) in
+            let made = shows.long in
+            let heard = messages_of_one t traffic m legs samples (first_pilot traffic m) n
+            (omega (arith, most, made))
+            (λ k. one_pilot_before t traffic m samples n k before) is.tuned.alone in
+            subst (λ (j : ℕ). All IsNotDirected (messages_at t traffic m samples j)) here
+            (subst (All IsNotDirected) (sym heard) (none_of_one n (omega (arith, most))))
+      ]
+
+-- ---- the law
+
+pub none_directed : NoneIsDirected
+none_directed width plan p t traffic m superframes is some distinct none i most =
+    none_before is some distinct none (made_samples plan) (clean_traffic is)
+    (plan.link.samples + 1) (omega arith) i (omega (arith, most))
+
+pub noisy_none_directed : NoneIsDirectedByNoise
+noisy_none_directed width plan p t traffic m superframes e samples is near bears some distinct none i most =
+    none_before is some distinct none samples (noisy_traffic is e samples near bears)
+    (plan.link.samples + 1) (omega arith) i (omega (arith, most))

@@ -3,7 +3,103 @@ use Rattle.clean_link.proofs.Common.{◌≡◌, ℕ, zero, suc, ◌+◌, ◌-◌
 use Rattle.clean_link.proofs.Common.{get_or, drop, replicate, refl, sym, ap, ◌∙◌, arith, filter, if◌then◌else◌, list_all, list_any}
 use Rattle.clean_link.proofs.Common.{and_from, and_parts, drop_at, drop-drop, xor, add, length_add, g0, g1, state_after, symbol, before}
 use Rattle.clean_link.proofs.Common.{behind, length-state_after, pair, state_after-append, state_after-none, is_hidden, is_kept, is_seen}
-use Rattle.clean_link.proofs.Common.{stays_apart}
+use Rattle.clean_link.proofs.Common.{stays_apart, ◌/◌, ⊎_elim, nat_eq, cases_Bool, eq-eqb, eqb-true, not-true, or_cases, or_left, or_right}
+use Rattle.clean_link.proofs.Common.{list_all_at, list_any-append, places, places-none, places-more, length-places, get_or-places}
+use Rattle.clean_link.proofs.Common.{get_or-map-places, address, data_shape, place, sent, size, address-place, place_lt, AgreeElsewhere}
+use Rattle.clean_link.proofs.Common.{is_replaced, lost_symbols, subst, length-append, code_symbols, symbols_at, quality_indicator}
+use Rattle.clean_link.proofs.Common.{quality_of, traffic_codeword, R9600, R4800, R2400, R1200, codeword_fills, codewords_same}
+use Rattle.clean_link.proofs.Common.{frame_codeword, shows_full_rate, tells_all_bits, full_rate_symbols, FullRateFramesAreDistinct, binary}
+use Rattle.clean_link.proofs.Common.{check_bits, IsAllowed, Zero, IsUnshared, frame_bits, frame_symbols, replaced_places, some_information}
+use Rattle.clean_link.proofs.Common.{AFullRateFrameIsDistinct, ZerosAreShared}
+use Rattle.symbol_path.specs.declared.kinds.Kind.TheVariants.{Data}
+use Rattle.conv_code.proofs.Pairs.{AreAt}
+
+-- what is true of all numbers below n
+pub at_each : (p : ℕ → Bool) (n j : ℕ) → list_all p (places n) ≡ true → j < n → p j ≡ true
+at_each p n j all below =
+    let here : get_or (places n) j 0 ≡ j = get_or-places n j 0 below in
+    ⊎_elim
+    (λ (there : p j ≡ true). there)
+    (λ (gone : p j ≡ false).
+    let none = list_all_at p (places n) j 0 (omega (arith, below, length-places n))
+    (ap p here ∙ gone) in
+    absurd (cc))
+    (cases_Bool (p j))
+
+-- an `or` of which the last is false
+before_is : (before here : Bool) → here ≡ false → (before || (here || false)) ≡ true →
+    before ≡ true
+before_is true here gone any = refl
+before_is false true gone any = absurd (cc)
+before_is false false gone any = any
+
+-- what is true of one of them
+pub at_one : (p : ℕ → Bool) (n : ℕ) → list_any p (places n) ≡ true →
+    (j : ℕ) × (j < n) × (p j ≡ true)
+at_one p zero any =
+    let none : list_any p (places 0) ≡ false = rw places-none refl in
+    absurd (cc)
+at_one p (suc n) any = ⊎_elim
+    (λ (here : p n ≡ true). (n, omega arith, here))
+    (λ (not_here : p n ≡ false).
+    let one : suc n ≡ n + 1 = omega arith in
+    let before : list_any p (places n) ≡ true =
+    before_is (list_any p (places n)) (p n) not_here
+    (sym (list_any-append p (places n) (n ∷ []))
+    ∙ ap (list_any p) (sym (places-more n))
+    ∙ ap (λ (k : ℕ). list_any p (places k)) (sym one)
+    ∙ any) in
+    let found = at_one p n before in
+    (found.0, omega (arith, found.1), found.2))
+    (cases_Bool (p n))
+
+-- the symbol that is sent at a code symbol's place
+sent_there : (repeats : ℕ) (symbols : List Bool) (a : ℕ) → a < 384 →
+    get_or (sent data_shape repeats symbols) (place data_shape a) false
+    ≡ get_or symbols (a / repeats) false
+unfolding sent
+sent_there repeats symbols a below =
+    get_or-map-places (λ i. get_or symbols (address data_shape i / repeats) false) (size data_shape)
+    (place data_shape a) false (place_lt Data a below)
+    ∙ ap (λ (n : ℕ). get_or symbols (n / repeats) false) (address-place Data a below)
+
+-- a replaced place loses its code symbol
+replaced_lost : (replaced : List ℕ) (p : ℕ) → is_replaced replaced p ≡ true →
+    is_replaced (lost_symbols replaced) (address data_shape p) ≡ true
+replaced_lost [] p out = out
+replaced_lost (q ∷ places) p out =
+    let a = address data_shape p in
+    ⊎_elim
+    (λ (here : nat_eq p q ≡ true).
+    or_left (nat_eq a (address data_shape q)) (is_replaced (lost_symbols places) a)
+    (eq-eqb a (address data_shape q) (ap (address data_shape) (eqb-true p q here))))
+    (λ (behind : is_replaced places p ≡ true).
+    or_right (nat_eq a (address data_shape q)) (is_replaced (lost_symbols places) a)
+    (replaced_lost places p behind))
+    (or_cases (nat_eq p q) (is_replaced places p) out)
+
+-- so a kept symbol's place isn't replaced
+not_replaced : (replaced : List ℕ) (a : ℕ) → a < 384 → is_kept (lost_symbols replaced) a ≡ true →
+    is_replaced replaced (place data_shape a) ≡ false
+not_replaced replaced a below kept = ⊎_elim
+    (λ (out : is_replaced replaced (place data_shape a) ≡ true).
+    let lost : is_replaced (lost_symbols replaced) a ≡ true =
+    ap (is_replaced (lost_symbols replaced)) (sym (address-place Data a below))
+    ∙ replaced_lost replaced (place data_shape a) out in
+    let none = not-true (is_replaced (lost_symbols replaced) a) kept in
+    absurd (cc))
+    (λ (left : is_replaced replaced (place data_shape a) ≡ false). left)
+    (cases_Bool (is_replaced replaced (place data_shape a)))
+
+-- where it is kept, two frames that agree elsewhere have the same one
+pub kept_agree : (replaced : List ℕ) (xs ys : List Bool) (r s a : ℕ) → a < 384 →
+    is_kept (lost_symbols replaced) a ≡ true →
+    AgreeElsewhere replaced (sent data_shape r xs) (sent data_shape s ys) →
+    get_or xs (a / r) false ≡ get_or ys (a / s) false
+kept_agree replaced xs ys r s a below kept agree =
+    sym (sent_there r xs a below)
+    ∙ agree (place data_shape a) (place_lt Data a below) (not_replaced replaced a below kept)
+    ∙ sent_there s ys a below
 
 -- ---- sums of codewords
 
@@ -238,3 +334,219 @@ hidden_none lost j (true ∷ bits) all seen are ends =
     let none : list_any (λ bit. bit) (state_after one bits) ≡ false =
     ap (list_any (λ bit. bit)) (sym (state_after-append zeros (true ∷ []) bits) ∙ ends) in
     absurd (cc)
+
+-- ---- the same rate
+
+-- each code symbol is sent once
+sent_once : (symbols : List Bool) (a : ℕ) → get_or symbols (a / 1) false ≡ get_or symbols a false
+sent_once symbols a = let once : a / 1 ≡ a = omega arith in rw once refl
+
+-- a kept symbol is the same
+kept_same : (replaced : List ℕ) (xs ys : List Bool) (a : ℕ) → a < 384 →
+    is_kept (lost_symbols replaced) a ≡ true →
+    AgreeElsewhere replaced (sent data_shape 1 xs) (sent data_shape 1 ys) →
+    get_or xs a false ≡ get_or ys a false
+kept_same replaced xs ys a below kept agree =
+    sym (sent_once xs a) ∙ kept_agree replaced xs ys 1 1 a below kept agree ∙ sent_once ys a
+
+-- so a symbol of the sum is 0 there
+sum_is_none : (generator : List ℕ) (x y : List Bool) (j : ℕ) → length x ≡ length y →
+    symbol generator x j ≡ symbol generator y j → symbol generator (add x y) j ≡ false
+sum_is_none generator x y j long same =
+    symbol_add generator x y j long ∙
+    same_is_none (symbol generator x j) (symbol generator y j) same
+
+-- the sum of two codewords that agree elsewhere is hidden
+sum_hidden : (replaced : List ℕ) (bits bits' : List Bool) → length bits ≡ 192 →
+    length bits' ≡ 192 →
+    AgreeElsewhere replaced (sent data_shape 1 (code_symbols (replicate 8 false) bits))
+    (sent data_shape 1 (code_symbols (replicate 8 false) bits')) →
+    AreHidden (lost_symbols replaced) 0 (replicate 8 false) (add bits bits')
+sum_hidden replaced bits bits' long long' agree =
+    let zeros = replicate 8 false in
+    let x = zeros ++ bits in
+    let y = zeros ++ bits' in
+    let xs = code_symbols zeros bits in
+    let ys = code_symbols zeros bits' in
+    let sum = add bits bits' in
+    let size : length sum ≡ 192 = length_add bits bits' (long ∙ sym long') ∙ long in
+    let both : length x ≡ length y =
+    omega (arith, length-append zeros bits, length-append zeros bits', long, long') in
+    let at_x : (i : ℕ) → i < length sum → AreAt xs i (symbol g0 x i) (symbol g1 x i) =
+    λ i below. symbols_at zeros bits i (omega (arith, below, size, long)) in
+    let at_y : (i : ℕ) → i < length sum → AreAt ys i (symbol g0 y i) (symbol g1 y i) =
+    λ i below. symbols_at zeros bits' i (omega (arith, below, size, long')) in
+    record {
+      first = λ i below kept.
+          let here : 0 + i ≡ i = omega arith in
+          let same = kept_same replaced xs ys (2 * i) (omega (arith, below, size))
+          (rw here at kept) agree in
+          sum_is_none g0 x y i both (sym (at_x i below).even ∙ same ∙ (at_y i below).even);
+      second = λ i below kept.
+          let here : 0 + i ≡ i = omega arith in
+          let same = kept_same replaced xs ys (2 * i + 1) (omega (arith, below, size))
+          (rw here at kept) agree in
+          sum_is_none g1 x y i both (sym (at_x i below).odd ∙ same ∙ (at_y i below).odd);
+    }
+
+-- so two such codewords are the same
+bits_agree : (replaced : List ℕ) (bits bits' : List Bool) → length bits ≡ 192 →
+    length bits' ≡ 192 → drop 184 bits ≡ replicate 8 false → drop 184 bits' ≡ replicate 8 false →
+    tells_all_bits (lost_symbols replaced) ≡ true →
+    AgreeElsewhere replaced (sent data_shape 1 (code_symbols (replicate 8 false) bits))
+    (sent data_shape 1 (code_symbols (replicate 8 false) bits')) →
+    bits ≡ bits'
+bits_agree replaced bits bits' long long' ends ends' tells agree =
+    let sum = add bits bits' in
+    let size : length sum ≡ 192 = length_add bits bits' (long ∙ sym long') ∙ long in
+    let none : sum ≡ replicate (length sum) false =
+    hidden_none (lost_symbols replaced) 0 sum (omega (arith, size))
+    (λ i below. at_each (is_seen (lost_symbols replaced)) 192 i tells below)
+    (sum_hidden replaced bits bits' long long' agree) (sum_ends bits bits' long long' ends ends') in
+    same_by_sum bits bits' 192 long long' (none ∙ ap (λ (n : ℕ). replicate n false) size)
+
+-- a frame's bits end in eight zeros
+codeword_ends : (information : List Bool) → length (traffic_codeword R9600 information) ≡ 192 →
+    drop 184 (traffic_codeword R9600 information) ≡ replicate 8 false
+codeword_ends information size =
+    let front = information ++ quality_indicator (quality_of R9600) information in
+    drop_at front (replicate 8 false) 184
+    (omega (arith, size, length-append front (replicate 8 false)))
+
+-- ---- the other rates
+
+-- bits whose sum is 1 aren't equal
+differ : (a b : Bool) → xor a b ≡ true → a ≡ b → ⊥
+differ true true h same = cc
+differ true false h same = cc
+differ false true h same = cc
+differ false false h same = cc
+
+-- two code symbols that differ aren't sent as one
+not_one : (replaced : List ℕ) (xs ys : List Bool) (r j : ℕ) → 2 * j / r ≡ (2 * j + 1) / r →
+    j < 192 → is_kept (lost_symbols replaced) (2 * j) ≡ true →
+    is_kept (lost_symbols replaced) (2 * j + 1) ≡ true →
+    xor (get_or xs (2 * j) false) (get_or xs (2 * j + 1) false) ≡ true →
+    AgreeElsewhere replaced (sent data_shape 1 xs) (sent data_shape r ys) → ⊥
+not_one replaced xs ys r j one lt first second apart agree =
+    let even = kept_agree replaced xs ys 1 r (2 * j) (omega (arith, lt)) first agree in
+    let odd = kept_agree replaced xs ys 1 r (2 * j + 1) (omega (arith, lt)) second agree in
+    differ (get_or xs (2 * j) false) (get_or xs (2 * j + 1) false) apart
+    (sym (sent_once xs (2 * j)) ∙ even ∙ ap (λ (n : ℕ). get_or ys n false) one ∙ sym odd ∙
+    sent_once xs (2 * j + 1))
+
+-- so no codeword of a lower rate has the symbols
+no_lower : (replaced : List ℕ) (xs ys : List Bool) (r : ℕ) →
+    ((j : ℕ) → 2 * j / r ≡ (2 * j + 1) / r) →
+    shows_full_rate (lost_symbols replaced) xs ≡ true →
+    AgreeElsewhere replaced (sent data_shape 1 xs) (sent data_shape r ys) → ⊥
+no_lower replaced xs ys r one shows agree =
+    let lost = lost_symbols replaced in
+    let kept : ℕ → Bool = λ j. is_kept lost (2 * j) && is_kept lost (2 * j + 1) in
+    let apart : ℕ → Bool =
+    λ j. xor (get_or xs (2 * j) false) (get_or xs (2 * j + 1) false) in
+    let found = at_one (λ j. kept j && apart j) 192 shows in
+    let j = found.0 in
+    let both = and_parts (kept j) (apart j) found.2 in
+    let each = and_parts (is_kept lost (2 * j)) (is_kept lost (2 * j + 1)) both.0 in
+    not_one replaced xs ys r j (one j) found.1 each.0 each.1 both.1 agree
+
+-- ---- all rates
+
+-- a codeword of any rate that agrees elsewhere is the frame's
+pub full_rate_distinct : FullRateFramesAreDistinct
+full_rate_distinct replaced information long tells shows R9600 v allowed agree =
+    let bits = traffic_codeword R9600 information in
+    let size : length bits ≡ 192 = omega (arith, codeword_fills R9600 information long) in
+    let same_start : AgreeElsewhere replaced (sent data_shape 1 (full_rate_symbols information))
+    (sent data_shape 1 (code_symbols (replicate 8 false) v.bits)) =
+    subst (λ (s : List Bool). AgreeElsewhere replaced
+    (sent data_shape 1 (full_rate_symbols information))
+    (sent data_shape 1 (code_symbols s v.bits))) allowed.begins agree in
+    let ends : drop 184 v.bits ≡ replicate 8 false =
+    ap (λ (n : ℕ). drop (n - 8) v.bits) (sym allowed.bits_long) ∙ allowed.closes in
+    let same = bits_agree replaced bits v.bits size allowed.bits_long (codeword_ends information size)
+    ends tells same_start in
+    (refl, codewords_same v (frame_codeword R9600 information) allowed.begins (sym same))
+full_rate_distinct replaced information long tells shows R4800 v allowed agree =
+    absurd (no_lower replaced (full_rate_symbols information) (code_symbols v.start v.bits) 2
+    (λ j. omega arith) shows agree)
+full_rate_distinct replaced information long tells shows R2400 v allowed agree =
+    absurd (no_lower replaced (full_rate_symbols information) (code_symbols v.start v.bits) 4
+    (λ j. omega arith) shows agree)
+full_rate_distinct replaced information long tells shows R1200 v allowed agree =
+    absurd (no_lower replaced (full_rate_symbols information) (code_symbols v.start v.bits) 8
+    (λ j. omega arith) shows agree)
+
+-- ---- a frame that is distinct
+
+-- it has 172 information bits
+sized : length some_information ≡ 172
+unfolding binary
+sized = refl
+
+-- the code symbols that are sent at the replaced places
+abbrev lost : List ℕ
+lost =
+    288 ∷ 352 ∷ 232 ∷ 296 ∷ 36 ∷ 100 ∷ 204 ∷ 268 ∷ 354 ∷ 18 ∷ 106 ∷ 170 ∷ 230 ∷ 294 ∷ 222
+    ∷ 286 ∷ 33 ∷ 97 ∷ 169 ∷ 233 ∷ 149 ∷ 213 ∷ 29 ∷ 93 ∷ 35 ∷ 99 ∷ 219 ∷ 283 ∷ 295 ∷ 359 ∷ 175
+    ∷ 239 ∷ []
+
+lost_is : lost_symbols replaced_places ≡ lost
+unfolding binary
+lost_is = refl
+
+-- no two codewords have the same code symbols but for those
+told : tells_all_bits lost ≡ true
+unfolding places stays_apart
+told = refl
+
+-- and two kept code symbols of one bit differ
+shown : shows_full_rate lost (full_rate_symbols some_information) ≡ true
+unfolding binary places check_bits
+shown = refl
+
+-- so it is distinct
+pub full_rate_frame_distinct : AFullRateFrameIsDistinct
+full_rate_frame_distinct =
+    full_rate_distinct replaced_places some_information sized
+    (ap tells_all_bits lost_is ∙ told)
+    (ap (λ (symbols : List ℕ). shows_full_rate symbols (full_rate_symbols some_information)) lost_is
+    ∙ shown)
+
+-- ---- frames of zeros
+
+-- all symbols are 0 at both rates
+zeros_same : frame_symbols R2400 (frame_codeword R2400 (replicate 40 false))
+    ≡ frame_symbols R1200 (frame_codeword R1200 (replicate 16 false))
+unfolding binary places sent
+zeros_same = refl
+
+-- both are codewords that a decoder tries
+zeros_2400 : IsAllowed Zero (frame_bits R2400) (frame_codeword R2400 (replicate 40 false))
+zeros_2400 = record { start_long = refl; bits_long = refl; begins = refl; closes = refl }
+
+-- at the other rate too
+zeros_1200 : IsAllowed Zero (frame_bits R1200) (frame_codeword R1200 (replicate 16 false))
+zeros_1200 = record { start_long = refl; bits_long = refl; begins = refl; closes = refl }
+
+-- so each rate's has the other's symbols
+not_2400 : (replaced : List ℕ) →
+    IsUnshared replaced R2400 (frame_codeword R2400 (replicate 40 false)) → ⊥
+not_2400 replaced unshared =
+    let found = unshared R1200 (frame_codeword R1200 (replicate 16 false)) zeros_1200
+    (λ i below out. ap (λ (r : List Bool). get_or r i false) zeros_same) in
+    let same = found.0 in
+    cc
+
+-- and the other way round
+not_1200 : (replaced : List ℕ) →
+    IsUnshared replaced R1200 (frame_codeword R1200 (replicate 16 false)) → ⊥
+not_1200 replaced unshared =
+    let found = unshared R2400 (frame_codeword R2400 (replicate 40 false)) zeros_2400
+    (λ i below out. ap (λ (r : List Bool). get_or r i false) (sym zeros_same)) in
+    let same = found.0 in
+    cc
+
+pub zeros_shared : ZerosAreShared
+zeros_shared replaced = (not_2400 replaced, not_1200 replaced)

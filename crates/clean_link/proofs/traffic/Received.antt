@@ -1,41 +1,176 @@
 -- The frames of a traffic channel, as they are received of the reference base station alone.
-use Rattle.clean_link.proofs.Common.{◌≡◌, ℕ, ◌+◌, ◌-◌, ◌*◌, ◌%◌, ◌≤◌, ◌&&◌, Bool, true, List, [], ◌∷◌, length, map, filter, refl, sym, ap}
-use Rattle.clean_link.proofs.Common.{◌∙◌, arith, subst, nat_le, inl, inr, Option, Some, Contains, and_from, cases_Bool, le-leb, places}
-use Rattle.clean_link.proofs.Common.{Sample, filter_ext_places, flat_map_ext_filter_places, Width, traffic_mask, Data, made_samples}
+use Rattle.clean_link.proofs.Common.{◌≡◌, ℕ, ◌+◌, ◌-◌, ◌*◌, ◌%◌, ◌&&◌, Bool, true, List, [], ◌∷◌, length, map, filter, refl, sym, ap, ℤ}
+use Rattle.clean_link.proofs.Common.{frame_ends, ◌∙◌, arith, subst, nat_le, inl, inr, Option, Some, Contains, and_from, cases_Bool, le-leb}
+use Rattle.clean_link.proofs.Common.{places, Sample, filter_ext_places, flat_map_ext_filter_places, Width, traffic_mask, Data, made_samples}
 use Rattle.clean_link.proofs.Common.{frames_of, set_two, IsTrafficFrame2, CellPlan, TrafficPlan, TrafficFrame2, traffic_channel, mark}
-use Rattle.clean_link.proofs.Common.{frames_within, soft_frame, soft_frames, raw_at, is_in_file, known_at, known_by, Stream}
-use Rattle.clean_link.proofs.Common.{frames_bound, replaced_in, Tuning, Mark, Traffic, PowerControl, SoftFrame, soft_strength, IsOnPath}
-use Rattle.clean_link.proofs.Common.{IsReceivable, is_received, received_frames, replaced_of, sent_bits, IsAssigned, SendsSetTwo}
-use Rattle.clean_link.proofs.Common.{SendsSymbols, ShowFrame, ShowPowerBits, cycled_frame2, codeword_symbols2, AreReceived, IsReceivedAs}
-use Rattle.clean_link.proofs.Common.{EachFrameIsReceived, FramesBehindMark, FramesShowPowerBits, FramesShowSymbols, SetTwoBehindMark}
-use Rattle.clean_link.proofs.Common.{IsSentFrame2, HearsTraffic, SetTwoFramesComeBack}
+use Rattle.clean_link.proofs.Common.{frames_within, soft_frame, soft_frames, raw_at, is_in_file, known_at, known_by, Stream, frames_bound}
+use Rattle.clean_link.proofs.Common.{replaced_in, Tuning, Mark, Traffic, PowerControl, SoftFrame, soft_strength, IsOnPath, IsReceivable}
+use Rattle.clean_link.proofs.Common.{is_received, received_frames, replaced_of, sent_bits, IsAssigned, SendsSetTwo, SendsSymbols, ShowFrame}
+use Rattle.clean_link.proofs.Common.{ShowPowerBits, cycled_frame2, codeword_symbols2, AreReceived, IsReceivedAs, EachFrameIsReceived}
+use Rattle.clean_link.proofs.Common.{FramesBehindMark, FramesShowPowerBits, FramesShowSymbols, SetTwoBehindMark, IsSentFrame2, HearsTraffic}
+use Rattle.clean_link.proofs.Common.{SetTwoFramesComeBack, Bears, IsNear, IsReceivedBySigns, IsSentFrame2BySigns, NoisyFramesAreReceived}
+use Rattle.clean_link.proofs.Common.{NoisyFramesBehindMark, NoisySetTwoBehindMark, NoisySetTwoFramesComeBack, HavePowerSigns, NoisyFrame}
+use Rattle.clean_link.proofs.Common.{IsReceived, ShowsSync, false, ◌++◌, drop, replicate, length-append, ◌<ℤ◌, drop_at, code_symbols}
+use Rattle.clean_link.proofs.Common.{quality_indicator, information_of, quality_of, repeats_of, traffic_codeword, Rate, R9600}
+use Rattle.clean_link.proofs.Common.{codeword_fills, data_shape, Rate2, length-sent, length-sent2, length-codeword_bits, IsAllowed}
+use Rattle.clean_link.proofs.Common.{Codeword, correlation, Zero, frame_codeword, AgreeElsewhere, IsUnshared, frame_bits, frame_symbols}
+use Rattle.clean_link.proofs.Common.{unreplaced, frame_softs, stream_of, HeardAreTheOnlyBest, IsOnlyBestFrame, IsOnlyBestFrame2}
+use Rattle.clean_link.proofs.Common.{ReceivedAreTheOnlyBest, SetTwoAreTheOnlyBest, by_lt_z, codeword_symbols, KeepSigns}
+use Rattle.clean_link.proofs.Common.{NoisyReceivedAreTheOnlyBest, NoisySetTwoAreTheOnlyBest, NoisyFramesAreTheOnlyBest, agree_left}
+use Rattle.clean_link.proofs.Common.{shown_keep}
 use Rattle.cell_plan.specs.TrafficFrames.{frame_state}
-use Rattle.clean_link.proofs.marks.MarksTrue.{marks_true}
+use Rattle.clean_link.proofs.frames.ChannelFrames.{clean_sync, heard_sync}
+use Rattle.clean_link.proofs.noise.Near.{none_borne, length-near, near-self}
 use Rattle.clean_link.proofs.signal.Samples.{length-made}
-use Rattle.clean_link.proofs.traffic.Back.{told_behind_mark}
-use Rattle.clean_link.proofs.traffic.PowerBits.{power_pairs, shown_power_bits}
-use Rattle.clean_link.proofs.traffic.Frames.{by_marks_frames, inside_at, known_is, one_each, one_taken, one_there, same_places}
-use Rattle.clean_link.proofs.traffic.OnePilot.{one_stream}
-use Rattle.clean_link.proofs.traffic.Signs.{frame_powered, frame_shown, lawful_traffic, set_two_sends}
-use Rattle.clean_link.proofs.traffic.Times.{traffic_file_to, traffic_known_is}
-use Rattle.rate_set_two.proofs.SentFrames as second
+use Rattle.clean_link.proofs.traffic.Back.{hears_behind}
+use Rattle.clean_link.proofs.traffic.Signs.{heard_power_bits, power_pairs, frame_powered, frame_shown, lawful_traffic, noisy_powered}
+use Rattle.clean_link.proofs.traffic.Signs.{noisy_shown, set_two_sends, noisy_traffic_signs, traffic_borne}
+use Rattle.clean_link.proofs.traffic.Frames.{by_marks_frames, inside_at, known_is, one_each, one_taken, one_there, same_places, sized}
+use Rattle.clean_link.proofs.traffic.Steady.{one_stream, traffic_file_to, traffic_known_is}
+use Rattle.rate_set_two.proofs.SentFrames as second_back
 use Rattle.heard_events.specs.TrafficStreams as heard
+use Rattle.symbol_path.specs.FramesTwo as codewords_two
+use Rattle.symbol_path.specs.RatesTwo as rates_two
+use Rattle.rate_set_two.specs.Laws as laws_two
+use Rattle.rate_set_two.specs.TrafficFrames as second
+
+-- ---- any symbols
+
+-- Symbols that differ somewhere at the places that are left agree less.
+pub others_less : (replaced : List ℕ) (xs ys : List Bool) (softs : List ℤ) → length softs ≡ 384 →
+    length xs ≡ 384 → length ys ≡ 384 → KeepSigns replaced xs softs →
+    ¬ (AgreeElsewhere replaced xs ys) →
+    correlation (unreplaced replaced softs) ys <ℤ correlation (unreplaced replaced softs) xs
+others_less replaced xs ys softs long size size' keep apart =
+    let kept = unreplaced replaced softs in
+    by_lt_z (correlation kept ys) (correlation kept xs) (λ less. less)
+    (λ reaches. absurd (apart (agree_left replaced xs ys softs long size size' keep reaches)))
+
+-- ---- codewords
+
+-- bits behind which a tail stands are an allowed codeword
+tailed_allowed : (front : List Bool) (n : ℕ) → length (front ++ replicate 8 false) ≡ n →
+    IsAllowed Zero n (record { start = replicate 8 false; bits = front ++ replicate 8 false })
+tailed_allowed front n long =
+    let size : length (front ++ replicate 8 false) - 8 ≡ length front =
+    omega (arith, length-append front (replicate 8 false)) in
+    record {
+      start_long = refl;
+      bits_long = long;
+      begins = refl;
+      closes = ap (λ (k : ℕ). drop k (front ++ replicate 8 false)) size
+          ∙ drop_at front (replicate 8 false) (length front) refl;
+    }
+
+-- a frame's bits are as many as its rate has
+bits_fill : (rate : Rate) (n : ℕ) → n * repeats_of rate ≡ 192 → n ≡ frame_bits rate
+bits_fill R9600 n h = omega (arith, h)
+bits_fill rate n h = omega (arith, h)
+
+codeword_allowed : (rate : Rate) (information : List Bool) → length information ≡ information_of rate →
+    IsAllowed Zero (frame_bits rate) (frame_codeword rate information)
+codeword_allowed rate information long =
+    tailed_allowed (information ++ quality_indicator (quality_of rate) information)
+    (frame_bits rate)
+    (bits_fill rate (length (traffic_codeword rate information)) (codeword_fills rate information long))
+
+codeword_allowed2 : (rate : Rate2) (information : List Bool) →
+    length information ≡ rates_two.information_of rate →
+    IsAllowed Zero (rates_two.frame_bits rate) (second.frame_codeword rate information)
+codeword_allowed2 rate information long =
+    tailed_allowed (information ++ codewords_two.quality_indicator rate information)
+    (rates_two.frame_bits rate) (length-codeword_bits rate information long)
+
+-- so the codeword of a frame that no other shares is the only one of greatest score, at any rate
+signs_only_best : (replaced : List ℕ) (softs : List ℤ) (rate : Rate) (information : List Bool) →
+    length information ≡ information_of rate →
+    NoisyFrame replaced (frame_symbols rate (frame_codeword rate information)) softs →
+    IsUnshared replaced rate (frame_codeword rate information) →
+    IsOnlyBestFrame replaced softs rate (frame_codeword rate information)
+signs_only_best replaced softs rate information size is unshared =
+    let w = frame_codeword rate information in
+    let sent : (r : Rate) (v : Codeword) → length (frame_symbols r v) ≡ 384 =
+    λ r v. length-sent data_shape (repeats_of r) (code_symbols v.start v.bits) in
+    record {
+      allowed = codeword_allowed rate information size;
+      lesser = λ r v allowed other.
+          others_less replaced (frame_symbols rate w) (frame_symbols r v) softs is.long (sent rate w)
+          (sent r v) is.keeps (λ agree. other (unshared r v allowed agree));
+    }
+
+signs_only_best2 : (replaced : List ℕ) (softs : List ℤ) (rate : Rate2) (information : List Bool) →
+    length information ≡ rates_two.information_of rate →
+    NoisyFrame replaced (second.frame_symbols rate (second.frame_codeword rate information)) softs →
+    laws_two.IsUnshared replaced rate (second.frame_codeword rate information) →
+    IsOnlyBestFrame2 replaced softs rate (second.frame_codeword rate information)
+signs_only_best2 replaced softs rate information size is unshared =
+    let w = second.frame_codeword rate information in
+    let sent : (r : Rate2) (v : Codeword) → length (second.frame_symbols r v) ≡ 384 =
+    λ r v. length-sent2 r (code_symbols v.start v.bits) in
+    record {
+      allowed = codeword_allowed2 rate information size;
+      lesser = λ r v allowed other.
+          others_less replaced (second.frame_symbols rate w) (second.frame_symbols r v) softs is.long
+          (sent rate w) (sent r v) is.keeps (λ agree. other (unshared r v allowed agree));
+    }
+
+-- a frame that is received of a clean link is received by the signs of its symbols
+by_signs : (plan : CellPlan) (p : TrafficPlan) (frame : ℕ) (symbols power_bits : List Bool)
+    (soft : SoftFrame) → IsReceivedAs plan p frame symbols power_bits soft →
+    IsReceivedBySigns plan p frame symbols power_bits soft
+by_signs plan p frame symbols power_bits soft received =
+    let shown = received.shown in
+    record {
+      ends = received.ends;
+      powered = received.powered;
+      shown = record {
+        long = shown.long;
+        keeps = shown_keep (soft_strength plan Data p.gain) (replaced_of plan p frame) symbols
+            soft.descrambled shown.strong shown.shows;
+      };
+    }
+
+-- ---- the laws
+
+pub noisy_only_best : NoisyFramesAreTheOnlyBest
+noisy_only_best width plan p t traffic m legs superframes k e f samples is heard near bears distinct =
+    let signs = noisy_traffic_signs width plan p t traffic m legs superframes k e f samples is heard near
+    bears in
+    signs_only_best (replaced_in traffic m k) (frame_softs samples (stream_of t traffic m legs k) k)
+    f.rate f.information (sized is heard) (record { long = signs.0; keeps = signs.1 }) distinct
+
+pub heard_only_best : HeardAreTheOnlyBest
+heard_only_best width plan p t traffic m legs superframes k f is heard distinct =
+    noisy_only_best width plan p t traffic m legs superframes k 0 f (made_samples plan) is heard
+    (near-self 0 (made_samples plan)) (traffic_borne is) distinct
+
+-- of frames that are received by the signs of their symbols
+pub noisy_received_only_best : NoisyReceivedAreTheOnlyBest
+noisy_received_only_best plan p frame f soft size received distinct =
+    signs_only_best (replaced_of plan p frame) soft.descrambled f.rate f.information size received.shown
+    distinct
+
+pub noisy_set_two_only_best : NoisySetTwoAreTheOnlyBest
+noisy_set_two_only_best plan p frame f soft size received distinct =
+    signs_only_best2 (replaced_of plan p frame) soft.descrambled f.rate f.information size received.shown
+    distinct
+
+pub received_only_best : ReceivedAreTheOnlyBest
+received_only_best plan p frame f soft size received distinct =
+    noisy_received_only_best plan p frame f soft size
+    (by_signs plan p frame (codeword_symbols f) f.power_bits soft received) distinct
+
+pub set_two_only_best : SetTwoAreTheOnlyBest
+set_two_only_best plan p frame f soft size received distinct =
+    noisy_set_two_only_best plan p frame f soft size
+    (by_signs plan p frame (codeword_symbols2 f) f.power_bits soft received) distinct
 
 -- ---- behind a true mark
 
-module _ (width : Width) (plan : CellPlan) (p : TrafficPlan) (t : Tuning) (traffic : Traffic)
-    (m : Mark) (superframes : ℕ) (is : HearsTraffic width plan p t traffic m superframes) where
-  abbrev samples : List Sample
-  samples = made_samples plan
-
+module _ {width : Width} {plan : CellPlan} {p : TrafficPlan} {t : Tuning} {traffic : Traffic}
+    {m : Mark} {superframes : ℕ} (is : HearsTraffic width plan p t traffic m superframes) where
   abbrev stream : Stream
   stream = one_stream t traffic m
-
-  abbrev soft : ℕ → SoftFrame
-  soft = soft_frame t (traffic_channel traffic) m samples
-
-  latest : p.offset ≤ 15
-  latest = (lawful_traffic width plan p is.receivable.lawful is.sent).latest
 
   -- a frame in the file ends within it
   ends_inside : (k : ℕ) →
@@ -53,95 +188,125 @@ module _ (width : Width) (plan : CellPlan) (p : TrafficPlan) (t : Tuning) (traff
         | inr gone ↦ ap (λ (b : Bool). b && ends) gone ∙ sym gone
       ]
 
-  -- so those that are received are those in the file
-  in_file : soft_frames t (traffic_channel traffic) m samples
-      ≡ map soft (filter (is_in_file t.count stream) (places (frames_bound t.count)))
-  unfolding frames_within
-  in_file =
-      let count : length samples ≡ t.count = length-made plan ∙ sym is.tuned.count in
-      ap (λ (n : ℕ). map soft (known_by t.count stream n (frames_bound n))) count
-      ∙ ap (map soft)
-      (filter_ext_places
-      (λ k. is_in_file t.count stream k && nat_le (known_at t.count stream k) t.count)
-      (is_in_file t.count stream) (frames_bound t.count) (λ k below. ends_inside k))
-
-  -- by the channel's numbers
-  pub each_received : soft_frames t (traffic_channel traffic) m samples
-      ≡ map (λ frame. soft (frame - 4 * superframes))
-      (received_frames plan p (plan.link.start + m.sample))
-  each_received =
-      let behind : ℕ → SoftFrame = λ frame. soft (frame - 4 * superframes) in
-      in_file
-      ∙ one_each soft (filter (is_in_file t.count stream) (places (frames_bound t.count)))
-      ∙ flat_map_ext_filter_places (is_in_file t.count stream) (λ k. soft k ∷ [])
-      (λ k. behind (4 * superframes + k) ∷ []) (frames_bound t.count)
-      (λ k below there.
-      let same : k ≡ 4 * superframes + k - 4 * superframes = omega arith in
-      ap (λ (j : ℕ). soft j ∷ []) same)
-      ∙ sym (by_marks_frames width plan p t traffic m superframes is latest
-      (λ frame. behind frame ∷ []))
-      ∙ sym (one_each behind (received_frames plan p (plan.link.start + m.sample)))
-
-  -- the power control bits of one
-  powered_at : (k : ℕ) (symbols power_bits : List Bool) → is_in_file t.count stream k ≡ true →
+  -- What is so of each frame in the file that sends this, by its number after the mark, is so by
+  -- the channel's number: with the places of its power control bits, and its end.
+  by_channel : (Is : List ℕ → ℕ → ℕ → Type 0) (frame : ℕ) (symbols power_bits : List Bool) →
+      ((k : ℕ) → is_in_file t.count stream k ≡ true →
       SendsSymbols plan p (4 * superframes + k) symbols power_bits →
-      ShowPowerBits (replaced_of plan p (4 * superframes + k)) (soft_strength plan Data p.gain)
-      power_bits (raw_at t (traffic_channel traffic) m samples k)
-  powered_at k symbols power_bits there sent =
-      subst
-      (λ (replaced : List ℕ). ShowPowerBits replaced (soft_strength plan Data p.gain) power_bits
-      (raw_at t (traffic_channel traffic) m samples k))
-      (sym (same_places width plan p t traffic m superframes is latest k))
-      (frame_powered width plan p t traffic m superframes k symbols power_bits is sent there)
-
-  -- what is received of one
-  received_at : (k : ℕ) (symbols power_bits : List Bool) → is_in_file t.count stream k ≡ true →
-      SendsSymbols plan p (4 * superframes + k) symbols power_bits →
-      IsReceivedAs plan p (4 * superframes + k) symbols power_bits (soft k)
-  received_at k symbols power_bits there sent =
-      let shown =
-      frame_shown width plan p t traffic m superframes k symbols power_bits is sent there in
-      let places = sym (same_places width plan p t traffic m superframes is latest k) in
-      let power : List ℕ → List Bool → Option PowerControl =
-      λ replaced bits. Some (record { replaced = replaced; power_bits = bits }) in
-      let strength = soft_strength plan Data p.gain in
-      record {
-        ends = known_is width plan p t traffic m superframes is latest k;
-        powered =
-            ap (power (replaced_in traffic m k))
-            (shown_power_bits strength (heard.frame_state traffic m k) (traffic_mask traffic.esn)
-            power_bits (raw_at t (traffic_channel traffic) m samples k) shown.strong
-            (frame_powered width plan p t traffic m superframes k symbols power_bits is sent there))
-            ∙ ap (λ (replaced : List ℕ). power replaced (sent_bits power_bits)) places;
-        shown = subst
-            (λ (replaced : List ℕ). ShowFrame replaced strength symbols (soft k).descrambled) places
-            shown;
-      }
-
-  pub received_as : (frame : ℕ) (symbols power_bits : List Bool) →
+      Is (replaced_in traffic m k) (known_at t.count stream k) k) →
       is_received plan p (plan.link.start + m.sample) frame ≡ true →
       SendsSymbols plan p frame symbols power_bits →
-      IsReceivedAs plan p frame symbols power_bits (soft (frame - 4 * superframes))
-  received_as frame symbols power_bits received sent =
+      Is (replaced_of plan p frame) (frame_ends plan p frame) (frame - 4 * superframes)
+  by_channel Is frame symbols power_bits each received sent =
       let k : ℕ = frame - 4 * superframes in
-      let (here, there) = inside_at width plan p t traffic m superframes is latest frame received in
-      subst (λ (n : ℕ). IsReceivedAs plan p n symbols power_bits (soft k)) here
-      (received_at k symbols power_bits there
-      (subst (λ (n : ℕ). SendsSymbols plan p n symbols power_bits) (sym here) sent))
+      let (here, there) = inside_at is frame received in
+      let places = same_places is k in
+      let ends = known_is is k in
+      let behind =
+      each k there (subst (λ (n : ℕ). SendsSymbols plan p n symbols power_bits) (sym here) sent) in
+      subst (λ (n : ℕ). Is (replaced_of plan p n) (frame_ends plan p n) k) here
+      (subst (λ (n : ℕ). Is (replaced_of plan p (4 * superframes + k)) n k) ends
+      (subst (λ (replaced : List ℕ). Is replaced (known_at t.count stream k) k) (sym places)
+      behind))
 
-  pub powered_as : (frame : ℕ) (symbols power_bits : List Bool) →
-      is_received plan p (plan.link.start + m.sample) frame ≡ true →
-      SendsSymbols plan p frame symbols power_bits →
-      ShowPowerBits (replaced_of plan p frame) (soft_strength plan Data p.gain) power_bits
-      (raw_at t (traffic_channel traffic) m samples (frame - 4 * superframes))
-  powered_as frame symbols power_bits received sent =
-      let k : ℕ = frame - 4 * superframes in
-      let (here, there) = inside_at width plan p t traffic m superframes is latest frame received in
-      subst
-      (λ (n : ℕ). ShowPowerBits (replaced_of plan p n) (soft_strength plan Data p.gain) power_bits
-      (raw_at t (traffic_channel traffic) m samples k)) here
-      (powered_at k symbols power_bits there
-      (subst (λ (n : ℕ). SendsSymbols plan p n symbols power_bits) (sym here) sent))
+  module _ (samples : List Sample) where
+    abbrev soft : ℕ → SoftFrame
+    soft = soft_frame t (traffic_channel traffic) m samples
+
+    abbrev raw : ℕ → List ℤ
+    raw = raw_at t (traffic_channel traffic) m samples
+
+    -- those that are received are those in the file
+    in_file : length samples ≡ plan.link.samples → soft_frames t (traffic_channel traffic) m samples
+        ≡ map soft (filter (is_in_file t.count stream) (places (frames_bound t.count)))
+    unfolding frames_within
+    in_file long =
+        let count : length samples ≡ t.count = long ∙ sym is.tuned.count in
+        ap (λ (n : ℕ). map soft (known_by t.count stream n (frames_bound n))) count
+        ∙ ap (map soft) (filter_ext_places
+        (λ k. is_in_file t.count stream k && nat_le (known_at t.count stream k) t.count)
+        (is_in_file t.count stream) (frames_bound t.count) (λ k below. ends_inside k))
+
+    -- by the channel's numbers
+    pub each_received : length samples ≡ plan.link.samples →
+        soft_frames t (traffic_channel traffic) m samples
+        ≡ map (λ frame. soft (frame - 4 * superframes))
+        (received_frames plan p (plan.link.start + m.sample))
+    each_received long =
+        let behind : ℕ → SoftFrame = λ frame. soft (frame - 4 * superframes) in
+        in_file long
+        ∙ one_each soft (filter (is_in_file t.count stream) (places (frames_bound t.count)))
+        ∙ flat_map_ext_filter_places (is_in_file t.count stream) (λ k. soft k ∷ [])
+        (λ k. behind (4 * superframes + k) ∷ []) (frames_bound t.count)
+        (λ k below there.
+        let same : k ≡ 4 * superframes + k - 4 * superframes = omega arith in
+        ap (λ (j : ℕ). soft j ∷ []) same)
+        ∙ sym (by_marks_frames is
+        (λ frame. behind frame ∷ []))
+        ∙ sym (one_each behind (received_frames plan p (plan.link.start + m.sample)))
+
+    -- Of near samples, the raw soft values of each have the signs of its power control bits, so these
+    -- come back, whatever its descrambled soft values show.
+    pub received_by : (e : ℕ) → IsNear e samples (made_samples plan) → Bears plan p.gain e →
+        (Show : List ℕ → List ℤ → Type 0) (frame : ℕ) (symbols power_bits : List Bool) →
+        ((k : ℕ) → is_in_file t.count stream k ≡ true →
+        SendsSymbols plan p (4 * superframes + k) symbols power_bits →
+        Show (replaced_in traffic m k) (soft k).descrambled) →
+        is_received plan p (plan.link.start + m.sample) frame ≡ true →
+        SendsSymbols plan p frame symbols power_bits →
+        IsReceived plan p frame power_bits (Show (replaced_of plan p frame))
+        (soft (frame - 4 * superframes))
+        × HavePowerSigns (replaced_of plan p frame) power_bits (raw (frame - 4 * superframes))
+    received_by e near bears Show frame symbols power_bits shown received sent =
+        let power : List ℕ → List Bool → Option PowerControl =
+        λ replaced bits. Some (record { replaced = replaced; power_bits = bits }) in
+        let (ends, powered, shows, signs) =
+        by_channel
+        (λ replaced ends k. ((soft k).end ≡ ends)
+        × ((soft k).power ≡ power replaced (sent_bits power_bits))
+        × Show replaced (soft k).descrambled × HavePowerSigns replaced power_bits (raw k))
+        frame symbols power_bits
+        (λ k there sends.
+        let signs =
+        noisy_powered is k sends there e samples near bears in (
+          refl,
+          ap (power (replaced_in traffic m k))
+              (heard_power_bits (heard.frame_state traffic m k) (traffic_mask traffic.esn) power_bits
+              (raw k) signs),
+          shown k there sends,
+          signs,
+        )) received sent in
+        (record { ends = ends; powered = powered; shown = shows }, signs)
+
+-- ---- one frame
+
+pub each_frame_received : EachFrameIsReceived
+each_frame_received width plan p t traffic m superframes samples is long =
+    each_received is samples long
+
+pub noisy_frames_received : NoisyFramesAreReceived
+noisy_frames_received width plan p t traffic m superframes e samples is near bears frame symbols
+    power_bits =
+    received_by is samples e near bears
+    (λ replaced. NoisyFrame replaced symbols) frame symbols power_bits
+    (λ k there sent. noisy_shown is k sent there e samples near bears)
+
+-- of a clean link, where the soft values are known
+pub frames_show_symbols : FramesShowSymbols
+frames_show_symbols width plan p t traffic m superframes frame symbols power_bits is received sent =
+    let lawful = lawful_traffic width plan p is.receivable.lawful is.sent in
+    (received_by is (made_samples plan) 0
+    (near-self 0 (made_samples plan)) (none_borne width plan p.gain is.receivable lawful.gain)
+    (λ replaced. ShowFrame replaced (soft_strength plan Data p.gain) symbols) frame symbols power_bits
+    (λ k there sends. frame_shown is k sends there) received sent).0
+
+pub frames_show_power_bits : FramesShowPowerBits
+frames_show_power_bits width plan p t traffic m superframes frame symbols power_bits is =
+    let strength = soft_strength plan Data p.gain in
+    by_channel is
+    (λ replaced ends k. ShowPowerBits replaced strength power_bits
+    (raw_at t (traffic_channel traffic) m (made_samples plan) k)) frame symbols power_bits
+    (λ k there sent. frame_powered is k sent there)
 
 -- ---- frames of rate set 2
 
@@ -152,102 +317,121 @@ set_two_back plan p frame f soft sized received =
     record {
       received = received;
       decoded = λ distinct.
-          second.sent_frame (soft_strength plan Data p.gain) (replaced_of plan p frame) f.rate
+          second_back.sent_frame (soft_strength plan Data p.gain) (replaced_of plan p frame) f.rate
           f.information soft.descrambled shown.strong (omega (arith, few)) shown.long sized shown.shows
           distinct;
     }
 
+-- by the signs of their symbols alone
+pub noisy_set_two_back : NoisySetTwoFramesComeBack
+noisy_set_two_back plan p frame f soft sized received =
+    let few = (power_pairs (frame_state (frames_of plan p) frame) (traffic_mask p.esn)).long in
+    let shown = received.shown in
+    record {
+      received = received;
+      decoded = λ distinct. record {
+        score = _;
+        same = second_back.signs_frame (replaced_of plan p frame) f.rate f.information soft.descrambled
+            (omega (arith, few)) shown.long sized shown.keeps distinct;
+      };
+    }
+
 -- ---- in a file
 
-module _ (width : Width) (plan : CellPlan) (p : TrafficPlan) (t : Tuning) (traffic : Traffic)
-    (m : Mark) (is : IsReceivable width plan) (tuned : IsOnPath plan t)
+module _ {width : Width} {plan : CellPlan} {p : TrafficPlan} {t : Tuning} {traffic : Traffic}
+    {samples : List Sample} (shows : ShowsSync width plan samples) (tuned : IsOnPath plan t)
     (sent : Contains plan.traffic p) (assigned : IsAssigned p traffic)
-    (set : mark t (made_samples plan) (length (made_samples plan)) ≡ Some m) where
-  -- each shows what it sends
-  pub all_received : AreReceived plan p
-      (λ frame soft. (symbols power_bits : List Bool) → SendsSymbols plan p frame symbols power_bits →
-      IsReceivedAs plan p frame symbols power_bits soft)
-      (soft_frames t (traffic_channel traffic) m (made_samples plan))
-  all_received =
-      let count : length (made_samples plan) ≡ t.count = length-made plan ∙ sym tuned.count in
-      let last : mark t (made_samples plan) t.count ≡ Some m =
-      ap (mark t (made_samples plan)) (sym count) ∙ set in
-      let (superframes, true_mark) = marks_true width plan t t.count m is tuned last in
-      let hears : HearsTraffic width plan p t traffic m superframes = record {
-        receivable = is;
-        sent = sent;
-        assigned = assigned;
-        tuned = tuned;
-        marked = true_mark;
-      } in
+    (long : length samples ≡ plan.link.samples) (m : Mark)
+    (set : mark t samples (length samples) ≡ Some m) where
+  -- What is so of each frame after a true mark is so of those after the mark that is set.
+  behind_mark : (Is : ℕ → SoftFrame → Type 0) →
+      ((superframes : ℕ) → HearsTraffic width plan p t traffic m superframes → (frame : ℕ) →
+      is_received plan p (plan.link.start + m.sample) frame ≡ true →
+      Is frame (soft_frame t (traffic_channel traffic) m samples (frame - 4 * superframes))) →
+      AreReceived plan p Is (soft_frames t (traffic_channel traffic) m samples)
+  behind_mark Is each =
+      let count : length samples ≡ t.count = long ∙ sym tuned.count in
+      let last : mark t samples t.count ≡ Some m = ap (mark t samples) (sym count) ∙ set in
+      let behind = hears_behind shows tuned p traffic m sent assigned last in
+      let superframes = behind.superframes in
       let soft : ℕ → SoftFrame = λ frame.
-      soft_frame t (traffic_channel traffic) m (made_samples plan) (frame - 4 * superframes) in
-      let chip = true_mark.place in
+      soft_frame t (traffic_channel traffic) m samples (frame - 4 * superframes) in
+      let chip = behind.hears.marked.place in
       record {
         superframes = superframes;
-        told = told_behind_mark width plan t is tuned plan.sync m refl last superframes
-            true_mark.time;
+        told = behind.told;
         soft = soft;
-        each = each_received width plan p t traffic m superframes hears
+        each = each_received behind.hears samples long
             ∙ ap (λ (c : ℕ). map soft (received_frames plan p c)) chip;
-        are = λ frame received symbols power_bits sends.
-            received_as width plan p t traffic m superframes hears frame symbols power_bits
-            (ap (λ (c : ℕ). is_received plan p c frame) chip ∙ received) sends;
+        are = λ frame received.
+            each superframes behind.hears frame
+            (ap (λ (c : ℕ). is_received plan p c frame) chip ∙ received);
       }
 
-  -- one of the frames of rate set 2 is sent at each number
-  frame2_there : SendsSetTwo p → (frame : ℕ) → (f : TrafficFrame2)
-      × (cycled_frame2 (frames_of plan p) frame ≡ f ∷ []) × IsTrafficFrame2 f
-  frame2_there some frame =
-      let frames = set_two p.frames in
-      let (f, here) = one_there frames (frame % length frames) (omega (arith, some)) in (
+-- one of the frames of rate set 2 is sent at each number
+frame2_there : (width : Width) (plan : CellPlan) (p : TrafficPlan) → IsReceivable width plan →
+    Contains plan.traffic p → SendsSetTwo p → (frame : ℕ) → (f : TrafficFrame2)
+    × (cycled_frame2 (frames_of plan p) frame ≡ f ∷ []) × IsTrafficFrame2 f
+frame2_there width plan p is sent some frame =
+    let frames = set_two p.frames in
+    let (f, here) = one_there frames (frame % length frames) (omega (arith, some)) in (
+      f,
+      here,
+      one_taken IsTrafficFrame2 frames (frame % length frames) f
+          (lawful_traffic width plan p is.lawful sent).sized.two here,
+    )
+
+-- and comes back, where what is received of it by what it sends is that of a frame that does
+set_two_of : (plan : CellPlan) (p : TrafficPlan)
+    (Receives : ℕ → List Bool → List Bool → SoftFrame → Type 0)
+    (Back : ℕ → TrafficFrame2 → SoftFrame → Type 0) (frames : List SoftFrame) →
+    ((frame : ℕ) → (f : TrafficFrame2) × (cycled_frame2 (frames_of plan p) frame ≡ f ∷ [])
+    × IsTrafficFrame2 f) → ((frame : ℕ) (f : TrafficFrame2) (soft : SoftFrame) → IsTrafficFrame2 f →
+    Receives frame (codeword_symbols2 f) f.power_bits soft → Back frame f soft) → AreReceived plan p
+    (λ frame soft. (symbols power_bits : List Bool) → SendsSymbols plan p frame symbols power_bits →
+    Receives frame symbols power_bits soft) frames → AreReceived plan p
+    (λ frame soft. (f : TrafficFrame2) × (cycled_frame2 (frames_of plan p) frame ≡ f ∷ [])
+    × Back frame f soft) frames
+set_two_of plan p Receives Back frames there back all = record {
+  superframes = all.superframes;
+  told = all.told;
+  soft = all.soft;
+  each = all.each;
+  are = λ frame received.
+      let (f, here, sized) = there frame in (
         f,
         here,
-        one_taken IsTrafficFrame2 frames (frame % length frames) f
-            (lawful_traffic width plan p is.lawful sent).sized.two here,
-      )
-
-  -- and comes back
-  pub set_two_received : SendsSetTwo p → AreReceived plan p
-      (λ frame soft. (f : TrafficFrame2) × (cycled_frame2 (frames_of plan p) frame ≡ f ∷ [])
-      × IsSentFrame2 plan p frame f soft)
-      (soft_frames t (traffic_channel traffic) m (made_samples plan))
-  set_two_received some =
-      let all = all_received in
-      record {
-        superframes = all.superframes;
-        told = all.told;
-        soft = all.soft;
-        each = all.each;
-        are = λ frame received.
-            let (f, here, sized) = frame2_there some frame in (
-              f,
-              here,
-              set_two_back plan p frame f (all.soft frame) sized
-                  (all.are frame received (codeword_symbols2 f) f.power_bits
-                  (set_two_sends plan p frame f here)),
-            );
-      }
+        back frame f (all.soft frame) sized
+            (all.are frame received (codeword_symbols2 f) f.power_bits
+            (set_two_sends plan p frame f here)),
+      );
+}
 
 -- ---- the laws
 
-pub each_frame_received : EachFrameIsReceived
-each_frame_received width plan p t traffic m superframes is =
-    each_received width plan p t traffic m superframes is
-
-pub frames_show_symbols : FramesShowSymbols
-frames_show_symbols width plan p t traffic m superframes frame symbols power_bits is received sent =
-    received_as width plan p t traffic m superframes is frame symbols power_bits received sent
-
-pub frames_show_power_bits : FramesShowPowerBits
-frames_show_power_bits width plan p t traffic m superframes frame symbols power_bits is received
-    sent =
-    powered_as width plan p t traffic m superframes is frame symbols power_bits received sent
-
 pub frames_behind_mark : FramesBehindMark
 frames_behind_mark width plan p t traffic m is tuned sent assigned set =
-    all_received width plan p t traffic m is tuned sent assigned set
+    behind_mark (clean_sync width plan is) tuned sent assigned (length-made plan) m set _
+    (λ superframes hears frame received symbols power_bits.
+    frames_show_symbols width plan p t traffic m superframes frame symbols power_bits hears received)
 
 pub set_two_behind_mark : SetTwoBehindMark
 set_two_behind_mark width plan p t traffic m is tuned sent assigned some set =
-    set_two_received width plan p t traffic m is tuned sent assigned set some
+    set_two_of plan p (IsReceivedAs plan p) (IsSentFrame2 plan p) _
+    (frame2_there width plan p is sent some) (set_two_back plan p)
+    (frames_behind_mark width plan p t traffic m is tuned sent assigned set)
+
+-- of near samples
+pub noisy_frames_behind_mark : NoisyFramesBehindMark
+noisy_frames_behind_mark width plan sync p e samples t traffic m is bears tuned sent assigned set =
+    behind_mark (heard_sync width plan sync e samples is) tuned sent assigned
+    (length-near e samples (made_samples plan) is.near ∙ length-made plan) m set _
+    (λ superframes hears frame received symbols power_bits sends.
+    (noisy_frames_received width plan p t traffic m superframes e samples hears is.near bears frame
+    symbols power_bits received sends).0)
+
+pub noisy_set_two_behind_mark : NoisySetTwoBehindMark
+noisy_set_two_behind_mark width plan sync p e samples t traffic m is bears tuned sent assigned set some =
+    set_two_of plan p (IsReceivedBySigns plan p) (IsSentFrame2BySigns plan p) _
+    (frame2_there width plan p is.receivable sent some) (noisy_set_two_back plan p)
+    (noisy_frames_behind_mark width plan sync p e samples t traffic m is bears tuned sent assigned set)

@@ -2,24 +2,142 @@
 use Rattle.clean_link.proofs.Common.{◌≡◌, ℕ, zero, suc, ◌+◌, ◌*◌, ◌%◌, Bool, true, false, List, [], ◌∷◌, length, take, drop, refl, sym, ap}
 use Rattle.clean_link.proofs.Common.{◌∙◌, arith, subst, ℤ, replicate, ◌*ℤ◌, Contains, flat_map, append-nil, All-contains, sign, xor}
 use Rattle.clean_link.proofs.Common.{zip_with, Width, after, traffic_mask, code_symbols, scrambling, with_power_bits, data_shape}
-use Rattle.clean_link.proofs.Common.{repeats_of, traffic_codeword, length-sent, softs, Finger, Data, signed, ShowSymbols, length-sent2}
-use Rattle.clean_link.proofs.Common.{IsLawfulPlan, IsTrafficPlan, made_samples, frames_of, traffic_carrier, CellPlan, TrafficPlan}
-use Rattle.clean_link.proofs.Common.{FrameList, SetOne, SetTwo, TrafficFrame, TrafficFrame2, descrambled, unscrambled, frame_softs}
-use Rattle.clean_link.proofs.Common.{frame_start, is_in_file, Stream, raw_softs, frame_state, replaced_in, stream_of, traffic_start}
-use Rattle.clean_link.proofs.Common.{traffic_stream, Tuning, fingers_of, Leg, Mark, Traffic, IsTrueMark, soft_strength, codeword_symbols}
-use Rattle.clean_link.proofs.Common.{IsAssigned, SendsSymbols, ShowPowerBits, ShowFrame, IsFrameOf, path_finger, SetOneSends, SetTwoSends}
-use Rattle.clean_link.proofs.Common.{HearsTraffic, IsHeardAs, TrafficHaveSentSigns}
-use Rattle.clean_link.proofs.signal.CarriersApart.{traffic_sent}
-use Rattle.clean_link.proofs.signal.ChannelsBack.{channel_signs, strength_some}
-use Rattle.clean_link.proofs.traffic.OnePilot.{one_fingers, one_stream, one_stream_is}
-use Rattle.clean_link.proofs.traffic.Symbols.{length-signed, length-with_power_bits, length-zipped, shows_power_bits, shows_symbols}
-use Rattle.clean_link.proofs.traffic.Symbols.{descrambled_some}
-use Rattle.clean_link.proofs.frames.PagingFrames.{length-scrambling}
-use Rattle.clean_link.proofs.frames.SyncFrames.{fingers_are}
-use Rattle.clean_link.proofs.traffic.Times.{traffic_file_to}
+use Rattle.clean_link.proofs.Common.{repeats_of, traffic_codeword, length-sent, softs, Finger, Data, length-sent2, IsLawfulPlan}
+use Rattle.clean_link.proofs.Common.{IsTrafficPlan, made_samples, frames_of, traffic_carrier, CellPlan, TrafficPlan, FrameList, SetOne}
+use Rattle.clean_link.proofs.Common.{SetTwo, TrafficFrame, TrafficFrame2, descrambled, frame_softs, frame_start, is_in_file, Stream}
+use Rattle.clean_link.proofs.Common.{raw_softs, frame_state, replaced_in, stream_of, traffic_start, traffic_stream, Tuning, fingers_of, Leg}
+use Rattle.clean_link.proofs.Common.{Mark, Traffic, IsTrueMark, soft_strength, codeword_symbols, IsAssigned, SendsSymbols, ShowPowerBits}
+use Rattle.clean_link.proofs.Common.{ShowFrame, IsFrameOf, path_finger, SetOneSends, SetTwoSends, HearsTraffic, IsHeardAs}
+use Rattle.clean_link.proofs.Common.{TrafficHaveSentSigns, ◌<◌, AllZip, AreKept, HasSign, Sample, AllZip-long, Bears, IsNear, ArePowered}
+use Rattle.clean_link.proofs.Common.{HavePowerSigns, NoisyFrame, NoisyTrafficHasSentSigns, ◌/◌, get_or, nat_eq, ⊎_elim, ◌⊎◌, pos, list_any}
+use Rattle.clean_link.proofs.Common.{cases_order, eq-eqb, ne_eqb, get_or-map-places, length-map-places, power_places, symbol_or_power_bit}
+use Rattle.clean_link.proofs.Common.{is_replaced, unscrambled, zipped_at, not, map, ◌+ℤ◌, ◌&&◌, int_lt, range_with_len, ints, list_any_at}
+use Rattle.clean_link.proofs.Common.{places, map-places-all, power_place, power_place_in_groups, pairs_below, pairs_in_groups}
+use Rattle.clean_link.proofs.Common.{pairs_neighbours, ArePairs, power_bit, group_sum, group_sums, map_ext_places, power_bits_at, sent_bits}
+use Rattle.clean_link.proofs.Common.{PowerBitsComeBack, SixteenPowerBitsAreSent, NoisyPowerBitsComeBack, le_false, lt_true}
+use Rattle.clean_link.proofs.signal.CarriersApart.{plan_apart, traffic_sent}
+use Rattle.clean_link.proofs.frames.ChannelFrames.{strength_some, length-scrambling, fingers_are}
+use Rattle.clean_link.proofs.signal.Frames.{clean_relates, noisy_relates}
+use Rattle.clean_link.proofs.traffic.Steady.{one_fingers, one_stream, one_stream_is, traffic_file_to, one_sums}
+use Rattle.clean_link.proofs.noise.Near.{none_borne, near-self, IsSigned, Relates, Turns, signed_turn, signs_turn}
 use Rattle.symbol_path.specs.FramesTwo as second
 use Rattle.cell_plan.specs.PageCycles as cycles
 use Rattle.cell_plan.specs.TrafficFrames as sends
+
+-- ---- at one place
+
+pub at_zipped : {A B C : Type 0} (f : A → B → C) (xs : List A) (ys : List B) (i : ℕ) (a : A) (b : B)
+    (c : C) → i < length xs → i < length ys →
+    get_or (zip_with f xs ys) i c ≡ f (get_or xs i a) (get_or ys i b)
+at_zipped f [] ys i a b c few many = absurd (omega (arith, few))
+at_zipped f (x ∷ xs) [] i a b c few many = absurd (omega (arith, many))
+at_zipped f (x ∷ xs) (y ∷ ys) zero a b c few many = refl
+at_zipped f (x ∷ xs) (y ∷ ys) (suc i) a b c few many =
+    at_zipped f xs ys i a b c (omega (arith, few)) (omega (arith, many))
+
+pub length-zipped : {A B C : Type 0} (f : A → B → C) (xs : List A) (ys : List B) →
+    length xs ≡ length ys → length (zip_with f xs ys) ≡ length ys
+length-zipped f [] [] long = refl
+length-zipped f [] (y ∷ ys) long = absurd (omega (arith, long))
+length-zipped f (x ∷ xs) [] long = absurd (omega (arith, long))
+length-zipped f (x ∷ xs) (y ∷ ys) long = ap suc (length-zipped f xs ys (omega (arith, long)))
+
+-- where there are scrambling bits, each soft value is turned by its own
+pub descrambled_some : (bits : List Bool) (values : List ℤ) → 0 < length bits →
+    unscrambled bits values ≡ descrambled bits values
+descrambled_some [] values some = absurd (omega (arith, some))
+descrambled_some (b ∷ bits) values some = refl
+
+-- ---- replaced places
+
+same_either_way : (a b : ℕ) → nat_eq a b ≡ nat_eq b a
+same_either_way a b = ⊎_elim
+    (λ (same : a ≡ b). rw (eq-eqb a b same, eq-eqb b a (sym same)) refl)
+    (λ (other : (a < b) ⊎ (b < a)). ⊎_elim
+    (λ (less : a < b).
+    rw (ne_eqb a b (λ e. omega (arith, less, e)), ne_eqb b a (λ e. omega (arith, less, e))) refl)
+    (λ (more : b < a).
+    rw (ne_eqb a b (λ e. omega (arith, more, e)), ne_eqb b a (λ e. omega (arith, more, e))) refl)
+    other)
+    (cases_order a b)
+
+-- both tests of a place are one
+same_test : (i : ℕ) (replaced : List ℕ) →
+    list_any (λ place. nat_eq place i) replaced ≡ is_replaced replaced i
+same_test i [] = refl
+same_test i (place ∷ replaced) =
+    let here = same_either_way place i in
+    let rest = same_test i replaced in
+    rw (here, rest) refl
+
+own_symbol : (replaced : List ℕ) (power_bits symbols : List Bool) (i : ℕ) →
+    is_replaced replaced i ≡ false →
+    symbol_or_power_bit replaced power_bits symbols i ≡ get_or symbols i false
+own_symbol replaced power_bits symbols i none =
+    let none' = same_test i replaced ∙ none in rw none' refl
+
+power_bit_there : (replaced : List ℕ) (power_bits symbols : List Bool) (i : ℕ) →
+    is_replaced replaced i ≡ true →
+    symbol_or_power_bit replaced power_bits symbols i ≡ get_or power_bits (i / 24) false
+power_bit_there replaced power_bits symbols i found =
+    let found' = same_test i replaced ∙ found in rw found' refl
+
+-- ---- a frame as it is sent
+
+pub length-with_power_bits : (state mask : ℕ) (power_bits symbols : List Bool) →
+    length (with_power_bits state mask power_bits symbols) ≡ 384
+unfolding with_power_bits
+length-with_power_bits state mask power_bits symbols =
+    length-map-places (symbol_or_power_bit (power_places state mask) power_bits symbols) 384
+
+sent_at : (state mask : ℕ) (power_bits symbols : List Bool) (i : ℕ) → i < 384 →
+    get_or (with_power_bits state mask power_bits symbols) i false
+    ≡ symbol_or_power_bit (power_places state mask) power_bits symbols i
+unfolding with_power_bits
+sent_at state mask power_bits symbols i below =
+    get_or-map-places (symbol_or_power_bit (power_places state mask) power_bits symbols) 384 i false
+    below
+
+-- ---- what its soft values are, where they stand to what is sent in a relation
+
+module _ (R : Bool → ℤ → Type 0) (state mask : ℕ) (power_bits : List Bool) (softs : List ℤ) where
+  sent_related : (symbols : List Bool) (i : ℕ) →
+      AllZip R (with_power_bits state mask power_bits symbols) softs → i < 384 →
+      R (symbol_or_power_bit (power_places state mask) power_bits symbols i) (get_or softs i (pos 0))
+  sent_related symbols i all below =
+      let given = with_power_bits state mask power_bits symbols in
+      let long = length-with_power_bits state mask power_bits symbols in
+      subst (λ (b : Bool). R b (get_or softs i (pos 0))) (sent_at state mask power_bits symbols i below)
+      (zipped_at R given softs i false (pos 0) all (omega (arith, below, long)))
+
+  -- at the places that power control bits replace, they stand so to these
+  pub powered_there : (symbols : List Bool) →
+      AllZip R (with_power_bits state mask power_bits symbols) softs →
+      ArePowered R (power_places state mask) power_bits softs
+  powered_there symbols all i below found =
+      subst (λ (b : Bool). R b (get_or softs i (pos 0)))
+      (power_bit_there (power_places state mask) power_bits symbols i found)
+      (sent_related symbols i all below)
+
+  -- and at the others to its symbols, which were scrambled by the bits that turn them
+  pub kept_there : Turns R → (symbols bits : List Bool) → length symbols ≡ 384 → length bits ≡ 384 →
+      AllZip R (with_power_bits state mask power_bits (zip_with xor symbols bits)) softs →
+      AreKept R (power_places state mask) symbols (descrambled bits softs)
+  kept_there turns symbols bits long many all i below none =
+      let mixed = zip_with xor symbols bits in
+      let given = with_power_bits state mask power_bits mixed in
+      let count : length softs ≡ 384 =
+      AllZip-long R given softs all ∙ length-with_power_bits state mask power_bits mixed in
+      let own : symbol_or_power_bit (power_places state mask) power_bits mixed i
+      ≡ xor (get_or symbols i false) (get_or bits i false) =
+      own_symbol (power_places state mask) power_bits mixed i none
+      ∙ at_zipped xor symbols bits i false false false (omega (arith, below, long))
+      (omega (arith, below, many)) in
+      subst (R (get_or symbols i false))
+      (sym (at_zipped (λ (b : Bool) (v : ℤ). sign b *ℤ v) bits softs i false (pos 0) (pos 0)
+      (omega (arith, below, many)) (omega (arith, below, count))))
+      (turns (get_or bits i false) (get_or symbols i false) (get_or softs i (pos 0))
+      (subst (λ (b : Bool). R b (get_or softs i (pos 0))) own (sent_related mixed i all below)))
 
 -- ---- what a frame sends
 
@@ -97,14 +215,36 @@ pub lawful_traffic : (width : Width) (plan : CellPlan) (p : TrafficPlan) →
 lawful_traffic width plan p lawful has =
     All-contains IsTrafficPlan plan.traffic p lawful.traffic.are has
 
-module _ (width : Width) (plan : CellPlan) (p : TrafficPlan) (t : Tuning) (traffic : Traffic)
-    (m : Mark) (superframes k : ℕ) (symbols power_bits : List Bool)
-    (is : HearsTraffic width plan p t traffic m superframes)
+module _ {width : Width} {plan : CellPlan} {p : TrafficPlan} {t : Tuning} {traffic : Traffic}
+    {m : Mark} {superframes : ℕ} (is : HearsTraffic width plan p t traffic m superframes) where
+  gain_some : 0 < p.gain
+  gain_some = (lawful_traffic width plan p is.receivable.lawful is.sent).gain
+
+  -- a channel that is sent bears noise of the size 0, and its soft values have a strength
+  pub traffic_borne : Bears plan p.gain 0
+  traffic_borne = none_borne width plan p.gain is.receivable gain_some
+
+  traffic_strong : 0 < soft_strength plan Data p.gain
+  traffic_strong = strength_some width plan Data p.gain is.receivable gain_some
+
+  -- what they are to its symbols on a clean link, and through noise that it bears
+  traffic_clean : Relates (IsSigned (soft_strength plan Data p.gain)) plan (traffic_carrier plan p) Data
+      (made_samples plan)
+  traffic_clean =
+      clean_relates plan (traffic_carrier plan p) Data is.receivable.lawful.pn
+      (plan_apart width plan is.receivable.lawful) (traffic_sent plan p is.sent)
+
+  traffic_noisy : (e : ℕ) (samples : List Sample) → IsNear e samples (made_samples plan) →
+      Bears plan p.gain e → Relates HasSign plan (traffic_carrier plan p) Data samples
+  traffic_noisy e samples near bears =
+      noisy_relates plan (traffic_carrier plan p) Data e samples is.receivable.lawful.pn
+      (plan_apart width plan is.receivable.lawful) (traffic_sent plan p is.sent) near bears
+
+module _ {width : Width} {plan : CellPlan} {p : TrafficPlan} {t : Tuning} {traffic : Traffic}
+    {m : Mark} {superframes : ℕ} (is : HearsTraffic width plan p t traffic m superframes) (k : ℕ)
+    {symbols power_bits : List Bool}
     (sent : SendsSymbols plan p (4 * superframes + k) symbols power_bits)
     (here : is_in_file t.count (one_stream t traffic m) k ≡ true) where
-  abbrev strength : ℕ
-  strength = soft_strength plan Data p.gain
-
   abbrev state : ℕ
   state = frame_state traffic m k
 
@@ -148,57 +288,80 @@ module _ (width : Width) (plan : CellPlan) (p : TrafficPlan) (t : Tuning) (traff
       fingers_are plan t traffic.row is.tuned
       ∙ ap (λ (row : ℕ). path_finger plan row ∷ []) (sym is.assigned.row)
 
-  -- the soft values as the finger hears them
-  abbrev raw : List ℤ
-  raw = softs (made_samples plan) (fingers_of traffic.row t.phase t.deltas) Data u
+  -- ---- of samples whose soft values stand to the symbols in a relation
 
-  raw_are : raw ≡ signed strength given
-  raw_are =
-      ap (λ (fs : List Finger). softs (made_samples plan) fs Data u) finger
-      ∙ channel_signs width plan (traffic_carrier plan p) Data u (4 * superframes + k)
-      is.receivable (traffic_sent plan p is.sent) is_frame (ap length given_is ∙ given_long)
-      ∙ ap (signed strength) given_is
+  module _ (R : Bool → ℤ → Type 0) (turns : Turns R) (samples : List Sample)
+      (relates : Relates R plan (traffic_carrier plan p) Data samples) where
+    -- the soft values as the finger hears them
+    abbrev raw : List ℤ
+    raw = softs samples (fingers_of traffic.row t.phase t.deltas) Data u
 
-  -- and descrambled by the scrambling
-  descrambled_are : frame_softs (made_samples plan) (one_stream t traffic m) k
-      ≡ descrambled (scrambling state mask) (signed strength given)
-  descrambled_are =
-      let some = length-scrambling state mask in
-      ap (unscrambled (scrambling state mask)) raw_are
-      ∙ descrambled_some (scrambling state mask) (signed strength given) (omega (arith, some))
+    raw_related : AllZip R given raw
+    raw_related =
+        subst (λ (fs : List Finger). AllZip R given (softs samples fs Data u)) (sym finger)
+        (subst (λ (xs : List Bool). AllZip R xs (softs samples (path_finger plan p.row ∷ []) Data u))
+        given_is
+        (relates u (4 * superframes + k) is_frame (ap length given_is ∙ given_long)))
 
-  long_descrambled : length (descrambled (scrambling state mask) (signed strength given)) ≡ 384
-  long_descrambled =
-      let all : length (signed strength given) ≡ 384 =
-      length-signed strength given ∙ given_long in
-      length-zipped (λ (b : Bool) (v : ℤ). sign b *ℤ v) (scrambling state mask)
-      (signed strength given) (length-scrambling state mask ∙ sym all)
-      ∙ all
+    -- and descrambled by the scrambling
+    descrambled_are : frame_softs samples (one_stream t traffic m) k
+        ≡ descrambled (scrambling state mask) raw
+    descrambled_are =
+        let some = length-scrambling state mask in
+        descrambled_some (scrambling state mask) raw (omega (arith, some))
 
-  -- so they show what was sent
-  pub frame_shown : ShowFrame (replaced_in traffic m k) strength symbols
+    pub frame_long : length (frame_softs samples (one_stream t traffic m) k) ≡ 384
+    frame_long =
+        let all : length raw ≡ 384 = AllZip-long R given raw raw_related ∙ given_long in
+        ap length descrambled_are
+        ∙ length-zipped (λ (b : Bool) (v : ℤ). sign b *ℤ v) (scrambling state mask) raw
+        (length-scrambling state mask ∙ sym all)
+        ∙ all
+
+    -- so they stand so to the frame's symbols, and raw to its power control bits
+    pub frame_kept : AreKept R (replaced_in traffic m k) symbols
+        (frame_softs samples (one_stream t traffic m) k)
+    frame_kept =
+        subst (AreKept R (replaced_in traffic m k) symbols) (sym descrambled_are)
+        (kept_there R state mask power_bits raw turns symbols (scrambling state mask) sent.all
+        (length-scrambling state mask) raw_related)
+
+    pub frame_power : ArePowered R (replaced_in traffic m k) power_bits raw
+    frame_power =
+        powered_there R state mask power_bits raw (zip_with xor symbols (scrambling state mask))
+        raw_related
+
+  -- ---- of a clean link, and of near samples
+
+  pub frame_shown : ShowFrame (replaced_in traffic m k) (soft_strength plan Data p.gain) symbols
       (frame_softs (made_samples plan) (one_stream t traffic m) k)
   frame_shown = record {
-    strong = strength_some width plan Data p.gain is.receivable
-        (lawful_traffic width plan p is.receivable.lawful is.sent).gain;
-    long = ap length descrambled_are ∙ long_descrambled;
-    shows =
-        subst (ShowSymbols (replaced_in traffic m k) strength symbols) (sym descrambled_are)
-        (shows_symbols strength state mask power_bits symbols (scrambling state mask)
-        sent.all (length-scrambling state mask));
+    strong = traffic_strong is;
+    long = frame_long _ (signed_turn _) (made_samples plan) (traffic_clean is);
+    shows = frame_kept _ (signed_turn _) (made_samples plan) (traffic_clean is);
   }
 
-  -- and raw the power control bits
-  pub frame_powered : ShowPowerBits (replaced_in traffic m k) strength power_bits raw
-  frame_powered =
-      subst (ShowPowerBits (replaced_in traffic m k) strength power_bits) (sym raw_are)
-      (shows_power_bits strength state mask power_bits
-      (zip_with xor symbols (scrambling state mask)))
+  pub frame_powered : ShowPowerBits (replaced_in traffic m k) (soft_strength plan Data p.gain)
+      power_bits (softs (made_samples plan) (fingers_of traffic.row t.phase t.deltas) Data u)
+  frame_powered = frame_power _ (signed_turn _) (made_samples plan) (traffic_clean is)
+
+  module _ (e : ℕ) (samples : List Sample) (near : IsNear e samples (made_samples plan))
+      (bears : Bears plan p.gain e) where
+    pub noisy_shown : NoisyFrame (replaced_in traffic m k) symbols
+        (frame_softs samples (one_stream t traffic m) k)
+    noisy_shown = record {
+      long = frame_long HasSign signs_turn samples (traffic_noisy is e samples near bears);
+      keeps = frame_kept HasSign signs_turn samples (traffic_noisy is e samples near bears);
+    }
+
+    pub noisy_powered : HavePowerSigns (replaced_in traffic m k) power_bits
+        (softs samples (fingers_of traffic.row t.phase t.deltas) Data u)
+    noisy_powered = frame_power HasSign signs_turn samples (traffic_noisy is e samples near bears)
 
 -- ---- of the reference's pilot among the active ones
 
-module _ (width : Width) (plan : CellPlan) (p : TrafficPlan) (t : Tuning) (traffic : Traffic)
-    (m : Mark) (legs : ℕ → List Leg) (superframes k : ℕ) (f : TrafficFrame)
+module _ {width : Width} {plan : CellPlan} {p : TrafficPlan} {t : Tuning} {traffic : Traffic}
+    {m : Mark} {legs : ℕ → List Leg} {superframes k : ℕ} {f : TrafficFrame}
     (is : HearsTraffic width plan p t traffic m superframes)
     (heard : IsHeardAs plan p t traffic m legs superframes k f) where
   here : is_in_file t.count (one_stream t traffic m) k ≡ true
@@ -207,37 +370,183 @@ module _ (width : Width) (plan : CellPlan) (p : TrafficPlan) (t : Tuning) (traff
       (sym (one_stream_is t traffic m legs k heard.pilot))
       ∙ heard.here
 
-  abbrev Shown : List ℤ → Type 0
-  Shown descrambled = ShowFrame (replaced_in traffic m k) (soft_strength plan Data p.gain)
-      (codeword_symbols f) descrambled
-
-  abbrev Powered : List ℤ → Type 0
-  Powered raw = ShowPowerBits (replaced_in traffic m k) (soft_strength plan Data p.gain)
-      f.power_bits raw
-
   sends_codeword : SendsSymbols plan p (4 * superframes + k) (codeword_symbols f) f.power_bits
   sends_codeword = set_one_sends plan p (4 * superframes + k) f heard.frame
 
-  pub heard_shown : Shown (frame_softs (made_samples plan) (stream_of t traffic m legs k) k)
-  heard_shown =
+  -- its soft values stand to what is sent as those of the channel's frames do
+  heard_related : (R : Bool → ℤ → Type 0) → Turns R → (samples : List Sample) →
+      Relates R plan (traffic_carrier plan p) Data samples →
+      (length (frame_softs samples (stream_of t traffic m legs k) k) ≡ 384)
+      × AreKept R (replaced_in traffic m k) (codeword_symbols f)
+      (frame_softs samples (stream_of t traffic m legs k) k)
+      × ArePowered R (replaced_in traffic m k) f.power_bits (raw_softs t traffic m legs samples k)
+  heard_related R turns samples relates =
       subst
-      (λ (fs : List Finger). Shown (frame_softs (made_samples plan) (traffic_stream traffic m fs) k))
-      (sym (one_fingers traffic t.phase t.deltas (legs k) heard.pilot))
-      (frame_shown width plan p t traffic m superframes k (codeword_symbols f) f.power_bits is
-      sends_codeword here)
+      (λ (fs : List Finger). (length (frame_softs samples (traffic_stream traffic m fs) k) ≡ 384)
+      × AreKept R (replaced_in traffic m k) (codeword_symbols f)
+      (frame_softs samples (traffic_stream traffic m fs) k)
+      × ArePowered R (replaced_in traffic m k) f.power_bits
+      (softs samples fs Data (traffic_start traffic m k)))
+      (sym (one_fingers traffic t.phase t.deltas (legs k) heard.pilot)) (
+        frame_long is k sends_codeword here R turns samples relates,
+        frame_kept is k sends_codeword here R turns samples relates,
+        frame_power is k sends_codeword here R turns samples relates,
+      )
 
-  pub heard_powered : Powered (raw_softs t traffic m legs (made_samples plan) k)
-  heard_powered =
-      subst
-      (λ (fs : List Finger). Powered (softs (made_samples plan) fs Data (traffic_start traffic m k)))
-      (sym (one_fingers traffic t.phase t.deltas (legs k) heard.pilot))
-      (frame_powered width plan p t traffic m superframes k (codeword_symbols f) f.power_bits is
-      sends_codeword here)
-
--- ---- the law
+-- ---- the laws
 
 pub traffic_signs : TrafficHaveSentSigns
 traffic_signs width plan p t traffic m legs superframes k f is heard =
-    let shown = heard_shown width plan p t traffic m legs superframes k f is heard in
-    let powered = heard_powered width plan p t traffic m legs superframes k f is heard in
-    (shown.strong, shown.shows, powered)
+    let strength = soft_strength plan Data p.gain in
+    let all = heard_related is heard (IsSigned strength) (signed_turn strength) (made_samples plan)
+    (traffic_clean is) in
+    (traffic_strong is, all.1, all.2)
+
+pub noisy_traffic_signs : NoisyTrafficHasSentSigns
+noisy_traffic_signs width plan p t traffic m legs superframes k e f samples is heard near bears =
+    heard_related is heard HasSign signs_turn samples (traffic_noisy is e samples near bears)
+
+-- ---- the places of power control bits
+
+-- pairs of neighbours, from number a on
+length-pairs : (f : ℕ → ℕ) (a n : ℕ) →
+    length (flat_map (λ g. f g ∷ (f g + 1) ∷ []) (range_with_len a n)) ≡ 2 * n
+length-pairs f a zero = refl
+length-pairs f a (suc n) =
+    let rest = length-pairs f (a + 1) n in omega (arith, rest)
+
+first_of_pair : (f : ℕ → ℕ) (a n g : ℕ) → g < n →
+    get_or (flat_map (λ g. f g ∷ (f g + 1) ∷ []) (range_with_len a n)) (2 * g) 0 ≡ f (a + g)
+first_of_pair f a zero g below = absurd (omega (arith, below))
+first_of_pair f a (suc n) zero below = ap f (omega arith)
+first_of_pair f a (suc n) (suc g) below =
+    let pairs = flat_map (λ g. f g ∷ (f g + 1) ∷ []) (range_with_len a (suc n)) in
+    let place : 2 * suc g ≡ suc (suc (2 * g)) = omega arith in
+    let turned : a + 1 + g ≡ a + suc g = omega arith in
+    ap (λ (k : ℕ). get_or pairs k 0) place
+    ∙ first_of_pair f (a + 1) n g (omega (arith, below)) ∙ ap f turned
+
+second_of_pair : (f : ℕ → ℕ) (a n g : ℕ) → g < n →
+    get_or (flat_map (λ g. f g ∷ (f g + 1) ∷ []) (range_with_len a n)) (2 * g + 1) 0
+    ≡ f (a + g) + 1
+second_of_pair f a zero g below = absurd (omega (arith, below))
+second_of_pair f a (suc n) zero below = ap (λ (k : ℕ). f k + 1) (omega arith)
+second_of_pair f a (suc n) (suc g) below =
+    let pairs = flat_map (λ g. f g ∷ (f g + 1) ∷ []) (range_with_len a (suc n)) in
+    let place : 2 * suc g + 1 ≡ suc (suc (2 * g + 1)) = omega arith in
+    let turned : a + 1 + g ≡ a + suc g = omega arith in
+    ap (λ (k : ℕ). get_or pairs k 0) place
+    ∙ second_of_pair f (a + 1) n g (omega (arith, below)) ∙ ap (λ (k : ℕ). f k + 1) turned
+
+-- the places of a frame are such pairs
+pub power_pairs : (state mask : ℕ) →
+    ArePairs (power_place state mask) (power_places state mask) 16
+unfolding power_places places
+power_pairs state mask =
+    let f = power_place state mask in
+    record {
+      long = length-pairs f 0 16;
+      first = λ g below. first_of_pair f 0 16 g below ∙ ap f (omega arith);
+      second = λ g below. second_of_pair f 0 16 g below ∙ ap (λ (k : ℕ). f k + 1) (omega arith);
+    }
+
+-- two replaced places of a group of 24
+pub record IsPairAt (replaced : List ℕ) (g first second : ℕ) : Type 0 where
+  pub replaced_one : is_replaced replaced first ≡ true
+  pub replaced_other : is_replaced replaced second ≡ true
+  pub group_one : first / 24 ≡ g
+  pub group_other : second / 24 ≡ g
+  pub below_one : first < 384
+  pub below_other : second < 384
+
+listed_place : (replaced : List ℕ) (j : ℕ) → j < length replaced →
+    is_replaced replaced (get_or replaced j 0) ≡ true
+listed_place replaced j below =
+    let place = get_or replaced j 0 in
+    list_any_at (nat_eq place) replaced j 0 below (eq-eqb place place refl)
+
+pair_at : (state mask g : ℕ) → g < 16 →
+    IsPairAt (power_places state mask) g (get_or (power_places state mask) (2 * g) 0)
+    (get_or (power_places state mask) (2 * g + 1) 0)
+pair_at state mask g below =
+    let f = power_place state mask in
+    let xs = power_places state mask in
+    let groups = power_place_in_groups state mask in
+    let pairs = power_pairs state mask in
+    let (low, high) = pairs_in_groups f xs groups pairs g below in
+    let next = pairs_neighbours f xs pairs g below in
+    let long = pairs.long in
+    let first : 2 * g < length xs = omega (arith, below, long) in
+    let second : 2 * g + 1 < length xs = omega (arith, below, long) in
+    record {
+      replaced_one = listed_place xs (2 * g) first;
+      replaced_other = listed_place xs (2 * g + 1) second;
+      group_one = omega (arith, low, high);
+      group_other = omega (arith, low, high, next);
+      below_one = pairs_below f xs groups pairs (2 * g) first;
+      below_other = pairs_below f xs groups pairs (2 * g + 1) second;
+    }
+
+-- ---- a bit is heard as it was sent
+
+one_subchannel : (sums : List ℤ) (g : ℕ) →
+    power_bit (sums ∷ []) g ≡ not (int_lt (pos 0) (get_or sums g (pos 0)))
+one_subchannel sums g = ap not (with_true (int_lt (pos 0) (get_or sums g (pos 0))))
+  where
+    with_true : (b : Bool) → (b && true) ≡ b
+    with_true true = refl
+    with_true false = refl
+
+-- two soft values with the sign of a bit are heard as it
+heard_sign : (b : Bool) (y z : ℤ) → HasSign b y → HasSign b z → not (int_lt (pos 0) (y +ℤ z)) ≡ b
+heard_sign true y z p q = ap not (le_false (pos 0) (y +ℤ z) (omega (arith, ints, p, q)))
+heard_sign false y z p q = ap not (lt_true (pos 0) (y +ℤ z) (omega (arith, ints, p, q)))
+
+heard_power_bit : (state mask : ℕ) (power_bits : List Bool) (softs : List ℤ) (g : ℕ) → g < 16 →
+    HavePowerSigns (power_places state mask) power_bits softs →
+    power_bit (group_sums (power_places state mask) softs ∷ []) g ≡ get_or power_bits g false
+heard_power_bit state mask power_bits softs g below have =
+    let replaced = power_places state mask in
+    let one = get_or replaced (2 * g) 0 in
+    let other = get_or replaced (2 * g + 1) 0 in
+    let pair = pair_at state mask g below in
+    let bit = λ (k : ℕ). get_or power_bits k false in
+    let first = subst (λ (k : ℕ). HasSign (bit k) (get_or softs one (pos 0))) pair.group_one
+    (have one pair.below_one pair.replaced_one) in
+    let second = subst (λ (k : ℕ). HasSign (bit k) (get_or softs other (pos 0))) pair.group_other
+    (have other pair.below_other pair.replaced_other) in
+    one_subchannel (group_sums replaced softs) g
+    ∙ ap (λ (z : ℤ). not (int_lt (pos 0) z))
+    (get_or-map-places (group_sum replaced softs) 16 g (pos 0) below)
+    ∙ heard_sign (bit g) (get_or softs one (pos 0)) (get_or softs other (pos 0)) first second
+
+pub heard_power_bits : (state mask : ℕ) (power_bits : List Bool) (softs : List ℤ) →
+    HavePowerSigns (power_places state mask) power_bits softs →
+    map (power_bit (group_sums (power_places state mask) softs ∷ [])) (places 16)
+    ≡ sent_bits power_bits
+unfolding sent_bits
+heard_power_bits state mask power_bits softs have =
+    map_ext_places (power_bit (group_sums (power_places state mask) softs ∷ []))
+    (λ g. get_or power_bits g false) 16
+    (λ g below. heard_power_bit state mask power_bits softs g below have)
+
+-- ---- the laws
+
+pub noisy_power_bits : NoisyPowerBitsComeBack
+unfolding power_bits_at
+noisy_power_bits width plan p t traffic m legs superframes k e f samples is heard near bears =
+    ap (λ (all : List (List ℤ)). map (power_bit all) (places 16))
+    (one_sums t traffic m legs k heard.pilot samples)
+    ∙ heard_power_bits (frame_state traffic m k) (traffic_mask traffic.esn) f.power_bits
+    (raw_softs t traffic m legs samples k)
+    (noisy_traffic_signs width plan p t traffic m legs superframes k e f samples is heard near bears).2
+
+pub power_bits_back : PowerBitsComeBack
+power_bits_back width plan p t traffic m legs superframes k f is heard =
+    noisy_power_bits width plan p t traffic m legs superframes k 0 f (made_samples plan) is heard
+    (near-self 0 (made_samples plan)) (traffic_borne is)
+
+pub sixteen_sent : SixteenPowerBitsAreSent
+unfolding sent_bits
+sixteen_sent f long =
+    sym (map-places-all (λ g. get_or f.power_bits g false) f.power_bits 16 false long (λ g below. refl))

@@ -8,11 +8,225 @@ use Rattle.clean_link.proofs.Common.{ActivePilot, Strength, Thresholds, legs_of,
 use Rattle.clean_link.proofs.Common.{legs_by, messages_at, moment_of, moment_place, moments_before, passed, told_by, all_noted, body_noted}
 use Rattle.clean_link.proofs.Common.{in_traffic_thresholds, noted, noted_with, page_noted, system_thresholds, page_event, pages_behind}
 use Rattle.clean_link.proofs.Common.{messages_by, frame_heard, frames_by, frames_now, Tuning, Event, Leg, Mark, Traffic, kept_new, kept_old}
-use Rattle.clean_link.proofs.Common.{IsNoDirection, IsNotDirected, IsOnePilot, ReadPage, OnePilotIsHeard}
+use Rattle.clean_link.proofs.Common.{IsNoDirection, IsNotDirected, IsOnePilot, ReadPage, OnePilotIsHeard, length, drop, length-take-le}
+use Rattle.clean_link.proofs.Common.{take-append-drop, events, events_at, heard_within, message_events_at, frame_events_at}
+use Rattle.clean_link.proofs.Common.{paging_events_at, sets_events_at, mark, frames_at, AreNear, sync_events_at, if_followed, sync_stream}
+use Rattle.clean_link.proofs.Common.{Pilot, frames_sooner, by_one_mark, messages_sooner, IsUndirected, append_assoc, append-nil, sets_at}
+use Rattle.clean_link.proofs.Common.{frames_later, messages_later, opens_followed, OpensBehind, told_behind, option_map, ◌&&◌, ℤ}
+use Rattle.clean_link.proofs.Common.{option_to_list, power_bit, decoded, group_sums, Decoded, softs, Finger, Data, AreClose, all_fingers}
+use Rattle.clean_link.proofs.Common.{subchannels, capsule_with, message_at, message_events, message_heard, signal_at, signal_in, signal_of}
+use Rattle.clean_link.proofs.Common.{signals_before, frame_softs, is_in_file, known_at, known_now, Stream, all_sums, power_bits_at}
+use Rattle.clean_link.proofs.Common.{decoded_at, frame_event, subchannel_sums, raw_by, raw_softs, ends_now, frames_bound, has_frame}
+use Rattle.clean_link.proofs.Common.{replaced_in, stream_of, traffic_start, traffic_stream, fingers_of, AreCloseAll, map_same, pilot_alone}
+use Rattle.clean_link.proofs.Common.{filter_ext_places, flat_map_ext_filter, flat_map_ext_filter_places, ◌*◌, ◌+ℤ◌, IsTimed, modulo_code}
 use Rattle.pilot_sets.specs.Standing.{stepped}
+use Rattle.clean_link.proofs.frames.Times.{one_path, IsAlone, inside_alone, known_at_once, room_alone, timed_alone}
 use Rattle.paging_message.specs.declared.message.PagingMessage.TheVariants as pages
 use Rattle.traffic_message.specs.declared.body.TrafficBody.TheVariants as bodies
 use Rattle.heard_events.specs.declared.event.Event.TheVariants as kinds
+use Rattle.heard_events.specs.declared.channel.Channel.TheVariants.{Paging, Traffic as OnTraffic}
+
+-- ---- one frame
+
+-- the frames of a channel over the handset's fingers on its row
+abbrev pub one_stream : Tuning → Traffic → Mark → Stream
+one_stream t traffic m = traffic_stream traffic m (fingers_of traffic.row t.phase t.deltas)
+
+-- the pilot has just these fingers
+pub one_fingers : (traffic : Traffic) (phase : ℕ) (deltas : List ℤ) (legs : List Leg) →
+    IsOnePilot traffic legs → all_fingers phase deltas legs ≡ fingers_of traffic.row phase deltas
+one_fingers traffic phase deltas legs is =
+    ap (λ (some : List Leg). all_fingers phase deltas some) is.alone
+    ∙ pilot_alone phase deltas true is.finger 0 refl
+    ∙ append-nil (fingers_of is.finger.row phase deltas)
+    ∙ ap (λ (row : ℕ). fingers_of row phase deltas) is.row
+
+-- and one power control subchannel, which is its own
+one_subchannel : (f : Finger) →
+    subchannels (record { reference = true; finger = f; subchannel = 0 } ∷ []) ≡ 0 ∷ []
+unfolding places
+one_subchannel f = refl
+
+module _ (t : Tuning) (traffic : Traffic) (m : Mark) (legs : ℕ → List Leg) (k : ℕ)
+    (is : IsOnePilot traffic (legs k)) where
+  pub one_stream_is : stream_of t traffic m legs k ≡ one_stream t traffic m
+  one_stream_is =
+      ap (traffic_stream traffic m) (one_fingers traffic t.phase t.deltas (legs k) is)
+
+  -- its power control bits are heard of all of its fingers
+  pub one_sums : (samples : List Sample) →
+      all_sums t traffic m legs samples k
+      ≡ group_sums (replaced_in traffic m k) (raw_softs t traffic m legs samples k) ∷ []
+  one_sums samples =
+      let one : List Leg = record { reference = true; finger = is.finger; subchannel = 0 } ∷ [] in
+      let replaced = replaced_in traffic m k in
+      ap (λ (some : List Leg).
+      map (subchannel_sums t traffic m samples k some) (subchannels some)) is.alone
+      ∙ ap (map (subchannel_sums t traffic m samples k one)) (one_subchannel is.finger)
+      ∙ sym
+      (ap (λ (some : List Leg). group_sums replaced (raw_by t traffic m samples k some) ∷ [])
+      is.alone)
+
+-- ---- pilots that are the reference's alone are heard alike
+
+module _ (t : Tuning) (traffic : Traffic) (m : Mark) (legs legs' : ℕ → List Leg)
+    (one : (k : ℕ) → IsOnePilot traffic (legs k))
+    (one' : (k : ℕ) → IsOnePilot traffic (legs' k)) where
+  same_fingers : (k : ℕ) →
+      all_fingers t.phase t.deltas (legs k) ≡ all_fingers t.phase t.deltas (legs' k)
+  same_fingers k =
+      one_fingers traffic t.phase t.deltas (legs k) (one k)
+      ∙ sym (one_fingers traffic t.phase t.deltas (legs' k) (one' k))
+
+  same_decoded : (samples : List Sample) (k : ℕ) →
+      decoded_at t traffic m legs samples k ≡ decoded_at t traffic m legs' samples k
+  unfolding decoded_at
+  same_decoded samples k =
+      ap (λ (fingers : List Finger).
+      decoded (replaced_in traffic m k)
+      (frame_softs samples (traffic_stream traffic m fingers) k))
+      (same_fingers k)
+
+  same_raw : (samples : List Sample) (k : ℕ) →
+      raw_softs t traffic m legs samples k ≡ raw_softs t traffic m legs' samples k
+  same_raw samples k =
+      ap (λ (fingers : List Finger). softs samples fingers Data (traffic_start traffic m k))
+      (same_fingers k)
+
+  same_power_bits : (samples : List Sample) (k : ℕ) →
+      power_bits_at t traffic m legs samples k ≡ power_bits_at t traffic m legs' samples k
+  unfolding power_bits_at
+  same_power_bits samples k =
+      let replaced = replaced_in traffic m k in
+      ap (λ (sums : List (List ℤ)). map (power_bit sums) (places 16))
+      (one_sums t traffic m legs k (one k) samples
+      ∙ ap (λ (values : List ℤ). group_sums replaced values ∷ []) (same_raw samples k)
+      ∙ sym (one_sums t traffic m legs' k (one' k) samples))
+
+  same_heard : (samples : List Sample) (n k : ℕ) →
+      frame_heard t traffic m legs samples n k ≡ frame_heard t traffic m legs' samples n k
+  same_heard samples n k =
+      ap (λ (d : Decoded). frame_event n d (power_bits_at t traffic m legs samples k))
+      (same_decoded samples k)
+      ∙ ap (frame_event n (decoded_at t traffic m legs' samples k)) (same_power_bits samples k)
+
+  same_has : (k : ℕ) → has_frame t traffic m legs k ≡ has_frame t traffic m legs' k
+  same_has k =
+      ap (λ (fingers : List Finger). is_in_file t.count (traffic_stream traffic m fingers) k)
+      (same_fingers k)
+
+  same_now : (n : ℕ) → frames_now t traffic m legs n ≡ frames_now t traffic m legs' n
+  same_now n =
+      filter_ext_places (ends_now t traffic m legs n) (ends_now t traffic m legs' n)
+      (frames_bound n)
+      (λ k below.
+      ap (λ (fingers : List Finger).
+      is_in_file t.count (traffic_stream traffic m fingers) k
+      && known_at t.count (traffic_stream traffic m fingers) k == n)
+      (same_fingers k))
+
+  -- so their frames are the same,
+  pub same_frames : (samples : List Sample) (n : ℕ) →
+      frames_by t traffic m legs samples n ≡ frames_by t traffic m legs' samples n
+  unfolding frames_by
+  same_frames samples n =
+      ap (map (frame_heard t traffic m legs samples n)) (same_now n)
+      ∙ map_same (frame_heard t traffic m legs samples n)
+      (frame_heard t traffic m legs' samples n) (frames_now t traffic m legs' n)
+      (same_heard samples n)
+
+  same_signal : (samples : List Sample) (k : ℕ) →
+      signal_at t traffic m legs samples k ≡ signal_at t traffic m legs' samples k
+  unfolding signal_at
+  same_signal samples k = ap signal_of (same_decoded samples k)
+
+  same_before : (samples : List Sample) (k : ℕ) →
+      signals_before t traffic m legs samples k ≡ signals_before t traffic m legs' samples k
+  unfolding signals_before
+  same_before samples k =
+      let own : (ℕ → List Leg) → ℕ → List (List Bool) =
+      λ some j. option_to_list (signal_at t traffic m some samples j) in
+      ap (flat_map (own legs))
+      (filter_ext_places (has_frame t traffic m legs) (has_frame t traffic m legs') k
+      (λ j below. same_has j))
+      ∙ flat_map_ext_filter_places (has_frame t traffic m legs') (own legs) (own legs') k
+      (λ j below inside.
+      ap (λ (signal : Option (List Bool)). option_to_list signal) (same_signal samples j))
+
+  same_message : (samples : List Sample) (n k : ℕ) →
+      message_heard t traffic m legs samples n k ≡ message_heard t traffic m legs' samples n k
+  unfolding message_at
+  same_message samples n k =
+      let of : List (List Bool) → Option (List Bool) → List Event =
+      λ before signal. message_events n (signal_in t.check16 (capsule_with before signal)) in
+      ap (λ (before : List (List Bool)). of before (signal_at t traffic m legs samples k))
+      (same_before samples k)
+      ∙ ap (of (signals_before t traffic m legs' samples k)) (same_signal samples k)
+
+  -- and so are the messages that these complete
+  pub same_messages : (samples : List Sample) (n : ℕ) →
+      messages_by t traffic m legs samples n ≡ messages_by t traffic m legs' samples n
+  unfolding messages_by
+  same_messages samples n =
+      ap (flat_map (message_heard t traffic m legs samples n)) (same_now n)
+      ∙ flat_map_ext_filter (ends_now t traffic m legs' n)
+      (message_heard t traffic m legs samples n) (message_heard t traffic m legs' samples n)
+      (places (frames_bound n)) (λ k both. same_message samples n k)
+
+-- ---- by the one stream
+
+module _ (t : Tuning) (traffic : Traffic) (m : Mark) (legs : ℕ → List Leg)
+    (one : (k : ℕ) → IsOnePilot traffic (legs k)) where
+  -- the frames that end at a number of samples are the stream's
+  pub one_now : (n : ℕ) →
+      frames_now t traffic m legs n ≡ known_now t.count (one_stream t traffic m) n (frames_bound n)
+  one_now n =
+      filter_ext_places (ends_now t traffic m legs n)
+      (λ k. is_in_file t.count (one_stream t traffic m) k
+      && known_at t.count (one_stream t traffic m) k == n) (frames_bound n)
+      (λ k below.
+      ap (λ (s : Stream). is_in_file t.count s k && known_at t.count s k == n)
+      (one_stream_is t traffic m legs k (one k)))
+
+  -- and one finger on the path is close
+  pub one_close : t.deltas ≡ one_path → AreCloseAll t legs
+  one_close alone k =
+      subst AreClose (sym (one_fingers traffic t.phase t.deltas (legs k) (one k)))
+      (subst (λ (deltas : List ℤ). AreClose (fingers_of traffic.row t.phase deltas)) (sym alone)
+      (record { some = omega arith; close = refl }))
+
+-- ---- when frames end and are known
+
+-- the number of samples at which frame k ends
+abbrev pub end_behind : Traffic → Mark → ℕ → ℕ
+end_behind traffic m k = m.sample + 1536 * traffic.offset + 24576 * (k + 1)
+
+module _ (t : Tuning) (traffic : Traffic) (m : Mark) (alone : t.deltas ≡ one_path) where
+  pub traffic_alone : IsAlone (one_stream t traffic m)
+  traffic_alone = record {
+    phase = modulo_code (pos t.phase +ℤ pos 0);
+    row = traffic.row;
+    fingers = ap (fingers_of traffic.row t.phase) alone;
+  }
+
+  pub traffic_timed : IsTimed t.count (one_stream t traffic m) 0
+  traffic_timed = timed_alone t.count (one_stream t traffic m) traffic_alone
+
+  pub traffic_file_from : (k : ℕ) → end_behind traffic m k ≤ t.count →
+      is_in_file t.count (one_stream t traffic m) k ≡ true
+  traffic_file_from k h =
+      inside_alone t.count (one_stream t traffic m) k traffic_alone (omega (arith, h))
+
+  pub traffic_file_to : (k : ℕ) → is_in_file t.count (one_stream t traffic m) k ≡ true →
+      end_behind traffic m k ≤ t.count
+  traffic_file_to k h =
+      omega (arith, room_alone t.count (one_stream t traffic m) k traffic_alone h)
+
+  -- it doesn't wait for the next one
+  pub traffic_known_is : (k : ℕ) →
+      known_at t.count (one_stream t traffic m) k ≡ end_behind traffic m k
+  traffic_known_is k =
+      known_at_once t.count (one_stream t traffic m) k traffic_alone refl ∙ omega arith
 
 -- ---- lists
 
@@ -253,3 +467,117 @@ one_pilot_before t traffic m samples n k undirected =
 pub one_pilot_heard : OnePilotIsHeard
 one_pilot_heard t traffic m samples n k undirected =
     one_pilot_before t traffic m samples n k (λ i less. undirected i (omega (arith, less)))
+
+-- of what is followed from the mark on, what ends at n is told by its kinds
+pub events_at_all : (t : Tuning) (xs : List Sample) (n : ℕ) →
+    events_at t xs n
+    ≡ sync_events_at t xs n
+    ++ (paging_events_at t xs n
+    ++ (frame_events_at t xs n ++ (message_events_at t xs n ++ sets_events_at t xs n)))
+unfolding events_at paging_events_at frame_events_at message_events_at sets_events_at
+events_at_all t xs n =
+    ap (λ (es : List Event). sync_events_at t xs n ++ es) (by_kinds t.traffic (mark t xs n))
+  where
+    by_kinds : (traffic : Option Traffic) (m : Option Mark) →
+        told_behind t (Some (Paging t.paging)) m xs n
+        ++ (told_behind t (option_map OnTraffic traffic) m xs n ++ [])
+        ≡ map (page_event n) (pages_behind t t.paging m xs n)
+        ++ (if_followed (λ traffic m. frames_at t traffic m xs n) traffic m
+        ++ (if_followed (λ traffic m. messages_at t traffic m xs n) traffic m
+        ++ if_followed (λ traffic m. sets_at t traffic m xs n) traffic m))
+    by_kinds (Some traffic) (Some m) =
+        let frames = frames_at t traffic m xs n in
+        let messages = messages_at t traffic m xs n in
+        let sets = sets_at t traffic m xs n in
+        ap (λ (es : List Event). map (page_event n) (pages_behind t t.paging (Some m) xs n) ++ es)
+        (append-nil ((frames ++ messages) ++ sets) ∙ append_assoc frames messages sets)
+    by_kinds (Some traffic) None = refl
+    by_kinds None (Some m) = refl
+    by_kinds None None = refl
+
+module _ (t : Tuning) (near : AreNear (sync_stream t).fingers) (followed : Option Traffic)
+    (samples : List Sample) (n : ℕ) where
+  pub frames_from_mark :
+      OpensBehind n (if_followed (λ traffic m. frames_at t traffic m samples n) followed)
+  frames_from_mark =
+      opens_followed _ (λ traffic m. frames_later t near traffic m samples n) followed
+
+  pub messages_from_mark :
+      OpensBehind n (if_followed (λ traffic m. messages_at t traffic m samples n) followed)
+  messages_from_mark =
+      opens_followed _ (λ traffic m. messages_later t near traffic m samples n) followed
+
+-- ---- in a file
+
+-- the pilot before the first moment
+abbrev pub first_legs : Traffic → Mark → ℕ → List Leg
+first_legs traffic m k = legs_of m (new_standing m.pilot traffic.row)
+
+pub first_pilot : (traffic : Traffic) (m : Mark) (k : ℕ) →
+    IsOnePilot traffic (first_legs traffic m k)
+first_pilot traffic m k =
+    steady_pilot m traffic (new_standing m.pilot traffic.row) (first_steady m traffic.row)
+
+module _ (t : Tuning) (traffic : Traffic) (m : Mark) (legs : ℕ → List Leg) (samples : List Sample)
+    (one : (k : ℕ) → IsOnePilot traffic (legs k)) (n : ℕ) (few : n ≤ length samples)
+    (heard : (k : ℕ) → IsOnePilot traffic (legs_at t traffic m samples n k)) where
+  whole : take n samples ++ drop n samples ≡ samples
+  whole = take-append-drop n samples
+
+  long : n ≤ length (take n samples)
+  long = let is = length-take-le n samples few in omega (arith, is)
+
+  -- any pilots of whom the reference's is the only one tell the frames of all samples,
+  pub frames_of_one : frames_at t traffic m samples n ≡ frames_by t traffic m legs samples n
+  frames_of_one =
+      same_frames t traffic m (legs_at t traffic m samples n) legs heard one (take n samples) n
+      ∙ sym (frames_sooner t traffic m legs (take n samples) (drop n samples) n long)
+      ∙ ap (λ (all : List Sample). frames_by t traffic m legs all n) whole
+
+  -- and the messages
+  pub messages_of_one : t.deltas ≡ one_path →
+      messages_at t traffic m samples n ≡ messages_by t traffic m legs samples n
+  messages_of_one alone =
+      same_messages t traffic m (legs_at t traffic m samples n) legs heard one
+      (take n samples) n
+      ∙ sym
+      (messages_sooner t traffic m legs (one_close t traffic m legs one alone) (take n samples)
+      (drop n samples) n long)
+      ∙ ap (λ (all : List Sample). messages_by t traffic m legs all n) whole
+
+-- ---- by the events of a file
+
+module _ (t : Tuning) (near : AreNear (sync_stream t).fingers) (samples : List Sample)
+    (none : All IsNotDirected (events t samples)) where
+  -- those of each number of samples
+  there : (n : ℕ) → n ≤ length samples → All IsNotDirected (message_events_at t samples n)
+  unfolding heard_within places
+  there n few =
+      let all = each_of_all IsNotDirected (events_at t samples) 0 (length samples + 1) n
+      (omega arith) (omega (arith, few))
+      (All-tail IsNotDirected (Pilot t.phase t.energy) (heard_within t samples (length samples)) none) in
+      let sync = sync_events_at t samples n in
+      let paging = paging_events_at t samples n in
+      let frames = frame_events_at t samples n in
+      let messages = message_events_at t samples n in
+      let sets = sets_events_at t samples n in
+      left_all IsNotDirected messages sets
+      (right_all IsNotDirected frames (messages ++ sets)
+      (right_all IsNotDirected paging (frames ++ (messages ++ sets))
+      (right_all IsNotDirected sync (paging ++ (frames ++ (messages ++ sets)))
+      (subst (All IsNotDirected) (events_at_all t samples n) all))))
+
+  -- by the mark of all samples
+  pub undirected_behind : (traffic : Traffic) (m : Mark) → t.traffic ≡ Some traffic →
+      mark t samples (length samples) ≡ Some m →
+      IsUndirected t traffic m samples (length samples)
+  unfolding message_events_at
+  undirected_behind traffic m followed set n few =
+      let heard : Traffic → Mark → List Event = λ traffic m. messages_at t traffic m samples n in
+      let is : if_followed heard t.traffic (mark t samples n)
+      ≡ messages_at t traffic m samples n =
+      by_one_mark t near samples n (length samples) n _ few (omega arith)
+      (messages_from_mark t near t.traffic samples n)
+      ∙ ap (λ (last : Option Mark). if_followed heard t.traffic last) set
+      ∙ ap (λ (channel : Option Traffic). if_followed heard channel (Some m)) followed in
+      subst (All IsNotDirected) is (there n few)

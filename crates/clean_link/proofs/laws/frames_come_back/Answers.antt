@@ -1,6 +1,4 @@
-use Rattle.clean_link.proofs.signal.ChannelsBack.{channel_frames}
-use Rattle.clean_link.proofs.frames.SyncFrames.{frames_back, frames_zero}
-use Rattle.clean_link.proofs.frames.PagingFrames.{paging_frames_back, silent_paging_back}
+use Rattle.clean_link.proofs.frames.ChannelFrames.{channel_frames, frames_back, frames_zero, paging_frames_back, silent_paging_back}
 use Rattle.clean_link.proofs.laws.frames_come_back.Goals as goal
 
 pub returns : goal.returns

@@ -1,5 +1,4 @@
-use Rattle.clean_link.proofs.marks.FirstMark.{marked_where_heard}
-use Rattle.clean_link.proofs.marks.MarksTrue.{marks_rate, marks_true, unmarked}
+use Rattle.clean_link.proofs.marks.MarksTrue.{marked_where_heard, marks_rate, marks_true, unmarked}
 use Rattle.clean_link.proofs.laws.marks_are_true.Goals as goal
 
 pub returns : goal.returns

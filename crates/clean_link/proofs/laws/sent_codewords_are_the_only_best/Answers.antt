@@ -1,6 +1,4 @@
-use Rattle.clean_link.proofs.signal.ChannelsBack.{channel_codewords}
-use Rattle.clean_link.proofs.frames.SyncFrames.{codewords_alone}
-use Rattle.clean_link.proofs.frames.PagingFrames.{paging_codewords_alone}
+use Rattle.clean_link.proofs.frames.ChannelFrames.{channel_codewords, codewords_alone, paging_codewords_alone}
 use Rattle.clean_link.proofs.laws.sent_codewords_are_the_only_best.Goals as goal
 
 pub returns : goal.returns

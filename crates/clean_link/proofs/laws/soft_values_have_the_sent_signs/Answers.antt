@@ -1,6 +1,5 @@
-use Rattle.clean_link.proofs.signal.ChannelsBack.{channel_signs, early_frames, silent_rows, stream_symbols, strength_some}
-use Rattle.clean_link.proofs.frames.SyncFrames.{sent_signs, zero_without_sync}
-use Rattle.clean_link.proofs.frames.PagingFrames.{paging_signs, silent_paging_zero}
+use Rattle.clean_link.proofs.frames.ChannelFrames.{channel_signs, early_frames, silent_rows, stream_symbols, strength_some, sent_signs}
+use Rattle.clean_link.proofs.frames.ChannelFrames.{zero_without_sync, paging_signs, silent_paging_zero}
 use Rattle.clean_link.proofs.laws.soft_values_have_the_sent_signs.Goals as goal
 
 pub returns : goal.returns

@@ -1,5 +1,4 @@
-use Rattle.clean_link.proofs.traffic.FullRate.{full_rate_distinct}
-use Rattle.clean_link.proofs.traffic.WorkedFrames.{full_rate_frame_distinct, zeros_shared}
+use Rattle.clean_link.proofs.traffic.HiddenCodewords.{full_rate_distinct, full_rate_frame_distinct, zeros_shared}
 use Rattle.clean_link.proofs.laws.some_frames_are_distinct.Goals as goal
 
 pub returns : goal.returns

@@ -1,8 +1,5 @@
-use Rattle.clean_link.proofs.traffic.PowerBits.{power_bits_back, sixteen_sent}
-use Rattle.clean_link.proofs.traffic.Frames.{each_frame_heard, frame_back, sent_frames_back}
-use Rattle.clean_link.proofs.traffic.NoneSent.{none_directed}
-use Rattle.clean_link.proofs.traffic.Signaling.{sent_messages_back}
-use Rattle.clean_link.proofs.traffic.Signs.{traffic_signs}
+use Rattle.clean_link.proofs.traffic.Signs.{power_bits_back, sixteen_sent, traffic_signs}
+use Rattle.clean_link.proofs.traffic.Frames.{each_frame_heard, frame_back, sent_frames_back, none_directed, sent_messages_back}
 use Rattle.clean_link.proofs.traffic.Steady.{one_pilot_heard}
 use Rattle.clean_link.proofs.laws.traffic_frames_come_back.Goals as goal
 

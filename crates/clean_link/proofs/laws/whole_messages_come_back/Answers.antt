@@ -1,5 +1,5 @@
 use Rattle.clean_link.proofs.messages.MessagesBack.{messages_back}
-use Rattle.clean_link.proofs.messages.NoDirections.{no_event_directed}
+use Rattle.clean_link.proofs.messages.EachChannel.{no_event_directed}
 use Rattle.clean_link.proofs.laws.whole_messages_come_back.Goals as goal
 
 pub returns : goal.returns

@@ -1,6 +1,5 @@
-use Rattle.clean_link.proofs.pages.CyclesBack.{page_sendings_back}
+use Rattle.clean_link.proofs.pages.CyclesBack.{page_sendings_back, whole_pages_back}
 use Rattle.clean_link.proofs.pages.Back.{pages_back}
-use Rattle.clean_link.proofs.pages.Whole.{whole_pages_back}
 use Rattle.clean_link.proofs.laws.whole_pages_come_back.Goals as goal
 
 pub returns : goal.returns

@@ -1,4 +1,4 @@
-use Rattle.clean_link.proofs.sendings.Back.{sendings_back}
+use Rattle.clean_link.proofs.sendings.Heard.{sendings_back}
 use Rattle.clean_link.proofs.laws.whole_sendings_come_back.Goals as goal
 
 pub returns : goal.returns

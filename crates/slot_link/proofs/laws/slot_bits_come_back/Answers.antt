@@ -1,8 +1,10 @@
-use Rattle.slot_link.proofs.Spans.{slot_bits_back, spans_back}
+use Rattle.slot_link.proofs.File.{signed_slot_bits_back, signed_spans_back, slot_bits_back, spans_back}
 use Rattle.slot_link.proofs.laws.slot_bits_come_back.Goals as goal
 
-pub returns-clause-spans : goal.returns-clause-spans
-returns-clause-spans c = spans_back
-
-pub returns-clause-slot : goal.returns-clause-slot
-returns-clause-slot c = slot_bits_back
+pub returns : goal.returns
+returns c = record {
+  signs = signed_spans_back;
+  spans = spans_back;
+  slot_signs = signed_slot_bits_back;
+  slot = slot_bits_back;
+}

@@ -1,5 +1,4 @@
-use Rattle.slot_link.proofs.File.{slot_texts_back}
-use Rattle.slot_link.proofs.Slots.{slots_back}
+use Rattle.slot_link.proofs.File.{slot_texts_back, slots_back}
 use Rattle.slot_link.proofs.laws.slots_come_back.Goals as goal
 
 pub returns-clause-slots : goal.returns-clause-slots

@@ -1,0 +1,434 @@
+-- What comes back of any channel that a stream hears, then of the sync channel and of paging channels.
+use Rattle.clean_link.proofs.Common.{◌≡◌, ℕ, ◌+◌, ◌<◌, true, List, [], ◌∷◌, refl, sym, ap, subst, inl, ◌∙◌, arith, pos, unsigned_abs, Some}
+use Rattle.clean_link.proofs.Common.{◌+ℤ◌, ints, int_rem_euclid_is, sent, sync_shape, SyncFields, IsSyncPlan, made_samples}
+use Rattle.clean_link.proofs.Common.{continued_symbols, sync_frame_bits, sync_symbols, sync_carrier, phase_at, CellPlan, SyncPlan}
+use Rattle.clean_link.proofs.Common.{length-sync_frame_bits, softs, Finger, Sync, signed, frame_start, is_in_file, Tuning, fingers_of}
+use Rattle.clean_link.proofs.Common.{modulo_code, sync_stream, AreZeroWithoutSync, FramesAreZeros, FramesComeBack, HaveSentSigns}
+use Rattle.clean_link.proofs.Common.{SentCodewordsAreTheOnlyBest, IsOnPath, first_sync_frame, soft_strength, AreReadBy, IsHeardBy}
+use Rattle.clean_link.proofs.Common.{path_finger, reference_finger, IsReceivable, Option, None, Sample, Width, unwrap_or, Bears, IsNear}
+use Rattle.clean_link.proofs.Common.{HearsSync, ShowsSync, NoisyPagingFramesComeBack, ◌*◌, ◌/◌, false, Bool, length, inr, ℤ, replicate}
+use Rattle.clean_link.proofs.Common.{Contains, length-map, All-contains, places, xor, zip_with, length-places, after, long_chip}
+use Rattle.clean_link.proofs.Common.{paging_mask, scrambling, data_shape, repeats_of, Rate, R9600, Cycle, cycle_frame_bits, cycle_symbols}
+use Rattle.clean_link.proofs.Common.{cycled, frame_scrambling, paging_frame_size, IsLawfulPlan, IsPagingPlan, cycle_of, paging_carrier}
+use Rattle.clean_link.proofs.Common.{PagingPlan, Data, paging_stream, descrambled, unscrambled, Stream, Mark, IsTrueMark}
+use Rattle.clean_link.proofs.Common.{PagingFramesComeBack, PagingHaveSentSigns, PagingCodewordsAreTheOnlyBest, SilentPagingFramesAreZeros}
+use Rattle.clean_link.proofs.Common.{SilentPagingIsZero, ordered_symbols, scrambled, mul-pos, lt-ltb, norm, symbol_chips, window_chips}
+use Rattle.clean_link.proofs.Common.{Form, Carrier, carriers, level, IsAligned, frame_softs, NoisyChannelsHaveSentSigns}
+use Rattle.clean_link.proofs.Common.{NoisyCodewordsAreTheOnlyBest, NoisyFramesComeBack, NoisyStreamsShowSymbols}
+use Rattle.clean_link.proofs.signal.CarriersApart.{sync_sent, sync_silent, paging_sent, paging_silent, plan_apart}
+use Rattle.clean_link.proofs.noise.Near.{none_borne, near-self, IsSigned, signed_is, signed_turn}
+use Rattle.clean_link.proofs.frames.Scores.{whole_frames}
+use Rattle.clean_link.proofs.frames.Heard.{IsShown, shown_alone, shown_back, silent_back, heard_shown, order_of, stream_related}
+use Rattle.clean_link.proofs.frames.Times.{frames_begin, in_file_to, paging_file_to}
+use Rattle.heard_events.specs.PagingStreams.{paging_rate}
+use Rattle.clean_link.proofs.signal.Rows.{level_at-alone, level_at-none}
+use Rattle.clean_link.proofs.signal.Frames.{clean_relates, silent_softs, noisy_relates}
+use Rattle.frame_decoder.specs.declared.span_format.FrameKind as kinds
+use Rattle.symbol_path.specs.Scrambling as codes
+use Rattle.cell_plan.specs.PageCycles as cycles
+use Rattle.cell_plan.specs.Pages as pages
+use Rattle.clean_link.specs.ChannelLaws as laws
+
+-- ---- soft values
+
+positive : (form : Form) (n g gain : ℕ) → 0 < n → 0 < g → 0 < gain →
+    0 < 4 * n * (g * gain) * (window_chips form * symbol_chips form)
+positive Sync n g gain a b c =
+    let all : 0 < n * (g * gain) = mul-pos a (mul-pos b c) in
+    omega (arith, all)
+positive Data n g gain a b c =
+    let all : 0 < n * (g * gain) = mul-pos a (mul-pos b c) in
+    omega (arith, all)
+
+-- a channel that is sent has a strength
+pub strength_some : laws.StrengthsArePositive
+strength_some width plan form gain is some =
+    positive form (norm plan.link.factor) plan.pilot.gain gain is.link is.lawful.pilot some
+
+pub channel_signs : laws.ChannelsHaveSentSigns
+channel_signs width plan c form u frame is has at long =
+    signed_is (soft_strength plan form c.gain) (c.symbols frame)
+    (softs (made_samples plan) (path_finger plan c.row ∷ []) form u)
+    (clean_relates plan c form is.lawful.pn (plan_apart width plan is.lawful) has u frame at long)
+
+pub noisy_signs : NoisyChannelsHaveSentSigns
+noisy_signs width plan c form u frame e samples is has at long near bears =
+    noisy_relates plan c form e samples is.lawful.pn (plan_apart width plan is.lawful) has near bears
+    u frame at long
+
+pub silent_rows : laws.SilentRowsAreZero
+silent_rows width plan row form u is below none at =
+    silent_softs plan row form u is.lawful.pn (plan_apart width plan is.lawful) below at
+    (λ chip from to. level_at-none row chip (carriers plan) none)
+
+level_before : (chip : ℕ) (c : Carrier) → chip < c.first → level chip c ≡ pos 0
+level_before chip c lt = rw (lt-ltb chip c.first lt) refl
+
+pub early_frames : laws.EarlyFramesAreZero
+early_frames width plan c form u is has at before =
+    let apart = plan_apart width plan is.lawful in
+    let own = All-contains IsAligned (carriers plan) c apart.aligned has in
+    silent_softs plan c.row form u is.lawful.pn apart own.row at
+    (λ chip from to.
+    level_at-alone chip (carriers plan) c apart.own_rows has ∙
+    level_before chip c (omega (arith, to, before)))
+
+pub stream_symbols : laws.StreamsShowSymbols
+stream_symbols width plan c s bits_of base k is has heard read here =
+    let strength = soft_strength plan s.form c.gain in
+    signed_is strength (order_of s bits_of (base + k)) (frame_softs (made_samples plan) s k)
+    (stream_related (IsSigned strength) (signed_turn strength) (made_samples plan)
+    (clean_relates plan c s.form is.lawful.pn (plan_apart width plan is.lawful) has) heard read k here)
+
+-- ---- a stream of near samples
+
+pub noisy_shown : {width : Width} {plan : CellPlan} {c : Carrier} {s : Stream}
+    {bits_of : ℕ → List Bool} {base : ℕ} (e : ℕ) (samples : List Sample) → IsReceivable width plan →
+    Contains (carriers plan) c → IsHeardBy plan c s base → AreReadBy c s bits_of base →
+    IsNear e samples (made_samples plan) → Bears plan c.gain e →
+    IsShown plan.link.samples samples s bits_of base
+noisy_shown {width} {plan} {c} {s} e samples is has heard read near bears =
+    heard_shown samples
+    (noisy_relates plan c s.form e samples is.lawful.pn (plan_apart width plan is.lawful) has near
+    bears)
+    heard read
+
+pub noisy_streams : NoisyStreamsShowSymbols
+noisy_streams width plan c s bits_of base k e samples is has heard read here near bears =
+    (noisy_shown e samples is has heard read near bears).shown k here
+
+pub noisy_frames : NoisyFramesComeBack
+noisy_frames width plan c s bits_of base k e samples is has heard read here near bears =
+    shown_back (noisy_shown e samples is has heard read near bears) k here
+
+pub noisy_codewords : NoisyCodewordsAreTheOnlyBest
+noisy_codewords width plan c s bits_of base k e samples is has heard read here near bears =
+    shown_alone (noisy_shown e samples is has heard read near bears) k here
+
+-- ---- of a clean link
+
+pub channel_frames : laws.ChannelFramesComeBack
+channel_frames width plan c s bits_of base k is has some heard read here =
+    noisy_frames width plan c s bits_of base k 0 (made_samples plan) is has heard read here
+    (near-self 0 (made_samples plan)) (none_borne width plan c.gain is some)
+
+pub channel_codewords : laws.ChannelCodewordsAreTheOnlyBest
+channel_codewords width plan c s bits_of base k is has some heard read here =
+    noisy_codewords width plan c s bits_of base k 0 (made_samples plan) is has heard read here
+    (near-self 0 (made_samples plan)) (none_borne width plan c.gain is some)
+
+-- ---- the stream
+
+phase_kept : (phase : ℕ) → phase < 32768 → modulo_code (pos phase +ℤ pos 0) ≡ phase
+phase_kept phase low =
+    ap unsigned_abs
+    (int_rem_euclid_is (pos phase +ℤ pos 0) (pos 32768) 32768 0 phase (omega arith) refl
+    (omega (arith, ints)))
+    ∙ omega (arith, low)
+
+-- the finger of a row is the one on the path
+pub fingers_are : (plan : CellPlan) (t : Tuning) (row : ℕ) → IsOnPath plan t →
+    fingers_of row t.phase t.deltas ≡ path_finger plan row ∷ []
+fingers_are plan t row on =
+    let low : phase_at plan plan.link.start < 32768 = omega arith in
+    ap (fingers_of row t.phase) on.alone
+    ∙ ap (λ (n : ℕ). fingers_of row n (pos 0 ∷ [])) on.phase
+    ∙ ap (λ (n : ℕ). reference_finger n row ∷ []) (phase_kept (phase_at plan plan.link.start) low)
+
+sync_heard : (plan : CellPlan) (sync : SyncPlan) (t : Tuning) → plan.cell.pn < 512 →
+    IsOnPath plan t →
+    IsHeardBy plan (sync_carrier plan sync) (sync_stream t) (first_sync_frame plan)
+sync_heard plan sync t low on = record {
+  alone = fingers_are plan t 32 on;
+  frame_long = refl;
+  symbol_long = refl;
+  begins = let begins = frames_begin plan t 0 low on.phase in omega (arith, begins);
+}
+
+sync_symbols-is : (plan : CellPlan) (m : SyncFields) (frame : ℕ) →
+    sync_symbols plan.cell m frame ≡
+    sent sync_shape 2 (continued_symbols (sync_frame_bits plan.cell m) frame)
+unfolding sync_symbols
+sync_symbols-is plan m frame = refl
+
+sync_read : (plan : CellPlan) (sync : SyncPlan) (t : Tuning) →
+    AreReadBy (sync_carrier plan sync) (sync_stream t) (sync_frame_bits plan.cell sync.message)
+    (first_sync_frame plan)
+sync_read plan sync t = record {
+  whole = whole_frames kinds.TheVariants.Sync;
+  each = length-sync_frame_bits plan.cell sync.message;
+  scrambles = λ k. inl refl;
+  sent = λ k. sync_symbols-is plan sync.message (first_sync_frame plan + k);
+}
+
+-- the gain of a sync channel that is sent
+gain_some : (plan : CellPlan) (sync : SyncPlan) → plan.sync ≡ Some sync → IsSyncPlan plan.sync →
+    0 < sync.gain
+gain_some plan sync is lawful = (subst IsSyncPlan is lawful).0
+
+inside : (plan : CellPlan) (t : Tuning) (s : Stream) (k : ℕ) → IsOnPath plan t →
+    is_in_file t.count s k ≡ true → is_in_file plan.link.samples s k ≡ true
+inside plan t s k on here = subst (λ (n : ℕ). is_in_file n s k ≡ true) on.count here
+
+-- ---- the laws
+
+pub sent_signs : HaveSentSigns
+sent_signs width plan sync t k at is on here = (
+  strength_some width plan Sync sync.gain at (gain_some plan sync is at.lawful.sync),
+  stream_symbols width plan (sync_carrier plan sync) (sync_stream t)
+      (sync_frame_bits plan.cell sync.message) (first_sync_frame plan) k at (sync_sent plan sync is)
+      (sync_heard plan sync t at.lawful.pn on) (sync_read plan sync t) (inside plan t (sync_stream t) k on here)
+      ∙ ap (signed (soft_strength plan Sync sync.gain))
+      (sym (sync_symbols-is plan sync.message (first_sync_frame plan + k))),
+)
+
+pub zero_without_sync : AreZeroWithoutSync
+zero_without_sync width plan t k at none on here =
+    let u = frame_start (sync_stream t) k in
+    let begins = frames_begin plan t k at.lawful.pn on.phase in
+    ap (λ (fs : List Finger). softs (made_samples plan) fs Sync u) (fingers_are plan t 32 on)
+    ∙ silent_rows width plan 32 Sync u at (omega arith) (sync_silent width plan at.lawful none)
+    (record {
+      room = omega (arith, in_file_to t k on.alone here, on.count);
+      aligned = omega (arith, begins);
+    })
+
+pub frames_zero : FramesAreZeros
+frames_zero width plan t k at none on here =
+    silent_back t.count k (made_samples plan) (sync_stream t) (omega arith)
+    (λ j there. zero_without_sync width plan t j at none on there) here
+
+-- ---- samples that show the channel's frames
+
+-- those near to the cell's, where the channel bears the noise
+sync_shown : (width : Width) (plan : CellPlan) (sync : SyncPlan) (t : Tuning) (e : ℕ)
+    (samples : List Sample) → IsReceivable width plan → plan.sync ≡ Some sync → IsOnPath plan t →
+    IsNear e samples (made_samples plan) → Bears plan sync.gain e →
+    IsShown t.count samples (sync_stream t) (sync_frame_bits plan.cell sync.message)
+    (first_sync_frame plan)
+sync_shown width plan sync t e samples is sends on near bears =
+    subst
+    (λ (n : ℕ). IsShown n samples (sync_stream t) (sync_frame_bits plan.cell sync.message)
+    (first_sync_frame plan)) (sym on.count)
+    (noisy_shown e samples is (sync_sent plan sync sends) (sync_heard plan sync t is.lawful.pn on)
+    (sync_read plan sync t) near bears)
+
+pub heard_sync : (width : Width) (plan : CellPlan) (sync : SyncPlan) (e : ℕ)
+    (samples : List Sample) → HearsSync width plan sync e samples → ShowsSync width plan samples
+heard_sync width plan sync e samples is = record {
+  receivable = is.receivable;
+  back = λ other t k sends on here.
+      let same : ◌≡◌ {A = Option SyncPlan} (Some sync) (Some other) = sym is.sends ∙ sends in
+      let one : sync ≡ other = ap (λ (o : Option SyncPlan). unwrap_or o sync) same in
+      shown_back (sync_shown width plan other t e samples is.receivable sends on is.near
+      (subst (λ (x : SyncPlan). Bears plan x.gain e) one is.bears)) k here;
+  none = λ t k silent on here.
+      let same : ◌≡◌ {A = Option SyncPlan} None (Some sync) = sym silent ∙ is.sends in
+      absurd (cc);
+}
+
+-- and those of a clean link, with a sync channel or without one
+clean_shown : (width : Width) (plan : CellPlan) (sync : SyncPlan) (t : Tuning) →
+    IsReceivable width plan → plan.sync ≡ Some sync → IsOnPath plan t →
+    IsShown t.count (made_samples plan) (sync_stream t) (sync_frame_bits plan.cell sync.message)
+    (first_sync_frame plan)
+clean_shown width plan sync t is sends on =
+    sync_shown width plan sync t 0 (made_samples plan) is sends on (near-self 0 (made_samples plan))
+    (none_borne width plan sync.gain is (gain_some plan sync sends is.lawful.sync))
+
+pub frames_back : FramesComeBack
+frames_back width plan sync t k at is on here =
+    shown_back (clean_shown width plan sync t at is on) k here
+
+pub codewords_alone : SentCodewordsAreTheOnlyBest
+codewords_alone width plan sync t k at is on here =
+    shown_alone (clean_shown width plan sync t at is on) k here
+
+pub clean_sync : (width : Width) (plan : CellPlan) → IsReceivable width plan →
+    ShowsSync width plan (made_samples plan)
+clean_sync width plan is = record {
+  receivable = is;
+  back = λ sync t k sends on here. frames_back width plan sync t k is sends on here;
+  none = λ t k silent on here. frames_zero width plan t k is silent on here;
+}
+
+-- ---- scrambling
+
+pub length-scrambling : (state mask : ℕ) → length (scrambling state mask) ≡ 384
+unfolding codes.symbol_chips
+length-scrambling state mask =
+    length-map (places 384) (λ i. long_chip state mask (64 * i)) ∙ length-places 384
+
+-- where there are scrambling bits, each symbol is added to its own
+scrambled_some : (bits symbols : List Bool) → 0 < length bits →
+    zip_with xor symbols bits ≡ scrambled bits symbols
+scrambled_some [] symbols some = absurd (omega (arith, some))
+scrambled_some (b ∷ bits) symbols some = refl
+
+-- soft values of 0 stay so
+zeros_descrambled : (bits : List Bool) →
+    descrambled bits (replicate (length bits) (pos 0)) ≡ replicate (length bits) (pos 0)
+zeros_descrambled [] = refl
+zeros_descrambled (true ∷ bits) = ap (λ (zs : List ℤ). pos 0 ∷ zs) (zeros_descrambled bits)
+zeros_descrambled (false ∷ bits) = ap (λ (zs : List ℤ). pos 0 ∷ zs) (zeros_descrambled bits)
+
+zeros_unscrambled : (bits : List Bool) (n : ℕ) → length bits ≡ n →
+    unscrambled bits (replicate n (pos 0)) ≡ replicate n (pos 0)
+zeros_unscrambled [] n long = refl
+zeros_unscrambled (b ∷ bits) n long =
+    subst
+    (λ (k : ℕ). descrambled (b ∷ bits) (replicate k (pos 0)) ≡ replicate k (pos 0))
+    long (zeros_descrambled (b ∷ bits))
+
+-- ---- the stream
+
+-- frame 0 begins with the mark's superframe
+paging_heard : (plan : CellPlan) (p : PagingPlan) (t : Tuning) (m : Mark) (superframes : ℕ) →
+    IsOnPath plan t → IsTrueMark plan m superframes →
+    IsHeardBy plan (paging_carrier plan p) (paging_stream t p.number m) (4 * superframes)
+paging_heard plan p t m superframes on at = record {
+  alone = fingers_are plan t p.number on;
+  frame_long = refl;
+  symbol_long = refl;
+  begins = let place = at.place in omega (arith, place);
+}
+
+-- the rate that the mark tells is that of the cell's channels
+rates_agree : (plan : CellPlan) (sync : SyncPlan) (m : Mark) → plan.sync ≡ Some sync →
+    m.prat ≡ sync.message.prat → pages.paging_rate plan.sync ≡ paging_rate m.prat
+rates_agree plan sync m is told = ap pages.paging_rate is ∙ sym (ap paging_rate told)
+
+frame_size-is : (rate : Rate) → paging_frame_size rate ≡ 192 / repeats_of rate
+frame_size-is R9600 = refl
+frame_size-is rate = refl
+
+length-cycled : (cycle : List Bool) (size frame : ℕ) → length (cycled cycle size frame) ≡ size
+unfolding cycled
+length-cycled cycle size frame = length-map (places size) _ ∙ length-places size
+
+symbols_are : (c : Cycle) (frame : ℕ) →
+    cycle_symbols c frame ≡
+    zip_with xor (ordered_symbols c frame) (frame_scrambling c frame)
+unfolding cycle_symbols cycles.scrambled
+symbols_are c frame = refl
+
+-- a frame is scrambled by the long code that the mark tells
+same_scrambling : (plan : CellPlan) (p : PagingPlan) (m : Mark) (superframes k : ℕ) →
+    IsTrueMark plan m superframes →
+    frame_scrambling (cycle_of plan p) (4 * superframes + k) ≡
+    scrambling (after m.state (24576 * k)) (paging_mask p.number m.pilot)
+same_scrambling plan p m superframes k at =
+    let chips : 24576 * (4 * superframes + k) ≡ 98304 * superframes + 24576 * k = omega arith in
+    ap (λ (state : ℕ). scrambling state (paging_mask p.number plan.cell.pn))
+    (ap (after plan.cell.lc) chips ∙ sym (at.state (24576 * k)))
+    ∙ ap (λ (pn : ℕ). scrambling (after m.state (24576 * k)) (paging_mask p.number pn)) (sym at.pn)
+
+paging_read : (plan : CellPlan) (p : PagingPlan) (t : Tuning) (m : Mark) (superframes : ℕ) →
+    IsTrueMark plan m superframes → pages.paging_rate plan.sync ≡ paging_rate m.prat →
+    AreReadBy (paging_carrier plan p) (paging_stream t p.number m)
+    (cycle_frame_bits (cycle_of plan p)) (4 * superframes)
+paging_read plan p t m superframes at same = record {
+  whole = whole_frames (kinds.TheVariants.Paging (paging_rate m.prat));
+  each = λ k. length-cycled (cycle_of plan p).bits
+      (paging_frame_size (pages.paging_rate plan.sync)) k
+      ∙ frame_size-is (pages.paging_rate plan.sync)
+      ∙ ap (λ (rate : Rate). 192 / repeats_of rate) same;
+  scrambles = λ k. inr
+      (length-scrambling (after m.state (24576 * k)) (paging_mask p.number m.pilot));
+  sent = λ k.
+      let frame = 4 * superframes + k in
+      let code = continued_symbols (cycle_frame_bits (cycle_of plan p)) frame in
+      let bits = scrambling (after m.state (24576 * k)) (paging_mask p.number m.pilot) in
+      let long = length-scrambling (after m.state (24576 * k)) (paging_mask p.number m.pilot) in
+      symbols_are (cycle_of plan p) frame
+      ∙ ap
+      (zip_with xor (sent data_shape (repeats_of (pages.paging_rate plan.sync)) code))
+      (same_scrambling plan p m superframes k at)
+      ∙ ap (λ (rate : Rate). zip_with xor (sent data_shape (repeats_of rate) code) bits) same
+      ∙ scrambled_some bits (sent data_shape (repeats_of (paging_rate m.prat)) code)
+      (omega (arith, long));
+}
+
+-- the gain of a paging channel that is sent
+paging_gain : (width : Width) (plan : CellPlan) (p : PagingPlan) → IsLawfulPlan width plan →
+    Contains plan.paging p → 0 < p.gain
+paging_gain width plan p lawful has =
+    (All-contains (IsPagingPlan (pages.paging_rate plan.sync)) plan.paging p lawful.paging has).gain
+
+-- ---- the laws
+
+pub paging_signs : PagingHaveSentSigns
+paging_signs width plan sync p t m superframes k is sends has on at told here =
+    let s = paging_stream t p.number m in
+    let bits_of = cycle_frame_bits (cycle_of plan p) in
+    let strength = soft_strength plan Data p.gain in
+    let code = continued_symbols bits_of (4 * superframes + k) in
+    let same = rates_agree plan sync m sends told in (
+      strength_some width plan Data p.gain is (paging_gain width plan p is.lawful has),
+      stream_symbols width plan (paging_carrier plan p) s bits_of (4 * superframes) k is
+          (paging_sent plan p has) (paging_heard plan p t m superframes on at)
+          (paging_read plan p t m superframes at same) (inside plan t s k on here)
+          ∙ ap (λ (rate : Rate). signed strength (sent data_shape (repeats_of rate) code))
+          (sym same),
+    )
+
+-- Of near samples, the soft values of its frames have the signs of what the channel sends in them.
+pub paging_shown : (width : Width) (plan : CellPlan) (sync : SyncPlan) (p : PagingPlan) (t : Tuning)
+    (m : Mark) (superframes e : ℕ) (samples : List Sample) → IsReceivable width plan →
+    plan.sync ≡ Some sync → Contains plan.paging p → IsOnPath plan t → IsTrueMark plan m superframes →
+    m.prat ≡ sync.message.prat → IsNear e samples (made_samples plan) → Bears plan p.gain e →
+    IsShown t.count samples (paging_stream t p.number m) (cycle_frame_bits (cycle_of plan p))
+    (4 * superframes)
+paging_shown width plan sync p t m superframes e samples is sends has on at told near bears =
+    let s = paging_stream t p.number m in
+    let bits_of = cycle_frame_bits (cycle_of plan p) in
+    subst (λ (n : ℕ). IsShown n samples s bits_of (4 * superframes)) (sym on.count)
+    (noisy_shown e samples is (paging_sent plan p has) (paging_heard plan p t m superframes on at)
+    (paging_read plan p t m superframes at (rates_agree plan sync m sends told)) near bears)
+
+pub noisy_paging_back : NoisyPagingFramesComeBack
+noisy_paging_back width plan sync p t m superframes k e samples is sends has on at told here near bears =
+    shown_back
+    (paging_shown width plan sync p t m superframes e samples is sends has on at told near bears) k here
+
+-- a noise of 0 is borne by any paging channel
+pub paging_borne : (width : Width) (plan : CellPlan) (p : PagingPlan) → IsReceivable width plan →
+    Contains plan.paging p → Bears plan p.gain 0
+paging_borne width plan p is has =
+    none_borne width plan p.gain is (paging_gain width plan p is.lawful has)
+
+pub paging_frames_back : PagingFramesComeBack
+paging_frames_back width plan sync p t m superframes k is sends has on at told here =
+    noisy_paging_back width plan sync p t m superframes k 0 (made_samples plan) is sends has on at told
+    here (near-self 0 (made_samples plan)) (paging_borne width plan p is has)
+
+pub paging_codewords_alone : PagingCodewordsAreTheOnlyBest
+paging_codewords_alone width plan sync p t m superframes k is sends has on at told here =
+    shown_alone
+    (paging_shown width plan sync p t m superframes 0 (made_samples plan) is sends has on at told
+    (near-self 0 (made_samples plan)) (paging_borne width plan p is has)) k here
+
+pub silent_paging_zero : SilentPagingIsZero
+silent_paging_zero width plan t m superframes channel k is first last none free on at here =
+    let s = paging_stream t channel m in
+    let u = frame_start s k in
+    let bits = scrambling (after m.state (24576 * k)) (paging_mask channel m.pilot) in
+    let place = at.place in
+    ap (λ (fs : List Finger). unscrambled bits (softs (made_samples plan) fs Data u))
+    (fingers_are plan t channel on)
+    ∙ ap (unscrambled bits)
+    (silent_rows width plan channel Data u is (omega (arith, last))
+    (paging_silent plan channel first last none free)
+    (record {
+      room = omega (arith, paging_file_to t channel m on.alone k here, on.count);
+      aligned = omega (arith, place);
+    }))
+    ∙ zeros_unscrambled bits 384
+    (length-scrambling (after m.state (24576 * k)) (paging_mask channel m.pilot))
+
+pub silent_paging_back : SilentPagingFramesAreZeros
+silent_paging_back width plan t m superframes channel k is first last none free on at here =
+    let whole = whole_frames (kinds.TheVariants.Paging (paging_rate m.prat)) in
+    silent_back t.count k (made_samples plan) (paging_stream t channel m) whole.enough
+    (λ j there. silent_paging_zero width plan t m superframes channel j is first last none free on
+    at there) here

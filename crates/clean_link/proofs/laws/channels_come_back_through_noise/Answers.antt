@@ -1,0 +1,14 @@
+use Rattle.clean_link.proofs.frames.ChannelFrames.{noisy_paging_back}
+use Rattle.clean_link.proofs.marks.MarksTrue.{noisy_marked, noisy_marks}
+use Rattle.clean_link.proofs.sendings.Heard.{noisy_sendings}
+use Rattle.clean_link.proofs.pages.Back.{noisy_pages}
+use Rattle.clean_link.proofs.laws.channels_come_back_through_noise.Goals as goal
+
+pub returns : goal.returns
+returns c = record {
+  sendings = noisy_sendings;
+  marks = noisy_marks;
+  marked = noisy_marked;
+  frames = noisy_paging_back;
+  pages = noisy_pages;
+}

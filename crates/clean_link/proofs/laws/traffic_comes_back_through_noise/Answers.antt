@@ -1,0 +1,11 @@
+use Rattle.clean_link.proofs.traffic.Frames.{noisy_each_frame, noisy_frame_back, noisy_sent_frames, noisy_none_directed, noisy_messages}
+use Rattle.clean_link.proofs.laws.traffic_comes_back_through_noise.Goals as goal
+
+pub returns : goal.returns
+returns c = record {
+  frames = noisy_frame_back;
+  each = noisy_each_frame;
+  sent = noisy_sent_frames;
+  messages = noisy_messages;
+  undirected = noisy_none_directed;
+}
