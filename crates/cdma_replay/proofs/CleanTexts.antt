@@ -1,27 +1,12 @@
 -- The text of a clean link.
 use Rattle.cdma_replay.proofs.Common.{◌≡◌, ◌⊎◌, inl, inr, ℕ, ◌≤◌, List, ◌++◌, length, take, sym, ap, ◌∙◌, subst, All, Option, Some, Ok}
-use Rattle.cdma_replay.proofs.Common.{is_some, nat_lt, Sample, IsSampleFile, Header, Width, energy, IsFreeOf, phase_at, CellPlan}
-use Rattle.cdma_replay.proofs.Common.{named_receivable, KeptTap, run_text, events, mark, Event, IsPaging, made_samples, Tuning, IsCellFile}
-use Rattle.cdma_replay.proofs.Common.{IsCleanLink, cell_energy, IsNotDirected, IsOnPath, IsPlanFile, IsTunedTo, tuning_to, sync_sent}
-use Rattle.cdma_replay.proofs.Common.{FollowsSent, sent_events, marked_where_heard, messages_back, tuned_is, length-made, Traffic}
-use Rattle.cdma_replay.proofs.Common.{clean_end, clean_events, end_when, told, file_end_of, file_text, tuning_for, AnswersBehind}
+use Rattle.cdma_replay.proofs.Common.{Sample, IsSampleFile, Header, Width, energy, IsFreeOf, phase_at, CellPlan, named_receivable, KeptTap}
+use Rattle.cdma_replay.proofs.Common.{run_text, events, Event, IsPaging, made_samples, Tuning, IsCellFile, IsCleanLink, cell_energy}
+use Rattle.cdma_replay.proofs.Common.{IsNotDirected, IsOnPath, IsTunedTo, tuning_to, FollowsSent, sent_events, messages_back, tuned_is}
+use Rattle.cdma_replay.proofs.Common.{Traffic, clean_end, clean_events, told, file_end_of, file_text, tuning_for, AnswersBehind}
 use Rattle.cdma_replay.proofs.Common.{IsFileReply, Reply, following, HandsetOptions, Status, NoMemory}
+use Rattle.cdma_replay.proofs.BorneFiles.{cell_borne, end_is, path}
 use Rattle.cdma_replay.proofs.Replies.{whole_file}
-use Rattle.cdma_replay.proofs.TuningLaw.{on_plans_path}
-
--- the plan of a script can be received
-pub plan_file : (width : Width) (script : List ℕ) (plan : CellPlan) (span fingers : ℕ)
-    (header : Header) (samples : List Sample) →
-    IsCellFile width script plan span fingers header samples →
-    IsPlanFile width plan span fingers header samples
-plan_file width script plan span fingers header samples file = record {
-  receivable = named_receivable width script plan file.named;
-  sent = file.sent;
-  checks_of_30 = file.checks_of_30;
-  checks_of_16 = file.checks_of_16;
-  found = file.found;
-  alone = file.alone;
-}
 
 -- a handset lies on the path of a cell whose file it hears
 pub on_path : (width : Width) (script : List ℕ) (plan : CellPlan) (span : ℕ) (options : HandsetOptions)
@@ -29,8 +14,7 @@ pub on_path : (width : Width) (script : List ℕ) (plan : CellPlan) (span : ℕ)
     IsCellFile width script plan span options.fingers header samples →
     length samples ≡ header.count → IsOnPath plan (tuning_for header (take span samples) options)
 on_path width script plan span options header samples file counted =
-    on_plans_path width plan span options header samples
-    (plan_file width script plan span options.fingers header samples file) counted
+    path options (cell_borne file counted)
 
 -- on a clean link it is tuned to the cell
 tuned : (width : Width) (script : List ℕ) (plan : CellPlan) (span : ℕ) (options : HandsetOptions)
@@ -116,16 +100,7 @@ pub clean_end-is : (width : Width) (script : List ℕ) (plan : CellPlan)
     file_end_of (following span workers fingers paging traffic) header samples ≡ clean_end plan
 unfolding file_end_of
 clean_end-is width script plan span workers fingers paging traffic header samples clean counted =
-    let options : HandsetOptions =
-    record { fingers = fingers; paging = paging; traffic = traffic } in
-    let t = tuning_for header (take span samples) options in
-    let size : length samples ≡ plan.link.samples = ap length clean.file.sent ∙ length-made plan in
-    let told : is_some (mark t samples (length samples)) ≡ nat_lt 0 (length (sync_sent plan)) =
-    ap (λ (n : ℕ). is_some (mark t samples n)) size
-    ∙ ap (λ (s : List Sample). is_some (mark t s plan.link.samples)) clean.file.sent
-    ∙ marked_where_heard width plan t (named_receivable width script plan clean.file.named)
-    (on_path width script plan span options header samples clean.file counted) in
-    ap end_when told
+    end_is (record { fingers = fingers; paging = paging; traffic = traffic }) (cell_borne clean.file counted)
 
 -- so what is written of the file is written of the cell
 clean_text-is : (taps : List KeptTap) (width : Width) (script : List ℕ) (plan : CellPlan)

@@ -15,6 +15,7 @@ pub use Rattle.std.proofs.lemmas.List.{drop-map, length-replicate, take-append-l
 pub use Rattle.std.proofs.lemmas.List.{take_rest}
 pub use Rattle.std.proofs.lemmas.List.Concat.{flat_map-append}
 pub use Rattle.std.proofs.lemmas.List.Elements.{All-append, All-cons, All-from_get_or, All-head, All-nil, All-tail, filter-append}
+pub use Rattle.std.proofs.lemmas.List.Elements.{All-contains}
 pub use Rattle.std.proofs.lemmas.List.Folds.{flat_map-map}
 pub use Rattle.std.proofs.lemmas.Option.{IfSome_then, get_or_from_slice_get, slice_get_within}
 pub use Rattle.std.proofs.lemmas.Result.{err_from_is_err_and}
@@ -27,7 +28,7 @@ pub use Rattle.cdma_io.proofs.ByteNumbers.{AreBytes, AreBytes-drop, AreBytes-fro
 pub use Rattle.cdma_io.proofs.Opening.{length-header_spelling, opening-ok, opening-spelled}
 pub use Rattle.cdma_io.proofs.Spelling.{length-samples, sample_bytes, sample_in, sample_len-mono}
 pub use Rattle.cdma_io.proofs.Uniqueness.{file_unique}
-pub use Rattle.cdma_io.specs.Outside.{AppendsPrefix, ConsumesAtMost, ConsumesFewer, Rose}
+pub use Rattle.cdma_io.specs.Outside.{AppendsPrefix, ConsumesAtMost, ConsumesFewer, CountsFaults, HasCause, Rose, next_count}
 pub use Rattle.cdma_io.specs.SampleFile.{CutsShort, HasBits, IsLawfulHeader, IsSampleFile, Opens, Reading, RunsOn, bits_of, header_spelling}
 pub use Rattle.cdma_io.specs.SampleFile.{most_samples, next_place, opening, sample_len, sample_spelling, width_of}
 pub use Rattle.cdma_io.specs.declared.file_fault.FileFault.{FileFault}
@@ -37,7 +38,8 @@ pub use Rattle.command_line.specs.Args.{IsFingers, IsLawfulJob, IsLawfulTraffic,
 pub use Rattle.command_line.specs.declared.job.Job.{Job}
 pub use Rattle.cell_plan.proofs.Amplitudes.{chip_fits, signal_of_carriers}
 pub use Rattle.cell_plan.proofs.Pieces.{no_sample}
-pub use Rattle.cell_plan.specs.Plan.{IsFreeOf, IsLawfulPlan, loudness, most_part}
+pub use Rattle.cell_plan.specs.Pages.{paging_rate}
+pub use Rattle.cell_plan.specs.Plan.{IsFreeOf, IsLawfulPlan, loudness, most_part, IsPagingPlan, IsSyncPlan}
 pub use Rattle.cell_plan.specs.Sampled.{sample_with}
 unfoldable pub use Rattle.cell_plan.specs.Sampled.{made_samples}
 pub use Rattle.cell_plan.specs.Signal.{amplitudes, carriers, frames_of, samples_of, scaled}
@@ -45,6 +47,8 @@ pub use Rattle.cell_plan.specs.Stated.{IsReceivable}
 pub use Rattle.cell_plan.specs.TrafficFrames.{IsTrafficFrame, cycled_frame, frame_state, set_one}
 pub use Rattle.cell_plan.specs.Transmitter.{CellState, header_of, phase_at, version_of}
 pub use Rattle.cell_plan.specs.declared.plan.CellPlan.{CellPlan}
+pub use Rattle.cell_plan.specs.declared.plan.PagingPlan.{PagingPlan}
+pub use Rattle.cell_plan.specs.declared.plan.SyncPlan.{SyncPlan}
 pub use Rattle.cell_plan.specs.declared.plan.TrafficPlan.{TrafficPlan}
 pub use Rattle.cell_plan.specs.declared.traffic_frame.TrafficFrame.{TrafficFrame}
 pub use Rattle.cell_plan.specs.declared.traffic_frame2.TrafficFrame2.{TrafficFrame2}
@@ -66,31 +70,37 @@ pub use Rattle.chip_core.specs.declared.sample.Pair.{Pair}
 pub use Rattle.chip_core.specs.declared.sample.Sample.{Sample}
 pub use Rattle.chip_core.specs.declared.width.Width.{Width}
 pub use Rattle.chip_core.specs.declared.width.Width.TheVariants.{Eight, Sixteen}
-pub use Rattle.clean_link.proofs.marks.FirstMark.{marked_where_heard}
-pub use Rattle.clean_link.proofs.messages.EachChannel.{each_channel}
+pub use Rattle.clean_link.proofs.frames.ChannelFrames.{clean_sync, heard_sync}
+pub use Rattle.clean_link.proofs.marks.MarksTrue.{marked_in}
+pub use Rattle.clean_link.proofs.messages.EachChannel.{each_channel, noisy_each_channel, no_event_directed, noisy_no_event}
 pub use Rattle.clean_link.proofs.messages.MessagesBack.{messages_back, tuned_is}
-pub use Rattle.clean_link.proofs.messages.NoDirections.{no_event_directed}
+pub use Rattle.clean_link.proofs.noise.Near.{none_borne, length-near}
+pub use Rattle.clean_link.proofs.noise.Rounding.{near-equal, near-same}
 pub use Rattle.clean_link.proofs.signal.Samples.{length-made, made_at}
-pub use Rattle.clean_link.proofs.traffic.Back.{one_near, untold}
-pub use Rattle.clean_link.proofs.traffic.PowerBits.{power_pairs}
+pub use Rattle.clean_link.proofs.traffic.Back.{one_near, untold_in}
+pub use Rattle.clean_link.proofs.traffic.Signs.{power_pairs, lawful_traffic, set_one_sends}
 pub use Rattle.clean_link.proofs.traffic.Frames.{one_taken, one_there}
-pub use Rattle.clean_link.proofs.traffic.Received.{frames_behind_mark, set_two_behind_mark}
-pub use Rattle.clean_link.proofs.traffic.Signs.{lawful_traffic, set_one_sends}
-pub use Rattle.clean_link.specs.CleanLink.{IsNotDirected, IsOnPath, IsPlanFile, IsTunedTo, soft_strength, sync_sent, tuning_to}
+pub use Rattle.clean_link.proofs.traffic.Received.{noisy_frames_behind_mark, noisy_set_two_behind_mark}
+pub use Rattle.clean_link.specs.BoundedNoise.{Bears, IsNear}
+pub use Rattle.clean_link.specs.CleanLink.{IsNotDirected, IsOnPath, IsTunedTo, tuning_to, events_of_channel}
+unfoldable pub use Rattle.clean_link.specs.CleanLink.{sync_sent}
 pub use Rattle.clean_link.specs.HeardEach.{HearsEach, is_frame, is_page, is_sync}
 pub use Rattle.clean_link.specs.HeardFrames.{IsAssigned, SendsSetOne, SendsSetTwo, SendsSymbols, frame_ends, received_frames, replaced_of}
 pub use Rattle.clean_link.specs.HeardFrames.{sent_bits, sent_power_bits, codeword_symbols}
-pub use Rattle.clean_link.specs.ReceivedFrames.{AreReceived, IsReceivedAs, IsSentFrame2, cycled_frame2}
+pub use Rattle.clean_link.specs.NearFiles.{IsNearFile, IsPlanFile}
+pub use Rattle.clean_link.specs.CleanLaws.{HearsSync, ShowsSync}
+pub use Rattle.clean_link.specs.ReceivedLaws.{HoldsBehindMark, IsReceivedBySigns, IsSentFrame2BySigns}
+pub use Rattle.clean_link.specs.ReceivedFrames.{AreReceived, cycled_frame2}
 pub use Rattle.clean_link.specs.SentEvents.{FollowsSent, sent_events, signaling_sent, told_with_sync}
 pub use Rattle.event_tap.proofs.Runs.{run_taps-append, run_taps-more, run_text-append, run_text-more, run_text-none}
 unfoldable pub use Rattle.event_tap.specs.EventLines.{event_line}
-pub use Rattle.event_tap.specs.FrameLines.{frame2_line}
+unfoldable pub use Rattle.event_tap.specs.FrameLines.{frame2_line}
 pub use Rattle.event_tap.specs.SlotLines.{lines_of_slots}
 pub use Rattle.event_tap.specs.Taps.{IsKept, KeptTap, heard_text, kept_by, taps_behind}
 unfoldable pub use Rattle.event_tap.specs.Taps.{run_taps, run_text}
 pub use Rattle.frame_decoder.specs.declared.traffic.Decoded.{Decoded}
 pub use Rattle.listed_frame.proofs.Choice.{decoded_by_one_codeword}
-pub use Rattle.listed_frame.proofs.SentFrames.{sent_frame_listed}
+pub use Rattle.listed_frame.proofs.SentFrames.{signs_frame_listed}
 pub use Rattle.long_code.specs.LongCode.{traffic_mask}
 pub use Rattle.heard_events.proofs.EventsGrown.{events_at_by, events_sooner, heard_none}
 pub use Rattle.heard_events.proofs.Growth.{timed_of}
@@ -136,10 +146,12 @@ pub use Rattle.pilot_search.specs.declared.paths.Near.{Near}
 pub use Rattle.pilot_search.specs.declared.sweeping.Best.{Best}
 pub use Rattle.pilot_survey.specs.Survey.{ranking}
 pub use Rattle.pilot_survey.specs.declared.rank.Rank.{Rank}
-pub use Rattle.rake_finger.specs.declared.form.Form.TheVariants.{Data}
 pub use Rattle.rate_set_two.specs.TrafficFrames.{decoded2}
+pub use Rattle.rate_set_two.specs.Laws.{good_frame}
+pub use Rattle.rate_set_two.specs.declared.traffic.Decoded2.{Decoded2}
 pub use Rattle.short_code.specs.ShortCode.{pilot_chip}
-pub use Rattle.slot_link.proofs.File.{slot_texts_back}
+pub use Rattle.slot_link.proofs.File.{slot_texts_back, noisy_slot_texts_back}
+pub use Rattle.slot_link.specs.Laws.{slots_sent}
 pub use Rattle.trial_link.proofs.TrialPlans.{trial_named}
 unfoldable pub use Rattle.trial_link.specs.Trial.{trial_plan}
 pub use Rattle.tuned_listener.proofs.Prefixes.{begins_more, front_begins, on_err, on_ok, prefix_before, prefix_behind, prefix_of}
@@ -167,27 +179,30 @@ pub use Rattle.cdma_replay.specs.Hearing.{clean_end, end_when, first_text, is_to
 unfoldable pub use Rattle.cdma_replay.specs.Hearing.{best_pilot, clean_events, file_end_of, file_text, told}
 pub use Rattle.cdma_replay.specs.Make.{WritesMadeFile, WritesNoMoreMade, piece_bytes}
 unfoldable pub use Rattle.cdma_replay.specs.Make.{made_file}
+pub use Rattle.cdma_replay.specs.NoisyReplies.{IsNoisyFile, NoisyRepliesComeBack}
 pub use Rattle.cdma_replay.specs.OneCodeword.{OneCodewordFollows, OneCodewordFollowsFrame, followed_line}
 pub use Rattle.cdma_replay.specs.Openings.{IsBest, Shows, listening_in, pilot_event, shown_text}
 pub use Rattle.cdma_replay.specs.Ranks.{rank_line}
 unfoldable pub use Rattle.cdma_replay.specs.Ranks.{ranks_text, survey_text}
 pub use Rattle.cdma_replay.specs.Replies.{Answers, AnswersBehind, Begins, IsAnswered, IsEarlyFault, IsFaultyFile, IsFaultyScript, IsFileEnd}
 pub use Rattle.cdma_replay.specs.Replies.{IsFileReply, IsLawfulTaskInput, IsPurposeEnd, IsReply, IsScriptEnd, IsScriptReply, IsSearchEnd}
-pub use Rattle.cdma_replay.specs.Replies.{IsTaskEnd, IsTaskReply, IsTrialEnd, IsTrialReply, IsVerdict, IsWholeFile, IsWholeScript}
-pub use Rattle.cdma_replay.specs.Replies.{ReadsInput, Reply, TaskReadsInput, TaskReadsWell, TaskTakesNoMore, WritesPart, taps_by}
+pub use Rattle.cdma_replay.specs.Replies.{IsTaskEnd, IsTaskReply, IsTrialEnd, IsTrialReply, IsVerdict, IsWholeFile, IsWholeScript, IsEndOf}
+pub use Rattle.cdma_replay.specs.Replies.{IsTaskPromising, Reply, TaskReadsInput, TaskReadsWell, TaskTakesNoMore, TaskTellsAll}
+pub use Rattle.cdma_replay.specs.Replies.{TaskTellsFirst, WritesPart, taps_by}
 pub use Rattle.cdma_replay.specs.ReplyLaws.{EachInputIsOwed, FindOwesThePilot, FollowOwesTheEvents, IdleOwesTheSlots, ListOwesTheFrames}
 pub use Rattle.cdma_replay.specs.ReplyLaws.{MakeOwesTheFile, Rate2OwesTheFrames, SurveyOwesTheRanks, TrialOwesItsLine, WorkersChangeNoReply}
-pub use Rattle.cdma_replay.specs.Runs.{IsNotReading, IsRun, each_form}
+pub use Rattle.cdma_replay.specs.ReplyLaws.{OwesTheFrames}
+pub use Rattle.cdma_replay.specs.Runs.{IsPassedOn, MayHold, PassesOn, RunsCommand, TellsEnd, each_form}
 pub use Rattle.cdma_replay.specs.SentLines.{AreSentLines, IsLineOfSetOne, IsLineOfSetTwo, IsSentLine, IsSentLine2, IsSentText}
 pub use Rattle.cdma_replay.specs.SentLines.{LinesComeBack, ListedLinesComeBack, SetTwoLinesComeBack}
-pub use Rattle.cdma_replay.specs.SentReplies.{IsHeardFrom, IsSentReply, ListRepliesComeBack, Rate2RepliesComeBack}
+pub use Rattle.cdma_replay.specs.SentReplies.{IsHeardFrom, IsSentReply, ListRepliesComeBack, Rate2RepliesComeBack, RepliesComeBack}
 pub use Rattle.cdma_replay.specs.SleepLaw.{SleepChangesNoReply}
 pub use Rattle.cdma_replay.specs.SlotReplies.{FileSlotsComeBack, IdleRepliesComeBack}
-pub use Rattle.cdma_replay.specs.Status.{file_status, script_status}
+pub use Rattle.cdma_replay.specs.Status.{end_line, file_status, script_status}
 pub use Rattle.cdma_replay.specs.TaskRuns.{MakesFile, ReceivesFile, RunsTask}
 pub use Rattle.cdma_replay.specs.Tasks.{following, hearing, task_of}
-pub use Rattle.cdma_replay.specs.Trials.{LeavesRoom, count_of, counts_with, is_good, one_if, summary}
-pub use Rattle.cdma_replay.specs.Trials.{trial_samples, trial_span, trial_tuning}
+pub use Rattle.cdma_replay.specs.Trials.{LeavesRoom, count_of, counts_with, is_good, one_if, summary, trial_samples, trial_span}
+pub use Rattle.cdma_replay.specs.Trials.{trial_tuning}
 unfoldable pub use Rattle.cdma_replay.specs.Trials.{counts_of, trial_line}
 pub use Rattle.cdma_replay.specs.TuningLaw.{HandsetsAreTuned, HandsetsLieOnThePath}
 pub use Rattle.cdma_replay.specs.declared.handset.HandsetOptions.{HandsetOptions}

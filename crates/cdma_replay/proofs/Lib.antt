@@ -1,7 +1,9 @@
+pub mod BorneFiles
 pub mod Bounds
 pub mod Broken
 pub mod CleanLinks
 pub mod CleanTexts
+pub mod Commands
 pub mod Common
 pub mod Completed
 pub mod Ends
@@ -13,6 +15,7 @@ pub mod Lines
 pub mod MadeFiles
 pub mod MadeLinks
 pub mod NearPaths
+pub mod NoisyReplies
 pub mod OneCodeword
 pub mod Owed
 pub mod RankLines

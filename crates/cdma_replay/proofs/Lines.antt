@@ -106,7 +106,7 @@ text_behind taps r header samples others counted =
     ++ told (listening taps r.purpose header xs) (samples ++ others))
     (take_at samples others r.span counted)
 
--- how a run ends doesn't hang on the taps
+-- how a run ends doesn't depend on the taps
 told_alike : (taps : List KeptTap) (purpose : Purpose) (header : Header)
     (first samples : List Sample) →
     is_told (listening taps purpose header first) samples

@@ -1,18 +1,19 @@
 -- The lines of a traffic channel's frames come back.
-use Rattle.cdma_replay.proofs.Common.{◌≡◌, ◌≤◌, ℕ, ◌*◌, ◌%◌, refl, sym, ap, ◌∙◌, subst, arith, List, [], ◌∷◌, length, take, Bool, Option}
-use Rattle.cdma_replay.proofs.Common.{None, Some, Contains, flat_map, flat_map-map, CheckForm, Sample, Width, traffic_mask, Decoded, Data}
-use Rattle.cdma_replay.proofs.Common.{sent_frame_listed, decoded2, made_samples, frames_of, cycled_frame, frame_state, set_one}
-use Rattle.cdma_replay.proofs.Common.{IsTrafficFrame, CellPlan, TrafficPlan, TrafficFrame, TrafficFrame2, event_line, frame2_line}
-use Rattle.cdma_replay.proofs.Common.{traffic_channel, mark, soft_frames, frame_event, Tuning, Mark, Traffic, SoftFrame, soft_strength}
-use Rattle.cdma_replay.proofs.Common.{IsOnPath, IsReceivable, frame_ends, received_frames, replaced_of, sent_bits, sent_power_bits}
-use Rattle.cdma_replay.proofs.Common.{codeword_symbols, IsAssigned, SendsSetOne, SendsSetTwo, SendsSymbols, cycled_frame2, AreReceived}
-use Rattle.cdma_replay.proofs.Common.{IsReceivedAs, IsSentFrame2, told_with_sync, length-made, untold, power_pairs, one_taken, one_there}
-use Rattle.cdma_replay.proofs.Common.{frames_behind_mark, set_two_behind_mark, lawful_traffic, set_one_sends, listed_texts, rate2_texts}
-use Rattle.cdma_replay.proofs.Common.{decoded_line, frames_text, listed_text, rate2_text, text_behind, tuned_text, TunedText, Listed}
-use Rattle.cdma_replay.proofs.Common.{RateSetTwo, tuning_for, AreSentLines, IsLineOfSetOne, IsLineOfSetTwo, IsSentLine, IsSentLine2}
-use Rattle.cdma_replay.proofs.Common.{IsSentText, LinesComeBack, ListedLinesComeBack, SetTwoLinesComeBack, named_receivable}
+use Rattle.cdma_replay.proofs.Common.{◌≡◌, ◌≤◌, ℕ, ◌*◌, ◌%◌, refl, sym, ap, ◌∙◌, subst, arith, List, [], ◌∷◌, length, take, Bool, Option, ℤ}
+use Rattle.cdma_replay.proofs.Common.{None, Some, Contains, flat_map, flat_map-map, CheckForm, Sample, Width, traffic_mask, decoded2}
+use Rattle.cdma_replay.proofs.Common.{frames_of, cycled_frame, frame_state, set_one, HandsetOptions, Header, IsTrafficFrame, CellPlan}
+use Rattle.cdma_replay.proofs.Common.{TrafficPlan, TrafficFrame, TrafficFrame2, event_line, frame2_line, traffic_channel, mark, soft_frames}
+use Rattle.cdma_replay.proofs.Common.{frame_event, Tuning, Mark, Traffic, SoftFrame, IsReceivable, frame_ends, received_frames, replaced_of}
+use Rattle.cdma_replay.proofs.Common.{sent_bits, sent_power_bits, codeword_symbols, IsAssigned, SendsSetOne, SendsSetTwo, SendsSymbols}
+use Rattle.cdma_replay.proofs.Common.{cycled_frame2, AreReceived, told_with_sync, power_pairs, one_taken, one_there, Decoded}
+use Rattle.cdma_replay.proofs.Common.{lawful_traffic, set_one_sends, listed_texts, rate2_texts, decoded_line, frames_text, listed_text}
+use Rattle.cdma_replay.proofs.Common.{rate2_text, text_behind, tuned_text, TunedText, Listed, RateSetTwo, tuning_for, AreSentLines}
+use Rattle.cdma_replay.proofs.Common.{IsLineOfSetOne, IsLineOfSetTwo, IsSentLine, IsSentLine2, IsSentText, LinesComeBack}
+use Rattle.cdma_replay.proofs.Common.{ListedLinesComeBack, SetTwoLinesComeBack, named_receivable, Bears, Decoded2, HoldsBehindMark}
+use Rattle.cdma_replay.proofs.Common.{IsReceivedBySigns, IsSentFrame2BySigns, noisy_frames_behind_mark, noisy_set_two_behind_mark}
+use Rattle.cdma_replay.proofs.Common.{signs_frame_listed, untold_in, good_frame}
 use Rattle.listed_frame.specs.ListedFrames.{listed}
-use Rattle.cdma_replay.proofs.CleanTexts.{on_path}
+use Rattle.cdma_replay.proofs.BorneFiles.{IsBorneFile, cell_borne, long, none_on_traffic, path, shows, sync_there}
 
 -- ---- any frames
 
@@ -21,34 +22,39 @@ abbrev IsLineByLine : TunedText → (SoftFrame → List ℕ) → Type 0
 IsLineByLine form line = (check : CheckForm) (m : Mark) (frames : List SoftFrame) →
     frames_text form check m [] frames ≡ flat_map line frames
 
--- The frames behind a mark are those of which this is true, and the line of one of them is one of
--- which that is true.
-module _ (width : Width) (plan : CellPlan) (p : TrafficPlan) (t : Tuning) (traffic : Traffic)
+-- In a file whose sync channel bears its noise: where the frames after a mark are those of which
+-- this is true, and the line of one of them is one of which that is true, the text is of such lines.
+module _ (e : ℕ) (width : Width) (plan : CellPlan) (p : TrafficPlan) (span : ℕ)
+    (options : HandsetOptions) (traffic : Traffic) (header : Header) (samples : List Sample)
+    (file : IsBorneFile e width plan span options.fingers header samples)
     (form : TunedText) (line : SoftFrame → List ℕ) (lines : IsLineByLine form line)
     (Says : ℕ → SoftFrame → Type 0) (Is : ℕ → List ℕ → Type 0)
-    (is : IsReceivable width plan) (on : IsOnPath plan t)
-    (all : (m : Mark) → mark t (made_samples plan) (length (made_samples plan)) ≡ Some m →
+    (all : (m : Mark) →
+    mark (tuning_for header (take span samples) options) samples (length samples) ≡ Some m →
     AreReceived plan p Says
-    (soft_frames t (traffic_channel traffic) m (made_samples plan)))
+    (soft_frames (tuning_for header (take span samples) options) (traffic_channel traffic) m samples))
     (back : (frame : ℕ) (soft : SoftFrame) → Says frame soft → Is frame (line soft))
   where
-    -- behind the mark that is set, and where none is
-    behind_last : (last : Option Mark) →
-        mark t (made_samples plan) (length (made_samples plan)) ≡ last →
+    abbrev t : Tuning
+    t = tuning_for header (take span samples) options
+
+    -- after the mark that is set, and where none is
+    behind_last : (last : Option Mark) → mark t samples (length samples) ≡ last →
         IsSentText plan p Is (told_with_sync plan plan.sync)
-        (text_behind form t (traffic_channel traffic) (made_samples plan) last)
+        (text_behind form t (traffic_channel traffic) samples last)
     behind_last None unset =
-        let count : length (made_samples plan) ≡ t.count = length-made plan ∙ sym on.count in
-        let none = untold width plan t is on plan.sync refl
-        (ap (mark t (made_samples plan)) (sym count) ∙ unset) in
+        let on = path options file in
+        let count : length samples ≡ t.count = long options file ∙ sym on.count in
+        let none =
+        untold_in (shows options file) on plan.sync refl
+        (ap (mark t samples) (sym count) ∙ unset) in
         subst (λ (told : Option ℕ). IsSentText plan p Is told []) (sym none) refl
     behind_last (Some m) set =
         let some = all m set in
-        let text = text_behind form t (traffic_channel traffic) (made_samples plan) (Some m) in
+        let text = text_behind form t (traffic_channel traffic) samples (Some m) in
         let sent : AreSentLines plan p Is some.superframes text = record {
           line = λ frame. line (some.soft frame);
-          each = lines t.check30 m
-              (soft_frames t (traffic_channel traffic) m (made_samples plan))
+          each = lines t.check30 m (soft_frames t (traffic_channel traffic) m samples)
               ∙ ap (flat_map line) some.each
               ∙ flat_map-map line some.soft
               (received_frames plan p (98304 * some.superframes));
@@ -57,37 +63,49 @@ module _ (width : Width) (plan : CellPlan) (p : TrafficPlan) (t : Tuning) (traff
         subst (λ (told : Option ℕ). IsSentText plan p Is told text) (sym some.told) sent
 
     text_back : IsSentText plan p Is (told_with_sync plan plan.sync)
-        (tuned_text form t (traffic_channel traffic) (made_samples plan))
+        (tuned_text form t (traffic_channel traffic) samples)
     unfolding tuned_text
-    text_back =
-        behind_last (mark t (made_samples plan) (length (made_samples plan))) refl
+    text_back = behind_last (mark t samples (length samples)) refl
 
--- so of a file
-file_back : (form : TunedText) (line : SoftFrame → List ℕ) → IsLineByLine form line →
+-- so of each channel that bears the noise
+abbrev pub BorneLinesComeBack : TunedText → (TrafficPlan → Type 0) →
+    (CellPlan → TrafficPlan → ℕ → List ℕ → Type 0) → Type 0
+BorneLinesComeBack form Sends Is = (e : ℕ) (width : Width) (plan : CellPlan) (p : TrafficPlan)
+    (span : ℕ) (options : HandsetOptions) (traffic : Traffic) (header : Header)
+    (samples : List Sample) → IsBorneFile e width plan span options.fingers header samples →
+    Bears plan p.gain e → Contains plan.traffic p → IsAssigned p traffic → Sends p →
+    IsSentText plan p (Is plan p) (told_with_sync plan plan.sync)
+    (tuned_text form (tuning_for header (take span samples) options) (traffic_channel traffic)
+    samples)
+
+-- of whose frames something is true after a mark
+borne_lines : (form : TunedText) (line : SoftFrame → List ℕ) → IsLineByLine form line →
     (Sends : TrafficPlan → Type 0) (Is : CellPlan → TrafficPlan → ℕ → List ℕ → Type 0)
     (Says : CellPlan → TrafficPlan → ℕ → SoftFrame → Type 0) →
-    ((width : Width) (plan : CellPlan) (p : TrafficPlan) (t : Tuning) (traffic : Traffic)
-    (m : Mark) → IsReceivable width plan → IsOnPath plan t → Contains plan.traffic p →
-    IsAssigned p traffic → Sends p →
-    mark t (made_samples plan) (length (made_samples plan)) ≡ Some m →
-    AreReceived plan p (Says plan p)
-    (soft_frames t (traffic_channel traffic) m (made_samples plan))) →
+    HoldsBehindMark (λ plan p frames. Sends p → AreReceived plan p (Says plan p) frames) →
     ((width : Width) (plan : CellPlan) (p : TrafficPlan) (frame : ℕ) (soft : SoftFrame) →
     IsReceivable width plan → Contains plan.traffic p → Sends p → Says plan p frame soft →
     Is plan p frame (line soft)) →
+    BorneLinesComeBack form Sends Is
+borne_lines form line lines Sends Is Says behind back e width plan p span options traffic header
+    samples file bears has assigned some =
+    text_back e width plan p span options traffic header samples file form line lines (Says plan p)
+    (Is plan p)
+    (λ m set.
+    let (sync, is) = sync_there options file m set in
+    behind width plan sync p e samples (tuning_for header (take span samples) options) traffic m is
+    bears (path options file) has assigned set some)
+    (λ frame soft says. back width plan p frame soft file.near.receivable has some says)
+
+-- a file that holds what a script's cell sends has no noise
+of_cell : (form : TunedText) (Sends : TrafficPlan → Type 0)
+    (Is : CellPlan → TrafficPlan → ℕ → List ℕ → Type 0) → BorneLinesComeBack form Sends Is →
     LinesComeBack form Sends Is
-file_back form line lines Sends Is Says behind back width script plan p span options traffic header
-    samples file counted has assigned some =
-    let t = tuning_for header (take span samples) options in
-    let is = named_receivable width script plan file.named in
-    let on = on_path width script plan span options header samples file counted in
-    subst
-    (λ (heard : List Sample). IsSentText plan p (Is plan p) (told_with_sync plan plan.sync)
-    (tuned_text form t (traffic_channel traffic) heard))
-    (sym file.sent)
-    (text_back width plan p t traffic form line lines (Says plan p) (Is plan p) is on
-    (λ m set. behind width plan p t traffic m is on has assigned some set)
-    (λ frame soft says. back width plan p frame soft is has some says))
+of_cell form Sends Is borne width script plan p span options traffic header samples file counted has
+    assigned some =
+    borne 0 width plan p span options traffic header samples
+    (cell_borne file counted) (none_on_traffic (named_receivable width script plan file.named) has)
+    has assigned some
 
 -- ---- frames of rate set 1
 
@@ -104,10 +122,11 @@ frame_there width plan p frame is has some =
           (lawful_traffic width plan p is.lawful has).sized.one here,
     )
 
--- what it shows is shown of whatever is sent
+-- what it shows by its signs is shown of whatever is sent
 abbrev ShowsSent : CellPlan → TrafficPlan → ℕ → SoftFrame → Type 0
 ShowsSent plan p frame soft = (symbols power_bits : List Bool) →
-    SendsSymbols plan p frame symbols power_bits → IsReceivedAs plan p frame symbols power_bits soft
+    SendsSymbols plan p frame symbols power_bits →
+    IsReceivedBySigns plan p frame symbols power_bits soft
 
 -- the line of what is decoded is that of its event
 pub line_of_event : (n : ℕ) (decoded : Decoded) (power_bits : List Bool) →
@@ -122,7 +141,7 @@ listed_of k soft = listed_text k soft.end soft.descrambled soft.power
 -- the line of one that comes back
 listed_back : (k : ℕ) → 1 ≤ k → (plan : CellPlan) (p : TrafficPlan) (frame : ℕ) (f : TrafficFrame)
     (soft : SoftFrame) → IsTrafficFrame f →
-    IsReceivedAs plan p frame (codeword_symbols f) f.power_bits soft →
+    IsReceivedBySigns plan p frame (codeword_symbols f) f.power_bits soft →
     IsSentLine plan p frame f (listed_of k soft)
 listed_back k most plan p frame f soft sized received =
     let few = (power_pairs (frame_state (frames_of plan p) frame) (traffic_mask p.esn)).long in
@@ -141,9 +160,8 @@ listed_back k most plan p frame f soft sized received =
       back = λ distinct.
           spelled
           ∙ ap (λ (d : Decoded). event_line (frame_event ends d (sent_power_bits f)))
-          (sent_frame_listed k (soft_strength plan Data p.gain) replaced f.rate f.information
-          soft.descrambled most shown.strong (omega (arith, few)) shown.long sized shown.shows
-          distinct);
+          (signs_frame_listed k replaced f.rate f.information soft.descrambled most
+          (omega (arith, few)) shown.long sized shown.keeps distinct);
     }
 
 listed_line : (k : ℕ) → 1 ≤ k → (width : Width) (plan : CellPlan) (p : TrafficPlan) (frame : ℕ)
@@ -162,24 +180,37 @@ listed_line k most width plan p frame soft is has some shows =
 -- what is received of one
 abbrev IsSent2 : CellPlan → TrafficPlan → ℕ → SoftFrame → Type 0
 IsSent2 plan p frame soft = (f : TrafficFrame2)
-    × (cycled_frame2 (frames_of plan p) frame ≡ f ∷ []) × IsSentFrame2 plan p frame f soft
+    × (cycled_frame2 (frames_of plan p) frame ≡ f ∷ []) × IsSentFrame2BySigns plan p frame f soft
 
 -- what is written of a frame
 abbrev rate2_of : SoftFrame → List ℕ
 rate2_of soft = rate2_text soft.end soft.descrambled soft.power
 
+-- the line of what is decoded has no score
+of_any_score : (place : ℕ) (f : TrafficFrame2) (score other : ℤ) (power_bits : List Bool) →
+    frame2_line place (good_frame f.rate f.information score) power_bits
+    ≡ frame2_line place (good_frame f.rate f.information other) power_bits
+unfolding frame2_line
+of_any_score place f score other power_bits = refl
+
 -- the line of one that comes back
 line_back : (plan : CellPlan) (p : TrafficPlan) (frame : ℕ) (f : TrafficFrame2)
-    (soft : SoftFrame) → IsSentFrame2 plan p frame f soft →
+    (soft : SoftFrame) → IsSentFrame2BySigns plan p frame f soft →
     IsSentLine2 plan p frame f (rate2_of soft)
 line_back plan p frame f soft sent =
     let decoded = decoded2 (replaced_of plan p frame) soft.descrambled in
+    let ends = frame_ends plan p frame in
+    let spelled : rate2_of soft ≡ frame2_line ends decoded (sent_bits f.power_bits) =
+    ap (rate2_text soft.end soft.descrambled) sent.received.powered
+    ∙ ap (λ (n : ℕ). frame2_line n decoded (sent_bits f.power_bits)) sent.received.ends in
     record {
       decoded = decoded;
-      spelled =
-          ap (rate2_text soft.end soft.descrambled) sent.received.powered
-          ∙ ap (λ (n : ℕ). frame2_line n decoded (sent_bits f.power_bits)) sent.received.ends;
-      back = sent.decoded;
+      spelled = spelled;
+      back = λ distinct.
+          let back = sent.decoded distinct in
+          spelled
+          ∙ ap (λ (d : Decoded2). frame2_line ends d (sent_bits f.power_bits)) back.same
+          ∙ of_any_score ends f back.score _ (sent_bits f.power_bits);
     }
 
 set_two_line : (plan : CellPlan) (p : TrafficPlan) (frame : ℕ) (soft : SoftFrame) →
@@ -188,16 +219,22 @@ set_two_line plan p frame soft (f, here, sent) = (f, here, line_back plan p fram
 
 -- ---- the laws
 
-pub listed_lines : ListedLinesComeBack
-listed_lines k most =
-    file_back (Listed k) (listed_of k) (λ check m frames. listed_texts check m [] frames k)
+pub listed_borne : (k : ℕ) → 1 ≤ k → BorneLinesComeBack (Listed k) SendsSetOne IsLineOfSetOne
+listed_borne k most =
+    borne_lines (Listed k) (listed_of k) (λ check m frames. listed_texts check m [] frames k)
     SendsSetOne IsLineOfSetOne ShowsSent
-    (λ width plan p t traffic m is on has assigned some set.
-    frames_behind_mark width plan p t traffic m is on has assigned set)
+    (λ width plan sync p e samples t traffic m is bears on has assigned set some.
+    noisy_frames_behind_mark width plan sync p e samples t traffic m is bears on has assigned set)
     (listed_line k most)
 
-pub set_two_lines : SetTwoLinesComeBack
-set_two_lines =
-    file_back RateSetTwo rate2_of (λ check m frames. rate2_texts check m [] frames)
-    SendsSetTwo IsLineOfSetTwo IsSent2 set_two_behind_mark
+pub set_two_borne : BorneLinesComeBack RateSetTwo SendsSetTwo IsLineOfSetTwo
+set_two_borne =
+    borne_lines RateSetTwo rate2_of (λ check m frames. rate2_texts check m [] frames) SendsSetTwo
+    IsLineOfSetTwo IsSent2 noisy_set_two_behind_mark
     (λ width plan p frame soft is has some sent. set_two_line plan p frame soft sent)
+
+pub listed_lines : ListedLinesComeBack
+listed_lines k most = of_cell (Listed k) SendsSetOne IsLineOfSetOne (listed_borne k most)
+
+pub set_two_lines : SetTwoLinesComeBack
+set_two_lines = of_cell RateSetTwo SendsSetTwo IsLineOfSetTwo set_two_borne

@@ -1,82 +1,94 @@
--- What `rate2` and `list` owe of a clean link's file comes back frame by frame.
-use Rattle.cdma_replay.proofs.Common.{◌≡◌, ℕ, List, [], length, take, refl, sym, ap, ◌∙◌, subst, Ok, is_some, nat_lt, Sample, Width, Header}
-use Rattle.cdma_replay.proofs.Common.{CellPlan, TrafficPlan, mark, Traffic, sync_sent, SendsSetOne, SendsSetTwo, told_with_sync}
-use Rattle.cdma_replay.proofs.Common.{marked_where_heard, length-made, TunedText, Listed, RateSetTwo, IsCellFile, clean_end, end_when}
-use Rattle.cdma_replay.proofs.Common.{file_end_of, file_text, tuning_for, waiting, IsFileReply, Reply, IsLineOfSetOne, IsLineOfSetTwo}
-use Rattle.cdma_replay.proofs.Common.{IsSentText, LinesComeBack, IsHeardFrom, IsSentReply, ListRepliesComeBack, Rate2RepliesComeBack}
-use Rattle.cdma_replay.proofs.Common.{hearing, HandsetOptions, Reception, named_receivable}
-use Rattle.cdma_replay.proofs.CleanTexts.{on_path}
-use Rattle.cdma_replay.proofs.Replies.{one_file_reply, whole_file}
-use Rattle.cdma_replay.proofs.SentLines.{listed_lines, set_two_lines}
-use Rattle.cdma_replay.proofs.SleepLaw.{end_heard, text_heard}
-use Rattle.heard_events.specs.declared.channel.Channel.TheVariants as channels
+-- What `rate2` and `list` owe of a file whose noise the sync channel and the traffic channel bear
+-- comes back frame by frame.
+use Rattle.cdma_replay.proofs.Common.{◌≤◌, ℕ, List, length, subst, Contains, Sample, Width, Header, CellPlan, TrafficPlan, Traffic}
+use Rattle.cdma_replay.proofs.Common.{SendsSetOne, SendsSetTwo, TunedText, Listed, RateSetTwo, traffic_channel, waiting, Job, IsSampleFile}
+use Rattle.cdma_replay.proofs.Common.{IsReply, Reply, IsLineOfSetOne, IsLineOfSetTwo, IsAssigned, IsSentReply, ListRepliesComeBack}
+use Rattle.cdma_replay.proofs.Common.{Rate2RepliesComeBack, RepliesComeBack, named_receivable, Bears, OwesTheFrames}
+use Rattle.cdma_replay.proofs.BorneFiles.{IsBorneFile, cell_borne, end_is, none_on_traffic}
+use Rattle.cdma_replay.proofs.Owed.{list_owes, rate2_owes}
+use Rattle.cdma_replay.proofs.Replies.{one_reply}
+use Rattle.cdma_replay.proofs.SentLines.{BorneLinesComeBack, listed_borne, set_two_borne}
+use Rattle.command_line.specs.declared.job.Job.TheVariants as jobs
 
--- each whole transmission tells the time
-pub cell_end : (width : Width) (script : List ℕ) (plan : CellPlan) (span : ℕ) (options : HandsetOptions)
-    (header : Header) (samples : List Sample) →
-    IsCellFile width script plan span options.fingers header samples →
-    length samples ≡ header.count →
-    end_when
-    (is_some (mark (tuning_for header (take span samples) options) samples (length samples)))
-    ≡ clean_end plan
-cell_end width script plan span options header samples cell counted =
-    let t = tuning_for header (take span samples) options in
-    let size : length samples ≡ plan.link.samples = ap length cell.sent ∙ length-made plan in
-    let told : is_some (mark t samples (length samples)) ≡ nat_lt 0 (length (sync_sent plan)) =
-    ap (λ (n : ℕ). is_some (mark t samples n)) size
-    ∙ ap (λ (s : List Sample). is_some (mark t s plan.link.samples)) cell.sent
-    ∙ marked_where_heard width plan t (named_receivable width script plan cell.named)
-    (on_path width script plan span options header samples cell counted) in
-    ap end_when told
+-- A sample file whose noise its sync channel bears, and a traffic channel of the cell's that bears it
+-- too.
+pub record HearsBorne (e : ℕ) (bytes : List ℕ) (width : Width) (plan : CellPlan) (p : TrafficPlan)
+    (span fingers : ℕ) (traffic : Traffic) (header : Header) (samples : List Sample) :
+    Type 0 where
+  pub file : IsSampleFile bytes header samples
+  pub enough : span ≤ length samples
+  pub borne : IsBorneFile e width plan span fingers header samples
+  pub sent : Contains plan.traffic p
+  pub assigned : IsAssigned p traffic
+  pub bears : Bears plan p.gain e
 
-module _ (form : TunedText) (Sends : TrafficPlan → Type 0)
-    (Is : CellPlan → TrafficPlan → ℕ → List ℕ → Type 0) (lines : LinesComeBack form Sends Is)
-    (script bytes : List ℕ) (width : Width) (plan : CellPlan) (p : TrafficPlan)
-    (span workers fingers : ℕ) (traffic : Traffic) (header : Header)
-    (samples : List Sample)
-    (heard : IsHeardFrom script bytes width plan p span fingers traffic header samples)
-    (sends : Sends p) where
-  abbrev r : Reception
-  r = hearing span workers fingers (channels.Traffic traffic) form
+-- of such a file a job owes just the lines of the channel's frames
+abbrev pub BorneRepliesComeBack : (ℕ → ℕ → ℕ → Traffic → Job) → (TrafficPlan → Type 0) →
+    (CellPlan → TrafficPlan → ℕ → List ℕ → Type 0) → Type 0
+BorneRepliesComeBack job Sends Is = (forms bytes : List ℕ) (e : ℕ) (width : Width)
+    (plan : CellPlan) (p : TrafficPlan) (span workers fingers : ℕ) (traffic : Traffic)
+    (header : Header) (samples : List Sample) (reply : Reply) →
+    HearsBorne e bytes width plan p span fingers traffic header samples → Sends p →
+    IsReply forms (job span workers fingers traffic) bytes reply →
+    IsSentReply plan p (Is plan p) reply
 
-  abbrev options : HandsetOptions
-  options = waiting fingers
+-- where it owes the text of these frames
+borne_replies : (job : ℕ → ℕ → ℕ → Traffic → Job) (form : TunedText) →
+    ((span workers fingers : ℕ) (traffic : Traffic) →
+    OwesTheFrames (job span workers fingers traffic) span fingers (traffic_channel traffic) form) →
+    (Sends : TrafficPlan → Type 0) (Is : CellPlan → TrafficPlan → ℕ → List ℕ → Type 0) →
+    BorneLinesComeBack form Sends Is → BorneRepliesComeBack job Sends Is
+borne_replies job form owes Sends Is lines forms bytes e width plan p span workers fingers traffic
+    header samples reply heard sends owed =
+    subst (IsSentReply plan p (Is plan p))
+    (one_reply forms (job span workers fingers traffic) bytes _ reply
+    (owes span workers fingers traffic forms bytes header samples heard.file heard.enough) owed) (
+      lines e width plan p span (waiting fingers) traffic header samples heard.borne heard.bears
+          heard.sent heard.assigned sends,
+      end_is (waiting fingers) heard.borne,
+    )
 
-  -- the text has the sent lines
-  text_is : IsSentText plan p (Is plan p) (told_with_sync plan plan.sync)
-      (file_text [] r header samples)
-  text_is =
-      subst (IsSentText plan p (Is plan p) (told_with_sync plan plan.sync))
-      (sym (text_heard r fingers (channels.Traffic traffic) form header samples refl))
-      (lines width script plan p span options traffic header samples heard.cell
-      heard.file.counted heard.sent heard.assigned sends)
-
-  -- and the end is that of the whole transmissions
-  end_is : file_end_of r header samples ≡ clean_end plan
-  end_is =
-      end_heard r fingers (channels.Traffic traffic) form header samples refl
-      ∙ cell_end width script plan span options header samples heard.cell heard.file.counted
-
-  -- so it is of each reply that is owed
-  pub reply_back : (reply : Reply) → IsFileReply [] r bytes reply →
-      IsSentReply plan p (Is plan p) reply
-  reply_back reply owed =
-      subst (IsSentReply plan p (Is plan p))
-      (one_file_reply [] r bytes
-      (Ok (file_text [] r header samples, file_end_of r header samples)) reply
-      (whole_file heard.file heard.enough) owed)
-      (text_is, end_is)
+-- a file that holds what a script's cell sends has no noise
+of_cell : (job : ℕ → ℕ → ℕ → Traffic → Job) (Sends : TrafficPlan → Type 0)
+    (Is : CellPlan → TrafficPlan → ℕ → List ℕ → Type 0) → BorneRepliesComeBack job Sends Is →
+    RepliesComeBack job Sends Is
+of_cell job Sends Is back forms script bytes width plan p span workers fingers traffic header samples
+    reply heard =
+    back forms bytes 0 width plan p span workers fingers traffic header samples reply (record {
+      file = heard.file;
+      enough = heard.enough;
+      borne = cell_borne heard.cell heard.file.counted;
+      sent = heard.sent;
+      assigned = heard.assigned;
+      bears = none_on_traffic (named_receivable width script plan heard.cell.named) heard.sent;
+    })
 
 -- ---- the laws
 
+abbrev pub rate2_job : ℕ → ℕ → ℕ → Traffic → Job
+rate2_job span workers fingers traffic =
+    jobs.Rate2 span workers fingers traffic.offset traffic.esn traffic.row
+
+abbrev pub list_job : ℕ → ℕ → ℕ → ℕ → Traffic → Job
+list_job k span workers fingers traffic =
+    jobs.List span workers fingers traffic.offset traffic.esn traffic.row k
+
+pub rate2_borne : BorneRepliesComeBack rate2_job SendsSetTwo IsLineOfSetTwo
+rate2_borne =
+    borne_replies rate2_job RateSetTwo
+    (λ span workers fingers traffic.
+    rate2_owes span workers fingers traffic.offset traffic.esn traffic.row)
+    SendsSetTwo IsLineOfSetTwo set_two_borne
+
+pub list_borne : (k : ℕ) → 1 ≤ k → BorneRepliesComeBack (list_job k) SendsSetOne IsLineOfSetOne
+list_borne k least =
+    borne_replies (list_job k) (Listed k)
+    (λ span workers fingers traffic.
+    list_owes span workers fingers traffic.offset traffic.esn traffic.row k)
+    SendsSetOne IsLineOfSetOne (listed_borne k least)
+
 pub rate2_replies : Rate2RepliesComeBack
-rate2_replies forms script bytes width plan p span workers fingers traffic header samples reply heard
-    sends owed =
-    reply_back RateSetTwo SendsSetTwo IsLineOfSetTwo set_two_lines script bytes width plan p span
-    workers fingers traffic header samples heard sends reply owed
+rate2_replies = of_cell rate2_job SendsSetTwo IsLineOfSetTwo rate2_borne
 
 pub list_replies : ListRepliesComeBack
-list_replies k least forms script bytes width plan p span workers fingers traffic header samples reply
-    heard sends owed =
-    reply_back (Listed k) SendsSetOne IsLineOfSetOne (listed_lines k least) script bytes width plan
-    p span workers fingers traffic header samples heard sends reply owed
+list_replies k least = of_cell (list_job k) SendsSetOne IsLineOfSetOne (list_borne k least)

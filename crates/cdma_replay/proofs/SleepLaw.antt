@@ -1,4 +1,4 @@
--- What is owed of a file whose slots a sleeping handset hears doesn't hang on what it sleeps through.
+-- What is owed of a file whose slots a sleeping handset hears doesn't depend on what it sleeps through.
 use Rattle.cdma_replay.proofs.Common.{◌≡◌, ℕ, ◌≤◌, ◌++◌, List, [], length, take, sym, ap, ◌∙◌, subst, arith, Option, Some, Ok, is_some}
 use Rattle.cdma_replay.proofs.Common.{take-take, Sample, Header, KeptTap, mark, AreNear, Tuning, sync_stream, Channel, Paging, Mark}
 use Rattle.cdma_replay.proofs.Common.{timed_of, known_between, mark_set, tuned_text, TunedText, Slots, same_mark, sleeps, mark_is_late}

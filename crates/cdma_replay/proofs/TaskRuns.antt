@@ -93,13 +93,12 @@ module _ {rest left : Option (List ℕ)} {misread misread_now : ℕ} {SameSource
   script_end width Status.BadWords run = absurd (run.others.1 refl)
   script_end width status run = tt
 
-  -- nothing is written where the sink is as it was
-  pub made_run : (forms : List ℕ) (width : Width) (status : Status) → (SameSink → new ≡ old) →
+  pub made_run : (forms : List ℕ) (width : Width) (status : Status) →
       MakesFile width status rest left misread misread_now SameSource old new miswritten
       miswritten_now SameSink →
       RunsTask forms (Make width) status rest left misread misread_now SameSource old new miswritten
       miswritten_now SameSink
-  made_run forms width status kept run = record {
+  made_run forms width status run = record {
     kind = script_end width status run;
     verdict = script_verdict width status run;
     read_fault = run.read_fault;
@@ -113,7 +112,7 @@ module _ {rest left : Option (List ℕ)} {misread misread_now : ℕ} {SameSource
     bound = run.bound;
     trial = λ number workers is. absurd (cc);
     written = record { text = run.written.text; written = run.written.written; part = run.written.part };
-    cut = λ cut. kept (run.unwritten (script_cut status run.others.2 cut));
+    cut = λ cut. run.unwritten (script_cut status run.others.2 cut);
     long = λ long. tt;
     later_source = run.later_source;
     later_sink = run.later_sink;

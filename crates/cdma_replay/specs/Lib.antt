@@ -4,6 +4,7 @@ pub mod Find
 pub mod Hearing
 pub mod MadeLaws
 pub mod Make
+pub mod NoisyReplies
 pub mod OneCodeword
 pub mod Openings
 pub mod Ranks

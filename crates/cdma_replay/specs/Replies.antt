@@ -113,12 +113,13 @@ TaskBegins forms (Make width) = λ rest left text. BeginsMadeFile width rest tex
 TaskBegins forms (Trial number workers) = λ rest left text. StartsWith (trial_line number) text
 
 -- what was written where the input breaks off, or a read failed: the text of the first of the
--- samples that were taken; and nothing of a script, which is read before anything is written
-abbrev pub TaskTellsFirst : List ℕ → Task → Option (List ℕ) → Option (List ℕ) → Option (List ℕ) →
-    Option (List ℕ) → Type 0
-TaskTellsFirst forms (Receive r limits) = WritesFirst (taps_by limits forms) r
-TaskTellsFirst forms (Make width) = λ rest left old new. new ≡ old
-TaskTellsFirst forms (Trial number workers) = λ rest left old new. Unit {0}
+-- samples that were taken; and nothing of a script, which is read before anything is written, as
+-- this type says
+abbrev pub TaskTellsFirst : List ℕ → Task → Type 0 → Option (List ℕ) → Option (List ℕ) →
+    Option (List ℕ) → Option (List ℕ) → Type 0
+TaskTellsFirst forms (Receive r limits) Unwritten = WritesFirst (taps_by limits forms) r
+TaskTellsFirst forms (Make width) Unwritten = λ rest left old new. Unwritten
+TaskTellsFirst forms (Trial number workers) Unwritten = λ rest left old new. Unit {0}
 
 -- and where it goes on behind its samples: their whole text
 abbrev pub TaskTellsAll : List ℕ → Task → Option (List ℕ) → Option (List ℕ) → Option (List ℕ) →
@@ -202,8 +203,8 @@ ReadsInput job = TaskReadsInput (task_of job)
 abbrev pub Begins : List ℕ → Job → Option (List ℕ) → Option (List ℕ) → List ℕ → Type 0
 Begins forms job = TaskBegins forms (task_of job)
 
-abbrev pub TellsFirst : List ℕ → Job → Option (List ℕ) → Option (List ℕ) → Option (List ℕ) →
-    Option (List ℕ) → Type 0
+abbrev pub TellsFirst : List ℕ → Job → Type 0 → Option (List ℕ) → Option (List ℕ) →
+    Option (List ℕ) → Option (List ℕ) → Type 0
 TellsFirst forms job = TaskTellsFirst forms (task_of job)
 
 abbrev pub TellsAll : List ℕ → Job → Option (List ℕ) → Option (List ℕ) → Option (List ℕ) → Type 0

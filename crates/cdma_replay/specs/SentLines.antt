@@ -90,7 +90,9 @@ pub record IsSentLine2 (plan : CellPlan) (p : TrafficPlan) (frame : ℕ) (f : Tr
     (line : List ℕ) : Type 0 where
   pub decoded : Decoded2
   pub spelled : line ≡ frame2_line (frame_ends plan p frame) decoded (sent_bits f.power_bits)
-  pub back : IsDistinctFrame2 (replaced_of plan p frame) f → decoded ≡ sent_decoded2 plan p frame f
+  pub back : IsDistinctFrame2 (replaced_of plan p frame) f →
+      line ≡ frame2_line (frame_ends plan p frame) (sent_decoded2 plan p frame f)
+      (sent_bits f.power_bits)
 
 -- the one that is sent at a number has this line
 abbrev pub IsLineOfSetTwo : CellPlan → TrafficPlan → ℕ → List ℕ → Type 0

@@ -1,4 +1,4 @@
--- What is owed of a file whose slots a sleeping handset hears doesn't hang on what it sleeps
+-- What is owed of a file whose slots a sleeping handset hears doesn't depend on what it sleeps
 -- through.
 use Rattle.std.specs.Prelude.{◌≡◌, ℕ, ◌≤◌, ◌↔◌, List, [], length, take, Some}
 use Rattle.chip_core.specs.declared.sample.Sample.{Sample}

@@ -9,8 +9,8 @@ use Rattle.cdma_io.specs.declared.header.Header.{Header}
 use Rattle.cell_plan.specs.declared.plan.CellPlan.{CellPlan}
 use Rattle.cell_plan.specs.declared.plan.PagingPlan.{PagingPlan}
 use Rattle.heard_events.specs.declared.channel.Channel.TheVariants.{Paging}
-use Rattle.clean_link.specs.CleanLink.{IsPlanFile}
-use Rattle.slot_link.specs.SentSlots.{slots_sent}
+use Rattle.clean_link.specs.NearFiles.{IsPlanFile}
+use Rattle.slot_link.specs.Laws.{slots_sent}
 use Rattle.tuned_listener.specs.TunedTexts.{tuned_text}
 use Rattle.tuned_listener.specs.declared.tuned_text.TunedText.TheVariants.{Slots}
 use Rattle.command_line.specs.declared.job.Job.TheVariants as jobs

@@ -1,6 +1,6 @@
 -- The exit status and the text of each end of a run, and how a fault of the file or of the script
 -- ends one.
-use Rattle.std.specs.Prelude.{ℕ, List, ◌++◌, codes, decimal, Option, None, Some}
+use Rattle.std.specs.Prelude.{ℕ, List, [], ◌∷◌, ◌++◌, codes, decimal, Option, None, Some}
 use Rattle.cdma_io.specs.declared.file_fault.FileFault.{FileFault}
 use Rattle.cdma_io.specs.declared.file_fault.FileFault.TheVariants as file
 use Rattle.cdma_io.specs.SampleFile.{place_of}
@@ -67,3 +67,8 @@ text_of ReadFault = codes "read fault"
 text_of WriteFault = codes "write fault"
 text_of NoMemory = codes "out of memory"
 text_of (BadScript fault) = script_line fault
+
+-- the line that tells it on the stream of errors: none where the run is done
+abbrev pub end_line : Status → List ℕ
+end_line Done = []
+end_line status = text_of status ++ 10 ∷ []

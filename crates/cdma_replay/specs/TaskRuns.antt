@@ -98,7 +98,7 @@ pub record RunsTask (forms : List ℕ) (task : Task) (status : Status)
   pub trial : (number workers : ℕ) → task ≡ Trial number workers → status ≡ ends.Done →
       Appends old new (trial_line number)
   pub written : WritesPart (TaskBegins forms task rest left) old new
-  pub cut : IsCut status → TaskTellsFirst forms task rest left old new
+  pub cut : IsCut status → TaskTellsFirst forms task SameSink rest left old new
   pub long : IsLong status → TaskTellsAll forms task rest old new
   pub later_source : misread ≤ misread_now
   pub later_sink : miswritten ≤ miswritten_now

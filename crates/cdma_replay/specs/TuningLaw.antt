@@ -6,7 +6,8 @@ use Rattle.cdma_io.specs.declared.header.Header.{Header}
 use Rattle.pilot_search.specs.Near.{near_deltas}
 use Rattle.pilot_search.specs.Search.{best_phase}
 use Rattle.cell_plan.specs.declared.plan.CellPlan.{CellPlan}
-use Rattle.clean_link.specs.CleanLink.{IsOnPath, IsPlanFile}
+use Rattle.clean_link.specs.CleanLink.{IsOnPath}
+use Rattle.clean_link.specs.NearFiles.{IsNearFile}
 use Rattle.cdma_replay.specs.Hearing.{tuning_for}
 use Rattle.cdma_replay.specs.declared.handset.HandsetOptions.{HandsetOptions}
 
@@ -21,11 +22,11 @@ HandsetsAreTuned =
     × (t.deltas ≡ near_deltas first (best_phase first) options.fingers)
     × (t.check30 ≡ header.check30) × (t.check16 ≡ header.check16)
 
--- So where the file holds what a lawful cell sends, the search finds the cell's path and there is
--- one finger, it lies on that path.
+-- So where the file holds what a lawful cell sends, with any noise, the search finds the cell's
+-- path and there is one finger, it lies on that path.
 abbrev pub HandsetsLieOnThePath : Type 0
 HandsetsLieOnThePath =
-    (width : Width) (plan : CellPlan) (span : ℕ) (options : HandsetOptions) (header : Header)
-    (samples : List Sample) →
-    IsPlanFile width plan span options.fingers header samples → length samples ≡ header.count →
+    (e : ℕ) (width : Width) (plan : CellPlan) (span : ℕ) (options : HandsetOptions)
+    (header : Header) (samples : List Sample) →
+    IsNearFile e width plan span options.fingers header samples → length samples ≡ header.count →
     IsOnPath plan (tuning_for header (take span samples) options)

@@ -3,6 +3,11 @@
 ghost use Rattle.std.specs.Prelude.{◌≡◌, ℕ, List};
 ghost use Rattle.command_line.specs.declared.job.Job.{Job as TheJob};
 ghost use Rattle.cdma_replay.specs.MadeLaws.{IsCleanWhenMade, IsCleanWhenSent, IsReadableWhenMade};
+ghost use Rattle.cdma_replay.specs.NoisyReplies.{NoHandoffIsDirectedByNoise};
+ghost use Rattle.cdma_replay.specs.NoisyReplies.{NoisyFollowRepliesComeBack};
+ghost use Rattle.cdma_replay.specs.NoisyReplies.{NoisyIdleRepliesComeBack};
+ghost use Rattle.cdma_replay.specs.NoisyReplies.{NoisyListRepliesComeBack};
+ghost use Rattle.cdma_replay.specs.NoisyReplies.{NoisyRate2RepliesComeBack};
 ghost use Rattle.cdma_replay.specs.OneCodeword.{OneCodewordFollows, OneCodewordFollowsFrame};
 ghost use Rattle.cdma_replay.specs.Replies.{IsReply, Reply};
 ghost use Rattle.cdma_replay.specs.ReplyLaws.{EachInputIsOwed, FindOwesThePilot};
@@ -130,16 +135,45 @@ pub fn replies_come_back()
     ensures idle { IdleRepliesComeBack }
 {}
 
+/// So it is through noise, whatever the noise is, in a sample file that is near to what a lawful
+/// cell sends: each sample differs from the cell's by at most e in I and in Q, the search finds the
+/// cell's path, there is one finger, and the cell sends a sync channel that bears noise of that
+/// size.
+///
+/// - `follow`, where no handoff is directed, owes the text of the pilot and of a list of events.
+///   Those of the sync channel are just the whole transmissions; those of the followed paging
+///   channel, where the cell sends it and it bears the noise, just its whole pages. Of the followed
+///   traffic channel, where the cell sends it with frames of rate set 1 and it bears the noise,
+///   there is one for each frame from the mark on that lies in the file, with the power control
+///   bits that were sent, and where the frame is distinct, with its rate and bits, as a good frame;
+///   and where each of them is, its messages are just those that the signaling in these frames
+///   spells.
+/// - No handoff is directed where no traffic channel is followed, or one that bears the noise, each
+///   of whose frames is distinct and which is sent no message that directs one.
+/// - `rate2` and `list` owe the lines of a traffic channel that bears the noise, and `idle` those
+///   of a paging channel that bears it, as without noise.
+///
+/// The run ends well where a transmission of the sync channel lies in the file whole, and else with
+/// `NoSync`. Of channels that the cell doesn't send, or that don't bear the noise, and of the
+/// events of pilot sets, nothing is claimed.
+pub fn noisy_replies_come_back()
+    ensures follow { NoisyFollowRepliesComeBack }
+    ensures undirected { NoHandoffIsDirectedByNoise }
+    ensures rate2 { NoisyRate2RepliesComeBack }
+    ensures list { NoisyListRepliesComeBack }
+    ensures idle { NoisyIdleRepliesComeBack }
+{}
+
 /// Each handset that hears a file is tuned by the file's header and by the pilot in its first
-/// samples, as many as the span is. So in a file that holds what a cell sends it lies on the cell's
-/// path, where the search finds that and there is one finger, and the laws of the clean link, of
-/// slots too, speak of it.
+/// samples, as many as the span is. So in a file that holds what a cell sends, with any noise, it
+/// lies on the cell's path, where the search finds that and there is one finger, and the laws of
+/// the clean link and of bounded noise, of slots too, speak of it.
 pub fn handsets_are_tuned_by_the_file()
     ensures tuned { HandsetsAreTuned }
     ensures path { HandsetsLieOnThePath }
 {}
 
-/// What `idle` owes, with arguments that are lawful, doesn't hang on what its handset sleeps
+/// What `idle` owes, with arguments that are lawful, doesn't depend on what its handset sleeps
 /// through: two sample files of one header, of which the first tells the handset a mark, and that
 /// agree before the mark and, path by path, in the samples of the slots that it hears, are owed the
 /// same bytes and the same end.

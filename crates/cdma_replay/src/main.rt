@@ -1,8 +1,9 @@
 //! `cdma_replay` reads a file of received samples and writes what a handset finds in it.
 //!
 //! All that the program does is [`replay`], over the arguments of its command line, a source and a
-//! sink; [`program::run`] says what the process does with what it owes. What is here makes these of
-//! the process: its arguments, standard input and standard output.
+//! sink; [`program::run`] says what the process does with what it owes, and what it tells of a run
+//! that isn't done. What is here makes these of the process: its arguments, standard input,
+//! standard output and standard error.
 #![tactic(auto)]
 
 mod handset;
@@ -48,5 +49,7 @@ fn args_of_process<R: Env + AllocGlobal>(rt: &R) -> Result<Vec<String>, Status> 
 fn main(rt: HostRuntime) -> ExitCode {
     let mut source = ReaderSource::new(rt.reader());
     let mut sink = WriterSink::new(io::writer(&rt));
-    run(&rt, args_of_process(&rt), &mut source, &mut sink)
+    let mut errors = WriterSink::new(rt.stderr());
+    let args = args_of_process(&rt);
+    run(&rt, args, &mut source, &mut sink, &mut errors)
 }

@@ -1,14 +1,15 @@
 //! How a run of the program ends.
 
-ghost use Rattle.std.specs.Prelude.{◌≡◌, Some};
-ghost use Rattle.std.specs.Fmt.{DisplaysOnOk};
-ghost use Rattle.cdma_replay.specs.Status.{code_of, file_status, kind_of, located, script_line};
-ghost use Rattle.cdma_replay.specs.Status.{text_of};
+ghost use Rattle.std.specs.Prelude.{◌≡◌, ◌≤◌, ◌+◌, ◌++◌, ◌↔◌, Some, length, IsAscii};
+ghost use Rattle.std.specs.Prelude.{IsTrue, decimal};
+ghost use Rattle.cdma_replay.specs.Status.{code_of, end_line, file_status, kind_of, located};
+ghost use Rattle.cdma_replay.specs.Status.{script_line, text_of};
 
 use base_modulator::ScriptFault;
 use cdma_io::FileFault;
 use chip_core::OutOfMemory;
-use std::fmt;
+use event_tap::Text;
+use std::{fmt, str};
 
 /// How a run ended.
 ///
@@ -41,6 +42,44 @@ pub enum Status {
 }
 
 impl Status {
+    /// Whether the run is done.
+    pub fn is_done(&self) -> bool
+        ensures { IsTrue result ↔ (self.now ≡ Status.Done) }
+    {
+        matches!(self, Status::Done)
+    }
+
+    /// Its text.
+    pub fn text(&self) -> Text
+        ensures value { result ≡ text_of self.now }
+        ensures most { length result ≤ 64 }
+    {
+        match *self {
+            Status::Done => Text::empty(),
+            Status::NoSync => piece("no sync message"),
+            Status::BadWords => piece("bad words"),
+            Status::BadFile(fault) => located(kind(fault), fault.place()),
+            Status::ReadFault => piece("read fault"),
+            Status::WriteFault => piece("write fault"),
+            Status::NoMemory => piece("out of memory"),
+            Status::BadScript(fault) => script_text(fault),
+        }
+    }
+
+    /// The line that tells it on the stream of errors: none where the run is done.
+    pub fn line(&self) -> Text
+        ensures { result ≡ end_line self.now }
+    {
+        match self {
+            Status::Done => Text::empty(),
+            _ => {
+                let mut line = self.text();
+                line.append_str("\n");
+                line
+            }
+        }
+    }
+
     /// The exit status of the process: 0 where the run is done.
     pub fn code(&self) -> u8
         ensures { result ≡ code_of self.now }
@@ -62,22 +101,19 @@ impl fmt::Display for Status {
     ghost output = { λ status. Some (text_of status) };
 
     fn fmt<W: fmt::Write>(&self, f: &mut fmt::Formatter<W>) -> fmt::Result {
-        match *self {
-            Status::Done => f.write_str(""),
-            Status::NoSync => f.write_str("no sync message"),
-            Status::BadWords => f.write_str("bad words"),
-            Status::BadFile(fault) => write_located(f, kind(fault), fault.place()),
-            Status::ReadFault => f.write_str("read fault"),
-            Status::WriteFault => f.write_str("write fault"),
-            Status::NoMemory => f.write_str("out of memory"),
-            Status::BadScript(fault) => write_script(f, fault),
+        let text = self.text();
+        match str::from_utf8(text.bytes()) {
+            Ok(text) => f.write_str(text),
+            Err(_) => Err(fmt::Error),
         }
     }
 }
 
 // The kind of a fault of the file.
 fn kind(fault: FileFault) -> &'static str
-    ensures { result.now ≡ kind_of fault }
+    ensures value { result.now ≡ kind_of fault }
+    ensures ascii { IsAscii result.now }
+    ensures most { length result.now ≤ 10 }
 {
     match fault {
         FileFault::Magic => "magic",
@@ -91,32 +127,68 @@ fn kind(fault: FileFault) -> &'static str
     }
 }
 
-// Writes a kind of fault, and its place where it has one.
-fn write_located<W: fmt::Write>(
-    f: &mut fmt::Formatter<W>,
-    kind: &str,
-    place: Option<u64>,
-) -> fmt::Result
-    ensures { DisplaysOnOk W.write_str_gives f.old result (Some (located kind.now place)) f.new }
+// The text of this piece.
+fn piece(piece: &str) -> Text
+    requires ascii { IsAscii piece.now }
+    requires room { length piece.now ≤ 1024 }
+    ensures { result ≡ piece.now }
 {
-    match place {
-        Some(place) => write!(f, "bad file: {kind} at {place}"),
-        None => write!(f, "bad file: {kind}"),
-    }
+    let mut text = Text::empty();
+    text.append_str(piece);
+    text
 }
 
-// Writes what is wrong with a script.
-fn write_script<W: fmt::Write>(f: &mut fmt::Formatter<W>, fault: ScriptFault) -> fmt::Result
-    ensures { DisplaysOnOk W.write_str_gives f.old result (Some (script_line fault)) f.new }
+// The text of these two pieces.
+fn joined(front: &str, back: &str) -> Text
+    requires ascii { IsAscii front.now }
+    requires ascii_back { IsAscii back.now }
+    requires room { length front.now + length back.now ≤ 1024 }
+    ensures { result ≡ front.now ++ back.now }
+{
+    let mut text = piece(front);
+    text.append_str(back);
+    text
+}
+
+// The text of this piece and a number in decimal.
+fn numbered(piece: &str, number: u64) -> Text
+    requires ascii { IsAscii piece.now }
+    requires room { length piece.now ≤ 44 }
+    ensures value { result ≡ piece.now ++ decimal number }
+    ensures most { length result ≤ 64 }
+{
+    let mut text = Text::empty();
+    text.append_named(piece, number);
+    text
+}
+
+// The text of a kind of fault, and its place where it has one.
+fn located(kind: &str, place: Option<u64>) -> Text
+    requires ascii { IsAscii kind.now }
+    requires short { length kind.now ≤ 10 }
+    ensures value { result ≡ located kind.now place }
+    ensures most { length result ≤ 64 }
+{
+    let mut text = joined("bad file: ", kind);
+    if let Some(place) = place {
+        text.append_named(" at ", place);
+    }
+    text
+}
+
+// The text of what is wrong with a script.
+fn script_text(fault: ScriptFault) -> Text
+    ensures value { result ≡ script_line fault }
+    ensures most { length result ≤ 64 }
 {
     match fault {
-        ScriptFault::Line { n } => write!(f, "bad script: line {n}"),
-        ScriptFault::Walsh { row } => write!(f, "bad script: walsh {row}"),
-        ScriptFault::Gain { row } => write!(f, "bad script: gain {row}"),
-        ScriptFault::TooLoud { sum } => write!(f, "bad script: too loud {sum}"),
-        ScriptFault::TooLong { n } => write!(f, "bad script: too long {n}"),
-        ScriptFault::OutOfMemory => f.write_str("bad script: out of memory"),
-        ScriptFault::TooBig => f.write_str("bad script: too big"),
+        ScriptFault::Line { n } => numbered("bad script: line ", u64::from(n)),
+        ScriptFault::Walsh { row } => numbered("bad script: walsh ", u64::from(row)),
+        ScriptFault::Gain { row } => numbered("bad script: gain ", u64::from(row)),
+        ScriptFault::TooLoud { sum } => numbered("bad script: too loud ", sum),
+        ScriptFault::TooLong { n } => numbered("bad script: too long ", n),
+        ScriptFault::OutOfMemory => joined("bad script: ", "out of memory"),
+        ScriptFault::TooBig => joined("bad script: ", "too big"),
     }
 }
 

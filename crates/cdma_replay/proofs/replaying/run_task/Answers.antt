@@ -1,4 +1,4 @@
-use Rattle.cdma_replay.proofs.Common.{Some, ap, refl}
+use Rattle.cdma_replay.proofs.Common.{Some, refl}
 use Rattle.cdma_replay.proofs.TaskRuns.{file_run, made_run, trial_run, with_taps}
 use Rattle.cdma_replay.proofs.replaying.run_task.Goals as goal
 
@@ -16,7 +16,7 @@ returns-in-Some g c =
 pub returns-in-Make : goal.returns-in-Make
 returns-in-Make g c =
     rw (c.in-Make.is, c.status_of-in-Make.ensures)
-    (made_run _ c.in-Make.width _ (ap (λ k. g.K.Sink.written k)) c.make.ensures)
+    (made_run _ c.in-Make.width _ c.make.ensures)
 
 pub returns-in-Trial : goal.returns-in-Trial
 returns-in-Trial g c =
