@@ -1,5 +1,4 @@
-//! What no clause says: the texts of faults, std's readers and writers, and that a call that failed
-//! isn't tried again.
+//! What no clause says: std's readers and writers, and that a call that failed isn't tried again.
 
 use cdma_io::{
     Failed, FileFault, MemorySink, MemorySource, ReaderSource, SampleReader, Sink, Source,
@@ -24,26 +23,6 @@ fn source_of(alloc: Global, bytes: &[u8], failing: u64) -> Result<MemorySource, 
     let bytes = bytes.to_vec(alloc)?;
     let failing = [failing].to_vec(alloc)?;
     Ok(MemorySource::new(bytes, 7, failing))
-}
-
-#[test]
-fn names_faults(rt: HostRuntime) -> Result<(), Fail> {
-    let all = [
-        (FileFault::Magic, "magic", Some(0)),
-        (FileFault::Version, "version", Some(4)),
-        (FileFault::Flags, "flags", Some(6)),
-        (FileFault::Count, "count", Some(8)),
-        (FileFault::Short { at: 15 }, "short", Some(15)),
-        (FileFault::Extra { at: 8208 }, "extra", Some(8208)),
-        (FileFault::ReadFault, "read fault", None),
-        (FileFault::TooFew { count: 2047 }, "too few", Some(8)),
-    ];
-    for (fault, text, place) in all {
-        let shown = format!(in rt.alloc(); "{fault}")?;
-        assert_eq!(rt; shown.as_str(), text);
-        assert_eq!(rt; fault.place(), place, "{text}");
-    }
-    Ok(())
 }
 
 // One call fails alone, so whoever tried it again would go on as if nothing had failed.
@@ -134,15 +113,19 @@ fn answers_faults_of_std(rt: HostRuntime) {
     assert_eq!(rt; sink.flush(), Err(Failed));
 }
 
-/// A device whose first call fails, and no other.
+/// A device whose first call fails with this kind of fault, and no other.
 #[derive(Drop)]
 struct FailsOnce {
+    kind: ErrorKind,
     failed: bool,
 }
 
 impl FailsOnce {
-    fn new() -> FailsOnce {
-        FailsOnce { failed: false }
+    fn new(kind: ErrorKind) -> FailsOnce {
+        FailsOnce {
+            kind,
+            failed: false,
+        }
     }
 
     fn call(&mut self) -> io::Result<()> {
@@ -150,7 +133,7 @@ impl FailsOnce {
             return Ok(());
         }
         self.failed = true;
-        Err(io::Error::from(ErrorKind::Other))
+        Err(io::Error::from(self.kind))
     }
 }
 
@@ -172,15 +155,47 @@ impl Write for FailsOnce {
     }
 }
 
+// A call that was interrupted is one that failed.
 #[test]
 fn no_failed_call_is_tried_again(rt: HostRuntime) {
-    let mut source = ReaderSource::new(FailsOnce::new());
-    assert_eq!(rt; source.take(&mut [0]), Err(Failed));
-    assert_eq!(rt; source.take(&mut [0]), Ok(0));
-    let mut sink = WriterSink::new(FailsOnce::new());
-    assert_eq!(rt; sink.give(b"p"), Err(Failed));
+    for kind in [ErrorKind::Other, ErrorKind::Interrupted] {
+        let mut source = ReaderSource::new(FailsOnce::new(kind));
+        assert_eq!(rt; source.take(&mut [0]), Err(Failed));
+        assert_eq!(rt; source.take(&mut [0]), Ok(0));
+        let mut sink = WriterSink::new(FailsOnce::new(kind));
+        assert_eq!(rt; sink.give(b"p"), Err(Failed));
+        assert_eq!(rt; sink.give(b"p"), Ok(1));
+        let mut sink = WriterSink::new(FailsOnce::new(kind));
+        assert_eq!(rt; sink.flush(), Err(Failed));
+        assert_eq!(rt; sink.flush(), Ok(()));
+    }
+}
+
+/// A device that tells whether it was flushed after the last byte that it took.
+#[derive(Drop)]
+struct Flushed<'a> {
+    flushed: &'a mut bool,
+}
+
+impl Write for Flushed<'_> {
+    fn write(&mut self, buf: &[u8]) -> io::Result<usize> {
+        *self.flushed = false;
+        Ok(buf.len())
+    }
+
+    fn flush(&mut self) -> io::Result<()> {
+        *self.flushed = true;
+        Ok(())
+    }
+}
+
+#[test]
+fn a_flush_reaches_the_writer(rt: HostRuntime) {
+    let mut flushed = false;
+    let mut sink = WriterSink::new(Flushed {
+        flushed: &mut flushed,
+    });
     assert_eq!(rt; sink.give(b"p"), Ok(1));
-    let mut sink = WriterSink::new(FailsOnce::new());
-    assert_eq!(rt; sink.flush(), Err(Failed));
     assert_eq!(rt; sink.flush(), Ok(()));
+    assert!(rt; flushed);
 }

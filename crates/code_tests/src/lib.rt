@@ -1,14 +1,10 @@
-//! Tests of codes, files and checks by what their crates make public, of what no clause says: the
-//! printed texts, reads and writes that fail, and the pilot's codes as a whole.
+//! Tests of codes and files by what their crates make public, of what no clause says: reads and
+//! writes that fail, and the pilot's codes as a whole.
 //!
 //! They stand apart from the crates, so that each of those is proved once.
 #![tactic(auto)]
 
 #[cfg(test)]
 mod cdma_io_tests;
-#[cfg(test)]
-mod chip_core_tests;
-#[cfg(test)]
-mod quality_bits_tests;
 #[cfg(test)]
 mod short_code_tests;

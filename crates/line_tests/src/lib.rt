@@ -1,8 +1,10 @@
-//! Tests of taps by what their crate makes public, of what no clause says: a tap of another maker
-//! among them, and a sink that fails within a line.
+//! Tests of taps and faults by what their crates make public, of what no clause says: a tap of
+//! another maker among them, a sink that fails within a line, and the printed texts of all faults.
 //!
-//! They stand apart from the crate, so that it is proved once.
+//! They stand apart from the crates, so that each of those is proved once.
 #![tactic(auto)]
 
+#[cfg(test)]
+mod fault_text_tests;
 #[cfg(test)]
 mod tap_tests;

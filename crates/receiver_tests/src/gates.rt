@@ -7,6 +7,20 @@ use std::sync::atomic::{AtomicU64, Ordering};
 /// Samples of which nothing is heard.
 pub const NOTHING: [Sample; 64] = [Sample { i: 0, q: 0 }; 64];
 
+/// A bit for each worker.
+fn flag_of(worker: u8) -> u64 {
+    1 << (worker % 64)
+}
+
+/// Waits until a word is 1, or so many turns are spent.
+fn wait_for(word: &AtomicU64) {
+    for _ in 0..1_000_000_000u32 {
+        if word.load(Ordering::SeqCst) == 1 {
+            break;
+        }
+    }
+}
+
 /// Counts the calls, and adds up what was left unfinished.
 #[derive(Drop)]
 pub struct Counting {
@@ -41,42 +55,149 @@ impl Gate for Counting {
     }
 }
 
-/// Where two workers wait until each has seen the other, or so many turns are spent.
+/// Where workers wait until all are there, or so many turns are spent.
 #[derive(Drop)]
 pub struct Meeting {
-    flags: [AtomicU64; 2],
-    /// Whether each of the two has seen the other, 1 where it has.
-    pub met: [AtomicU64; 2],
-    /// How many other workers arrived.
-    pub others: AtomicU64,
+    /// The flags of the workers that are waited for.
+    all: u64,
+    /// The sum of the flags of the workers that arrived,
+    arrived: AtomicU64,
+    /// of those that saw all the others,
+    met: AtomicU64,
+    /// and of those that left.
+    left: AtomicU64,
 }
 
 impl Meeting {
-    /// The gate before any worker.
-    pub fn new() -> Meeting {
+    /// The gate of two workers, before any.
+    pub fn of_two() -> Meeting {
+        Meeting::of(0b11)
+    }
+
+    /// The gate of five workers, before any.
+    pub fn of_five() -> Meeting {
+        Meeting::of(0b1_1111)
+    }
+
+    fn of(all: u64) -> Meeting {
         Meeting {
-            flags: [AtomicU64::new(0), AtomicU64::new(0)],
-            met: [AtomicU64::new(0), AtomicU64::new(0)],
-            others: AtomicU64::new(0),
+            all,
+            arrived: AtomicU64::new(0),
+            met: AtomicU64::new(0),
+            left: AtomicU64::new(0),
         }
+    }
+
+    /// Whether each worker has seen all the others and has left, and no other was there.
+    pub fn is_over(&self) -> bool {
+        self.arrived.load(Ordering::SeqCst) == self.all
+            && self.met.load(Ordering::SeqCst) == self.all
+            && self.left.load(Ordering::SeqCst) == self.all
     }
 }
 
 impl Gate for Meeting {
     fn arrive(&self, worker: u8) {
-        if worker > 1 {
-            self.others.fetch_add(1, Ordering::SeqCst);
-            return;
-        }
-        let mine = usize::from(worker);
-        self.flags[mine].store(1, Ordering::SeqCst);
+        self.arrived.fetch_add(flag_of(worker), Ordering::SeqCst);
         for _ in 0..100_000_000u32 {
-            if self.flags[1 - mine].load(Ordering::SeqCst) == 1 {
-                self.met[mine].store(1, Ordering::SeqCst);
+            if self.arrived.load(Ordering::SeqCst) == self.all {
+                self.met.fetch_add(flag_of(worker), Ordering::SeqCst);
                 break;
             }
         }
     }
 
-    fn leave(&self, _worker: u8, _unfinished: u16) {}
+    fn leave(&self, worker: u8, _unfinished: u16) {
+        self.left.fetch_add(flag_of(worker), Ordering::SeqCst);
+    }
+}
+
+/// Where worker 0 waits until worker 1 has left, or so many turns are spent. It keeps the number
+/// that each tells.
+#[derive(Drop)]
+pub struct Queue {
+    /// Whether worker 1 has left, 1 where it has.
+    gone: AtomicU64,
+    /// How many phases worker 0 left unfinished,
+    pub first: AtomicU64,
+    /// and worker 1.
+    pub second: AtomicU64,
+}
+
+impl Queue {
+    /// The gate before either worker.
+    pub fn new() -> Queue {
+        Queue {
+            gone: AtomicU64::new(0),
+            first: AtomicU64::new(0),
+            second: AtomicU64::new(0),
+        }
+    }
+}
+
+impl Gate for Queue {
+    fn arrive(&self, worker: u8) {
+        if worker == 0 {
+            wait_for(&self.gone);
+        }
+    }
+
+    fn leave(&self, worker: u8, unfinished: u16) {
+        if worker == 0 {
+            self.first.store(u64::from(unfinished), Ordering::SeqCst);
+            return;
+        }
+        self.second.store(u64::from(unfinished), Ordering::SeqCst);
+        self.gone.store(1, Ordering::SeqCst);
+    }
+}
+
+/// Where worker 0 begins when worker 1 is there, and worker 1 counts the turns from then on until
+/// worker 0 has left: few, where worker 0 doesn't work between arriving and leaving.
+#[derive(Drop)]
+pub struct Watch {
+    /// Whether worker 1 is there, 1 where it is,
+    there: AtomicU64,
+    /// whether worker 0 has begun,
+    begun: AtomicU64,
+    /// and whether it has left.
+    gone: AtomicU64,
+    /// How many turns worker 1 has counted.
+    pub turns: AtomicU64,
+}
+
+impl Watch {
+    /// The gate before either worker.
+    pub fn new() -> Watch {
+        Watch {
+            there: AtomicU64::new(0),
+            begun: AtomicU64::new(0),
+            gone: AtomicU64::new(0),
+            turns: AtomicU64::new(0),
+        }
+    }
+}
+
+impl Gate for Watch {
+    fn arrive(&self, worker: u8) {
+        if worker == 0 {
+            wait_for(&self.there);
+            self.begun.store(1, Ordering::SeqCst);
+            return;
+        }
+        self.there.store(1, Ordering::SeqCst);
+        for _ in 0..100_000_000u32 {
+            if self.gone.load(Ordering::SeqCst) == 1 {
+                break;
+            }
+            let counted = self.begun.load(Ordering::SeqCst);
+            self.turns.fetch_add(counted, Ordering::SeqCst);
+        }
+    }
+
+    fn leave(&self, worker: u8, _unfinished: u16) {
+        if worker == 0 {
+            self.gone.store(1, Ordering::SeqCst);
+        }
+    }
 }

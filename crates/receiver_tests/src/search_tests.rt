@@ -1,22 +1,24 @@
 //! What the workers of the search tell, and which phases they leave.
 
-ghost use Rattle.std.specs.Prelude.{◌<◌};
+ghost use Rattle.std.specs.Prelude.{◌<◌, ◌≤◌, length};
 
-use crate::gates::{Counting, Meeting, NOTHING};
-use chip_core::Sample;
-use pilot_search::search;
+use crate::gates::{Counting, Meeting, NOTHING, Queue};
+use chip_core::{OutOfMemory, Phase, Sample};
+use pilot_search::{Shared, Tails, search, try_phase};
 use short_code::Codes;
+use std::alloc::Global;
 use std::sync::atomic::Ordering;
 use std::test::Fail;
 
 #[test]
-fn two_workers_meet(rt: HostRuntime) -> Result<(), Fail> {
+fn workers_meet(rt: HostRuntime) -> Result<(), Fail> {
     let codes = Codes::new(rt.alloc())?;
-    let gate = Meeting::new();
-    search(&rt, rt.alloc(), &NOTHING, &codes, 2, &gate)?;
-    assert_eq!(rt; gate.met[0].load(Ordering::SeqCst), 1);
-    assert_eq!(rt; gate.met[1].load(Ordering::SeqCst), 1);
-    assert_eq!(rt; gate.others.load(Ordering::SeqCst), 0);
+    let two = Meeting::of_two();
+    search(&rt, rt.alloc(), &NOTHING, &codes, 2, &two)?;
+    assert!(rt; two.is_over(), "two");
+    let five = Meeting::of_five();
+    search(&rt, rt.alloc(), &NOTHING, &codes, 5, &five)?;
+    assert!(rt; five.is_over(), "five");
     Ok(())
 }
 
@@ -30,11 +32,13 @@ fn each_worker_arrives_and_leaves_once(rt: HostRuntime) -> Result<(), Fail> {
     Ok(())
 }
 
-/// 2,048 samples of the code from its first chip on, with an amplitude of 100.
-fn whole_code(codes: &Codes) -> [Sample; 2048] {
+/// 2,048 samples of the code from its chip `first` on, with an amplitude of 100.
+fn code_from(codes: &Codes, first: u16) -> [Sample; 2048]
+    requires { first < 32768 }
+{
     let mut samples = [Sample { i: 0, q: 0 }; 2048];
     for t in 0..2048u16 {
-        let (i, q) = codes.signs(t);
+        let (i, q) = codes.signs((first + t) % 32768);
         samples[usize::from(t)] = Sample {
             i: 100 * i16::from(i),
             q: 100 * i16::from(q),
@@ -44,10 +48,117 @@ fn whole_code(codes: &Codes) -> [Sample; 2048] {
 }
 
 #[test]
-fn leaves_most_phases_behind_the_code(rt: HostRuntime) -> Result<(), Fail> {
+fn leaves_most_phases_after_the_code(rt: HostRuntime) -> Result<(), Fail> {
     let codes = Codes::new(rt.alloc())?;
     let gate = Counting::new();
-    search(&rt, rt.alloc(), &whole_code(&codes), &codes, 1, &gate)?;
+    search(&rt, rt.alloc(), &code_from(&codes, 0), &codes, 1, &gate)?;
+    assert_eq!(rt; gate.left.load(Ordering::SeqCst), 1);
     assert!(rt; gate.unfinished.load(Ordering::SeqCst) >= 30000);
+    Ok(())
+}
+
+#[test]
+fn leaves_no_phase_of_zeros(rt: HostRuntime) -> Result<(), Fail> {
+    let codes = Codes::new(rt.alloc())?;
+    let gate = Counting::new();
+    let zeros = [Sample { i: 0, q: 0 }; 2048];
+    search(&rt, rt.alloc(), &zeros, &codes, 1, &gate)?;
+    assert_eq!(rt; gate.left.load(Ordering::SeqCst), 1);
+    assert_eq!(rt; gate.unfinished.load(Ordering::SeqCst), 0);
+    Ok(())
+}
+
+#[test]
+#[tactic(auto, using(pilot_search::proofs::FoundLemmas::at_most_greatest))]
+fn leaves_a_phase_that_is_surely_below(rt: HostRuntime) -> Result<(), Fail> {
+    let codes = Codes::new(rt.alloc())?;
+    let mut samples = [Sample { i: 0, q: 0 }; 128];
+    samples[0].i = 1;
+    samples[1].i = 1;
+    let tails = Tails::of(&samples);
+    assert_eq!(rt; tails.get(0), 2);
+    assert_eq!(rt; tails.get(1), 0);
+    let (shared, mut seat) = Shared::new(rt.alloc(), &samples, &codes)?;
+    let zero = Phase::new(0).unwrap();
+    let five = Phase::new(5).unwrap();
+    let ten = Phase::new(10).unwrap();
+    let first = try_phase(&shared, &mut seat, &samples, &codes, &tails, zero);
+    let second = try_phase(&shared, &mut seat, &samples, &codes, &tails, five);
+    let again = try_phase(&shared, &mut seat, &samples, &codes, &tails, zero);
+    let last = try_phase(&shared, &mut seat, &samples, &codes, &tails, ten);
+    assert_eq!(rt; first, Some(0));
+    assert_eq!(rt; second, Some(8));
+    assert_eq!(rt; again, None);
+    assert_eq!(rt; last, Some(8));
+    Ok(())
+}
+
+/// How many phases one worker leaves that tries all in order.
+#[tactic(auto, using(pilot_search::proofs::FoundLemmas::at_most_greatest))]
+fn left_in_order(alloc: Global, samples: &[Sample], codes: &Codes) -> Result<u64, OutOfMemory>
+    requires { length samples.now ≤ 32768 }
+{
+    let tails = Tails::of(samples);
+    let (shared, mut seat) = Shared::new(alloc, samples, codes)?;
+    let mut left = 0u64;
+    for n in 0..32768u16 {
+        let phase = Phase::new(n).unwrap();
+        let energy = try_phase(&shared, &mut seat, samples, codes, &tails, phase);
+        left = left.wrapping_add(u64::from(energy.is_none()));
+    }
+    Ok(left)
+}
+
+/// The next draw of noise, -100 to 100: the state becomes 1664525 times itself plus 1013904223.
+fn drawn(state: &mut u32) -> i16 {
+    *state = state.wrapping_mul(1_664_525).wrapping_add(1_013_904_223);
+    ((*state >> 16) % 201) as i16 - 100
+}
+
+/// 2,048 samples of noise, drawn from a seed.
+fn noise(seed: u32) -> [Sample; 2048] {
+    let mut samples = [Sample { i: 0, q: 0 }; 2048];
+    let mut state = seed;
+    for t in 0..2048usize {
+        let i = drawn(&mut state);
+        let q = drawn(&mut state);
+        samples[t] = Sample { i, q };
+    }
+    samples
+}
+
+/// Seeds of noise, how many of its samples are searched, and how many phases one worker leaves of
+/// them, as `tools/tests/test_left_phases` counts by the rule.
+static NOISE: [(u32, usize, u64); 3] = [(1, 2048, 27394), (2, 1500, 32450), (3, 640, 1636)];
+
+#[test]
+fn tells_how_many_phases_of_noise_it_leaves(rt: HostRuntime) -> Result<(), Fail> {
+    let codes = Codes::new(rt.alloc())?;
+    for (seed, count, left) in &NOISE {
+        let noise = noise(*seed);
+        let samples = noise.get(..*count).unwrap_or(&[]);
+        let gate = Counting::new();
+        search(&rt, rt.alloc(), samples, &codes, 1, &gate)?;
+        let told = gate.unfinished.load(Ordering::SeqCst);
+        assert_eq!(rt; told, *left, "{seed}");
+        assert_eq!(rt;
+            left_in_order(rt.alloc(), samples, &codes)?,
+            *left,
+            "{seed}"
+        );
+    }
+    Ok(())
+}
+
+/// The best phase is the last of the second worker's, and the first begins when that one has left:
+/// so it leaves each phase of its half, and either tells its own number.
+#[test]
+fn works_between_arriving_and_leaving(rt: HostRuntime) -> Result<(), Fail> {
+    let codes = Codes::new(rt.alloc())?;
+    let gate = Queue::new();
+    let samples = code_from(&codes, 32767);
+    search(&rt, rt.alloc(), &samples, &codes, 2, &gate)?;
+    assert_eq!(rt; gate.first.load(Ordering::SeqCst), 16384);
+    assert_eq!(rt; gate.second.load(Ordering::SeqCst), 10968);
     Ok(())
 }
