@@ -1,12 +1,12 @@
 """What the tests of the tools share: where things stand, and how a tool and the program are run."""
 
-import importlib.machinery
+import importlib
 import importlib.util
 import os
 import struct
 import subprocess
-import sys
 import tempfile
+import time
 import unittest
 
 ROOT = os.path.dirname(os.path.dirname(os.path.dirname(os.path.abspath(__file__))))
@@ -33,12 +33,8 @@ def temporary_folder(clean):
 
 
 def loaded(name):
-    """A tool as a module."""
-    sys.dont_write_bytecode = True
-    loader = importlib.machinery.SourceFileLoader(name, os.path.join(TOOLS, name))
-    module = importlib.util.module_from_spec(importlib.util.spec_from_loader(name, loader))
-    loader.exec_module(module)
-    return module
+    """A tool's module."""
+    return importlib.import_module(f"cdma_tools.commands.{name}")
 
 
 def run_tool(name, *words, data=b""):
@@ -52,6 +48,18 @@ def run_program(*words, data=b""):
     """A run of the built program: its status and what it wrote."""
     ran = subprocess.run([PROGRAM, *words], input=data, capture_output=True, timeout=300)
     return ran.returncode, ran.stdout
+
+
+def is_gone(group):
+    """Whether no process of a group is left, some seconds later at most."""
+    until = time.monotonic() + 30
+    while time.monotonic() < until:
+        try:
+            os.killpg(group, 0)
+        except ProcessLookupError:
+            return True
+        time.sleep(0.05)
+    return False
 
 
 def example(name):

@@ -1,21 +1,18 @@
 """What the tests of the radio tools share: cells and recordings that are made without the program."""
 
 import contextlib
-import functools
-import importlib
 import io
 import os
 import subprocess
-import sys
 import unittest
-from types import ModuleType
 from typing import Any
 
 import numpy
 from numpy.typing import NDArray
 
-from tools.make_capture import I_LAGS, Q_LAGS, signs
-from tools.tests.helping import HEADER, PYTHON, TOOLS, loaded, temporary_folder
+from cdma_tools.commands.make_capture import I_LAGS, Q_LAGS, signs
+from cdma_tools.commands import status_of
+from tools.tests.helping import HEADER, PYTHON, TOOLS, temporary_folder
 
 CHIP_RATE = 1_228_800
 PERIOD = 32_768
@@ -29,7 +26,9 @@ def code() -> NDArray[numpy.complex128]:
     return numpy.array(signs(I_LAGS)) + 1j * numpy.array(signs(Q_LAGS))
 
 
-def cell_chips(count: int, seed: int = 1, phase: int = PHASE, gains: dict[int, int] = GAINS) -> NDArray[numpy.complex128]:
+def cell_chips(
+    count: int, seed: int = 1, phase: int = PHASE, gains: dict[int, int] = GAINS
+) -> NDArray[numpy.complex128]:
     """Chips of a cell whose first has a code phase: a pilot, and rows of random symbols."""
     draws = numpy.random.default_rng(seed)
     chip = phase + numpy.arange(count)
@@ -39,6 +38,18 @@ def cell_chips(count: int, seed: int = 1, phase: int = PHASE, gains: dict[int, i
         symbols = 1 - 2 * draws.integers(0, 2, count // 64 + 2) if row else numpy.ones(count // 64 + 2)
         level += gain * signs_of_row[chip % 64] * symbols[(chip - phase // 64 * 64) // 64]
     return level * code()[chip % PERIOD]
+
+
+def whole_cell(
+    count: int, seed: int = 1, phase: int = PHASE, gains: dict[int, int] = GAINS
+) -> NDArray[numpy.complex128]:
+    """Chips of a cell whose sync channel has symbols of 256 chips, as the standard has it (7.1.3.1.4)."""
+    chip = phase + numpy.arange(count)
+    symbols = 1 - 2 * numpy.random.default_rng(32 + seed).integers(0, 2, chip[-1] // 256 + 1)
+    signs = 1 - 2 * (chip % 64 // 32)
+    others = {row: gain for row, gain in gains.items() if row != 32}
+    sync = gains.get(32, 0) * signs * symbols[chip // 256]
+    return cell_chips(count, seed, phase, others) + sync * code()[chip % PERIOD]
 
 
 def write_cell(path: str, chips: NDArray[numpy.complex128]) -> str:
@@ -74,27 +85,11 @@ def figures(said: str) -> dict[str, str]:
     return dict(word.split("=", 1) for word in lines[0].split())
 
 
-@functools.lru_cache(maxsize=None)
-def tool(name: str) -> ModuleType:
-    """A tool as a module, loaded once: so a run needs no new interpreter, which would load scipy each time."""
-    sys.path.insert(0, TOOLS)
-    try:
-        module = loaded(name)
-        if name == "import_capture":
-            importlib.import_module("radio.locking")  # which it loads where it is asked to lock
-    finally:
-        sys.path.remove(TOOLS)
-    return module
-
-
 def run_main(name: str, *words: Any) -> tuple[int, str, str]:
-    """A run of a tool within this process: its status, what it wrote, and what it wrote on standard error."""
+    """A run of a tool within this process, which needn't load scipy again: its status, what it wrote, and what it wrote on standard error."""
     wrote, said = io.StringIO(), io.StringIO()
     with contextlib.redirect_stdout(wrote), contextlib.redirect_stderr(said):
-        try:
-            status = tool(name).main([str(word) for word in words])
-        except SystemExit as end:
-            status = end.code
+        status = status_of(name, [str(word) for word in words])
     return status, wrote.getvalue(), said.getvalue()
 
 

@@ -5,7 +5,7 @@ import shlex
 
 import numpy
 
-from tools.correlation import codes
+from cdma_tools.correlation import codes
 from tools.tests.helping import sample_file
 
 PHASE = 12_345  # of the pilot's code at the first sample

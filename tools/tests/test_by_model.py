@@ -3,22 +3,17 @@
 import contextlib
 import io
 import os
-import sys
 import unittest
-from collections.abc import Callable
-from types import ModuleType
 
-from tools.tests.helping import EXAMPLES, PYTHON, ROOT, TOOLS, needs, run_tool, sample_file, temporary_folder
+from tools.tests.helping import EXAMPLES, PYTHON, ROOT, needs, run_tool, sample_file, temporary_folder
 
 needs("numpy")
 
-sys.path[:0] = [os.path.join(ROOT, "conformance"), TOOLS]
+from cdma_tools.commands import status_of  # noqa: E402
+from cdma_tools.conformance import by_model, cases, random_case  # noqa: E402
+from cdma_tools.conformance.by_model import Draft, input_of, items_of  # noqa: E402
 
-import by_model  # noqa: E402
-import random_case  # noqa: E402
-from by_model import RUN, Draft, input_of, items_of, loaded  # noqa: E402
-
-WRITE, CHECK = loaded("write"), loaded("check")
+WRITE, CHECK = "conformance_write", "conformance_check"
 DRAFT = """purpose: a pilot that turns the other way
 words: find
 bits: 16
@@ -35,9 +30,9 @@ class Folder(unittest.TestCase):
 
     def setUp(self) -> None:
         self.folder = temporary_folder(self.addCleanup)
-        before = RUN.CASES
-        self.addCleanup(setattr, RUN, "CASES", before)
-        RUN.CASES = self.folder
+        before = cases.CASES
+        self.addCleanup(setattr, cases, "CASES", before)
+        cases.CASES = self.folder
 
     def put(self, text: str, name: str = "one") -> None:
         with open(os.path.join(self.folder, name + ".case"), "w", encoding="ascii") as file:
@@ -47,13 +42,11 @@ class Folder(unittest.TestCase):
         with open(os.path.join(self.folder, name + ".case"), encoding="ascii") as file:
             return file.read()
 
-    def said(self, tool: ModuleType | Callable, *words: str) -> tuple[int, str, str]:
+    def said(self, tool: str, *words: str) -> tuple[int, str, str]:
+        """The status of a command, what it wrote, and what it said."""
         out, err = io.StringIO(), io.StringIO()
         with contextlib.redirect_stdout(out), contextlib.redirect_stderr(err):
-            try:
-                status = getattr(tool, "main", tool)(list(words))
-            except SystemExit as ended:
-                status = int(str(ended.code))
+            status = status_of(tool, list(words))
         return status, out.getvalue(), err.getvalue()
 
 
@@ -62,7 +55,8 @@ class Write(Folder):
         self.put(DRAFT)
         self.assertEqual(self.said(WRITE, "one")[:2], (0, "one: written\n"))
         found = self.got()
-        front = "purpose: a pilot that turns the other way\nwords: find\nstatus: 0\nbits: 16\nsha256: "
+        front = "purpose: a pilot that turns the other way\nwords: find\n"
+        front += "rules: samples pilot_codes search formats\nstatus: 0\nbits: 16\nsha256: "
         self.assertTrue(found.startswith(front))
         self.assertTrue(found.endswith("  pilot gain=100\ntext:\n" + WANTED))
         self.assertEqual(self.said(WRITE, "one")[:2], (0, "one: nothing to change\n"))
@@ -77,7 +71,7 @@ class Write(Folder):
     def test_a_status_with_its_line(self) -> None:
         self.put(DRAFT.replace("samples=3000", "samples=30"))
         self.said(WRITE, "one")
-        self.assertIn("words: find\nstatus: 3\nerror: bad file: too few at 8\nbits: 16\n", self.got())
+        self.assertIn("words: find\nrules: formats\nstatus: 3\nerror: bad file: too few at 8\nbits: 16\n", self.got())
 
     def test_samples_that_are_asked_for(self) -> None:
         self.put(DRAFT.replace("words: find\nbits: 16\n", "words: make\ninput: script\n"))
@@ -159,10 +153,10 @@ class Agree(unittest.TestCase):
 
     def test_bad_words(self) -> None:
         for words in (["--seed", 1], ["--seed", -1, "--count", 1, "x"], ["--seed", 1, "--count", 0, "x"],
-                      ["--seed", 1, "--count", 1], ["--seed", 1, "--count", 1, "--jobs", 0, "x"]):  # fmt: skip
+                      ["--seed", 1, "--count", 1, "--jobs", 0, "x"]):  # fmt: skip
             self.assertEqual(run_tool("agree", *words)[0], 2)
         status, _, err = run_tool("agree", "--seed", 5, "--count", 1, "--jobs", 1, "/nowhere/program")
-        self.assertEqual((status, err), (2, "tools/agree: /nowhere/program: No such file or directory\n"))
+        self.assertEqual((status, err), (2, "agree: no program at /nowhere/program\n"))
 
     def test_cases_are_the_same_for_a_seed_and_can_be_read(self) -> None:
         commands = set()
@@ -236,7 +230,7 @@ class Explain(unittest.TestCase):
         for data, fault in ((b"", "short at 0"), (sample_file([(0, 0)] * 9), "too few at 8")):
             with open(bad, "wb") as file:
                 file.write(data)
-            self.assertEqual(run_tool("explain", bad, "--sync")[::2], (1, f"tools/explain: {bad}: bad file: {fault}\n"))
+            self.assertEqual(run_tool("explain", bad, "--sync")[::2], (1, f"explain: {bad}: bad file: {fault}\n"))
         with open(bad, "wb") as file:
             file.write(sample_file([(0, 0)] * 2_048))
         for words in (["--sync"], ["--paging", 1], ["--traffic", "0000abcd", 10]):

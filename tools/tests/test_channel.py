@@ -10,8 +10,18 @@ needs("numpy", "scipy")
 
 import numpy  # noqa: E402
 
-from tools.radio import channel  # noqa: E402
-from tools.tests.radio_helping import CHIP_RATE, GAINS, PHASE, Recordings, code, read_chips, run_main  # noqa: E402
+from cdma_tools.radio import channel  # noqa: E402
+from tools.tests.radio_helping import (  # noqa: E402
+    CHIP_RATE,
+    GAINS,
+    PHASE,
+    Recordings,
+    cell_chips,
+    code,
+    read_chips,
+    run_main,
+    write_cell,
+)
 
 RATE = 2_457_600  # two samples a chip
 
@@ -156,6 +166,37 @@ class Recorded(Recordings):
         for word in ("carrier_hz=1250300", "clock_ppm=-3.5", "ec_io_db=-9.00", "seed=12"):
             self.assertIn(word, note["core:comment"].split())
 
+    def test_a_recording_is_made_again_from_its_truth(self) -> None:
+        other = write_cell(self.at("other.is95"), cell_chips(self.CHIPS, seed=3, phase=20_000))
+        words = (
+            "--type", "cu8", "--rate", "2399987.1", "--carrier", -1_250.3, "--drift", 31, "--clock", 7.123456789, "--clock-drift", -0.2,
+            "--delay", 0.37, "--dc", 0.11, "--iq", "0.5:3.25", "--paths", "0:0:0:12.5,1.23456789:-3:45", "--level", -13.5,
+            "--ec-io", -9.87654321, "--seed", 5, "--lose", "30000:700", "--lose", "50000:3", "--seconds", 0.04, "--equaliser", "--conjugate",
+        )  # fmt: skip
+        for given, cells in ((words, (self.cell, f"{other}:-3.5:40.25")), (("--eb-nt", "7:10:9600"), (self.cell,))):
+            path = self.recorded(*given, cells=cells)
+            with open(path, encoding="utf-8") as file:
+                note = json.load(file)["annotations"][0]
+            self.assertEqual(run_main("channel", *note["cdma_tools:arguments"], self.at("again.sigmf-meta"))[0], 0)
+            for end in ("data", "meta"):
+                with open(path[:-4] + end, "rb") as first, open(self.at(f"again.sigmf-{end}"), "rb") as second:
+                    self.assertEqual(first.read(), second.read())
+            self.assertEqual(len(note["cdma_tools:cells"]), len(cells))
+        self.assertIn("eb_nt=7:10:9600", note["core:comment"].split())
+
+    def test_powers_are_those_of_the_whole_file(self) -> None:
+        # A row that begins behind half a file has half of its power there, and none in the first 16 periods.
+        count = 40 * 32_768
+        late = cell_chips(count, gains={10: 70})
+        late[: count // 2] = 0
+        path = write_cell(self.at("late.is95"), cell_chips(count, gains={0: 100}) + late)
+        cell = channel.Cell(path)
+        self.addCleanup(cell.file.close)
+        self.assertAlmostEqual(cell.power / (2 * 100**2 + 70**2), 1, delta=1e-3)
+        self.assertAlmostEqual(cell.pilot / (2 * 100**2), 1, delta=1e-5)
+        self.assertAlmostEqual(cell.row_power(10) / 70**2, 1, delta=1e-3)
+        self.assertEqual(cell.phase, PHASE)
+
     def test_the_ideal_receiver(self) -> None:
         self.recorded("--carrier", 900, "--clock", 20, "--delay", 0.4, "--ideal", self.at("ideal.is95"))
         self.assertEqual(read_file(self.at("ideal.is95"))[:2], (1, 0))
@@ -172,8 +213,8 @@ class Recorded(Recordings):
             (1, "no sample file", (os.path.abspath(__file__),)),
             (1, "too few for a recording", ("--seconds", 1e-5, self.cell)),
             (2, "not 1 to 4 numbers", ("--paths", "1:2:3:4:5", self.cell)),
-            (2, "a Doppler below 0", ("--paths", "1:2:3:-4", self.cell)),
-            (2, "no DB:ROW:RATE", ("--eb-nt", "7:64:9600", self.cell)),
+            (2, "not 0 to 100,000: '-4'", ("--paths", "1:2:3:-4", self.cell)),
+            (2, "not 0 to 63: '64'", ("--eb-nt", "7:64:9600", self.cell)),
             (2, "not allowed with", ("--eb-nt", "7:3:9600", "--ec-io", -9, self.cell)),
             (2, "no whole number", ("--lose", "1:x", self.cell)),
         ):

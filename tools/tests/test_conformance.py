@@ -4,17 +4,15 @@ from __future__ import annotations
 
 import contextlib
 import hashlib
-import importlib.machinery
-import importlib.util
 import io
 import os
 import re
-import sys
 import unittest
-from types import ModuleType
 from typing import Any
 
-from tools.tests.helping import ROOT, sample_file, temporary_folder
+from cdma_tools.commands import status_of
+from cdma_tools.conformance import cases
+from tools.tests.helping import sample_file, temporary_folder
 
 SEARCH = {"span", "workers"}
 PATHS = SEARCH | {"fingers"}
@@ -43,26 +41,14 @@ SCRIPT = ("script:", "  cell pn=1")
 SAMPLES = [(1, -1), (300, 2), (-3, 77)]
 
 
-def loaded() -> ModuleType:
-    """conformance/run as a module."""
-    sys.dont_write_bytecode = True
-    loader = importlib.machinery.SourceFileLoader("conformance_run", os.path.join(ROOT, "conformance", "run"))
-    module = importlib.util.module_from_spec(importlib.util.spec_from_loader("conformance_run", loader))
-    loader.exec_module(module)
-    return module
-
-
-RUN = loaded()
-
-
 class TheCases(unittest.TestCase):
     def test_there_are_enough_and_each_is_whole(self) -> None:
-        names = RUN.names_of_cases()
+        names = cases.names_of_cases()
         self.assertGreaterEqual(len(names), 40)
         purposes = {}
         for name in names:
             with self.subTest(name):
-                case = RUN.Case(name)
+                case = cases.Case(name)
                 self.assertIsNone(purposes.get(case.purpose))
                 purposes[case.purpose] = name
                 self.check_case(case)
@@ -88,10 +74,10 @@ class TheCases(unittest.TestCase):
         self.assertEqual(len(options) % 2, 0)
 
     def test_what_they_cover(self) -> None:
-        cases = [RUN.Case(name) for name in RUN.names_of_cases()]
-        words = [" ".join(case.words) + " " for case in cases]
-        lines = "\n".join(line for case in cases for line in case.text or [])
-        scripts = "\n".join(line for case in cases for script in case.scripts for line in script)
+        whole = [cases.Case(name) for name in cases.names_of_cases()]
+        words = [" ".join(case.words) + " " for case in whole]
+        lines = "\n".join(line for case in whole for line in case.text or [])
+        scripts = "\n".join(line for case in whole for script in case.scripts for line in script)
         for number in range(1, 8):
             self.assertTrue(any(f"--paging {number} " in text for text in words), number)
         for kind in ("system", "neighbors", "channels", "other"):
@@ -105,23 +91,23 @@ class TheCases(unittest.TestCase):
         self.assertRegex(lines, r"(?m)^slot at=\d+ time=\d+ messages=[1-9]")
         for text in ("page half", "page next", "prat=0", "prat=1", "prat=2", "prat=3", "checks=0", "checks=3"):
             self.assertIn(text, scripts)
-        self.assertTrue(any(case.bits == 8 for case in cases) and any(case.noise for case in cases))
-        made = "\n".join(line for case in cases if case.status == 0 for script in case.scripts for line in script)
+        self.assertTrue(any(case.bits == 8 for case in whole) and any(case.noise for case in whole))
+        made = "\n".join(line for case in whole if case.status == 0 for script in case.scripts for line in script)
         self.assertGreater(max(int(n) for n in re.findall(r"samples=(\d+)", made)), 3_000_000)
 
     def test_each_end_is_asked_for(self) -> None:
         """Each status but want of memory, each fault of a file and of a script, a closed and a full output."""
-        cases = [RUN.Case(name) for name in RUN.names_of_cases()]
-        errors = {case.error for case in cases}
-        self.assertEqual({case.status for case in cases}, {0, 1, 2, 3, 4, 5, 8})
-        self.assertEqual({case.sink for case in cases}, {None, "closed", "full"})
+        whole = [cases.Case(name) for name in cases.names_of_cases()]
+        errors = {case.error for case in whole}
+        self.assertEqual({case.status for case in whole}, {0, 1, 2, 3, 4, 5, 8})
+        self.assertEqual({case.sink for case in whole}, {None, "closed", "full"})
         for kind in ("magic at 0", "version at 4", "flags at 6", "count at 8", "short at 0", "extra at 8208", "too few at 8"):
             self.assertIn(f"bad file: {kind}", errors)
         for fault in ("too big", "line 1", "walsh 1", "gain 1", "too loud 6226300", "too long 33554433"):
             self.assertIn(f"bad script: {fault}", errors)
         self.assertLessEqual({"", "no sync message", "bad words", "read fault", "write fault"}, errors)
-        self.assertTrue(all(case.most_read == 0 or case.input == "dropped" for case in cases if case.status == 2))
-        taps = [line.split(" ")[0] for line in RUN.Case("all_taps").text]
+        self.assertTrue(all(case.most_read == 0 or case.input == "dropped" for case in whole if case.status == 2))
+        taps = [line.split(" ")[0] for line in cases.Case("all_taps").text]
         self.assertEqual(set(taps), {"pilot", "sync", "paging", "frame", "traffic", "sets", "raw"})
 
 
@@ -130,8 +116,8 @@ class Asks(unittest.TestCase):
 
     def setUp(self) -> None:
         self.folder = temporary_folder(self.addCleanup)
-        self.addCleanup(setattr, RUN, "CASES", RUN.CASES)
-        RUN.CASES = self.folder
+        self.addCleanup(setattr, cases, "CASES", cases.CASES)
+        cases.CASES = self.folder
         self.keep("made.is95", sample_file(SAMPLES, flags=2))
         self.maker = self.program("maker", 'cat > "$0.script"; cat ' + self.at("made.is95"))
 
@@ -174,7 +160,7 @@ class Asks(unittest.TestCase):
         said, faults = io.StringIO(), io.StringIO()
         with contextlib.redirect_stdout(said), contextlib.redirect_stderr(faults):
             try:
-                status = RUN.main([*words, self.program("receiver", receiver)])
+                status = status_of("conformance", [*words, self.program("receiver", receiver)])
             except SystemExit as end:
                 status = end.code
         return status, said.getvalue() + faults.getvalue()
@@ -235,6 +221,41 @@ class AsksOfSamples(Asks):
         self.accepts('printf "pilot phase=1\\nlast\\n"')
         self.assertTrue(any(noise))
 
+    def test_noise_against_a_channel(self) -> None:
+        """What one more of the sync channel's gain adds to a part has the channel's sign; the noise has the other."""
+        louder = [(2, -1), (299, 2), (-3, 79)]
+        self.keep("louder.is95", sample_file(louder, flags=2))
+        self.maker = self.program(
+            "maker", f'if grep -q "sync gain=31 "; then cat {self.at("louder.is95")}; else cat {self.at("made.is95")}; fi'
+        )
+        sums = [(1 - 40, -1), (300 + 40, 2), (-3, 77 - 40)]
+        head = ["purpose: a first one", "words: find", "status: 0", "bits: 16", "against: 32 40"]
+        sha = f"sha256: {hashlib.sha256(sample_file(sums, flags=2)).hexdigest()}"
+        script = ["script:", "  cell pn=1", "  pilot gain=30 ", "  sync gain=30 prev=3"]
+        self.write(*head, sha, *script, "text:", "  pilot phase=1", "  last")
+        self.accepts('printf "pilot phase=1\\nlast\\n"')
+        self.write(*head[:-1], "against: 10 40", sha, *script, "text:", "  last")
+        status, said = self.asked("exit 0")
+        self.assertEqual((status, said), (2, "conformance/run: the script sends no channel on row 10\n"))
+
+    def test_samples_that_are_divided(self) -> None:
+        """Parts of 16 bits over 4, a half upwards, as samples of 8 bits."""
+        self.keep("made.is95", sample_file([(1, -1), (301, 2), (-3, 77), (-2, -6)], flags=2))
+        divided = sample_file([(0, 0), (75, 1), (-1, 19), (0, -1)], version=2, flags=2)
+        sha = f"sha256: {hashlib.sha256(divided).hexdigest()}"
+        self.write("purpose: over", "words: find", "status: 0", "bits: 8", "divide: 4", sha, "script:", "  a", "text:", "  last")
+        self.accepts("printf 'last\\n'")
+
+    def test_what_noise_within_the_margins_leaves(self) -> None:
+        """The pilot's energy and the pilot sets aren't compared; of what differs the law is told that says what comes back."""
+        sha = f"sha256: {hashlib.sha256(sample_file(SAMPLES, flags=2)).hexdigest()}"
+        script = ["script:", "  cell pn=1"]
+        self.write("purpose: near", "words: follow", "status: 0", "bits: 16", "near: 7", sha, *script, "text:", "  sync at=9")
+        self.accepts('printf "pilot phase=1 energy=5\\nsync at=9\\nsets at=10\\n"')
+        law = "each part of each sample is within 7 of what the cell sends, and each channel that is heard bears as much: "
+        law += "so what was sent comes back (docs/LINK.md, A link with noise)"
+        self.refuses('printf "pilot phase=1 energy=5\\n"', law, "line 1 wanted: sync at=9")
+
     def test_samples_that_are_changed_cut_and_added_to(self) -> None:
         whole = sample_file(SAMPLES, flags=2)
         self.case(b"\x01" + whole[1:-3] + b"\xff\xff", ("change: 0 01", "cut: -3", "add: 2 * ff"))
@@ -259,7 +280,7 @@ class AsksOfSamples(Asks):
         for words, why in (
             (["--only", "none"], "no case none"),
             (["--keep", self.at("none")], "no folder"),
-            (["--minutes", "0"], "1 to 1440"),
+            (["--minutes", "0"], "1 to 1,440"),
         ):
             status, said = self.asked("exit 0", *words)
             self.assertEqual(status, 2)
@@ -368,6 +389,9 @@ class AsksOfBytes(Asks):
             ((*made, "script:", "script:", "text:"), "has 2 scripts and 0 places"),
             ((*made, "places: 1 2", "script:", "script:", "text:"), "has places: 1 2, which isn't 1 numbers"),
             ((*made, "noise: 1", "script:", "text:"), "has noise: 1, which isn't 2 numbers"),
+            ((*made, "against: 0 5", "script:", "text:"), "has against: 0 5, whose first number isn't a row from 1 to 63"),
+            ((*made, "divide: -1", "script:", "text:"), "has divide: -1, which isn't 1 numbers"),
+            ((*made, "near: 3", "script:", "output: closed"), "has near: and no script, or no text"),
             ((*made, "script:", *end), "has scripts and a file"),
             ((head[0], head[1], "status: 9", *end), "has status: 9, which isn't 1 numbers from 0 to 8"),
             ((head[0], head[1], "status: x", *end), "has status: x, which isn't"),

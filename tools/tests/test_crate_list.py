@@ -6,7 +6,7 @@ import os
 import re
 import unittest
 
-from tools.crate_list import NoList, chains, crates_below, longest_chain, picture, right_below, with_picture
+from cdma_tools.repository.crate_list import NoList, chains, crates_below, longest_chain, picture, right_below, with_picture
 from tools.tests.helping import ROOT
 
 MOST_COLUMNS = 100

@@ -13,6 +13,7 @@ import sqlite3
 import subprocess
 import time
 import unittest
+import xml.etree.ElementTree
 
 from tools.tests.helping import EXAMPLES, NO_PROGRAM, PROGRAM, PYTHON, ROOT, TOOLS, example, needs, temporary_folder
 
@@ -20,8 +21,8 @@ needs("numpy", "scipy", "matplotlib", "distributed")
 
 import numpy  # noqa: E402
 
-from tools.curves import levels, noise  # noqa: E402
-from tools.curves.script import read_script  # noqa: E402
+from cdma_tools.curves import levels, noise  # noqa: E402
+from cdma_tools.scripts import read_script  # noqa: E402
 from tools.tests import fake_receiver  # noqa: E402
 
 FAKE = os.path.join(ROOT, "tools", "tests", "fake_receiver.py")
@@ -197,6 +198,28 @@ class Counts(Curves):
         self.assertRegex(lines[0], r"frame 9600 at 1 dB, seed 1995: kept sent=12 .*counted sent=36 ")
         self.refused("has counts of another run .seed differ", self.words("--seed", "2"))
 
+    def test_limits(self):
+        """A limit at the interval's upper end is met, and so is 1; one that is next to nothing is broken."""
+        whole = self.rows_of_one_worker()
+        errors = [int(row["errors"]) for row in whole if row["channel"] == "frame 9600"]
+        highs = [float(row["high"]) for row in whole if row["channel"] == "frame 9600"]
+        self.assertTrue(all(errors))
+        kept = self.keep("limits.csv", f"point_db,share\n1,{highs[0]}\n1.5,1\n1.5,1e-9\n")
+        results = self.at("results.xml")
+        code, table, lines = self.ran(self.words("--limits", kept, "--junit", results))
+        self.assertEqual((code, lines), (1, []))
+        name = "fake follow, frame 9600 at"
+        self.assertEqual(table[-3:-1], [f"{name} 1 dB: met", f"{name} 1.5 dB: met"])
+        self.assertRegex(table[-1], r"frame 9600 at 1.5 dB: above the limit of 1e-09: \d+ of 36 in error, from ")
+        suite = xml.etree.ElementTree.parse(results).getroot()[0]
+        self.assertEqual([suite.get(name) for name in ("name", "tests", "failures")], ["curve", "3", "1"])
+        code, said, _ = self.ran(self.words("--json", "--against", os.path.join(self.at("out"), "curve.csv")))
+        told = json.loads("\n".join(said))
+        self.assertEqual((code, told["failed"], told["cases"][-1]["name"]), (0, 0, "against"))
+        self.assertEqual([case["errors"] for case in told["cases"] if case.get("channel") == "frame 9600"], errors)
+        self.refused("3 dB is no point", self.words("--limits", self.keep("far.csv", "point_db,share\n3,1\n")))
+        self.refused("no channel 'x'", self.words("--limits", self.keep("x.csv", "point_db,channel,share\n1,x,1\n")))
+
     def test_another_receiver_stands_beside_ours(self):
         other = self.program("other")
         with open(other, "a", encoding="ascii") as file:
@@ -225,7 +248,7 @@ class Broken(Curves):
         child.send_signal(signal.SIGINT)
         _, said = child.communicate(timeout=SECONDS)
         self.assertEqual(said, "curve: broken off; the same words go on from what was counted\n")
-        self.assertEqual(child.returncode, 1)
+        self.assertEqual(child.returncode, 130)
 
     def test_a_disk_that_is_full_keeps_what_was_counted(self):
         """A limit on the size of files stands for the disk: SQLite's log has 24 pages, 11 of them without a batch, and
@@ -308,7 +331,7 @@ class Faults(Curves):
 
     def test_a_receiver_that_does_not_end(self):
         bad = self.program("bad", "hang")
-        self.refused("didn't end within 0.05 minutes", self.words("--receiver", bad, "--minutes", "0.05"))
+        self.refused("no end within 3 seconds", self.words("--receiver", bad, "--minutes", "0.05"))
 
     def test_a_receiver_that_hears_no_sync_message_loses_all(self):
         bad = self.program("bad", "status 1")
@@ -348,7 +371,7 @@ class Faults(Curves):
             ("--from", "nan"), ("--unknown",),
         ):  # fmt: skip
             with self.subTest(more):
-                self.refused("curve: error: ", self.words(*more), status=2)
+                self.refused("curve: ", self.words(*more), status=2)
         self.refused("--to is below --from", self.words("--from", "3"))
         self.refused("is heard by follow or list", self.words("--words", "rate2"))
 

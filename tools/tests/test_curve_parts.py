@@ -15,10 +15,12 @@ needs("numpy", "scipy")
 import numpy  # noqa: E402
 from scipy import stats  # noqa: E402
 
-from tools.curves import Refused, bound, counting, levels, noise, plan, receiver, report, store  # noqa: E402
-from tools.curves.batch import Curve, Setup, on_air  # noqa: E402
-from tools.curves.counting import Count, Heard  # noqa: E402
-from tools.curves.script import Frame, Script, Traffic, chosen_channel, read_script  # noqa: E402
+from cdma_tools.errors import Refused  # noqa: E402
+
+from cdma_tools.curves import bound, counting, levels, noise, plan, receiver, report, store  # noqa: E402
+from cdma_tools.curves.batch import Curve, Setup, on_air  # noqa: E402
+from cdma_tools.curves.counting import Count, Heard  # noqa: E402
+from cdma_tools.scripts import Frame, Script, Traffic, chosen_channel, read_script  # noqa: E402
 
 FRAMES = (Frame("frame", 9_600, "8:aa"), Frame("frame", 1_200, "16:0102"))
 TRAFFIC = Traffic(10, "0000abcd", 3, 40, FRAMES)

@@ -140,8 +140,8 @@ class Pictures(unittest.TestCase):
     def test_words(self):
         self.refused("required: KIND", status=2)
         self.refused("ends neither with .png nor with .svg", "follow", self.at("a.pdf"), status=2)
-        self.refused("63 isn't 64 to 32768", "correlation", self.at("a.png"), "--span", "63", status=2)
-        self.refused("0 isn't 1 to 512", "survey", self.at("a.png"), "--top", "0", status=2)
+        self.refused("not 64 to 32,768: '63'", "correlation", self.at("a.png"), "--span", "63", status=2)
+        self.refused("not 1 to 512: '0'", "survey", self.at("a.png"), "--top", "0", status=2)
         self.refused("invalid choice", "find", self.at("a.png"), status=2)
 
     @unittest.skipUnless(PROGRAM, NO_PROGRAM)

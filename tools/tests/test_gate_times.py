@@ -131,7 +131,7 @@ class GateTimes(unittest.TestCase):
             with self.subTest(why):
                 status, wrote, faults = self.told(lines)
                 self.assertEqual((status, wrote), (2, ""))
-                self.assertIn(f"tools/gate_times: {why}", faults)
+                self.assertIn(f"gate_times: {why}", faults)
         for text, why in (
             ("core", "has a line that is none"),
             ("core: top\ntop: core\n", "has a circle: core top core"),

@@ -6,7 +6,7 @@ import os
 import re
 import unittest
 
-from tools.crate_list import crates_below
+from cdma_tools.repository.crate_list import crates_below
 from tools.tests.helping import ROOT
 
 

@@ -24,17 +24,43 @@ class Installs(unittest.TestCase):
         with open(os.path.join(*path), "rb") as file:
             return file.read()
 
-    def test_both_are_in_place(self):
+    def files(self):
+        """All files below the prefix."""
+        return sorted(os.path.join(path, name) for path, _, names in os.walk(self.prefix) for name in names)
+
+    def test_all_is_in_place_and_taken_away_again(self):
         for _ in range(2):
             status, wrote, said = run_tool("install", "--program", self.program, self.prefix)
             self.assertEqual((status, said), (0, ""))
             page = os.path.join(self.prefix, "share", "man", "man1", "cdma_replay.1")
             program = os.path.join(self.prefix, "bin", "cdma_replay")
-            self.assertEqual(wrote.decode().splitlines(), [page, program])
+            self.assertEqual(sorted(wrote.decode().splitlines()), self.files())
             self.assertEqual(self.read(program), STANDS_FOR)
             self.assertEqual(self.read(page), self.read(ROOT, "docs", "cdma_replay.1"))
             self.assertEqual([os.stat(path).st_mode & 0o777 for path in (page, program)], [0o644, 0o755])
-            self.assertEqual(os.listdir(os.path.dirname(program)), ["cdma_replay"])
+        other = os.path.join(self.prefix, "bin", "other")
+        with open(other, "w") as file:
+            file.write("of somebody else")
+        status, _, said = run_tool("install", "--remove", self.prefix)
+        self.assertEqual((status, said, self.files()), (0, "", [other]))
+        self.refused_as("nothing is installed there", "--remove", self.prefix)
+
+    def test_a_list_that_leads_elsewhere_takes_nothing_away(self):
+        kept = os.path.join(os.path.dirname(self.prefix), "kept")
+        for place in ("../kept", kept):
+            with open(kept, "w") as file:
+                file.write("kept")
+            os.makedirs(os.path.join(self.prefix, "share", "cdma-replay"), exist_ok=True)
+            with open(os.path.join(self.prefix, "share", "cdma-replay", "files"), "w") as file:
+                file.write(place + "\n")
+            self.refused_as("no list of files below the prefix", "--remove", self.prefix)
+            self.assertTrue(os.path.exists(kept))
+
+    def refused_as(self, why, *words):
+        """A run that ends with status 1 and one line."""
+        status, wrote, said = run_tool("install", *words)
+        self.assertEqual((status, wrote, said.count("\n")), (1, b"", 1))
+        self.assertIn(why, said)
 
     def refused(self, why, *words, status=1):
         ended, wrote, said = run_tool("install", *words)
@@ -46,7 +72,7 @@ class Installs(unittest.TestCase):
     def test_refusals(self):
         words = ["--program", self.program, self.prefix]
         self.keep(b"#!/bin/sh\necho bad words >&2\nexit 3\n")
-        self.refused("without words it ended with 3", *words)
+        self.refused("without arguments it ended with 3", *words)
         self.keep(b"no program at all")
         self.refused("doesn't run here", *words)
         self.keep(STANDS_FOR, 0o600)

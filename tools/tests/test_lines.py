@@ -7,7 +7,7 @@ import re
 import tempfile
 import unittest
 
-from tools.line_table import (
+from cdma_tools.lines import (
     HEAD_FIELDS,
     IN_TRAFFIC_FIELDS,
     SEARCH_FIELDS,

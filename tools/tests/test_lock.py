@@ -10,6 +10,7 @@ needs("numpy", "scipy")
 
 import numpy  # noqa: E402
 
+from cdma_tools.commands.radio_bench import without_pilot  # noqa: E402
 from tools.tests.radio_helping import (  # noqa: E402
     CHIP_RATE,
     PERIOD,
@@ -52,6 +53,21 @@ class Found(Recordings):
                 self.holds(found, carrier, clock, -10)
                 self.assertEqual((found["equaliser"], found["conjugate"], found["lost"]), ("no", "no", "0"))
                 self.nearly_ideal(found)
+
+    def test_clocks_up_to_110_millionths(self) -> None:
+        path = write_cell(self.at("second.is95"), cell_chips(1_230_000))
+        for clock, carrier, level in ((60, 700, -10), (-100, -700, -10), (110, 84_000, -9)):
+            link = ("--type", "cu8", "--carrier", carrier, "--clock", clock, "--delay", 0.4, "--ec-io", level)
+            found = self.locked(self.recorded(*link, cells=(path,)))
+            self.assertAlmostEqual(float(found["clock_ppm"]), clock, delta=0.02)
+            self.assertAlmostEqual(float(found["carrier_hz"]), carrier, delta=4)
+            self.assertEqual(found["lost"], "0")
+            self.assertAlmostEqual(float(found["ec_io_db"]), level, delta=0.2)
+
+    def test_a_clock_beyond_that_is_refused(self) -> None:
+        for clock in (125, -140):
+            path = self.recorded("--clock", clock, "--ec-io", -9)
+            self.refused("the clock is more than 110 millionths off, and such a clock isn't followed", path)
 
     def test_at_the_chip_rate(self) -> None:
         path = self.recorded("--rate", CHIP_RATE, "--delay", 0.5, "--ec-io", -10, "--ideal", self.at("ideal.is95"))
@@ -245,6 +261,11 @@ class Refusals(Recordings):
                 why = r"no pilot stands out within 4000 Hz: the best energy is 0\.\d\d of the threshold"
                 self.refused(why, *self.raw(samples), "--search", 4_000)
 
+    def test_a_signal_that_passes_the_threshold(self) -> None:
+        words = (*self.raw(without_pilot(19, 1_200_000)), "--conjugate", "no")
+        why = r"a pilot seemed to stand out within 21000 Hz, and none is heard beside it: \d\.\d standard deviations"
+        self.refused(why, *words, "--search", 21_000)
+
     def test_zeros_and_direct_current(self) -> None:
         self.refused("no pilot stands out", *self.raw(numpy.ones(200_000) + 1e-9), "--search", 1_000)
 
@@ -270,7 +291,7 @@ class Refusals(Recordings):
             ("invalid choice", ("--fingers", "4")),
             ("invalid choice", ("--conjugate", "perhaps")),
             ("not above 0", ("--search", "0")),
-            ("--search is at most 614400", ("--search", "1e6")),
+            ("--search: not above 0, at most 614,400", ("--search", "1e6")),
             ("--meta names a .sigmf-meta", ("--meta", "note.json")),
         ):
             self.refused(why, path, *words, status=2)

@@ -6,7 +6,7 @@ import io
 import unittest
 from unittest import mock
 
-from tools import progress
+from cdma_tools import progress
 
 
 class Terminal(io.StringIO):

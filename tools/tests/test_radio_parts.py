@@ -1,4 +1,4 @@
-"""The parts of tools/radio: the air, raw samples, the front, acquisition, tracking, fitting, each against what is known."""
+"""The parts of cdma_tools.radio: the air, raw samples, the front, acquisition, tracking, fitting, each against what is known."""
 
 import os
 import unittest
@@ -9,7 +9,9 @@ needs("numpy", "scipy")
 
 import numpy  # noqa: E402
 
-from tools.radio import acquisition, air, fitting, front, paths, samples, second_pass, tracking  # noqa: E402
+from cdma_tools import recordings  # noqa: E402
+from cdma_tools.errors import Refused  # noqa: E402
+from cdma_tools.radio import acquisition, air, confirmation, fitting, front, paths, second_pass, tracking  # noqa: E402
 from tools.tests.radio_helping import CHIP_RATE, PERIOD, cell_chips, code  # noqa: E402
 
 
@@ -42,10 +44,10 @@ class Raw(unittest.TestCase):
     def setUp(self) -> None:
         self.path = os.path.join(temporary_folder(self.addCleanup), "raw")
 
-    def kept(self, data: bytes, kind: str, **more: object) -> samples.Recording:
+    def kept(self, data: bytes, kind: str, **more: object) -> recordings.Recording:
         with open(self.path, "wb") as file:
             file.write(data)
-        recording = samples.Recording(self.path, kind, 1e6, **more)
+        recording = recordings.Recording(self.path, kind, 1e6, **more)
         self.addCleanup(recording.close)
         return recording
 
@@ -67,15 +69,15 @@ class Raw(unittest.TestCase):
         self.assertEqual(recording.read(0, 2).tolist(), [3 - 4j, 5 - 6j])
 
     def test_faults(self) -> None:
-        with self.assertRaisesRegex(samples.Refused, "3 bytes are no whole number of samples of 2 bytes"):
+        with self.assertRaisesRegex(Refused, "3 bytes are no whole number of samples of 2 bytes"):
             self.kept(bytes(3), "ci8")
-        with self.assertRaisesRegex(samples.Refused, "none left behind --skip 4"):
+        with self.assertRaisesRegex(Refused, "none left after --skip 4"):
             self.kept(bytes(8), "ci8", skip=4)
         recording = self.kept(numpy.array([0, 0, 0, numpy.nan], dtype="<f4").tobytes(), "cf32_le")
-        with self.assertRaisesRegex(samples.Refused, "sample 1 isn't finite"):
+        with self.assertRaisesRegex(Refused, "sample 1 isn't finite"):
             recording.read(0, 2)
-        with self.assertRaisesRegex(samples.Refused, "No such file"):
-            samples.Recording(self.path + ".none", "ci8", 1e6)
+        with self.assertRaisesRegex(Refused, "No such file"):
+            recordings.Recording(self.path + ".none", "ci8", 1e6)
 
 
 class Given:
@@ -83,6 +85,9 @@ class Given:
 
     def __init__(self, raw: numpy.ndarray, rate: float) -> None:
         self.raw, self.rate, self.count = raw.astype(numpy.complex64), rate, len(raw)
+
+    def conjugate(self) -> "Given":
+        return Given(self.raw.conj(), self.rate)
 
     def read(self, first: int, count: int) -> numpy.ndarray:
         places = first + numpy.arange(count)
@@ -133,26 +138,36 @@ class Acquisitions(unittest.TestCase):
     def test_phase_and_carrier(self) -> None:
         for level, hertz in ((-10, 0.0), (-15, 9_100.0), (-19, -20_300.0)):
             made = self.noisy(level, hertz=hertz)
-            found = acquisition.acquire(made, 21_000)
+            _, found, sure = confirmation.first_pilot(made, 21_000)
+            self.assertTrue(sure.is_pilot)
             self.assertEqual((found.phase - 777 - round(found.time)) % PERIOD, 0)
-            self.assertLess(abs(acquisition.finer(made, found).hertz - hertz), 60)
+            self.assertLess(abs(found.hertz - hertz), 60)
 
     def test_conjugate(self) -> None:
         made = self.noisy(-10, hertz=3_000.0, is_conjugate=True)
-        found = acquisition.acquire(made, 9_000, (False, True))
-        self.assertTrue(found.is_conjugate)
+        _, found, sure = confirmation.first_pilot(made, 9_000, (False, True))
+        self.assertTrue(found.is_conjugate and sure.is_pilot)
         self.assertLess(abs(found.hertz - 3_000), 200)
-        with self.assertRaises(samples.Refused):
-            acquisition.acquire(made, 9_000, (False,))
+        self.assertFalse(confirmation.first_pilot(made, 9_000, (False,)).confirmation.is_pilot)
 
     def test_a_wide_search_is_parted(self) -> None:
         # 400 bins of 300 Hz, of which 256 are kept at once.
-        found = acquisition.acquire(self.noisy(-10, hertz=-51_000.0), 60_000)
+        found = confirmation.first_pilot(self.noisy(-10, hertz=-51_000.0), 60_000).found
         self.assertLess(abs(found.hertz + 51_000), 200)
 
+    def test_a_search_of_what_lies_further(self) -> None:
+        near, far = acquisition.bins_within(21_000), acquisition.bins_within(88_000, 21_000)
+        both = numpy.sort(numpy.concatenate([near, far]))
+        self.assertTrue(numpy.array_equal(both, acquisition.bins_within(88_000)))
+        made = self.noisy(-10, hertz=51_000.0)
+        self.assertFalse(confirmation.first_pilot(made, 21_000, parts=(0.0,)).confirmation.is_pilot)
+        found = confirmation.first_pilot(made, 60_000, parts=(0.0,), beyond=21_000).found
+        self.assertLess(abs(found.hertz - 51_000), 200)
+
     def test_noise_is_no_pilot(self) -> None:
-        with self.assertRaisesRegex(samples.Refused, r"the best energy is 0\.\d\d of the threshold"):
-            acquisition.acquire(self.noisy(-99), 9_000)
+        _, found, sure = confirmation.first_pilot(self.noisy(-99), 9_000)
+        self.assertLess(found.excess, 1)
+        self.assertFalse(sure.is_pilot)
 
     def test_pulses_are_cut(self) -> None:
         draws = numpy.random.default_rng(1995)
@@ -175,8 +190,52 @@ class Acquisitions(unittest.TestCase):
         self.assertAlmostEqual(float(numpy.mean(draws > acquisition.least_energy(1e-2, 4))) / 1e-4, 1.0, delta=0.4)
 
     def test_shorter_than_a_period(self) -> None:
-        with self.assertRaisesRegex(samples.Refused, "32767 chips are too few"):
-            acquisition.acquire(front.Front(Given(numpy.ones(32_767), CHIP_RATE)))
+        with self.assertRaisesRegex(Refused, "32767 chips are too few"):
+            confirmation.first_pilot(front.Front(Given(numpy.ones(32_767), CHIP_RATE)), 9_000)
+
+
+class Confirmations(unittest.TestCase):
+    def place(self, level: float, count: int, at: int, clock: float = 0.0) -> tuple[front.Front, acquisition.Found]:
+        """A pilot of Ec/Io near `level` dB in white noise whose clock is off, and a place in it as acquisition has it."""
+        draws = numpy.random.default_rng(8)
+        places = numpy.arange(count) * (1 + clock)
+        chips = code()[(777 + numpy.rint(places).astype(int)) % PERIOD] * numpy.sqrt(10 ** (level / 10) / 2)
+        chips = chips + (draws.standard_normal(count) + 1j * draws.standard_normal(count)) / numpy.sqrt(2)
+        phase = int(777 + round(at * (1 + clock))) % PERIOD
+        return front.Front(Given(chips, CHIP_RATE)), acquisition.Found(at, phase, 0.0, 2.0)
+
+    def test_the_chips_beside_a_place(self) -> None:
+        # After it where the recording goes on, before it where that ends, on both sides of a short one; no chip twice.
+        for count, at, after, before in ((800_000, 1_000, 768, 0), (310_000, 299_000, 5, 583), (PERIOD, 12_000, 24, 23)):
+            parts = confirmation.parts_beside(*self.place(-10, count, at), 24)
+            self.assertEqual(sum(part.sums for part in parts if part.shift > 0), after)
+            self.assertEqual(sum(part.sums for part in parts if part.shift < 0), before)
+            chips = [chip for shift, sums in parts for chip in range(shift, shift + 512 * sums, 512)]
+            self.assertEqual(len(set(chips)), len(chips))
+            self.assertFalse([chip for chip in chips if -512 < chip < confirmation.SEARCHED])
+
+    def test_clocks(self) -> None:
+        for clock, level in ((0, -10), (35e-6, -20), (-60e-6, -15), (110e-6, -10), (-110e-6, -18)):
+            sure = confirmation.confirm(*self.place(level, 500_000, 20_000, clock))
+            self.assertGreater(sure.sigma, 50)
+            self.assertAlmostEqual(sure.clock_ppm, 1e6 * clock, delta=1)
+            self.assertTrue(sure.is_pilot and sure.is_followed)
+
+    def test_a_clock_beyond_is_told(self) -> None:
+        for clock in (120e-6, -140e-6):
+            sure = confirmation.confirm(*self.place(-10, 500_000, 20_000, clock))
+            self.assertTrue(sure.is_pilot)
+            self.assertFalse(sure.is_followed)
+
+    def test_a_short_recording(self) -> None:
+        for at in (30, 12_000, 24_000):
+            sure = confirmation.confirm(*self.place(-15, PERIOD, at))
+            self.assertTrue(sure.is_pilot)
+
+    def test_noise_is_none(self) -> None:
+        for at in (30, 200_000):
+            sure = confirmation.confirm(*self.place(-99, 500_000, at))
+            self.assertLess(sure.sigma, 6)
 
 
 class Lines(unittest.TestCase):

@@ -7,16 +7,16 @@ import os
 import subprocess
 import unittest
 
-from tools.tests.helping import NO_PROGRAM, PROGRAM, PYTHON, ROOT, needs, temporary_folder
+from tools.tests.helping import NO_PROGRAM, PROGRAM, PYTHON, ROOT, loaded, needs, temporary_folder
 
 needs("numpy", "scipy")
 
 import numpy  # noqa: E402
 
-from tools.radio import bench_cases  # noqa: E402
-from tools.tests.radio_helping import run_main, tool  # noqa: E402
+from cdma_tools.radio import bench_cases, bench_cells  # noqa: E402
+from tools.tests.radio_helping import run_main  # noqa: E402
 
-RUNNER = os.path.join("..", "conformance", "run_recordings")
+RUNNER = "conformance_recordings"
 MODEL = """#!/bin/sh
 cd %s && exec %s -B -m model "$@"
 """ % (ROOT, PYTHON)
@@ -43,13 +43,13 @@ class Programs(unittest.TestCase):
 
 class Cases(Programs):
     def test_each_case_can_be_read(self) -> None:
-        runner = tool(RUNNER)
+        runner = loaded(RUNNER)
         status, wrote, _ = run_main(RUNNER, "--list")
         names = [name[:-5] for name in os.listdir(runner.CASES) if name.endswith(".case")]
         self.assertEqual((status, wrote.count("\n")), (0, 2 * len(names)))
         self.assertEqual(len(names), 10)
         for name in names:
-            case = runner.Case(name)
+            case = runner.RecordedCase(name)
             self.assertGreaterEqual(len(case.lines), 8, name)
             self.assertFalse([line for line in case.lines if " at=" in line])
 
@@ -66,12 +66,12 @@ class Cases(Programs):
         self.assertTrue(wrote.endswith("1 recordings, 1 differ\n"))
 
     def test_places_do_not_count(self) -> None:
-        runner = tool(RUNNER)
+        runner = loaded(RUNNER)
         text = b"pilot phase=1 energy=2\nsync at=77 prev=3\npaging at=99 other type=42 bits=0:\nsets at=1 time=2\n"
         self.assertEqual(runner.lines_of(text), ["sync prev=3", "paging other type=42 bits=0:"])
 
     def test_words(self) -> None:
-        for words in ((), ("--only", "none", "x"), ("--minutes", "0", "x"), ("--keep", "/none", "x")):
+        for words in (("--only", "none", "x"), ("--minutes", "0", "x"), ("--keep", "/none", "x")):
             with contextlib.redirect_stderr(io.StringIO()):
                 self.assertEqual(run_main(RUNNER, *words)[0], 2)
         status, _, said = run_main(RUNNER, "--only", "drift", "/none/program")
@@ -91,6 +91,14 @@ class Benches(Programs):
             ran = subprocess.run([self.model, "make"], input=script.encode("ascii"), capture_output=True)
             self.assertEqual((ran.returncode, len(ran.stdout)), (0, 16 + 4 * 64), (name, ran.stderr))
 
+    def test_each_busy_cell_is_lawful(self) -> None:
+        for number in range(len(bench_cells.OFFSETS)):
+            script = bench_cells.busy_script(number, samples=64)
+            ran = subprocess.run([self.model, "make"], input=script.encode("ascii"), capture_output=True)
+            self.assertEqual((ran.returncode, len(ran.stdout)), (0, 16 + 4 * 64), ran.stderr)
+        names = [case.name for case in bench_cells.CELLS_CASES]
+        self.assertEqual(len(set(names)), len(names))
+
     def test_the_cases_are_named_once(self) -> None:
         names = [case.name for case in bench_cases.CASES]
         self.assertEqual((len(names), len(set(names))), (23, 23))
@@ -99,20 +107,20 @@ class Benches(Programs):
     def test_counts(self) -> None:
         sent = collections.Counter({"sync a": 1, "sync b": 1, "paging x": 3, "frame y": 2})
         heard = collections.Counter({"sync a": 1, "paging x": 2, "paging z": 9, "frame y": 3})
-        self.assertEqual(tool("radio_bench").counts(sent, heard), "1/2/2")
+        self.assertEqual(loaded("radio_bench").counts(sent, heard), "1/2/2")
 
     def test_true_values(self) -> None:
         case = bench_cases.Case("X", "quiet", "cu8", 2.4e6, "--carrier -15000 --drift 50 --clock 25 --clock-drift 0.4")
-        self.assertEqual(tool("radio_bench").true_values(case, 2.0), (-14_950, 25.4))
+        self.assertEqual(loaded("radio_bench").true_values(case, 2.0), (-14_950, 25.4))
 
     def test_what_has_no_pilot_is_of_twenty_kinds(self) -> None:
-        made = [tool("radio_bench").without_pilot(number, 5_000) for number in range(20)]
+        made = [loaded("radio_bench").without_pilot(number, 5_000) for number in range(20)]
         self.assertEqual({len(samples) for samples in made}, {5_000})
         self.assertTrue(all(numpy.isfinite(samples).all() for samples in made))
         self.assertEqual(len({complex(samples[7]) for samples in made}), 20)
 
     def test_words(self) -> None:
-        for words in ((), ("--only", "none", "x"), ("--keep", "/none", "x")):
+        for words in (("--only", "none", "x"), ("--keep", "/none", "x")):
             self.assertEqual(run_main("radio_bench", *words)[0], 2)
         status, _, said = run_main("radio_bench", "--only", "A", "/none/program")
         self.assertEqual(status, 1)

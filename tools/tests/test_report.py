@@ -1,5 +1,6 @@
 """tools/report: what it measures and tells, its page, its errors, and that text of a recording stays text."""
 
+import argparse
 import contextlib
 import html.parser
 import io
@@ -28,9 +29,11 @@ needs("numpy", "plotly")
 
 import numpy  # noqa: E402
 
-from tools.correlation import codes, energy_at  # noqa: E402
-from tools.line_table import SHAPES, read_line, spell_line  # noqa: E402
-from tools.report_page import gathering, meaning, measures  # noqa: E402
+from cdma_tools.commands import import_capture, status_of  # noqa: E402
+from cdma_tools.correlation import codes, energy_at  # noqa: E402
+from cdma_tools.errors import Refused  # noqa: E402
+from cdma_tools.lines import SHAPES, read_line, spell_line  # noqa: E402
+from cdma_tools.report import gathering, meaning, measures  # noqa: E402
 from tools.tests.report_fixture import FOLLOWED, PHASE, PILOT, SPAN, SYNC, Fake, file_of, sent_symbols, signal  # noqa: E402
 
 REPORT = loaded("report")
@@ -203,10 +206,7 @@ class Folder(unittest.TestCase):
         """The status of a run within this process, which compresses Plotly once, and what it said."""
         wrote, said = io.StringIO(), io.StringIO()
         with contextlib.redirect_stdout(wrote), contextlib.redirect_stderr(said):
-            try:
-                status = REPORT.main(list(words))
-            except SystemExit as end:
-                status = end.code
+            status = status_of("report", list(words))
         self.assertEqual(wrote.getvalue(), "")
         return status, said.getvalue()
 
@@ -255,7 +255,7 @@ class Pages(Folder):
         texts, plots = Parsed(page).texts, self.plots(page)
         self.assertEqual(texts["follow"].lstrip("\n"), "\n".join(FOLLOWED))
         self.assertEqual(len(texts["survey"].split()), 4 * 512)
-        self.assertEqual(list(plots), ["correlation", "constellation", "survey", "timeline"])
+        self.assertEqual(list(plots), ["correlation", "constellation", "survey", "timeline", "domain"])
         self.assertEqual(len(plots["correlation"]["data"][0]["x"]), 81)
         self.assertEqual(len(plots["survey"]["data"][0]["x"]), 512)
         marks = [place for trace in plots["timeline"]["data"] for place in trace.get("customdata", [])]
@@ -355,7 +355,7 @@ class BadInput(Folder):
         self.fake.tell("follow", [line for line in FOLLOWED if line.startswith("frame")])
         page = self.page("--messages", "0", "--pilots", "0")
         self.assert_holds(page, "All was read")
-        self.assertEqual(len(self.plots(page)), 4)
+        self.assertEqual(len(self.plots(page)), 5)
 
     def test_other_endings(self) -> None:
         self.fake.tell("follow", list(FOLLOWED[:2]), status=6, said="out of memory\n")
@@ -384,6 +384,21 @@ class BadInput(Folder):
         self.assertEqual([name for name in os.listdir(self.folder) if name.startswith(".part-")], [])
 
 
+class Lock:
+    """What a lock found, as the tests tell it."""
+
+    def __init__(self, remarks: list[str]) -> None:
+        self.told = remarks
+
+    def line(self) -> str:
+        """The figures as name=value."""
+        return FOUND
+
+    def remarks(self) -> list[str]:
+        """What else a user should know."""
+        return self.told
+
+
 FOUND = (
     "carrier_hz=1999.6 drift=1.75 clock_ppm=4.989 phase=12345 ec_io_db=-10.01 paths=0.00:0.0 equaliser=no conjugate=no lost=0"
     " chips=120000 scale=111.101"
@@ -391,22 +406,27 @@ FOUND = (
 
 
 class Recordings(Folder):
-    """An import that the tests write takes the place of tools/import_capture."""
+    """A lock that the tests write takes the place of the real one."""
 
     def setUp(self) -> None:
         super().setUp()
-        self.addCleanup(setattr, gathering, "IMPORT", gathering.IMPORT)
-        gathering.IMPORT = self.at("import")
-        self.imports(f"shutil.copy({self.file!r}, sys.argv[-1])", [FOUND, "import_capture: 3 parts were cut"])
+        self.taken: list[argparse.Namespace] = []
+        self.imports([], b"")
 
-    def imports(self, does: str, says: list[str], status: int = 0) -> None:
-        """What the import does, says and ends with; it keeps its words."""
-        program = f"import json, shutil, sys\njson.dump(sys.argv[1:], open({self.at('words')!r}, 'w'))\n{does}\n"
-        self.keep("import", f"{program}sys.stderr.write({chr(10).join(says)!r} + chr(10))\nsys.exit({status})\n".encode())
+    def imports(self, remarks: list[str], data: bytes = b"", why: str = "") -> None:
+        """What the import says besides what it found, and what it writes in place of the file; or why it refuses."""
 
-    def words(self) -> list[str]:
-        with open(self.at("words")) as file:
-            return json.load(file)
+        def take(options: argparse.Namespace) -> Lock:
+            self.taken.append(options)
+            if why:
+                raise Refused(why)
+            with open(options.file, "wb") as out, open(self.file, "rb") as file:
+                out.write(data or file.read())
+            return Lock(remarks)
+
+        replaced = mock.patch.object(import_capture, "take_by_lock", take)
+        replaced.start()
+        self.addCleanup(replaced.stop)
 
     def meta(self, **told: object) -> str:
         meta = {"global": {"core:datatype": "cu8", "core:sample_rate": 2_400_000, **told}, "captures": [{"core:frequency": 878490000}]}
@@ -414,20 +434,24 @@ class Recordings(Folder):
 
     def test_a_recording(self) -> None:
         meta = self.meta()
+        self.imports(["3 parts were cut"])
         page = self.page("--fingers", "3", "--import=--skip 100 --search 3000", file=meta)
-        self.assertEqual(self.words()[:-1], ["--lock", "--fingers=3", "--skip", "100", "--search", "3000", meta])
-        self.assertFalse(os.path.exists(self.words()[-1]))
+        options = self.taken[0]
+        self.assertEqual((options.recording, options.fingers, options.skip, options.search), (meta, 3, 100, 3_000))
+        self.assertFalse(os.path.exists(options.file))
+        self.assert_holds(page, "--lock --fingers=3 --skip 100 --search 3000")
         for text in ("1999.6 Hz above", "4.989 ppm", "2,400,000 samples a second, cu8", "3 parts were cut", "878490000", "-10.01 dB"):
             self.assert_holds(page, text)
-        self.assertEqual(len(self.plots(page)), 4)
+        self.assertEqual(len(self.plots(page)), 5)
 
     def test_raw_samples(self) -> None:
         raw = self.keep("radio.bin", b"raw")
         self.page("--type", "cu8", "--rate", "2400000", file=raw)
-        self.assertEqual(self.words()[:-1], ["--lock", "--type=cu8", "--rate=2400000", raw])
+        options = self.taken[0]
+        self.assertEqual((options.recording, options.type, options.rate), (raw, "cu8", 2_400_000))
 
     def test_one_that_cannot_be_imported(self) -> None:
-        self.imports("", ["import_capture: radio.bin: no pilot <b>"], status=1)
+        self.imports([], why="radio.bin: no pilot <b>")
         page = self.page(status=10, file=self.meta())
         self.assert_holds(page, "The recording can&#x27;t be imported: radio.bin: no pilot &lt;b&gt;.")
         self.assertEqual(self.plots(page), {})
@@ -443,15 +467,22 @@ class Recordings(Folder):
         for told in (b"[]", b"{", b'{"global": 3, "captures": 4}', b'{"captures": {"a": 1}}', b"\xff", b"[" * 100_000):
             self.page(file=self.keep("strange.sigmf-meta", told))
 
-    def test_a_bar_of_the_import(self) -> None:
-        """On a terminal the import sees one too, and what it shows goes on as it comes."""
-        ours, theirs = os.openpty()
-        self.imports("sys.stderr.write('50%\\r' if sys.stderr.isatty() else 'none')", [FOUND])
-        with open(theirs, "w") as terminal, mock.patch("sys.stderr", terminal):
-            imported = gathering.run_import("radio.bin", self.at("out"), [])
-        self.assertIn(b"50%\r", os.read(ours, 4_096))
-        os.close(ours)
-        self.assertEqual((imported.status, imported.found["clock_ppm"], imported.said), (0, "4.989", []))
+    def test_wrong_arguments_of_the_import(self) -> None:
+        """The import's own command line judges them, and there is no page."""
+        raw = self.keep("radio.bin", b"raw")
+        for why, *words in (
+            ("--type needed", "--rate", "2400000"),
+            ("--rate needed", "--type", "cu8"),
+            ("argument --rate: no number: 'x'", "--type", "cu8", "--rate", "x"),
+            ("argument --type: invalid choice: 'cu9'", "--type", "cu9", "--rate", "2400000"),
+            ("unrecognized arguments: --none", "--type", "cu8", "--rate", "2400000", "--import=--none"),
+            ("--help makes no page", "--type", "cu8", "--rate", "2400000", "--import=--help"),
+        ):
+            with self.subTest(words):
+                status, said = self.ran(raw, "--out", self.out, "--program", self.fake.path, *words)
+                self.assertEqual((status, said.count("\n")), (2, 1), said)
+                self.assertIn(why, said)
+                self.assertFalse(os.path.exists(self.out))
 
 
 @unittest.skipUnless(PROGRAM, NO_PROGRAM)

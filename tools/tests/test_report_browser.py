@@ -3,7 +3,6 @@
 Where Chromium, its driver (Debian's chromium and chromium-driver) or python3-selenium is missing, the tests are skipped.
 """
 
-import os
 import re
 import shutil
 import unittest

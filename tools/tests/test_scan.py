@@ -1,5 +1,6 @@
 """tools/scan: where a pilot stands out in recordings that tools/channel makes."""
 
+import os
 import unittest
 from unittest import mock
 
@@ -7,8 +8,12 @@ from tools.tests.helping import needs
 
 needs("numpy", "scipy")
 
-from tools.radio import scanning  # noqa: E402
-from tools.tests.radio_helping import Recordings, run_main, tool  # noqa: E402
+import numpy  # noqa: E402
+
+from cdma_tools.commands import scan  # noqa: E402
+from cdma_tools.commands.radio_bench import without_pilot  # noqa: E402
+from cdma_tools.radio import scanning  # noqa: E402
+from tools.tests.radio_helping import Recordings, run_main  # noqa: E402
 
 
 class Centres(unittest.TestCase):
@@ -40,13 +45,15 @@ class Scans(Recordings):
         self.assertAlmostEqual(float(lines[0]["ec_io_db"]), -10, delta=1)
         self.assertGreater(float(lines[0]["excess"]), 1)
         self.assertEqual(lines[0]["conjugate"], "no")
+        self.assertGreater(float(lines[0]["sigma"]), 50)
+        self.assertAlmostEqual(float(lines[0]["clock_ppm"]), 4, delta=2)
         # The carrier that it tells is one that the lock takes.
         found = self.locked(path, "--shift", lines[0]["carrier_hz"], "--search", 500)
         self.assertAlmostEqual(float(found["carrier_hz"]), 1_250_300, delta=10)
 
     def test_all_frequencies(self) -> None:
         path = self.recorded("--rate", 2_400_000, "--carrier", -310_700, "--ec-io", -8)
-        with mock.patch.object(tool("scan"), "everywhere", lambda rate, search: [-304_000.0, -310_400.0, 0.0]):
+        with mock.patch.object(scan, "everywhere", lambda rate, search: [-304_000.0, -310_400.0, 0.0]):
             status, lines, _ = self.scanned("--all", "--search", 8_000, path)
         # Two neighbouring centres see one pilot.
         self.assertEqual((status, len(lines)), (0, 1))
@@ -60,13 +67,30 @@ class Scans(Recordings):
         status, wrote, _ = run_main("scan", "--verbose", "--search", 4_000, path)
         self.assertRegex(wrote, r"^no pilot round 0 Hz, excess=0\.\d\d\n$")
 
+    def test_what_stands_out_is_tracked_first(self) -> None:
+        # A band, a sweep and noise in bursts: the threshold of white noise passes what is none of a pilot.
+        for number in (9, 18, 19) if not os.environ.get("EVERY_FALSE_PILOT") else range(20):
+            samples = without_pilot(number, 1_200_000)
+            scaled = samples / numpy.sqrt(numpy.mean(numpy.abs(samples) ** 2)) * 2_000
+            numpy.stack([scaled.real, scaled.imag], axis=1).clip(-32_768, 32_767).astype("<i2").tofile(
+                self.at("none.raw")
+            )
+            words = ("--type", "ci16_le", "--rate", 2_400_000, "--verbose", self.at("none.raw"))
+            status, wrote, said = run_main("scan", *words)
+            self.assertEqual(status, 1, wrote)
+            if number in (9, 18, 19):
+                self.assertRegex(wrote, r"^no pilot round 0 Hz, excess=\d+\.\d\d sigma=\d\.\d\n$")
+                self.assertRegex(
+                    said, r"^scan: no pilot at 1 centres: what stood out wasn't heard beside it, with \d\.\d"
+                )
+
     def test_words(self) -> None:
         path = self.recorded()
         for why, words in (
-            ("not allowed with", ("--all", "--step", "9", path)),
+            ("not allowed with", ("--all", "--step", "1e6", path)),
             ("--type and --rate needed", (self.at("in.sigmf-data"),)),
             ("--type can't be given", ("--type", "ci8", path)),
-            ("--search is at most 614400", ("--search", "1e6", path)),
+            ("--search: not above 0, at most 614,400", ("--search", "1e6", path)),
         ):
             status, _, said = self.scanned(*words)
             self.assertEqual(status, 2)

@@ -1,0 +1,161 @@
+"""An analysis: the code domain of a sample file or of a recording, with what the radio itself adds."""
+
+import contextlib
+import os
+from dataclasses import dataclass, field
+from typing import Callable, Iterator
+
+import numpy
+
+from cdma_tools.analysis.branches import Branches, branches_of
+from cdma_tools.analysis.code_domain import PIECE, Chips, CodeDomain, Row, is_pulsed, measured
+from cdma_tools.analysis.over_paths import emptied, part_over_paths, pilot_power
+from cdma_tools.analysis.walsh import PILOT_ROW, SYNC_ROW
+from cdma_tools.errors import Refused
+from cdma_tools.program import written_of
+from cdma_tools.radio.acquisition import STRETCH, strongest
+from cdma_tools.radio.air import CHIP_RATE, PERIOD
+from cdma_tools.radio.locking import Held, Options, hold, write_held
+from cdma_tools.radio.paths import Way
+from cdma_tools.sample_file import SampleFile
+
+# Rows of paging channels (7.1.3.1.8).
+PAGING_ROWS = range(1, 8)
+# Chips of a file's beginning by which its pilot is found and its pulse is told: at most a second.
+BEGIN_CHIPS = CHIP_RATE
+# The part of the work that the lock, the file and the measuring reach.
+STEPS = (0.5, 0.8, 1.0)
+
+
+@dataclass(frozen=True)
+class Timing:
+    """A recording's carrier, clock and time, against the cell's."""
+
+    carrier_hz: float  # above the middle, half way
+    clock_ppm: float  # by which the radio's clock is slow
+    time_chips: float  # by the radio's clock, at which the period of the code begins that is nearest to the middle
+    is_conjugate: bool
+    has_equaliser: bool
+    lost: int  # chips
+    paths: tuple[Way, ...]
+
+
+@dataclass(frozen=True)
+class Analysis:
+    """What is told of a cell."""
+
+    domain: CodeDomain
+    kinds: dict[int, str] = field(default_factory=dict)  # what rows in use are
+    timing: Timing | None = None
+    branches: Branches | None = None
+    over_paths: float | None = None  # the cell's part of all power over several paths, 1 - left / all
+
+    @property
+    def rho(self) -> float:
+        """The part of all power that is the cell's, over all its paths."""
+        return self.domain.rho if self.over_paths is None else self.over_paths
+
+    @property
+    def error_vector(self) -> float:
+        """The root mean square of the error over that of what is sent."""
+        return float(numpy.sqrt(max(1 - self.rho, 0.0) / self.rho)) if self.rho > 0 else float("inf")
+
+    @property
+    def seconds(self) -> float:
+        """How long the chips that were measured last."""
+        return self.domain.chips / CHIP_RATE
+
+
+def phase_of(file: SampleFile) -> int:
+    """The code phase of a sample file's first chip; refuses a file in which no pilot stands out."""
+    if file.count < 4 * STRETCH:
+        raise Refused(f"{file.path}: {file.count} chips are too few: a pilot is looked for in {4 * STRETCH}")
+    bins = numpy.zeros(1, numpy.int64)
+    best = strongest(lambda number: numpy.repeat(file.read(number * STRETCH, STRETCH), 2), bins, 1)
+    if best.excess <= 1:
+        raise Refused(f"{file.path}: no pilot stands out: the best energy is {best.excess:.2f} of the threshold")
+    return best.phase
+
+
+def runs_of(file: SampleFile, phase: int, tell: Callable[[float], None]) -> Iterator[Chips]:
+    """All chips of a sample file, some at a time."""
+    for first in range(0, file.count, PIECE):
+        yield Chips((phase + first) % PERIOD, file.read(first, min(PIECE, file.count - first)))
+        tell(min(1.0, (first + PIECE) / file.count))
+
+
+def domain_of_file(
+    path: str, phase: int | None, tell: Callable[[float], None] = lambda part: None, kept: float = 1.0
+) -> CodeDomain:
+    """The code domain of a sample file, whose first chip has a phase that is known or is looked for.
+
+    `kept` is the part of a pulse's power that the front left of it.
+    """
+    file = SampleFile(path)
+    try:
+        begin = phase_of(file) if phase is None else phase
+        pulsed = is_pulsed(Chips(begin, file.read(0, min(file.count, BEGIN_CHIPS))))
+        domain = measured(runs_of(file, begin, tell), is_pulsed=pulsed, kept=kept)
+    finally:
+        file.close()
+    if domain is None:
+        raise Refused(f"{path}: too few chips for a code domain, which takes a power control group of 1.25 ms")
+    return domain
+
+
+def kinds_of(rows: list[Row], program: str | None, path: str) -> dict[int, str]:
+    """What rows in use are: pilot, sync, paging where the program hears it so, else other."""
+    kinds = {row.row: "other" for row in rows} | {PILOT_ROW: "pilot"}
+    if SYNC_ROW in kinds:
+        kinds[SYNC_ROW] = "sync"
+    if program is not None:
+        kinds |= {row: "paging" for row in kinds if row in PAGING_ROWS and hears_paging(program, path, row)}
+    return kinds
+
+
+def hears_paging(program: str, path: str, row: int) -> bool:
+    """Whether a handset hears a message on a paging channel."""
+    with open(path, "rb") as file:
+        return b"\npaging " in written_of(program, ["follow", "--paging", str(row)], file)
+
+
+def timing_of(held: Held, domain: CodeDomain, lost: int) -> Timing:
+    """Carrier, clock and time half way, as the fit tells them and the code domain corrects them."""
+    first, behind = held.pieces[0].first, held.pieces[-1].behind
+    fit = held.stretches.fits[len(held.stretches.fits) // 2]
+    middle = PERIOD * round((first + behind) / 2 / PERIOD)
+    return Timing(
+        carrier_hz=float(fit.hertz(middle)) + domain.carrier_left,
+        clock_ppm=-1e6 * float(fit.offset.derivative(middle)),
+        time_chips=float(fit.times(middle)) + domain.time_left,
+        is_conjugate=held.is_conjugate,
+        has_equaliser=held.stretches.has_equaliser,
+        lost=lost,
+        paths=tuple(held.ways),
+    )
+
+
+def analysis_of_recording(
+    path: str, options: Options, program: str | None, folder: str, tell: Callable[[float, str], None]
+) -> Analysis:
+    """The analysis of a recording's strongest cell; `folder` is for files, and `tell` is told of the work done."""
+    chips = os.path.join(folder, "cell.is95")
+    held = hold(path, options, lambda part, text: tell(STEPS[0] * part, text))
+    with contextlib.closing(held.front.recording) as recording:
+        with open(chips, "wb") as file:
+            reached = STEPS[1] - STEPS[0]
+            lost = write_held(held, options, file, lambda part: tell(STEPS[0] + reached * part, "chips")).lost
+        recorded = recording.conjugate() if held.is_conjugate else recording
+        branches = branches_of(recorded)
+        pilot = pilot_power(held)
+    phase, kept = held.pieces[0].first % PERIOD, 1 - emptied(held.front)
+    domain = domain_of_file(chips, phase, lambda part: tell(STEPS[1] + (1 - STEPS[1]) * part, "rows"), kept)
+    has_paths = pilot is not None and (len(held.ways) > 1 or pilot.is_spread(domain.rho_pilot))
+    over_paths = part_over_paths(domain, pilot) if pilot is not None and has_paths else None
+    return Analysis(domain, kinds_of(domain.used, program, chips), timing_of(held, domain, lost), branches, over_paths)
+
+
+def analysis_of_file(path: str, program: str | None, tell: Callable[[float, str], None]) -> Analysis:
+    """The analysis of a sample file."""
+    domain = domain_of_file(path, None, lambda part: tell(part, "rows"))
+    return Analysis(domain, kinds_of(domain.used, program, path))

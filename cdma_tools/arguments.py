@@ -1,0 +1,238 @@
+"""The command line of a tool: its parser, and its values, each with its bounds."""
+
+import argparse
+import math
+import os
+import re
+import sys
+from collections.abc import Callable, Sequence
+from fractions import Fraction
+from typing import Any, NoReturn
+
+from cdma_tools import __version__
+from cdma_tools.errors import printable
+
+# A word that begins so behind an option is its value, and no option.
+NEGATIVE = re.compile(r"-[.\d]|-inf|-nan", re.IGNORECASE)
+LONGEST = 100  # characters of a number: more would take long to read, and none is meant
+WRONG = 2  # the status of wrong arguments
+INTERRUPTED = 130  # and of a tool that Ctrl-C ended
+STATUS = "Exit status:"  # with which the last paragraph of each help begins
+# What a checkout calls a tool, and what it is called where it is installed.
+INSTALLED = {
+    "import_capture": "cdma-import",
+    "channel": "cdma-channel",
+    "scan": "cdma-scan",
+    "report": "cdma-report",
+    "lines": "cdma-lines",
+    "draw": "cdma-draw",
+    "explain": "cdma-explain",
+    "curve": "cdma-curve",
+    "conformance": "cdma-conformance",
+    "margin": "cdma-margin",
+    "listen": "cdma-listen",
+    "domain": "cdma-domain",
+    "adapt": "cdma-adapt",
+}
+
+
+IN_CHECKOUT = {
+    "make_capture": "make_capture.py",
+    "conformance": "conformance/run",
+    "conformance_recordings": "conformance/run_recordings",
+    "conformance_check": "conformance/check",
+    "conformance_write": "conformance/write",
+}
+
+
+def is_installed() -> bool:
+    """Whether this process was started as an installed command, `cdma-NAME`."""
+    return os.path.basename(sys.argv[0] if sys.argv else "").startswith("cdma-")
+
+
+def called(tool: str) -> str:
+    """What a tool is called: `scan` in a checkout, `cdma-scan` where it is installed."""
+    return INSTALLED.get(tool, tool) if is_installed() else IN_CHECKOUT.get(tool, tool)
+
+
+def shown(text: str) -> str:
+    """A help text with the status that all tools share, and the names that they have here.
+
+    `tools/scan` is `cdma-scan` where it is installed.
+    """
+    if STATUS in text:
+        text = text.rstrip().removesuffix(".") + f";\n{INTERRUPTED} where Ctrl-C ended it.\n"
+    if not is_installed():
+        return text
+    text = text.replace("conformance/run ", f"{INSTALLED['conformance']} ")
+    return re.sub(r"tools/(\w+)", lambda found: INSTALLED.get(found[1], found[0]), text)
+
+
+class Help(argparse.RawDescriptionHelpFormatter):
+    """Help in which an option with a number tells its bounds."""
+
+    def _get_help_string(self, action: argparse.Action) -> str | None:
+        """The help of an option, with its bounds."""
+        text = super()._get_help_string(action)
+        told = action.type.told() if isinstance(action.type, Within) else ""
+        return f"{text} ({told})" if text and told and told not in text else text
+
+
+class PartParser(argparse.ArgumentParser):
+    """The command line of a part of a tool: a wrong argument ends with one line, status 2."""
+
+    def __init__(self, **more: Any) -> None:
+        more.setdefault("formatter_class", Help)
+        super().__init__(**more)
+
+    def error(self, message: str) -> NoReturn:
+        """Ends with one line, and status 2."""
+        self.exit(WRONG, f"{self.prog}: {printable(message)} (--help has all arguments)\n")
+
+
+class Parser(PartParser):
+    """A tool's command line, in which a negative number after an option is its value.
+
+    Each has --version, which tells the project's, but one that has its own.
+    """
+
+    def __init__(self, tool: str, description: str | None, has_version: bool = True, **more: Any) -> None:
+        super().__init__(prog=called(tool), description=shown(description or ""), **more)
+        if has_version:
+            self.add_argument("--version", action="version", version=version_of(tool), help="say the version, and end")
+
+    def parse_known_args(self, args: Sequence[str] | None = None, namespace: Any = None) -> tuple[Any, list[str]]:
+        """Takes the words apart, with negative numbers joined to the options before them."""
+        return super().parse_known_args(joined(sys.argv[1:] if args is None else args), namespace)
+
+    def print_version(self, tool: str) -> None:
+        """Writes the version of a tool."""
+        sys.stdout.write(version_of(tool) + "\n")
+
+
+def version_of(tool: str) -> str:
+    """What a tool says of its version."""
+    return f"{called(tool)} {__version__}"
+
+
+def joined(words: Sequence[str]) -> list[str]:
+    """Words in which an option and a negative number after it are one: `--carrier -1e3` is `--carrier=-1e3`."""
+    made: list[str] = []
+    for place, word in enumerate(words):
+        if word == "--":
+            return made + list(words[place:])
+        if made and NEGATIVE.match(word) and re.fullmatch(r"--[a-z][\w-]*", made[-1]):
+            made[-1] += f"={word}"
+        else:
+            made.append(word)
+    return made
+
+
+def wrong(why: str, text: str) -> argparse.ArgumentTypeError:
+    """The fault of a value, which names it, cut short where it is long."""
+    return argparse.ArgumentTypeError(f"{why}: {text[:LONGEST]!r}")
+
+
+def read_by(form: Callable[[str], Any], text: str, fault: str) -> Any:
+    """A value of a form, as int or Decimal; where the text is none, the fault is said of it."""
+    try:
+        if len(text) > LONGEST:
+            raise ValueError
+        return form(text)
+    except (ValueError, ArithmeticError):
+        raise wrong(fault, text) from None
+
+
+def bound_text(bound: float) -> str:
+    """A bound in decimal, with commas."""
+    return f"{int(bound):,}" if bound == int(bound) else f"{bound:g}"
+
+
+class Within:
+    """Reads numbers from a least to a greatest one, and tells these bounds."""
+
+    def __init__(self, form: Callable[[str], Any], least: float, most: float, is_above: bool = False) -> None:
+        """With is_above the least one itself isn't taken."""
+        self.form, self.least, self.most, self.is_above = form, least, most, is_above
+
+    def told(self) -> str:
+        """The bounds, in words."""
+        if self.is_above:
+            return f"above {bound_text(self.least)}, at most {bound_text(self.most)}"
+        return f"{bound_text(self.least)} to {bound_text(self.most)}"
+
+    def __call__(self, text: str) -> Any:
+        """The number of a text; a fault that argparse tells where it is none, or out of bounds."""
+        number = read_by(self.form, text, "no whole number" if self.form is int else "no number")
+        if number != number or not self.least <= number <= self.most or self.is_above and number == self.least:
+            raise wrong(f"not {self.told()}", text)
+        return number
+
+
+def number_within(least: float, most: float) -> Within:
+    """A reader of numbers from a least to a greatest one."""
+    return Within(float, least, most)
+
+
+def number_above(least: float, most: float) -> Within:
+    """A reader of numbers above one, up to a greatest one."""
+    return Within(float, least, most, is_above=True)
+
+
+def whole_within(least: int, most: int) -> Within:
+    """A reader of whole numbers from a least to a greatest one."""
+    return Within(int, least, most)
+
+
+def rational(text: str) -> Fraction:
+    """A fraction, as 2400000, 1e6 or 9600000/7; the exponent isn't spelled out before it is known to be small."""
+    if "/" not in text and not math.isfinite(float(text)):
+        raise ValueError
+    return Fraction(text)
+
+
+MOST_RATE = 10_000_000_000  # samples a second
+MOST_HERTZ = 10_000_000_000.0
+MOST_COUNT = 1_000_000_000_000_000
+LEAST_SCALE, MOST_SCALE = 1e-12, 1e12
+MOST_SECONDS = 1_000_000.0
+MOST_NUMBER = 1e12
+
+rate_of = Within(rational, 1, MOST_RATE)
+"""A rate in samples a second, as a fraction."""
+hertz_of = number_within(-MOST_HERTZ, MOST_HERTZ)
+"""A frequency in Hz."""
+number_of = number_within(-MOST_NUMBER, MOST_NUMBER)
+"""A number that has no bounds of its own."""
+positive_of = number_above(0, MOST_NUMBER)
+"""A number above 0 that has no bounds of its own."""
+count_of = whole_within(0, MOST_COUNT)
+"""A whole number from 0 on."""
+
+
+MINUTES, MOST_MINUTES = 5, 1_440
+
+
+def add_minutes_option(parser: argparse.ArgumentParser) -> None:
+    """Adds the option --minutes, for how long a run of a program is waited."""
+    kind = whole_within(1, MOST_MINUTES)
+    parser.add_argument(
+        "--minutes", type=kind, default=MINUTES, metavar="N", help=f"the longest that a run may take, else {MINUTES}"
+    )
+
+
+class ScaleWithin(Within):
+    """Reads a scale within bounds, or the word fit."""
+
+    def __call__(self, text: str) -> Any:
+        """The scale, or fit."""
+        return text if text == "fit" else super().__call__(text)
+
+
+scale_of = ScaleWithin(float, LEAST_SCALE, MOST_SCALE)
+"""A scale above 0, or the word fit."""
+
+
+def text_of(rate: Fraction) -> str:
+    """A rate in decimal."""
+    return str(rate.numerator) if rate.denominator == 1 else f"{float(rate):.6f}".rstrip("0")

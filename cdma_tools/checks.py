@@ -1,0 +1,72 @@
+"""How a recording's checks are sent: a sample file's flags, tried by following it, or set anew in one that is there."""
+
+import os
+import tempfile
+from typing import NamedTuple
+
+from cdma_tools.errors import Refused
+from cdma_tools.program import written_of
+from cdma_tools.sample_file import SampleFile
+from cdma_tools.sample_header import HEADER, header
+
+# The flags: the 30-bit checks of sync and paging messages, and the 16-bit ones of traffic channels, are complemented.
+COMPLEMENT_30, COMPLEMENT_16 = 1, 2
+# Where the flags stand in a header, and how many bytes they have.
+FLAGS_PLACE, FLAGS_BYTES = 6, 2
+PIECE = 1 << 20
+
+
+class Heard(NamedTuple):
+    """The messages that a handset hears of a file whose 30-bit checks are plain, and of one whose are complemented."""
+
+    plain: int
+    complemented: int
+
+    @property
+    def flag(self) -> int:
+        """The flag of the way that more messages pass; plain where none tells."""
+        return COMPLEMENT_30 if self.complemented > self.plain else 0
+
+    def told(self) -> str:
+        """A line that says what was taken, and why."""
+        if not self.plain and not self.complemented:
+            return "no message passes its check, plain or complemented; 30-bit checks are taken to be plain"
+        way = "complemented" if self.flag else "plain"
+        more, fewer = max(self), min(self)
+        heard = f"{more} messages pass so, and {fewer} the other way"
+        return f"30-bit checks are taken to be {way}: {heard}; 16-bit checks weren't tried"
+
+
+def messages(program: str, path: str, flags: int) -> int:
+    """How many sync and paging messages a handset hears of a sample file with flags in place of its own."""
+    file = SampleFile(path)
+    file.close()
+    with tempfile.TemporaryFile() as given:
+        given.write(header(file.version, flags, file.count))
+        with open(path, "rb") as samples:
+            samples.seek(HEADER.size)
+            while piece := samples.read(PIECE):
+                given.write(piece)
+        given.seek(0)
+        text = written_of(program, ["follow"], given)
+    return sum(line.startswith((b"sync ", b"paging ")) for line in text.splitlines())
+
+
+def tried(program: str, path: str) -> Heard:
+    """What is heard of a sample file both ways."""
+    return Heard(messages(program, path, 0), messages(program, path, COMPLEMENT_30))
+
+
+def reflag(path: str, flags: int) -> int:
+    """Sets a sample file's flags, in place, and answers those that it had; all other bytes stay."""
+    file = SampleFile(path)
+    file.close()
+    try:
+        handle = os.open(path, os.O_WRONLY)
+        try:
+            os.pwrite(handle, flags.to_bytes(FLAGS_BYTES, "big"), FLAGS_PLACE)
+        finally:
+            os.close(handle)
+    except OSError as why:
+        raise Refused(f"{path}: {why.strerror}") from None
+    return int(file.flags)

@@ -1,0 +1,290 @@
+"""Makes a recording as a radio would, from the sample files of cells.
+
+Each FILE is a sample file of version 1 or 2, as cdma_replay make writes it, one sample a chip and without noise:
+FILE, FILE:DB or FILE:DB:CHIPS, with its level in dB and its delay in chips. RECORDING is a file of raw samples, or a
+.sigmf-meta, beside which the .sigmf-data is written; the .sigmf-meta then has the truth in a note: as name=value, and
+whole as `cdma_tools:arguments`, with which channel makes the same recording again, and `cdma_tools:cells`, each cell
+with its file's checksum, its level, its delay, and the powers of a chip of it and of its pilot.
+
+The cells are sent with the pulse of TIA/EIA-95-B, 7.1.3.1.10, go over all --paths, and are recorded at --rate with
+the radio's errors. A positive --clock is a radio whose clock is slow, so that chips come faster. --ec-io adds noise
+until the first cell's pilot has that share of all power; --eb-nt DB:ROW:RATE until a bit of a Walsh row of the first
+cell, at so many bits a second, has that energy over the density of noise and other cells. The same arguments and seed
+give the same file. --ideal writes what an ideal receiver would have of the same link, for comparison.
+
+    tools/channel --type cu8 --rate 2400000 --carrier 2000 --clock 5 --ec-io -10 cell.is95 radio.sigmf-meta
+    tools/channel --rate 4000000 --carrier -1500 --paths 0:0:0:10,1.5:-3:0:10 cell.is95 other.is95:-3:40 radio.sigmf-meta
+
+Exit status: 0 written, 1 the recording can't be made, 2 wrong arguments.
+"""
+
+import argparse
+import contextlib
+import hashlib
+import math
+import os
+import sys
+from typing import Iterable
+
+from cdma_tools import sigmf
+from cdma_tools.arguments import (
+    MOST_SECONDS,
+    Parser,
+    Within,
+    count_of,
+    hertz_of,
+    number_above,
+    number_within,
+    rate_of,
+    whole_within,
+    wrong,
+)
+from cdma_tools.errors import Refused
+from cdma_tools.progress import bar
+from cdma_tools.radio.air import CHIP_RATE, decibels
+from cdma_tools.radio.channel import Cell, Link, Made, Path, Radio, record, write_ideal
+from cdma_tools.recordings import TYPES
+from cdma_tools.writing import write_out
+
+LEVEL = number_within(-200, 200)  # dB
+DELAY = number_within(-1e9, 1e9)  # chips
+RATIO = number_within(-100, 100)  # dB
+DEGREES = number_within(-3_600, 3_600)
+DOPPLER = number_within(0, 100_000)  # Hz
+ROW, BITS = whole_within(0, 63), whole_within(1, 1_228_800)
+
+
+# Options of one number each, which are told as they are.
+NUMBERS = ("carrier", "drift", "clock", "clock_drift", "delay", "dc")
+
+
+def numbers_of(text: str, *readers: Within, least: int = 1) -> list[float]:
+    """Numbers between colons, as many as there are readers at most."""
+    parts = text.split(":")
+    if not least <= len(parts) <= len(readers):
+        raise wrong(f"not {least} to {len(readers)} numbers between colons", text)
+    return [reader(part) for reader, part in zip(readers, parts)]
+
+
+def paths_of(text: str) -> list[Path]:
+    """Paths, DELAY[:DB[:DEGREES[:HZ]]] each."""
+    return [Path(*numbers_of(part, DELAY, LEVEL, DEGREES, DOPPLER)) for part in text.split(",")]
+
+
+def imbalance_of(text: str) -> tuple[float, float]:
+    """dB and degrees."""
+    level, skew = (numbers_of(text, RATIO, DEGREES) + [0.0])[:2]
+    return level, skew
+
+
+def eb_nt_of(text: str) -> tuple[float, int, int]:
+    """dB, a Walsh row and a rate in bits a second."""
+    level, row, rate = numbers_of(text, RATIO, ROW, BITS, least=3)
+    return level, int(row), int(rate)
+
+
+def loss_of(text: str) -> tuple[int, int]:
+    """A sample, and how many are lost from there on."""
+    place, _, count = text.partition(":")
+    return count_of(place), count_of(count)
+
+
+def cell_of(text: str) -> Cell:
+    """A cell, FILE[:DB[:CHIPS]]; a file whose name has colons is taken as it is."""
+    if os.path.exists(text):
+        return Cell(text)
+    name, *rest = text.split(":")
+    try:
+        numbers = numbers_of(":".join(rest), LEVEL, DELAY) if rest else []
+    except argparse.ArgumentTypeError as why:
+        raise Refused(f"{text}: {why}") from None
+    return Cell(name, *numbers)
+
+
+def parser() -> argparse.ArgumentParser:
+    """The command line."""
+    words = Parser("channel", __doc__)
+    words.add_argument("files", nargs="+", metavar="FILE[:DB[:CHIPS]]", help="cells, the first one the wanted")
+    words.add_argument("recording", metavar="RECORDING", help="raw samples, - for standard output, or a .sigmf-meta")
+    words.add_argument("--type", choices=TYPES, default="ci16_le", help="how the samples are kept, else ci16_le")
+    words.add_argument(
+        "--rate", type=rate_of, default=rate_of("2400000"), metavar="N", help="samples a second, else 2,400,000"
+    )
+    words.add_argument(
+        "--seconds",
+        type=number_above(0, MOST_SECONDS),
+        metavar="S",
+        help="at most so long; else as long as the first cell",
+    )
+    words.add_argument(
+        "--seed", type=count_of, default=1, metavar="N", help="of noise, fading and the carrier's phase, else 1"
+    )
+    words.add_argument("--ideal", metavar="FILE", help="write the ideal receiver's sample file of the link too")
+    link = words.add_argument_group("the link")
+    link.add_argument(
+        "--paths", type=paths_of, default=[Path()], metavar="P,P,..",
+        help="DELAY[:DB[:DEGREES[:HZ]]] each: chips, level, phase, and the Doppler of a path that fades, else one path",
+    )  # fmt: skip
+    noise = link.add_mutually_exclusive_group()
+    noise.add_argument(
+        "--ec-io", type=number_within(-100, 0), metavar="DB", help="the first cell's pilot over all power"
+    )
+    noise.add_argument(
+        "--eb-nt", type=eb_nt_of, metavar="DB:ROW:RATE", help="a row's bit over the density of what disturbs it"
+    )
+    link.add_argument("--equaliser", action="store_true", help="with the base station's phase equaliser")
+    link.add_argument("--delay", type=DELAY, default=0.0, metavar="CHIPS", help="of the first sample, any fraction")
+    radio = words.add_argument_group("the radio")
+    for name, unit, reader, what in (
+        ("carrier", "HZ", hertz_of, "by which the carrier lies above the middle"),
+        ("drift", "HZ", number_within(-1e6, 1e6), "by which it rises in a second"),
+        ("clock", "PPM", number_within(-10_000, 10_000), "millionths by which the radio's clock is slow"),
+        ("clock-drift", "PPM", number_within(-100, 100), "by which that rises in a second"),
+        ("dc", "PART", number_within(-1_000, 1_000), "an offset of both branches, as a part of the root mean square"),
+    ):
+        radio.add_argument(f"--{name}", type=reader, default=0.0, metavar=unit, help=f"{what}, else 0")
+    radio.add_argument(
+        "--iq", type=imbalance_of, default=(0.0, 0.0), metavar="DB:DEGREES", help="imbalance of the branches"
+    )
+    radio.add_argument(
+        "--level",
+        type=number_within(-200, 60),
+        metavar="DB",
+        help="the root mean square against full scale; near 0 it overloads",
+    )
+    radio.add_argument("--conjugate", action="store_true", help="an inverted spectrum")
+    radio.add_argument(
+        "--lose", type=loss_of, action="append", metavar="AT:COUNT", help="from sample AT on so many are lost"
+    )
+    return words
+
+
+def radio_of(options: argparse.Namespace) -> Radio:
+    """The radio that the options tell."""
+    imbalance, skew = options.iq
+    return Radio(
+        options.rate, options.type, options.carrier, options.drift, options.clock, options.clock_drift, options.delay,
+        options.dc, imbalance, skew, options.level, options.conjugate, options.equaliser, tuple(options.lose or ()),
+    )  # fmt: skip
+
+
+def link_of(options: argparse.Namespace) -> Link:
+    """The link that the options tell."""
+    link = Link([cell_of(text) for text in options.files], options.paths, options.seed)
+    try:
+        add_noise(options, link)
+    except Refused:
+        link.close()
+        raise
+    return link
+
+
+def add_noise(options: argparse.Namespace, link: Link) -> None:
+    """Adds the noise that the arguments ask for."""
+    first = link.cells[0].file.path
+    if not link.pilot > 0:
+        raise Refused(f"{first}: no cell: its samples have no power")
+    if options.ec_io is not None:
+        link.set_ec_io(options.ec_io)
+    elif options.eb_nt is not None:
+        link.set_eb_nt(*options.eb_nt)
+    if not math.isfinite(link.noise):
+        raise Refused(f"{first}: too few samples for a symbol of a Walsh row")
+
+
+def shortest(number: float) -> str:
+    """The shortest text that reads as the same number."""
+    return repr(float(number)).removesuffix(".0")
+
+
+def colons(numbers: Iterable[float]) -> str:
+    """Numbers between colons."""
+    return ":".join(shortest(number) for number in numbers)
+
+
+def given_numbers(options: argparse.Namespace) -> dict[str, str]:
+    """The options that have no default and were given, by their names: noise, length, level, losses."""
+    told = {
+        name: shortest(value) for name in ("ec_io", "seconds", "level") if (value := getattr(options, name)) is not None
+    }
+    return told if options.eb_nt is None else {**told, "eb_nt": colons(options.eb_nt)}
+
+
+def arguments_of(options: argparse.Namespace) -> list[str]:
+    """The arguments that make the same recording of the same cells again, but for the recording's name."""
+    words = [
+        f"--type={options.type}", f"--rate={options.rate}", f"--seed={options.seed}",
+        f"--paths={','.join(colons(path) for path in options.paths)}", f"--iq={colons(options.iq)}",
+        *(f"--{name.replace('_', '-')}={shortest(getattr(options, name))}" for name in NUMBERS),
+        *(f"--{name.replace('_', '-')}={value}" for name, value in given_numbers(options).items()),
+        *(f"--{name}" for name in ("equaliser", "conjugate") if getattr(options, name)),
+        *(f"--lose={place}:{count}" for place, count in options.lose or ()),
+    ]  # fmt: skip
+    return [*words, "--", *options.files]
+
+
+def cell_told(text: str, cell: Cell) -> dict[str, object]:
+    """What is told of a cell."""
+    with open(cell.file.path, "rb") as file:
+        checksum = hashlib.file_digest(file, "sha512").hexdigest()
+    return {
+        "file": os.path.basename(cell.file.path), "sha512": checksum, "level_db": decibels(cell.gain**2),
+        "delay_chips": cell.delay, "phase": cell.phase, "power": cell.power, "pilot": cell.pilot,
+    }  # fmt: skip
+
+
+def truth(options: argparse.Namespace, link: Link) -> str:
+    """What the recording was made with, as name=value."""
+    paths = ",".join(colons(path) for path in options.paths)
+    share = decibels(link.pilot / (link.power + link.noise))
+    more = [f"{name}={value}" for name, value in given_numbers(options).items()]
+    more += [f"lose={place}:{count}" for place, count in options.lose or ()]
+    return (
+        f"carrier_hz={shortest(options.carrier)} drift={shortest(options.drift)} clock_ppm={shortest(options.clock)}"
+        f" clock_drift={shortest(options.clock_drift)} delay={shortest(options.delay)} ec_io_db={share:.2f}"
+        f" paths={paths}"
+        f" equaliser={'yes' if options.equaliser else 'no'} conjugate={'yes' if options.conjugate else 'no'}"
+        f" seed={options.seed} dc={shortest(options.dc)} iq={colons(options.iq)} cells={len(link.cells)}"
+        + "".join(f" {word}" for word in more)
+    )
+
+
+def write_recording(options: argparse.Namespace, link: Link, chips: int) -> Made:
+    """Writes the samples, and the .sigmf-meta where it is asked for."""
+    is_sigmf = options.recording.endswith(sigmf.META)
+    path = options.recording[: -len(sigmf.META)] + sigmf.DATA if is_sigmf else options.recording
+    total = int(chips * float(options.rate) / CHIP_RATE)
+    with write_out(path) as file, bar(total=total, text="recording", unit="samples") as shown:
+        made = record(link, radio_of(options), chips, file, shown.update)
+    if is_sigmf:
+        meta = sigmf.new_meta(options.type, options.rate, "a recording of an IS-95 forward link, made by tools/channel")
+        told = {
+            "cdma_tools:arguments": arguments_of(options),
+            "cdma_tools:cells": list(map(cell_told, options.files, link.cells)),
+        }
+        sigmf.annotate(meta, 0, made.samples, "tools/channel", "truth", truth(options, link), told)
+        meta["global"]["core:extensions"] = [{"name": "cdma_tools", "version": "1.0.0", "optional": True}]
+        sigmf.write_meta(options.recording, meta)
+    return made
+
+
+def write_all(options: argparse.Namespace, link: Link) -> Made:
+    """Writes the recording, and the ideal receiver's file where that is asked for."""
+    chips = link.cells[0].count
+    if options.seconds:
+        chips = min(chips, int(options.seconds * CHIP_RATE))
+    made = write_recording(options, link, chips)
+    if options.ideal:
+        with write_out(options.ideal) as file, bar(total=chips, text="ideal", unit="chips") as shown:
+            write_ideal(link, chips, file, shown.update)
+    return made
+
+
+def main(arguments: list[str] | None = None) -> int:
+    """Runs the tool, and answers its exit status."""
+    options = parser().parse_args(arguments)
+    with contextlib.closing(link_of(options)) as link:
+        made = write_all(options, link)
+        said = truth(options, link)
+    print(f"{made.samples} samples, {made.cut} parts cut at full scale, {said}", file=sys.stderr)
+    return 0

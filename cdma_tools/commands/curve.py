@@ -1,0 +1,322 @@
+"""Measures how often a receiver loses the frames of a traffic channel, over Eb/Nt: counts, a CSV and a picture.
+
+SCRIPT names a cell with a traffic channel (docs/FORMATS.md). Its samples are made once, by the program, here MAKER.
+At each Eb/Nt from --from to --to files are made of them with white Gaussian noise, one after the other; the receiver
+hears each, and each of its frame lines is compared with the frame that was sent:
+
+    lost              no line
+    marked_bad        good=0, and not the frame that was sent
+    bad_but_right     good=0, with the rate and the bits that were sent
+    other_rate        good=1, with another rate
+    wrong_but_good    good=1, with the right rate and wrong bits
+
+All of these are errors. Sync and paging messages are counted as lost where they aren't heard. What is to be heard is
+what MAKER hears of the samples without noise. A point ends after the file with which each receiver has --errors
+errors of frames, or with which --frames frames were sent. Where frames have several rates they are counted by rate,
+and --from and --to are the Eb/Nt of the greatest one.
+
+DIR gets counts.sqlite, which keeps each file's counts as they come, so that a run that was broken off goes on where
+it was; curve.csv; and curve.png, with the union bound of the code. The noise depends on the seed, the point and the
+file's number alone: the counts are the same on every machine, for any number of workers. docs/CURVES.md has the
+formulas.
+
+    tools/curve examples/frames_9600.script --from 1 --to 3 --step 0.5 --frames 5000
+    tools/curve examples/frames_9600.script --from 1 --to 3 --step 0.5 --frames 5000 \\
+        --words follow --words "list --k 4" --out lists
+    tools/curve examples/frames_9600.script --from 1 --to 3 --step 0.5 --frames 5000 --receiver ./my_receiver
+
+--limits FILE names a CSV of the frame error rates that are allowed: its first line is point_db,share or
+point_db,channel,share, and each further one has the Eb/Nt of a point from --from to --to, a channel as curve.csv names
+it (else each channel of frames), and the greatest share of frames in error. Each receiver passes a limit where the 95 %
+interval lies at or below it, and fails where the interval is above it, or holds it: more --frames then tell.
+
+    tools/curve examples/frames_9600.script --from 2 --to 3 --step 1 --frames 5000 \\
+        --limits limits.csv --junit results.xml
+
+With --tap and --json the results take the place of the table. A case of them is a limit of a receiver, and without
+limits a channel of a receiver at a point; --against is a case of its own.
+
+Exit status: 0 all points were counted, 1 something failed, a limit isn't met or --against differs, and what was
+counted is kept, 2 wrong arguments.
+"""
+
+import argparse
+import io
+import os
+import signal
+import sys
+from decimal import Decimal
+from typing import Sequence
+
+import numpy
+
+from cdma_tools.arguments import INTERRUPTED, Parser, Within, called, number_above, whole_within, wrong
+from cdma_tools.cluster import connected
+from cdma_tools.curves import report
+from cdma_tools.curves.batch import Curve, Prepared, Setup, prepared
+from cdma_tools.curves.cluster import hand_out
+from cdma_tools.curves.counting import Counts
+from cdma_tools.curves.levels import Channel, channels_of
+from cdma_tools.curves.limits import check_channels, read_limits, results_of
+from cdma_tools.curves.noise import check_room
+from cdma_tools.curves.plan import Ledger, Rule, points_of
+from cdma_tools.curves.receiver import COMMANDS, digest, words_of
+from cdma_tools.curves.store import Store, opened
+from cdma_tools.errors import Refused, said
+from cdma_tools.plots import plain, title_of
+from cdma_tools.program import add_program_option, find_program
+from cdma_tools.progress import bar
+from cdma_tools.reading import MEGABYTE, read_within
+from cdma_tools.results import Result, Results, add_result_options, check_place
+from cdma_tools.scripts import chosen_channel, read_script
+from cdma_tools.workers import quietly
+
+MINUTES = 5.0
+ERRORS = 100
+SEED = 1995
+MOST_DELAY = 1_000
+MOST_FACTOR = 1_000
+MOST_DECIBELS = 100
+MOST_MINUTES = 10_000
+MOST_WORKERS = 1_024
+DECIBELS = Within(Decimal, -MOST_DECIBELS, MOST_DECIBELS)
+FRAMES = whole_within(1, 1_000_000_000)
+
+
+def path_of(text: str) -> tuple[int, complex]:
+    """A path DELAY:FACTOR, as 7:0.5-1j."""
+    delay, separator, factor = text.partition(":")
+    try:
+        found = int(delay), complex(factor)
+    except ValueError:
+        separator = ""
+    if not separator or not 0 < found[0] <= MOST_DELAY or not is_factor(found[1]):
+        most = f"a delay of 1 to {MOST_DELAY}, and a factor that isn't 0, of parts up to {MOST_FACTOR}"
+        raise wrong(f"no path DELAY:FACTOR, as 7:0.5-1j, with {most}", text)
+    return found
+
+
+def is_factor(factor: complex) -> bool:
+    """Whether a path can have a factor."""
+    return factor != 0 and abs(factor.real) <= MOST_FACTOR and abs(factor.imag) <= MOST_FACTOR
+
+
+def parser() -> argparse.ArgumentParser:
+    """The command line."""
+    words = Parser("curve", __doc__)
+    words.add_argument("script", metavar="SCRIPT", help="the script of a cell with a traffic channel")
+    words.add_argument("--from", dest="begin", type=DECIBELS, metavar="DB", required=True, help="the first Eb/Nt")
+    words.add_argument("--to", dest="end", type=DECIBELS, metavar="DB", required=True, help="the last Eb/Nt")
+    words.add_argument(
+        "--step",
+        type=Within(Decimal, 0, MOST_DECIBELS, is_above=True),
+        metavar="DB",
+        required=True,
+        help="the step between two",
+    )
+    words.add_argument("--frames", type=FRAMES, metavar="N", required=True, help="frames that are enough for a point")
+    words.add_argument("--errors", type=FRAMES, metavar="N", default=ERRORS, help=f"errors that are, else {ERRORS}")
+    words.add_argument("--receiver", metavar="PROGRAM", help="the receiver; MAKER is counted beside it, else alone")
+    add_program_option(words, "--maker")
+    words.add_argument(
+        "--words", action="append", metavar="WORDS", help="the receiver's, else follow or rate2; may be given again"
+    )
+    words.add_argument(
+        "--row", type=whole_within(1, 63), metavar="N", help="the traffic channel's row, else the first's"
+    )
+    words.add_argument(
+        "--path",
+        type=path_of,
+        action="append",
+        default=[],
+        metavar="D:F",
+        help="another path, D chips later, F times the script's own; may be given again",
+    )
+    words.add_argument(
+        "--other", action="append", default=[], metavar="SCRIPT", help="another cell on the air; may be given again"
+    )
+    words.add_argument(
+        "--seed",
+        type=whole_within(0, (1 << 64) - 1),
+        metavar="N",
+        default=SEED,
+        help=f"the seed of the noise, else {SEED}",
+    )
+    words.add_argument(
+        "--workers",
+        type=whole_within(1, MOST_WORKERS),
+        metavar="N",
+        help="workers on this machine, else one a processor",
+    )
+    words.add_argument("--scheduler", metavar="ADDRESS", help="a scheduler of dask.distributed, as tcp://host:8786")
+    words.add_argument(
+        "--minutes",
+        type=number_above(0, MOST_MINUTES),
+        metavar="N",
+        default=MINUTES,
+        help=f"for a run, else {MINUTES:g}",
+    )
+    words.add_argument("--out", metavar="DIR", help="the folder of the counts, else SCRIPT's name and .curve")
+    words.add_argument(
+        "--beside", action="append", default=[], metavar="DIR", help="a folder to draw too; may be given again"
+    )
+    words.add_argument("--title", type=title_of, metavar="TEXT", help="the picture's title")
+    words.add_argument(
+        "--against", metavar="CSV", help="compare the counts with those of an older curve.csv, at most 16 MiB"
+    )
+    words.add_argument("--limits", metavar="FILE", help="hold the shares of frames in error against those allowed here")
+    add_result_options(words)
+    return words
+
+
+def text_of(path: str) -> str:
+    """The text of a script; refuses one that is longer than the program takes."""
+    try:
+        return io.StringIO(read_within(path, MEGABYTE).decode("ascii"), newline=None).read()
+    except UnicodeDecodeError:
+        raise Refused(f"{path}: no script: it isn't ASCII text") from None
+
+
+def label_of(program: str, words: str) -> str:
+    """A receiver's name in tables and pictures."""
+    return f"{os.path.basename(program)} {words}"
+
+
+def check_labels(curves: Sequence[Curve]) -> None:
+    """Refuses receivers that tables couldn't tell apart."""
+    labels = [curve.label for curve in curves]
+    twice = sorted({label for label in labels if labels.count(label) > 1})
+    if twice:
+        raise Refused(f"two receivers are called {twice[0]!r}: give --receiver by another name, or each --words once")
+
+
+def setup_of(options: argparse.Namespace) -> Setup:
+    """The setup that words name."""
+    text = text_of(options.script)
+    traffic = chosen_channel(read_script(text, options.script), options.row, options.script)
+    if len({frame.kind for frame in traffic.frames}) > 1:
+        raise Refused(f"{options.script}: the traffic channel has frame and frame2 lines")
+    maker = find_program(options.program)
+    programs = [maker] if options.receiver is None else [os.path.abspath(options.receiver), maker]
+    curves = [
+        Curve(program, digest(program), words_of(given, traffic), label_of(program, given))
+        for given in options.words or [COMMANDS[traffic.frames[0].kind][0]]
+        for program in programs
+    ]
+    curves = list(dict.fromkeys(curves))
+    check_labels(curves)
+    return Setup(
+        name=options.script,
+        text=text,
+        row=traffic.row,
+        others=tuple(text_of(path) for path in options.other),
+        paths=tuple(options.path),
+        maker=maker,
+        maker_checksum=digest(maker),
+        curves=tuple(curves),
+        seed=options.seed,
+        minutes=options.minutes,
+        numpy_version=numpy.__version__,
+    )
+
+
+def levels_of(options: argparse.Namespace, ready: Prepared, channel: Channel) -> dict[int, float]:
+    """The level of noise of each point, by the channel's Eb/Nt."""
+    levels = {
+        point: ready.air.sigma(channel, point / 1_000) for point in points_of(options.begin, options.end, options.step)
+    }
+    check_room(ready.greatest, max(levels.values()))
+    return levels
+
+
+def measure(options: argparse.Namespace, setup: Setup, ledger: Ledger, levels: dict[int, float], store: Store) -> None:
+    """Does what a ledger has left; each batch is kept as it comes."""
+    left = ledger.left()
+    if not left:
+        return
+    workers = options.workers or os.cpu_count() or 1
+    cluster = connected(options.scheduler, workers)
+    is_of_processes = options.scheduler is None and workers > 1
+    with quietly(cluster) if is_of_processes else cluster as client, bar(total=left, text="curve", unit="files") as shown:
+
+        def keep(point: int, batch: int, counts: list[Counts]) -> None:
+            """Keeps the counts of a batch."""
+            nonlocal left
+            store.add(point, batch, counts)
+            shown.update(left - ledger.left())
+            left = ledger.left()
+
+        hand_out(client, setup, ledger, levels, keep)
+
+
+def rows_of(setup: Setup, ready: Prepared, ledger: Ledger, levels: dict[int, float]) -> list[report.Row]:
+    """The rows of all points that have enough."""
+    channels = channels_of(ready.script, ready.traffic)
+    rows = []
+    for point, sigma in levels.items():
+        for curve, counts in zip(setup.curves, ledger.counted(point) or ()):
+            rows += [
+                report.row_of(curve.label, channel, counts[name], point, sigma, ready.air, setup.seed)
+                for name, channel in channels.items()
+                if name in counts
+            ]
+    return rows
+
+
+def compared(kept: Sequence[report.Row], rows: Sequence[report.Row], path: str) -> Result:
+    """What comes of a comparison with older rows; what differs is said on standard error too."""
+    differing = report.differences(kept, rows)
+    for line in differing:
+        said(called("curve"), line)
+    return Result("against", f"the counts are those of {path}", said=tuple(differing))
+
+
+def told(options: argparse.Namespace, cases: Sequence[Result], rows: Sequence[report.Row]) -> int:
+    """Writes the table and the results; the exit status."""
+    results = Results("curve", options, len(cases))
+    if results.is_text:
+        report.print_table(rows, sys.stdout)
+    for case in cases:
+        results.take(case, f"{case.name}: {case.said[0] if case.said else 'met'}\n" if options.limits else "")
+    return 1 if results.end("") else 0
+
+
+def run(options: argparse.Namespace) -> int:
+    """Measures, writes and draws; the exit status."""
+    folder = options.out or os.path.splitext(os.path.basename(options.script))[0] + ".curve"
+    setup = setup_of(options)
+    beside = [row for path in options.beside for row in report.read_csv(os.path.join(path, "curve.csv"))]
+    kept = report.read_csv(options.against) if options.against else None
+    points = points_of(options.begin, options.end, options.step)
+    limits = read_limits(options.limits, points) if options.limits else None
+    check_place(options)
+    ready = prepared(setup)
+    check_channels(limits or [], channels_of(ready.script, ready.traffic), options.limits)
+    levels = levels_of(options, ready, next(iter(channels_of(ready.script, ready.traffic).values())))
+    frames = min(len(wanted.frames) for wanted in ready.wanted)
+    store = opened(folder, setup)
+    try:
+        rule = Rule(options.frames, options.errors)
+        ledger = Ledger(list(levels), rule, -(-options.frames // frames), store.done(len(setup.curves)))
+        measure(options, setup, ledger, levels, store)
+    finally:
+        store.close()
+    rows = rows_of(setup, ready, ledger, levels)
+    report.write_csv(os.path.join(folder, "curve.csv"), rows)
+    title = options.title or plain(f"{os.path.basename(options.script)}, seed {setup.seed}")
+    report.draw(os.path.join(folder, "curve.png"), [*rows, *beside], title)
+    cases = results_of(rows, limits)
+    return told(options, cases if kept is None else [*cases, compared(kept, rows, options.against)], rows)
+
+
+def main(arguments: list[str] | None = None) -> int:
+    """Runs the tool, and answers its exit status."""
+    options = parser().parse_args(arguments)
+    try:
+        return run(options)
+    except KeyboardInterrupt:
+        signal.signal(signal.SIGINT, signal.SIG_IGN)
+        said(called("curve"), "broken off; the same words go on from what was counted")
+        return INTERRUPTED
+    except MemoryError:
+        raise Refused("out of memory: give the script fewer samples, or fewer --workers") from None

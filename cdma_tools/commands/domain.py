@@ -1,0 +1,174 @@
+"""Measures the code domain of a cell and the quality of its waveform.
+
+FILE_OR_RECORDING is a sample file, or a recording of a radio: a .sigmf-meta, or interleaved samples whose --type and
+--rate are given. Of a recording the strongest pilot is locked to first, as tools/import_capture --lock does. The first
+line has figures of the whole:
+
+    rho              the part of all power that the rows in use have, without the interference of the pulse's own sides;
+                     over several paths, the part that would go without the cell: 1 - left / all
+    rho_by           moments of the chips, or paths: of the pilot over several paths too, also where they have one peak
+    rho_pilot        the pilot's part alone, on the strongest path
+    error_vector     the root mean square of the error over that of what is sent: sqrt((1 - rho) / rho)
+    peak_db          the greatest power of a chip over the mean, in dB
+    chips, seconds   how much was measured
+    carrier_hz       of a recording: the carrier above the middle, half way, in Hz
+    clock_ppm        of a recording: how much slower the radio's clock is than the base station's, in millionths
+    time_chips       of a recording: when the period of the code begins that is nearest to its middle, in chips of
+                     1 / 1,228,800 s by the radio's clock
+    paths            of a recording: delays in chips, each with its level in dB below the strongest
+    carrier_left     of a sample file: the carrier that is left in it, in Hz
+    time_left        of a sample file: by how many chips the pilot comes later than they were taken
+    offset_i, _q     of a recording: the branches' offsets, as parts of the root mean square of the samples
+    imbalance_db     of a recording: by how many dB q is stronger than i
+    skew_degrees     of a recording: by how many degrees q leans to i
+    samples_peak_db  of a recording: the greatest power of a sample over the mean, in dB
+
+Then each Walsh row in use gets a line: what it is (pilot, sync, paging where the program hears a message on it, other),
+its level in dB of all power, by how many standard deviations of noise it stands out (6 or more, and -33 dB), its phase
+and its time against the pilot's. The formulas stand in docs/RADIO.md.
+
+    tools/domain radio.sigmf-meta
+    tools/domain --type cu8 --rate 2400000 radio.cu8 --plot rows.png --json rows.json
+    tools/domain second.is95 --all
+
+Exit status: 0 measured, 1 no pilot, or a file that can't be read or written, 2 wrong arguments.
+"""
+
+import argparse
+import json
+import os
+import sys
+import tempfile
+
+from cdma_tools.analysis.measuring import Analysis, analysis_of_file, analysis_of_recording
+from cdma_tools.analysis.telling import draw, object_of, text_of
+from cdma_tools.arguments import Parser, called, count_of, hertz_of, number_above, rate_of
+from cdma_tools.errors import Refused, printable, said
+from cdma_tools.program import add_program_option, find_program
+from cdma_tools.plots import picture_of, plain, save
+from cdma_tools.progress import bar
+from cdma_tools.radio.acquisition import TRIES
+from cdma_tools.radio.air import CHIP_RATE
+from cdma_tools.radio.locking import Options
+from cdma_tools.radio.plain import TYPE_CHOICES, assumed, recording_told, with_hints
+from cdma_tools.sigmf import META
+from cdma_tools.writing import STANDARD, write_out
+
+MOST_SEARCH = CHIP_RATE / 2
+# Options that go with a recording alone.
+RECORDING_ONLY = ("skip", "shift", "search", "conjugate", "equaliser")
+
+
+def parser() -> Parser:
+    """The arguments of the command line."""
+    words = Parser("domain", __doc__)
+    words.add_argument("recording", metavar="FILE_OR_RECORDING", help="a sample file, a .sigmf-meta, or raw samples")
+    words.add_argument("--all", action="store_true", help="a line for each of the 64 rows, in use or not")
+    words.add_argument(
+        "--json", metavar="FILE", help="write figures, rows and frames as JSON; - for standard output, without lines"
+    )
+    words.add_argument(
+        "--plot", type=picture_of, metavar="FILE", help="draw the rows over the whole and over the frames: .png or .svg"
+    )
+    add_program_option(words)
+    recording = words.add_argument_group("of a recording")
+    recording.add_argument(
+        "--type",
+        choices=TYPE_CHOICES,
+        help="how the samples are kept, auto: as their bytes look; not with a .sigmf-meta",
+    )
+    recording.add_argument(
+        "--rate", type=rate_of, metavar="N", help="samples a second; with a .sigmf-meta where it tells none"
+    )
+    recording.add_argument("--skip", type=count_of, metavar="N", help="leave out the first N samples, else 0")
+    recording.add_argument("--shift", type=hertz_of, metavar="HZ", help="search round this carrier, else 0")
+    recording.add_argument(
+        "--search", type=number_above(0, MOST_SEARCH), metavar="HZ",
+        help="search so many Hz to each side, else 21,000, and 88,000 where no pilot is there",
+    )  # fmt: skip
+    for name, what in (("conjugate", "an inverted spectrum"), ("equaliser", "the base station's phase equaliser")):
+        recording.add_argument(f"--{name}", choices=TRIES, help=f"{what}: whether it is there, else try")
+    return words
+
+
+def is_recording(options: argparse.Namespace) -> bool:
+    """Whether the input is a recording: by its name, or since its type or its rate is given."""
+    return options.recording.endswith(META) or options.type is not None or options.rate is not None
+
+
+def check_arguments(words: Parser, options: argparse.Namespace) -> None:
+    """Ends with status 2 where options don't go together."""
+    if options.recording.endswith(META):
+        if options.type:
+            words.error("--type can't be given with a .sigmf-meta, which tells it")
+    elif is_recording(options) and (options.type is None or options.rate is None):
+        words.error("--type and --rate needed, unless it is a .sigmf-meta or a sample file")
+    if not is_recording(options) and (given := [name for name in RECORDING_ONLY if getattr(options, name) is not None]):
+        words.error(f"--{given[0]} goes with a recording: a .sigmf-meta, or --type and --rate")
+    if options.plot == options.json == STANDARD:
+        words.error("--plot and --json can't both go to standard output")
+
+
+def program_of(options: argparse.Namespace, lines: list[str]) -> str | None:
+    """The program that tells paging channels; where there is none, lines get what is to be said of that."""
+    try:
+        return find_program(options.program)
+    except Refused as why:
+        if options.program:
+            raise
+        lines.append(f"{why}; no row is told as a paging channel")
+        return None
+
+
+def analysed(options: argparse.Namespace, lines: list[str]) -> Analysis:
+    """The analysis that is asked for, with its steps on a bar; lines get what is to be said of it."""
+    program = program_of(options, lines)
+    with bar(total=100, text="domain", unit="%") as shown, tempfile.TemporaryDirectory(prefix="domain-") as folder:
+        done = 0
+
+        def tell(part: float, text: str) -> None:
+            nonlocal done
+            if (now := round(100 * part)) > done:
+                shown.set_description(text)
+                shown.update(now - done)
+                done = now
+
+        if not is_recording(options):
+            return analysis_of_file(options.recording, program, tell)
+        kind, rate, path = recording_told(options)
+        hints = assumed(options, kind, path)
+        lines += hints
+        given = {name: value for name in RECORDING_ONLY if (value := getattr(options, name)) is not None}
+        with with_hints(hints):
+            return analysis_of_recording(path, Options(kind, rate, **given), program, folder, tell)
+
+
+def shown_name(path: str) -> str:
+    """The name of a file as text, whatever its bytes are."""
+    return printable(os.fsencode(os.path.basename(path)).decode("utf-8", "backslashreplace"))
+
+
+def write_all(options: argparse.Namespace, analysis: Analysis) -> None:
+    """Writes what is asked for: files, and on standard output the lines, or the one thing that is to go there."""
+    name = shown_name(options.recording)
+    if options.plot is not None:
+        title = f"{plain(name)}: rho {analysis.rho:.4f}, {len(analysis.domain.used)} rows in use"
+        save(draw(analysis, title), options.plot, dpi=120)
+    if options.json is not None:
+        with write_out(options.json) as file:
+            file.write((json.dumps(object_of(analysis, name)) + "\n").encode())
+    if STANDARD not in (options.plot, options.json):
+        sys.stdout.write(text_of(analysis, options.all))
+        sys.stdout.flush()
+
+
+def main(arguments: list[str] | None = None) -> int:
+    """Runs the tool, and answers its exit status."""
+    words = parser()
+    options = words.parse_args(arguments)
+    check_arguments(words, options)
+    lines: list[str] = []
+    write_all(options, analysed(options, lines))
+    for line in lines:
+        said(called("domain"), line)
+    return 0

@@ -1,0 +1,266 @@
+"""Shows one frame of a sample file step by step, from the samples to its bits, by the model of `model/`.
+
+    tools/explain second.is95 --sync
+    tools/explain second.is95 --paging 1 --frame 3
+    tools/explain call.is95 --traffic 0000abcd 10 --picture frame.png
+
+Frames of the sync channel are counted from the first that begins in the file, those of a paging or a traffic channel
+from the mark, which the first sync message sets. Each step is a value of docs/LINK.md that can be computed by hand:
+
+    1  the pilot sums of each finger, and the symbol sums before and after the pilot has turned them
+    2  the scrambling bits: chips of the long code
+    3  the soft values in the order in which the symbols are sent, turned back by the scrambling bits
+    4  the soft values of the code symbols, in the encoder's order: those of the rate that is shown
+    5  the best word of each rate, with its score and that of the next best
+    6  the quality indicator, as sent and as computed
+    7  the bits with their fields, and what they say
+
+In steps 3 and 4 a letter is a symbol: 0 or 1 where it is sure, o or i where it is weaker than half of the mean, p where
+a power control bit stands, . where nothing is known.
+
+Exit status: 0 shown, 1 there is no such frame, or the file or the picture can't be read or written, 2 wrong
+arguments.
+"""
+
+from __future__ import annotations
+
+import argparse
+import re
+from collections.abc import Sequence
+from typing import Any
+
+import numpy as np
+from numpy.typing import NDArray
+
+from cdma_tools.arguments import Parser, whole_within
+from cdma_tools.errors import Refused
+from cdma_tools.explaining.frame_steps import (
+    NoFrame,
+    Path,
+    Steps,
+    found_in,
+    mark_of,
+    paging_steps,
+    sync_steps,
+    traffic_steps,
+)
+from cdma_tools.plots import NEEDED, picture_of
+from cdma_tools.sample_header import MOST_CHIPS, Header
+from cdma_tools.writing import STANDARD
+from model.bits import text_of_bits
+from model.files import BadFile, Capture, read_capture
+from model.handset import Assigned
+
+WIDTH = 79
+COLUMNS = 64
+MOST_PATHS = 3
+MOST_SYMBOLS = 4
+MOST_BYTES = max(Header(version, 0, count).file_bytes for version, count in MOST_CHIPS.items())
+"""The bytes of the longest sample file."""
+LONGEST_NUMBER = 42
+"""The most bits of a field that is written as a number: those of LC_STATE."""
+MOST_TEXT = 52
+ROWS = set(range(1, 64)) - {32}
+"""The Walsh rows that a traffic channel may have."""
+
+
+# ---- the text
+
+
+def wrapped(head: str, items: Sequence[str], indent: int = 4) -> list[str]:
+    """Items after a head, in lines of the screen's width."""
+    lines = [head]
+    for item in items:
+        if len(lines[-1]) + 1 + len(item) > WIDTH:
+            lines.append(" " * indent)
+        lines[-1] += ("" if lines[-1].isspace() else " ") + item
+    return lines
+
+
+def complex_text(value: complex) -> str:
+    """A whole complex number."""
+    return f"{value.real:.0f}{value.imag:+.0f}j"
+
+
+def path_lines(number: int, path: Path) -> list[str]:
+    """The pilot sums of a finger, and its first symbols."""
+    finger = path.finger
+    head = f"  finger {number}: code phase {finger.phase}, {finger.delta:+d} chips, Walsh row {finger.row}"
+    alike = np.all(path.pilots == path.pilots[0])
+    sums = [complex_text(value) for value in (path.pilots[:1] if alike else path.pilots[:MOST_SYMBOLS])]
+    count = f"{len(path.pilots)} pilot sums{', all' if alike else ':'}"
+    before = [complex_text(value) for value in path.sums[:MOST_SYMBOLS]]
+    after = [f"{value.real:.1f}{value.imag:+.1f}j" for value in path.turned[:MOST_SYMBOLS]]
+    return [
+        head,
+        *wrapped(f"    {count}", sums + ([] if alike else [".."]), 6),
+        *wrapped("    symbol sums:", [*before, ".."], 6),
+        *wrapped("    turned by the pilot:", [*after, ".."], 6),
+    ]
+
+
+def letters(softs: NDArray[Any], replaced: NDArray[Any]) -> str:
+    """A letter for each soft value."""
+    weak = np.abs(softs) < np.abs(softs).mean() / 2
+    found = np.where(softs > 0, np.where(weak, "o", "0"), np.where(weak, "i", "1"))
+    found[softs == 0] = "."
+    found[replaced] = "p"
+    return "".join(found)
+
+
+def symbol_lines(softs: NDArray[Any], replaced: Sequence[int] | NDArray[Any] = ()) -> list[str]:
+    """Soft values as letters, in lines, with the number of each line's first."""
+    text = letters(softs, np.array(replaced, int))
+    return [f"  {at:3} {text[at : at + COLUMNS]}" for at in range(0, len(text), COLUMNS)]
+
+
+def hex_lines(bits: NDArray[Any]) -> list[str]:
+    """Bits as hex digits, 256 a line."""
+    digits = text_of_bits(list(bits)).partition(":")[2]
+    return [f"  {4 * at:3} {digits[at : at + COLUMNS]}" for at in range(0, len(digits), COLUMNS)]
+
+
+def reading_lines(steps: Steps) -> list[str]:
+    """The words of each rate."""
+    lines = []
+    for place, reading in enumerate(steps.readings):
+        (best, _), (other, _) = reading.words[:2]
+        mark = ">" if place == steps.shown and len(steps.readings) > 1 else " "
+        lines.append(f" {mark} {reading.name}: score {best}, next best {other}")
+    return lines
+
+
+def quality_lines(steps: Steps) -> list[str]:
+    """The quality indicators, where the channel has them."""
+    told = []
+    for reading in steps.readings:
+        if reading.right:
+            sent, right = "".join(map(str, reading.sent)), "".join(map(str, reading.right))
+            told.append(f"{reading.name}: {sent} " + ("right" if sent == right else f"but {right} is right"))
+        elif len(steps.readings) > 1:
+            told.append(f"{reading.name}: none")
+    return [f"    {line}" for line in told] or ["    none: a message's check stands for it"]
+
+
+def part_texts(steps: Steps) -> list[str]:
+    """The fields as words, and long ones as bits."""
+    found = []
+    for part in steps.parts:
+        if part.value and len(part.bits) <= LONGEST_NUMBER:
+            found.append(f"{part.name}={part.value}")
+        else:
+            text = text_of_bits(part.bits)
+            text = text if len(text) <= MOST_TEXT else text[: MOST_TEXT - 2] + ".."
+            found.append(f"{part.name}={text}" + (f" ({part.remark})" if part.remark else ""))
+    return found
+
+
+def text_of(steps: Steps) -> list[str]:
+    """All steps, in lines of a screen."""
+    lines = [steps.title, "1 fingers"]
+    for number, path in enumerate(steps.paths[:MOST_PATHS]):
+        lines += path_lines(number, path)
+    if len(steps.paths) > MOST_PATHS:
+        lines.append(f"  .. and {len(steps.paths) - MOST_PATHS} more fingers")
+    lines.append("2 scrambling bits" + ("" if steps.scrambling is not None else ": none on the sync channel"))
+    if steps.scrambling is not None:
+        lines += hex_lines(steps.scrambling)
+    shown = steps.readings[steps.shown]
+    first = f"the first {complex_text(steps.turned[0])[:-3]}, the mean {np.abs(steps.turned).mean():.0f}"
+    lines += [f"3 soft values as sent: {first}", *symbol_lines(steps.turned, steps.replaced)]
+    lines += [f"4 soft values of the code symbols ({shown.name})", *symbol_lines(shown.softs)]
+    lines += ["5 words", *reading_lines(steps), "6 quality indicators", *quality_lines(steps)]
+    lines += wrapped("7 bits:", part_texts(steps))
+    if steps.commands:
+        lines.append(f"  power control bits {steps.commands}: 1 lowers the handset's power")
+    return lines + [f"=> {line}" for line in steps.verdict]
+
+
+# ---- the words
+
+
+def parser() -> argparse.ArgumentParser:
+    """The command line."""
+    words = Parser("explain", __doc__)
+    words.add_argument("file", metavar="FILE", help="a sample file")
+    channel = words.add_mutually_exclusive_group(required=True)
+    channel.add_argument("--sync", action="store_true", help="a frame of the sync channel")
+    channel.add_argument("--paging", type=whole_within(1, 7), metavar="C", help="a frame of paging channel C")
+    channel.add_argument(
+        "--traffic", nargs=2, metavar=("ESN", "ROW"), help="a frame of the traffic channel on row 1 to 63, not 32"
+    )
+    words.add_argument(
+        "--offset", type=whole_within(0, 15), default=0, metavar="N", help="the traffic channel's FRAME_OFFSET, else 0"
+    )
+    words.add_argument("--rate-set", type=int, choices=[1, 2], default=1, help="the traffic channel's, else 1")
+    words.add_argument(
+        "--frame", type=whole_within(0, 1 << 20), default=0, metavar="K", help="which frame, from 0 on, else 0"
+    )
+    words.add_argument(
+        "--span", type=whole_within(64, 32_768), default=2_048, metavar="N", help="samples that are searched, else 2048"
+    )
+    words.add_argument(
+        "--fingers", type=whole_within(1, 3), default=1, metavar="N", help="paths of the base station, else 1"
+    )
+    words.add_argument(
+        "--picture", type=picture_of, metavar="PICTURE", help="draw the steps too: PNG or SVG, by the end of the name"
+    )
+    return words
+
+
+def checked(given: list[str] | None) -> argparse.Namespace:
+    """The options; ends the program where a word is wrong."""
+    words = parser()
+    options = words.parse_args(given)
+    if options.traffic and not re.fullmatch("[0-9a-fA-F]{8}", options.traffic[0]):
+        words.error("ESN is eight hex digits")
+    if options.traffic and not (re.fullmatch("[0-9]{1,2}", options.traffic[1]) and int(options.traffic[1]) in ROWS):
+        words.error("ROW is 1 to 63, and not 32, which is the sync channel's")
+    if options.picture == STANDARD:
+        words.error("--picture needs a file: standard output has the steps")
+    return options
+
+
+def steps_of(capture: Capture, options: argparse.Namespace) -> Steps:
+    """The steps of the frame that is asked for; raises `NoFrame`."""
+    found = found_in(capture, options.span, options.fingers)
+    if options.sync:
+        return sync_steps(capture, found, options.frame)
+    mark = mark_of(capture, found)
+    if options.paging:
+        return paging_steps(capture, found, mark, options.paging, options.frame)
+    assigned = Assigned(int(options.traffic[0], 16), int(options.traffic[1]), options.offset)
+    return traffic_steps(capture, found, mark, assigned, options.frame, options.rate_set)
+
+
+def drawn(steps: Steps, path: str) -> None:
+    """Draws the steps; raises `Refused` where matplotlib is missing."""
+    try:
+        from cdma_tools.explaining.frame_picture import draw
+    except ImportError as missing:
+        raise Refused(f"{missing}: {NEEDED}") from None
+    draw(steps, path)
+
+
+def read(options: argparse.Namespace) -> Capture:
+    """The samples of the file."""
+    with open(options.file, "rb") as file:
+        capture = read_capture(file.read(MOST_BYTES + 1), options.span)  # of what is longer, one byte more is enough
+    if capture.end:
+        raise capture.end
+    return capture
+
+
+def main(arguments: list[str] | None = None) -> int:
+    """Runs the tool, and answers its exit status."""
+    options = checked(arguments)
+    try:
+        steps = steps_of(read(options), options)
+    except BadFile as why:
+        raise Refused(f"{options.file}: bad file: {why}") from None
+    except NoFrame as why:
+        raise Refused(f"{options.file}: {why}") from None
+    if options.picture:
+        drawn(steps, options.picture)
+    print("\n".join(text_of(steps)), flush=True)
+    return 0

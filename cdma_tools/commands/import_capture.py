@@ -1,0 +1,374 @@
+"""Turns a recording of a radio into a sample file, one sample a chip.
+
+RECORDING is a file of interleaved samples, in-phase part first, whose --type and --rate are given, or the
+.sigmf-meta of a SigMF recording, which tells both. FILE is the sample file to write, or - for standard output.
+
+With --lock nothing else need be known. The strongest pilot is found, its carrier and its clock are followed over
+the whole recording, and one sample of each of its chips is written, filtered by the transmitter's pulse, without
+carrier, scaled once for the whole file. What was found goes to standard error as one line:
+
+    carrier_hz  the carrier above the middle, half way; of the conjugate, where that was taken
+    drift       how much it rises, in Hz a second
+    clock_ppm   how much slower the radio's clock is than the base station's, in millionths, up to 110
+    phase       the code phase of the file's first chip, 0 to 32,767
+    ec_io_db    the pilot's share of all power, in dB
+    paths       delays in chips, each with its level in dB below the strongest
+    equaliser   whether the base station sends through the phase equaliser of TIA/EIA-95-B, 7.1.3.1.10
+    conjugate   whether the recording's spectrum is inverted
+    lost        chips that weren't heard, for which zeros stand
+    chips       chips written
+    scale       by what the samples were multiplied
+
+What a file hides is tried where that is asked for: --type auto looks at the bytes, --checks auto follows the file both
+ways and takes what passes, --conjugate and --equaliser are tried unless they are given. What was taken is said, and so
+it is where the bytes look like another type than the one that is given. --reflag sets the flags of a sample file that
+is there, in place.
+
+With --cell K or --pn P a weaker cell is written: the stronger ones are heard, sent again and taken off the samples, and
+a line tells each of them. That needs room for files of floating point in $TMPDIR: 8 bytes a sample, and as much again
+for each cell.
+
+Without --lock the carrier and the clock are taken to be right. At the chip rate, 1,228,800 samples a second, the
+samples are taken as they are. At a whole multiple of it one sample of each chip is taken, number --offset, or the
+sum of the chip's samples with --sum. At any other rate above it the recording is resampled. --shift turns a known
+carrier away.
+
+Then whole samples stay whole: they are multiplied by --scale alone, which is 1 where it isn't given. Samples of
+floating point, and those that --shift or resampling makes, are by default scaled so that the greatest part is
+32,767, or 127 in version 2, and rounded to the nearest whole number. A part that doesn't fit is an error and
+is never wrapped or cut; nothing is written then. --scale fit does the same for whole samples. With --lock the
+root mean square is 2,500, or 20 in version 2; parts of bursts that don't fit are cut at the ends of the range, and
+their number is said.
+
+    tools/import_capture --lock --type cu8 --rate 2400000 radio.bin radio.is95
+    tools/import_capture --lock --fingers 3 radio.sigmf-meta radio.is95
+    tools/import_capture --lock --type auto --rate 2400000 --checks auto radio.bin radio.is95
+    tools/import_capture --reflag --complement-30 radio.is95
+    tools/import_capture --lock --cell 2 radio.sigmf-meta second.is95
+    tools/import_capture --type cu8 --rate 2457600 --sum --shift -1200 radio.bin radio.is95
+
+Exit status: 0 written, 1 the recording can't be taken, has no pilot, or the file can't be written, 2 wrong arguments.
+"""
+
+import argparse
+import contextlib
+import os
+import sys
+import tempfile
+from fractions import Fraction
+from typing import IO, TYPE_CHECKING, Any, Iterable
+
+import numpy
+
+from cdma_tools import sigmf
+from cdma_tools.arguments import (
+    MOST_COUNT,
+    Parser,
+    called,
+    count_of,
+    hertz_of,
+    number_above,
+    rate_of,
+    scale_of,
+    whole_within,
+)
+from cdma_tools.checks import FLAGS_BYTES, FLAGS_PLACE, reflag, tried
+from cdma_tools.errors import Refused, said
+from cdma_tools.program import add_program_option, find_program
+from cdma_tools.progress import bar
+from cdma_tools.radio.air import CHIP_RATE
+from cdma_tools.radio.plain import TYPE_CHOICES, assumed, plain_chips, recording_told, with_hints
+from cdma_tools.sample_file import GREATEST, header
+from cdma_tools.writing import write_out
+
+if TYPE_CHECKING:
+    from cdma_tools.analysis.importing import Taken
+    from cdma_tools.radio.locking import Locked, Options
+
+MOST_SEARCH = CHIP_RATE / 2
+OFFSETS = 512  # pilot offsets (7.1.3.1.9)
+LOCK_ONLY = ("fingers", "conjugate", "equaliser", "search", "meta", "cell", "pn")
+# Those of the first that a lock takes as they are.
+LOCK_OPTIONS = ("fingers", "conjugate", "equaliser", "search")
+MOST_RANK = 12
+
+
+class VersionOrForm(argparse.Action):
+    """The option --version: with 1 or 2 the form of the sample file, and alone the version of this tool."""
+
+    def __init__(self, **told: Any) -> None:
+        super().__init__(nargs="?", default=1, metavar="FORM", **told)
+
+    def __call__(self, parser: Any, options: argparse.Namespace, value: Any, name: str | None = None) -> None:
+        """Takes the form, or ends the process with the version."""
+        if value is None:
+            parser.print_version("import_capture")
+            parser.exit()
+        if value not in ("1", "2"):
+            parser.error(f"argument {name}: neither 1 nor 2: {value!r}")
+        setattr(options, self.dest, int(value))
+
+
+def add_lock_words(words: argparse.ArgumentParser) -> None:
+    """The options that go with --lock."""
+    lock = words.add_argument_group("with --lock")
+    lock.add_argument("--lock", action="store_true", help="find the strongest pilot, its carrier and its clock")
+    lock.add_argument(
+        "--fingers", type=int, choices=(1, 2, 3), help="how many paths the receiver will follow, else 1: the chips are taken"
+        " where so many fingers, whole chips apart, hold most energy"
+    )  # fmt: skip
+    lock.add_argument(
+        "--search",
+        type=number_above(0, MOST_SEARCH),
+        metavar="HZ",
+        help="search so many Hz to each side, else 21,000, and 88,000 where no pilot is there: the most takes a processor"
+        " some minutes",
+    )
+    for name, what in (("conjugate", "an inverted spectrum"), ("equaliser", "the base station's phase equaliser")):
+        lock.add_argument(f"--{name}", choices=("yes", "no", "try"), help=f"{what}: whether it is there, else try")
+    which = lock.add_mutually_exclusive_group()
+    which.add_argument(
+        "--cell",
+        type=whole_within(1, MOST_RANK),
+        metavar="K",
+        help="the K-th strongest cell, else 1: stronger ones are taken off first",
+    )
+    which.add_argument(
+        "--pn", type=whole_within(0, OFFSETS - 1), metavar="P", help="the cell of PILOT_PN P, as the program hears it"
+    )
+    lock.add_argument("--meta", metavar="FILE", help="write the recording's .sigmf-meta with a note of what was found")
+
+
+def add_check_words(words: argparse.ArgumentParser) -> None:
+    """The options on how checks are sent."""
+    words.add_argument(
+        "--complement-30", action="store_true", help="the 30-bit checks of messages are sent complemented"
+    )
+    words.add_argument(
+        "--complement-16", action="store_true", help="the 16-bit checks of messages are sent complemented"
+    )
+    words.add_argument(
+        "--checks", choices=("auto",), help="auto: the program follows the file with plain and with complemented 30-bit checks,"
+        " and the way that more messages pass is taken"
+    )  # fmt: skip
+    add_program_option(words)
+
+
+def parser(form: type[Parser] = Parser) -> Parser:
+    """The command line, as a parser of a form."""
+    words = form("import_capture", __doc__, has_version=False)
+    words.add_argument("recording", metavar="RECORDING", help="interleaved samples, or a .sigmf-meta")
+    words.add_argument("file", metavar="FILE", help="the sample file to write, - for standard output")
+    words.add_argument(
+        "--type",
+        choices=TYPE_CHOICES,
+        help="how the samples are kept, auto: as their bytes look; not with a .sigmf-meta",
+    )
+    words.add_argument(
+        "--rate", type=rate_of, metavar="N", help="samples a second; with a .sigmf-meta only where it tells none"
+    )
+    words.add_argument(
+        "--offset", type=count_of, metavar="N", help="at a multiple M of the chip rate: 0 to M - 1, else 0"
+    )
+    words.add_argument(
+        "--sum", action="store_true", help="at a multiple: the sum of a chip's samples, from --offset on"
+    )
+    words.add_argument(
+        "--shift",
+        type=hertz_of,
+        metavar="HZ",
+        help="turn the samples so that a carrier HZ above the middle lies at 0; with --lock, search round it",
+    )
+    words.add_argument("--scale", type=scale_of, metavar="X", help="a number, or the word fit")
+    words.add_argument(
+        "--skip", type=count_of, metavar="N", default=0, help="leave out the recording's first N samples"
+    )
+    words.add_argument("--count", type=whole_within(1, MOST_COUNT), metavar="N", help="write at most N chips")
+    words.add_argument(
+        "--version",
+        action=VersionOrForm,
+        help="1: 16 bits a part (the default), 2: 8 bits; alone: say this tool's version, and end",
+    )
+    add_check_words(words)
+    words.add_argument(
+        "--reflag", action="store_true", help="with a sample file and options of checks alone: set its flags, in place"
+    )
+    add_lock_words(words)
+    return words
+
+
+def reflag_parser() -> Parser:
+    """The command line with --reflag, which takes one sample file."""
+    words = Parser("import_capture", __doc__, has_version=False)
+    words.add_argument("--reflag", action="store_true", help="set the flags of the checks of a sample file, in place")
+    words.add_argument("file", metavar="FILE", help="the sample file")
+    add_check_words(words)
+    return words
+
+
+def check_checks(words: Parser, options: argparse.Namespace) -> None:
+    """Ends with status 2 where what is told of checks doesn't go together."""
+    if options.checks and options.complement_30:
+        words.error("--checks auto and --complement-30 can't be given together")
+
+
+def check_words(words: Parser, options: argparse.Namespace) -> None:
+    """Ends with status 2 where options don't go together."""
+    check_checks(words, options)
+    if options.program is not None and options.pn is None and not options.checks:
+        words.error("--program goes with --checks or --pn")
+    if options.reflag:
+        words.error(
+            "--reflag goes with one sample file, --complement-30, --complement-16, --checks and --program alone"
+        )
+    if options.file != "-" and os.path.isdir(options.file):
+        words.error(f"{options.file} is a folder")
+    if not options.lock and (given := [name for name in LOCK_ONLY if getattr(options, name) is not None]):
+        words.error(f"--{given[0]} needs --lock")
+    if options.lock and (options.sum or options.offset is not None or options.scale == "fit"):
+        words.error("--sum, --offset and --scale fit can't be given with --lock, which takes its own samples")
+    if options.meta is not None and not options.meta.endswith(sigmf.META):
+        words.error(f"--meta names a {sigmf.META}")
+    if options.recording.endswith(sigmf.META):
+        if options.type:
+            words.error("--type can't be given with a .sigmf-meta, which tells it")
+        return
+    missing = [name for name, value in (("--type", options.type), ("--rate", options.rate)) if value is None]
+    if missing:
+        words.error(f"{' and '.join(missing)} needed, unless RECORDING is a .sigmf-meta")
+
+
+def flags_of(options: argparse.Namespace) -> int:
+    """The flags of the sample file."""
+    return (1 if options.complement_30 else 0) | (2 if options.complement_16 else 0)
+
+
+def say(lines: Iterable[str]) -> None:
+    """Says lines on standard error."""
+    for line in lines:
+        said(called("import_capture"), line)
+
+
+def try_checks(options: argparse.Namespace, file: IO[bytes]) -> list[str]:
+    """Sets the flags of a file that is written by what passes, where that is asked for; what is to be said of it."""
+    if not options.checks:
+        return []
+    file.flush()
+    heard = tried(find_program(options.program), f"/proc/self/fd/{file.fileno()}")
+    file.seek(FLAGS_PLACE)
+    file.write((heard.flag | flags_of(options)).to_bytes(FLAGS_BYTES, "big"))
+    file.seek(0, os.SEEK_END)
+    return [heard.told()]
+
+
+def take_reflag(options: argparse.Namespace) -> None:
+    """Sets the flags of a sample file that is there."""
+    flags, lines = flags_of(options), []
+    if options.checks:
+        heard = tried(find_program(options.program), options.file)
+        flags, lines = flags | heard.flag, [heard.told()]
+    before = reflag(options.file, flags)
+    say([*lines, f"{options.file}: its flags are {flags} now, and were {before}"])
+
+
+def take_plainly(options: argparse.Namespace) -> None:
+    """Writes the file of a recording whose carrier and clock are right."""
+    parts, scale = plain_chips(options)
+    with write_out(options.file) as file:
+        file.write(header(options.version, flags_of(options), len(parts)))
+        file.write(parts.tobytes())
+        lines = try_checks(options, file)
+    say(lines)
+    top = int(numpy.abs(parts.astype(numpy.int32)).max())
+    print(f"{len(parts)} chips, scale {scale:.9g}, greatest part {top} of {GREATEST[options.version]}", file=sys.stderr)
+
+
+class Shown:
+    """The steps of a lock on a bar."""
+
+    def __init__(self) -> None:
+        self.bar, self.done = bar(total=100, text="lock", unit="%"), 0
+
+    def __call__(self, part: float, text: str) -> None:
+        """Takes note that a part of 1 is done, in a step of this name."""
+        now = round(100 * part)
+        if now > self.done:
+            self.bar.set_description(text)
+            self.bar.update(now - self.done)
+            self.done = now
+
+    def close(self) -> None:
+        """Takes the bar away."""
+        self.bar.close()
+
+
+def take_cell(options: argparse.Namespace, path: str, asked: "Options", file: IO[bytes]) -> "Taken":
+    """Writes the file of one cell of several."""
+    from cdma_tools.analysis.importing import Wanted, take
+
+    program = None if options.pn is None else find_program(options.program)
+    with tempfile.TemporaryDirectory(prefix="cells-") as folder, bar(text="cells", unit="cells") as shown:
+
+        def tell(text: str) -> None:
+            shown.set_description(text)
+            shown.update(1)
+
+        return take(path, asked, Wanted(options.cell, options.pn, program), file, folder, tell)
+
+
+def lock_options(options: argparse.Namespace, kind: str, rate: Fraction) -> "Options":
+    """What a lock is asked for."""
+    from cdma_tools.radio.locking import Options
+
+    given = {name: value for name in LOCK_OPTIONS if (value := getattr(options, name)) is not None}
+    return Options(
+        kind, rate, skip=options.skip, shift=options.shift or 0.0, count=options.count, scale=options.scale,
+        version=options.version, flags=flags_of(options), **given,
+    )  # fmt: skip
+
+
+def take_by_lock(options: argparse.Namespace) -> "Locked":
+    """Writes the file of the strongest pilot in a recording, and answers what was found."""
+    from cdma_tools.radio.locking import lock  # scipy takes half a second to load, and is wanted here alone
+
+    kind, rate, path = recording_told(options)
+    hints = assumed(options, kind, path)
+    told = [*hints]
+    if options.meta:
+        sigmf.check_note(options.meta, path)
+    asked = lock_options(options, kind, rate)
+    with with_hints(hints), write_out(options.file) as file:
+        if options.pn is not None or (options.cell or 1) > 1:
+            locked, others = take_cell(options, path, asked, file)
+            told += others
+        else:
+            with contextlib.closing(Shown()) as shown:
+                locked = lock(path, asked, file, shown)
+        told += try_checks(options, file)
+    if options.meta:
+        sigmf.note_lock(options.meta, options.recording, kind, rate, path, options.skip, locked)
+    return locked._replace(said=tuple(told))
+
+
+def lock_and_tell(options: argparse.Namespace) -> None:
+    """Writes the file of the strongest pilot in a recording, and says what was found."""
+    locked = take_by_lock(options)
+    print(locked.line(), file=sys.stderr)
+    say(locked.remarks())
+
+
+def main(arguments: list[str] | None = None) -> int:
+    """Runs the tool, and answers its exit status."""
+    given = sys.argv[1:] if arguments is None else arguments
+    words = reflag_parser() if "--reflag" in given else parser()
+    options = words.parse_args(given)
+    if "--reflag" in given:
+        check_checks(words, options)
+        take_reflag(options)
+        return 0
+    check_words(words, options)
+    try:
+        (lock_and_tell if options.lock else take_plainly)(options)
+    except MemoryError:
+        raise Refused("out of memory: give --count") from None
+    return 0

@@ -1,0 +1,48 @@
+"""Puts the built program, the tools, manual pages and documents below a prefix, as the package of tools/package has
+them.
+
+PREFIX/bin gets cdma_replay and the commands cdma-NAME, PREFIX/share the rest. It builds nothing: `rt ci` at the top of
+the repository leaves the program behind, and so does
+`(cd crates/cdma_replay && rt run -- find < ../../examples/pilot_in_noise.is95)`. Folders that aren't there are made,
+and older files of these names are replaced, each at once. --remove takes away what was put there, and folders that are
+empty then.
+
+    tools/install /usr/local
+    tools/install --program ./cdma_replay "$HOME/.local"
+    tools/install --remove "$HOME/.local"
+
+Exit status: 0 all is in place, or nothing is left, 1 there is no program that runs here or a file can't be written, 2
+wrong arguments.
+"""
+
+import os
+
+from cdma_tools.arguments import Parser
+from cdma_tools.packaging import tree
+from cdma_tools.places import BUILT
+
+
+def parser() -> Parser:
+    """The command line."""
+    arguments = Parser("install", __doc__)
+    arguments.add_argument("prefix", metavar="PREFIX", help="the folder that gets bin/ and share/")
+    arguments.add_argument(
+        "--program", metavar="FILE", help="the built program, else the one that is built in this checkout"
+    )
+    arguments.add_argument("--remove", action="store_true", help="take away what was installed")
+    return arguments
+
+
+def main(arguments: list[str] | None = None) -> int:
+    """Runs the tool, and answers its exit status."""
+    words = parser()
+    options = words.parse_args(arguments)
+    if not options.prefix:
+        words.error("PREFIX is empty")
+    if options.remove:
+        places = tree.take_away(options.prefix)
+    else:
+        places = tree.put_all(options.prefix, tree.entries(options.program or BUILT))
+    for place in places:
+        print(os.path.join(options.prefix, place))
+    return 0

@@ -1,0 +1,65 @@
+"""Turns the program's lines into JSON, one object a line, and back again to the very same lines.
+
+LINES is a file of lines that the program wrote, or - for standard input, which it is where it isn't given. The names
+of an object are those of the line's fields, in its order; docs/FORMATS.md has them all. Under "line" stands the
+line's first word, under "message" the kind of a paging or traffic message, and under "channel" the channel of a raw
+one. Numbers are numbers, LC_STATE too; bits are text as in the line, N:HEX; lists are lists, and the power control
+bits of a frame a list of sixteen numbers.
+
+    cdma_replay follow < second.is95 | tools/lines | jq -c 'select(.line == "paging") | [.at, .message]'
+    cdma_replay follow < second.is95 | tools/lines > heard.json
+    tools/lines --back heard.json > heard.txt
+
+In Python, pandas.read_json("heard.json", lines=True) makes a table of it, and what to_json(orient="records",
+lines=True) writes of that goes back too. Each line is read and written by itself, as it comes. A text that the
+program can't have written is an error: its number is told, and what was written before it stands.
+
+Exit status: 0 all was turned, 1 a line is none or can't be read or written, 2 wrong arguments.
+"""
+
+import argparse
+import io
+import sys
+from typing import Callable, Iterable
+
+from cdma_tools.arguments import Parser
+from cdma_tools.errors import Refused
+from cdma_tools.json_lines import as_json, as_line, lines_of, turned_lines
+from cdma_tools.lines import NoLine, table_rows
+
+
+def turn(source: Iterable[bytes], turned: Callable[[str], str]) -> None:
+    """Writes what each line becomes."""
+    for text in turned_lines(source, turned):
+        sys.stdout.write(text + "\n")
+
+
+def parser() -> argparse.ArgumentParser:
+    """The command line."""
+    words = Parser("lines", __doc__)
+    words.add_argument("lines", nargs="?", default="-", metavar="LINES", help="what is turned, - for standard input")
+    words.add_argument("--back", action="store_true", help="turn JSON into lines")
+    words.add_argument(
+        "--table", action="store_true", help="write the table of all fields, as docs/FORMATS.md has it, and end"
+    )
+    return words
+
+
+def main(arguments: list[str] | None = None) -> int:
+    """Runs the tool, and answers its exit status."""
+    options = parser().parse_args(arguments)
+    if options.table:
+        print("\n".join(table_rows()))
+        return 0
+    turned = as_line if options.back else as_json
+    if isinstance(sys.stdout, io.TextIOWrapper):
+        sys.stdout.reconfigure(line_buffering=True)
+    try:
+        if options.lines == "-":
+            turn(lines_of(sys.stdin.buffer), turned)
+        else:
+            with open(options.lines, "rb") as file:
+                turn(lines_of(file), turned)
+    except NoLine as why:
+        raise Refused(f"{'standard input' if options.lines == '-' else options.lines}: {why}") from None
+    return 0

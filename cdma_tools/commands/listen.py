@@ -1,0 +1,278 @@
+"""Listens to a recording of any length, or to the air as it comes, and writes a line for each thing that is heard.
+
+SOURCE is a file of interleaved samples, in-phase part first, or - for standard input, whose --type and --rate are
+given; the .sigmf-meta of a SigMF recording, which tells both; or rtl_tcp://HOST:PORT, a server with the protocol of
+rtl_tcp, whose samples are cu8 and whose rate is set to --rate. The strongest pilot is found and its carrier and clock
+are followed without end; a handset of cdma_replay follows it, and its lines come out half a second after their chips at
+most.
+
+The lines are those of `cdma_replay follow` (docs/FORMATS.md), but at counts chips from the recording's start, however
+long it is. --json writes each as an object, with time_utc where the base station has told the time. Where samples are
+lost, or the pilot fades, zeros stand for the chips; a pilot that is away for more than two seconds is searched anew.
+What of that happened is said on standard error, with the second of the recording.
+
+With --out the lines are added to a file, whole lines alone, as JSON where its name ends with .jsonl. A listening to a
+file of samples that was broken off goes on after the last line there, if it is begun again with the same arguments.
+
+A file of samples is listened to in parts of --part seconds, by --workers processes of this machine, or by the workers
+of a --scheduler of dask.distributed, which need the same file and program at the same paths. What is written is the
+same, byte for byte, for any number of workers.
+
+    rtl_sdr -f 878490000 -s 2400000 - | tools/listen --type cu8 --rate 2400000 -
+    tools/listen --rate 2400000 --frequency 878490000 --json rtl_tcp://radio:1234
+    tools/listen day.sigmf-meta --esn 00c0ffee --row 12 --workers 4 --out day.jsonl
+
+Exit status: 0 a pilot was heard, 1 none was, or the samples can't be read or the lines written, 2 wrong arguments.
+"""
+
+import argparse
+import contextlib
+import os
+import re
+import stat
+import sys
+import threading
+from collections.abc import Iterator
+from dataclasses import dataclass
+from fractions import Fraction
+from typing import BinaryIO
+
+from cdma_tools import sigmf
+from cdma_tools.arguments import Parser, Within, number_above, number_within, rational, whole_within, wrong
+from cdma_tools.errors import Refused
+from cdma_tools.listening.follow_run import Handset
+from cdma_tools.listening.line_writer import LineWriter
+from cdma_tools.listening.listening import Listening
+from cdma_tools.listening.output import GrowingFile, write_to_standard_output
+from cdma_tools.listening.parts import PART, Recording
+from cdma_tools.listening.sharing import hear_recording
+from cdma_tools.listening.sources import SCHEME, Backlog, Server, ServerReader, Skipped, read_pipe, server_of
+from cdma_tools.listening.stream_lock import LockOptions
+from cdma_tools.program import add_program_option, find_program
+from cdma_tools.radio.acquisition import SPAN, TRIES
+from cdma_tools.radio.air import CHIP_RATE
+from cdma_tools.recordings import TYPES, sample_count
+
+MOST_RATE, MOST_SHIFT, MOST_SEARCH, MOST_WORKERS = 100_000_000, 50_000_000, CHIP_RATE / 2, 64
+LEAST_PART, MOST_PART = 10, 1_000_000
+JSON_LINES = ".jsonl"
+SERIAL = re.compile(r"[0-9a-f]{8}")
+SYNC_ROW, MOST_EVENTS, MOST_FREQUENCY = 32, 4_294_967_295, 4_294_967_295
+
+
+def serial_of(text: str) -> str:
+    """An electronic serial number."""
+    if not SERIAL.fullmatch(text):
+        raise wrong("not eight lower-case hex digits", text)
+    return text
+
+
+def add_handset(words: argparse.ArgumentParser) -> None:
+    """The arguments that name what is followed."""
+    handset = words.add_argument_group("the handset")
+    handset.add_argument("--esn", type=serial_of, metavar="H", help="its serial number, eight hex digits; needs --row")
+    for name, least, most, default, what in (
+        ("row", 1, 63, None, "the Walsh row of its traffic channel, not 32"),
+        ("offset", 0, 15, None, "the FRAME_OFFSET of that channel, else 0"),
+        ("paging", 1, 7, 1, "the paging channel that it hears, else 1"),
+        ("fingers", 1, 3, 1, "the paths that it follows, else 1"),
+    ):
+        handset.add_argument(f"--{name}", type=whole_within(least, most), default=default, metavar="N", help=what)
+    for name, what in (
+        ("pilots", "events of the pilot and its sets at most, over the whole recording, else all"),
+        ("messages", "messages at most, else all"),
+        ("frames", "frames at most, else all"),
+        ("raw", "messages as they came too, else none"),
+    ):
+        handset.add_argument(f"--{name}", type=whole_within(0, MOST_EVENTS), metavar="N", help=f"so many {what}")
+    for bits in (30, 16):
+        what = f"the {bits}-bit checks of messages are sent complemented"
+        handset.add_argument(f"--complement-{bits}", action="store_true", help=what)
+
+
+def parser() -> Parser:
+    """The arguments of the command line."""
+    words = Parser("listen", __doc__)
+    words.add_argument("source", metavar="SOURCE", help="a file of samples, a .sigmf-meta, -, or rtl_tcp://HOST:PORT")
+    words.add_argument("--type", choices=TYPES, help="how the samples are kept; not with a .sigmf-meta")
+    rates = "samples a second; with a .sigmf-meta only where it tells none"
+    words.add_argument("--rate", type=Within(rational, CHIP_RATE, MOST_RATE), metavar="N", help=rates)
+    words.add_argument("--json", action="store_true", help="write objects, with their time in UTC")
+    words.add_argument("--out", metavar="FILE", help="add the lines to a file, and go on after those that stand there")
+    add_program_option(words)
+    tuned = "Hz to which a server is tuned, else left where it is"
+    words.add_argument("--frequency", type=whole_within(0, MOST_FREQUENCY), metavar="HZ", help=tuned)
+    add_handset(words)
+    lock = words.add_argument_group("the lock")
+    middle = "search the first carrier round one that lies HZ above the middle, else 0"
+    lock.add_argument("--shift", type=number_within(-MOST_SHIFT, MOST_SHIFT), default=0.0, metavar="HZ", help=middle)
+    span = f"so many Hz to each side, else {SPAN:,.0f}"
+    lock.add_argument("--search", type=number_above(0, MOST_SEARCH), default=SPAN, metavar="HZ", help=span)
+    for name, what in (("conjugate", "an inverted spectrum"), ("equaliser", "the base station's phase equaliser")):
+        lock.add_argument(f"--{name}", choices=TRIES, default="try", help=f"{what}: whether it is there, else try")
+    shared = words.add_argument_group("files of samples")
+    lasts = f"seconds of a part, else {PART:.0f}"
+    shared.add_argument("--part", type=number_within(LEAST_PART, MOST_PART), default=PART, metavar="S", help=lasts)
+    where = shared.add_mutually_exclusive_group()
+    many = "processes of this machine that listen to parts, else 1"
+    where.add_argument("--workers", type=whole_within(1, MOST_WORKERS), default=1, metavar="N", help=many)
+    where.add_argument("--scheduler", metavar="ADDRESS", help="of dask.distributed, as tcp://HOST:PORT")
+    return words
+
+
+def is_server(options: argparse.Namespace) -> bool:
+    """Whether the source is a server."""
+    return bool(options.source.startswith(f"{SCHEME}://"))
+
+
+def is_described(options: argparse.Namespace) -> bool:
+    """Whether the source is a SigMF recording."""
+    return bool(options.source.endswith(sigmf.META)) and not is_server(options)
+
+
+def check_source(words: argparse.ArgumentParser, options: argparse.Namespace) -> None:
+    """Ends with status 2 where arguments don't go with the source."""
+    if is_described(options):
+        if options.type:
+            words.error("--type can't be given with a .sigmf-meta, which tells it")
+    elif is_server(options):
+        if options.type not in (None, "cu8"):
+            words.error("a server's samples are cu8")
+        if options.rate is None or options.rate.denominator != 1:
+            words.error("--rate is needed with a server, and whole")
+    elif options.type is None or options.rate is None:
+        words.error("--type and --rate are needed, unless SOURCE is a .sigmf-meta or a server")
+    if options.frequency is not None and not is_server(options):
+        words.error("--frequency goes with a server")
+
+
+def check(words: argparse.ArgumentParser, options: argparse.Namespace) -> None:
+    """Ends with status 2 where arguments don't go together."""
+    check_source(words, options)
+    if (options.esn is None) != (options.row is None):
+        words.error("--esn and --row need each other")
+    if options.offset is not None and options.row is None:
+        words.error("--offset needs --esn and --row")
+    if options.row in (SYNC_ROW, options.paging):
+        words.error(f"--row {options.row} is the row of the sync channel or of the paging channel")
+    if options.out is not None and os.path.isdir(options.out):
+        words.error(f"{options.out} is a folder")
+
+
+def lock_options(options: argparse.Namespace, kind: str, rate: Fraction) -> LockOptions:
+    """What the lock is asked for."""
+    if rate < CHIP_RATE:
+        raise Refused(f"{float(rate):.0f} samples a second are fewer than the chip rate, {CHIP_RATE}")
+    return LockOptions(
+        kind, float(rate), options.fingers, options.shift, options.search, options.conjugate, options.equaliser
+    )
+
+
+def handset_of(options: argparse.Namespace) -> Handset:
+    """The handset that follows."""
+    flags = (1 if options.complement_30 else 0) | (2 if options.complement_16 else 0)
+    return Handset(
+        program=find_program(options.program),
+        fingers=options.fingers,
+        paging=options.paging,
+        esn=options.esn,
+        row=options.row,
+        offset=options.offset or 0,
+        is_raw=bool(options.raw),
+        flags=flags,
+    )
+
+
+def counts_of(options: argparse.Namespace) -> dict[str, int]:
+    """How many events of each kind are told at most."""
+    given = {name: getattr(options, name) for name in ("pilots", "messages", "frames")}
+    return {"raw": options.raw or 0, **{name: value for name, value in given.items() if value is not None}}
+
+
+@dataclass(frozen=True)
+class Stream:
+    """A source that comes as the air does."""
+
+    kind: str
+    rate: Fraction
+    file: BinaryIO | None = None
+    server: Server | None = None
+
+    @contextlib.contextmanager
+    def opened(self) -> Iterator[Backlog]:
+        """Its backlog, which a thread fills."""
+        backlog = Backlog()
+        if self.server is not None:
+            reader = threading.Thread(target=ServerReader(self.server, backlog).run, daemon=True)
+        else:
+            reader = threading.Thread(target=read_pipe, args=(self.file, backlog), daemon=True)
+        reader.start()
+        try:
+            yield backlog
+        finally:
+            backlog.stop()
+
+
+def source_of(options: argparse.Namespace) -> Stream | Recording:
+    """The stream or the recording that is listened to; refuses one that isn't there."""
+    if is_server(options):
+        size = TYPES["cu8"].size
+        return Stream("cu8", options.rate, server=server_of(options.source, int(options.rate), size, options.frequency))
+    if options.source == "-":
+        return Stream(options.type, options.rate, file=sys.stdin.buffer)
+    kind, rate, path = options.type, options.rate, options.source
+    if is_described(options):
+        kind, rate, path = sigmf.recording_of(options.source, options.rate)
+    try:
+        if not stat.S_ISREG(os.stat(path).st_mode):
+            return Stream(kind, rate, file=open(path, "rb", buffering=0))
+    except OSError as why:
+        raise Refused(f"{path}: {why.strerror}") from None
+    # A worker may stand in another folder.
+    return Recording(os.path.abspath(path), sample_count(path, kind), lock_options(options, kind, rate))
+
+
+def hear_stream(stream: Stream, lock: LockOptions, handset: Handset, writer: LineWriter) -> bool:
+    """Listens to a stream up to its end; answers whether a pilot was heard."""
+    listening = Listening(lock, handset, writer)
+    try:
+        with stream.opened() as backlog:
+            for item in backlog:
+                if isinstance(item, bytes):
+                    listening.feed(item)
+                elif isinstance(item, Skipped):
+                    listening.say(listening.lock.seconds, f"{item.samples} samples are missing: {item.why}")
+                    listening.skip(item.samples)
+                else:
+                    listening.say(listening.lock.seconds, item.text)
+        listening.finish()
+    finally:
+        listening.kill()
+    return listening.is_heard
+
+
+def listen(options: argparse.Namespace) -> int:
+    """Listens, and answers the exit status."""
+    source, handset, counts = source_of(options), handset_of(options), counts_of(options)
+    is_json = options.json or (options.out or "").endswith(JSON_LINES)
+    with contextlib.ExitStack() as stack:
+        file = stack.enter_context(GrowingFile(options.out)) if options.out is not None else None
+        already = file.already(is_json) if file is not None else None
+        writer = LineWriter(file.write if file else write_to_standard_output, is_json, counts, already)
+        if isinstance(source, Recording):
+            is_heard = hear_recording(source, handset, writer, options.part, options.workers, options.scheduler)
+        else:
+            if already is not None and already.lines:
+                raise Refused(f"{options.out}: it has lines, and a stream can't be gone on with: name another file")
+            is_heard = hear_stream(source, lock_options(options, source.kind, source.rate), handset, writer)
+    if not is_heard:
+        raise Refused("no pilot stands out anywhere")
+    return 0
+
+
+def main(arguments: list[str] | None = None) -> int:
+    """Runs the tool, and answers its exit status."""
+    words = parser()
+    options = words.parse_args(arguments)
+    check(words, options)
+    return listen(options)

@@ -1,0 +1,37 @@
+"""Makes a package of Debian's kind of the built program, the tools, the model, the cases and the documents.
+
+It takes the program that `rt` built in this checkout, which it builds of proved crates alone, and no other. The package
+is cdma-replay_VERSION_amd64.deb in the folder that is named, or in this one. The same files make the same package.
+
+    tools/package
+    tools/package /tmp && sudo apt install /tmp/cdma-replay_*.deb
+
+Exit status: 0 made, 1 there is no built program that runs here, or the package can't be made, 2 wrong arguments.
+"""
+
+import os
+
+from cdma_tools.arguments import Parser
+from cdma_tools.packaging import debian, tree
+from cdma_tools.places import BUILT
+
+
+def parser() -> Parser:
+    """The command line."""
+    arguments = Parser("package", __doc__)
+    arguments.add_argument(
+        "folder", nargs="?", default=".", metavar="FOLDER", help="the folder that gets the package, else this one"
+    )
+    return arguments
+
+
+def main(arguments: list[str] | None = None) -> int:
+    """Runs the tool, and answers its exit status."""
+    words = parser()
+    options = words.parse_args(arguments)
+    if not os.path.isdir(options.folder):
+        words.error(f"no folder {options.folder}")
+    path = os.path.join(options.folder, debian.FILE)
+    debian.build(tree.entries(BUILT), path)
+    print(path)
+    return 0

@@ -1,0 +1,285 @@
+"""Makes one HTML page that shows a recording, and what a handset hears in it.
+
+FILE_OR_RECORDING is a sample file, or a recording of a radio: a .sigmf-meta, or interleaved samples whose --type and
+--rate are given. A recording is imported first, by `tools/import_capture --lock` and the arguments that --import tells.
+Then `find`, `follow` and `survey` run once each. The page stands alone: it needs no network and no second file.
+
+Of a recording of more than 27 seconds the page is drawn from the lines of tools/listen, and so it is of a file of such
+lines, as text or as JSON. It counts all lines, and shows as many as it has room for, evenly over the recording.
+
+It shows what the recording is, the correlation round the best phase, the strengths of all pilots, the constellation of
+the sync channel, the code domain, a recording's spectrum and waterfall, a time line of messages, frames, power control
+and pilot sets, the fields of the messages that tell of the system and what they mean, and all lines, to be searched.
+With --cells N each of up to N cells of a recording has a section, the stronger ones taken off, and a map shows who
+names whom as a neighbor.
+
+    tools/report radio.is95 --out radio.html
+    tools/report radio.sigmf-meta --out radio.html --fingers 3
+    tools/report radio.sigmf-meta --out cells.html --cells 3
+    tools/report --type cu8 --rate 2457600 radio.bin --out radio.html --esn 8badf00d --row 10
+    tools/report day.jsonl --out day.html
+
+The options of follow, --span to --raw, are given to it as they are; find and survey take --span and --workers too.
+Where there is no pilot that stands out, no sync message, or a broken file, the page has what there is, and says so at
+its head.
+
+Exit status: that of follow, where a page was written (0 all was read, 1 no sync message, 3 no sample file, and so
+on); 2 wrong arguments, and no page; 9 no page, as the program or a package isn't there, or a file can't be read or
+written; 10 a page that says why the recording couldn't be imported.
+"""
+
+import argparse
+import json
+import os
+import shlex
+import tempfile
+from fractions import Fraction
+from typing import Any, NoReturn
+
+from cdma_tools import sigmf
+from cdma_tools.arguments import Parser, rate_of, whole_within
+from cdma_tools.commands import FAILED, import_capture, listen
+from cdma_tools.errors import Refused, WrongArguments
+from cdma_tools.program import add_program_option, find_program
+from cdma_tools.radio.air import CHIP_RATE
+from cdma_tools.radio.guessing import type_of
+from cdma_tools.radio.plain import AUTO
+from cdma_tools.recordings import sample_count
+from cdma_tools.report import cells, document, gathering, measures, waveform
+from cdma_tools.report.heard_lines import heard_lines, is_lines
+from cdma_tools.report.lines_page import page_of_lines
+from cdma_tools.sample_header import MOST_CHIPS
+from cdma_tools.writing import write_out
+
+# Seconds of a recording that a sample file has room for; what is longer is listened to.
+MOST_SECONDS = MOST_CHIPS[1] / CHIP_RATE
+NOT_IMPORTED = 10  # the status of a page that says why
+SPANS = {str(span) for span in range(64, 32_769)}  # as follow takes them
+SPAN = 2_048  # samples of the search, where --span tells no other (docs/FORMATS.md)
+MOST_CELLS = 12
+MOST_NOTES = 40  # of a recording's own
+# The options of follow, as docs/FORMATS.md has them.
+FOLLOW_WORDS = {
+    "span": "samples in which the pilot is searched, 64 to 32,768, else 2,048",
+    "workers": "workers of the search, 1 to 64, else 4",
+    "fingers": "paths that are followed, 1 to 3, else 1",
+    "paging": "the paging channel that is heard, 1 to 7, else 1",
+    "esn": "the handset's electronic serial number, eight hex digits",
+    "row": "the row of its traffic channel, 1 to 63, not 32",
+    "offset": "FRAME_OFFSET of its traffic channel, 0 to 15, else 0",
+    "pilots": "so many events of the pilot and its sets alone",
+    "messages": "so many messages alone",
+    "frames": "so many frames alone",
+    "raw": "so many messages as they came too",
+}
+
+
+def parser() -> Parser:
+    """The command line."""
+    words = Parser("report", __doc__, allow_abbrev=False)
+    words.add_argument("recording", metavar="FILE_OR_RECORDING", help="a sample file, a .sigmf-meta, raw samples, or lines")
+    words.add_argument("--out", required=True, metavar="PAGE", help="the page to write, - for standard output")
+    add_program_option(words)
+    words.add_argument("--type", metavar="TYPE", help="of raw samples, as import_capture takes it")
+    words.add_argument("--rate", metavar="N", help="samples a second of raw samples, as import_capture takes it")
+    words.add_argument(
+        "--import", dest="more", default="", metavar="ARGUMENTS",
+        help="arguments for import_capture, as --import='--skip 100'",
+    )
+    words.add_argument(
+        "--cells",
+        type=whole_within(1, MOST_CELLS),
+        default=1,
+        metavar="N",
+        help="of a recording: a section for each of up to N cells, else 1",
+    )
+    follow = words.add_argument_group("words of follow")
+    for name, told in FOLLOW_WORDS.items():
+        follow.add_argument(f"--{name}", metavar="H" if name == "esn" else "N", help=told)
+    return words
+
+
+def shown_name(path: str) -> str:
+    """The name of a file as text, whatever its bytes are."""
+    return os.fsencode(os.path.basename(path)).decode("utf-8", "backslashreplace")
+
+
+def notes_of(path: str) -> dict[str, str]:
+    """What a .sigmf-meta says of its recording: the texts and numbers of its global object and of its first capture."""
+    try:
+        with open(path, encoding="utf-8") as file:
+            meta = json.load(file)
+        told = [meta.get("global"), *meta.get("captures", [])[:1]]
+        pairs = [pair for part in told if isinstance(part, dict) for pair in part.items()]
+    except (OSError, ValueError, AttributeError, TypeError, RecursionError):
+        return {}
+    return {name: str(value) for name, value in pairs[:MOST_NOTES] if isinstance(value, (str, int, float))}
+
+
+def is_recording(options: argparse.Namespace) -> bool:
+    """Whether it has to be imported: by its name, or since its type or rate is told."""
+    return options.recording.endswith(".sigmf-meta") or options.type is not None or options.rate is not None
+
+
+def import_words(options: argparse.Namespace) -> list[str]:
+    """The arguments for the import: it takes as many paths as follow does."""
+    told = [("type", options.type), ("rate", options.rate), ("fingers", options.fingers)]
+    return [f"--{name}={value}" for name, value in told if value is not None] + shlex.split(options.more)
+
+
+class ImportParser(Parser):
+    """The command line of the import, whose faults are faults of this tool's arguments."""
+
+    def error(self, message: str) -> NoReturn:
+        """Refuses the arguments."""
+        raise WrongArguments(f"the import of the recording: {message}")
+
+    def print_help(self, file: Any = None) -> NoReturn:
+        """Refuses to help: a page is asked for."""
+        self.error("--help makes no page")
+
+    def print_version(self, tool: str) -> NoReturn:
+        """Refuses to tell the version: a page is asked for."""
+        self.error("--version without a number makes no page")
+
+
+def run_import(recording: str, file: str, words: list[str]) -> gathering.Imported:
+    """Imports a recording into a sample file, and locks to its pilot."""
+    whole = ["--lock", *words]
+    parser = import_capture.parser(ImportParser)
+    options = parser.parse_args([*whole, recording, file])
+    import_capture.check_words(parser, options)
+    try:
+        locked = import_capture.take_by_lock(options)
+    except Refused as why:
+        return gathering.Imported(whole, FAILED, {}, [str(why)])
+    found = dict(word.split("=", 1) for word in locked.line().split())
+    return gathering.Imported(whole, 0, found, locked.remarks())
+
+
+def not_run(command: str) -> gathering.Ran:
+    """A run that wasn't made."""
+    return gathering.Ran([command], NOT_IMPORTED, [], "not run")
+
+
+def imported_page(options: argparse.Namespace, program: str, file: str) -> tuple[str, int]:
+    """The page of a recording, which is imported into a file first, and the status to end with."""
+    imported = run_import(options.recording, file, import_words(options))
+    notes = notes_of(options.recording) if options.recording.endswith(".sigmf-meta") else {}
+    if imported.status == 0:
+        return page_of(options, program, file, imported, notes)
+    runs = [not_run(command) for command in ("find", "survey", "follow")]
+    gathered = gathering.Gathered(shown_name(options.recording), imported, *runs)
+    return document.page_of(gathered, measures.Measured(0, 0, 0, SPAN), notes), NOT_IMPORTED
+
+
+def page_of(
+    options: argparse.Namespace, program: str, file: str, imported: gathering.Imported | None, notes: dict[str, str]
+) -> tuple[str, int]:
+    """The page of a sample file, and the status to end with; where it is imported, what is known of that."""
+    words = {name: value for name in FOLLOW_WORDS if (value := getattr(options, name)) is not None}
+    gathered = gathering.Gathered(shown_name(options.recording), imported, *gathering.gather_runs(program, file, words))
+    phases = [read["phase"] for _, read in gathered.find.reads("pilot")]
+    span = words.get("span", "")
+    measured = measures.measured(file, phases[0] if phases else None, int(span) if span in SPANS else SPAN)
+    made = waveform.waveform_of(
+        gathered, file, phases[0] if phases and measured.stands_out else None, raw_of(options, notes)
+    )
+    more = cells_of(options, program, words, file) if options.cells > 1 else document.Addition()
+    return document.page_of(gathered, measured, notes, made, more), gathered.follow.status
+
+
+def cells_of(options: argparse.Namespace, program: str, words: dict[str, str], file: str) -> document.Addition:
+    """The sections of each cell of a recording, beside whose imported file is room for others."""
+    raw = raw_of(options, {})
+    folder = os.path.join(os.path.dirname(file), "cells")
+    os.mkdir(folder)
+    taken = import_capture.parser(ImportParser).parse_args([*import_words(options), options.recording, "-"])
+    try:
+        if raw is None:
+            raise Refused("the recording's type or rate isn't known")
+        asked = import_capture.lock_options(taken, raw.kind, Fraction(raw.rate).limit_denominator(1_000))
+        return cells.addition_of(cells.gather_cells(raw.path, asked, options.cells, program, words, folder))
+    except Refused as why:
+        return cells.addition_why(why)
+
+
+def raw_of(options: argparse.Namespace, notes: dict[str, str]) -> waveform.Raw | None:
+    """The raw samples of a recording; none of a sample file."""
+    if not is_recording(options):
+        return None
+    try:
+        if options.recording.endswith(sigmf.META):
+            kind, rate, path = sigmf.recording_of(options.recording, None if options.rate is None else Fraction(options.rate))
+        else:
+            kind, rate, path = options.type, Fraction(options.rate), options.recording
+            kind = type_of(path) if kind == AUTO else kind
+    except (Refused, ValueError, ArithmeticError, TypeError, AttributeError, RecursionError):
+        return None
+    try:
+        middle = float(notes["core:frequency"])
+    except (KeyError, ValueError):
+        middle = None
+    return waveform.Raw(path, kind, float(rate), middle)
+
+
+def seconds_of(options: argparse.Namespace) -> float:
+    """How long a recording is, as far as that can be told; its faults are the import's to tell."""
+    try:
+        kind, rate, path = options.type, options.rate, options.recording
+        if path.endswith(sigmf.META):
+            kind, rate, path = sigmf.recording_of(path, None if rate is None else rate_of(rate))
+        return sample_count(path, kind) / float(rate)
+    except (Refused, KeyError, TypeError, ValueError, ArithmeticError, argparse.ArgumentTypeError):
+        return 0.0
+
+
+def listening_words(options: argparse.Namespace, program: str, out: str) -> list[str]:
+    """The arguments of a listening to a recording."""
+    given = {"type": options.type, "rate": options.rate, "program": program, "out": out}
+    given |= {name: getattr(options, name) for name in FOLLOW_WORDS if name not in ("span", "workers")}
+    return [options.recording, *(f"--{name}={value}" for name, value in given.items() if value is not None)]
+
+
+def page_of_listening(options: argparse.Namespace, program: str) -> tuple[str, int]:
+    """The page of a recording that is longer than a sample file, which is listened to."""
+    with tempfile.TemporaryDirectory(prefix="report-") as folder:
+        lines = os.path.join(folder, "heard.jsonl")
+        status = listen.main(listening_words(options, program, lines))
+        return page_of_lines(shown_name(options.recording), heard_lines(lines)), status
+
+
+def reported(options: argparse.Namespace) -> tuple[str, int]:
+    """The page, and the status to end with."""
+    if not is_recording(options) and is_lines(options.recording):
+        return page_of_lines(shown_name(options.recording), heard_lines(options.recording)), 0
+    program = find_program(options.program)
+    if not is_recording(options):
+        return page_of(options, program, options.recording, None, {})
+    if not options.more and seconds_of(options) > MOST_SECONDS:
+        return page_of_listening(options, program)
+    with tempfile.TemporaryDirectory(prefix="report-") as folder:
+        return imported_page(options, program, os.path.join(folder, "recording.is95"))
+
+
+def check_words(words: Parser, options: argparse.Namespace) -> None:
+    """Ends with status 2 where options don't go together."""
+    if options.cells > 1 and not is_recording(options):
+        words.error("--cells goes with a recording: a .sigmf-meta, or --type and --rate")
+    if options.more and not is_recording(options):
+        words.error("--import goes with a recording: a .sigmf-meta, or --type and --rate")
+    try:
+        shlex.split(options.more)
+    except ValueError as why:
+        words.error(f"--import {options.more!r}: {why}")
+
+
+def main(arguments: list[str] | None = None) -> int:
+    """Runs the tool, and answers its exit status."""
+    words = parser()
+    options = words.parse_args(arguments)
+    check_words(words, options)
+    page, status = reported(options)
+    with write_out(options.out) as file:
+        file.write(page.encode())
+    return status

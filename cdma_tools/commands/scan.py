@@ -1,0 +1,143 @@
+"""Says at which frequencies of a recording a pilot stands out.
+
+For a recording that is wider than one channel, or whose carrier is unknown. RECORDING is a file of interleaved samples,
+whose --type and --rate are given, or the .sigmf-meta of a SigMF recording. Centre frequencies are tried round the
+recording's middle, in steps of 1.25 MHz or of --step, as far as a whole channel lies in it; --all tries every frequency
+in the width. What stands out is tracked for a third of a second, and told where a pilot is heard there too. Each pilot
+gets a line:
+
+    carrier_hz=1249851.2 ec_io_db=-9.1 excess=14.20 phase=5021 at_s=0.0300 conjugate=no sigma=412.0 clock_ppm=4.0
+
+carrier_hz is the carrier above the middle, excess its energy over the threshold, which noise alone reaches in one
+recording of a million, and phase the code phase at the time at_s. sigma is by how many standard deviations of noise it
+stands out where it was tracked, 12 or more, and clock_ppm by how many millionths the recording's clock is slow, to one.
+A clock that is up to 110 millionths off goes with a carrier that is up to 88 kHz off at 800 MHz: --search 88000 finds
+that. At most 100,000 centre frequencies and 2,000,000 carriers, in steps of 300 Hz round each, are tried, which takes a
+processor some hours; what asks for more is refused. To lock to a pilot:
+
+    tools/import_capture --lock --shift 1249851 RECORDING FILE
+
+Exit status: 0 a pilot was found, 1 none, or the recording can't be taken, 2 wrong arguments.
+"""
+
+import argparse
+import sys
+
+from cdma_tools import sigmf
+from cdma_tools.arguments import MOST_HERTZ, Parser, called, count_of, number_above, number_within, rate_of, text_of
+from cdma_tools.errors import Refused, said
+from cdma_tools.progress import bar
+from cdma_tools.radio.acquisition import SPAN, TRIES, bins_within
+from cdma_tools.radio.air import CHIP_RATE
+from cdma_tools.radio.confirmation import LEAST
+from cdma_tools.radio.front import Front
+from cdma_tools.radio.plain import TYPE_CHOICES, assumed, recording_told, with_hints
+from cdma_tools.radio.scanning import RASTER, Seen, everywhere, raster, scan
+from cdma_tools.recordings import Recording
+
+MOST_CENTRES = 100_000
+MOST_CARRIERS = 2_000_000  # that are tried round all centres; each takes some 7 ms
+
+
+def parser() -> argparse.ArgumentParser:
+    """The command line."""
+    words = Parser("scan", __doc__)
+    words.add_argument("recording", metavar="RECORDING", help="interleaved samples, or a .sigmf-meta")
+    words.add_argument(
+        "--type",
+        choices=TYPE_CHOICES,
+        help="how the samples are kept, auto: as their bytes look; not with a .sigmf-meta",
+    )
+    words.add_argument(
+        "--rate", type=rate_of, metavar="N", help="samples a second; with a .sigmf-meta where it tells none"
+    )
+    words.add_argument(
+        "--skip", type=count_of, default=0, metavar="N", help="leave out the recording's first N samples"
+    )
+    where = words.add_mutually_exclusive_group()
+    where.add_argument(
+        "--step", type=number_within(1_000, MOST_HERTZ), metavar="HZ", help="between centre frequencies, else 1,250,000"
+    )
+    where.add_argument("--all", action="store_true", help="every frequency in the width")
+    words.add_argument(
+        "--search",
+        type=number_above(0, CHIP_RATE / 2),
+        metavar="HZ",
+        default=SPAN,
+        help="round each, so many Hz to each side, else 21,000",
+    )
+    words.add_argument("--conjugate", choices=TRIES, default="no", help="whether the spectrum is inverted, else no")
+    words.add_argument("--verbose", action="store_true", help="a line for the centres without a pilot too")
+    return words
+
+
+def text(seen: Seen, is_verbose: bool) -> str:
+    """The line of a centre; none where it has no pilot and none is asked for."""
+    if seen.is_pilot:
+        level = f"ec_io_db={seen.ec_io:.1f} " if seen.ec_io > -99 else ""
+        return (
+            f"carrier_hz={seen.carrier:.1f} {level}excess={seen.excess:.2f} phase={seen.phase} at_s={seen.seconds:.4f}"
+            f" conjugate={'yes' if seen.is_conjugate else 'no'} sigma={seen.sigma:.1f} clock_ppm={seen.clock:.1f}\n"
+        )
+    tracked = f" sigma={seen.sigma:.1f}" if seen.excess > 1 else ""
+    return f"no pilot round {seen.centre:.0f} Hz, excess={seen.excess:.2f}{tracked}\n" if is_verbose else ""
+
+
+def fault_of(found: list[Seen]) -> str:
+    """Why no centre has a pilot; nothing where one has."""
+    if any(seen.is_pilot for seen in found):
+        return ""
+    best = max(seen.excess for seen in found)
+    if best <= 1:
+        return f"no pilot stands out at {len(found)} centres: the best energy is {best:.2f} of the threshold"
+    sigma = max(seen.sigma for seen in found)
+    return (
+        f"no pilot at {len(found)} centres: what stood out wasn't heard beside it, with {sigma:.1f} standard deviations"
+        f" of noise at most, and a pilot has {LEAST:.0f}"
+    )
+
+
+def check_words(words: argparse.ArgumentParser, options: argparse.Namespace) -> None:
+    """Ends with status 2 where options don't go together."""
+    if options.recording.endswith(sigmf.META):
+        if options.type:
+            words.error("--type can't be given with a .sigmf-meta, which tells it")
+    elif options.type is None or options.rate is None:
+        words.error("--type and --rate needed, unless RECORDING is a .sigmf-meta")
+
+
+def centres_of(options: argparse.Namespace, rate: float) -> list[float]:
+    """The centre frequencies that are tried; refuses more than would ever be done."""
+    step = options.search if options.all else options.step or RASTER
+    if rate / step > MOST_CENTRES:
+        raise Refused(
+            f"more than {MOST_CENTRES} centre frequencies: give a greater {'--search' if options.all else '--step'}"
+        )
+    centres = everywhere(rate, options.search) if options.all else raster(rate, step)
+    if len(bins_within(options.search)) * len(TRIES[options.conjugate]) * len(centres) > MOST_CARRIERS:
+        advice = "--step in place of --all" if options.all else "a lesser --search, or a greater --step"
+        raise Refused(f"more than {MOST_CARRIERS:,} carriers round {len(centres):,} centre frequencies: give {advice}")
+    return centres
+
+
+def main(arguments: list[str] | None = None) -> int:
+    """Runs the tool, and answers its exit status."""
+    words = parser()
+    options = words.parse_args(arguments)
+    check_words(words, options)
+    kind, rate, path = recording_told(options)
+    lines = assumed(options, kind, path)
+    if rate < CHIP_RATE:
+        raise Refused(f"{text_of(rate)} samples a second are fewer than the chip rate, {CHIP_RATE}")
+    centres = centres_of(options, float(rate))
+    with with_hints(lines):
+        with Recording(path, kind, float(rate), options.skip) as recording, bar(
+            total=len(centres), text="scan"
+        ) as shown:
+            found = scan(Front(recording), centres, options.search, TRIES[options.conjugate], shown.update)
+        sys.stdout.write("".join(text(seen, options.verbose) for seen in found))
+        if fault := fault_of(found):
+            raise Refused(fault)
+    for line in lines:
+        said(called("scan"), line)
+    return 0

@@ -1,0 +1,40 @@
+"""What the commands that ask a receiver share of their command lines."""
+
+import argparse
+import os
+
+from cdma_tools.arguments import Parser, add_minutes_option
+from cdma_tools.program import add_program_option, find_program
+
+SUFFIX = ".case"
+
+
+def names_in(folder: str) -> list[str]:
+    """The names of the cases in a folder, in order."""
+    return sorted(name[: -len(SUFFIX)] for name in os.listdir(folder) if name.endswith(SUFFIX))
+
+
+def add_options(parser: Parser, made: str, kept: str) -> None:
+    """Adds what names the receiver, the program that makes something, the cases, and a folder that keeps something."""
+    parser.add_argument(
+        "receiver", nargs="?", metavar="PROGRAM", help="the receiver that is asked, else that of --program"
+    )
+    add_program_option(parser)
+    parser.add_argument("--maker", metavar="MAKER", help=f"the program that makes the {made}, else PROGRAM")
+    parser.add_argument("--only", metavar="NAME", action="append", help="this case alone; may be given again")
+    parser.add_argument("--keep", metavar="FOLDER", help=f"keep {kept} in this folder")
+    add_minutes_option(parser)
+    parser.add_argument("--list", action="store_true", help="say what each case is for, and run none")
+
+
+def checked(parser: Parser, arguments: list[str] | None, names: list[str]) -> tuple[argparse.Namespace, list[str]]:
+    """The options, and those of the cases that are asked for; ends the program where an argument is wrong."""
+    options = parser.parse_args(arguments)
+    unknown = [name for name in options.only or [] if name not in names]
+    if unknown:
+        parser.error(f"no case {unknown[0]}: --list has them all")
+    if options.keep and not os.path.isdir(options.keep):
+        parser.error(f"no folder {options.keep}")
+    if not options.list and not getattr(options, "rules", False):
+        options.program = options.receiver or find_program(options.program)
+    return options, options.only or names

@@ -1,0 +1,1 @@
+"""Parts of the command explain, which shows one frame step by step."""

@@ -1,0 +1,507 @@
+"""The lines that the program writes: their fields in one table, and how a line is read and spelled by it.
+
+`SHAPES` has a row for each kind of line. `read_line` makes a dictionary of a line, and `spell_line` the line again:
+
+    read_line("pilot phase=64 energy=1509949440000")
+    {"line": "pilot", "phase": 64, "energy": 1509949440000}
+
+Under "line" stands the line's first word; under "message" the word that tells a paging or traffic message's kind, and
+under "channel" the one that tells where a raw message came from. The fields follow by their names in the line. A number
+is a number; so is LC_STATE, which a line has in hex digits. Bits are the text that the line has, N:HEX. A list of
+numbers is a list, one of records a list of lists, and sixteen power control bits are a list of sixteen numbers: a text
+of digits alone would be taken for a number by whoever reads JSON into a table. A field that may be left out isn't
+there.
+
+What `read_line` takes is just what `spell_line` gives back, byte by byte; any other text is refused.
+"""
+
+import re
+from typing import Any, Callable, Iterable, Iterator, NamedTuple
+
+TIME_NAME = "time_utc"  # under which the objects of a listening have the time of their `at`, besides the line's fields
+MOST_COUNT = 2**64 - 1  # what the program counts in is 64 bits wide
+MOST_EXACT = 2**53  # below it a floating-point number tells each whole number
+MOST_BITS = 8 * 148  # a capsule has at most 148 octets (7.7.1, 7.7.2, 7.7.3)
+RATES = (9_600, 4_800, 2_400, 1_200)  # of rate set 1, in bits a second (7.1.3.5)
+RATES2 = (14_400, 7_200, 3_600, 1_800)  # of rate set 2
+GROUPS = 16  # power control groups of a frame (7.1.3.1.7)
+NUMBER = re.compile(r"0|-?[1-9][0-9]*")
+BITS = re.compile(r"(0|[1-9][0-9]{0,3}):((?:[0-9a-f]{2})*)")
+
+
+class NoLine(ValueError):
+    """Why a text is no line of the program, or an object none of its lines', in words."""
+
+
+class Form(NamedTuple):
+    """How a field's value stands in a line, and what it is in JSON."""
+
+    read: Callable[[str], Any]
+    spell: Callable[[Any], str]
+    text: str
+
+
+class Field(NamedTuple):
+    """A field: its name in the line, its form, and its name in TIA/EIA-95-B or, where it has none, what it is."""
+
+    name: str
+    form: Form
+    meaning: str
+
+
+class Group(NamedTuple):
+    """Fields that stand in a line all or not at all."""
+
+    fields: tuple[Field, ...]
+
+
+class Shape(NamedTuple):
+    """A kind of line: its first word, the fields behind that, and the word that says more, with the fields behind it."""
+
+    line: str
+    head: tuple[Field, ...]
+    word: str | None = None
+    body: tuple[Field | Group, ...] = ()
+
+    @property
+    def key(self) -> str:
+        """Under which name the second word stands in JSON."""
+        return "channel" if self.line == "raw" else "message"
+
+    def fields(self) -> Iterator[Field]:
+        """All fields in their order, those that may be left out among them."""
+        for part in (*self.head, *self.body):
+            yield from part.fields if isinstance(part, Group) else (part,)
+
+
+def whole(value: Any) -> int:
+    """A whole number of JSON, where 7.0 is one: tables with empty cells have no others.
+
+    From 2^53 on such a number may be a rounded one, so it is none.
+    """
+    if isinstance(value, float) and value.is_integer() and abs(value) < MOST_EXACT:
+        value = int(value)
+    if isinstance(value, bool) or not isinstance(value, int):
+        raise NoLine(f"{value!r} is no whole number")
+    return value
+
+
+def within(value: int, least: int, most: int) -> int:
+    """The number, where it is in its bounds."""
+    if not least <= value <= most:
+        raise NoLine(f"{value} isn't {least} to {most}")
+    return value
+
+
+def read_number(text: str) -> int:
+    """A decimal number without leading zeros."""
+    if not NUMBER.fullmatch(text) or len(text) > 20:
+        raise NoLine(f"{text[:30]!r} is no number")
+    return int(text)
+
+
+def number(most: int, least: int = 0, text: str = "") -> Form:
+    """A decimal number in bounds."""
+
+    def read(given: str) -> int:
+        return within(read_number(given), least, most)
+
+    return Form(read, lambda value: str(within(whole(value), least, most)), text or f"{least:,} to {most:,}")
+
+
+def field_of(width: int) -> Form:
+    """A number of so many bits."""
+    return number(2**width - 1, text=f"{width} bits" if width > 1 else "1 bit")
+
+
+def one_of(numbers: tuple[int, ...]) -> Form:
+    """A number among a few."""
+
+    def among(value: int) -> int:
+        if value not in numbers:
+            raise NoLine(f"{value} is none of {', '.join(map(str, numbers))}")
+        return value
+
+    text = f"{', '.join(map(str, numbers[:-1]))} or {numbers[-1]}"
+    return Form(lambda given: among(read_number(given)), lambda value: str(among(whole(value))), text)
+
+
+def hexadecimal(digits: int, width: int) -> Form:
+    """A number of so many bits, in the line as so many lower-case hex digits."""
+    shape = re.compile(f"[0-9a-f]{{{digits}}}")
+
+    def read(given: str) -> int:
+        if not shape.fullmatch(given):
+            raise NoLine(f"{given[:30]!r} isn't {digits} lower-case hex digits")
+        return within(int(given, 16), 0, 2**width - 1)
+
+    def spell(value: Any) -> str:
+        return f"{within(whole(value), 0, 2**width - 1):0{digits}x}"
+
+    return Form(read, spell, f"{width} bits, in the line {digits} hex digits")
+
+
+def check_bits(given: Any) -> str:
+    """Bits as N:HEX: two digits for each octet of them, and zeros that pad the last one."""
+    match = BITS.fullmatch(given) if isinstance(given, str) else None
+    if not match:
+        raise NoLine(f"{str(given)[:30]!r} isn't bits as N:HEX")
+    count, digits = int(match[1]), match[2]
+    padding = 4 * len(digits) - count
+    if count > MOST_BITS or not 0 <= padding < 8 or int(digits or "0", 16) & ((1 << padding) - 1):
+        raise NoLine(f"{given[:30]!r} hasn't just its digits and zeros behind its bits")
+    return given
+
+
+def commands() -> Form:
+    """Power control bits, one digit each."""
+
+    def read(given: str) -> list[int]:
+        if len(given) != GROUPS or set(given) - {"0", "1"}:
+            raise NoLine(f"{given[:30]!r} isn't {GROUPS} digits 0 or 1")
+        return [int(digit) for digit in given]
+
+    def spell(value: Any) -> str:
+        if not isinstance(value, list) or len(value) != GROUPS:
+            raise NoLine(f"{str(value)[:60]!r} is no list of {GROUPS}")
+        return "".join(str(within(whole(bit), 0, 1)) for bit in value)
+
+    return Form(read, spell, f"list of {GROUPS} numbers 0 or 1")
+
+
+def spelled_list(value: Any, spell: Callable[[Any], str]) -> str:
+    """The things of a list, joined by commas."""
+    if not isinstance(value, list):
+        raise NoLine(f"{str(value)[:60]!r} is no list")
+    return ",".join(spell(thing) for thing in value)
+
+
+def numbers(form: Form) -> Form:
+    """A list of numbers, which may be empty."""
+
+    def read(given: str) -> list[int]:
+        return [form.read(part) for part in given.split(",")] if given else []
+
+    return Form(read, lambda value: spelled_list(value, form.spell), f"list of numbers of {form.text}")
+
+
+def records(*forms: Form) -> Form:
+    """A list of records, which may be empty; each has so many numbers, parted by / in the line."""
+
+    def read_record(given: str) -> list[int]:
+        parts = given.split("/")
+        if len(parts) != len(forms):
+            raise NoLine(f"{given[:30]!r} hasn't {len(forms)} numbers")
+        return [form.read(part) for form, part in zip(forms, parts)]
+
+    def spell_record(value: Any) -> str:
+        if not isinstance(value, list) or len(value) != len(forms):
+            raise NoLine(f"{str(value)[:60]!r} is no list of {len(forms)}")
+        return "/".join(form.spell(part) for form, part in zip(forms, value))
+
+    def read(given: str) -> list[list[int]]:
+        return [read_record(part) for part in given.split(",")] if given else []
+
+    text = f"list of lists of {len(forms)} numbers of {', '.join(form.text for form in forms)}"
+    return Form(read, lambda value: spelled_list(value, spell_record), text)
+
+
+COUNT = number(MOST_COUNT, text="whole number")
+OFFSET, ROW = field_of(9), field_of(8)
+BIT_TEXT = Form(check_bits, check_bits, "text N:HEX")
+AT = Field("at", COUNT, "the number of samples at which it was known")
+REST = Field("rest", BIT_TEXT, "the bits behind the fields")
+BARE = Field("bits", BIT_TEXT, "the whole capsule")  # the one field that has no name in its line
+PN, SEQ = Field("pn", OFFSET, "PILOT_PN"), Field("seq", field_of(6), "CONFIG_MSG_SEQ")
+SID, NID = Field("sid", field_of(15), "SID"), Field("nid", field_of(16), "NID")
+WINDOWS = {name: Field(f"win{name}", field_of(4), f"SRCH_WIN_{name.upper()}") for name in "anr"}
+T_ADD, T_DROP = Field("tadd", field_of(6), "T_ADD"), Field("tdrop", field_of(6), "T_DROP")
+T_COMP, T_TDROP = Field("tcomp", field_of(4), "T_COMP"), Field("ttdrop", field_of(4), "T_TDROP")
+MAX_AGE = Field("age", field_of(4), "NGHBR_MAX_AGE")
+INCREMENT = Field("inc", field_of(4), "PILOT_INC")
+TYPE = Field("type", field_of(8), "MSG_TYPE")
+SYNC_FIELDS = (  # 7.7.1.3
+    Field("prev", field_of(8), "P_REV"),
+    Field("min", field_of(8), "MIN_P_REV"),
+    SID,
+    NID,
+    PN,
+    Field("lc", hexadecimal(11, 42), "LC_STATE"),
+    Field("time", field_of(36), "SYS_TIME"),
+    Field("lp", field_of(8), "LP_SEC"),
+    Field("ltm", field_of(6), "LTM_OFF"),
+    Field("daylt", field_of(1), "DAYLT"),
+    Field("prat", field_of(2), "PRAT"),
+)
+SYSTEM_FIELDS = (  # 7.7.2.3.2.1
+    PN,
+    SEQ,
+    SID,
+    NID,
+    Field("zone", field_of(12), "REG_ZONE"),
+    Field("zones", field_of(3), "TOTAL_ZONES"),
+    Field("ztimer", field_of(3), "ZONE_TIMER"),
+    Field("msids", field_of(1), "MULT_SIDS"),
+    Field("mnids", field_of(1), "MULT_NIDS"),
+    Field("base", field_of(16), "BASE_ID"),
+    Field("bclass", field_of(4), "BASE_CLASS"),
+    Field("pages", field_of(3), "PAGE_CHAN"),
+    Field("cycle", field_of(3), "MAX_SLOT_CYCLE_INDEX"),
+    Field("home", field_of(1), "HOME_REG"),
+    Field("fsid", field_of(1), "FOR_SID_REG"),
+    Field("fnid", field_of(1), "FOR_NID_REG"),
+    Field("up", field_of(1), "POWER_UP_REG"),
+    Field("down", field_of(1), "POWER_DOWN_REG"),
+    Field("param", field_of(1), "PARAMETER_REG"),
+    Field("prd", field_of(7), "REG_PRD"),
+    Field("lat", field_of(22), "BASE_LAT"),
+    Field("long", field_of(23), "BASE_LONG"),
+    Field("dist", field_of(11), "REG_DIST"),
+    WINDOWS["a"],
+    WINDOWS["n"],
+    WINDOWS["r"],
+    MAX_AGE,
+    Field("pthresh", field_of(5), "PWR_REP_THRESH"),
+    Field("pframes", field_of(4), "PWR_REP_FRAMES"),
+    Field("pthen", field_of(1), "PWR_THRESH_ENABLE"),
+    Field("pperen", field_of(1), "PWR_PERIOD_ENABLE"),
+    Field("pdelay", field_of(5), "PWR_REP_DELAY"),
+    Field("rescan", field_of(1), "RESCAN"),
+    T_ADD,
+    T_DROP,
+    T_COMP,
+    T_TDROP,
+)
+HEAD_FIELDS = (  # 7.7.3.2.1
+    Field("ack", field_of(3), "ACK_SEQ"),
+    Field("seq", field_of(3), "MSG_SEQ"),
+    Field("req", field_of(1), "ACK_REQ"),
+    Field("enc", field_of(2), "ENCRYPTION"),
+)
+IN_TRAFFIC_FIELDS = (SID, NID, *WINDOWS.values(), T_ADD, T_DROP, T_COMP, T_TDROP, MAX_AGE)  # 7.7.3.3.2.7
+TIME_FIELDS = (  # 7.7.3.3.2.17
+    Field("use", field_of(1), "USE_TIME"),
+    Field("action", field_of(6), "ACTION_TIME"),
+    Field("hdm", field_of(2), "HDM_SEQ"),
+)
+SEARCH_FIELDS = (WINDOWS["a"], T_ADD, T_DROP, T_COMP, T_TDROP)
+MOMENT = Field("time", COUNT, "its time in units of 80 ms")
+
+
+def frame(line: str, rates: tuple[int, ...]) -> Shape:
+    """The line of a frame of a traffic channel."""
+    told = (
+        Field("rate", one_of(rates), "its rate in bits a second"),
+        Field("good", field_of(1), "1 where it is good"),
+        Field("bits", BIT_TEXT, "its information bits"),
+        Field("commands", commands(), "its power control bits"),
+    )
+    return Shape(line, (Field("at", COUNT, "the number of samples at which it ended"), *told))
+
+
+def counts(*named: tuple[str, str]) -> tuple[Field, ...]:
+    """Fields that are whole numbers."""
+    return tuple(Field(name, COUNT, meaning) for name, meaning in named)
+
+
+SHAPES = (
+    Shape("pilot", (Field("phase", field_of(15), "the best phase"), Field("energy", COUNT, "its energy"))),
+    Shape(
+        "survey",
+        (
+            Field("pn", OFFSET, "the pilot's offset"),
+            Field("delta", number(31, -31), "how many chips above its own phase it was found"),
+            Field("energy", COUNT, "its energy there"),
+        ),
+    ),
+    Shape("sync", (AT, *SYNC_FIELDS), None, (Group((Field("freq", field_of(11), "CDMA_FREQ"),)), REST)),
+    Shape("paging", (AT,), "system", (*SYSTEM_FIELDS, REST)),
+    Shape(
+        "paging",
+        (AT,),
+        "neighbors",
+        (PN, SEQ, INCREMENT, Field("pilots", records(field_of(3), OFFSET), "NGHBR_CONFIG and NGHBR_PN"), REST),
+    ),
+    Shape("paging", (AT,), "channels", (PN, SEQ, Field("freqs", numbers(field_of(11)), "CDMA_FREQ"), REST)),
+    Shape("paging", (AT,), "other", (TYPE, Field("bits", BIT_TEXT, "the bits behind the type"))),
+    Shape(
+        "slot",
+        (
+            Field("at", COUNT, "the number of samples at which it ended"),
+            MOMENT,
+            Field("messages", field_of(16), "how many messages are in it"),
+        ),
+    ),
+    frame("frame", RATES),
+    frame("frame2", RATES2),
+    Shape("traffic", (AT, *HEAD_FIELDS), "system", (*IN_TRAFFIC_FIELDS, REST)),
+    Shape(
+        "traffic",
+        (AT, *HEAD_FIELDS),
+        "neighbors",
+        (INCREMENT, Field("pilots", numbers(OFFSET), "NGHBR_PN"), REST),
+    ),
+    Shape(
+        "traffic",
+        (AT, *HEAD_FIELDS),
+        "handoff",
+        (
+            *TIME_FIELDS,
+            Group(SEARCH_FIELDS),
+            Field("extra", BIT_TEXT, "the octets that ADD_LENGTH counts"),
+            Field("records", records(OFFSET, ROW, field_of(1)), "PILOT_PN, CODE_CHAN and PWR_COMB_IND"),
+            REST,
+        ),
+    ),
+    Shape("traffic", (AT, *HEAD_FIELDS), "other", (TYPE, Field("bits", BIT_TEXT, "the bits behind the head"))),
+    Shape(
+        "sets",
+        (
+            Field("at", COUNT, "the sample at which the moment lies"),
+            MOMENT,
+            Field(
+                "active",
+                records(OFFSET, ROW, field_of(3)),
+                "the active set: offset, Walsh row and power control subchannel of each pilot",
+            ),
+            Field("candidate", numbers(OFFSET), "the candidate set's offsets"),
+            Field("report", field_of(1), "1 where a report is due"),
+        ),
+    ),
+    *(Shape("raw", (AT,), channel, (BARE,)) for channel in ("sync", "paging", "traffic")),
+    Shape(
+        "trial",
+        counts(("number", "the link's number"), ("samples", "how many samples it has"))
+        + (Field("phase", field_of(15), "the best phase of the first 2,048 of them"),)
+        + counts(("syncs", "messages of the sync channel"), ("pagings", "messages of the paging channel"))
+        + counts(("frames", "frames of the traffic channel"), ("good", "how many of them are good")),
+    ),
+)
+BY_WORDS = {(shape.line, shape.word): shape for shape in SHAPES}
+FIRST = {shape.line: shape for shape in reversed(SHAPES)}
+
+
+class Tokens:
+    """The words of a line behind its first one, taken from left to right."""
+
+    def __init__(self, words: list[str]) -> None:
+        self.words, self.place = words, 0
+
+    def peek(self) -> str:
+        """The next word, empty where there is none."""
+        return self.words[self.place] if self.place < len(self.words) else ""
+
+    def take(self) -> str:
+        """The next word, which is behind us then."""
+        word = self.peek()
+        self.place += 1
+        return word
+
+    def take_field(self, field: Field, into: dict[str, Any]) -> None:
+        """Reads a field's value."""
+        word = self.take()
+        if field is BARE:
+            into[field.name] = field.form.read(word)
+            return
+        name, separator, value = word.partition("=")
+        if name != field.name or not separator:
+            raise NoLine(f"{word[:30]!r} stands where {field.name}= should")
+        try:
+            into[field.name] = field.form.read(value)
+        except NoLine as why:
+            raise NoLine(f"{field.name}: {why}") from None
+
+    def take_part(self, part: Field | Group, into: dict[str, Any]) -> None:
+        """Reads a field, or the fields of a group where the first of them is there."""
+        if isinstance(part, Field):
+            self.take_field(part, into)
+        elif self.peek().startswith(part.fields[0].name + "="):
+            for field in part.fields:
+                self.take_field(field, into)
+
+
+def read_line(text: str) -> dict[str, Any]:
+    """The object of a line, which has no line feed; `NoLine` where it is no line of the program.
+
+    The object's keys stand in the order of the line.
+    """
+    first, *words = text.split(" ")
+    if first not in FIRST:
+        raise NoLine(f"{first[:30]!r} begins no line")
+    tokens, shape = Tokens(words), FIRST[first]
+    read: dict[str, Any] = {"line": first}
+    for field in shape.head:
+        tokens.take_field(field, read)
+    if shape.word is not None:
+        word = tokens.take()
+        if (first, word) not in BY_WORDS:
+            raise NoLine(f"{word[:30]!r} names no kind of {first}")
+        shape = BY_WORDS[first, word]
+        read[shape.key] = word
+    for part in shape.body:
+        tokens.take_part(part, read)
+    if tokens.place != len(words):
+        raise NoLine(f"{tokens.peek()[:30]!r} stands behind the last field" if tokens.peek() else "a space too many")
+    return read
+
+
+def shape_of(given: dict[str, Any]) -> Shape:
+    """The kind of line of which this is the object."""
+    line = given.get("line")
+    if not isinstance(line, str) or line not in FIRST:
+        raise NoLine(f"line: {line!r} begins no line")
+    shape = FIRST[line]
+    if shape.word is None:
+        return shape
+    word = given.get(shape.key)
+    if not isinstance(word, str) or (line, word) not in BY_WORDS:
+        raise NoLine(f"{shape.key}: {word!r} names no kind of {line}")
+    return BY_WORDS[line, word]
+
+
+def spell_field(field: Field, given: dict[str, Any]) -> str:
+    """A field as it stands in the line, with a space before it."""
+    if field.name not in given:
+        raise NoLine(f"no {field.name}")
+    try:
+        value = field.form.spell(given[field.name])
+    except NoLine as why:
+        raise NoLine(f"{field.name}: {why}") from None
+    return f" {value}" if field is BARE else f" {field.name}={value}"
+
+
+def spell_part(part: Field | Group, given: dict[str, Any]) -> str:
+    """A field, or the fields of a group where one of them is there."""
+    if isinstance(part, Field):
+        return spell_field(part, given)
+    if not any(field.name in given for field in part.fields):
+        return ""
+    return "".join(spell_field(field, given) for field in part.fields)
+
+
+def spell_line(given: dict[str, Any]) -> str:
+    """The line of an object, without a line feed; `NoLine` where it is the object of none.
+
+    Its keys may stand in any order. One whose value is None counts as left out, as tables write it; so does the time
+    that a listening adds.
+    """
+    given = {name: value for name, value in given.items() if value is not None and name != TIME_NAME}
+    shape = shape_of(given)
+    known = {"line"} | {field.name for field in shape.fields()} | ({shape.key} if shape.word else set())
+    if unknown := [name for name in given if name not in known]:
+        raise NoLine(f"a line of {shape.line} has no {unknown[0][:30]!r}")
+    text = shape.line + "".join(spell_field(field, given) for field in shape.head)
+    if shape.word is not None:
+        text += f" {shape.word}"
+    return text + "".join(spell_part(part, given) for part in shape.body)
+
+
+def table_rows() -> Iterable[str]:
+    """The table as docs/FORMATS.md has it: a row a field, for each kind of line."""
+    yield "| Line | Field | Is | JSON |"
+    yield "|---|---|---|---|"
+    for shape in SHAPES:
+        name = f"`{shape.line} {shape.word}`" if shape.word else f"`{shape.line}`"
+        for field in shape.fields():
+            yield f"| {name} | `{field.name}` | {field.meaning} | {field.form.text} |"
+            name = ""

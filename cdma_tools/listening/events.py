@@ -1,0 +1,68 @@
+"""What is heard: lines of the program with the chip at which each was known, and remarks about the recording."""
+
+import re
+from dataclasses import dataclass
+from typing import Protocol
+
+AT = re.compile(r" at=(\d+)")
+
+
+@dataclass(frozen=True)
+class Event:
+    """A line that a run told, and the number of the chip at which it was known.
+
+    A line that has no `at`, as that of the pilot, was known at the first chip of its run.
+    """
+
+    chip: int
+    line: str
+
+    @property
+    def kind(self) -> str:
+        """The line's first word."""
+        return self.line.split(" ", 1)[0]
+
+    def counted_from(self, origin: int) -> str:
+        """The line with its `at` counted from a chip on."""
+        return AT.sub(f" at={self.chip - origin}", self.line, count=1)
+
+
+@dataclass(frozen=True)
+class Remark:
+    """What else a user should know, and the second of the recording at which it was so."""
+
+    seconds: float
+    text: str
+
+
+class Listener(Protocol):
+    """Who is told what is heard."""
+
+    def begin(self, origin: int) -> None:
+        """Takes the number of the chip at the stream's start, before any line."""
+
+    def event(self, event: Event) -> None:
+        """Takes a line, in the order of lines."""
+
+    def remark(self, remark: Remark) -> None:
+        """Takes a remark."""
+
+
+class Collected:
+    """A listener that keeps what it is told."""
+
+    def __init__(self) -> None:
+        """Nothing was told."""
+        self.events: list[Event] = []
+        self.remarks: list[Remark] = []
+
+    def begin(self, origin: int) -> None:
+        """Lines are kept with the numbers that they have."""
+
+    def event(self, event: Event) -> None:
+        """Keeps a line."""
+        self.events.append(event)
+
+    def remark(self, remark: Remark) -> None:
+        """Keeps a remark."""
+        self.remarks.append(remark)

@@ -1,0 +1,188 @@
+"""One run of the program's `follow`, fed with chips as they come."""
+
+import contextlib
+import queue
+import re
+import subprocess
+import tempfile
+import threading
+from dataclasses import dataclass, replace
+
+from cdma_tools.errors import Refused
+from cdma_tools.lines import NoLine, read_line
+from cdma_tools.listening.events import AT, Event
+from cdma_tools.listening.pieces import Chips
+from cdma_tools.sample_header import MOST_CHIPS, header
+
+VERSION = 1
+# Chips that a run can take: as many as its file may have.
+MOST = MOST_CHIPS[VERSION]
+# The program's statuses where it read all that it was given: 1 says that no sync message was heard, and 3 that fewer
+# samples came than the header tells, which is so of every stream.
+READ_ALL = (0, 1, 3)
+LARGEST_COUNT = 4_294_967_295
+# The line that tells the phase of the code at a run's first chip, by the pilot that it heard.
+PILOT = re.compile(r"pilot phase=(\d+) ")
+
+
+@dataclass(frozen=True)
+class Handset:
+    """What is followed: the arguments of `follow`, and the flags of its file."""
+
+    program: str
+    fingers: int = 1
+    paging: int = 1
+    esn: str | None = None
+    row: int | None = None
+    offset: int = 0
+    is_raw: bool = False  # whether messages are told as they came, too
+    flags: int = 0
+
+    def on_row(self, row: int | None) -> "Handset":
+        """The same handset with its traffic channel on another row."""
+        return replace(self, row=row)
+
+    def command(self) -> list[str]:
+        """The command that follows it."""
+        arguments = [self.program, "follow", "--workers", "1"]
+        arguments += ["--fingers", str(self.fingers), "--paging", str(self.paging)]
+        if self.esn is not None and self.row is not None:
+            arguments += ["--esn", self.esn, "--row", str(self.row), "--offset", str(self.offset)]
+        return arguments + (["--raw", str(LARGEST_COUNT)] if self.is_raw else [])
+
+
+@dataclass(frozen=True)
+class Sets:
+    """The pilot sets as a run's last line told them: offset and row of each active pilot, and the candidates."""
+
+    active: tuple[tuple[int, int], ...] = ()
+    candidates: tuple[int, ...] = ()
+
+
+class FollowRun:
+    """A process that follows a handset through chips from number `begin` on."""
+
+    def __init__(self, handset: Handset, begin: int) -> None:
+        """Starts it, with a header for as many samples as a file may have; refuses where that can't be."""
+        self.handset, self.begin, self.end = handset, begin, begin
+        self.told: list[Event] = []  # lines that came and weren't taken yet
+        self.sets: list[tuple[int, Sets]] = []
+        self.last: int | None = None  # the chip of the last line that came
+        self.phase: int | None = None  # of the code at its first chip, as it told it; None once that was looked at
+        self.said = tempfile.TemporaryFile()
+        try:
+            self.process = subprocess.Popen(
+                handset.command(), stdin=subprocess.PIPE, stdout=subprocess.PIPE, stderr=self.said
+            )
+        except OSError as why:
+            self.said.close()
+            raise Refused(f"{handset.program}: {why.strerror}") from None
+        self.lines: queue.SimpleQueue[bytes | None] = queue.SimpleQueue()
+        self.reader = threading.Thread(target=self.read, daemon=True)
+        self.reader.start()
+        try:
+            self.write(header(VERSION, handset.flags, MOST))
+        except Refused:
+            self.kill()
+            raise
+
+    def read(self) -> None:
+        """Passes on the lines as they come, and at the end that there are no more; runs in a thread of its own."""
+        assert self.process.stdout is not None
+        with contextlib.suppress(ValueError, OSError):  # it was closed meanwhile
+            for line in self.process.stdout:
+                self.lines.put(line)
+        self.lines.put(None)
+
+    def write(self, data: bytes) -> None:
+        """Gives bytes to the process; refuses where it has ended."""
+        assert self.process.stdin is not None
+        try:
+            self.process.stdin.write(data)
+            self.process.stdin.flush()
+        except BrokenPipeError:
+            raise Refused(self.why()) from None
+
+    def why(self) -> str:
+        """Why the process has ended, in words."""
+        status = self.process.wait()
+        self.said.seek(0)
+        said = self.said.read(1_000).decode(errors="replace").strip()
+        return f"{self.handset.program} follow ended with status {status}: {said or 'it said nothing'}"
+
+    def feed(self, chips: Chips) -> None:
+        """Gives it chips; those that it has already, and those that its file can't hold any more, are left out."""
+        low, high = self.end - chips.first, min(chips.end, self.begin + MOST) - chips.first
+        if low < high:
+            self.write(chips.parts[4 * low : 4 * high])
+            self.end = chips.first + high
+
+    def poll(self) -> None:
+        """Takes the lines that are there."""
+        with contextlib.suppress(queue.Empty):
+            while self.take(self.lines.get_nowait()):
+                pass
+
+    def wait_past(self, chip: int, seconds: float) -> None:
+        """Takes lines until one that was known after a chip has come, or none has come for so many seconds."""
+        with contextlib.suppress(queue.Empty):
+            while self.last is None or self.last <= chip:
+                if not self.take(self.lines.get(timeout=seconds)):
+                    return
+
+    def take(self, line: bytes | None) -> bool:
+        """Takes a line; False at the end."""
+        if line is None:
+            self.lines.put(None)
+            return False
+        text = line.decode("ascii", "replace").rstrip("\n")
+        found = AT.search(text)
+        chip = self.begin + (int(found[1]) if found else 0)
+        self.told.append(Event(chip, text))
+        self.last = chip
+        if pilot := PILOT.match(text):
+            self.phase = int(pilot[1])
+        if text.startswith("sets "):
+            self.sets.append((chip, sets_of(text)))
+        return True
+
+    def sets_at(self, chip: int) -> Sets | None:
+        """The pilot sets as they were at a chip, where a line has told them."""
+        return next((sets for at, sets in reversed(self.sets) if at <= chip), None)
+
+    def close(self) -> None:
+        """Gives it no more chips, and takes all that is left to say; refuses where it didn't end well."""
+        assert self.process.stdin is not None
+        with contextlib.suppress(BrokenPipeError):
+            self.process.stdin.close()
+        while self.take(self.lines.get()):
+            pass
+        if self.process.wait() not in READ_ALL:
+            raise Refused(self.why())
+        self.release()
+
+    def kill(self) -> None:
+        """Ends it without hearing more of it."""
+        self.process.kill()
+        self.process.wait()
+        with contextlib.suppress(OSError):
+            assert self.process.stdin is not None
+            self.process.stdin.close()
+        self.reader.join()
+        self.release()
+
+    def release(self) -> None:
+        """Gives back what it holds."""
+        self.reader.join()
+        assert self.process.stdout is not None
+        self.process.stdout.close()
+        self.said.close()
+
+
+def sets_of(text: str) -> Sets:
+    """The pilot sets of a line that tells them."""
+    try:
+        read = read_line(text)
+    except NoLine as why:
+        raise Refused(f"a line of the program is none: {why}: {text[:60]!r}") from None
+    return Sets(tuple((pn, row) for pn, row, _ in read["active"]), tuple(read["candidate"]))

@@ -1,0 +1,98 @@
+"""Lines of one recording: counted from its start, as text or as JSON, whole lines at a time."""
+
+import json
+import sys
+from collections import Counter
+from collections.abc import Callable
+from dataclasses import dataclass, field
+
+from cdma_tools.arguments import called
+from cdma_tools.errors import Refused, said
+from cdma_tools.lines import TIME_NAME, NoLine, read_line
+from cdma_tools.listening.events import AT, Event, Remark
+from cdma_tools.listening.system_time import SystemTime, time_told
+
+# What each of the options that count hears, by the first words of lines.
+TAPS = {
+    "pilots": ("pilot", "sets"),
+    "messages": ("sync", "paging", "traffic"),
+    "frames": ("frame",),
+    "raw": ("raw",),
+}
+TAP_OF = {kind: tap for tap, kinds in TAPS.items() for kind in kinds}
+
+Write = Callable[[bytes], None]
+
+
+@dataclass
+class Already:
+    """What was written before by a listening that was broken off."""
+
+    counts: Counter[str] = field(default_factory=Counter)  # lines by their option
+    at: int | None = None  # of the last line that has one
+    same: Counter[str] = field(default_factory=Counter)  # lines with that `at`, by their option
+    unplaced: int = 0  # lines without one after it
+    times: dict[int, int] = field(default_factory=dict)  # of sync messages: `at` by SYS_TIME
+    offset: int | None = None  # PILOT_PN as the last of them told it
+    sets: list[Event] = field(default_factory=list)  # lines that tell pilot sets, by `at`
+
+    @property
+    def lines(self) -> int:
+        """How many there are."""
+        return self.counts.total()
+
+    def stands(self, event: Event, origin: int, tap: str) -> bool:
+        """Whether a line stands there; asked once for each line of the recording, in their order."""
+        at = event.chip - origin
+        if AT.search(event.line):
+            if self.at is None or at > self.at:
+                return False
+            self.same[tap] -= at == self.at
+            return at < self.at or self.same[tap] >= 0
+        if self.at is not None and at <= self.at:
+            return True
+        self.unplaced -= 1
+        return self.unplaced >= 0
+
+
+class LineWriter:
+    """A listener that writes lines, each counted from the chip at the recording's start."""
+
+    def __init__(self, write: Write, is_json: bool, most: dict[str, int], already: Already | None = None) -> None:
+        """Writes lines by `write`, and of each option of TAPS at most so many; lines that stand there count."""
+        self.write, self.is_json, self.most = write, is_json, most
+        self.already = already or Already()
+        self.counts = Counter(self.already.counts)
+        self.origin = 0
+        self.time: SystemTime | None = None
+
+    def begin(self, origin: int) -> None:
+        """Takes the number of the chip from which lines count."""
+        self.origin = origin
+
+    def event(self, event: Event) -> None:
+        """Writes a line, where its option hears so many and it doesn't stand there already."""
+        if time := time_told(event):
+            self.time = time
+        tap = TAP_OF.get(event.kind)
+        if tap is None or self.already.stands(event, self.origin, tap):
+            return
+        if self.counts[tap] >= self.most.get(tap, sys.maxsize):
+            return
+        self.counts[tap] += 1
+        text = event.counted_from(self.origin)
+        self.write(((self.as_json(event, text) if self.is_json else text) + "\n").encode("ascii"))
+
+    def as_json(self, event: Event, text: str) -> str:
+        """The object of a line, with its time in UTC where it is known."""
+        try:
+            read = read_line(text)
+        except NoLine as why:
+            raise Refused(f"a line of the program is none: {why}: {text[:60]!r}") from None
+        if self.time is not None and "at" in read:
+            read[TIME_NAME] = self.time.utc(event.chip)
+        return json.dumps(read, separators=(",", ":"))
+
+    def remark(self, remark: Remark) -> None:
+        """Says a remark on standard error."""
+        said(called("listen"), f"at {remark.seconds:.4f} s: {remark.text}")

@@ -1,0 +1,149 @@
+"""Listening: a stream of samples through the lock and the runs of `follow`, to lines."""
+
+from collections.abc import Sequence
+from dataclasses import dataclass
+
+from cdma_tools.listening.events import Listener, Remark
+from cdma_tools.listening.follow_run import Handset
+from cdma_tools.listening.pieces import Break, Chips, Lost, Piece, Unheard
+from cdma_tools.listening.relay import Relay
+from cdma_tools.listening.seams import OVERLAP
+from cdma_tools.listening.stream_lock import LockOptions, StreamLock
+from cdma_tools.radio.air import CHIP_RATE, PERIOD
+
+# Seconds without a pilot from one remark on it to the next, and from one anchor to the next.
+SILENCE, ANCHORS = 60.0, 1.0
+# Chips by which a clock may go astray while the pilot fades.
+MOST_ASTRAY = 4
+
+
+@dataclass(frozen=True)
+class Anchor:
+    """A chip's nominal time in the stream, in chips."""
+
+    time: float
+    chip: float
+
+
+class Silence:
+    """Seconds without a pilot, told once a minute."""
+
+    def __init__(self) -> None:
+        """A pilot is heard."""
+        self.begin: float | None = None
+        self.told = self.end = 0.0
+
+    def add(self, begin: float, end: float) -> Remark | None:
+        """Takes seconds in which no pilot stands out, and makes a remark of them now and then."""
+        self.end = end
+        if self.begin is None:
+            self.begin = self.told = begin
+            return Remark(begin, "no pilot stands out from here on; of each 2.4 s half are searched, and half left out")
+        if end - self.told < SILENCE:
+            return None
+        self.told = end
+        return Remark(end, f"no pilot has stood out for {end - self.begin:.0f} s")
+
+    def stop(self) -> None:
+        """A pilot is heard again."""
+        self.begin = None
+
+
+class Listening:
+    """What listens to one stream."""
+
+    def __init__(
+        self,
+        options: LockOptions,
+        handset: Handset,
+        listener: Listener,
+        since: float = 0.0,
+        overlap: int = OVERLAP,
+        seams: Sequence[int] = (),
+    ) -> None:
+        """Nothing has come yet. Runs begin `since` seconds after the stream's start, and seams are wanted at chips
+        counted from there."""
+        self.lock, self.handset, self.listener = StreamLock(options), handset, listener
+        self.since, self.overlap, self.seams = since, overlap, seams
+        self.relay: Relay | None = None
+        self.anchors: list[Anchor] = []
+        self.silence = Silence()
+        self.is_heard = False  # whether a pilot was
+
+    @property
+    def origin(self) -> int:
+        """The number of the chip at the stream's start; 0 as long as no pilot was heard."""
+        return self.lock.origin or 0
+
+    def feed(self, data: bytes) -> None:
+        """Takes some bytes of the stream, and tells what is heard."""
+        for piece in self.lock.feed(data):
+            self.take(piece)
+        if self.relay is not None:
+            self.relay.poll()
+
+    def skip(self, samples: int) -> None:
+        """Takes note that so many samples of the stream won't come."""
+        for piece in self.lock.skip(samples):
+            self.take(piece)
+
+    def finish(self) -> None:
+        """The stream has ended: tells what is left."""
+        for piece in self.lock.finish():
+            self.take(piece)
+        if self.relay is not None:
+            self.relay.finish()
+        if self.lock.cut:
+            self.say(self.lock.seconds, f"{self.lock.cut} parts were cut at the ends of the range: by bursts")
+        if self.lock.ring.damaged:
+            self.say(self.lock.seconds, f"{self.lock.ring.damaged} parts of samples weren't finite, and count as 0")
+
+    def kill(self) -> None:
+        """Ends all that is running."""
+        if self.relay is not None:
+            self.relay.kill()
+
+    def say(self, seconds: float, text: str) -> None:
+        """Makes a remark."""
+        self.listener.remark(Remark(seconds, text))
+
+    def take(self, piece: Piece) -> None:
+        """Takes what comes out of the lock."""
+        if isinstance(piece, Unheard):
+            if remark := self.silence.add(piece.begin, piece.end):
+                self.listener.remark(remark)
+            return
+        self.silence.stop()
+        self.is_heard = True
+        if isinstance(piece, Chips):
+            self.take_chips(piece)
+        elif isinstance(piece, Lost):
+            self.take_loss(piece)
+        elif isinstance(piece, Break):
+            self.say(piece.seconds, "the pilot was away, and is heard again from here on: a new run begins")
+            if self.relay is not None:
+                self.relay.break_off()
+
+    def take_loss(self, lost: Lost) -> None:
+        """Gives zeros to the runs, and says so, unless the loss is that of a clock while nothing was heard."""
+        if lost.chips > MOST_ASTRAY:
+            self.say(
+                lost.seconds,
+                f"samples were lost: zeros stand for {lost.chips} chips; a loss of {PERIOD} more, or of a multiple,"
+                " would look the same until the next sync message",
+            )
+        if self.relay is not None:
+            self.relay.feed_zeros(lost.chips)
+
+    def take_chips(self, chips: Chips) -> None:
+        """Gives chips to the runs, and keeps an anchor of them now and then."""
+        time, chip = self.lock.instant()
+        if not self.anchors or time - self.anchors[-1].time >= ANCHORS * CHIP_RATE:
+            self.anchors.append(Anchor(time, chip))
+        if self.relay is None:
+            if chips.first - self.origin < self.since * CHIP_RATE:
+                return
+            self.listener.begin(self.origin)
+            seams = [self.origin + seam for seam in self.seams]
+            self.relay = Relay(self.handset, self.listener, self.origin, self.overlap, seams)
+        self.relay.feed(chips)

@@ -1,0 +1,248 @@
+"""A recording in parts, which are listened to by themselves, and their lines as those of one recording.
+
+Part k owns the lines from its beginning to the next part's. It is locked from up to a minute before, and a little
+longer than it lasts. Its chips have numbers of their own, which differ from those of the part before by a multiple of
+the code's period: the time that both parts give to a chip tells by which. So the parts, and what is heard in them, are
+the same whether one process does them or many.
+
+A part's traffic channel begins on the row that the part before tells. Parts begin before that is known, on the row that
+is given; where it turns out to be another one at the part's beginning, the part is listened to again.
+"""
+
+import math
+from bisect import bisect_right
+from collections.abc import Iterator
+from dataclasses import dataclass, replace
+
+from cdma_tools.listening.events import Collected, Event, Remark
+from cdma_tools.listening.follow_run import Handset, sets_of
+from cdma_tools.listening.listening import Anchor, Listening
+from cdma_tools.listening.seams import OVERLAP, off_grid
+from cdma_tools.listening.sources import BLOCK_SECONDS, blocks_of_file
+from cdma_tools.listening.stream_lock import LockOptions
+from cdma_tools.listening.system_time import SystemTime, time_told
+from cdma_tools.radio.air import CHIP_RATE, PERIOD
+from cdma_tools.recordings import TYPES
+
+# Seconds of a part, for which it is locked before its beginning, and after its end.
+PART, LEAD, TRAIL = 600.0, 60.0, 5.0
+# Seconds before a part's beginning at which its first run begins, besides the overlap of runs.
+EARLIER = 1.0
+# By how much a radio's clock may be off.
+CLOCK_MARGIN = 2e-4
+
+
+@dataclass(frozen=True)
+class Recording:
+    """A file of samples."""
+
+    path: str
+    count: int  # samples
+    lock: LockOptions
+
+    @property
+    def seconds(self) -> float:
+        """How long it lasts."""
+        return self.count / self.lock.rate
+
+
+@dataclass(frozen=True)
+class Part:
+    """A part of a recording, in seconds: what is locked, from when on runs listen, and what it owns."""
+
+    number: int
+    locked_from: float
+    heard_from: float
+    begin: float
+    end: float
+    locked_to: float
+
+    @property
+    def is_first(self) -> bool:
+        """Whether the recording begins with it."""
+        return self.number == 0
+
+
+@dataclass(frozen=True)
+class PartHeard:
+    """What was heard in a part, by the part's own numbers of chips; `origin` is the one at the recording's start."""
+
+    events: list[Event]
+    remarks: list[Remark]
+    anchors: list[Anchor]
+    origin: int
+    row: int | None  # on which the traffic channel was begun
+    is_heard: bool  # whether a pilot was
+
+
+def parts_of(recording: Recording, seconds: float = PART, lead: float = LEAD) -> list[Part]:
+    """The parts of a recording, each so many seconds long but for the last one, which isn't shorter."""
+    count = max(1, int(recording.seconds // seconds))
+    parts = []
+    for number in range(count):
+        begin = number * seconds
+        end = recording.seconds if number == count - 1 else begin + seconds
+        heard = begin - OVERLAP / CHIP_RATE - EARLIER if number else 0.0
+        locked = max(0.0, begin - max(lead, begin - heard)) if number else 0.0
+        trail = min(recording.seconds, end + TRAIL)
+        parts.append(Part(number, locked, max(0.0, heard), begin, end, trail))
+    return parts
+
+
+def part_at(parts: list[Part], at: int) -> int:
+    """The number of a part that has begun where `at` chips have come, however wrong the radio's clock is."""
+    seconds = at / CHIP_RATE * (1 - CLOCK_MARGIN) - 1
+    return max([0, *(part.number for part in parts if part.begin <= seconds)])
+
+
+def hear_part(recording: Recording, handset: Handset, part: Part) -> PartHeard:
+    """Listens to a part."""
+    lock, size = recording.lock, TYPES[recording.lock.kind].size
+    first, last = round(part.locked_from * lock.rate), round(part.locked_to * lock.rate)
+    heard = Collected()
+    listening = Listening(lock, handset, heard, since=part.heard_from - first / lock.rate if part.number else 0.0)
+    block = size * int(BLOCK_SECONDS * lock.rate)
+    try:
+        for data in blocks_of_file(recording.path, size * first, size * (last - first), block):
+            listening.feed(data)
+        listening.finish()
+    finally:
+        listening.kill()
+    begin = first / lock.rate
+    remarks = [replace(remark, seconds=remark.seconds + begin) for remark in heard.remarks]
+    anchors = [replace(anchor, time=anchor.time + begin * CHIP_RATE) for anchor in listening.anchors]
+    origin = listening.origin - round(begin * CHIP_RATE)
+    return PartHeard(heard.events, remarks, anchors, origin, handset.row, listening.is_heard)
+
+
+def chip_at(anchors: list[Anchor], time: float) -> float:
+    """The number of the chip at a nominal time of the recording, by the anchors round it."""
+    if len(anchors) == 1:
+        return anchors[0].chip + time - anchors[0].time
+    number = min(max(bisect_right([anchor.time for anchor in anchors], time) - 1, 0), len(anchors) - 2)
+    before, after = anchors[number], anchors[number + 1]
+    return before.chip + (time - before.time) * (after.chip - before.chip) / (after.time - before.time)
+
+
+def times_of(events: list[Event]) -> Iterator[tuple[Event, SystemTime]]:
+    """The sync messages, each with the time that it tells."""
+    for event in events:
+        if time := time_told(event):
+            yield event, time
+
+
+def offset_at(events: list[Event], chip: int) -> int | None:
+    """PILOT_PN as the last sync message up to a chip told it; None where there was none."""
+    before = [event for event in reversed(events) if event.chip <= chip]
+    return next((time.offset for _, time in times_of(before)), None)
+
+
+def row_at(events: list[Event], chip: int, offset: int | None) -> int | None:
+    """The row on which the pilot of an offset sends the traffic channel at a chip; None where no line told it."""
+    for event in reversed(events):
+        if event.kind == "sets" and event.chip <= chip:
+            rows = [row for pn, row in sets_of(event.line).active if pn == offset]
+            if rows:
+                return rows[0]
+    return None
+
+
+@dataclass(frozen=True)
+class Joined:
+    """What a part adds to the recording; `origin` is the number of the chip at the recording's start."""
+
+    events: list[Event]
+    remarks: list[Remark]
+    origin: int
+    is_heard: bool
+
+
+class Joiner:
+    """Joins what was heard in parts, one after the other.
+
+    Chips have the numbers of the first part in which a pilot was heard; `origin` is the one at the recording's start.
+    """
+
+    def __init__(self, row: int | None) -> None:
+        """No part was joined yet; the traffic channel begins on a row."""
+        self.row = row  # on which the channel is sent at the seam
+        self.origin: int | None = None
+        self.seam: int | None = None  # the chip after which the next part's lines count
+        self.anchors: list[Anchor] = []
+        self.offset: int | None = None  # PILOT_PN
+        self.events: list[Event] = []  # of the last part in which there were any
+        self.first_row = row  # on which that part began
+        self.told: dict[int, int] = {}  # of sync messages that stand already: `at` by SYS_TIME
+
+    def resume(self, part: Part, times: dict[int, int], sets: list[Event], offset: int) -> None:
+        """Goes on with a part, where lines that stand already tell times and the pilot sets, by `at`."""
+        self.told, self.events, self.offset = times, sets, offset
+        heard_from, begin = (round(seconds * CHIP_RATE) for seconds in (part.heard_from, part.begin))
+        self.first_row = row_at(sets, heard_from, offset) or self.row
+        self.row = row_at(sets, begin, offset) or self.row
+        self.seam = begin
+
+    def can_resume(self, heard: PartHeard) -> bool:
+        """Whether a part tells one of those times too, and so the chip at the recording's start; takes note of it."""
+        own = [event.chip - self.told[time.told] for event, time in times_of(heard.events) if time.told in self.told]
+        if not own or self.seam is None:
+            return False
+        self.origin = own[-1]
+        self.seam += self.origin
+        self.events = [replace(event, chip=event.chip + self.origin) for event in self.events]
+        return True
+
+    def numbered(self, heard: PartHeard) -> PartHeard:
+        """What was heard, with the recording's numbers of chips."""
+        if not heard.anchors:
+            return heard
+        first = heard.anchors[0]
+        if self.origin is None:
+            self.origin = heard.origin
+        shift = 0
+        if self.anchors:
+            shift = PERIOD * round((chip_at(self.anchors, first.time) - first.chip) / PERIOD)
+        return replace(
+            heard,
+            events=[replace(event, chip=event.chip + shift) for event in heard.events],
+            anchors=[replace(anchor, chip=anchor.chip + shift) for anchor in heard.anchors],
+            origin=heard.origin + shift,
+        )
+
+    def row_before(self, part: Part) -> int | None:
+        """The row on which a part has to begin, as the parts before tell it."""
+        if part.is_first or not self.anchors:
+            return self.first_row
+        begin = round(chip_at(self.anchors, part.heard_from * CHIP_RATE))
+        told = row_at(self.events, begin, self.offset)
+        return self.first_row if told is None else told
+
+    def is_on_row(self, heard: PartHeard) -> bool:
+        """Whether a part is on the row at its seam that the parts before tell."""
+        if self.seam is None or not heard.events:
+            return True
+        own = self.numbered(heard)
+        return (row_at(own.events, self.seam, self.offset) or heard.row) == self.row
+
+    def join(self, part: Part, heard: PartHeard, is_last: bool) -> Joined:
+        """The lines that a part owns, and its remarks."""
+        own = self.numbered(heard)
+        begin = self.seam
+        if own.anchors:
+            self.anchors = own.anchors
+        if not is_last and self.anchors:
+            wanted = int(chip_at(self.anchors, part.end * CHIP_RATE))
+            told = offset_at(own.events, wanted)
+            self.offset = self.offset if told is None else told
+            self.seam = off_grid(wanted, self.offset or 0)
+            if own.events:
+                self.events, self.first_row = own.events, own.row
+                self.row = row_at(own.events, self.seam, self.offset) or own.row
+        owned = [
+            event
+            for event in own.events
+            if (begin is None or event.chip > begin) and (is_last or self.seam is None or event.chip <= self.seam)
+        ]
+        end = math.inf if is_last else part.end
+        remarks = [remark for remark in own.remarks if part.begin <= remark.seconds < end]
+        return Joined(owned, remarks, self.origin or 0, own.is_heard)

@@ -1,0 +1,82 @@
+"""Where one run of `follow` gives over to the next, and where that one begins.
+
+Counted from a handset's mark, paging messages, frames and moments of the pilot sets end at multiples of 512 chips; so
+do frames of the sync channel, counted from the pilot's own code. A finger adds up to 32 chips, and another active pilot
+up to 226. So no event ends within 15 chips of a chip T = 496 - 64 PILOT_PN modulo 512, in either run.
+"""
+
+from collections import deque
+
+import numpy
+from numpy.typing import NDArray
+
+from cdma_tools.listening.follow_run import MOST
+from cdma_tools.listening.pieces import Chips
+from cdma_tools.radio.air import CHIP_RATE, PERIOD, short_code
+
+# Chips of a paging or traffic frame; a frame of the sync channel has PERIOD.
+FRAME = 24_576
+# Chips from a run's start to the chip at which it takes over, and the fewest: a sending of the sync channel that is
+# under way and the next one, of 13 superframes each, four superframes to the mark, and a run of pages of 8,192 bits.
+OVERLAP, LEAST_OVERLAP = 10 * CHIP_RATE, 43 * CHIP_RATE // 10
+# Chips that a run is fed after it gave over: where its input ends within a piece of 4,096 it drops all of the piece.
+AFTER = 8_192
+# Chips before the end of what a run can take, at which it gives over: in a file's last frame an event is told a frame
+# earlier, as no frame follows it.
+RESERVE = PERIOD + AFTER
+# The distance of events, counted from the mark, and the place between two of them.
+GRID, OFF_GRID = 512, 496
+# A handset sets its fingers in a run's first chips; so many stretches of them are compared, and one counts as strong
+# whose pilot has this part of their mean energy, in each of its parts.
+START_CHIPS, START_STRETCHES, START_PARTS, STRONG = 2_048, 32, 2, 0.5
+START = START_CHIPS * START_STRETCHES
+
+
+def off_grid(wanted: int, offset: int) -> int:
+    """The last chip up to `wanted` at which no event ends, of a pilot with this PILOT_PN."""
+    return wanted - (wanted + 64 * offset - OFF_GRID) % GRID
+
+
+def end_of(begin: int) -> int:
+    """The last chip at which a run that began at a chip may give over."""
+    return begin + MOST - RESERVE
+
+
+def strong_stretch(chips: NDArray[numpy.complex64], first: int) -> int:
+    """How many chips after `first` a stretch begins in which the pilot isn't faded, by the chips of all stretches."""
+    count = len(chips) // START_CHIPS
+    code = short_code()[(first + numpy.arange(count * START_CHIPS)) % PERIOD].conj()
+    sums = (chips[: count * START_CHIPS] * code).reshape(count, START_PARTS, -1).sum(axis=2)
+    energy = (numpy.abs(sums) ** 2).min(axis=1)
+    return START_CHIPS * int(numpy.argmax(energy > STRONG * energy.mean()))
+
+
+class KeptChips:
+    """The last chips of a stream, from which a run may begin."""
+
+    def __init__(self, count: int) -> None:
+        """Keeps so many chips at least."""
+        self.count, self.pieces = count, deque[Chips]()
+
+    @property
+    def first(self) -> int:
+        """The number of the first chip that is kept."""
+        return self.pieces[0].first
+
+    def add(self, chips: Chips) -> None:
+        """Takes the next chips, and forgets the oldest."""
+        self.pieces.append(chips)
+        while self.pieces[0].end < chips.end - self.count:
+            self.pieces.popleft()
+
+    def clear(self) -> None:
+        """Forgets all."""
+        self.pieces.clear()
+
+    def samples(self, first: int, count: int) -> NDArray[numpy.complex64]:
+        """Chips first to first + count - 1, as many of them as are kept."""
+        parts = [
+            piece.parts[4 * max(0, first - piece.first) : 4 * max(0, first + count - piece.first)]
+            for piece in self.pieces
+        ]
+        return numpy.frombuffer(b"".join(parts), dtype=">i2").astype(numpy.float32).view(numpy.complex64)

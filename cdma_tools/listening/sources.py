@@ -1,0 +1,236 @@
+"""Where samples come from: a file, standard input, or a server of samples with the protocol of rtl_tcp.
+
+A source that can't wait is read by a thread of its own into a backlog, so that a search doesn't make its writer lose
+samples. Where a server's backlog is full samples are left out, and that is told; a pipe's writer has to wait.
+"""
+
+import os
+import socket
+import struct
+import threading
+import time
+from collections import deque
+from collections.abc import Iterator
+from dataclasses import dataclass
+from typing import BinaryIO
+from urllib.parse import urlsplit
+
+from cdma_tools.errors import Refused
+
+# Seconds of samples that are read of a file at once.
+BLOCK_SECONDS = 0.05
+# Bytes that are taken of a pipe or of a server at once, and those of a backlog.
+PIECE_BYTES, BACKLOG_BYTES = 1 << 16, 1 << 25
+# The protocol of rtl_tcp: a header of its word, the tuner's type and the number of its gains; and commands of a byte
+# and a number, of which these set the middle of the band and the rate.
+SERVER_HEADER, SERVER_WORD = struct.Struct(">4sII"), b"RTL0"
+COMMAND, SET_FREQUENCY, SET_RATE = struct.Struct(">BI"), 1, 2
+SCHEME, DEFAULT_PORT = "rtl_tcp", 1234
+# Seconds for which a server may be silent, and from one try to reach it to the next.
+SERVER_TIMEOUT, RETRY = 10.0, 5.0
+
+
+@dataclass(frozen=True)
+class Skipped:
+    """So many samples that won't come, and why."""
+
+    samples: int
+    why: str
+
+
+@dataclass(frozen=True)
+class Told:
+    """What a source says."""
+
+    text: str
+
+
+Item = bytes | Skipped | Told
+
+
+@dataclass(frozen=True)
+class Server:
+    """A server of samples, and what is asked of it."""
+
+    host: str
+    port: int
+    rate: int
+    sample_bytes: int
+    frequency: int | None = None
+
+    @property
+    def name(self) -> str:
+        """Its address as it is given."""
+        return f"{SCHEME}://{self.host}:{self.port}"
+
+
+def server_of(address: str, rate: int, sample_bytes: int, frequency: int | None) -> Server:
+    """The server at an address rtl_tcp://HOST[:PORT]; refuses what is none."""
+    try:
+        # An underscore is none of a scheme's letters, so the scheme is taken away before.
+        parts = urlsplit(address.removeprefix(f"{SCHEME}:"))
+        port = parts.port
+    except ValueError as why:
+        raise Refused(f"{address}: {why}") from None
+    if not parts.hostname or parts.path not in ("", "/") or parts.query or parts.fragment or parts.username:
+        raise Refused(f"{address}: no address {SCHEME}://HOST:PORT")
+    return Server(parts.hostname, DEFAULT_PORT if port is None else port, rate, sample_bytes, frequency)
+
+
+def blocks_of_file(path: str, first: int, count: int, block: int) -> Iterator[bytes]:
+    """Bytes first to first + count - 1 of a file, some at a time; refuses where they can't be read."""
+    try:
+        with open(path, "rb", buffering=0) as file:
+            file.seek(first)
+            left = count
+            while left > 0:
+                data = file.read(min(block, left))
+                if not data:
+                    raise Refused(f"{path}: ended early")
+                left -= len(data)
+                yield data
+    except OSError as why:
+        raise Refused(f"{path}: {why.strerror}") from None
+
+
+class Backlog:
+    """Items that a thread has taken from a source, and that wait for the lock."""
+
+    def __init__(self, most: int = BACKLOG_BYTES) -> None:
+        """Empty, with room for so many bytes."""
+        self.most = most
+        self.items: deque[Item | Refused | None] = deque()
+        self.bytes = 0
+        self.changed = threading.Condition()
+        self.is_stopped = threading.Event()
+
+    def has_room(self, size: int) -> bool:
+        """Whether there is room for so many bytes more; things that are said need none."""
+        return not size or self.bytes + size <= self.most
+
+    def put(self, item: Item | Refused | None, may_wait: bool = True) -> bool:
+        """Adds an item, None as the end; waits for room or, where it may not, answers False where there is none."""
+        size = len(item) if isinstance(item, bytes) else 0
+        with self.changed:
+            while not self.has_room(size) and not self.is_stopped.is_set():
+                if not may_wait:
+                    return False
+                self.changed.wait(timeout=1.0)
+            self.items.append(item)
+            self.bytes += size
+            self.changed.notify_all()
+        return True
+
+    def get(self) -> Item | Refused | None:
+        """The next item, as soon as there is one."""
+        with self.changed:
+            while not self.items:
+                self.changed.wait(timeout=1.0)
+            item = self.items.popleft()
+            if isinstance(item, bytes):
+                self.bytes -= len(item)
+            self.changed.notify_all()
+        return item
+
+    def __iter__(self) -> Iterator[Item]:
+        """The items as they come; refuses where the source did."""
+        while (item := self.get()) is not None:
+            if isinstance(item, Refused):
+                raise item
+            yield item
+
+    def stop(self) -> None:
+        """The items aren't wanted any more."""
+        self.is_stopped.set()
+
+
+def read_pipe(file: BinaryIO, backlog: Backlog) -> None:
+    """Takes all that comes from a pipe; runs in a thread of its own."""
+    try:
+        while not backlog.is_stopped.is_set() and (data := os.read(file.fileno(), PIECE_BYTES)):
+            backlog.put(data)
+        backlog.put(None)
+    except OSError as why:
+        backlog.put(Refused(f"standard input: {why.strerror}"))
+
+
+class ServerReader:
+    """Takes the samples of a server, and reaches it again where it goes away."""
+
+    def __init__(self, server: Server, backlog: Backlog) -> None:
+        """Reaches the server; refuses where there is none that speaks the protocol."""
+        self.server, self.backlog = server, backlog
+        self.received = self.lost = 0  # bytes of this connection, and those of the last ones that found no room
+        self.since = 0.0  # when the last bytes came
+        try:
+            self.connection = self.connected()
+        except OSError as why:
+            raise Refused(f"{server.name}: {why.strerror or why}") from None
+
+    def connected(self) -> socket.socket:
+        """A connection whose header has come, at the rate that is asked for."""
+        server = self.server
+        connection = socket.create_connection((server.host, server.port), timeout=SERVER_TIMEOUT)
+        try:
+            head = b""
+            while len(head) < SERVER_HEADER.size:
+                piece = connection.recv(SERVER_HEADER.size - len(head))
+                if not piece:
+                    raise OSError("it closed the connection before its header")
+                head += piece
+            if SERVER_HEADER.unpack(head)[0] != SERVER_WORD:
+                raise OSError("it is no server of rtl_tcp")
+            connection.sendall(COMMAND.pack(SET_RATE, server.rate))
+            if server.frequency is not None:
+                connection.sendall(COMMAND.pack(SET_FREQUENCY, server.frequency))
+        except OSError:
+            connection.close()
+            raise
+        self.since = time.monotonic()
+        return connection
+
+    def run(self) -> None:
+        """Takes what comes, until it isn't wanted any more; runs in a thread of its own."""
+        while not self.backlog.is_stopped.is_set():
+            try:
+                data = self.connection.recv(PIECE_BYTES)
+                why = "it closed the connection"
+            except OSError as fault:
+                data, why = b"", fault.strerror or str(fault)
+            if data:
+                self.take(data)
+            else:
+                self.reach_again(why)
+        self.connection.close()
+
+    def take(self, data: bytes) -> None:
+        """Adds bytes to the backlog; where that is full they are left out, and a whole sample is the next one taken."""
+        self.since = time.monotonic()
+        size = self.server.sample_bytes
+        first = -self.received % size if self.lost else 0
+        self.received += len(data)
+        rest = data[first:]
+        if self.lost and rest and self.backlog.has_room(len(rest)):
+            lost = -(-(self.lost + first) // size)
+            self.backlog.put(Skipped(lost, f"the lock fell behind {self.server.name}"))
+            self.lost = 0
+        elif self.lost:
+            self.lost += len(data)
+            return
+        if not self.backlog.put(rest, may_wait=False):
+            self.lost += len(rest)
+
+    def reach_again(self, why: str) -> None:
+        """Tries to reach the server until it is there again."""
+        self.connection.close()
+        self.backlog.put(Told(f"{self.server.name} is gone: {why}; it is tried again every {RETRY:.0f} s"))
+        while not self.backlog.is_stopped.wait(RETRY):
+            since = self.since
+            try:
+                self.connection = self.connected()
+            except OSError:
+                continue
+            away = self.since - since
+            self.received = self.lost = 0
+            self.backlog.put(Skipped(round(away * self.server.rate), f"{self.server.name} was away for {away:.1f} s"))
+            return

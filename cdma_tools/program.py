@@ -1,0 +1,55 @@
+"""One way to the program `cdma_replay`, for every tool that runs it."""
+
+import argparse
+import os
+import shutil
+import subprocess
+from typing import IO
+
+from cdma_tools.errors import Refused
+from cdma_tools.places import BUILT
+
+NAME = "cdma_replay"
+LONGEST_RUN = 600  # seconds that a run over a sample file may take
+VARIABLE = "CDMA_REPLAY"
+HELP = f"cdma_replay; else ${VARIABLE}, else the one that is built in this checkout, else {NAME} on the path"
+NOT_FOUND = (
+    f"no {NAME}: --program names none, nor does ${VARIABLE}, none is built in this checkout (rt ci builds it), and none"
+    " is on the path"
+)
+
+
+def add_program_option(parser: argparse.ArgumentParser, *others: str) -> None:
+    """Adds the option --program, and other names of it, to a command line."""
+    parser.add_argument("--program", *others, dest="program", metavar="FILE", help=HELP)
+
+
+def checked_program(path: str) -> str:
+    """The absolute path of a program; refuses what isn't there or can't be run."""
+    if not os.path.isfile(path) or not os.access(path, os.X_OK):
+        raise Refused(f"no program at {path}")
+    return os.path.abspath(path)
+
+
+def find_program(given: str | None) -> str:
+    """The program that is run: the one given, else $CDMA_REPLAY, else the checkout's, else the one on the path."""
+    named = given or os.environ.get(VARIABLE)
+    if named:
+        return checked_program(named)
+    if os.access(BUILT, os.X_OK):
+        return BUILT
+    found = shutil.which(NAME)
+    if found is None:
+        raise Refused(NOT_FOUND)
+    return os.path.abspath(found)
+
+
+def written_of(program: str, words: list[str], file: IO[bytes]) -> bytes:
+    """What a run of the program writes of a sample file; refuses a program that can't be run, or doesn't end."""
+    try:
+        ran = subprocess.run([program, *words], stdin=file, capture_output=True, timeout=LONGEST_RUN, check=False)
+    except OSError as why:
+        raise Refused(f"{program}: {why.strerror}") from None
+    except subprocess.TimeoutExpired:
+        raise Refused(f"{program} {' '.join(words)}: no end within {LONGEST_RUN} s") from None
+    return ran.stdout

@@ -1,0 +1,81 @@
+"""The type of a recording's samples, as its bytes tell it.
+
+Samples of a radio are Gaussian or nearly so, and far from the ends of their range most of the time. Of floating point
+all numbers then have nearly one exponent; of 16 bits the low bytes are as good as uniform, and the high ones stand near
+0; of 8 bits the bytes of both branches are alike, and stand near the middle: of unsigned ones 127.5, of signed ones 0.
+"""
+
+import os
+
+import numpy
+from numpy.typing import NDArray
+
+from cdma_tools.errors import Refused
+
+# Bytes of a piece that is looked at, and pieces, spread over the file.
+PIECE, PIECES = 1 << 14, 16
+# Doublings by which the numbers of floating point spread round their median; a Gaussian's spread by 1.6.
+MOST_SPREAD = 4.0
+# The part by which the bytes of even and of odd places differ from which they are the two bytes of one number.
+LEAST_UNLIKE = 0.2
+LEAST_BYTES = 1 << 12
+# By how many times the bytes' power has to be less about the one middle than about the other.
+LEAST_RATIO = 1.25
+
+
+def bytes_of(path: str, skip: int) -> NDArray[numpy.uint8]:
+    """Bytes of some pieces of a file, after so many bytes; refuses one that has few."""
+    try:
+        size = os.stat(path).st_size - skip
+        if size < LEAST_BYTES:
+            raise Refused(f"{path}: {max(size, 0)} bytes are too few to tell the type: give --type")
+        places = numpy.linspace(0, max(0, size - PIECE), PIECES).astype(int) // 8 * 8
+        return numpy.concatenate(
+            [
+                numpy.fromfile(path, numpy.uint8, PIECE // 8 * 8, offset=skip + place)[: size // 8 * 8]
+                for place in places
+            ]
+        )
+    except OSError as why:
+        raise Refused(f"{path}: {why.strerror}") from None
+
+
+def is_floating(data: NDArray[numpy.uint8]) -> bool:
+    """Whether bytes are numbers of single precision of about one size."""
+    with numpy.errstate(invalid="ignore"):
+        numbers = numpy.abs(data.view("<f4"))
+    if not numpy.isfinite(numbers).all() or not (numbers > 0).any():
+        return False
+    doublings = numpy.log2(numbers[numbers > 0].astype(float))
+    return (
+        float(numpy.mean(numpy.abs(doublings - numpy.median(doublings)))) < MOST_SPREAD and (numbers > 0).mean() > 0.5
+    )
+
+
+def shares(data: NDArray[numpy.uint8]) -> NDArray[numpy.float64]:
+    """How often each of the 256 bytes stands there."""
+    return numpy.bincount(data, minlength=256) / len(data)
+
+
+def entropy(parts: NDArray[numpy.float64]) -> float:
+    """The entropy of shares, in bits."""
+    held = parts[parts > 0]
+    return float(-(held * numpy.log2(held)).sum())
+
+
+def type_of(path: str, skip: int = 0) -> str:
+    """The type of the samples of a file after so many bytes; refuses one whose bytes tell none."""
+    data = bytes_of(path, skip)
+    if shares(data).max() > 0.99:
+        raise Refused(f"{path}: the bytes tell no type, nearly all are the same: give --type")
+    if is_floating(data):
+        return "cf32_le"
+    even, odd = shares(data[0::2]), shares(data[1::2])
+    if 0.5 * float(numpy.abs(even - odd).sum()) > LEAST_UNLIKE:
+        return "ci16_le" if entropy(odd) < entropy(even) else "ci16_be"
+    unsigned, signed = float(numpy.mean((data - 127.5) ** 2)), float(
+        numpy.mean(data.view(numpy.int8).astype(float) ** 2)
+    )
+    if max(unsigned, signed) < LEAST_RATIO * min(unsigned, signed):
+        raise Refused(f"{path}: the bytes tell no type, they are spread over the whole range: give --type")
+    return "cu8" if unsigned < signed else "ci8"

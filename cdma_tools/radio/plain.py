@@ -1,0 +1,175 @@
+"""The plain ways from a recording to chips, with a carrier and a clock that are known: as is, one in so many, resampled."""
+
+import argparse
+import contextlib
+from fractions import Fraction
+from typing import Any, Iterator
+
+import numpy
+from numpy.typing import NDArray
+
+from cdma_tools.arguments import text_of
+from cdma_tools.errors import Refused
+from cdma_tools.radio.air import CHIP_RATE
+from cdma_tools.radio.guessing import type_of
+from cdma_tools.recordings import TYPES, sample_count
+from cdma_tools.sample_file import FORM, GREATEST, MOST_CHIPS
+from cdma_tools.sigmf import META, recording_of
+
+# The ratio up to which a rate is resampled at once: scipy's filter has some 20 taps for each unit of it.
+LARGEST_RATIO = 100_000
+# The type that is told by the samples' own bytes.
+AUTO = "auto"
+TYPE_CHOICES = (*TYPES, AUTO)
+
+
+def recording_told(options: argparse.Namespace) -> tuple[str, Fraction, str]:
+    """The type, the rate and the path of the samples that the arguments name."""
+    if options.recording.endswith(META):
+        return recording_of(options.recording, options.rate)
+    kind = type_of(options.recording) if options.type == AUTO else options.type
+    return kind, options.rate, options.recording
+
+
+def assumed(options: argparse.Namespace, kind: str, path: str) -> list[str]:
+    """What is to be said of the samples' type: that it was taken from the bytes, or that these look like another."""
+    if options.type == AUTO:
+        return [f"the samples are taken to be {kind}, as their bytes look"]
+    try:
+        looks = type_of(path)
+    except Refused:
+        return []
+    return (
+        []
+        if looks == kind
+        else [f"the samples are read as {kind}, and their bytes look like {looks}: is the type right?"]
+    )
+
+
+@contextlib.contextmanager
+def with_hints(lines: list[str]) -> Iterator[None]:
+    """What is to be said of the samples' type goes with why a recording is refused."""
+    try:
+        yield
+    except Refused as why:
+        raise Refused("; ".join([str(why), *lines])) from None
+
+
+def resampled(branch: NDArray[Any], up: int, down: int) -> NDArray[numpy.float64]:
+    """Samples of one branch at up / down times their rate."""
+    try:
+        from scipy.signal import resample_poly  # takes half a second to load, and is wanted here alone
+    except ImportError as missing:
+        raise Refused(f"{missing}: to resample, install the package python3-scipy") from None
+    return resample_poly(branch.astype(numpy.float64), up, down)
+
+
+class Plan:
+    """How the samples of a rate become chips."""
+
+    def __init__(self, rate: Fraction, options: argparse.Namespace) -> None:
+        self.rate = rate
+        ratio = rate / CHIP_RATE
+        if ratio < 1:
+            raise Refused(f"{text_of(rate)} samples a second are fewer than the chip rate, {CHIP_RATE}")
+        self.is_whole = ratio.denominator == 1
+        self.multiple = ratio.numerator  # samples of a chip, where that is whole
+        self.up, self.down = ratio.denominator, ratio.numerator
+        self.offset = options.offset or 0
+        self.has_sum = options.sum
+        if ratio == 1 and (options.offset or options.sum):
+            raise Refused("at the chip rate a chip has one sample: --offset and --sum have no use")
+        if not self.is_whole and (options.offset is not None or options.sum):
+            raise Refused(f"{text_of(rate)} is no multiple of the chip rate: --offset and --sum have no use")
+        if self.is_whole and self.offset >= self.multiple:
+            raise Refused(
+                f"--offset is {self.offset}, and a chip has {self.multiple} samples, 0 to {self.multiple - 1}"
+            )
+        if not self.is_whole and max(self.up, self.down) > LARGEST_RATIO:
+            raise Refused(f"{text_of(rate)} to {CHIP_RATE} is {self.down} to {self.up}: no ratio of small numbers")
+
+    def samples_for(self, chips: int) -> int:
+        """How many samples of a recording are enough for so many chips."""
+        if self.is_whole:
+            return self.multiple * (chips + 1)
+        return chips * self.down // self.up + 64 * (self.down // self.up + 2)
+
+    def chips(self, parts: NDArray[Any]) -> NDArray[Any]:
+        """The chips of samples, a row of two parts each; whole numbers stay whole at a multiple."""
+        if not self.is_whole:
+            return numpy.stack([resampled(parts[:, k], self.up, self.down) for k in (0, 1)], axis=1)
+        if self.multiple == 1:
+            return parts
+        if not self.has_sum:
+            return parts[self.offset :: self.multiple]
+        count = max(0, len(parts) - self.offset) // self.multiple
+        return parts[self.offset : self.offset + count * self.multiple].reshape(count, self.multiple, 2).sum(axis=1)
+
+
+def read_samples(path: str, kind: str, skip: int, most: int | None) -> NDArray[Any]:
+    """The samples of a recording, a row of two parts each: whole numbers, or floating point of its own."""
+    form, zero, _ = TYPES[kind]
+    total = sample_count(path, kind)
+    if total <= skip:
+        raise Refused(f"{path}: {total} samples, and none left" + (f" after --skip {skip}" if skip else ""))
+    count = total - skip
+    if most is not None:
+        count = min(count, most)
+    try:
+        read = numpy.fromfile(path, dtype=form, count=2 * count, offset=TYPES[kind].size * skip)
+    except OSError as why:
+        raise Refused(f"{path}: {why.strerror}") from None
+    if len(read) != 2 * count:
+        raise Refused(f"{path}: ended early")
+    parts = read.astype(numpy.float64 if form == "<f4" else numpy.int64).reshape(-1, 2) - zero
+    if form == "<f4":
+        lost = numpy.flatnonzero(~numpy.isfinite(parts).all(axis=1))
+        if len(lost):
+            raise Refused(f"{path}: sample {skip + lost[0]} isn't finite")
+    return parts
+
+
+def turned(parts: NDArray[Any], hertz: float, rate: Fraction) -> NDArray[numpy.float64]:
+    """The samples with a carrier of so many hertz brought to 0."""
+    angle = -2 * numpy.pi * (hertz / float(rate) * numpy.arange(len(parts)) % 1.0)
+    i, q = parts.T
+    samples = (i + 1j * q) * numpy.exp(1j * angle)
+    return numpy.stack([samples.real, samples.imag], axis=1)
+
+
+def scaled(chips: NDArray[Any], scale: float | str | None, version: int) -> tuple[NDArray[Any], float]:
+    """The chips as whole numbers that the version holds, and the scale that made them."""
+    most, is_whole = GREATEST[version], chips.dtype.kind == "i"
+    top = numpy.abs(chips).max()
+    if scale == "fit" or scale is None and not is_whole:
+        factor = float(most / top) if top else 1.0
+    else:
+        factor = 1.0 if scale is None else float(scale)
+    parts = chips if is_whole and factor == 1.0 else numpy.rint(chips * factor)
+    outside = numpy.flatnonzero(((parts < -most - 1) | (parts > most)).any(axis=1))
+    if len(outside):
+        at = outside[0]
+        raise Refused(
+            f"chip {at} would be ({parts[at, 0]:.0f}, {parts[at, 1]:.0f}), and version {version} holds"
+            f" {-most - 1} to {most}: give a --scale of at most {most / float(top):.9g}, or --scale fit"
+        )
+    return parts.astype(FORM[version]), factor
+
+
+def plain_chips(options: argparse.Namespace) -> tuple[NDArray[Any], float]:
+    """The chips to write, and the scale that was taken."""
+    kind, rate, path = recording_told(options)
+    plan = Plan(rate, options)
+    most = None if options.count is None else plan.samples_for(options.count)
+    parts = read_samples(path, kind, options.skip, most)
+    if options.shift:
+        parts = turned(parts, options.shift, rate)
+    chips = plan.chips(parts)[: options.count]
+    if not len(chips):
+        raise Refused(f"{path}: too few samples for a chip")
+    if len(chips) > MOST_CHIPS[options.version]:
+        raise Refused(
+            f"{path}: {len(chips)} chips, and a file of version {options.version} holds at most"
+            f" {MOST_CHIPS[options.version]}: give --count"
+        )
+    return scaled(chips, options.scale, options.version)

@@ -1,0 +1,177 @@
+"""What a report shows of each cell that was heard in a recording, and who names whom as a neighbor."""
+
+import math
+import os
+from typing import NamedTuple
+
+from markupsafe import Markup
+from plotly import graph_objects
+
+from cdma_tools.analysis.cells import Search
+from cdma_tools.errors import Refused
+from cdma_tools.heard_run import FOLLOWED
+from cdma_tools.progress import bar
+from cdma_tools.radio.locking import Locked, Options, write_held
+from cdma_tools.report.document import (
+    Addition,
+    Table,
+    element,
+    fields_section,
+    joined,
+    last_of,
+    section,
+    seconds_at,
+    table_of,
+)
+from cdma_tools.report.figures import BLUE, GREY, HIDDEN_TEXT, INK, Plot, styled
+from cdma_tools.report.gathering import Ran, run_program
+from cdma_tools.sample_file import HEADER
+
+# Words of follow that go for every cell: the traffic channel is the strongest one's alone.
+SHARED_WORDS = ("span", "workers", "fingers", "paging")
+
+
+class HeardCell(NamedTuple):
+    """A cell: its rank, its lock with the others off, the rows that it sends, and what the program follows of it."""
+
+    rank: int
+    locked: Locked
+    rows: int
+    follow: Ran
+
+    @property
+    def pn(self) -> int | None:
+        """PILOT_PN as its sync messages tell it."""
+        found = last_of(self.follow, "sync", None)
+        return int(found[1]["pn"]) if found else None
+
+    @property
+    def neighbors(self) -> list[int]:
+        """The offsets of the last list of neighbors."""
+        found = last_of(self.follow, "paging", "neighbors")
+        return [int(pn) for _, pn in found[1]["pilots"]] if found else []
+
+    @property
+    def name(self) -> str:
+        """How it is called."""
+        return f"cell {self.rank}" if self.pn is None else f"PN {self.pn}"
+
+
+def gather_cells(
+    path: str, options: Options, count: int, program: str, words: dict[str, str], folder: str
+) -> list[HeardCell]:
+    """Up to so many cells of a recording, strongest first; `words` are those of follow."""
+    given = [f"--{name}={words[name]}" for name in SHARED_WORDS if name in words]
+    with Search(path, options, folder) as search, bar(total=count, text="cells", unit="cells") as shown:
+        while len(search.told) < count and search.next_cell():
+            shown.update(1)
+        assert search.left is not None
+        found = []
+        for rank, cell in enumerate(search.told, 1):
+            file = os.path.join(folder, "heard.is95")
+            with open(file, "wb") as written:
+                locked = write_held(cell.alone(search.left), options, written)
+            with bar(
+                total=(os.path.getsize(file) - HEADER.size) // 4, text=f"cell {rank}", unit="chips"
+            ) as shown_chips:
+                follow = run_program(program, ["follow", *given], file, FOLLOWED, shown_chips)
+            found.append(HeardCell(rank, locked, len(cell.used), follow))
+        return found
+
+
+def cell_table(cell: HeardCell) -> Markup:
+    """What is known of a cell's signal."""
+    locked = cell.locked
+    paths = ", ".join(f"{way.delay:.2f} chips {way.level:.1f} dB" for way in locked.paths)
+    rows: list[tuple[str, ...]] = [
+        ("PN offset", "no sync message was heard" if cell.pn is None else str(cell.pn)),
+        ("Phase", f"{locked.phase:,} at the first chip"),
+        ("Carrier", f"{locked.carrier_hz:.1f} Hz above the recording's middle"),
+        ("Pilot", f"{locked.ec_io_db:.2f} dB of all power, without the other cells"),
+        ("Rows in use", str(cell.rows)),
+        ("Paths", paths),
+        (
+            "Messages",
+            f"{len(cell.follow.reads('sync'))} of the sync channel, {len(cell.follow.reads('paging'))} of paging",
+        ),
+    ]
+    return table_of(Table((), rows))
+
+
+def cell_section(cell: HeardCell) -> Markup:
+    """A cell's section, with its sync message and its System Parameters."""
+    parts = [cell_table(cell)]
+    for heading, line, word in (("Sync message", "sync", None), ("System Parameters", "paging", "system")):
+        if found := last_of(cell.follow, line, word):
+            shape, last, all_of = found
+            note = f"The last of {len(all_of)}, known at {seconds_at(last)}."
+            parts.append(
+                fields_section(f"{heading} of cell {cell.rank}", f"cell-{cell.rank}-{word or line}", shape, last, note)
+            )
+    return section(f"Cell {cell.rank}", *parts, name=f"cell-{cell.rank}")
+
+
+def neighbor_table(cells: list[HeardCell]) -> Markup:
+    """Who names whom."""
+    rows: list[tuple[str, ...]] = []
+    for cell in cells:
+        named_by = ", ".join(other.name for other in cells if cell.pn is not None and cell.pn in other.neighbors)
+        rows.append((cell.name, ", ".join(map(str, cell.neighbors)) or "no list was heard", named_by or "none"))
+    return table_of(Table(("Cell", "Names", "Is named by"), rows))
+
+
+Places = dict[int, tuple[float, float]]
+
+
+def places_of(offsets: list[int]) -> Places:
+    """Places on a circle, for each of some offsets."""
+    angles = [2 * math.pi * number / len(offsets) for number in range(len(offsets))]
+    return {pn: (round(math.sin(angle), 4), round(math.cos(angle), 4)) for pn, angle in zip(offsets, angles)}
+
+
+def add_arrow(figure: graph_objects.Figure, places: Places, pn: int, other: int, color: str) -> None:
+    """Draws an arrow from a cell to one that it names."""
+    (begin_x, begin_y), (x, y) = places[pn], places[other]
+    ends = {"x": x, "y": y, "ax": begin_x, "ay": begin_y, "xref": "x", "yref": "y", "axref": "x", "ayref": "y"}
+    form = {"arrowhead": 2, "arrowsize": 1.2, "arrowwidth": 1.2, "standoff": 12, "startstandoff": 12}
+    figure.add_annotation(**ends, **form, arrowcolor=color, showarrow=True, text="")
+
+
+def map_plot(cells: list[HeardCell]) -> Plot | None:
+    """The cells that were heard and those that they name, on a circle, with an arrow from each to those it names."""
+    heard = {cell.pn: cell for cell in cells if cell.pn is not None}
+    if not any(cell.neighbors for cell in heard.values()):
+        return None
+    places = places_of(sorted(set(heard) | {pn for cell in cells for pn in cell.neighbors}))
+    figure = graph_objects.Figure(
+        graph_objects.Scatter(
+            x=[x for x, _ in places.values()],
+            y=[y for _, y in places.values()],
+            mode="markers+text",
+            text=[f"PN {pn}" for pn in places],
+            textposition="top center",
+            textfont={"color": INK},
+            marker={"size": 16, "color": [BLUE if pn in heard else "#d5dae0" for pn in places]},
+            hovertemplate="%{text}" + HIDDEN_TEXT,
+        )
+    )
+    for pn, cell in heard.items():
+        for other in cell.neighbors:
+            add_arrow(figure, places, pn, other, BLUE if other in heard else GREY)
+    figure.update_xaxes(visible=False, range=[-1.4, 1.4])
+    figure.update_yaxes(visible=False, range=[-1.3, 1.4], scaleanchor="x")
+    note = "An arrow goes from a cell to each that it names as a neighbor; cells that were heard are filled."
+    return Plot("map", "Neighbors of all cells", note, styled(figure, 420))
+
+
+def addition_of(cells: list[HeardCell]) -> Addition:
+    """What the page gets: a section for each cell, who names whom, and the map."""
+    heading = section("Who names whom", neighbor_table(cells), name="named")
+    links = [("named", "Neighbors of all"), *((f"cell-{cell.rank}", f"Cell {cell.rank}") for cell in cells)]
+    plot = map_plot(cells)
+    return Addition(links, joined([heading, *map(cell_section, cells)]), [plot] if plot else [])
+
+
+def addition_why(why: Refused) -> Addition:
+    """What the page gets where no cell can be taken off: the reason."""
+    return Addition([("named", "Neighbors of all")], section("Cells", element("p", str(why)), name="named"), [])

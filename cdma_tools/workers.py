@@ -1,0 +1,84 @@
+"""Processes that share work, and end with Ctrl-C without a word."""
+
+import contextlib
+import os
+import signal
+from collections.abc import Callable, Iterable, Iterator
+from concurrent.futures import ProcessPoolExecutor
+from concurrent.futures.process import BrokenProcessPool
+from contextlib import AbstractContextManager
+from multiprocessing import resource_tracker
+from typing import Any, TypeVar
+
+from cdma_tools.arguments import INTERRUPTED, Parser, whole_within
+from cdma_tools.errors import Refused
+
+Item = TypeVar("Item")
+Made = TypeVar("Made")
+
+MOST_JOBS = 64
+
+
+def end(*_: object) -> None:
+    """Ends this process at once."""
+    os._exit(INTERRUPTED)
+
+
+def hear_interrupts() -> None:
+    """Lets Ctrl-C end this process at once; what it runs gets the signal itself."""
+    signal.signal(signal.SIGINT, end)
+
+
+@contextlib.contextmanager
+def held_interrupts() -> Iterator[None]:
+    """Holds back Ctrl-C until this is left: processes that are started in it aren't told of it at all."""
+    resource_tracker.ensure_running()  # which would let the thread that first starts a process hear Ctrl-C again
+    heard: list[bool] = []
+    before = signal.signal(signal.SIGINT, lambda *_: heard.append(True))
+    signal.pthread_sigmask(signal.SIG_BLOCK, {signal.SIGINT})
+    try:
+        yield
+    finally:
+        signal.pthread_sigmask(signal.SIG_UNBLOCK, {signal.SIGINT})
+        signal.signal(signal.SIGINT, before)
+    if heard:
+        raise KeyboardInterrupt
+
+
+def pass_over_interrupts() -> None:
+    """Lets this process go on at Ctrl-C, though what it runs is ended by it."""
+    signal.signal(signal.SIGINT, lambda *_: None)
+    signal.pthread_sigmask(signal.SIG_UNBLOCK, {signal.SIGINT})
+
+
+@contextlib.contextmanager
+def quietly(cluster: AbstractContextManager[Any]) -> Iterator[Any]:
+    """The client of a cluster of processes of this machine, which Ctrl-C leaves to this process to end, unsaid."""
+    with contextlib.ExitStack() as stack:
+        with held_interrupts():
+            client = stack.enter_context(cluster)
+            client.run(pass_over_interrupts)
+        yield client
+
+
+def mapped(function: Callable[[Item], Made], items: Iterable[Item], jobs: int, chunk: int = 1) -> Iterator[Made]:
+    """What a function makes of each item, in their order, by so many processes, which take a chunk of them at once."""
+    executor = ProcessPoolExecutor(jobs, initializer=hear_interrupts)
+    try:
+        yield from executor.map(function, items, chunksize=chunk)
+    except BrokenProcessPool:
+        raise Refused("a process that shared the work was ended") from None
+    finally:
+        executor.shutdown(cancel_futures=True)
+
+
+def add_jobs_option(parser: Parser, what: str) -> None:
+    """Adds the option --jobs, how many things of a kind are done at once."""
+    processors = min(os.cpu_count() or 1, MOST_JOBS)
+    parser.add_argument(
+        "--jobs",
+        type=whole_within(1, MOST_JOBS),
+        default=processors,
+        metavar="N",
+        help=f"{what} at once, else one a processor",
+    )

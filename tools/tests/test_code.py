@@ -1,0 +1,96 @@
+"""The code of the tools: each function has types and says what it is for, and Debian's checkers have no complaint."""
+
+from __future__ import annotations
+
+import ast
+import importlib.util
+import os
+import re
+import subprocess
+import unittest
+from collections.abc import Iterator
+
+from tools.tests.helping import PYTHON, ROOT, temporary_folder
+
+PACKAGE = os.path.join(ROOT, "cdma_tools")
+Function = ast.FunctionDef | ast.AsyncFunctionDef
+
+
+def modules(folder: str) -> Iterator[tuple[str, ast.Module]]:
+    """The modules below a folder of the checkout, by their places."""
+    for path, folders, names in os.walk(os.path.join(ROOT, folder)):
+        folders[:] = [name for name in folders if name != "__pycache__"]
+        for name in names:
+            if name.endswith(".py"):
+                with open(os.path.join(path, name), encoding="utf-8") as file:
+                    yield os.path.relpath(os.path.join(path, name), ROOT), ast.parse(file.read())
+
+
+def definitions(body: list[ast.stmt]) -> Iterator[Function | ast.ClassDef]:
+    """The functions and classes of a module or a class, those of its classes too; not those within functions."""
+    for node in body:
+        if isinstance(node, ast.ClassDef):
+            yield node
+            yield from definitions(node.body)
+        elif isinstance(node, (ast.FunctionDef, ast.AsyncFunctionDef)):
+            yield node
+
+
+def untyped(node: Function) -> list[str]:
+    """The arguments of a function that have no type, and what it answers where that has none."""
+    arguments = [*node.args.posonlyargs, *node.args.args, *node.args.kwonlyargs]
+    found = [one.arg for one in arguments if one.annotation is None and one.arg not in ("self", "cls")]
+    return found + ([] if node.returns else ["what it answers"])
+
+
+class Code(unittest.TestCase):
+    """What is asked of every module of the package."""
+
+    def test_each_function_has_types(self) -> None:
+        for place, module in modules("cdma_tools"):
+            for node in ast.walk(module):
+                if isinstance(node, (ast.FunctionDef, ast.AsyncFunctionDef)):
+                    with self.subTest(f"{place}:{node.lineno} {node.name}"):
+                        self.assertEqual(untyped(node), [])
+
+    def test_each_says_what_it_is_for(self) -> None:
+        for place, module in modules("cdma_tools"):
+            with self.subTest(place):
+                self.assertTrue(ast.get_docstring(module))
+            for node in definitions(module.body):
+                if not re.fullmatch("__.*__", node.name):
+                    with self.subTest(f"{place}:{node.lineno} {node.name}"):
+                        self.assertTrue(ast.get_docstring(node))
+
+    def test_the_model_shares_no_code_with_the_tools(self) -> None:
+        for place, module in modules("model"):
+            for node in ast.walk(module):
+                names = [name.name for name in node.names] if isinstance(node, ast.Import) else []
+                names += [node.module or ""] if isinstance(node, ast.ImportFrom) else []
+                self.assertFalse([name for name in names if name.split(".")[0] in ("cdma_tools", "tools")], place)
+
+    def test_no_tool_changes_where_python_looks_for_modules(self) -> None:
+        """Nothing in the package reaches for modules by itself: so no class is loaded twice."""
+        for place, module in modules("cdma_tools"):
+            for node in ast.walk(module):
+                if isinstance(node, ast.Attribute):
+                    with self.subTest(f"{place}:{node.lineno}"):
+                        self.assertNotEqual(ast.unparse(node), "sys.path")
+                        self.assertNotIn("SourceFileLoader", node.attr)
+
+    @unittest.skipUnless(importlib.util.find_spec("mypy"), "no mypy: install the package mypy")
+    def test_mypy(self) -> None:
+        folder = temporary_folder(self.addCleanup)
+        words = [PYTHON, "-m", "mypy", "--cache-dir", folder, "cdma_tools", "model"]  # strict, by pyproject.toml
+        ran = subprocess.run(words, capture_output=True, text=True, cwd=ROOT, timeout=600)
+        self.assertEqual(ran.returncode, 0, ran.stdout[-4_000:])
+
+    @unittest.skipUnless(importlib.util.find_spec("pyflakes"), "no pyflakes: install the package python3-pyflakes")
+    def test_pyflakes(self) -> None:
+        words = [PYTHON, "-m", "pyflakes", "cdma_tools", "model", "tools/tests"]
+        ran = subprocess.run(words, capture_output=True, text=True, cwd=ROOT, timeout=600)
+        self.assertEqual((ran.returncode, ran.stdout), (0, ""))
+
+
+if __name__ == "__main__":
+    unittest.main()

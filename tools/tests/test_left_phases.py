@@ -1,0 +1,86 @@
+"""How many phases a worker of the search leaves, counted here by the rule, with every bound taken: the numbers of the
+tests of `receiver_tests`, which ask the search for what it tells its gate."""
+
+import os
+import re
+import unittest
+
+from tools.tests.helping import ROOT, needs
+
+needs("numpy")
+
+import numpy as np  # noqa: E402
+
+from model.codes import PERIOD, POINTS, points  # noqa: E402
+
+TESTS = os.path.join(ROOT, "crates", "receiver_tests", "src", "search_tests.rt")
+MOST = 2_048
+CHUNK = 64
+BLOCK = 1_024
+NOISE = re.compile(r"static NOISE: [^=]* = \[(.*?)\];", re.DOTALL)
+ROW = re.compile(r"\((\d+), (\d+), (\d+)\)")
+LAST_CODE = re.compile(r"gate\.second\.load\(Ordering::SeqCst\), (\d+)\)")
+
+
+def noise(seed: int, count: int) -> np.ndarray:
+    """The first samples of the noise of a seed, as the tests draw it."""
+    state, drawn = seed, []
+    for _ in range(2 * count):
+        state = (1_664_525 * state + 1_013_904_223) % 2**32
+        drawn.append((state >> 16) % 201 - 100)
+    return np.array(drawn[::2]) + 1j * np.array(drawn[1::2])
+
+
+def bounds_and_energies(samples: np.ndarray) -> tuple[np.ndarray, np.ndarray]:
+    """Of each phase the least bound before any chunk of 64 samples, and the energy: whole numbers below 2^53."""
+    starts = np.arange(0, len(samples), CHUNK)
+    tails = np.array([np.sum(np.abs(samples[at:].real) + np.abs(samples[at:].imag)) for at in starts])
+    code = np.concatenate([POINTS, POINTS]).conj()
+    windows = np.lib.stride_tricks.sliding_window_view(code, len(samples))
+    least, energies = [], []
+    for first in range(0, PERIOD, BLOCK):
+        parts = np.add.reduceat(windows[first : first + BLOCK] * samples, starts, axis=1)
+        sums = np.cumsum(parts, axis=1)
+        before = np.concatenate([np.zeros((BLOCK, 1)), sums[:, :-1]], axis=1)
+        bounds = (np.abs(before.real) + tails) ** 2 + (np.abs(before.imag) + tails) ** 2
+        least.append(bounds.min(axis=1))
+        energies.append(sums[:, -1].real ** 2 + sums[:, -1].imag ** 2)
+    return np.concatenate(least), np.concatenate(energies)
+
+
+def left_by_one(samples: np.ndarray, first: int = 0) -> int:
+    """How many phases one worker leaves that tries them in order from this one on, and is the first to publish."""
+    least, energies = bounds_and_energies(samples)
+    published, left = 0.0, 0
+    for phase in range(first, PERIOD):
+        if least[phase] < published:
+            left += 1
+        else:
+            published = max(published, energies[phase])
+    return left
+
+
+class LeftPhases(unittest.TestCase):
+    def setUp(self) -> None:
+        with open(TESTS) as file:
+            self.text = file.read()
+
+    def test_noise(self) -> None:
+        table = NOISE.search(self.text)
+        assert table is not None
+        rows = [tuple(map(int, row)) for row in ROW.findall(table[1])]
+        self.assertEqual(len(rows), 3)
+        for seed, count, left in rows:
+            with self.subTest(seed=seed, count=count):
+                self.assertEqual(left_by_one(noise(seed, count)), left)
+
+    def test_second_of_two_workers(self) -> None:
+        """The code at the last phase: the second worker comes to it last, and the first leaves all of its phases."""
+        samples = 100 * points(PERIOD - 1, MOST)
+        least, energies = bounds_and_energies(samples)
+        self.assertLess(least[: PERIOD // 2].max(), energies[-1])
+        self.assertEqual([str(left_by_one(samples, PERIOD // 2))], LAST_CODE.findall(self.text))
+
+
+if __name__ == "__main__":
+    unittest.main()

@@ -1,0 +1,290 @@
+"""Tests of the lock that streams, over recordings that are made without the program."""
+
+import unittest
+from typing import ClassVar
+
+import numpy
+from numpy.typing import NDArray
+
+from tools.tests.helping import needs
+from tools.tests.radio_helping import PERIOD, PHASE, Recordings, run_main, signal_to_noise
+
+needs("numpy", "scipy")
+
+from cdma_tools.listening.pieces import Break, Chips, Lost, Piece, Unheard
+from cdma_tools.listening.ring import Ring
+from cdma_tools.listening.stream_lock import LockOptions, StreamLock
+from cdma_tools.listening.streaming_front import StreamingFront
+from cdma_tools.radio.front import Front
+from cdma_tools.radio.second_pass import PilotMeter
+from cdma_tools.recordings import TYPES, Recording
+
+CHIP_RATE = 1_228_800
+RATE = 2_400_000
+BLOCK = 480_000  # bytes that are fed at once, where it doesn't matter
+# The pilot's energy over noise and the other rows' at the shared recording's Ec/Io; chips at a wrong place have none.
+LEAST_SIGNAL = -4.0
+
+
+def narrow(kind: str = "cu8", rate: float = RATE) -> StreamLock:
+    """A lock that searches few carriers, for speed."""
+    return StreamLock(LockOptions(kind, rate, search=3_000.0, conjugate="no"))
+
+
+def noise_of(count: int, seed: int) -> bytes:
+    """So many samples of noise, of 8 bits each part."""
+    return numpy.random.default_rng(seed).integers(60, 196, 2 * count, dtype=numpy.uint8).tobytes()
+
+
+def taken(lock: StreamLock, data: bytes, *sizes: int) -> list[Piece]:
+    """The pieces of bytes that come in blocks of sizes in turn, up to the stream's end."""
+    pieces, place, number = list[Piece](), 0, 0
+    while place < len(data):
+        size = sizes[number % len(sizes)]
+        pieces += lock.feed(data[place : place + size])
+        place, number = place + size, number + 1
+    return [*pieces, *lock.finish()]
+
+
+def joined(pieces: list[Piece]) -> tuple[int, NDArray[numpy.complex128]]:
+    """The first chip's number, and the chips, zeros where some were lost; pieces have to follow each other."""
+    first, parts, end = None, list[bytes](), 0
+    for piece in pieces:
+        if isinstance(piece, (Chips, Lost)):
+            first = piece.first if first is None else first
+            assert not parts or piece.first == end, (piece.first, end)
+            parts.append(piece.parts if isinstance(piece, Chips) else bytes(4 * piece.chips))
+            end = piece.first + len(parts[-1]) // 4
+    assert first is not None
+    samples = numpy.frombuffer(b"".join(parts), dtype=">i2").astype(float)
+    return first, samples[0::2] + 1j * samples[1::2]
+
+
+def ec_io(first: int, chips: NDArray[numpy.complex128]) -> float:
+    """The pilot's share of the power of chips, in dB."""
+    meter = PilotMeter()
+    meter.add(first, chips.astype(numpy.complex64))
+    return meter.ec_io
+
+
+class LockTest(Recordings):
+    """A cell of some seconds over a link, locked as a stream."""
+
+    CHIPS = 3 * CHIP_RATE
+    CLOCK = 4e-6
+
+    data: ClassVar[bytes]  # a recording of all of the cell
+
+    @classmethod
+    def setUpClass(cls) -> None:
+        super().setUpClass()
+        words = ["--type", "cu8", "--carrier", "1500", "--clock", str(1e6 * cls.CLOCK), "--ec-io", "-8"]
+        status, _, said = run_main("channel", *words, cls.cell, cls.at("shared.sigmf-meta"))
+        assert not status, said
+        with open(cls.at("shared.sigmf-data"), "rb") as file:
+            cls.data = file.read()
+
+    def bytes_of(self, *words: object, **given: object) -> bytes:
+        """The samples of a recording of the cell."""
+        meta = self.recorded(*words, **given)
+        with open(meta.replace(".sigmf-meta", ".sigmf-data"), "rb") as file:
+            return file.read()
+
+    def sent_at(self, first: int, count: int) -> NDArray[numpy.complex128]:
+        """The chips that the cell sent, by the number of the first one."""
+        place = (first - PHASE) % PERIOD
+        place -= PERIOD if place > PERIOD // 2 else 0
+        self.assertGreaterEqual(place, 0)
+        return self.sent[place : place + count]
+
+    def test_it_loses_no_more_than_the_lock_of_a_file(self) -> None:
+        for kind, rate, link in (
+            ("cu8", RATE, "--carrier -12000 --clock -22 --delay 0.4 --ec-io -9 --dc 0.1"),
+            ("ci16_le", 1_500_000, "--carrier 700 --drift 40 --clock 3 --ec-io -9"),
+            ("cf32_le", 4_915_200, "--carrier 2000 --clock 5 --ec-io -11 --conjugate"),
+        ):
+            words = ["--type", kind, "--rate", rate, "--seconds", 2.5, *link.split()]
+            data = self.bytes_of(*words)
+            found = self.locked(self.at("in.sigmf-meta"))
+            whole, sent = self.aligned(self.at("out.is95"), found)
+            first, chips = joined(taken(StreamLock(LockOptions(kind, rate)), data, BLOCK))
+            start = int(found["phase"]) % PERIOD
+            self.assertLess(abs(ec_io(first, chips) - ec_io(start, whole)), 0.05)
+            loss = signal_to_noise(whole, sent) - signal_to_noise(chips, self.sent_at(first, len(chips)))
+            self.assertLess(abs(loss), 0.05, (kind, link))
+            self.assertGreater(len(chips), 2.5 * CHIP_RATE - 10_000)
+
+    def test_chips_do_not_depend_on_how_bytes_are_cut(self) -> None:
+        """Over a loss, a pilot that is away for three seconds, and bytes that end within a sample."""
+        head, tail = self.data[: 3 * RATE], self.data[3 * RATE + 2 * 30_000 : 5 * RATE]
+        stream = head + tail + noise_of(3 * RATE, 5) + self.data[: 5 * RATE]
+        wanted: list[Piece] | None = None
+        for sizes in ((BLOCK,), (48_001, 1, 299_997, 37), (len(stream),)):
+            got = merged(taken(narrow(), stream, *sizes))
+            wanted = got if wanted is None else wanted
+            self.assertEqual(got, wanted, sizes)
+        assert wanted is not None
+        kinds = [type(piece) for piece in wanted if not isinstance(piece, Unheard)]
+        self.assertEqual(kinds, [Chips, Lost, Chips, Break, Chips])
+
+    def test_losses_are_counted_by_the_code(self) -> None:
+        """Of whole periods only the rest is told; chips on both sides are those that were sent."""
+        place = 3 * RATE
+        for count in (700, 120_000):
+            pieces = taken(narrow(), self.data[:place] + self.data[place + 2 * count :], BLOCK)
+            told = [piece for piece in pieces if isinstance(piece, Lost)]
+            self.assertEqual(len(told), 1)
+            lost = round(count * CHIP_RATE / RATE)
+            self.assertLess(abs(told[0].chips - lost % PERIOD), 1.5)
+            self.assertLess(abs(told[0].seconds - 1.5), 0.001)
+            first, got = joined(pieces)
+            sent = self.sent_at(first, 3 * CHIP_RATE)
+            before = told[0].first - first
+            self.assertGreater(signal_to_noise(got[: before - 1_024], sent), LEAST_SIGNAL)
+            after = before + told[0].chips + 1_024
+            whole = lost - told[0].chips
+            self.assertLess(abs(whole - lost // PERIOD * PERIOD), 2)
+            sent = sent[after + lost // PERIOD * PERIOD :]
+            self.assertGreater(signal_to_noise(got[after:], sent), LEAST_SIGNAL)
+
+    def test_a_pilot_that_was_away_has_its_old_numbers(self) -> None:
+        """After noise as long as 150 periods the numbers are, to the chip, those that were to come."""
+        periods = 150
+        samples = round(periods * PERIOD * RATE / CHIP_RATE / (1 + self.CLOCK))
+        cut = 3 * RATE
+        pieces = taken(narrow(), self.data[:cut] + noise_of(samples, 5) + self.data[cut:], BLOCK)
+        breaks = [number for number, piece in enumerate(pieces) if isinstance(piece, Break)]
+        self.assertEqual(len(breaks), 1)
+        first, before = joined(pieces[: breaks[0]])
+        again, after = joined(pieces[breaks[0] :])
+        place = self.place_of(after)
+        self.assertEqual(again - first, place - self.place_of(before) + periods * PERIOD)
+        self.assertGreater(signal_to_noise(after, self.sent[place:]), LEAST_SIGNAL)
+
+    def place_of(self, chips: NDArray[numpy.complex128]) -> int:
+        """Which of the cell's chips the first one of some is."""
+        head = chips[:8_192]
+        got = numpy.abs(numpy.fft.ifft(numpy.fft.fft(self.sent) * numpy.fft.fft(head, len(self.sent)).conj()))
+        return int(got.argmax())
+
+    def test_memory_does_not_grow(self) -> None:
+        lock, sizes = narrow(), []
+        noise = noise_of(3 * RATE, 6)
+        for part in (self.data, self.data, noise, noise, self.data):
+            for place in range(0, len(part), 200_000):
+                for _ in lock.feed(part[place : place + 200_000]):
+                    pass
+                sizes.append(lock.ring.data.nbytes)
+            if lock.pursuit is not None:
+                self.assertLess(len(lock.pursuit.points), 64)
+        self.assertLess(max(sizes), 2 * 4 * RATE)
+
+    def test_the_filter_follows_a_carrier(self) -> None:
+        """Where it drifts by 9 kHz in three seconds no more is lost than without a drift."""
+        shares = []
+        for drift in (0, 3_000):
+            data = self.bytes_of("--type", "cu8", "--carrier", -2000, "--drift", drift, "--ec-io", -9)
+            lock = narrow()
+            first, chips = joined(taken(lock, data, BLOCK))
+            shares.append(ec_io(first + len(chips) // 2, chips[len(chips) // 2 :]))
+            self.assertGreater(len(chips), 2.9 * CHIP_RATE)
+        self.assertLess(abs(shares[0] - shares[1]), 0.1)
+        self.assertLess(abs(lock.front.carrier - 7_000), 2_600)
+
+    def test_no_pilot(self) -> None:
+        pieces = taken(narrow(), noise_of(4 * RATE, 7), BLOCK)
+        self.assertTrue(pieces and all(isinstance(piece, Unheard) for piece in pieces))
+
+    def test_a_pilot_that_begins_late_begins_there(self) -> None:
+        lock = narrow()
+        first, chips = joined(taken(lock, noise_of(5 * RATE, 8) + self.data, BLOCK))
+        assert lock.origin is not None
+        self.assertGreater(first - lock.origin, 2 * CHIP_RATE)
+        self.assertLess(abs(first + len(chips) - lock.origin - 8 * CHIP_RATE), 3_000)
+
+    def test_samples_that_are_skipped_count(self) -> None:
+        lock = narrow()
+        pieces = [*lock.feed(self.data[: 4 * RATE + 1]), *lock.skip(2 * RATE)]
+        end = max(piece.end for piece in pieces if isinstance(piece, Chips))
+        pieces += taken(lock, self.data, BLOCK)
+        again = next(piece for piece in pieces if isinstance(piece, Break))
+        self.assertLess(abs(end - (lock.origin or 0) - 2 * CHIP_RATE), 50)
+        self.assertLess(abs(again.chip - (lock.origin or 0) - 4 * CHIP_RATE), PERIOD)
+        self.assertLess(abs(again.seconds - 4), 0.1)
+
+
+def merged(pieces: list[Piece]) -> list[Piece]:
+    """Pieces, of which chips that follow each other are one."""
+    out = list[Piece]()
+    for piece in pieces:
+        last = out[-1] if out else None
+        if isinstance(piece, Chips) and isinstance(last, Chips) and last.end == piece.first:
+            out[-1] = Chips(last.first, last.parts + piece.parts)
+        else:
+            out.append(piece)
+    return out
+
+
+class FrontTest(Recordings):
+    """The front for speed against the front of a file."""
+
+    front: ClassVar[Front]
+
+    def test_it_gives_the_same_blocks(self) -> None:
+        self.recorded("--type", "ci16_le", "--rate", 2_000_000, "--ec-io", -8)
+        path = self.at("in.sigmf-data")
+        ring = Ring("ci16_le", 2_000_000)
+        with open(path, "rb") as file:
+            ring.add(file.read())
+        with Recording(path, "ci16_le", 2_000_000) as recording:
+            plain, fast = Front(recording), StreamingFront(ring)
+            for front in (plain, fast):
+                front.set_carrier(3_300.0)
+            starts = numpy.array([-500.0, 10.25, 5_000.75, 60_000.5])
+            for over in (1, 2):
+                wanted, got = plain.blocks(starts, over), fast.blocks(starts, over)
+                self.assertLess(float(numpy.abs(wanted - got).max()), 1e-3 * float(numpy.abs(wanted).max()))
+            rows = fast.segments(starts[1:], 4_000, 2, 3e-6)
+            for start, row in zip(starts[1:], rows):
+                wanted = plain.steady(start, 4_000, 2, 3e-6)
+                self.assertLess(float(numpy.abs(wanted - row).max()), 2e-3 * float(numpy.abs(wanted).max()))
+
+
+class RingTest(unittest.TestCase):
+    """The samples that are kept."""
+
+    def test_samples_come_back_in_any_place(self) -> None:
+        draws = numpy.random.default_rng(1)
+        for kind in ("cu8", "ci16_be"):
+            parts = draws.integers(0, 200, 40_000).astype(TYPES[kind].form)
+            data, ring, place = parts.tobytes(), Ring(kind, 2_000), 0
+            while place < len(data):
+                size = int(draws.integers(1, 999))
+                ring.add(data[place : place + size])
+                place += size
+                ring.drop(ring.count - 1_500)
+            self.assertEqual(ring.count, 20_000)
+            whole = parts.astype(float).view(complex)
+            low = 20_000 - 1_500
+            self.assertTrue(numpy.array_equal(ring.read(low, 1_500), whole[low:].astype(numpy.complex64)))
+            rows = ring.rows(numpy.array([low, 19_000]), 1_000)
+            self.assertTrue(numpy.array_equal(rows[1], whole[19_000:].astype(numpy.complex64)))
+            middle = TYPES[kind].middle
+            self.assertTrue(numpy.array_equal(ring.read(20_000, 3), numpy.full(3, middle * (1 + 1j))))
+            self.assertLessEqual(len(ring.data), 2 * 7_000)
+
+    def test_numbers_that_are_not_finite_count_as_zero(self) -> None:
+        ring = Ring("cf32_le", 2_000)
+        ring.add(numpy.array([1, numpy.nan, numpy.inf, 2], dtype="<f4").tobytes())
+        self.assertEqual(ring.damaged, 2)
+        self.assertEqual(ring.read(0, 2).tolist(), [1, 2j])
+
+    def test_a_conjugate(self) -> None:
+        ring = Ring("ci8", 2_000)
+        ring.is_conjugate = True
+        ring.add(bytes([1, 2, 3, 4]))
+        self.assertEqual(ring.read(0, 2).tolist(), [1 - 2j, 3 - 4j])
+
+
+if __name__ == "__main__":
+    unittest.main()

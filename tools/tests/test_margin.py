@@ -1,0 +1,148 @@
+"""`tools/margin`, the model's margin, and files with noise within a margin and beyond it."""
+
+import contextlib
+import io
+import json
+import os
+import unittest
+
+from cdma_tools.commands import margin as command
+from cdma_tools.errors import Refused
+from cdma_tools.margins import margin_of, margins
+from cdma_tools.scripts import Script
+from tools.tests.helping import EXAMPLES, example, needs, run_tool
+
+needs("numpy")
+
+from model.air import Noise, received  # noqa: E402
+from model.files import header_bytes, sample_bytes  # noqa: E402
+from model.noise import bears  # noqa: E402
+from model.noise import margin as margin_by_model  # noqa: E402
+from model.run import run  # noqa: E402
+from model.script import Cell, read_script  # noqa: E402
+
+SECOND = "second_of_paging.script"
+CALL = "call.script"
+SYNC_ROW = 32
+
+
+def cell_of(re: int, im: int, pilot: int) -> Cell:
+    """A cell of such a link and pilot, with nothing else."""
+    return Cell(re=re, im=im, pilot_gain=pilot)
+
+
+def script_of(re: int, im: int, gains: dict[int, int]) -> Script:
+    """The same as the tools read it, with channels of these gains."""
+    return Script(complex(re, im), 0, 1, 0, gains, (), ())
+
+
+class Worked(unittest.TestCase):
+    """The inequality by hand: (g + g0) e (|re| + |im|) + 2 e^2 < g g0 (re^2 + im^2)."""
+
+    # re, im, the pilot's gain, the channel's, and the margin. With -3 j, 100 and 30: 130 * 3 * 54 + 2 * 54^2 = 26,892 and
+    # 130 * 3 * 55 + 2 * 55^2 = 27,500, where the other side is 30 * 100 * 9 = 27,000. With 3, 100 and 100 the sides are
+    # 65,400 + 23,762 = 89,162, 66,000 + 24,200 = 90,200 and 90,000. With 1, 1 and 1: 2 e + 2 e^2 < 1 for 0 alone.
+    VALUES = [(0, -3, 100, 30, 54), (0, -3, 100, 60, 83), (3, 0, 100, 100, 109), (1, 0, 1, 1, 0), (-2, 1, 200, 60, 65)]
+
+    def test_values_by_hand(self) -> None:
+        for re, im, pilot, gain, wanted in self.VALUES:
+            with self.subTest(re=re, im=im, pilot=pilot, gain=gain):
+                self.assertEqual(margin_of(script_of(re, im, {0: pilot}), gain), wanted)
+                self.assertEqual(margin_by_model(cell_of(re, im, pilot), gain), wanted)
+
+    def test_a_margin_is_the_greatest_that_is_borne(self) -> None:
+        for re, im, pilot, gain in [(7, -11, 3, 65_535), (-1, 0, 1, 2), (32_767, -32_768, 1, 1), (5, 5, 999, 1)]:
+            with self.subTest(re=re, im=im, pilot=pilot, gain=gain):
+                cell = cell_of(re, im, pilot)
+                found = margin_of(script_of(re, im, {0: pilot}), gain)
+                self.assertEqual(found, margin_by_model(cell, gain))
+                self.assertIsNotNone(found)
+                self.assertTrue(bears(cell, gain, found or 0))
+                self.assertFalse(bears(cell, gain, (found or 0) + 1))
+
+    def test_a_channel_without_a_gain_bears_not_even_none(self) -> None:
+        self.assertIsNone(margin_of(script_of(3, 0, {0: 100}), 0))
+        self.assertIsNone(margin_by_model(cell_of(3, 0, 100), 0))
+        self.assertIsNone(margin_of(script_of(0, 0, {0: 100}), 5))
+
+    def test_a_channel_that_is_missing_is_refused(self) -> None:
+        script = script_of(0, -3, {0: 100, SYNC_ROW: 30})
+        self.assertEqual([one.margin for one in margins(script)], [54])
+        with self.assertRaisesRegex(Refused, "row 7"):
+            margins(script, [SYNC_ROW, 7])
+        with self.assertRaisesRegex(Refused, "nothing but a pilot"):
+            margins(script_of(0, -3, {0: 100}))
+
+
+class Tool(unittest.TestCase):
+    """The table, its JSON, and what is refused."""
+
+    def told(self, *arguments: str, data: bytes = b"") -> tuple[int, str, str]:
+        status, wrote, said = run_tool("margin", *arguments, data=data)
+        return status, wrote.decode(), said
+
+    def test_the_example_has_its_two_margins(self) -> None:
+        status, wrote, said = self.told(os.path.join(EXAMPLES, SECOND))
+        self.assertEqual((status, said), (0, ""))
+        rows = [line.split() for line in wrote.splitlines()]
+        # 54 of 90, and of sqrt(100^2 + 30^2 + 60^2) * 3 = 361.2; 83 of 180
+        self.assertEqual(rows[1], ["sync", "30", "90.0", "54", "0.600", "0.149"])
+        self.assertEqual(rows[2], ["paging", "1", "60", "180.0", "83", "0.461", "0.230"])
+        self.assertEqual(rows[3], ["all", "of", "these", "54"])
+
+    def test_a_command_names_the_channels(self) -> None:
+        script = example(CALL)
+        status, wrote, _ = self.told("--json", "-", "rate2", "--esn", "00c0ffee", "--row=12", "--fingers", "2", data=script)
+        self.assertEqual((status, [json.loads(line)["row"] for line in wrote.splitlines()]), (0, [SYNC_ROW, 12]))
+        status, wrote, _ = self.told("-", "follow", "--json", data=script)
+        self.assertEqual((status, [json.loads(line)["row"] for line in wrote.splitlines()]), (0, [SYNC_ROW, 1]))
+
+    def test_wrong_input_is_a_line(self) -> None:
+        weak = example(SECOND).replace(b"sync gain=30", b"sync gain=1").replace(b"pilot gain=100", b"pilot gain=1")
+        weak = weak.replace(b"im=-3", b"im=-1")
+        cases: list[tuple[int, str, tuple[str, ...], bytes]] = [
+            (2, "row 9", ("-", "rate2", "--esn", "0", "--row", "9"), example(SECOND)),
+            (2, "needs --row", ("-", "list"), example(SECOND)),
+            (2, "sync bears no noise: its margin is 0", ("-",), weak),
+            (2, "isn't one of", ("-", "find"), example(SECOND)),
+            (2, "no option with a value", ("-", "follow", "--paging"), example(SECOND)),
+            (2, "--paging is 1 to 7", ("-", "follow", "--paging", "8"), example(SECOND)),
+            (2, "no script", ("-",), b""),
+            (2, "line 1 is no line of a script", ("-",), b"hello\n"),
+            (2, "no ASCII text", ("-",), b"\xff\n"),
+            (2, "no script", ("-",), b"#" * 2_000_000),
+            (1, "No such file", ("/nowhere/at/all",), b""),
+        ]
+        for status, said, arguments, data in cases:
+            with self.subTest(said=said, arguments=arguments):
+                ended, wrote, told = self.told(*arguments, data=data)
+                self.assertEqual((ended, wrote, told.count("\n")), (status, "", 1))
+                self.assertIn(said, told)
+
+    def test_no_argument_is_a_usage(self) -> None:
+        with contextlib.redirect_stderr(io.StringIO()), self.assertRaises(SystemExit) as ended:
+            command.main([])
+        self.assertEqual(ended.exception.code, 2)
+
+
+class Beyond(unittest.TestCase):
+    """The bound isn't idle: noise of a small multiple of the margin, against the channel's chips, loses what is sent."""
+
+    def lines(self, size: int) -> list[str]:
+        """What the model hears of the example's first 0.4 seconds with noise of a size against the sync channel."""
+        text = example(SECOND).replace(b"samples=1228800", b"samples=500000")
+        cell = read_script(text, 16)
+        total = received(16, [cell], [], Noise(against=(SYNC_ROW, size)))
+        data = header_bytes(16, cell.checks, len(total)) + sample_bytes(16, total)
+        outcome = run(["follow"], lambda: data)
+        return [line for line in outcome.text().decode().splitlines() if line.startswith("sync ")]
+
+    def test_at_the_margin_the_message_is_heard_and_at_twice_it_is_lost(self) -> None:
+        heard = self.lines(0)
+        self.assertEqual(len(heard), 1)
+        self.assertEqual(self.lines(54), heard)
+        self.assertEqual(self.lines(108), [])
+
+
+if __name__ == "__main__":
+    unittest.main()

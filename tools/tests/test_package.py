@@ -1,0 +1,315 @@
+"""tools/package, tools/install and pip: each is laid into an empty root, tried as a user would, and taken away again."""
+
+from __future__ import annotations
+
+import importlib.util
+import os
+import pty
+import re
+import select
+import shutil
+import subprocess
+import time
+import unittest
+import unittest.mock
+
+from tools.tests.helping import NO_PROGRAM, PROGRAM, PYTHON, ROOT, needs, run_tool, temporary_folder
+
+needs("numpy", "scipy")
+
+import cdma_tools  # noqa: E402
+from cdma_tools.arguments import INSTALLED  # noqa: E402
+from cdma_tools.errors import Refused  # noqa: E402
+from cdma_tools.packaging import completions, debian, tree  # noqa: E402
+from cdma_tools.places import data_folder  # noqa: E402
+
+SECONDS = 300
+# Cases of several commands; all of them are asked where WHOLE_CONFORMANCE is set, which takes some minutes.
+CASES = ("all_taps", "survey_narrow")
+IS_WHOLE = bool(os.environ.get("WHOLE_CONFORMANCE"))
+STANDS_FOR = "#!/bin/sh\necho bad words >&2\nexit 2\n"
+
+
+def files_below(folder: str) -> list[str]:
+    """The files below a folder."""
+    return sorted(
+        os.path.relpath(os.path.join(path, name), folder) for path, _, names in os.walk(folder) for name in names
+    )
+
+
+class Installed(unittest.TestCase):
+    """What a user does with an installation."""
+
+    def setUp(self) -> None:
+        self.folder = temporary_folder(self.addCleanup)
+        self.work = os.path.join(self.folder, "work")
+        os.mkdir(self.work)
+
+    def ran(self, prefix: str, *words: str, source: str | None = None) -> subprocess.CompletedProcess[bytes]:
+        """A run of an installed command, elsewhere than in the checkout, which finds the others on the path."""
+        environment = {
+            "PATH": f"{prefix}/bin:/usr/bin:/bin",
+            "HOME": self.work,
+            "OMP_NUM_THREADS": "1",
+            "OPENBLAS_NUM_THREADS": "1",
+        }
+        with open(source or os.devnull, "rb") as file:
+            return subprocess.run(
+                [os.path.join(prefix, "bin", words[0]), *words[1:]],
+                stdin=file, capture_output=True, cwd=self.work, env=environment, timeout=SECONDS,
+            )  # fmt: skip
+
+    def done(self, prefix: str, *words: str, source: str | None = None, into: str | None = None) -> bytes:
+        """What a run writes that ends well; it is kept in a file where one is named."""
+        ended = self.ran(prefix, *words, source=source)
+        self.assertEqual(ended.returncode, 0, ended.stderr.decode())
+        if into:
+            with open(os.path.join(self.work, into), "wb") as file:
+                file.write(ended.stdout)
+        return ended.stdout
+
+    def try_out(self, prefix: str) -> None:
+        """A second of paging is made, sent through a channel, imported, followed and reported; and cases are asked."""
+        for name in tree.commands():
+            told = self.done(prefix, name, "--version").decode()
+            self.assertEqual(told, f"{name} {cdma_tools.__version__}\n")
+        script = os.path.join(prefix, "share", "cdma-replay", "examples", "second_of_paging.script")
+        self.done(prefix, "cdma_replay", "make", source=script, into="second.is95")
+        self.done(
+            prefix,
+            "cdma-channel",
+            "--type",
+            "cu8",
+            "--carrier",
+            "-2000",
+            "--ec-io",
+            "-9",
+            "second.is95",
+            "radio.sigmf-meta",
+        )
+        self.done(prefix, "cdma-import", "--lock", "radio.sigmf-meta", "radio.is95")
+        heard = self.done(
+            prefix, "cdma_replay", "follow", source=os.path.join(self.work, "radio.is95"), into="heard.txt"
+        )
+        self.assertRegex(heard.decode(), r"(?m)^paging at=\d+ channels pn=511 ")
+        self.assertEqual(self.done(prefix, "cdma-lines", "heard.txt").count(b"\n"), heard.count(b"\n"))
+        self.done(prefix, "cdma-explain", "second.is95", "--sync")
+        if importlib.util.find_spec("plotly"):
+            self.done(prefix, "cdma-report", "radio.is95", "--out", "page.html")
+        words = () if IS_WHOLE else tuple(word for name in CASES for word in ("--only", name))
+        self.assertRegex(self.done(prefix, "cdma-conformance", *words).decode(), r"^\d+ cases, 0 differ\n\Z")
+
+    def check_pages_and_completions(self, prefix: str) -> None:
+        """Manual pages without a complaint, and completions that bash can read."""
+        for name in tree.commands():
+            page = os.path.join(prefix, "share", "man", "man1", f"{name}.1")
+            if shutil.which("mandoc"):
+                ran = subprocess.run(
+                    ["mandoc", "-T", "lint", "-W", "warning", page], capture_output=True, text=True, timeout=60
+                )
+                self.assertEqual((ran.returncode, ran.stdout), (0, ""))
+            file = os.path.join(prefix, "share", "bash-completion", "completions", name)
+            function = "_" + name.replace("-", "_")
+            asked = f'source {file}; COMP_WORDS=({name} --ver); COMP_CWORD=1; {function}; echo "${{COMPREPLY[@]}}"'
+            ran = subprocess.run(["bash", "-c", asked], capture_output=True, text=True, timeout=60)
+            self.assertIn("--version", ran.stdout.split(), ran.stderr)
+            self.assertTrue(os.path.isfile(os.path.join(prefix, tree.ZSH, f"_{name}")))
+
+
+@unittest.skipUnless(shutil.which("zsh"), "no zsh: install the package zsh")
+class OfZsh(unittest.TestCase):
+    """What zsh makes of a line and the tabulator."""
+
+    def setUp(self) -> None:
+        self.folder = temporary_folder(self.addCleanup)
+        for name, module in tree.commands().items():
+            with open(os.path.join(self.folder, f"_{name}"), "w", encoding="utf-8") as file:
+                file.write(completions.zsh_completion_of(name, module))
+
+    def read(self, terminal: int, pattern: bytes) -> bytes:
+        """What a terminal shows up to a pattern's group, which is answered."""
+        shown, until = b"", time.monotonic() + 60
+        while time.monotonic() < until:
+            if select.select([terminal], [], [], 0.2)[0]:
+                shown += os.read(terminal, 4_096)
+            if found := re.search(pattern, shown):
+                return found[1]
+        self.fail(f"zsh shows {shown!r}, and not {pattern!r}")
+
+    def completed(self, line: str) -> str:
+        """The line after the tabulator, as zsh then runs it after a `print`."""
+        ours, theirs = pty.openpty()
+        environment = {"PATH": "/usr/bin:/bin", "HOME": self.folder, "TERM": "dumb"}
+        with subprocess.Popen(
+            ["zsh", "-f", "-i"], stdin=theirs, stdout=theirs, stderr=theirs, env=environment, start_new_session=True
+        ) as zsh:
+            os.close(theirs)
+            start = f"fpath=({self.folder} $fpath); autoload -Uz compinit; compinit -u -D; bindkey -e; PS1="
+            os.write(ours, f"{start}; print READ''Y\n".encode())
+            self.read(ours, rb"(READY)\r\n")
+            # The end of the line shows what the tabulator did, whenever zsh has done it: keys wait for their turn.
+            os.write(ours, f"{line}\t\x01print -r -- TOL''D \n".encode())
+            told = self.read(ours, rb"TOLD (.*?)\r\n")
+            zsh.kill()
+        os.close(ours)
+        return told.decode()
+
+    def test_each_command(self) -> None:
+        for name in tree.commands():
+            with self.subTest(name):
+                self.assertEqual(self.completed(f"{name} --vers"), f"{name} --version")
+
+    def test_options_and_choices(self) -> None:
+        for line, told in (
+            ("cdma-scan --conjugate t", "cdma-scan --conjugate try"),
+            ("cdma-scan --conjugate=t", "cdma-scan --conjugate=try"),
+            ("cdma-draw survey --ti", "cdma-draw survey --title"),
+            ("cdma-curve --path 7:1 --pa", "cdma-curve --path 7:1 --path"),
+            ("cdma-scan --all --al", "cdma-scan --all --al"),
+        ):
+            with self.subTest(line):
+                self.assertEqual(self.completed(line), told)
+
+
+@unittest.skipUnless(PROGRAM, NO_PROGRAM)
+class OfTheProgram(Installed):
+    """Installations of the built program."""
+
+    def test_a_package(self) -> None:
+        if not shutil.which("dpkg-deb"):
+            self.skipTest("no dpkg-deb: this is no system of Debian's kind")
+        made = [os.path.join(self.folder, name) for name in ("one.deb", "two.deb")]
+        for path in made:
+            debian.build(tree.entries(str(PROGRAM)), path)
+        with open(made[0], "rb") as one, open(made[1], "rb") as two:
+            self.assertEqual(one.read(), two.read())
+        root = os.path.join(self.folder, "root")
+        subprocess.run(["dpkg-deb", "-x", made[0], root], check=True, timeout=60)
+        self.try_out(os.path.join(root, "usr"))
+        self.assertIn("usr/share/zsh/vendor-completions/_cdma-scan", files_below(root))  # where Debian's zsh looks
+        self.assertFalse([name for name in files_below(root) if "__pycache__" in name])
+        self.check_removal(made[0])
+
+    @unittest.skipUnless(
+        shutil.which("lintian") and shutil.which("dpkg-deb"), "no lintian: install the package lintian"
+    )
+    def test_lintian_finds_no_error(self) -> None:
+        package = os.path.join(self.folder, "one.deb")
+        debian.build(tree.entries(str(PROGRAM)), package)
+        ran = subprocess.run(
+            ["lintian", "--allow-root", "--fail-on", "error", package], capture_output=True, text=True, timeout=SECONDS
+        )
+        self.assertEqual((ran.returncode, re.findall("(?m)^E: .*", ran.stdout)), (0, []), ran.stdout)
+
+    def check_removal(self, package: str) -> None:
+        """What dpkg installs below a root it takes away again, and leaves nothing."""
+        root = os.path.join(self.folder, "below")
+        base = os.path.join(root, "var", "lib", "dpkg")
+        for name in ("info", "updates", "triggers"):
+            os.makedirs(os.path.join(base, name))
+        for name in ("status", "available"):
+            with open(os.path.join(base, name), "w"):
+                pass
+        words = [
+            "dpkg",
+            f"--root={root}",
+            f"--log={self.folder}/log",
+            "--force-not-root",
+            "--force-depends",
+            "--force-bad-path",
+        ]
+        environment = {**os.environ, "PATH": f"{os.environ['PATH']}:/usr/sbin:/sbin"}
+        for more in (["--install", package], ["--purge", debian.NAME]):
+            ran = subprocess.run([*words, *more], capture_output=True, text=True, env=environment, timeout=SECONDS)
+            self.assertEqual(ran.returncode, 0, ran.stderr)
+            self.assertEqual(os.path.exists(os.path.join(root, "usr", "bin", "cdma-scan")), more[0] == "--install")
+        self.assertFalse(os.path.exists(os.path.join(root, "usr")))
+
+    def test_a_prefix(self) -> None:
+        prefix = os.path.join(self.folder, "prefix")
+        status, wrote, said = run_tool("install", "--program", str(PROGRAM), prefix)
+        self.assertEqual((status, said), (0, ""))
+        places = files_below(prefix)
+        self.assertEqual(sorted(wrote.decode().split("\n")[:-1]), [os.path.join(prefix, place) for place in places])
+        self.try_out(prefix)
+        self.check_pages_and_completions(prefix)
+        self.assertEqual(files_below(prefix), places)
+        self.assertEqual(run_tool("install", "--remove", prefix)[0], 0)
+        self.assertFalse(os.path.exists(prefix) and os.listdir(prefix))
+
+
+class Parts(Installed):
+    """What needs no built program."""
+
+    def test_only_what_was_built_is_packed(self) -> None:
+        """Without a program in its place in the checkout there is no package, whatever the environment names."""
+        program = os.path.join(self.folder, "cdma_replay")
+        with open(program, "w", encoding="ascii") as file:
+            file.write(STANDS_FOR)
+        os.chmod(program, 0o755)
+        with unittest.mock.patch.dict(os.environ, {"CDMA_REPLAY": program}):
+            with unittest.mock.patch("cdma_tools.commands.package.BUILT", os.path.join(self.folder, "none")):
+                with self.assertRaisesRegex(Refused, "no program at .*none: build it first"):
+                    importlib.import_module("cdma_tools.commands.package").main([self.folder])
+        self.assertEqual(run_tool("package", "--program", program)[0], 2)
+        self.assertEqual(run_tool("package", os.path.join(self.folder, "none"))[0], 2)
+
+    def test_the_copyright_file_says_that_no_licence_is_chosen(self) -> None:
+        self.assertIn("No licence has been chosen yet.", debian.COPYRIGHT)
+
+    def test_each_command_of_the_checkout_is_installed(self) -> None:
+        modules = {
+            name for name in INSTALLED if os.path.exists(os.path.join(ROOT, "cdma_tools", "commands", f"{name}.py"))
+        }
+        self.assertEqual(set(tree.commands().values()), modules)
+        self.assertLessEqual(
+            {"import_capture", "channel", "scan", "report", "lines", "draw", "explain", "curve", "conformance"}, modules
+        )
+
+    def test_data_is_found_beside_a_package_or_below_its_prefix(self) -> None:
+        package = os.path.join(self.folder, "lib", "python3", "dist-packages", "cdma_tools")
+        shared = os.path.join(self.folder, "share", "cdma-replay", "examples")
+        for folder in (package, shared):
+            os.makedirs(folder)
+        self.assertEqual(data_folder("examples", package), shared)
+        beside = os.path.join(os.path.dirname(package), "examples")
+        self.assertEqual(data_folder("conformance", package), os.path.join(os.path.dirname(package), "conformance"))
+        os.mkdir(beside)
+        self.assertEqual(data_folder("examples", package), beside)
+
+    def test_pip(self) -> None:
+        """pip installs the tools from a checkout without a network, by Debian's packages alone."""
+        for module, package in (
+            ("pip", "python3-pip"),
+            ("setuptools", "python3-setuptools"),
+            ("wheel", "python3-wheel"),
+        ):
+            if subprocess.run([PYTHON, "-c", f"import {module}"], capture_output=True).returncode:
+                self.skipTest(f"no {module}: install the package {package}")
+        source, prefix = os.path.join(self.folder, "source"), os.path.join(self.folder, "prefix")
+        left = shutil.ignore_patterns("crates", ".git", "__pycache__", "build", "*.egg-info")
+        shutil.copytree(ROOT, source, ignore=left)
+        words = ["--no-index", "--no-build-isolation", "--no-deps", "--no-cache-dir", "--no-warn-script-location"]
+        environment = {**os.environ, "PIP_DISABLE_PIP_VERSION_CHECK": "1", "PIP_ROOT_USER_ACTION": "ignore"}
+        command = [PYTHON, "-m", "pip", "install", *words, "--prefix", prefix, source]
+        ran = subprocess.run(command, capture_output=True, text=True, env=environment, timeout=SECONDS)
+        self.assertEqual(ran.returncode, 0, ran.stderr)
+        scripts = [
+            path for path in files_below(prefix) if os.path.basename(path).startswith("cdma-") and "/bin/" in f"/{path}"
+        ]
+        self.assertEqual(sorted(map(os.path.basename, scripts)), sorted(INSTALLED.values()))
+        where = next(path for path, folders, _ in os.walk(prefix) if "cdma_tools" in folders)
+        run = {**os.environ, "PYTHONPATH": where, "PYTHONDONTWRITEBYTECODE": "1"}
+        for name in tree.commands():
+            script = os.path.join(prefix, next(path for path in scripts if path.endswith(f"/{name}")))
+            told = subprocess.run(
+                [script, "--version"], capture_output=True, text=True, env=run, cwd=self.work, timeout=60
+            )
+            self.assertEqual((told.returncode, told.stdout), (0, f"{name} {cdma_tools.__version__}\n"), told.stderr)
+        script = os.path.join(prefix, next(path for path in scripts if path.endswith("/cdma-conformance")))
+        told = subprocess.run([script, "--list"], capture_output=True, text=True, env=run, cwd=self.work, timeout=60)
+        self.assertGreater(told.stdout.count("\n"), 300, told.stderr)
+
+
+if __name__ == "__main__":
+    unittest.main()
