@@ -1,9 +1,10 @@
 """What a cell sends: the symbols of its channels, and its samples chip by chip (7.1.3.1, 7.7.1)."""
 
 from functools import cache
-from typing import Callable, Iterator, NamedTuple
+from typing import Any, Callable, Iterator, NamedTuple
 
 import numpy as np
+from numpy.typing import NDArray
 
 from model.bits import Bits, number
 from model.codes import WALSH, paging_mask, points, scrambling_bits, state_after, state_before, traffic_mask
@@ -44,10 +45,10 @@ class Channel(NamedTuple):
     row: int
     first: int
     frame: int
-    symbols: Callable[[int], np.ndarray]
+    symbols: Callable[[int], NDArray[Any]]
 
 
-def power_places(state: int, mask: int, scrambling: np.ndarray) -> np.ndarray:
+def power_places(state: int, mask: int, scrambling: NDArray[Any]) -> NDArray[Any]:
     """Which 32 symbols of the frame that begins at a state its power control bits replace, two for each (7.1.3.1.7)."""
     before = scrambling_bits(state_before(state, GROUP), mask, 24)
     groups = np.concatenate([before, scrambling]).reshape(17, 24)[:16]
@@ -55,7 +56,7 @@ def power_places(state: int, mask: int, scrambling: np.ndarray) -> np.ndarray:
     return np.stack([starts, starts + 1], axis=1).ravel()
 
 
-def continued_symbols(bits_of: Callable[[int], Bits], frame: int) -> np.ndarray:
+def continued_symbols(bits_of: Callable[[int], Bits], frame: int) -> NDArray[Any]:
     """The code symbols of a frame whose encoder goes on from the frame before, and starts with zeros."""
     start = number(bits_of(frame - 1)[-8:]) if frame else 0
     return code_symbols(start, bits_of(frame))
@@ -111,7 +112,7 @@ def paging_channel(cell: Cell, channel: Paging) -> Channel:
     def bits_of(frame: int) -> Bits:
         return [cycle[place % len(cycle)] for place in range(frame_size * frame, frame_size * (frame + 1))]
 
-    def symbols(frame: int) -> np.ndarray:
+    def symbols(frame: int) -> NDArray[Any]:
         sent = continued_symbols(bits_of, frame)[PAGING_ORDERS[frame_size]]
         return sent ^ scrambling_bits(state_after(cell.lc, FRAME * frame), mask)
 
@@ -122,7 +123,7 @@ def traffic_channel(cell: Cell, channel: Traffic) -> Channel:
     """A traffic channel: a cycle of frames again and again, each encoded by itself (7.1.3.5)."""
     mask, first = traffic_mask(channel.serial), GROUP * channel.offset
 
-    def symbols(index: int) -> np.ndarray:
+    def symbols(index: int) -> NDArray[Any]:
         frame = channel.frames[index % len(channel.frames)]
         state = state_after(cell.lc, first + FRAME * index)
         scrambling = scrambling_bits(state, mask)
@@ -143,7 +144,7 @@ def channels(cell: Cell) -> list[Channel]:
     ]
 
 
-def levels(channel: Channel, begin: int, end: int) -> np.ndarray:
+def levels(channel: Channel, begin: int, end: int) -> NDArray[Any]:
     """What a channel sends, without its row, in the blocks of 64 chips from one to before another."""
     found = np.zeros(end - begin, int)
     if channel.row == PILOT_ROW:
@@ -157,9 +158,10 @@ def levels(channel: Channel, begin: int, end: int) -> np.ndarray:
     return found
 
 
-def samples(cell: Cell) -> Iterator[np.ndarray]:
-    """The samples of a cell, piece by piece: whole complex numbers of which no part passes 32,767."""
-    sent = channels(cell)
+def samples(cell: Cell, only: set[int] | None = None) -> Iterator[NDArray[Any]]:
+    """The samples of a cell, or what its channels on some rows alone add to them, piece by piece: whole complex numbers of
+    which no part passes 32,767."""
+    sent = [channel for channel in channels(cell) if only is None or channel.row in only]
     rows = WALSH[[channel.row for channel in sent]]
     link = complex(cell.re, cell.im)
     last = cell.start + cell.samples

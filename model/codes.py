@@ -1,6 +1,9 @@
 """The pilot's codes, the long code and its masks, and the Walsh rows (7.1.3.1.8 to 7.1.3.1.10)."""
 
+from typing import Any
+
 import numpy as np
+from numpy.typing import NDArray
 
 from model.bits import Bits, number, parity, spelled
 
@@ -23,12 +26,12 @@ POINTS = (1 - 2 * np.array(pilot_chips(I_LAGS))) + 1j * (1 - 2 * np.array(pilot_
 """The code's points: the sign of I's chip, and that of Q's as the imaginary part."""
 
 
-def points(phase: int, count: int) -> np.ndarray:
+def points(phase: int, count: int) -> NDArray[Any]:
     """The points of so many chips from a phase on."""
     return np.take(POINTS, np.arange(phase, phase + count), mode="wrap")
 
 
-def despread(samples: np.ndarray, phase: int) -> np.ndarray:
+def despread(samples: NDArray[Any], phase: int) -> NDArray[Any]:
     """Samples times the conjugate points of the code, of which the first meets the phase: parts up to 2^16."""
     return samples.astype(complex) * points(phase, len(samples)).conj()
 
@@ -78,7 +81,7 @@ def octet_products(factor: int) -> list[list[int]]:
 BY_64_CHIPS = octet_products(state_after(1, 64))
 
 
-def scrambling_bits(state: int, mask: int, count: int = 384) -> np.ndarray:
+def scrambling_bits(state: int, mask: int, count: int = 384) -> NDArray[Any]:
     """The long code's chips under a mask at the first chip of each symbol: 64 chips apart, from a state on (7.1.3.1.6)."""
     chips = []
     for _ in range(count):

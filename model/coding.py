@@ -1,8 +1,9 @@
 """The convolutional code, repetition, the sent order, checks, the rates of both rate sets, and the best code word."""
 
-from typing import NamedTuple
+from typing import Any, NamedTuple
 
 import numpy as np
+from numpy.typing import NDArray
 
 from model.bits import Bits, number, parity, spelled
 
@@ -12,7 +13,7 @@ GENERATORS = (sum(1 << power for power in (0, 1, 2, 3, 5, 7, 8)), sum(1 << power
 """753 and 561 octal, read from the lowest power on."""
 
 
-def code_symbols(start: int, bits: Bits) -> np.ndarray:
+def code_symbols(start: int, bits: Bits) -> NDArray[Any]:
     """Two symbols for each bit, behind eight start bits as a number whose bit 0 is the newest."""
     symbols, register = [], start
     for bit in bits:
@@ -24,7 +25,7 @@ def code_symbols(start: int, bits: Bits) -> np.ndarray:
 # ---- the sent order (7.1.3.1.4, 7.1.3.1.5)
 
 
-def sent_order(width: int, columns: int) -> np.ndarray:
+def sent_order(width: int, columns: int) -> NDArray[Any]:
     """A(i): which of the repeated symbols is sent as symbol i, with rows of 2^width and so many columns."""
     return np.array([
         (place % columns << width) + number(spelled(width, place // columns)[::-1])
@@ -40,7 +41,7 @@ PAGING_ORDERS = {192: DATA_ORDER, 96: DATA_ORDER // 2}
 """The code symbol that each of a paging frame's 384 symbols sends, by the bits of a frame."""
 
 
-def gathered(order: np.ndarray, softs: np.ndarray, symbols: int) -> np.ndarray:
+def gathered(order: NDArray[Any], softs: NDArray[Any], symbols: int) -> NDArray[Any]:
     """Of each code symbol the sum of the soft values of those that send it; of one that none sends, 0."""
     sums = np.zeros(symbols, np.int64)
     np.add.at(sums, order, softs)
@@ -88,7 +89,7 @@ class Rate(NamedTuple):
     speed: int
     information: int
     check: Check | None
-    order: np.ndarray
+    order: NDArray[Any]
 
     def bits(self) -> int:
         """The bits of a frame: information, quality indicator and tail."""
@@ -140,7 +141,7 @@ NEVER = -(1 << 62)
 """The score of a state that no word reaches: no sum of soft values of one frame comes near it."""
 
 
-def best_words(softs: np.ndarray, zero_ends: bool) -> tuple[np.ndarray, np.ndarray, np.ndarray]:
+def best_words(softs: NDArray[Any], zero_ends: bool) -> tuple[NDArray[Any], NDArray[Any], NDArray[Any]]:
     """Of each row of soft values, two for each bit, the best word: scores, start states, and bits, a row for each.
 
     The step into a state comes from one of two states, which differ in the bit that has just left: words that meet

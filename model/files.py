@@ -1,14 +1,16 @@
 """The sample file, read and written (docs/FORMATS.md, "Sample file")."""
 
 import struct
-from typing import NamedTuple
+from dataclasses import dataclass
+from typing import Any
 
 import numpy as np
+from numpy.typing import NDArray
 
 HEADER = struct.Struct(">4sHHQ")
 MAGIC = b"IS95"
 MOST_SAMPLES = {1: 33_554_432, 2: 67_108_864}
-PART = {1: np.dtype(">i2"), 2: np.dtype("i1")}
+PART: dict[int, np.dtype[Any]] = {1: np.dtype(">i2"), 2: np.dtype("i1")}
 VERSION_OF_BITS = {16: 1, 8: 2}
 KNOWN_FLAGS = 3
 COUNT_PLACE = 8
@@ -24,7 +26,8 @@ class BadFile(Exception):
         super().__init__(f"{kind} at {place}")
 
 
-class Capture(NamedTuple):
+@dataclass(frozen=True)
+class Capture:
     """A sample file: its flags, the count of its header, the samples that it has, and how it ends where not by count.
 
     A sample is a complex number of whole parts.
@@ -33,7 +36,7 @@ class Capture(NamedTuple):
     complement_30: bool
     complement_16: bool
     count: int
-    samples: np.ndarray
+    samples: NDArray[Any]
     end: BadFile | None
 
     def taken(self, span: int) -> int:
@@ -84,7 +87,7 @@ def header_bytes(bits: int, flags: int, count: int) -> bytes:
     return HEADER.pack(MAGIC, VERSION_OF_BITS[bits], flags, count)
 
 
-def sample_bytes(bits: int, samples: np.ndarray) -> bytes:
+def sample_bytes(bits: int, samples: NDArray[Any]) -> bytes:
     """Samples as a file has them."""
     parts = np.empty(2 * len(samples), PART[VERSION_OF_BITS[bits]])
     parts[::2], parts[1::2] = samples.real, samples.imag

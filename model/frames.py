@@ -1,8 +1,9 @@
 """Frames: the soft values of fingers, spans of frames that are decoded as one word, and frames of traffic channels."""
 
-from typing import Callable, Iterator, NamedTuple
+from typing import Any, Callable, Iterator, NamedTuple
 
 import numpy as np
+from numpy.typing import NDArray
 
 from model.bits import Bits
 from model.codes import WALSH, despread
@@ -38,7 +39,7 @@ class Finger(NamedTuple):
 # ---- soft values (own)
 
 
-def finger_sums(capture: Capture, finger: Finger, form: Form, start: int) -> tuple[np.ndarray, np.ndarray]:
+def finger_sums(capture: Capture, finger: Finger, form: Form, start: int) -> tuple[NDArray[Any], NDArray[Any]]:
     """The pilot sum and the symbol sum of each symbol of the frame that begins at a reference sample."""
     begin = start - finger.delta
     chips = despread(capture.samples[begin : begin + form.chips()], finger.phase + begin)
@@ -46,7 +47,7 @@ def finger_sums(capture: Capture, finger: Finger, form: Form, start: int) -> tup
     return pilots, (chips.reshape(-1, 64) * WALSH[finger.row]).reshape(form.symbols, -1).sum(axis=1)
 
 
-def soft_values(capture: Capture, fingers: list[Finger], form: Form, start: int) -> np.ndarray:
+def soft_values(capture: Capture, fingers: list[Finger], form: Form, start: int) -> NDArray[Any]:
     """The soft value of each symbol: the real part of each finger's conjugate pilot sum times its symbol sum, added up."""
     total = np.zeros(form.symbols, np.int64)
     for finger in fingers:
@@ -76,8 +77,8 @@ class Stream(NamedTuple):
     form: Form
     first: int
     bits: int
-    order: np.ndarray
-    turning: Callable[[int], np.ndarray] | None = None
+    order: NDArray[Any]
+    turning: Callable[[int], NDArray[Any]] | None = None
 
     def start(self, index: int) -> int:
         """The reference sample at which a frame begins."""
@@ -91,7 +92,7 @@ class Stream(NamedTuple):
         """The number of samples by which a frame is read."""
         return end_of(self.fingers, self.form, self.start(index))
 
-    def code_softs(self, capture: Capture, index: int) -> np.ndarray:
+    def code_softs(self, capture: Capture, index: int) -> NDArray[Any]:
         """The soft values of a frame's code symbols, turned back by the scrambling bits."""
         softs = soft_values(capture, self.fingers, self.form, self.start(index))
         turned = softs if self.turning is None else np.where(self.turning(index), -softs, softs)
@@ -103,7 +104,7 @@ def span_of(stream: Stream, count: int, index: int) -> list[int]:
     return [other for other in (index - 1, index, index + 1) if other == index or stream.is_inside(count, other)]
 
 
-def decoded_spans(stream: Stream, softs: dict[int, np.ndarray], spans: dict[int, list[int]]) -> dict[int, Bits]:
+def decoded_spans(stream: Stream, softs: dict[int, NDArray[Any]], spans: dict[int, list[int]]) -> dict[int, Bits]:
     """Of each frame its own bits in the best word of its span, by the soft values of all frames' code symbols."""
     found = {}
     for length in {len(span) for span in spans.values()}:
@@ -146,19 +147,19 @@ class Decoded(NamedTuple):
     score: int
 
 
-def without(softs: np.ndarray, places: np.ndarray) -> np.ndarray:
+def without(softs: NDArray[Any], places: NDArray[Any]) -> NDArray[Any]:
     """Soft values, those of the symbols that power control bits replace being 0."""
     kept = softs.copy()
     kept[places] = 0
     return kept
 
 
-def rate_softs(rate: Rate, softs: np.ndarray) -> np.ndarray:
+def rate_softs(rate: Rate, softs: NDArray[Any]) -> NDArray[Any]:
     """The soft values of a rate's code symbols."""
     return gathered(rate.order, softs, 2 * rate.bits())
 
 
-def best_at(rate: Rate, softs: np.ndarray) -> tuple[int, Bits]:
+def best_at(rate: Rate, softs: NDArray[Any]) -> tuple[int, Bits]:
     """The best word of a rate between eight zeros and eight zeros: its score, and all its bits."""
     scores, _, words = best_words(rate_softs(rate, softs)[None, :], zero_ends=True)
     return int(scores[0]), words[0].tolist()
@@ -181,13 +182,13 @@ def chosen(rates: tuple[Rate, ...], words: list[list[tuple[int, Bits]]]) -> Deco
     return Decoded(rates[0].speed, False, bits[: rates[0].information], score)
 
 
-def traffic_frame(rates: tuple[Rate, ...], softs: np.ndarray, places: np.ndarray) -> Decoded:
+def traffic_frame(rates: tuple[Rate, ...], softs: NDArray[Any], places: NDArray[Any]) -> Decoded:
     """The frame that turned soft values tell, by the best word of each rate."""
     kept = without(softs, places)
     return chosen(rates, [[best_at(rate, kept)] for rate in rates])
 
 
-def commands(softs: list[np.ndarray], places: np.ndarray) -> str:
+def commands(softs: list[NDArray[Any]], places: NDArray[Any]) -> str:
     """The sixteen power control bits of a frame, by the soft values of each subchannel that no scrambling turns:
     0, which raises the power, where each subchannel's two symbols sum up above 0 (7.1.3.1.10)."""
     raised = np.all([values[places].reshape(16, 2).sum(axis=1) > 0 for values in softs], axis=0)

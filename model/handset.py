@@ -1,8 +1,9 @@
 """What a handset hears: the mark, the channels behind it, and the events in their order (own)."""
 
-from typing import Callable, Iterator, NamedTuple
+from typing import Any, Callable, Iterator, NamedTuple
 
 import numpy as np
+from numpy.typing import NDArray
 
 from model.bits import Bits
 from model.cell import AHEAD, FRAME, GROUP, OFFSET_STEP, SLOT, SUPERFRAME_BITS, power_places
@@ -95,7 +96,7 @@ def hear_sync(capture: Capture, found: Found, taken: int) -> tuple[list[Event], 
         held, capsule = take_piece(held, bits)
         body = body_of(capsule, capture.complement_30) if capsule else None
         message = sync_message(body) if body is not None else None
-        if message is None:
+        if message is None or capsule is None:
             continue
         events.append(Event(known, SYNC_RANK, "messages", sync_line(known, message), message,
                             raw_line(known, "sync", capsule)))  # fmt: skip
@@ -152,8 +153,8 @@ class Clock(NamedTuple):
     power control bits replace."""
 
     start: int
-    scrambling: np.ndarray
-    places: np.ndarray
+    scrambling: NDArray[Any]
+    places: NDArray[Any]
 
 
 def frame_clock(mark: Mark, assigned: Assigned, index: int) -> Clock:
@@ -164,8 +165,12 @@ def frame_clock(mark: Mark, assigned: Assigned, index: int) -> Clock:
     return Clock(mark.sample + chips, scrambling, power_places(state, mask, scrambling))
 
 
+Decode = Callable[[NDArray[Any], NDArray[Any]], Decoded]
+"""What a frame is by its turned soft values and the places of its power control bits."""
+
+
 def reference_frames(
-    capture: Capture, found: Found, mark: Mark, assigned: Assigned, taken: int, decode: Callable, name: str
+    capture: Capture, found: Found, mark: Mark, assigned: Assigned, taken: int, decode: Decode, name: str
 ) -> Iterator[str]:
     """The lines of the frames of a traffic channel that are heard from the reference base station alone."""
     fingers = reference_fingers(found, assigned.row)
@@ -210,7 +215,7 @@ def traffic_event(capture: Capture, at: int, capsule: Bits | None) -> Iterator[E
     """The message of a capsule that ended with a frame, where it is one."""
     body = body_of(capsule, capture.complement_16, MESSAGE_16) if capsule else None
     message = traffic_message(body) if body is not None else None
-    if message is not None:
+    if message is not None and capsule is not None:
         yield Event(at, TRAFFIC_RANK, "messages", traffic_line(at, message), message, raw_line(at, "traffic", capsule))
 
 
@@ -218,7 +223,8 @@ def hear_traffic(
     capture: Capture, found: Found, mark: Mark, assigned: Assigned, pages: list[Event], taken: int
 ) -> Iterator[Event]:
     """The frames and messages of a traffic channel and the moments of the pilot sets, moment by moment."""
-    sets, deltas = Sets([Active(mark.pn, assigned.row, 0)]), {}
+    sets = Sets([Active(mark.pn, assigned.row, 0)])
+    deltas: dict[int, int] = {}
     unheard = [page for page in pages if page.message.get("pn") == mark.pn]
     held, index, moment = None, 0, 0
     while mark.sample + SLOT * moment <= taken:

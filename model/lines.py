@@ -76,9 +76,9 @@ def frame_line(name: str, at: int, frame: Decoded, commands: str) -> str:
     return f"{name} at={at} rate={frame.speed} good={int(frame.good)} bits={bits} commands={commands}"
 
 
-def sets_line(at: int, time: int, shown: tuple[list, list], report: bool) -> str:
+def sets_line(at: int, time: int, shown: tuple[list[tuple[int, int, int]], list[int]], report: bool) -> str:
     """The pilot sets behind a moment."""
-    active, candidates = map(joined, shown)
+    active, candidates = joined(shown[0]), joined(shown[1])
     return f"sets at={at} time={time} active={active} candidate={candidates} report={int(report)}"
 
 

@@ -1,13 +1,16 @@
 """The first so many code words, and frames that are taken from such lists (docs/FORMATS.md, `list`)."""
 
+from typing import Any
+
 import numpy as np
+from numpy.typing import NDArray
 
 from model.bits import Bits
 from model.coding import BRANCH_SIGNS, NEVER, RATE_SET_1, REVERSED, Rate
 from model.frames import Decoded, chosen, rate_softs, without
 
 
-def first_words(count: int, softs: np.ndarray, zero_ends: bool) -> list[tuple[int, Bits]]:
+def first_words(count: int, softs: NDArray[Any], zero_ends: bool) -> list[tuple[int, Bits]]:
     """The first words of soft values, two for each bit, in the order of words: scores, and bits.
 
     Of each state so many words are kept, first ones first. Those of the state before whose leaving bit is 0 come
@@ -27,7 +30,7 @@ def first_words(count: int, softs: np.ndarray, zero_ends: bool) -> list[tuple[in
     return [(int(scores[end]), bits_back(taken, *end)) for end in first]
 
 
-def bits_back(taken: np.ndarray, state: int, rank: int) -> Bits:
+def bits_back(taken: NDArray[Any], state: int, rank: int) -> Bits:
     """The bits of the word of a rank in a last state, by which word each step took: of either state before."""
     bits = []
     for step in reversed(range(len(taken))):
@@ -37,12 +40,12 @@ def bits_back(taken: np.ndarray, state: int, rank: int) -> Bits:
     return bits[::-1]
 
 
-def listed_words(count: int, rate: Rate, softs: np.ndarray) -> list[tuple[int, Bits]]:
+def listed_words(count: int, rate: Rate, softs: NDArray[Any]) -> list[tuple[int, Bits]]:
     """The words of a rate that are looked through: so many where it has a quality indicator, else the best one."""
     return first_words(count if rate.check else 1, rate_softs(rate, softs), zero_ends=True)
 
 
-def listed_frame(count: int, softs: np.ndarray, places: np.ndarray) -> Decoded:
+def listed_frame(count: int, softs: NDArray[Any], places: NDArray[Any]) -> Decoded:
     """The frame of rate set 1 that turned soft values tell, by so many words of each rate."""
     kept = without(softs, places)
     return chosen(RATE_SET_1, [listed_words(count, rate, kept) for rate in RATE_SET_1])

@@ -1,10 +1,11 @@
 """Capsules, the streams that carry them, and the messages of the sync, the paging and the traffic channel (7.7)."""
 
-from typing import Any
+from typing import Any, TypeVar
 
 from model.bits import Bits, number, spelled
 from model.coding import MESSAGE_30, Check, check_bits
 
+Record = TypeVar("Record")
 Message = dict[str, Any]
 """A message: `what` it is, its fields by their names in docs/FORMATS.md, in the standard's order, and its lists."""
 
@@ -230,7 +231,7 @@ def traffic_fields(layout: int | None, kind: int, reader: Reader) -> Message:
     return message | {"rest": reader.bits}
 
 
-def needed(records: list) -> list:
+def needed(records: list[Record]) -> list[Record]:
     """Records, of which there is at least one; raises `TooShort`."""
     if not records:
         raise TooShort

@@ -87,15 +87,20 @@ def listen(command: str, options: Options, data: bytes) -> Outcome:
     return Outcome(DONE, written, "") if synced else Outcome(NO_SYNC, written, "no sync message")
 
 
+def assigned_of(options: Options) -> Assigned:
+    """The traffic channel that options tell."""
+    return Assigned(options["esn"], options["row"], options["offset"])
+
+
 def heard_lines(command: str, options: Options, capture: Capture) -> tuple[list[str], bool]:
     """The lines of a command that finds the pilot first, and whether it learned the time, where it needs that."""
     span = options["span"]
     found = search(capture.samples[:span], options.get("fingers", 1))
     taken = capture.taken(span)
-    assigned = Assigned(options["esn"], options["row"], options["offset"]) if "esn" in options else None
     if command == "find":
         return [pilot_line(found.phase, found.energy)], True
     if command == "follow":
+        assigned = assigned_of(options) if "esn" in options else None
         events, mark = follow(capture, found, options["paging"], assigned, taken)
         pilot = [pilot_line(found.phase, found.energy)] if options["pilots"] else []
         limits = {name: options[name] for name in ("pilots", "messages", "frames", "raw")}
@@ -108,10 +113,10 @@ def heard_lines(command: str, options: Options, capture: Capture) -> tuple[list[
         slots = slot_lines(capture, found, mark, options["paging"], options["key"], options["cycle"], taken)
         return list(slots), True
     if command == "rate2":
-        frames = reference_frames(capture, found, mark, assigned, taken,
+        frames = reference_frames(capture, found, mark, assigned_of(options), taken,
                                   lambda softs, places: traffic_frame(RATE_SET_2, softs, places), "frame2")  # fmt: skip
     else:
-        frames = reference_frames(capture, found, mark, assigned, taken,
+        frames = reference_frames(capture, found, mark, assigned_of(options), taken,
                                   lambda softs, places: listed_frame(options["k"], softs, places), "frame")  # fmt: skip
     return list(frames), True
 

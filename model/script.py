@@ -2,7 +2,7 @@
 
 import re
 from dataclasses import dataclass, field
-from typing import Callable
+from typing import Any, Callable
 
 from model.bits import Bits, bits_of_text, text_of_bits
 from model.coding import MESSAGE_30, RATE_SET_1, RATE_SET_2, Rate
@@ -62,7 +62,7 @@ class Traffic:
 
 @dataclass
 class Cell:
-    """A cell: the numbers of its lines `cell`, `link` and `pilot`, and its other channels."""
+    """A cell: the numbers of its lines `cell`, `link` and `pilot`, its other channels; `sync` is empty without one."""
 
     pn: int = 0
     time: int = 0
@@ -74,7 +74,7 @@ class Cell:
     samples: int = 0
     pilot_gain: int = 0
     sync_gain: int = 0
-    sync: Message | None = None
+    sync: Message = field(default_factory=dict)
     paging: list[Paging] = field(default_factory=list)
     traffic: list[Traffic] = field(default_factory=list)
 
@@ -90,6 +90,9 @@ class Refused(Exception):
 
 
 # ---- the words of a line
+
+Readers = dict[str, Callable[[str], Any]]
+"""What reads the value of each word of a line, by its name."""
 
 
 def decimal(least: int, most: int) -> Callable[[str], int]:
@@ -128,7 +131,7 @@ def bits(text: str) -> Bits:
     return found
 
 
-def named(words: list[str], table: dict[str, Callable]) -> dict:
+def named(words: list[str], table: Readers) -> dict[str, Any]:
     """The values of words `name=value`, which are those of a table in its order."""
     found = {}
     if len(words) != len(table):
@@ -148,9 +151,9 @@ LINK = {"re": decimal(-32_768, 32_767), "im": decimal(-32_768, 32_767), "start":
 FILLED = ("pn", "lc", "time")
 """Fields of the sync message that each sending fills in."""
 
-SYNC = {"gain": GAIN} | {name: below(width) for name, width in SYNC_FIELDS.items() if name not in FILLED}
-SYNC_WITHOUT_FREQUENCY = SYNC | {"rest": bits}
-SYNC_WITH_FREQUENCY = SYNC | {"freq": below(11), "rest": bits}
+SYNC: Readers = {"gain": GAIN} | {name: below(width) for name, width in SYNC_FIELDS.items() if name not in FILLED}
+SYNC_WITHOUT_FREQUENCY: Readers = SYNC | {"rest": bits}
+SYNC_WITH_FREQUENCY: Readers = SYNC | {"freq": below(11), "rest": bits}
 PAGING = {"channel": decimal(1, 7), "gain": GAIN}
 TRAFFIC = {"row": below(6), "esn": digits(8, 0, (1 << 32) - 1), "offset": below(4), "gain": GAIN}
 

@@ -1,8 +1,9 @@
 """The search for pilots: the energy of every phase, the phases near the best one, the survey, and a pilot's strength."""
 
-from typing import NamedTuple
+from typing import Any, NamedTuple
 
 import numpy as np
+from numpy.typing import NDArray
 
 from model.codes import PERIOD, POINTS, points
 
@@ -22,14 +23,14 @@ class Found(NamedTuple):
     deltas: list[int]
 
 
-def correlation_bound(samples: np.ndarray) -> float:
+def correlation_bound(samples: NDArray[Any]) -> float:
     """How far at most the transforms' sums are off: some units in the last place for each of 15 steps of three
     transforms, times the greatest value that the sums could have."""
     steps = 3 * (PERIOD.bit_length() - 1)
-    return 8 * steps * np.finfo(float).eps * float(np.linalg.norm(samples) * np.linalg.norm(POINTS))
+    return 8 * steps * float(np.finfo(float).eps) * float(np.linalg.norm(samples) * np.linalg.norm(POINTS))
 
 
-def energies(samples: np.ndarray) -> np.ndarray:
+def energies(samples: NDArray[Any]) -> NDArray[Any]:
     """The energy of each of the 32,768 phases over at most so many samples: whole numbers.
 
     The sums of samples times conjugate points are whole, and come from a fast transform that is less than a quarter
@@ -42,7 +43,7 @@ def energies(samples: np.ndarray) -> np.ndarray:
     return real.astype(np.int64) ** 2 + imaginary.astype(np.int64) ** 2
 
 
-def search(samples: np.ndarray, fingers: int = 1) -> Found:
+def search(samples: NDArray[Any], fingers: int = 1) -> Found:
     """The best phase of samples, and so many paths near it: by greater energy, then by lesser phase."""
     found = energies(samples)
     best = int(found.argmax())
@@ -51,7 +52,7 @@ def search(samples: np.ndarray, fingers: int = 1) -> Found:
     return Found(best, int(found[best]), [(phase - best + NEAR) % PERIOD - NEAR for phase in near[:fingers]])
 
 
-def survey(samples: np.ndarray, base: int, width: int) -> list[tuple[int, int, int]]:
+def survey(samples: NDArray[Any], base: int, width: int) -> list[tuple[int, int, int]]:
     """All pilots by greater energy, then by lesser offset: offset, delta, energy."""
     found = energies(samples)
     deltas = np.arange(-width, width + 1)
@@ -62,7 +63,7 @@ def survey(samples: np.ndarray, base: int, width: int) -> list[tuple[int, int, i
     return sorted(ranks, key=lambda rank: (-rank[2], rank[0]))
 
 
-def strength(samples: np.ndarray, phase: int, window: int) -> tuple[int, int]:
+def strength(samples: NDArray[Any], phase: int, window: int) -> tuple[int, int]:
     """The greatest energy of 512 samples at the phases of a window, and the least delta that has it.
 
     `phase` is that of the first sample at delta 0; the deltas are from -window/2 to window/2.
@@ -74,7 +75,7 @@ def strength(samples: np.ndarray, phase: int, window: int) -> tuple[int, int]:
     return int(found[best]), best - window // 2
 
 
-def power(samples: np.ndarray) -> int:
+def power(samples: NDArray[Any]) -> int:
     """The sum of the squares of samples' parts."""
     whole = samples.astype(complex)
     return int(np.sum(whole.real**2 + whole.imag**2))

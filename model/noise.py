@@ -1,0 +1,66 @@
+"""How much noise a cell's channels bear, and noise that is as bad as it can be (docs/LINK.md, "A link with noise")."""
+
+from dataclasses import replace
+from typing import Any
+
+import numpy as np
+from numpy.typing import NDArray
+
+from model.cell import samples
+from model.script import PILOT_ROW, SYNC_ROW, Cell
+from model.words import read_words
+
+
+def bears(cell: Cell, gain: int, noise: int) -> bool:
+    """Whether no noise of this size, in either part of each sample, turns a symbol of a channel of this gain."""
+    link = abs(cell.re) + abs(cell.im)
+    power = cell.re * cell.re + cell.im * cell.im
+    return (gain + cell.pilot_gain) * noise * link + 2 * noise * noise < gain * cell.pilot_gain * power
+
+
+def margin(cell: Cell, gain: int) -> int | None:
+    """The greatest noise that a channel of this gain bears; None where it doesn't even bear none."""
+    if not bears(cell, gain, 0):
+        return None
+    least, beyond = 0, 1
+    while bears(cell, gain, beyond):
+        least, beyond = beyond, 2 * beyond
+    while beyond - least > 1:
+        middle = (least + beyond) // 2
+        least, beyond = (middle, beyond) if bears(cell, gain, middle) else (least, middle)
+    return least
+
+
+def rows_heard(words: list[str]) -> list[int]:
+    """The Walsh rows of the channels that a command hears beside the pilot's: the sync channel's first."""
+    _, options = read_words(words)
+    return [SYNC_ROW, *(options[name] for name in ("paging", "row") if name in options)]
+
+
+def margins(cell: Cell, rows: list[int]) -> dict[int, int | None]:
+    """The margin of each channel on such a row that the cell sends."""
+    return {row: margin(cell, gain) for row, gain in cell.gains() if row in rows and row != PILOT_ROW}
+
+
+def against(cell: Cell, row: int, size: int) -> NDArray[Any]:
+    """Noise against the channel on a row: in each part of each sample this size, with the sign that the channel's part of
+    the sample hasn't, and 0 where the channel adds nothing."""
+    adds = np.concatenate(list(samples(cell, {row})))
+    return -size * (np.sign(adds.real) + 1j * np.sign(adds.imag))
+
+
+def divided(parts: NDArray[Any], by: int) -> NDArray[Any]:
+    """Whole numbers divided by another and rounded to the nearest, a half upwards."""
+    return (2 * parts + by) // (2 * by)
+
+
+def rounded(sums: NDArray[Any], by: int) -> NDArray[Any]:
+    """Samples whose parts are divided and rounded."""
+    return divided(sums.real.astype(np.int64), by) + 1j * divided(sums.imag.astype(np.int64), by)
+
+
+def weaker(cell: Cell, by: int) -> Cell | None:
+    """The cell over a link by so much weaker; None where its factor isn't whole."""
+    if cell.re % by or cell.im % by:
+        return None
+    return replace(cell, re=cell.re // by, im=cell.im // by)
