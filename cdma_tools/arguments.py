@@ -12,7 +12,7 @@ from typing import Any, NoReturn
 from cdma_tools import __version__
 from cdma_tools.errors import printable
 
-# A word that begins so behind an option is its value, and no option.
+# An argument that begins so after an option is its value, and no option.
 NEGATIVE = re.compile(r"-[.\d]|-inf|-nan", re.IGNORECASE)
 LONGEST = 100  # characters of a number: more would take long to read, and none is meant
 WRONG = 2  # the status of wrong arguments
@@ -102,7 +102,7 @@ class Parser(PartParser):
             self.add_argument("--version", action="version", version=version_of(tool), help="say the version, and end")
 
     def parse_known_args(self, args: Sequence[str] | None = None, namespace: Any = None) -> tuple[Any, list[str]]:
-        """Takes the words apart, with negative numbers joined to the options before them."""
+        """Takes the arguments apart, with negative numbers joined to the options before them."""
         return super().parse_known_args(joined(sys.argv[1:] if args is None else args), namespace)
 
     def print_version(self, tool: str) -> None:
@@ -116,7 +116,7 @@ def version_of(tool: str) -> str:
 
 
 def joined(words: Sequence[str]) -> list[str]:
-    """Words in which an option and a negative number after it are one: `--carrier -1e3` is `--carrier=-1e3`."""
+    """Arguments in which an option and a negative number after it are one: `--carrier -1e3` is `--carrier=-1e3`."""
     made: list[str] = []
     for place, word in enumerate(words):
         if word == "--":

@@ -69,7 +69,7 @@ class Run:
 
     @property
     def is_empty(self) -> bool:
-        """Whether it has no event behind the pilot."""
+        """Whether it has no event after the pilot."""
         return not (self.lanes or self.frames or self.sets)
 
     def steps(self) -> tuple[list[int], list[int]]:

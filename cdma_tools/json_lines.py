@@ -45,7 +45,7 @@ def turned_lines(source: Iterable[bytes], turned: Callable[[str], str]) -> Itera
     for number, line in enumerate(source, 1):
         try:
             if not line.endswith(b"\n"):
-                raise NoLine("no line feed behind it" if len(line) < LONGEST else "it is too long")
+                raise NoLine("no line feed after it" if len(line) < LONGEST else "it is too long")
             yield turned(line[:-1].decode("ascii"))
         except UnicodeDecodeError:
             raise NoLine(f"line {number}: it isn't ASCII") from None

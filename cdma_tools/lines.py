@@ -56,7 +56,7 @@ class Group(NamedTuple):
 
 
 class Shape(NamedTuple):
-    """A kind of line: its first word, the fields behind that, and the word that says more, with the fields behind it."""
+    """A kind of line: its first word, the fields after that, and the word that says more, with the fields after it."""
 
     line: str
     head: tuple[Field, ...]
@@ -149,7 +149,7 @@ def check_bits(given: Any) -> str:
     count, digits = int(match[1]), match[2]
     padding = 4 * len(digits) - count
     if count > MOST_BITS or not 0 <= padding < 8 or int(digits or "0", 16) & ((1 << padding) - 1):
-        raise NoLine(f"{given[:30]!r} hasn't just its digits and zeros behind its bits")
+        raise NoLine(f"{given[:30]!r} hasn't just its digits and zeros after its bits")
     return given
 
 
@@ -210,7 +210,7 @@ COUNT = number(MOST_COUNT, text="whole number")
 OFFSET, ROW = field_of(9), field_of(8)
 BIT_TEXT = Form(check_bits, check_bits, "text N:HEX")
 AT = Field("at", COUNT, "the number of samples at which it was known")
-REST = Field("rest", BIT_TEXT, "the bits behind the fields")
+REST = Field("rest", BIT_TEXT, "the bits after the fields")
 BARE = Field("bits", BIT_TEXT, "the whole capsule")  # the one field that has no name in its line
 PN, SEQ = Field("pn", OFFSET, "PILOT_PN"), Field("seq", field_of(6), "CONFIG_MSG_SEQ")
 SID, NID = Field("sid", field_of(15), "SID"), Field("nid", field_of(16), "NID")
@@ -323,7 +323,7 @@ SHAPES = (
         (PN, SEQ, INCREMENT, Field("pilots", records(field_of(3), OFFSET), "NGHBR_CONFIG and NGHBR_PN"), REST),
     ),
     Shape("paging", (AT,), "channels", (PN, SEQ, Field("freqs", numbers(field_of(11)), "CDMA_FREQ"), REST)),
-    Shape("paging", (AT,), "other", (TYPE, Field("bits", BIT_TEXT, "the bits behind the type"))),
+    Shape("paging", (AT,), "other", (TYPE, Field("bits", BIT_TEXT, "the bits after the type"))),
     Shape(
         "slot",
         (
@@ -353,7 +353,7 @@ SHAPES = (
             REST,
         ),
     ),
-    Shape("traffic", (AT, *HEAD_FIELDS), "other", (TYPE, Field("bits", BIT_TEXT, "the bits behind the head"))),
+    Shape("traffic", (AT, *HEAD_FIELDS), "other", (TYPE, Field("bits", BIT_TEXT, "the bits after the head"))),
     Shape(
         "sets",
         (
@@ -382,7 +382,7 @@ FIRST = {shape.line: shape for shape in reversed(SHAPES)}
 
 
 class Tokens:
-    """The words of a line behind its first one, taken from left to right."""
+    """The words of a line after its first one, taken from left to right."""
 
     def __init__(self, words: list[str]) -> None:
         self.words, self.place = words, 0
@@ -392,7 +392,7 @@ class Tokens:
         return self.words[self.place] if self.place < len(self.words) else ""
 
     def take(self) -> str:
-        """The next word, which is behind us then."""
+        """The next word, which is taken by that."""
         word = self.peek()
         self.place += 1
         return word
@@ -441,7 +441,7 @@ def read_line(text: str) -> dict[str, Any]:
     for part in shape.body:
         tokens.take_part(part, read)
     if tokens.place != len(words):
-        raise NoLine(f"{tokens.peek()[:30]!r} stands behind the last field" if tokens.peek() else "a space too many")
+        raise NoLine(f"{tokens.peek()[:30]!r} follows the last field" if tokens.peek() else "a space too many")
     return read
 
 

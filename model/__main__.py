@@ -1,4 +1,4 @@
-"""The model's command line: `python3 -m model COMMAND ..`, with the words, the texts and the statuses of `cdma_replay`.
+"""The model's command line: `python3 -m model COMMAND ..`, with the arguments, texts and statuses of `cdma_replay`.
 
     python3 -m model make < SCRIPT > FILE
     python3 -m model follow --esn 0000abcd --row 10 < FILE

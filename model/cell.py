@@ -90,7 +90,7 @@ def sync_channel(cell: Cell) -> Channel:
 
 
 def page_cycle(channel: Paging, size: int, complemented: bool) -> Bits:
-    """The half-frames of a cycle of pages, with so many body bits each behind the SCI bit (7.7.2.1)."""
+    """The half-frames of a cycle of pages, with so many body bits each after the SCI bit (7.7.2.1)."""
     body: Bits = []
     begun = set()
     for follows, page in channel.pages:

@@ -15,7 +15,7 @@ Q_LAGS = (15, 12, 11, 10, 9, 5, 4, 3)
 
 
 def pilot_chips(lags: tuple[int, ...]) -> Bits:
-    """A code's period of chips: the recurrence from a 1 behind zeros on, and the inserted 0 (7.1.3.1.9)."""
+    """A code's period of chips: the recurrence from a 1 after zeros on, and the inserted 0 (7.1.3.1.9)."""
     chips = [0] * 15 + [1]
     while len(chips) < 15 + PERIOD - 1:
         chips.append(sum(chips[-lag] for lag in lags) % 2)

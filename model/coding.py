@@ -14,7 +14,7 @@ GENERATORS = (sum(1 << power for power in (0, 1, 2, 3, 5, 7, 8)), sum(1 << power
 
 
 def code_symbols(start: int, bits: Bits) -> NDArray[Any]:
-    """Two symbols for each bit, behind eight start bits as a number whose bit 0 is the newest."""
+    """Two symbols for each bit, after eight start bits as a number whose bit 0 is the newest."""
     symbols, register = [], start
     for bit in bits:
         register = (register << 1 | bit) & 0x1FF
@@ -80,7 +80,7 @@ def check_bits(check: Check, bits: Bits) -> Bits:
 # ---- the rates of traffic channels (7.1.3.1.1 to 7.1.3.1.5; rate set 2 as docs/LINK.md has it)
 
 TAIL = 8
-"""Zeros behind a traffic frame's bits: they bring the encoder back to state zero."""
+"""Zeros after a traffic frame's bits: they bring the encoder back to state zero."""
 
 
 class Rate(NamedTuple):

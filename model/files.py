@@ -16,7 +16,7 @@ KNOWN_FLAGS = 3
 COUNT_PLACE = 8
 
 PIECE = 4_096
-"""Samples that are read at once behind the searched ones: a piece that a file cuts short isn't heard."""
+"""Samples that are read at once after the searched ones: a piece that a file cuts short isn't heard."""
 
 
 class BadFile(Exception):

@@ -1,4 +1,4 @@
-"""What a handset hears: the mark, the channels behind it, and the events in their order (own)."""
+"""What a handset hears: the mark, the channels after it, and the events in their order (own)."""
 
 from typing import Any, Callable, Iterator, NamedTuple
 
@@ -274,7 +274,7 @@ def moment_event(capture: Capture, mark: Mark, sets: Sets, deltas: dict[int, int
 def follow(
     capture: Capture, found: Found, channel: int, assigned: Assigned | None, taken: int
 ) -> tuple[list[Event], Mark | None]:
-    """All events within so many samples behind the pilot's, in their order, and the mark."""
+    """All events within so many samples after the pilot's, in their order, and the mark."""
     events, mark = hear_sync(capture, found, taken)
     if mark:
         pages = list(hear_paging(capture, found, mark, channel, taken))

@@ -77,7 +77,7 @@ def frame_line(name: str, at: int, frame: Decoded, commands: str) -> str:
 
 
 def sets_line(at: int, time: int, shown: tuple[list[tuple[int, int, int]], list[int]], report: bool) -> str:
-    """The pilot sets behind a moment."""
+    """The pilot sets after a moment."""
     active, candidates = joined(shown[0]), joined(shown[1])
     return f"sets at={at} time={time} active={active} candidate={candidates} report={int(report)}"
 

@@ -34,7 +34,7 @@ class Reader:
         return {name: self.take(width) for name, width in table.items()}
 
     def records(self, width: int) -> list["Reader"]:
-        """As many records of a width as fit; raises `TooShort` where more than 7 bits are left behind them."""
+        """As many records of a width as fit; raises `TooShort` where more than 7 bits are left after them."""
         found = []
         while len(self.bits) >= width:
             found.append(Reader(self.bits[:width]))
@@ -95,7 +95,7 @@ def take_piece(held: Bits | None, piece: Bits) -> tuple[Bits | None, Bits | None
 def take_half_frame(held: Bits | None, half: Bits) -> tuple[Bits | None, list[Bits]]:
     """What a paging half-frame does to the capsule under way: what is held then, and the capsules that end (7.7.2.1).
 
-    Behind a capsule the next one may begin at once, where 8 bits or more of the half-frame are left.
+    After a capsule the next one may begin at once, where 8 bits or more of the half-frame are left.
     """
     capsules: list[Bits] = []
     if half[0]:
@@ -211,7 +211,7 @@ def traffic_message(body: Bits) -> Message | None:
 
 
 def traffic_fields(layout: int | None, kind: int, reader: Reader) -> Message:
-    """What stands behind the head, by a layout; all bits where there is none for it. Raises `TooShort`."""
+    """What follows the head, by a layout; all bits where there is none for it. Raises `TooShort`."""
     other = {"what": "other", "type": kind, "rest": reader.bits}
     if layout == 7:
         message: Message = {"what": "system"} | reader.fields(IN_TRAFFIC_FIELDS)

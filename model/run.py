@@ -1,4 +1,4 @@
-"""Each command from its words and its input to its text and its status (docs/FORMATS.md)."""
+"""Each command from its arguments and its input to its text and its status (docs/FORMATS.md)."""
 
 from typing import Callable, Iterable, Iterator, NamedTuple
 
@@ -37,7 +37,7 @@ WRITE_FAULT = Outcome(5, [], "write fault")
 
 
 def run(words: list[str], read: Callable[[], bytes]) -> Outcome:
-    """What a command of such words makes of its input, which is read only where the words are right."""
+    """What a command with such arguments makes of its input, which is read only where they are right."""
     try:
         command, options = read_words(words)
         if command == "trial":

@@ -158,7 +158,7 @@ PAGING = {"channel": decimal(1, 7), "gain": GAIN}
 TRAFFIC = {"row": below(6), "esn": digits(8, 0, (1 << 32) - 1), "offset": below(4), "gain": GAIN}
 
 
-# ---- the lines, each of which may stand behind some
+# ---- the lines, each of which may follow some
 
 
 def take_cell(cell: Cell, words: list[str]) -> None:
@@ -256,7 +256,7 @@ BEHIND = {
     "frame": {"frame", "traffic"},
     "frame2": {"frame2", "traffic"},
 }
-"""Which lines may stand behind a line."""
+"""Which lines may follow a line."""
 
 LAST = {"pilot", "sync", "page", "frame", "frame2"}
 """The lines that may be the last."""

@@ -1,4 +1,4 @@
-"""The words of the command line (docs/FORMATS.md, "Command line and exit status")."""
+"""The arguments of the command line (docs/FORMATS.md, "Command line and exit status")."""
 
 import re
 from typing import Callable
@@ -8,7 +8,7 @@ Reader = Callable[[str], int]
 
 
 class BadWords(Exception):
-    """Words that are none of the command line's."""
+    """Arguments that the command line doesn't have."""
 
 
 def decimal(least: int, most: int) -> Reader:
@@ -54,7 +54,7 @@ SYNC_ROW = 32
 
 
 def given_options(words: list[str], readers: dict[str, Reader]) -> Options:
-    """The options that words give, as `--name N` or `--name=N`, each at most once."""
+    """The options that arguments give, as `--name N` or `--name=N`, each at most once."""
     given: Options = {}
     rest = list(words)
     while rest:

@@ -22,7 +22,7 @@ def values_of(arguments: Sequence[str]) -> dict[str, str]:
 
 
 def pieces_of(line: str) -> list[str]:
-    """The words of a command line with places, as a shell would take it apart."""
+    """The arguments of a command line with places, as a shell would take it apart."""
     try:
         words = shlex.split(line)
     except ValueError as why:
@@ -34,7 +34,7 @@ def pieces_of(line: str) -> list[str]:
         if "{" in left or "}" in left:
             raise WrongArguments(f"--command has a place that is none: {word!r}")
         if any(found[1] == ARGUMENTS for found in PLACE.finditer(word)) and word != f"{{{ARGUMENTS}}}":
-            raise WrongArguments(f"{{{ARGUMENTS}}} stands for several words, and needs to be one by itself: {word!r}")
+            raise WrongArguments(f"{{{ARGUMENTS}}} is several arguments, and must stand by itself: {word!r}")
     return words
 
 

@@ -11,7 +11,7 @@ program that these tools are given is a script of two lines:
 
     {input}        the name of a file with what stood on standard input; without it the receiver reads that itself
     {output}       the name of a file to which the receiver writes its lines; without it they are its standard output
-    {arguments}    all arguments of the case, as words of their own
+    {arguments}    all arguments of the case, each by itself
     {command}      the first of them: follow, find and so on
     {row}          the value of the argument --row, and so with each other name; {row=1} gives 1 where the case has none
 

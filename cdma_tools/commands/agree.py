@@ -104,7 +104,7 @@ def parser() -> Parser:
 
 
 def checked(given: list[str] | None) -> argparse.Namespace:
-    """The options; ends the program where a word is wrong."""
+    """The options; ends the program where an argument is wrong."""
     words = parser()
     options = words.parse_args(given)
     if not options.print:

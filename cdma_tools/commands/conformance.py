@@ -1,13 +1,13 @@
 """Asks a receiver what it makes of the cases here, and says what differs from what each case wants.
 
-PROGRAM is run with the words of a case, over the input that the case describes; what it writes, its exit status and,
+PROGRAM is run with the arguments of a case, over the input that this describes; what it writes, its exit status and,
 where the case says it, the line on standard error must be the case's. Most inputs are sample files made of the
 case's scripts, by `MAKER make`, where several scripts' samples are added up, and noise is added where the case says
 so. MAKER is PROGRAM where --maker names no other: so a receiver that makes no samples is tried with another
 program's, and the cases that ask for samples or for a trial are left out.
 
 What the cases want comes from model/, the link in plain Python, written from docs/LINK.md and docs/FORMATS.md alone.
-A receiver with words of its own is tried through a script that takes these. conformance/README.md has the form of a
+A receiver with arguments of its own is tried through a script that takes these. conformance/README.md has the form of a
 case.
 
     conformance/run crates/cdma_replay/out/cdma_replay
@@ -61,7 +61,7 @@ def parser() -> Parser:
 
 
 def listed(names: Sequence[str]) -> None:
-    """Writes what each case is for, and its words."""
+    """Writes what each case is for, and its arguments."""
     for name in names:
         case = Case(name)
         print(f"{name}: {case.purpose}")

@@ -1,7 +1,7 @@
 """Asks a receiver what it hears of recordings of a radio, and says what differs from what was sent.
 
 Of each case in recordings/ the cells are made of its scripts, by `MAKER make`, a recording of them by tools/channel,
-and a sample file of that by tools/import_capture --lock. PROGRAM is then run with the case's words and the sample
+and a sample file of that by tools/import_capture --lock. PROGRAM is then run with the case's arguments and the sample
 file on standard input. Of what it writes, the lines of messages and frames count, in their order, without their
 places: a radio's first sample lies anywhere. MAKER is PROGRAM where --maker names no other.
 
@@ -42,7 +42,7 @@ MOST_SHOWN = 4
 
 
 class RecordedCase:
-    """A case: what it is for, the receiver's words, those of the channel and of the lock, scripts, and lines."""
+    """A case: what it is for, the receiver's arguments, those of the channel and of the lock, scripts, and lines."""
 
     def __init__(self, name: str) -> None:
         self.name = name

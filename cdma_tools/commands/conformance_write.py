@@ -1,7 +1,7 @@
-"""Makes what a case wants by the model, from its words and its input, and puts it into the case's file.
+"""Makes what a case wants by the model, from its arguments and its input, and puts it into the case's file.
 
-A case begins as conformance/cases/NAME.case with `purpose:`, `words:` and its input: a script behind `script:`, with
-`bits:`, or bytes behind `file:`. Status, rules, checksum and text, and above status 1 the line on standard error,
+A case begins as conformance/cases/NAME.case with `purpose:`, `words:` and its input: a script after `script:`, with
+`bits:`, or bytes after `file:`. Status, rules, checksum and text, and above status 1 the line on standard error,
 are put in, or put right where they stand already; all other lines stay. Of `make` the number of bytes and their
 checksum are put in place of a text.
 

@@ -191,7 +191,7 @@ def check_labels(curves: Sequence[Curve]) -> None:
 
 
 def setup_of(options: argparse.Namespace) -> Setup:
-    """The setup that words name."""
+    """The setup that the arguments name."""
     text = text_of(options.script)
     traffic = chosen_channel(read_script(text, options.script), options.row, options.script)
     if len({frame.kind for frame in traffic.frames}) > 1:
@@ -316,7 +316,7 @@ def main(arguments: list[str] | None = None) -> int:
         return run(options)
     except KeyboardInterrupt:
         signal.signal(signal.SIGINT, signal.SIG_IGN)
-        said(called("curve"), "broken off; the same words go on from what was counted")
+        said(called("curve"), "broken off; the same command goes on from what was counted")
         return INTERRUPTED
     except MemoryError:
         raise Refused("out of memory: give the script fewer samples, or fewer --workers") from None

@@ -209,7 +209,7 @@ def parser() -> argparse.ArgumentParser:
 
 
 def checked(given: list[str] | None) -> argparse.Namespace:
-    """The options; ends the program where a word is wrong."""
+    """The options; ends the program where an argument is wrong."""
     words = parser()
     options = words.parse_args(given)
     if options.traffic and not re.fullmatch("[0-9a-fA-F]{8}", options.traffic[0]):

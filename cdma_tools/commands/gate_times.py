@@ -16,7 +16,7 @@ the run of the log took.
 The plan is 1 GB, 1 MB for each line of the crate's .rt files, its tests among them, 0.2 MB for each line of .antt,
 and 0.08 MB for each line of .rt of the crates below it. What `rt` adds for the kit's libraries isn't counted.
 
-Exit status: 0, or 2 where the words, the log or crates.txt can't be read.
+Exit status: 0, or 2 where the arguments, the log or crates.txt can't be read.
 """
 
 from __future__ import annotations

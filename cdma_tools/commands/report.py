@@ -93,7 +93,7 @@ def parser() -> Parser:
         metavar="N",
         help="of a recording: a section for each of up to N cells, else 1",
     )
-    follow = words.add_argument_group("words of follow")
+    follow = words.add_argument_group("arguments of follow")
     for name, told in FOLLOW_WORDS.items():
         follow.add_argument(f"--{name}", metavar="H" if name == "esn" else "N", help=told)
     return words

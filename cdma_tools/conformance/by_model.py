@@ -22,7 +22,7 @@ HELD_IN_MEMORY = 8_000_000
 
 
 class Item(NamedTuple):
-    """A line of a case with a key, and the lines of the block behind it."""
+    """A line of a case with a key, and the lines of the block after it."""
 
     key: str
     line: str
@@ -139,7 +139,7 @@ def answer_of(case: cases.Case, words: Sequence[str], data: bytes) -> cases.Answ
 
 
 def differences(case: cases.Case) -> list[tuple[list[str], list[str]]]:
-    """The words of each run that differs, and what differs."""
+    """The arguments of each run that differs, and what differs."""
     data = input_of(case)
     if case.fields.get("sha256", "") not in ("", hashlib.sha256(data).hexdigest()):
         return [(case.words, ["the samples that the model makes aren't the case's: their checksum is another"])]

@@ -36,7 +36,7 @@ KEYS = (
     + ["near", "change", "cut", "add", "sha256", "output"]
 )
 NEEDED = ["purpose", "words", "status"]
-# Keys that may stand without a value: no word, and nothing on standard error.
+# Keys that may stand without a value: no argument, and nothing on standard error.
 MAYBE_EMPTY = {"words", "error"}
 INPUTS = ["samples", "script", "nothing", "directory", "dropped"]
 SINKS = ["closed", "full"]
@@ -71,7 +71,7 @@ def spelled(text: str) -> bytes:
 
 
 class Case:
-    """A case: what it is for, the words of its runs, its input, and what is wanted of each run."""
+    """A case: what it is for, the arguments of its runs, its input, and what is wanted of each run."""
 
     def __init__(self, name: str) -> None:
         self.name = name
@@ -130,7 +130,7 @@ class Case:
             try:
                 self.runs.append(shlex.split(value))
             except ValueError as why:
-                raise self.refuse(f"has words that are none: {why}") from None
+                raise self.refuse(f"has arguments that can't be read: {why}") from None
         return None
 
     def begin(self, key: str) -> list[str]:
@@ -318,7 +318,7 @@ def source_of(case: Case, data: bytes) -> Iterator[IO[bytes] | int]:
                 os.close(descriptor)
     elif case.input == "dropped":
         here, there = socket.socketpair()
-        # That its other end is closed before it took this byte fails the next read here, and the one behind finds the end.
+        # That its other end is closed before it took this byte fails the next read here; the one after finds the end.
         here.send(b"x")
         there.close()
         with here:
@@ -444,7 +444,7 @@ def tried(
     minutes: int,
     compared: Callable[[Case, Answer], list[str]] = differences,
 ) -> list[tuple[list[str], list[str]]]:
-    """The words of each run that differs in one case, and what differs, by what compares its answer with the case."""
+    """The arguments of each run that differs in a case, and what differs, by what compares its answer with the case."""
     data = input_of(case, lambda: samples_of(case, maker, minutes))
     wanted = case.fields.get("sha256")
     if wanted and hashlib.sha256(data).hexdigest() != wanted:

@@ -1,4 +1,4 @@
-"""Random cases for `agree`: cells, paths, noise and cuts, words of every command, and scripts and files with faults.
+"""Random cases for `agree`: cells, paths, noise, cuts, arguments of every command, and scripts and files with faults.
 
 A case is a text as conformance/README.md has it, without what is wanted of it, and the same for the same seed. Files
 are short: no more samples than a handset needs to hear what the case is about.
@@ -51,7 +51,7 @@ class Scene:
         return self.rng.randint(3, 5) if self.bits == 8 else self.rng.randint(25, 150)
 
     def mark_slots(self) -> int:
-        """How many units of the system time behind the cell's time the mark lies that the first whole sending sets."""
+        """How many units of the system time after the cell's time the mark lies that the first whole sending sets."""
         sendings = -(-(self.start - 64 * self.pn) // (SLOT * SENDING))
         return SENDING * sendings + SENDING + AHEAD
 
@@ -133,7 +133,7 @@ def paging_lines(scene: Scene, channel: int) -> list[str]:
 
 
 def drawn_direction(scene: Scene) -> Bits:
-    """What stands behind the head of a handoff direction, which may be one that is refused."""
+    """What follows the head of a handoff direction, which may be one that is refused."""
     rng = scene.rng
     search = rng.random() < 0.4
     soon = (scene.time + scene.mark_slots() + rng.randint(1, 2)) % 64
@@ -278,11 +278,11 @@ def air(scene: Scene, samples: int, what: str) -> list[str]:
     return lines + [line for script in scripts for line in ["script:", *("  " + line for line in script)]]
 
 
-# ---- words
+# ---- arguments
 
 
 def words_of(rng: random.Random, command: str, options: dict[str, str]) -> str:
-    """A line of words, its options in any order and of either spelling."""
+    """A line of arguments, its options in any order and of either spelling."""
     given = list(options.items())
     rng.shuffle(given)
     words = [command]
@@ -343,7 +343,7 @@ def synced(rng: random.Random) -> list[str]:
 
 
 def followed(rng: random.Random) -> list[str]:
-    """`follow`, `rate2`, `list` or `idle` over a file that ends some frames behind the mark."""
+    """`follow`, `rate2`, `list` or `idle` over a file that ends some frames after the mark."""
     return heard(drawn_scene(rng), rng.choice(["follow", "follow", "follow", "rate2", "list", "idle"]))
 
 
@@ -357,7 +357,7 @@ def handed(rng: random.Random) -> list[str]:
 
 
 def heard(scene: Scene, command: str) -> list[str]:
-    """A command that hears frames, over a file that ends some frames behind the mark."""
+    """A command that hears frames, over a file that ends some frames after the mark."""
     rng = scene.rng
     scene.rate_set_2 = command == "rate2" and rng.random() < 0.9 or command == "follow" and rng.random() < 0.1
     if scene.handoff:
@@ -373,7 +373,7 @@ def heard(scene: Scene, command: str) -> list[str]:
 
 
 def slot_heard(scene: Scene, options: dict[str, str], mark: int) -> tuple[int, dict[str, str]]:
-    """A file of one to three slots behind the mark, and a key that mostly has one of them."""
+    """A file of one to three slots after the mark, and a key that mostly has one of them."""
     rng = scene.rng
     count = rng.randint(1, 3)
     cycle = rng.choice([0, 0, 1, 7])
@@ -473,7 +473,7 @@ VALUES = ["0", "1", "2", "3", "4", "7", "8", "15", "16", "31", "32", "63", "64",
 
 
 def worded(rng: random.Random) -> list[str]:
-    """Any words, over a short file."""
+    """Any arguments, over a short file."""
     commands = ["find", "follow", "rate2", "list", "idle", "survey", "make", "FIND", ""]
     options = {rng.choice(NAMES): rng.choice(VALUES) for _ in range(rng.randrange(4))}
     needed = {"rate2": ["esn", "row"], "list": ["esn", "row", "k"], "idle": ["key"], "follow": ["esn", "row"]}

@@ -1,6 +1,6 @@
 """One batch of a point: a file of the script's samples with noise of its own, received and counted. What a worker does.
 
-A batch's counts hang on its setup, its level of noise and its numbers alone; nothing is kept from batch to batch but
+A batch's counts depend on its setup, its level of noise and its numbers alone; nothing is kept from batch to batch but
 the samples without noise, which each process makes once.
 """
 
@@ -20,7 +20,7 @@ from cdma_tools.scripts import Script, Traffic, chosen_channel, read_script
 
 @dataclasses.dataclass(frozen=True)
 class Curve:
-    """A receiver whose frames are counted: its program, the program's checksum, its words, and its name in tables."""
+    """A receiver whose frames are counted: its program and that one's checksum, its arguments, and its name in tables."""
 
     program: str
     checksum: str
@@ -47,7 +47,7 @@ class Setup:
 
 @dataclasses.dataclass(frozen=True)
 class Prepared:
-    """The samples without noise (parts, i and q in turn), and what each curve's words are to hear in them."""
+    """The samples without noise (parts, i and q in turn), and what each curve's arguments are to hear in them."""
 
     script: Script
     traffic: Traffic

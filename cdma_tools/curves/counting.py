@@ -17,7 +17,7 @@ from cdma_tools.scripts import FRAME_KINDS, Frame, Script, Traffic
 # A line belongs to the frame that ends within half a group of its place: paths come some chips later, and a receiver
 # that is further off can't unscramble a symbol.
 NEAR = GROUP // 2
-# Fingers lie up to 32 chips before and behind the best phase: of a frame that ends so near to the file's end it may
+# Fingers lie up to 32 chips before and after the best phase: of a frame that ends so near to the file's end it may
 # be that a finger has no samples.
 EDGE = 64
 OUTCOMES = ("lost", "marked_bad", "bad_but_right", "other_rate", "wrong_but_good")
@@ -92,7 +92,7 @@ def messages_in(lines: Iterable[str]) -> Messages:
 
 
 def frames_sent(script: Script, traffic: Traffic) -> dict[int, Frame]:
-    """The frames that lie in the file whole, with room behind them, by the number of samples at which they end."""
+    """The frames that lie in the file whole, with room after them, by the number of samples at which they end."""
     first = traffic.offset * GROUP - script.start
     number = max(0, -(first // FRAME))
     found: dict[int, Frame] = {}
@@ -109,7 +109,7 @@ def expected(script: Script, traffic: Traffic, clean: list[str], name: str) -> E
         raise Refused(f"{name} hears no frame of the script's samples without noise")
     found = {end: frame for end, frame in frames_sent(script, traffic).items() if end >= begin - NEAR}
     if not found:
-        raise Refused(f"no frame lies whole in the script's {script.samples} samples behind the first sync message")
+        raise Refused(f"no frame lies whole in the script's {script.samples} samples after the first sync message")
     return Expected(found, messages_in(clean))
 
 

@@ -18,7 +18,7 @@ CHIP_RATE = 1_228_800
 # the power control subchannel is no part of the traffic channel's Ec.
 TRAFFIC_SHARE = 22 / 24
 SYNC_RATE = 1_200
-# The paging channel that receivers hear where their words name none.
+# The paging channel that receivers hear where their arguments name none.
 FIRST_PAGING = 1
 PAGING_RATES = {0: 9_600, 1: 4_800}
 ROUNDING = 2 / 12

@@ -1,6 +1,6 @@
 """Seeds, and white Gaussian noise.
 
-The noise of a file hangs on three whole numbers: the run's seed, the point (its Eb/Nt in thousandths of a decibel) and
+A file's noise depends on three whole numbers: the run's seed, the point (its Eb/Nt in thousandths of a decibel) and
 the number of the file among the point's. So it is the same whoever makes it, in whatever order.
 """
 

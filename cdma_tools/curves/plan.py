@@ -1,7 +1,7 @@
 """Points, their batches in order, and when a point has enough.
 
 A point is a sequence of batches, 0, 1, 2 and so on. The rule that ends it looks at them in this order, whatever the
-order in which they are done: so what a point counts is the same for any number of workers. Batches behind the one
+order in which they are done: so what a point counts is the same for any number of workers. Batches after the one
 that ends the point may have been done too; they aren't counted.
 """
 
@@ -19,7 +19,7 @@ def points_of(begin: Decimal, end: Decimal, step: Decimal) -> list[int]:
     """The points from one Eb/Nt to another by a step, in thousandths of a decibel."""
     thousandths = [value * 1_000 for value in (begin, end, step)]
     if any(value != value.to_integral_value() for value in thousandths):
-        raise Refused("--from, --to and --step have at most three places behind the point")
+        raise Refused("--from, --to and --step have at most three places after the point")
     first, last, width = (int(value) for value in thousandths)
     if width <= 0:
         raise Refused("--step is above 0")

@@ -15,7 +15,7 @@ from cdma_tools.scripts import Traffic
 VERSION = 1
 # More than any sample file or its lines have.
 MOST_BYTES = 1 << 28
-# The commands that hear a traffic channel, and the words that name it.
+# The commands that hear a traffic channel, and the arguments that name it.
 COMMANDS = {"frame": ("follow", "list"), "frame2": ("rate2",)}
 NO_SYNC = 1
 
@@ -60,7 +60,7 @@ def sample_file(flags: int, parts: NDArray[numpy.int16]) -> bytes:
 
 
 def words_of(given: str, traffic: Traffic) -> str:
-    """A receiver's words: those given, and those that name the channel where they aren't among them."""
+    """A receiver's arguments: those given, and those that name the channel where they aren't among them."""
     kind = traffic.frames[0].kind
     try:
         words = shlex.split(given)

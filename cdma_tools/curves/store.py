@@ -2,7 +2,7 @@
 
 | Table | Has |
 |---|---|
-| `setup` | what the counts hang on, as `name`, `value` |
+| `setup` | what the counts depend on, as `name`, `value` |
 | `batches` | a row for each batch that is done: `point` (thousandths of a decibel), `batch` |
 | `counts` | `point`, `batch`, `curve` (its number), `channel`, `sent` and the bad ends |
 
@@ -39,7 +39,7 @@ COLUMNS = ("sent", *OUTCOMES)
 
 
 def identity(setup: Setup) -> dict[str, str]:
-    """What a run's counts hang on, by name; paths of files are no part of it."""
+    """What a run's counts depend on, by name; paths of files are no part of it."""
     scripts = [setup.text, *setup.others]
     return {
         "form": FORM,

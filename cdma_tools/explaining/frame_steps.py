@@ -141,13 +141,13 @@ def by_table(table: dict[str, int]) -> Iterator[tuple[str, int]]:
 
 
 def sync_layout(body: Bits) -> Iterator[tuple[str, int]]:
-    """The fields of a sync message behind its type."""
+    """The fields of a sync message after its type."""
     yield from by_table(SYNC_FIELDS)
     yield "freq", FREQUENCY
 
 
 def paging_layout(body: Bits) -> Iterator[tuple[str, int]]:
-    """The fields of a paging message behind its type."""
+    """The fields of a paging message after its type."""
     kind = number(body[:LENGTH])
     if kind == 1:
         yield from by_table(SYSTEM_FIELDS)
@@ -162,7 +162,7 @@ def paging_layout(body: Bits) -> Iterator[tuple[str, int]]:
 
 
 def traffic_layout(body: Bits) -> Iterator[tuple[str, int]]:
-    """The fields of a traffic message behind its type; those of a direction as far as its bits tell them."""
+    """The fields of a traffic message after its type; those of a direction as far as its bits tell them."""
     yield from by_table(HEAD_FIELDS)
     kind, encryption = number(body[:LENGTH]), number(body[15:17])
     if encryption == 0 and kind == 7:
@@ -251,7 +251,7 @@ def stream_steps(capture: Capture, stream: Stream, index: int, what: str) -> Ste
     start_state = number(before[-8:]) if place else None
     bits = words[0][1][place : place + stream.bits]
     symbols = code_symbols(start_state or 0, bits)
-    skipped = 0 if place else 16  # the first symbols of a span hang on its start bits too
+    skipped = 0 if place else 16  # the first symbols of a span depend on its start bits too
     name = f"frames {span[0]} to {span[-1]} as one word" if len(span) > 1 else f"frame {index} alone"
     reading = Reading(name, softs[own], words, unlike(softs[own][skipped:], symbols[skipped:]))
     title = f"frame {index}, {what}: from sample {start} on, known at {stream.end(span[-1])}"
@@ -282,7 +282,7 @@ def sync_steps(capture: Capture, found: Found, index: int) -> Steps:
 
 
 def fill_piece(steps: Steps, channel: str, held: Bits | None, piece: Bits, complemented: bool) -> None:
-    """Adds the fields of a piece behind its start bit, and what ends in it, to the steps of a frame."""
+    """Adds the fields of a piece after its start bit, and what ends in it, to the steps of a frame."""
     before = [] if piece[0] else held
     if before is None:
         steps.parts.append(Part("body", piece[1:], remark="no capsule is open"))
@@ -296,7 +296,7 @@ def fill_piece(steps: Steps, channel: str, held: Bits | None, piece: Bits, compl
     _, capsule = take_piece(held, piece)
     if capsule:
         if bits[length:]:
-            steps.parts.append(Part("zeros" if not any(bits[length:]) else "behind", bits[length:]))
+            steps.parts.append(Part("zeros" if not any(bits[length:]) else "rest", bits[length:]))
         steps.verdict.append(ended(channel, capsule, complemented))
 
 
@@ -317,7 +317,7 @@ def paging_steps(capture: Capture, found: Found, mark: Mark, channel: int, index
 
 
 def fill_half(steps: Steps, held: Bits | None, half: Bits, complemented: bool) -> Bits | None:
-    """Adds the fields of a half-frame to the steps of a frame, and answers what is held behind it."""
+    """Adds the fields of a half-frame to the steps of a frame, and answers what is held after it."""
     steps.parts.append(Part("SCI", half[:1], str(half[0])))
     after, capsules = take_half_frame(held, half)
     before, rest = ([] if half[0] else held), half[1:]
@@ -331,7 +331,7 @@ def fill_half(steps: Steps, held: Bits | None, half: Bits, complemented: bool) -
     if after:
         steps.parts += capsule_parts("paging", after, len(before))
     elif rest:
-        steps.parts.append(Part("zeros" if not any(rest) else "behind", rest))
+        steps.parts.append(Part("zeros" if not any(rest) else "rest", rest))
     return after
 
 
@@ -414,7 +414,7 @@ def traffic_parts(rate: Rate, rate_set: int, bits: Bits) -> list[Part]:
 
 
 def signalling_parts(part: Bits) -> list[Part]:
-    """The fields of a signalling part behind its start bit: those of a capsule that begins in it."""
+    """The fields of a signalling part after its start bit: those of a capsule that begins in it."""
     length = stated_length(part[1:])
     if not part[0] or length is None:
         return [Part("signalling", part[1:])]

@@ -27,7 +27,7 @@ from cdma_tools.report.figures import BLUE, GREY, HIDDEN_TEXT, INK, Plot, styled
 from cdma_tools.report.gathering import Ran, run_program
 from cdma_tools.sample_file import HEADER
 
-# Words of follow that go for every cell: the traffic channel is the strongest one's alone.
+# Arguments of follow that go for every cell: the traffic channel is the strongest one's alone.
 SHARED_WORDS = ("span", "workers", "fingers", "paging")
 
 
@@ -60,7 +60,7 @@ class HeardCell(NamedTuple):
 def gather_cells(
     path: str, options: Options, count: int, program: str, words: dict[str, str], folder: str
 ) -> list[HeardCell]:
-    """Up to so many cells of a recording, strongest first; `words` are those of follow."""
+    """Up to so many cells of a recording, strongest first; `words` are the arguments of follow."""
     given = [f"--{name}={words[name]}" for name in SHARED_WORDS if name in words]
     with Search(path, options, folder) as search, bar(total=count, text="cells", unit="cells") as shown:
         while len(search.told) < count and search.next_cell():

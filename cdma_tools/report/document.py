@@ -299,7 +299,7 @@ def sync_section(gathered: Gathered) -> Markup:
     if not found:
         return Markup("")
     shape, _, all_of = found
-    note = f"The first of {len(all_of)}, known at {seconds_at(all_of[0])}: it holds 320 ms behind its end."
+    note = f"The first of {len(all_of)}, known at {seconds_at(all_of[0])}: it holds 320 ms after its end."
     return fields_section("Sync message", "sync", shape, all_of[0], note)
 
 
@@ -367,7 +367,7 @@ def lines_section(gathered: Gathered) -> Markup:
         count = element("span", f"{len(ran.lines)} lines", class_="count")
         told = f" · {' '.join(ran.words)} · status {ran.status} · "
         head = element("summary", joined([ran.words[0], element("span", told, class_="note"), count]))
-        # The first line feed behind <pre> is dropped by HTML, so one stands there.
+        # The first line feed after <pre> is dropped by HTML, so one stands there.
         text = Markup("\n") + PageMarkup("\n").join(line.text for line in ran.lines)
         body = element("pre", text, class_="lines", data_command=ran.words[0], tabindex="0")
         is_open = " open" if ran.words[0] == "follow" else ""

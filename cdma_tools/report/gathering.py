@@ -14,8 +14,8 @@ from cdma_tools.progress import bar
 from cdma_tools.sample_header import HEADER, SAMPLE_BYTES
 
 PIECE = 1 << 20  # bytes of a sample file that are given at once
-BAD_WORDS = 2  # the program's status where its words are none (docs/FORMATS.md)
-SEARCH = ("span", "workers")  # words of follow that find and survey take too
+BAD_WORDS = 2  # the program's status where its arguments are wrong (docs/FORMATS.md)
+SEARCH = ("span", "workers")  # arguments of follow that find and survey take too
 PERIOD = 32_768  # phases of the pilot's code (7.1.3.1.9)
 WIDTH = 31  # chips on each side of its own phase on which each pilot is surveyed: the most, 25 microseconds
 STEP = 64  # chips between the codes of neighboring offsets (7.1.3.1.9)
@@ -29,7 +29,7 @@ class Line(NamedTuple):
 
 
 class Ran(NamedTuple):
-    """A run of a command: its words, its status, its lines, and what it said on standard error."""
+    """A run of a command: its arguments, its status, its lines, and what it said on standard error."""
 
     words: list[str]
     status: int
@@ -42,7 +42,7 @@ class Ran(NamedTuple):
 
 
 class Imported(NamedTuple):
-    """An import: its words, its status, what it found by name, and what it said besides."""
+    """An import: its arguments, its status, what it found by name, and what it said besides."""
 
     words: list[str]
     status: int
@@ -148,14 +148,14 @@ def base_of(find: Ran, follow: Ran) -> int:
 
 
 def gather_runs(program: str, path: str, words: dict[str, str]) -> tuple[Ran, Ran, Ran]:
-    """One run each of find, survey and follow; `words` are those of follow."""
+    """One run each of find, survey and follow; `words` are the arguments of follow."""
     search = [f"--{name}={words[name]}" for name in SEARCH if name in words]
     whole = [f"--{name}={value}" for name, value in words.items()]
     samples = os.path.getsize(path) // sample_bytes(path)
     with bar(total=3 * samples, text="follow", unit="chips") as shown:
         follow = run_program(program, ["follow", *whole], path, FOLLOWED, shown)
         if follow.status == BAD_WORDS:
-            raise WrongArguments(f"no words of follow: {' '.join(whole)}")
+            raise WrongArguments(f"no arguments of follow: {' '.join(whole)}")
         find = run_program(program, ["find", *search], path, ("pilot",), shown)
         base = base_of(find, follow)
         survey = run_program(

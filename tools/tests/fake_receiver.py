@@ -36,7 +36,7 @@ def make(text: str) -> None:
 
 
 def told(total: int, rate: str, bits: str) -> str:
-    """A frame's line behind its place, by the sum of its noise: five ways to be heard, by the sum modulo KINDS."""
+    """A frame's line after its place, by the sum of its noise: five ways to be heard, by the sum modulo KINDS."""
     kind = total % KINDS
     wrong = bits[:4] + ("0" if bits[4] != "0" else "8") + bits[5:]
     rate, good, bits = {

@@ -115,7 +115,7 @@ class Recordings(unittest.TestCase):
         return ran.returncode, ran.stdout, ran.stderr.decode()
 
     def recorded(self, *words: Any, cells: tuple[str, ...] | None = None, name: str = "in.sigmf-meta") -> str:
-        """A recording of the cell with the words of tools/channel."""
+        """A recording of the cell with the arguments of tools/channel."""
         status, wrote, said = run_main("channel", *words, *(cells or (self.cell,)), self.at(name))
         self.assertEqual((status, wrote), (0, ""), said)
         return self.at(name)

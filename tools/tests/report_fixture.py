@@ -10,7 +10,7 @@ from tools.tests.helping import sample_file
 
 PHASE = 12_345  # of the pilot's code at the first sample
 PILOT, SYNC = 100, 30  # amplitudes
-SAMPLES = 120_000  # three whole frames of the sync channel behind its first begin, and more
+SAMPLES = 120_000  # three whole frames of the sync channel after its first begin, and more
 SPAN = 2_048
 FOLLOWED = (
     f"pilot phase={PHASE} energy=167772160000",
@@ -83,6 +83,6 @@ class Fake:
                 file.write(data)
 
     def words(self) -> list[str]:
-        """The words of each run."""
+        """The arguments of each run."""
         with open(f"{self.path}.words") as file:
             return file.read().splitlines()

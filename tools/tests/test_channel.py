@@ -1,4 +1,4 @@
-"""tools/channel: that a recording holds what its words say, and each refusal."""
+"""tools/channel: that a recording holds what its arguments say, and each refusal."""
 
 import json
 import os
@@ -41,7 +41,7 @@ class Recorded(Recordings):
         return samples / numpy.sqrt(numpy.mean(numpy.abs(samples) ** 2))
 
     def pilot(self, samples: numpy.ndarray, late: float = 0.0, count: int = 60_000) -> complex:
-        """The mean of the pilot's chips at two samples a chip, `late` chips behind the sent ones."""
+        """The mean of the pilot's chips at two samples a chip, `late` chips after the sent ones."""
         at = 40 + numpy.arange(count)
         got = samples[2 * at + round(2 * late)]
         return complex(numpy.mean(got * code()[(PHASE + at) % 32_768].conj())) / 2
@@ -55,7 +55,7 @@ class Recorded(Recordings):
     def test_a_chip_is_where_it_is_sent(self) -> None:
         clean = self.samples()
         share = GAINS[0] ** 2 / sum(gain**2 for gain in GAINS.values())
-        # At the chip's own instant the pulse alone is met, at half a chip before and behind little of it.
+        # At the chip's own instant the pulse alone is met, at half a chip before and after little of it.
         prompt = abs(self.pilot(clean)) ** 2 * 2
         self.assertGreater(prompt, 0.8 * share)
         self.assertGreater(abs(self.pilot(clean)), 1.4 * max(abs(self.pilot(clean, 0.5)), abs(self.pilot(clean, -0.5))))
@@ -185,7 +185,7 @@ class Recorded(Recordings):
         self.assertIn("eb_nt=7:10:9600", note["core:comment"].split())
 
     def test_powers_are_those_of_the_whole_file(self) -> None:
-        # A row that begins behind half a file has half of its power there, and none in the first 16 periods.
+        # A row that begins after half a file has half of its power there, and none in the first 16 periods.
         count = 40 * 32_768
         late = cell_chips(count, gains={10: 70})
         late[: count // 2] = 0

@@ -54,7 +54,7 @@ class TheCases(unittest.TestCase):
                 self.check_case(case)
 
     def check_case(self, case: Any) -> None:
-        """That what a case wants can be met, and that its words are some of the receiver's."""
+        """That what a case wants can be met, and that its arguments are some of the receiver's."""
         self.assertTrue(all(len(line) < 1_024 for line in case.text or []))
         if case.input == "samples" and case.scripts:
             self.assertRegex(case.fields["sha256"], "^[0-9a-f]{64}$")
@@ -325,7 +325,7 @@ class AsksOfBytes(Asks):
         self.refuses("cat 2> /dev/null || cat && exit 3", "status 3, wanted 4")
 
     def test_several_runs(self) -> None:
-        """Each must answer the same; that of no words too."""
+        """Each must answer the same; that of no arguments too."""
         self.write("purpose: two", "words: find", "words:", "words: find ''", "status: 0", "file:", "  00", "text:", "  said")
         self.accepts("echo said")
         status, said = self.asked('[ $# -eq 1 ] && echo said')
@@ -405,7 +405,7 @@ class AsksOfBytes(Asks):
             ((*head, "add: 0", *end), "has bytes or a place that are none"),
             ((*head, "add: 300000000 * 00", *end), "has bytes or a place that are none: more than 268435456 bytes"),
             ((*head, "file:", "  0g", "text:"), "has bytes or a place that are none"),
-            ((head[0], "words: 'find", head[2], *end), "has words that are none"),
+            ((head[0], "words: 'find", head[2], *end), "has arguments that can't be read"),
             ((*head, "colour: red", *end), "has a line that is none: 'colour: red'"),
             ((*head, "bits:", *end), "has a line that is none: 'bits:'"),
             ((*head, "text:x", *end), "has a line that is none: 'text:x'"),

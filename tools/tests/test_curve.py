@@ -1,4 +1,4 @@
-"""`tools/curve` as a program: counts that don't hang on workers, broken runs, each fault; and curves of the program.
+"""`tools/curve` as a program: counts that don't depend on workers, broken runs, each fault; and curves of the program.
 
 Most of it runs over a stand-in for the program, `fake_receiver.py`, which lets the noise alone decide what is heard.
 """
@@ -119,7 +119,7 @@ class Curves(unittest.TestCase):
 
     def begun(self, words):
         """A run that has counted a batch; what it says is read later. It hears an interrupt though the tests themselves
-        run behind a shell that has it ignored."""
+        run by a shell that has it ignored."""
 
         def heard():
             signal.signal(signal.SIGINT, signal.SIG_DFL)
@@ -247,7 +247,7 @@ class Broken(Curves):
         child = self.begun(words)
         child.send_signal(signal.SIGINT)
         _, said = child.communicate(timeout=SECONDS)
-        self.assertEqual(said, "curve: broken off; the same words go on from what was counted\n")
+        self.assertEqual(said, "curve: broken off; the same command goes on from what was counted\n")
         self.assertEqual(child.returncode, 130)
 
     def test_a_disk_that_is_full_keeps_what_was_counted(self):

@@ -159,7 +159,7 @@ def encoded(words, repeats):
 
 
 def all_words(bits):
-    """All words of so many bits but that of zeros, with eight zeros behind each."""
+    """All words of so many bits but that of zeros, with eight zeros after each."""
     numbers = numpy.arange(1, 1 << bits)
     words = numbers[:, None] >> numpy.arange(bits) & 1
     return numpy.hstack([words, numpy.zeros((len(words), 8), dtype=int)])

@@ -88,7 +88,7 @@ REFUSED = {
     "pilot phase=1": "stands where energy= should",
     "pilot phase=1 energy=2 ": "a space too many",
     "pilot  phase=1 energy=2": "stands where phase= should",
-    "pilot phase=1 energy=2 more": "'more' stands behind",
+    "pilot phase=1 energy=2 more": "'more' follows",
     "pilot energy=2 phase=1": "'energy=2' stands where phase=",
     "pilot phase=1 energy=18446744073709551616": "energy: ",
     "pilot phase=-0 energy=2": "phase: '-0' is no number",
@@ -96,7 +96,7 @@ REFUSED = {
     "paging at=1 others type=5 bits=0:": "'others' names no kind of paging",
     "paging at=1": "'' names no kind of paging",
     "raw at=1 sync 8:0": "isn't bits",
-    "raw at=1 sync 7:01": "zeros behind its bits",
+    "raw at=1 sync 7:01": "zeros after its bits",
     "raw at=1 sync 8:0A": "isn't bits",
     "raw at=1 sync 9:ff": "hasn't just its digits",
     "raw at=1 sync 0:00": "hasn't just its digits",
@@ -269,7 +269,7 @@ class Program(unittest.TestCase):
     def test_refusals(self) -> None:
         line, told = b"pilot phase=1 energy=2\n", b'{"line":"pilot","phase":1,"energy":2}\n'
         self.refused("standard input: line 2: 'survey' begins|line 2: .*pn=", data=line + b"survey\n", wrote=told)
-        self.refused("line 1: no line feed behind it", data=line[:-1])
+        self.refused("line 1: no line feed after it", data=line[:-1])
         self.refused("line 1: it isn't ASCII", data=b"pilot phase=\xb2 energy=2\n")
         self.refused("line 1: it is too long", data=b"a" * 3_000_000 + b"\n")
         self.refused("No such file", "none.txt")
@@ -309,7 +309,7 @@ class Documents(unittest.TestCase):
         self.assertEqual(kinds, list(SHAPES))
 
     def shape_of(self, text: str) -> Shape:
-        """The kind of which a pattern is: by its first word, and by the one behind it that has no = sign."""
+        """The kind of which a pattern is: by its first word, and by the one after it that has no = sign."""
         first, *words = text.split()
         found = [shape for shape in SHAPES if shape.line == first and (shape.word is None or shape.word in words)]
         self.assertEqual(len(found), 1, text)

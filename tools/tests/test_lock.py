@@ -217,7 +217,7 @@ class Losses(Recordings):
         noise = draws.normal(0, float(raw.std()), 1_600_000).astype("<f4")
         for name, parts, begin, end in (
             ("noise before", [noise, raw], 0.333, None),
-            ("noise behind", [raw[:3_600_000], noise], 0.0, 0.75),
+            ("noise after", [raw[:3_600_000], noise], 0.0, 0.75),
         ):
             with self.subTest(name):
                 numpy.concatenate(parts).tofile(data)
@@ -239,7 +239,7 @@ class Refusals(Recordings):
     CHIPS = 100_000
 
     def raw(self, samples: numpy.ndarray) -> tuple[str, ...]:
-        """The words of a recording of these samples."""
+        """The arguments of a recording of these samples."""
         scaled = samples / numpy.abs(samples).max() * 20_000
         numpy.stack([scaled.real, scaled.imag], axis=1).astype("<i2").tofile(self.at("none.raw"))
         return (self.at("none.raw"), "--type", "ci16_le", "--rate", "2400000")

@@ -118,7 +118,7 @@ class Command(unittest.TestCase):
 
 
 class Numbers(unittest.TestCase):
-    """Negative numbers behind options, and bounds."""
+    """Negative numbers after options, and bounds."""
 
     def test_a_negative_number_is_a_value(self) -> None:
         self.assertEqual(

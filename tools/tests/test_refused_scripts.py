@@ -24,7 +24,7 @@ LINES = {
     "OTHER_PAGING": "paging channel=7 gain=1",
     "SILENT_PAGING": "paging channel=1 gain=0",
     "SILENT_PAGING_5": "paging channel=5 gain=0",
-    # A channel list of 9 octets, and the same right behind the page before.
+    # A channel list of 9 octets, and the same right after the page before.
     "HALF": "page half 34:04ff8046c0",
     "NEXT": "page next 34:04ff8046c0",
     # Pages whose type and bits are 0.
@@ -335,7 +335,7 @@ FAULTY_FRAMES2 = [
     "frame2 14400 126:00000000000000000000000000000000 0101010101010101",
 ]
 
-# The number of the line at fault, lines by their names that don't follow one another, and what stands behind them.
+# The number of the line at fault, lines by their names that don't follow one another, and what follows them.
 ORDERS = [
     (1, "", ""),
     (2, "CELL", ""),
@@ -450,7 +450,7 @@ MIXED_FRAMES = [
     (9, "CELL LINK PILOT SYNC TRAFFIC FRAME2 ROW_9 FRAME FRAME2", ""),
 ]
 
-# Plans that can't be sent: the first fault, what stands in place of the cell's lines, the channels behind them, and the
+# Plans that can't be sent: the first fault, what stands in place of the cell's lines, the channels after them, and the
 # width of the samples.
 ONE = {"LINK": "link re=1 im=0 start=0 samples=1"}
 LOUD_LINK = {"LINK": "link re=32767 im=-3 start=0 samples=1228800"}
@@ -580,7 +580,7 @@ LAWFUL_TRAFFICS = [
     "TRAFFIC FRAME2 FRAME2 ROW_9 FRAME FRAME",
     "TRAFFIC FRAME ROW_9 FRAME2",
 ]
-# Pages, and frames, that stand alone behind their channel's line.
+# Pages, and frames, that stand alone after their channel's line.
 LAWFUL_PAGES = ["page half 10:FfC0", "page half 42:030000000000"]
 LAWFUL_FRAMES = [
     "frame 2400 40:00000000fF 1111111111111111",

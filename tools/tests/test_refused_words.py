@@ -1,7 +1,7 @@
-"""Words that the command line doesn't have, and spellings that it has, asked of the built program.
+"""Arguments that the command line doesn't have, and spellings that it has, asked of the built program.
 
-Other words end with status 2 and `bad words`, before anything is read. Behind words that are taken the input is read,
-which is empty here, so that the run ends with the fault of an empty input.
+Other arguments end with status 2 and `bad words`, before anything is read. After arguments that are taken the input is
+read, which is empty here, so that the run ends with the fault of an empty input.
 """
 
 import subprocess
@@ -133,7 +133,7 @@ FAULTY_VALUES = [
     "trial 1",
 ]
 
-# Words that are taken, of commands that read a sample file, that reads a script, and that reads nothing.
+# Arguments that are taken, of commands that read a sample file, that reads a script, and that reads nothing.
 RECEIVING = [
     "find",
     "find --span=0064",
@@ -166,7 +166,7 @@ TRIALS = [
 @unittest.skipUnless(PROGRAM, NO_PROGRAM)
 class RefusedWords(unittest.TestCase):
     def expect(self, lines: list[str], status: int, error: str) -> None:
-        """The words of each line end a run so. One blank parts two words, so that between two stands an empty one."""
+        """The arguments of each line end a run so. One blank parts two, so that between two stands an empty one."""
         for line in lines:
             with self.subTest(line):
                 self.expect_words(line.split(" "), status, error)

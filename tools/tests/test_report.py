@@ -351,7 +351,7 @@ class BadInput(Folder):
             self.assertEqual(self.plots(page), {})
 
     def test_what_was_not_asked_for(self) -> None:
-        """Where the words of follow leave messages out, that is no fault."""
+        """Where the arguments of follow leave messages out, that is no fault."""
         self.fake.tell("follow", [line for line in FOLLOWED if line.startswith("frame")])
         page = self.page("--messages", "0", "--pilots", "0")
         self.assert_holds(page, "All was read")
@@ -379,7 +379,7 @@ class BadInput(Folder):
         self.fake.tell("follow", [], status=2, said="bad words\n")
         ended, said = self.ran(self.file, "--out", self.out, "--program", self.fake.path, "--row", "77")
         self.assertEqual(ended, 2)
-        self.assertIn("no words of follow: --row=77", said)
+        self.assertIn("no arguments of follow: --row=77", said)
         self.assertFalse(os.path.exists(self.out))
         self.assertEqual([name for name in os.listdir(self.folder) if name.startswith(".part-")], [])
 

@@ -153,7 +153,7 @@ class ThePage(Browser):
         self.load(file=self.keep("second.is95", made))
         self.assertEqual(self.marks(), lines.count(b"\n") - 1)
         self.assertEqual(self.rows("channels"), {"283": ["878.49 MHz at 800 MHz, or 1944.15 MHz at 1.9 GHz"]})
-        # System time 1,007 is 80.56 s behind 1980-01-06 00:00:00, and 13 of them are leap seconds.
+        # System time 1,007 is 80.56 s after 1980-01-06 00:00:00, and 13 of them are leap seconds.
         self.assertIn("1980-01-06 00:01:07.56 UTC", self.rows("sync")["SYS_TIME"][1])
 
 

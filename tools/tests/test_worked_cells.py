@@ -22,7 +22,7 @@ SYMBOL = 64
 FRAME = 24_576
 OFFSET = 1_536
 
-# Frames of the near cell's sync channel by their numbers: of the first two sendings, and of one far behind them.
+# Frames of the near cell's sync channel by their numbers: of the first two sendings, and of one far after them.
 SYNC_FRAMES = {
     2: "9b9ad31a579680cf",
     3: "4250b88eacfce0e2",
@@ -84,7 +84,7 @@ TRAFFIC = [
     }),
 ]  # fmt: skip
 
-# Samples at places behind two starts, where a paging channel is sent: at the full rate beside a pilot alone, and at the
+# Samples at places after two starts, where a paging channel is sent: at the full rate beside a pilot alone, and at the
 # half rate beside a sync channel too.
 FULL_RATE = {
     0: {0: (-480, 480), 1: (120, -120), 63: (120, -120), 64: (-480, 480), 777: (120, -120), 24_575: (480, 480),
