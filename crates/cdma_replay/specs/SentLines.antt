@@ -2,6 +2,7 @@
 use Rattle.std.specs.Prelude.{◌≡◌, ◌≤◌, ℕ, ◌*◌, true, List, [], ◌∷◌, length, take, Option, None}
 use Rattle.std.specs.Prelude.{Some}
 use Rattle.std.specs.List.{Contains, flat_map}
+use Rattle.chip_core.specs.Air.{superframe_chips}
 use Rattle.chip_core.specs.declared.sample.Sample.{Sample}
 use Rattle.cdma_io.specs.declared.header.Header.{Header}
 use Rattle.chip_core.specs.declared.width.Width.{Width}
@@ -37,8 +38,8 @@ use Rattle.cdma_replay.specs.declared.handset.HandsetOptions.{HandsetOptions}
 pub record AreSentLines (plan : CellPlan) (p : TrafficPlan) (Is : ℕ → List ℕ → Type 0)
     (superframes : ℕ) (text : List ℕ) : Type 0 where
   pub line : ℕ → List ℕ
-  pub each : text ≡ flat_map line (received_frames plan p (98304 * superframes))
-  pub are : (frame : ℕ) → is_received plan p (98304 * superframes) frame ≡ true →
+  pub each : text ≡ flat_map line (received_frames plan p (superframe_chips * superframes))
+  pub are : (frame : ℕ) → is_received plan p (superframe_chips * superframes) frame ≡ true →
       Is frame (line frame)
 
 -- the text of a channel's frames, and none where no mark is set

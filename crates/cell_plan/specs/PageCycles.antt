@@ -2,6 +2,7 @@
 -- again and again.
 use Rattle.std.specs.Prelude.{ℕ, ◌+◌, ◌*◌, ◌%◌, ◌^◌, ◌<◌, ◌≤◌, Bool, false, List, length, map}
 use Rattle.std.specs.Prelude.{get_or}
+use Rattle.chip_core.specs.Air.{data_frame_chips}
 use Rattle.chip_core.specs.Bits.{places, xor, zip_with}
 use Rattle.long_code.specs.LongCode.{after, IsState}
 use Rattle.paging_message.specs.HalfFrames.{half_frame_body}
@@ -37,7 +38,7 @@ cycle_frame_bits c = cycled c.bits (paging_frame_size c.rate)
 
 -- the bits that scramble a frame: those of the long code from the frame's first chip on
 abbrev pub frame_scrambling : Cycle → ℕ → List Bool
-frame_scrambling c frame = scrambling (after c.cell.lc (24576 * frame)) c.mask
+frame_scrambling c frame = scrambling (after c.cell.lc (data_frame_chips * frame)) c.mask
 
 -- the 384 symbols of a frame as they are sent
 unfoldable pub cycle_symbols : Cycle → ℕ → List Bool

@@ -2,6 +2,7 @@
 -- with the time and the long code's state of each transmission filled in.
 use Rattle.std.specs.Prelude.{ℕ, zero, suc, ◌+◌, ◌-◌, ◌*◌, ◌/◌, ◌%◌, Bool, false, ◌==◌, List, ◌∷◌}
 use Rattle.std.specs.Prelude.{◌++◌, length, take, drop, replicate}
+use Rattle.chip_core.specs.Air.{superframe_chips}
 use Rattle.long_code.specs.LongCode.{after}
 use Rattle.conv_code.specs.ConvCode.{code_symbols}
 use Rattle.symbol_path.specs.SentOrder.{sent, sync_shape}
@@ -25,7 +26,7 @@ message_of cell m sending =
     record m {
       pn = cell.pn;
       time = cell.time + told_superframes cell m sending;
-      lc = after cell.lc (98304 * told_superframes cell m sending);
+      lc = after cell.lc (superframe_chips * told_superframes cell m sending);
     }
 
 -- the capsule of a transmission, and zeros behind it

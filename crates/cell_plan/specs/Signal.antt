@@ -2,6 +2,7 @@
 -- (TIA/EIA-95-B, 7.1.3.1).
 use Rattle.std.specs.Prelude.{ℕ, ◌+◌, ◌-◌, ◌*◌, ◌/◌, ◌%◌, Bool, false, if◌then◌else◌, nat_lt, List}
 use Rattle.std.specs.Prelude.{[], ◌∷◌, ◌++◌, map, get_or, ℤ, pos, ◌+ℤ◌, ◌*ℤ◌, Option, Some, None}
+use Rattle.chip_core.specs.Air.{data_frame_chips, frame_offset_chips}
 use Rattle.chip_core.specs.Bits.{sign, places}
 use Rattle.chip_core.specs.Complex.{origin, plus, times}
 use Rattle.chip_core.specs.declared.sample.Pair.{Pair}
@@ -89,7 +90,7 @@ sync_form = record { frame_chips = 32768; symbol_chips = 256 }
 
 -- a paging or traffic channel's symbols last one period of its row (7.1.3.4, 7.1.3.5)
 abbrev pub paging_form : ChannelForm
-paging_form = record { frame_chips = 24576; symbol_chips = 64 }
+paging_form = record { frame_chips = data_frame_chips; symbol_chips = 64 }
 
 abbrev pub sync_carrier : CellPlan → SyncPlan → Carrier
 sync_carrier plan sync = record {
@@ -140,7 +141,7 @@ abbrev pub traffic_carrier : CellPlan → TrafficPlan → Carrier
 traffic_carrier plan t = record {
   gain = t.gain;
   row = t.row;
-  first = 1536 * t.offset;
+  first = frame_offset_chips * t.offset;
   form = paging_form;
   symbols = traffic_frame_symbols (frames_of plan t);
 }

@@ -2,6 +2,7 @@
 use Rattle.std.specs.Prelude.{◌≡◌, ℕ, ◌+◌, ◌*◌, ◌%◌, ◌^◌, ◌<◌, ◌≤◌, Bool, false, List, [], ◌∷◌}
 use Rattle.std.specs.Prelude.{◌++◌, length, replicate, take, drop, All}
 use Rattle.std.specs.List.{flat_map}
+use Rattle.chip_core.specs.Air.{data_frame_chips, frame_offset_chips}
 use Rattle.long_code.specs.LongCode.{after, IsState}
 use Rattle.conv_code.specs.ConvCode.{code_symbols}
 use Rattle.symbol_path.specs.Scrambling.{scrambling, with_power_bits}
@@ -91,7 +92,7 @@ cycled_frame c k = cycled (set_one c.frames) k
 
 -- the long code's state at the first chip of frame k
 abbrev pub frame_state : FrameCycle → ℕ → ℕ
-frame_state c k = after c.cell.lc (24576 * k + 1536 * c.offset)
+frame_state c k = after c.cell.lc (data_frame_chips * k + frame_offset_chips * c.offset)
 
 -- the symbols of frame k, which begins at this state
 abbrev pub symbols_from : ℕ → ℕ → ℕ → FrameList → List Bool

@@ -11,3 +11,4 @@ pub mod Sums
 pub mod Worked
 pub mod Decimals
 pub mod Agreement
+pub mod Air

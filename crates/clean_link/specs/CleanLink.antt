@@ -2,6 +2,7 @@
 -- handset has to hear in it.
 use Rattle.std.specs.Prelude.{ℕ, ◌+◌, ◌-◌, ◌*◌, ◌/◌, ◌%◌, ◌≤◌, ◌≡◌, ◌&&◌, Bool, if◌then◌else◌}
 use Rattle.std.specs.Prelude.{nat_le, List, [], ◌∷◌, length, map, filter, pos, Option, None, Some}
+use Rattle.clean_link.specs.Common.{superframe_chips}
 use Rattle.clean_link.specs.Common.{places, norm, after, symbol_chips, window_chips, Form}
 use Rattle.clean_link.specs.Common.{sync_capsule, SyncFields, IsFreeOf, message_of}
 use Rattle.clean_link.specs.Common.{superframes_a_sending, phase_at, CellPlan, SyncPlan}
@@ -84,7 +85,7 @@ first_sync_frame plan =
 -- that holds its capsule's last bit
 abbrev pub sending_begins : CellPlan → SyncFields → ℕ → ℕ
 sending_begins plan m sending =
-    64 * plan.cell.pn + 98304 * (sending * superframes_a_sending plan.cell m)
+    64 * plan.cell.pn + superframe_chips * (sending * superframes_a_sending plan.cell m)
 
 abbrev pub sending_ends : CellPlan → SyncFields → ℕ → ℕ
 sending_ends plan m sending =
@@ -98,7 +99,7 @@ is_whole plan m sending =
 
 abbrev pub whole_sendings : CellPlan → SyncFields → List ℕ
 whole_sendings plan m =
-    filter (is_whole plan m) (places ((plan.link.start + plan.link.samples) / 98304 + 1))
+    filter (is_whole plan m) (places ((plan.link.start + plan.link.samples) / superframe_chips + 1))
 
 -- what a handset tells of a transmission, when it knows the last of its frames
 abbrev pub sending_event : CellPlan → SyncFields → ℕ → Event
@@ -122,8 +123,8 @@ sync_sent plan = events_of_channel plan plan.sync
 -- A mark at the start of one of the cell's superframes, which are counted from local chip 0: its
 -- time and its long-code state are the cell's.
 pub record IsTrueMark (plan : CellPlan) (mark : Mark) (superframes : ℕ) : Type 0 where
-  pub place : plan.link.start + mark.sample ≡ 98304 * superframes
+  pub place : plan.link.start + mark.sample ≡ superframe_chips * superframes
   pub time : mark.time ≡ plan.cell.time + superframes
   pub pn : mark.pilot ≡ plan.cell.pn
   pub state : (chips : ℕ) →
-      after mark.state chips ≡ after plan.cell.lc (98304 * superframes + chips)
+      after mark.state chips ≡ after plan.cell.lc (superframe_chips * superframes + chips)

@@ -25,6 +25,7 @@ pub use Rattle.cell_plan.specs.declared.plan.SyncPlan.{SyncPlan}
 pub use Rattle.cell_plan.specs.declared.plan.TrafficPlan.{TrafficPlan}
 pub use Rattle.cell_plan.specs.declared.traffic_frame.TrafficFrame.{TrafficFrame}
 pub use Rattle.cell_plan.specs.declared.traffic_frame2.TrafficFrame2.{TrafficFrame2}
+pub use Rattle.chip_core.specs.Air.{data_frame_chips, frame_offset_chips, superframe_chips}
 pub use Rattle.chip_core.specs.Bits.{sign, xor, zip_with}
 unfoldable pub use Rattle.chip_core.specs.Bits.{binary, places}
 pub use Rattle.chip_core.specs.Complex.{norm}

@@ -3,6 +3,7 @@
 use Rattle.std.specs.Prelude.{◌≡◌, ◌≤◌, ℕ, ◌*◌, true, false, All, Bool, List, [], ◌∷◌, map, filter}
 use Rattle.std.specs.Prelude.{None, Option, Some}
 use Rattle.std.specs.List.{Contains}
+use Rattle.clean_link.specs.Common.{superframe_chips}
 use Rattle.clean_link.specs.Common.{Width, Decoded, IsFreeOf, made_samples, frames_of, cycled_frame}
 use Rattle.clean_link.specs.Common.{CellPlan, PagingPlan, TrafficPlan, TrafficFrame, events}
 use Rattle.clean_link.specs.Common.{frame_event, Tuning, Event, Frame, Paging, Sync, Traffic}
@@ -56,8 +57,8 @@ IsEventOf plan p frame event = (f : TrafficFrame)
 pub record AreEventsOf (plan : CellPlan) (p : TrafficPlan) (superframes : ℕ)
     (frames : List Event) : Type 0 where
   pub event : ℕ → Event
-  pub each : frames ≡ map event (received_frames plan p (98304 * superframes))
-  pub are : (frame : ℕ) → is_received plan p (98304 * superframes) frame ≡ true →
+  pub each : frames ≡ map event (received_frames plan p (superframe_chips * superframes))
+  pub are : (frame : ℕ) → is_received plan p (superframe_chips * superframes) frame ≡ true →
       IsEventOf plan p frame (event frame)
 
 -- and none where no mark is set
@@ -72,8 +73,8 @@ AreFramesBehind plan p (Some superframes) frames = AreEventsOf plan p superframe
 abbrev pub AreMessagesBehind : CellPlan → TrafficPlan → Option ℕ → List Event → Type 0
 AreMessagesBehind plan p None messages = messages ≡ []
 AreMessagesBehind plan p (Some superframes) messages =
-    AreDistinct plan p (98304 * superframes) →
-    messages ≡ messages_of_channel plan p (98304 * superframes)
+    AreDistinct plan p (superframe_chips * superframes) →
+    messages ≡ messages_of_channel plan p (superframe_chips * superframes)
 
 -- ---- all channels
 

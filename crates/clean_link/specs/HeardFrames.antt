@@ -5,6 +5,7 @@ use Rattle.std.specs.Prelude.{if◌then◌else◌, nat_le, List, [], ◌∷◌, 
 use Rattle.std.specs.Prelude.{pos, ◌*ℤ◌, All, Option}
 use Rattle.std.specs.List.{flat_map}
 use Rattle.std.specs.Option.{option_to_list}
+use Rattle.clean_link.specs.Common.{data_frame_chips, frame_offset_chips}
 use Rattle.clean_link.specs.Common.{places, sign, traffic_mask, power_places, frame_codeword}
 use Rattle.clean_link.specs.Common.{IsUnshared, ShowSymbols, frame_symbols, is_replaced, frames_of}
 use Rattle.clean_link.specs.Common.{cycled_frame, frame_state, sent_with, set_one, set_two}
@@ -84,7 +85,7 @@ replaced_of plan p frame = power_places (frame_state (frames_of plan p) frame) (
 
 -- the local chip at which frame `frame` begins
 abbrev pub frame_chip : TrafficPlan → ℕ → ℕ
-frame_chip p frame = 1536 * p.offset + 24576 * frame
+frame_chip p frame = frame_offset_chips * p.offset + data_frame_chips * frame
 
 -- whether it begins at the mark or behind it, and lies in the file; the mark is at this local chip
 abbrev pub is_received : CellPlan → TrafficPlan → ℕ → ℕ → Bool
@@ -94,7 +95,7 @@ is_received plan p mark_chip frame =
 -- the frames of which that is so, in order
 abbrev pub received_frames : CellPlan → TrafficPlan → ℕ → List ℕ
 received_frames plan p mark_chip =
-    filter (is_received plan p mark_chip) (places (end_chip plan / 24576 + 1))
+    filter (is_received plan p mark_chip) (places (end_chip plan / data_frame_chips + 1))
 
 -- each of them is distinct
 abbrev pub AreDistinct : CellPlan → TrafficPlan → ℕ → Type 0

@@ -5,6 +5,7 @@ use Rattle.std.specs.Prelude.{List, [], ◌∷◌, map, filter, drop, None, Opti
 use Rattle.std.specs.Prelude.{length, take, nat_le, nat_lt}
 use Rattle.std.specs.List.{flat_map}
 use Rattle.std.specs.Option.{option_to_list}
+use Rattle.clean_link.specs.Common.{data_frame_chips}
 use Rattle.clean_link.specs.Common.{places, Sample, Width, capsule, M30, half_frame_body}
 use Rattle.clean_link.specs.Common.{message_at, number_at, PagingMessage, paging_rate, IsFreeOf}
 use Rattle.clean_link.specs.Common.{made_samples, IsStatedPaging, IsReceivable, CellPlan}
@@ -86,7 +87,7 @@ sendings_between rate form pages first n rounds =
 abbrev pub is_whole_page : ℕ → ℕ → ℕ → Placed → Bool
 is_whole_page mark_chip end_chip half_frames p =
     nat_le mark_chip (12288 * (half_frames + p.run)) &&
-    nat_le (24576 * ((half_frames + p.last) / 2 + 1)) end_chip
+    nat_le (data_frame_chips * ((half_frames + p.last) / 2 + 1)) end_chip
 
 -- the transmissions of the pages that are whole, where the mark is the first chip of frame `first`
 abbrev pub whole_page_sendings : Rate → CheckForm → List Page → ℕ → ℕ → List (ℕ × List Bool)
@@ -94,7 +95,7 @@ whole_page_sendings rate form pages first end_chip =
     let cycle = cycle_half_frames rate form pages in
     flat_map
     (λ r. map (sending_of form first (cycle * r))
-    (filter (is_whole_page (24576 * first) end_chip (cycle * r))
+    (filter (is_whole_page (data_frame_chips * first) end_chip (cycle * r))
     (placed (half_frame_body rate) form 0 0 pages)))
     (places (end_chip / 12288 + 1))
 
@@ -116,7 +117,7 @@ WholePagesComeBack = (rate : Rate) (form : CheckForm) (pages : List Page) (first
     AreWholePages rate pages →
     capsules_with_frames (half_frame_body rate)
     (λ k. cycled (page_cycle rate form pages) (paging_frame_size rate) (first + k))
-    (end_chip / 24576 - first)
+    (end_chip / data_frame_chips - first)
     ≡ whole_page_sendings rate form pages first end_chip
 
 -- a page, and the number of samples at which it is known
@@ -155,8 +156,8 @@ message_in body = message_at (number_at 0 8 body) (drop 8 body)
 -- it knows the frame of its last bit
 abbrev pub page_told : CellPlan → ℕ → Placed → KnownPage
 page_told plan half_frames p = record {
-  at = heard_behind 24576 plan.link.samples
-      (24576 * ((half_frames + p.last) / 2 + 1) - plan.link.start);
+  at = heard_behind data_frame_chips plan.link.samples
+      (data_frame_chips * ((half_frames + p.last) / 2 + 1) - plan.link.start);
   capsule = capsule M30 plan.cell.check30 p.page.body;
   message = message_in p.page.body;
 }

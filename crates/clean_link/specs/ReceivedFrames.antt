@@ -1,6 +1,7 @@
 -- The frames of a traffic channel of either rate set that a clean link gives back, each received of
 -- the reference base station alone (TIA/EIA-95-B, 7.1.3.5).
 use Rattle.std.specs.Prelude.{ℕ, ◌*◌, ◌≡◌, true, Bool, List, map, ℤ, pos, Some}
+use Rattle.clean_link.specs.Common.{superframe_chips}
 use Rattle.clean_link.specs.Common.{kept_count, Data, good_frame, decoded2, Decoded2, set_two}
 use Rattle.clean_link.specs.Common.{FrameCycle, CellPlan, TrafficPlan, TrafficFrame2, SoftFrame}
 use Rattle.rate_set_two.specs.Laws.{IsUnshared}
@@ -68,6 +69,6 @@ pub record AreReceived (plan : CellPlan) (p : TrafficPlan) (Is : ℕ → SoftFra
   pub superframes : ℕ
   pub told : told_with_sync plan plan.sync ≡ Some superframes
   pub soft : ℕ → SoftFrame
-  pub each : frames ≡ map soft (received_frames plan p (98304 * superframes))
-  pub are : (frame : ℕ) → is_received plan p (98304 * superframes) frame ≡ true →
+  pub each : frames ≡ map soft (received_frames plan p (superframe_chips * superframes))
+  pub are : (frame : ℕ) → is_received plan p (superframe_chips * superframes) frame ≡ true →
       Is frame (soft frame)

@@ -2,6 +2,7 @@
 use Rattle.std.specs.Prelude.{ℕ, ◌+◌, ◌*◌, ◌==◌, ◌≡◌, Bool, if◌then◌else◌, nat_lt, List, [], ◌∷◌}
 use Rattle.std.specs.Prelude.{◌++◌, map, filter, All, Option, None, Some}
 use Rattle.std.specs.List.{Contains, flat_map}
+use Rattle.clean_link.specs.Common.{superframe_chips}
 use Rattle.clean_link.specs.Common.{places, Width, SyncFields, made_samples, told_superframes}
 use Rattle.clean_link.specs.Common.{phase_at, CellPlan, SyncPlan, TrafficPlan, events, at_of}
 use Rattle.clean_link.specs.Common.{Tuning, Event, Paging, Pilot, Traffic, IsReceivable, Sample}
@@ -49,7 +50,7 @@ told_by_first plan m (sending ∷ sendings) = Some (told_superframes plan.cell m
 abbrev pub pages_behind_mark : CellPlan → ℕ → Option ℕ → List Event
 pages_behind_mark plan channel None = []
 pages_behind_mark plan channel (Some superframes) =
-    map known_event (pages_sent plan channel (98304 * superframes))
+    map known_event (pages_sent plan channel (superframe_chips * superframes))
 
 -- with the values 2 and 3 of PRAT no paging channel is heard
 abbrev pub pages_with_sync : CellPlan → ℕ → Option SyncPlan → List Event
@@ -76,7 +77,8 @@ told_with_sync plan (Some sync) =
 abbrev pub told_followed : (ℕ → ℕ → List Event) → Option Traffic → Option ℕ → List Event
 told_followed sent None told = []
 told_followed sent (Some traffic) None = []
-told_followed sent (Some traffic) (Some superframes) = sent traffic.row (98304 * superframes)
+told_followed sent (Some traffic) (Some superframes) =
+    sent traffic.row (superframe_chips * superframes)
 
 -- its frames behind the mark
 unfoldable pub traffic_sent : CellPlan → Option Traffic → List Event
@@ -95,7 +97,7 @@ pub record IsFollowed (plan : CellPlan) (traffic : Traffic) (p : TrafficPlan) : 
   pub assigned : IsAssigned p traffic
   pub one : SendsSetOne p
   pub distinct : (superframes : ℕ) → told_with_sync plan plan.sync ≡ Some superframes →
-      AreDistinct plan p (98304 * superframes)
+      AreDistinct plan p (superframe_chips * superframes)
 
 -- a handset follows no traffic channel, or one of which that is so
 abbrev pub FollowsSent : CellPlan → Option Traffic → Type 0

@@ -11,6 +11,7 @@ use Rattle.std.specs.Int.{from_be_bytes, w32}
 use Rattle.std.specs.Str.{bytes_eq}
 use Rattle.std.specs.declared.string.String.{String}
 use Rattle.std.specs.declared.alloc.Global.{Global}
+use Rattle.chip_core.specs.Air.{IsListLength}
 use Rattle.chip_core.specs.Decimals.{digits_from}
 use Rattle.clap.specs.Lexer.{long_of}
 use Rattle.clap.specs.Words.{App, Rule, new_app, new_rule, with_rule}
@@ -458,10 +459,6 @@ IsPaging paging = (1 ≤ paging) × (paging ≤ 7)
 -- the index of a slot cycle
 abbrev pub IsCycle : ℕ → Type 0
 IsCycle cycle = cycle ≤ 7
-
--- how many codewords of a rate are listed
-abbrev pub IsListLength : ℕ → Type 0
-IsListLength k = (1 ≤ k) × (k ≤ 16)
 
 -- the base, the width and the number of ranks of a survey
 abbrev pub IsBase : ℕ → Type 0

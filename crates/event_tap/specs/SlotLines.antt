@@ -4,6 +4,7 @@ use Rattle.std.specs.Prelude.{ℕ, ◌+◌, ◌*◌, ◌/◌, ◌&&◌, Bool, na
 use Rattle.std.specs.Prelude.{filter, ℤ, Option, None, Some}
 use Rattle.std.specs.List.{flat_map, list_all}
 use Rattle.std.specs.Option.{option_to_list}
+use Rattle.chip_core.specs.Air.{superframe_chips}
 use Rattle.chip_core.specs.Bits.{places}
 use Rattle.chip_core.specs.declared.check_form.CheckForm.{CheckForm}
 use Rattle.chip_core.specs.declared.sample.Sample.{Sample}
@@ -73,7 +74,7 @@ lines_of_slot check m samples s slot =
 
 -- more slots than end within so many samples
 abbrev pub slot_bound : ℕ → ℕ
-slot_bound n = n / 98304 + 1
+slot_bound n = n / superframe_chips + 1
 
 -- those of all slots that are heard in these samples, in the order of their times
 abbrev pub lines_by_times : ℕ → ℕ → Tuning → ℕ → Mark → List Sample → List ℕ

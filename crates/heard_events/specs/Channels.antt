@@ -1,5 +1,6 @@
 -- The channels of the reference base station whose frames are received from the mark on.
 use Rattle.std.specs.Prelude.{ℕ, ◌+◌, ◌*◌, ◌<◌, ◌≤◌, Bool, true, false}
+use Rattle.chip_core.specs.Air.{data_frame_chips, frame_offset_chips}
 use Rattle.frame_decoder.specs.Spans as spans
 use Rattle.long_code.specs.LongCode.{after, paging_mask, traffic_mask}
 use Rattle.quality_bits.specs.declared.rate.Rate.TheVariants.{R9600}
@@ -27,7 +28,7 @@ row_of (Traffic traffic) = traffic.row
 -- how many chips behind the mark its frame 0 begins
 abbrev pub offset_of : Channel → ℕ
 offset_of (Paging number) = 0
-offset_of (Traffic traffic) = 1536 * traffic.offset
+offset_of (Traffic traffic) = frame_offset_chips * traffic.offset
 
 -- whether power control bits replace some of its symbols
 abbrev pub has_power_control : Channel → Bool
@@ -36,7 +37,7 @@ has_power_control (Traffic traffic) = true
 
 -- the long code's state at the first chip of frame k, and the mask
 abbrev pub state_at : Channel → Mark → ℕ → ℕ
-state_at (Paging number) m k = after m.state (24576 * k)
+state_at (Paging number) m k = after m.state (data_frame_chips * k)
 state_at (Traffic traffic) m k = frame_state traffic m k
 
 abbrev pub mask_of : Channel → Mark → ℕ
@@ -50,7 +51,7 @@ sent_as (Traffic traffic) m = spans.paging_channel R9600
 
 abbrev pub start_of : Channel → Mark → ℕ
 start_of (Paging number) m = m.sample
-start_of (Traffic traffic) m = m.sample + 1536 * traffic.offset
+start_of (Traffic traffic) m = m.sample + frame_offset_chips * traffic.offset
 
 -- Its frames, as the paths of the reference base station receive them, each known at its own end.
 abbrev pub channel_stream : Tuning → Channel → Mark → Stream

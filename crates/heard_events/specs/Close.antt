@@ -2,6 +2,7 @@
 use Rattle.std.specs.Prelude.{◌≡◌, ℕ, ◌+◌, ◌≤◌, Bool, true, List, [], ◌∷◌, length, ℤ, unsigned_abs}
 use Rattle.std.specs.Prelude.{nat_le, nat_lt, if◌then◌else◌, Option, Some, None}
 use Rattle.std.specs.List.{list_all}
+use Rattle.chip_core.specs.Air.{half_window_chips}
 use Rattle.rake_finger.specs.declared.finger.Finger.{Finger}
 use Rattle.rake_finger.specs.Near.{is_close}
 use Rattle.heard_events.specs.declared.leg.Leg.{Leg}
@@ -28,4 +29,4 @@ legs_rows legs = list_all (λ (leg : Leg). nat_lt leg.finger.row 64) legs
 
 -- so are the reference's paths
 abbrev pub paths_close : List ℤ → Bool
-paths_close deltas = list_all (λ d. nat_le (unsigned_abs d) 226) deltas
+paths_close deltas = list_all (λ d. nat_le (unsigned_abs d) half_window_chips) deltas

@@ -2,6 +2,7 @@
 use Rattle.std.specs.Prelude.{ℕ, ◌+◌, ◌==◌, ◌&&◌, nat_le, List, [], ◌∷◌, length, map, filter}
 use Rattle.std.specs.Prelude.{Option, None, Some, if◌then◌else◌}
 use Rattle.std.specs.List.{flat_map}
+use Rattle.chip_core.specs.Air.{superframe_chips}
 use Rattle.chip_core.specs.Bits.{places}
 use Rattle.chip_core.specs.declared.assignment.Traffic.{Traffic}
 use Rattle.chip_core.specs.declared.sample.Sample.{Sample}
@@ -72,5 +73,5 @@ unfoldable pub sets_left_of : Tuning → Traffic → Mark → List Sample → �
 sets_left_of t traffic m samples j =
     if moment_place m (j + 1) == length samples
     then sets_events m samples (j + 1)
-    (heard_from t traffic m (kept_to t traffic m samples j) samples j 98304)
+    (heard_from t traffic m (kept_to t traffic m samples j) samples j superframe_chips)
     else []

@@ -2,6 +2,7 @@
 use Rattle.std.specs.Prelude.{ℕ, ◌+◌, ◌-◌, ◌*◌, ◌==◌, not, Bool, false, if◌then◌else◌, List, []}
 use Rattle.std.specs.Prelude.{◌∷◌, length, map, filter, nat_lt, Option, Some, None}
 use Rattle.std.specs.List.{flat_map}
+use Rattle.chip_core.specs.Air.{superframe_chips}
 use Rattle.chip_core.specs.Bits.{places}
 use Rattle.chip_core.specs.declared.sample.Sample.{Sample}
 use Rattle.quality_bits.specs.Pieces.{piece, from_last_start}
@@ -24,7 +25,7 @@ frames_open t samples next = length (from_last_start (map piece (frames_before t
 -- tells. `first` is the reference sample at which its first frame begins (TIA/EIA-95-B, 7.7.1.3).
 abbrev pub mark_at : ℕ → SpelledMessage → Mark
 mark_at first heard = record {
-  sample = first + 98304 * (superframes_of heard.capsule + 4) - 64 * heard.message.pn;
+  sample = first + superframe_chips * (superframes_of heard.capsule + 4) - 64 * heard.message.pn;
   time = heard.message.time;
   state = heard.message.lc;
   pilot = heard.message.pn;

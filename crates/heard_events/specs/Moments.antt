@@ -2,6 +2,7 @@
 use Rattle.std.specs.Prelude.{ℕ, zero, suc, ◌+◌, ◌-◌, ◌*◌, ◌/◌, ◌==◌, ◌||◌, if◌then◌else◌, List, []}
 use Rattle.std.specs.Prelude.{◌∷◌, ◌++◌, map, take, pos, nat_le, Option, Some}
 use Rattle.std.specs.List.{flat_map}
+use Rattle.chip_core.specs.Air.{superframe_chips}
 use Rattle.chip_core.specs.Bits.{places}
 use Rattle.chip_core.specs.declared.sample.Sample.{Sample}
 use Rattle.pilot_sets.specs.PilotSets.{candidate_pilots, pilots}
@@ -28,7 +29,7 @@ use Rattle.chip_core.specs.declared.assignment.Traffic.{Traffic}
 -- Moment j lies j superframes behind the mark, and has a time as much later. Moment 0 is the mark,
 -- where nothing is measured.
 abbrev pub moment_place : Mark → ℕ → ℕ
-moment_place m j = m.sample + 98304 * j
+moment_place m j = m.sample + superframe_chips * j
 
 -- ONE MOMENT
 -- how strong a pilot is in the 512 samples before a place, in the window that the sets have for it
@@ -75,7 +76,7 @@ moment_events m j change s =
 -- FROM MOMENT TO MOMENT
 -- the last moment at or before the first sample of frame k
 abbrev pub moment_of : Traffic → ℕ → ℕ
-moment_of traffic k = chips_behind traffic k / 98304
+moment_of traffic k = chips_behind traffic k / superframe_chips
 
 -- the active pilots of each frame, from what is kept behind each moment
 abbrev pub legs_by : Traffic → Mark → (ℕ → Standing) → ℕ → List Leg
@@ -106,12 +107,12 @@ kept_to t traffic m samples (suc j) =
     let first = take (moment_place m (suc j)) samples in
     λ i.
     if nat_le i j then kept i
-    else passed m first (suc j) (heard_from t traffic m kept first j 98304)
+    else passed m first (suc j) (heard_from t traffic m kept first j superframe_chips)
 
 -- AT A NUMBER OF SAMPLES
 -- how many moments lie before it
 abbrev pub moments_before : Mark → ℕ → ℕ
-moments_before m n = (n - (m.sample + 1)) / 98304
+moments_before m n = (n - (m.sample + 1)) / superframe_chips
 
 abbrev pub kept_at : Tuning → Traffic → Mark → List Sample → ℕ → (ℕ → Standing)
 kept_at t traffic m samples n = kept_to t traffic m samples (moments_before m n)
@@ -139,5 +140,5 @@ sets_at t traffic m samples n =
     let first = take n samples in
     if moment_place m (j + 1) == n
     then sets_events m first (j + 1)
-    (heard_from t traffic m (kept_to t traffic m samples j) first j 98304)
+    (heard_from t traffic m (kept_to t traffic m samples j) first j superframe_chips)
     else []

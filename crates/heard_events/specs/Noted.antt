@@ -1,5 +1,6 @@
 -- What a handset hears changes the pilot sets (after TIA/EIA-95-B, 6.6.6.2).
 use Rattle.std.specs.Prelude.{ℕ, ◌+◌, ◌-◌, ◌/◌, ◌==◌, if◌then◌else◌, List, [], ◌∷◌}
+use Rattle.chip_core.specs.Air.{superframe_chips}
 use Rattle.paging_message.specs.declared.fields.SystemFields.{SystemFields}
 use Rattle.paging_message.specs.declared.message.PagingMessage.{PagingMessage}
 use Rattle.paging_message.specs.declared.message.PagingMessage.TheVariants as pages
@@ -53,7 +54,7 @@ body_noted first (bodies.Other kind bits) s = s
 -- the number of the first moment, from 1 on, that isn't before n samples; a superframe lies between
 -- two moments
 abbrev pub moment_from : Mark → ℕ → ℕ
-moment_from m n = (n - (m.sample + 1)) / 98304 + 1
+moment_from m n = (n - (m.sample + 1)) / superframe_chips + 1
 
 -- What an event changes, where the reference's pilot has this offset, and the first moment that
 -- isn't before the event's end this time.

@@ -1,5 +1,6 @@
 -- The frames of a paging channel, from the mark on (TIA/EIA-95-B, 7.1.3.4 and 7.7.2).
 use Rattle.std.specs.Prelude.{ℕ, ◌+◌, ◌*◌, ◌/◌, ◌==◌, true, if◌then◌else◌}
+use Rattle.chip_core.specs.Air.{data_frame_chips}
 use Rattle.frame_decoder.specs.Spans.{paging_channel}
 use Rattle.long_code.specs.LongCode.{after, paging_mask}
 use Rattle.rake_finger.specs.declared.form.Form.TheVariants.{Data}
@@ -23,10 +24,10 @@ paging_stream t channel m = record {
   form = Data;
   fingers = fingers_of channel t.phase t.deltas;
   first = m.sample;
-  scrambling = λ k. scrambling (after m.state (24576 * k)) (paging_mask channel m.pilot);
+  scrambling = λ k. scrambling (after m.state (data_frame_chips * k)) (paging_mask channel m.pilot);
   waits = true;
 }
 
 -- more frames than end within so many samples
 abbrev pub paging_bound : ℕ → ℕ
-paging_bound n = n / 24576 + 1
+paging_bound n = n / data_frame_chips + 1

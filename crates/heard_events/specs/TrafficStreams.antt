@@ -1,5 +1,6 @@
 -- The frames of a traffic channel, from the mark on (TIA/EIA-95-B, 7.1.3.5).
 use Rattle.std.specs.Prelude.{ℕ, ◌+◌, ◌*◌, ◌/◌, ◌==◌, ◌&&◌, Bool, false, List, [], filter}
+use Rattle.chip_core.specs.Air.{data_frame_chips, frame_offset_chips}
 use Rattle.chip_core.specs.Bits.{places}
 use Rattle.frame_decoder.specs.Spans.{paging_channel}
 use Rattle.long_code.specs.LongCode.{after, traffic_mask}
@@ -17,7 +18,7 @@ use Rattle.chip_core.specs.declared.assignment.Traffic.{Traffic}
 
 -- how many chips behind the mark frame k begins: the channel's offset is in units of 1,536 chips
 abbrev pub chips_behind : Traffic → ℕ → ℕ
-chips_behind traffic k = 1536 * traffic.offset + 24576 * k
+chips_behind traffic k = frame_offset_chips * traffic.offset + data_frame_chips * k
 
 -- the long code's state at the first chip of frame k
 abbrev pub frame_state : Traffic → Mark → ℕ → ℕ
@@ -31,7 +32,7 @@ traffic_stream traffic m fingers = record {
   channel = paging_channel R9600;
   form = Data;
   fingers = fingers;
-  first = m.sample + 1536 * traffic.offset;
+  first = m.sample + frame_offset_chips * traffic.offset;
   scrambling = λ k. scrambling (frame_state traffic m k) (traffic_mask traffic.esn);
   waits = false;
 }
@@ -64,7 +65,7 @@ ends_now t traffic m legs n k = has_frame t traffic m legs k && frame_known t tr
 
 -- more frames than end within so many samples
 abbrev pub frames_bound : ℕ → ℕ
-frames_bound n = n / 24576 + 1
+frames_bound n = n / data_frame_chips + 1
 
 abbrev pub frames_now : Tuning → Traffic → Mark → (ℕ → List Leg) → ℕ → List ℕ
 frames_now t traffic m legs n = filter (ends_now t traffic m legs n) (places (frames_bound n))

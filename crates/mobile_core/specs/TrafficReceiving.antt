@@ -2,6 +2,7 @@
 use Rattle.std.specs.Prelude.{◌≡◌, ◌⊎◌, ℕ, ◌+◌, ◌-◌, ◌*◌, ◌<◌, ◌≤◌, ◌^◌, true, List, ◌∷◌, ◌++◌}
 use Rattle.std.specs.Prelude.{length, take, sum_by, unsigned_abs, IsTrue, Option, Some, None}
 use Rattle.std.specs.Prelude.{is_some, min, if◌then◌else◌, ℤ, Bool, false}
+use Rattle.chip_core.specs.Air.{data_frame_chips}
 use Rattle.chip_core.specs.declared.sample.Sample.{Sample}
 use Rattle.frame_decoder.specs.TrafficFrames.{subchannels}
 use Rattle.frame_decoder.specs.declared.power.PowerSofts.{PowerSofts}
@@ -244,7 +245,7 @@ pub record IsSoundTraffic (r : TrafficReceiver) : Type 0 where
   pub frames : IsSoundReceiver r.frames
   pub fingers_are : r.frames.fingers ≡ fingers_in r
   pub have_most : r.frames.clock.have ≤ r.frames.clock.next + 1
-  pub start_least : 2 ^ 16 + 24576 * r.frames.clock.have ≤ r.frames.clock.start
+  pub start_least : 2 ^ 16 + data_frame_chips * r.frames.clock.have ≤ r.frames.clock.start
   pub start_most : r.frames.clock.start ≤ 2 ^ 29 + 2 ^ 16
   pub legs : HasSoundLegs r.legs
   pub small : sum_by unsigned_abs r.softs ≤ 3 * 2 ^ 60

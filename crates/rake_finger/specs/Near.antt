@@ -3,6 +3,7 @@ use Rattle.std.specs.Prelude.{◌≡◌, ℕ, ◌≤◌, ◌&&◌, Bool, true, L
 use Rattle.std.specs.Prelude.{nat_le, nat_lt, unsigned_abs, IsTrue, if◌then◌else◌}
 use Rattle.std.specs.Ordering.{int_eq}
 use Rattle.std.specs.List.{list_all, list_any}
+use Rattle.chip_core.specs.Air.{half_window_chips}
 use Rattle.rake_finger.specs.Streams.{Stream}
 use Rattle.rake_finger.specs.declared.finger.Finger.{Finger}
 
@@ -39,7 +40,7 @@ low_in s = if all_begun s.first s.fingers then 0 else 1
 -- CLOSE TO IT
 -- no more chips than half the widest search window
 abbrev pub is_close : Finger → Bool
-is_close f = nat_le (unsigned_abs f.delta) 226
+is_close f = nat_le (unsigned_abs f.delta) half_window_chips
 
 abbrev pub all_close : List Finger → Bool
 all_close fingers = list_all is_close fingers

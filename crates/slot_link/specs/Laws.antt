@@ -2,6 +2,7 @@
 use Rattle.std.specs.Prelude.{ℕ, ◌+◌, ◌*◌, ◌<◌, ◌≡◌, Bool, List, length, ℤ, Some, ◌-◌, ◌/◌}
 use Rattle.std.specs.Prelude.{if◌then◌else◌, nat_lt, [], filter, Option, None, map}
 use Rattle.std.specs.List.{Contains, flat_map}
+use Rattle.chip_core.specs.Air.{superframe_chips}
 use Rattle.chip_core.specs.Bits.{places}
 use Rattle.chip_core.specs.declared.check_form.CheckForm.{CheckForm}
 use Rattle.chip_core.specs.declared.sample.Sample.{Sample}
@@ -65,13 +66,13 @@ pages_in_slot rate form pages first =
 -- the paging channels' frames from 4 n on. How many of the slots from slot `first` on end in the
 -- file:
 abbrev pub slots_to_end : CellPlan → ℕ → ℕ
-slots_to_end plan first = end_chip plan / 98304 - first
+slots_to_end plan first = end_chip plan / superframe_chips - first
 
 -- the line of slot n, with the number of samples at which it ends and its time, and those of its
 -- pages
 abbrev pub sent_slot : CellPlan → PagingPlan → ℕ → List ℕ
 sent_slot plan p n =
-    slot_lines (98304 * (n + 1) - plan.link.start) (plan.cell.time + n)
+    slot_lines (superframe_chips * (n + 1) - plan.link.start) (plan.cell.time + n)
     (pages_in_slot (paging_rate plan.sync) plan.cell.check30 p.pages (4 * n))
 
 -- of the slots from slot `first` on that end in the file, counted from it on, those that the

@@ -1,5 +1,6 @@
 -- What the receiver of a channel's frames stands for, each of which is received by itself.
 use Rattle.std.specs.Prelude.{◌≡◌, ℕ, ◌*◌, ◌<◌, ◌≤◌, length}
+use Rattle.chip_core.specs.Air.{data_frame_chips}
 use Rattle.long_code.specs.LongCode.{after}
 use Rattle.heard_events.specs.Channels.{channel_stream, has_power_control, mask_of, state_at}
 use Rattle.heard_events.specs.Tuning.{Tuning}
@@ -22,7 +23,8 @@ pub record HasGiven (t : Tuning) (channel : Channel) (m : Mark) (r : ChannelRece
     : Type 0 where
   pub clocked : IsAt t.count (channel_stream t channel m) r.frames.clock taken
   pub fingers_are : r.frames.fingers ≡ (channel_stream t channel m).fingers
-  pub state_is : (k : ℕ) → after r.frames.scrambling.state (24576 * k) ≡ state_at channel m k
+  pub state_is : (k : ℕ) →
+      after r.frames.scrambling.state (data_frame_chips * k) ≡ state_at channel m k
   pub mask_is : r.frames.scrambling.mask ≡ mask_of channel m
   pub power_is : r.power ≡ has_power_control channel
 

@@ -2,6 +2,7 @@
 use Rattle.std.specs.Prelude.{◌≡◌, ◌≤◌, ℕ, List, [], ◌++◌, Option}
 use Rattle.std.specs.Io.{StartsWith}
 use Rattle.std.specs.Io.KnownBytes.{Appends}
+use Rattle.chip_core.specs.Air.{IsListLength}
 use Rattle.chip_core.specs.declared.check_form.CheckForm.{CheckForm}
 use Rattle.chip_core.specs.declared.sample.Sample.{Sample}
 use Rattle.heard_events.specs.SoftFrames.{soft_frames}
@@ -29,13 +30,13 @@ text_of (writers.Slots slots) = Slots slots.key slots.cycle
 -- its decoder takes a frame, and lists from 1 to 16 codewords; or it is ready for slots
 abbrev pub IsReady : FrameWriter → Type 0
 IsReady (writers.RateSetTwo decoder) = 288 ≤ decoder
-IsReady (writers.Listed decoder k) = (192 ≤ decoder) × (1 ≤ k) × (k ≤ 16)
+IsReady (writers.Listed decoder k) = (192 ≤ decoder) × IsListLength k
 IsReady (writers.Slots slots) = IsReadyForSlots slots
 
 -- which texts there are
 abbrev pub IsLawfulText : TunedText → Type 0
 IsLawfulText RateSetTwo = Unit {0}
-IsLawfulText (Listed k) = (1 ≤ k) × (k ≤ 16)
+IsLawfulText (Listed k) = IsListLength k
 IsLawfulText (Slots key cycle) = cycle ≤ 7
 
 -- where it hears slots it does by this check, and keeps these frames of a slot

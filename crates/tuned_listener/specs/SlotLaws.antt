@@ -1,6 +1,7 @@
 -- The laws of what is written of a sleeping handset's slots.
 use Rattle.std.specs.Prelude.{◌≡◌, ℕ, ◌+◌, ◌*◌, IsTrue, List, [], ◌∷◌, length, take, drop, ℤ, pos}
 use Rattle.std.specs.Prelude.{◌-ℤ◌, unsigned_abs, Some, None}
+use Rattle.chip_core.specs.Air.{superframe_chips}
 use Rattle.chip_core.specs.declared.sample.Sample.{Sample}
 use Rattle.heard_events.specs.Channels.{channel_stream}
 use Rattle.heard_events.specs.Marks.{mark}
@@ -36,8 +37,8 @@ NeedsMark =
 abbrev pub AgreeInSlot : List Sample → List Sample → ℕ → List ℤ → Type 0
 AgreeInSlot one other u [] = Unit {0}
 AgreeInSlot one other u (delta ∷ deltas) =
-    (take 98304 (drop (unsigned_abs (pos u -ℤ delta)) one)
-    ≡ take 98304 (drop (unsigned_abs (pos u -ℤ delta)) other))
+    (take superframe_chips (drop (unsigned_abs (pos u -ℤ delta)) one)
+    ≡ take superframe_chips (drop (unsigned_abs (pos u -ℤ delta)) other))
     × AgreeInSlot one other u deltas
 
 -- they do in each slot that is heard in n samples
@@ -45,7 +46,7 @@ abbrev pub AgreeWhereHeard : ℕ → ℕ → Tuning → ℕ → Mark → List Sa
 AgreeWhereHeard key cycle t number m one other n =
     (slot : ℕ) →
     IsTrue (is_heard key cycle t.count (channel_stream t (Paging number) m) m n slot) →
-    AgreeInSlot one other (m.sample + 98304 * slot) t.deltas
+    AgreeInSlot one other (m.sample + superframe_chips * slot) t.deltas
 
 -- Two files of one length, and of one tuning, of which one sets a mark, and that agree before it
 -- and in the slots that are heard, have one text.

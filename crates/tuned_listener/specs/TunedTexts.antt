@@ -1,5 +1,6 @@
 -- What is written of the frames of one channel behind the mark.
 use Rattle.std.specs.Prelude.{◌≤◌, ℕ, Bool, List, [], ◌∷◌, ◌++◌, length, ℤ, Option, None, Some}
+use Rattle.chip_core.specs.Air.{IsListLength}
 use Rattle.chip_core.specs.declared.check_form.CheckForm.{CheckForm}
 use Rattle.chip_core.specs.declared.sample.Sample.{Sample}
 use Rattle.event_tap.specs.FrameLines.{frame2_line, frame_line}
@@ -79,5 +80,5 @@ tuned_text form t channel samples =
 -- which channels have such a text
 abbrev pub IsLawfulTuned : Channel → TunedText → Type 0
 IsLawfulTuned channel RateSetTwo = IsLawful channel
-IsLawfulTuned channel (Listed k) = IsLawful channel × (1 ≤ k) × (k ≤ 16)
+IsLawfulTuned channel (Listed k) = IsLawful channel × IsListLength k
 IsLawfulTuned channel (Slots key cycle) = IsLawful channel × (cycle ≤ 7)
