@@ -67,14 +67,13 @@ impl Counts {
         ensures { self.new ≡ counts_with self.old event.now }
     {
         match event {
-            Event::Pilot { .. } => {}
             Event::Sync { .. } => self.syncs += 1,
             Event::Paging { .. } => self.pagings += 1,
             Event::Frame { good, .. } => {
                 self.frames += 1;
                 self.good += u64::from(*good);
             }
-            Event::Traffic { .. } | Event::Sets { .. } => {}
+            _ => {}
         }
     }
 }

@@ -6,8 +6,7 @@ use Rattle.clean_link.specs.Common.{superframe_chips}
 use Rattle.clean_link.specs.Common.{places, norm, after, symbol_chips, window_chips, Form}
 use Rattle.clean_link.specs.Common.{sync_capsule, SyncFields, IsFreeOf, message_of}
 use Rattle.clean_link.specs.Common.{superframes_a_sending, phase_at, CellPlan, SyncPlan}
-use Rattle.clean_link.specs.Common.{TrafficBody, Tuning, Event, Frame, Paging, Pilot, Sets, Sync}
-use Rattle.clean_link.specs.Common.{Mark, Traffic}
+use Rattle.clean_link.specs.Common.{TrafficBody, Tuning, Event, Mark, Traffic}
 use Rattle.traffic_message.specs.declared.body.TrafficBody.TheVariants as bodies
 use Rattle.heard_events.specs.declared.event.Event.TheVariants.{Traffic as OnTraffic}
 
@@ -16,19 +15,13 @@ use Rattle.heard_events.specs.declared.event.Event.TheVariants.{Traffic as OnTra
 -- a message of a traffic channel that isn't an Extended Handoff Direction Message, or is one that
 -- is kept as it is (TIA/EIA-95-B, 7.7.3.3)
 abbrev pub IsNoDirection : TrafficBody → Type 0
-IsNoDirection (bodies.System f) = Unit {0}
-IsNoDirection (bodies.Neighbors f) = Unit {0}
 IsNoDirection (bodies.Handoff f) = ⊥
-IsNoDirection (bodies.Other kind bits) = Unit {0}
+IsNoDirection body = Unit {0}
 
 -- an event that isn't such a direction
 abbrev pub IsNotDirected : Event → Type 0
-IsNotDirected (Pilot phase energy) = Unit {0}
-IsNotDirected (Sync n capsule message) = Unit {0}
-IsNotDirected (Paging n capsule message) = Unit {0}
-IsNotDirected (Frame n rate good bits power_bits) = Unit {0}
 IsNotDirected (OnTraffic n capsule message) = IsNoDirection message.body
-IsNotDirected (Sets n time active candidate report) = Unit {0}
+IsNotDirected event = Unit {0}
 
 -- ---- the link
 

@@ -1,8 +1,7 @@
 -- Worked values of the frames of a traffic channel on a clean link, which the checker computes.
 use Rattle.std.specs.Prelude.{◌≡◌, ℕ, refl, true, false, List, [], ◌∷◌, length, map, replicate}
 use Rattle.clean_link.specs.Common.{places, Plain, R1200, R2400, CellPlan, TrafficFrame, at_of}
-use Rattle.clean_link.specs.Common.{Event, Frame, Paging, Pilot, Sets, Sync}
-use Rattle.heard_events.specs.declared.event.Event.TheVariants.{Traffic}
+use Rattle.clean_link.specs.Common.{Event, Frame}
 use Rattle.clean_link.specs.HeardFrames.{frames_sent, sent_bits, sent_power_bits}
 use Rattle.clean_link.specs.WorkedCells.{cell_of_frames}
 
@@ -27,12 +26,8 @@ cell start samples = cell_of_frames start samples Plain (slow ∷ faster ∷ [])
 
 -- how many information bits an event has
 abbrev bits_in : Event → ℕ
-bits_in (Pilot phase energy) = 0
-bits_in (Sync n capsule message) = 0
-bits_in (Paging n capsule message) = 0
 bits_in (Frame n rate good bits power_bits) = length bits
-bits_in (Traffic n capsule message) = 0
-bits_in (Sets n time active candidate report) = 0
+bits_in event = 0
 
 -- when the frames behind superframe 8 end, and how many information bits they have
 heard : CellPlan → ℕ → List (ℕ × ℕ)

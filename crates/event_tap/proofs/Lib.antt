@@ -1,4 +1,3 @@
-pub mod Forms
 mod PartTexts
 mod PagingTexts
 mod TrafficTexts

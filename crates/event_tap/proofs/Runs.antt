@@ -4,7 +4,7 @@ use Rattle.std.proofs.Common.{◌≡◌, ℕ, zero, suc, ◌+◌, ◌-◌, ◌�
 use Rattle.std.proofs.Common.{ap, ◌∙◌, subst, arith, rules, append_assoc, append-nil}
 use Rattle.std.proofs.lemmas.List.Elements.{All-append, All-cons, All-nil, All-head, All-tail}
 use Rattle.heard_events.specs.declared.event.Event.{Event}
-use Rattle.heard_events.specs.declared.event.Event.TheVariants.{Pilot, Sync, Paging, Frame, Traffic, Sets}
+use Rattle.heard_events.specs.declared.event.Event.TheVariants.{Pilot}
 use Rattle.event_tap.specs.EventLines.{event_line, text_of}
 use Rattle.event_tap.specs.Taps.{IsKept, KeptTap, form_line, form_lines, heard_text, joined, kept_by, kept_with, left_behind, line_text}
 use Rattle.event_tap.specs.Taps.{line_list, run_taps, run_text, tap_behind, taps_behind}
@@ -149,19 +149,10 @@ plain_taps pilots messages frames = tap 0 pilots ∷ tap 1 messages ∷ tap 2 fr
 
 plain_heard : (pilots messages frames : ℕ) (event : Event) →
     heard_text (plain_taps pilots messages frames) event ≡ event_line event
-unfolding form_line event_line
+unfolding form_line
 plain_heard pilots messages frames (Pilot phase energy) =
     append-nil (event_line (Pilot phase energy))
-plain_heard pilots messages frames (Sync place capsule message) =
-    append-nil (event_line (Sync place capsule message))
-plain_heard pilots messages frames (Paging place capsule message) =
-    append-nil (event_line (Paging place capsule message))
-plain_heard pilots messages frames (Frame place rate good bits power_bits) =
-    append-nil (event_line (Frame place rate good bits power_bits))
-plain_heard pilots messages frames (Traffic place capsule message) =
-    append-nil (event_line (Traffic place capsule message))
-plain_heard pilots messages frames (Sets place time active candidate report) =
-    append-nil (event_line (Sets place time active candidate report))
+plain_heard pilots messages frames event = append-nil (event_line event)
 
 left_behind-least : (line : Option (List ℕ)) (left more : ℕ) → more + 1 < left →
     more < left_behind line left

@@ -7,12 +7,8 @@ use Rattle.std.specs.List.{flat_map}
 use Rattle.heard_events.specs.declared.event.Event.{Event}
 use Rattle.heard_events.specs.declared.event.Event.TheVariants.{Pilot, Sync, Paging, Frame, Traffic}
 use Rattle.heard_events.specs.declared.event.Event.TheVariants.{Sets}
-use Rattle.event_tap.specs.FrameLines.{frame_line}
-use Rattle.event_tap.specs.Lines.{pilot_line, sync_line}
-use Rattle.event_tap.specs.PagingLines.{paging_line}
+use Rattle.event_tap.specs.EventLines.{event_line}
 use Rattle.event_tap.specs.Parts.{capsule_line}
-use Rattle.event_tap.specs.SetsLines.{sets_line}
-use Rattle.event_tap.specs.TrafficLines.{traffic_line}
 use Rattle.event_tap.specs.declared.tap.Heard.{Heard}
 use Rattle.event_tap.specs.declared.tap.Heard.TheVariants.{Keep, Done}
 
@@ -37,26 +33,12 @@ raw_paging_line place capsule = capsule_line (codes " paging ") place capsule
 abbrev pub raw_traffic_line : ℕ → List Bool → List ℕ
 raw_traffic_line place capsule = capsule_line (codes " traffic ") place capsule
 
--- a message's line in form 1, and its raw line in form 3
-abbrev pub message_line : ℕ → List ℕ → List ℕ → Option (List ℕ)
-message_line form line raw =
-    if nat_eq form 1 then Some line else if nat_eq form 3 then Some raw else None
-
--- the line that a form has for an event, and none where it doesn't hear events of this kind: form 0
--- hears the pilot and the pilot sets, 1 messages, 2 frames, and 3 messages as they came, bit by bit
-unfoldable pub form_line : ℕ → Event → Option (List ℕ)
-form_line form (Pilot phase energy) =
-    if nat_eq form 0 then Some (pilot_line phase energy) else None
-form_line form (Sync place capsule message) =
-    message_line form (sync_line place message) (raw_line place capsule)
-form_line form (Paging place capsule message) =
-    message_line form (paging_line place message) (raw_paging_line place capsule)
-form_line form (Frame place rate good bits power_bits) =
-    if nat_eq form 2 then Some (frame_line place rate good bits power_bits) else None
-form_line form (Traffic place capsule message) =
-    message_line form (traffic_line place message) (raw_traffic_line place capsule)
-form_line form (Sets place time active candidate report) =
-    if nat_eq form 0 then Some (sets_line place time active candidate report) else None
+-- the line of a message as it came, and none of another event
+abbrev pub raw_of : Event → Option (List ℕ)
+raw_of (Sync place capsule message) = Some (raw_line place capsule)
+raw_of (Paging place capsule message) = Some (raw_paging_line place capsule)
+raw_of (Traffic place capsule message) = Some (raw_traffic_line place capsule)
+raw_of event = None
 
 -- the form that hears events of this kind by their lines
 abbrev pub plain_form : Event → ℕ
@@ -66,6 +48,14 @@ plain_form (Paging place capsule message) = 1
 plain_form (Frame place rate good bits power_bits) = 2
 plain_form (Traffic place capsule message) = 1
 plain_form (Sets place time active candidate report) = 0
+
+-- the line that a form has for an event, and none where it doesn't hear events of this kind: form 0
+-- hears the pilot and the pilot sets, 1 messages, 2 frames, and 3 messages as they came, bit by bit
+unfoldable pub form_line : ℕ → Event → Option (List ℕ)
+form_line form event =
+    if nat_eq form 3 then raw_of event
+    else if nat_eq form (plain_form event) then Some (event_line event)
+    else None
 
 -- the line, or nothing where there is none
 abbrev pub line_text : Option (List ℕ) → List ℕ

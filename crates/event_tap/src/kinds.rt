@@ -3,6 +3,7 @@
 ghost use Rattle.std.specs.Prelude.{◌≡◌, ◌≤◌, ◌%◌, Some, None, if◌then◌else◌};
 ghost use Rattle.event_tap.specs.EventLines.{event_line};
 ghost use Rattle.event_tap.specs.Taps.{form_line, heard_at, left_behind, line_text, plain_form};
+ghost use Rattle.event_tap.specs.Taps.{raw_of};
 
 use crate::line::line_into;
 use crate::parts::append_raw;
@@ -59,7 +60,7 @@ impl<const FORM: u8> Tap for FormTap<FORM> {
 
 /// Makes the text the line that a form has for the event, or empty where it has none; answers how
 /// many of `left` events are left to hear behind it.
-#[tactic(auto, using(crate::proofs::Forms::plain_told))]
+#[tactic(auto, unfolding(crate::specs::Taps::form_line))]
 fn hear_in(form: u8, left: u32, event: &Event, out: &mut Text) -> u32
     requires form { form ≤ 3 }
     requires some { 1 ≤ left }
@@ -101,18 +102,17 @@ fn hear_where(heard: bool, left: u32, event: &Event, out: &mut Text) -> u32
 
 /// Makes the text the line of a message as it came, bit by bit, and empty for any other event;
 /// answers how many of `left` events are left to hear behind it.
-#[tactic(auto, unfolding(crate::specs::Taps::form_line))]
 fn hear_raw(left: u32, event: &Event, out: &mut Text) -> u32
     requires { 1 ≤ left }
-    ensures text { out.new ≡ line_text (form_line 3 event.now) }
-    ensures left { result ≡ left_behind (form_line 3 event.now) left }
+    ensures text { out.new ≡ line_text (raw_of event.now) }
+    ensures left { result ≡ left_behind (raw_of event.now) left }
 {
     out.clear();
     match event {
-        Event::Pilot { .. } | Event::Frame { .. } | Event::Sets { .. } => return left,
         Event::Sync { at, capsule, .. } => append_raw(out, " sync ", *at, capsule),
         Event::Paging { at, capsule, .. } => append_raw(out, " paging ", *at, capsule),
         Event::Traffic { at, capsule, .. } => append_raw(out, " traffic ", *at, capsule),
+        _ => return left,
     }
     left - 1
 }

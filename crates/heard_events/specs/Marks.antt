@@ -11,8 +11,7 @@ use Rattle.rake_finger.specs.Streams.{frame_start, is_in_file, known_by}
 use Rattle.heard_events.specs.SyncEvents.{frames_before, heard_at}
 use Rattle.heard_events.specs.Tuning.{Tuning, sync_stream, sync_bound}
 use Rattle.heard_events.specs.declared.event.Event.{Event}
-use Rattle.heard_events.specs.declared.event.Event.TheVariants.{Pilot, Sync, Paging, Frame, Traffic}
-use Rattle.heard_events.specs.declared.event.Event.TheVariants.{Sets}
+use Rattle.heard_events.specs.declared.event.Event.TheVariants.{Sync}
 use Rattle.heard_events.specs.SpelledMessages.{SpelledMessage}
 use Rattle.heard_events.specs.declared.mark.Mark.{Mark}
 
@@ -54,12 +53,8 @@ mark t samples n =
 
 -- whether an event's message sets a mark
 abbrev pub sets_mark : Event → Bool
-sets_mark (Pilot phase energy) = false
 sets_mark (Sync n capsule message) = not (message.lc == 0)
-sets_mark (Paging n capsule message) = false
-sets_mark (Frame n rate good bits power_bits) = false
-sets_mark (Traffic n capsule message) = false
-sets_mark (Sets n time active candidate report) = false
+sets_mark event = false
 
 -- how many frames the message under way has with one frame more, whose first bit says whether a
 -- message begins there

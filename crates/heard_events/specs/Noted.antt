@@ -11,8 +11,7 @@ use Rattle.traffic_message.specs.declared.body.TrafficBody.TheVariants as bodies
 use Rattle.traffic_message.specs.declared.fields.InTrafficFields.{InTrafficFields}
 use Rattle.heard_events.specs.Given.{at_of}
 use Rattle.heard_events.specs.declared.event.Event.{Event}
-use Rattle.heard_events.specs.declared.event.Event.TheVariants.{Pilot, Sync, Paging, Frame, Traffic}
-use Rattle.heard_events.specs.declared.event.Event.TheVariants.{Sets}
+use Rattle.heard_events.specs.declared.event.Event.TheVariants.{Paging, Traffic}
 use Rattle.heard_events.specs.declared.mark.Mark.{Mark}
 
 -- the thresholds of a System Parameters Message, and of an In-Traffic one
@@ -41,15 +40,14 @@ abbrev pub page_noted : ℕ → PagingMessage → Standing → Standing
 page_noted pn (pages.System f) s =
     if f.pn == pn then with_thresholds (system_thresholds f) s else s
 page_noted pn (pages.Neighbors f) s = if f.pn == pn then with_neighbors f.pns s else s
-page_noted pn (pages.Channels f) s = s
-page_noted pn (pages.Other f) s = s
+page_noted pn message s = s
 
 -- a message of the traffic channel, where the first moment that isn't before its end has this time
 abbrev pub body_noted : ℕ → TrafficBody → Standing → Standing
 body_noted first (bodies.System f) s = with_thresholds (in_traffic_thresholds f) s
 body_noted first (bodies.Neighbors f) s = with_neighbors f.pns s
 body_noted first (bodies.Handoff f) s = directed first f s
-body_noted first (bodies.Other kind bits) s = s
+body_noted first body s = s
 
 -- the number of the first moment, from 1 on, that isn't before n samples; a superframe lies between
 -- two moments
@@ -59,12 +57,9 @@ moment_from m n = (n - (m.sample + 1)) / superframe_chips + 1
 -- What an event changes, where the reference's pilot has this offset, and the first moment that
 -- isn't before the event's end this time.
 abbrev pub noted_with : ℕ → ℕ → Event → Standing → Standing
-noted_with pn first (Pilot phase energy) s = s
-noted_with pn first (Sync n capsule message) s = s
 noted_with pn first (Paging n capsule message) s = page_noted pn message s
-noted_with pn first (Frame n rate good bits power_bits) s = s
 noted_with pn first (Traffic n capsule message) s = body_noted first message.body s
-noted_with pn first (Sets n time active candidate report) s = s
+noted_with pn first event s = s
 
 abbrev pub noted : Mark → Event → Standing → Standing
 noted m event s = noted_with m.pilot (m.time + moment_from m (at_of event)) event s

@@ -65,7 +65,7 @@ fn note_page(sets: &mut Sets, pn: u16, message: &PagingMessage)
                 note_neighbors(sets, &fields);
             }
         }
-        PagingMessage::Channels(_) | PagingMessage::Other(_) => {}
+        _ => {}
     }
 }
 
@@ -85,7 +85,7 @@ fn note_body(sets: &mut Sets, first: u64, body: &TrafficBody)
         TrafficBody::Handoff(direction) => {
             let _accepted = sets.direct(direction, first);
         }
-        TrafficBody::Other { .. } => {}
+        _ => {}
     }
 }
 
@@ -98,6 +98,6 @@ pub(crate) fn note_event(sets: &mut Sets, pn: u16, first: u64, event: &Event)
     match event {
         Event::Paging { message, .. } => note_page(sets, pn, message),
         Event::Traffic { message, .. } => note_body(sets, first, &message.body()),
-        Event::Pilot { .. } | Event::Sync { .. } | Event::Frame { .. } | Event::Sets { .. } => {}
+        _ => {}
     }
 }

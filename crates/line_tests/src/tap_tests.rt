@@ -29,17 +29,14 @@ impl Tap for CountingTap {
         self.limit = events;
     }
 
-    #[tactic(auto, using(event_tap::proofs::Forms::plain_line))]
+    #[tactic(auto, unfolding(event_tap::specs::Taps::form_line))]
     fn hear(&mut self, event: &Event, out: &mut Text) -> Heard {
         match event {
             Event::Pilot { .. } | Event::Sets { .. } => {
                 line_into(event, out);
                 self.heard += 1;
             }
-            Event::Sync { .. }
-            | Event::Paging { .. }
-            | Event::Frame { .. }
-            | Event::Traffic { .. } => out.clear(),
+            _ => out.clear(),
         }
         if self.heard < self.limit {
             Heard::Keep
