@@ -1,11 +1,10 @@
 """Times the built program on inputs that it makes itself, and prints a table.
 
 For each run: the best wall-clock time of several, and the greatest resident memory. Then the sweep over all
-phases, on lanes and by a plain loop; the decoder, on rows of decisions and by whole survivors; the list decoder, on
-rows of choices and by whole words, as tests of reference_decoders do it; and a million messages of each kind, read and
-written, as tests of message_tests do it. Build them first, as by
+phases, on lanes and by a plain loop, the decoder and the list decoder, as tests of receiver_tests do it; and a million
+messages of each kind, read and written, as tests of message_tests do it. Build them first, as by
 `(cd crates/cdma_replay && rt run -- find < ../../examples/pilot_in_noise.is95)`,
-`(cd crates/reference_decoders && rt test)` and `(cd crates/message_tests && rt test)`.
+`(cd crates/receiver_tests && rt test)` and `(cd crates/message_tests && rt test)`.
 
     tools/bench
     tools/bench ./cdma_replay
@@ -27,38 +26,17 @@ from cdma_tools.places import EXAMPLES, TOP
 from cdma_tools.program import add_program_option, find_program
 from cdma_tools.sample_header import header
 
-TESTS = os.path.join(TOP, "crates", "reference_decoders", "out", "reference_decoders_tests")
-PLAIN_TEST = "pilot_search_correlation_tests::plain_loops_find_the_best_of_all_phases"
-LANES_TEST = "pilot_search_correlation_tests::lanes_find_the_best_of_all_phases"
-Decoding = tuple[str, int, tuple[str, int], tuple[str, int]]
-# The module of the decoder's tests, and one that takes next to no time.
-DECODER = "viterbi_tests"
-SHORT_TEST = DECODER + "::nothing_heard"
-# Of each length and ends: the bits, and the two tests with the number of times that each decodes.
-DECODINGS: list[Decoding] = [
-    (
-        "576 free bits",
-        576,
-        ("survivors_decode_576_free_bits_4_times", 4),
-        ("rows_decode_576_free_bits_100_times", 100),
-    ),
-    (
-        "192 between zeros",
-        192,
-        ("survivors_decode_192_bits_between_zeros_12_times", 12),
-        ("rows_decode_192_bits_between_zeros_300_times", 300),
-    ),
-]
-# The same for four words of each list.
-LIST_DECODER = "list_viterbi_tests"
-LIST_SHORT_TEST = LIST_DECODER + "::two_codewords_between_zeros"
-LISTINGS: list[Decoding] = [
-    (
-        "4 of 192 bits",
-        192,
-        ("words_list_4_of_192_bits_4_times", 4),
-        ("rows_list_4_of_192_bits_100_times", 100),
-    ),
+TESTS = os.path.join(TOP, "crates", "receiver_tests", "out", "receiver_tests_tests")
+PLAIN_TEST = "plain_search_tests::plain_loops_find_the_best_of_all_phases"
+LANES_TEST = "plain_search_tests::lanes_find_the_best_of_all_phases"
+# The module of the decoders' tests, and one that takes next to no time.
+DECODER = "decoder_timing_tests"
+SHORT_TEST = "decodes_nine_bits"
+# Of each length and ends: the bits, and the test with the number of times that it decodes.
+DECODINGS = [
+    ("576 free bits", 576, "decodes_576_free_bits_100_times", 100),
+    ("192 between zeros", 192, "decodes_192_bits_between_zeros_300_times", 300),
+    ("4 of 192 bits", 192, "lists_4_of_192_bits_100_times", 100),
 ]
 # Tests that read or write a message so many times, and one that takes next to no time.
 MESSAGE_TESTS = os.path.join(TOP, "crates", "message_tests", "out", "message_tests_tests")
@@ -213,20 +191,18 @@ def test_processor_seconds(tests: str, name: str) -> float:
     return used.ru_utime + used.ru_stime
 
 
-def print_decoders(module: str, short: str, decodings: list[Decoding]) -> None:
-    """Milliseconds of one decoding, and nanoseconds a state and step: the least of many runs, less a run's start."""
-    start = min(test_processor_seconds(TESTS, short) for _ in range(25))
+def decoder_seconds(name: str) -> float:
+    """Processor seconds of a test of decoders: the least of many runs."""
+    return min(test_processor_seconds(TESTS, f"{DECODER}::{name}") for _ in range(25))
+
+
+def print_decoders() -> None:
+    """Milliseconds of one decoding, and nanoseconds a state and step, less a run's start."""
+    start = decoder_seconds(SHORT_TEST)
     print(f"{'decoding':<24}{'bits':>12}{'ms':>10}{'ns a state':>12}")
-    for name, bits, by_words, on_rows in decodings:
-        least: dict[str, float] = {}
-        for _ in range(25):
-            for test, times in (by_words, on_rows):
-                seconds = (test_processor_seconds(TESTS, f"{module}::timing::{test}") - start) / times
-                least[test] = min(seconds, least.get(test, seconds))
-        plain, rows = least[by_words[0]], least[on_rows[0]]
-        steps = 256 * bits
-        print(f"{name + ', words':<24}{bits:>12}{1e3 * plain:>10.3f}{1e9 * plain / steps:>12.2f}")
-        print(f"{name + ', rows':<24}{bits:>12}{1e3 * rows:>10.3f}{1e9 * rows / steps:>12.2f}{plain / rows:>9.1f}x")
+    for name, bits, test, times in DECODINGS:
+        seconds = (decoder_seconds(test) - start) / times
+        print(f"{name:<24}{bits:>12}{1e3 * seconds:>10.3f}{1e9 * seconds / (256 * bits):>12.2f}")
 
 
 def message_seconds(name: str) -> float:
@@ -306,8 +282,7 @@ def main(arguments: list[str] | None = None) -> int:
     print_runs(find_program(options.timed or options.program))
     if os.access(TESTS, os.X_OK):
         print_sweeps()
-        print_decoders(DECODER, SHORT_TEST, DECODINGS)
-        print_decoders(LIST_DECODER, LIST_SHORT_TEST, LISTINGS)
+        print_decoders()
     else:
         print(f"no tests at {TESTS}: sweeps and decoders aren't timed")
     if os.access(MESSAGE_TESTS, os.X_OK):

@@ -84,7 +84,7 @@ def right_below(below: Mapping[str, Sequence[str]], name: str) -> list[str]:
 
 def side_of(below: Mapping[str, Sequence[str]], name: str) -> str:
     """The column of a crate: whose it is."""
-    if name.endswith("_tests") or name == "reference_decoders":
+    if name.endswith("_tests"):
         return "tests"
     is_sending, is_hearing = (any(name in {it} | all_below(below, it) for it in tops) for tops in (SENDING, HEARING))
     if is_sending:

@@ -129,6 +129,26 @@ class Words(unittest.TestCase):
             self.assertEqual((scores[0], bits[0].tolist()), (first[0][0], first[0][2]))
 
 
+    def test_sent_words_are_the_first(self) -> None:
+        """Soft values of the signs of a word's symbols, of any size: the word's score is their absolute sum."""
+        rng = random.Random(8)
+        for bits, zero_ends in ((576, False), (192, True)):
+            start = 0 if zero_ends else 0o266
+            sent = [rng.randrange(2) for _ in range(bits - 8)] + ([0] * 8 if zero_ends else [1, 0] * 4)
+            sizes = np.array([rng.randrange(1, 2_048) for _ in range(2 * bits)])
+            softs = sizes * (1 - 2 * coding.code_symbols(start, sent))
+            scores, starts, words = coding.best_words(softs[None, :], zero_ends)
+            self.assertEqual((scores[0], starts[0], words[0].tolist()), (sizes.sum(), start, sent))
+            self.assertEqual(lists.first_words(2, softs, zero_ends)[0], (sizes.sum(), sent))
+
+    def test_nothing_heard(self) -> None:
+        """Of nine bits with eight zeros at the end there are two words, which score nothing: the lesser comes first."""
+        softs = np.zeros(18, np.int64)
+        scores, _, bits = coding.best_words(softs[None, :], zero_ends=True)
+        self.assertEqual((scores[0], bits[0].tolist()), (0, [0] * 9))
+        self.assertEqual(lists.first_words(2, softs, zero_ends=True), [(0, [0] * 9), (0, [1] + [0] * 8)])
+
+
 class Messages(unittest.TestCase):
     def test_a_sync_capsule(self) -> None:
         message = {"prev": 3, "min": 1, "sid": 1, "nid": 2, "pn": 3, "lc": 1 << 41, "time": 5, "lp": 13, "ltm": 0,

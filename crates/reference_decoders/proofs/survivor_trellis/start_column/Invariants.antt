@@ -1,9 +1,0 @@
-use Rattle.std.proofs.Common.{◌≡◌, ◌<◌, ℕ, length, get_or, None}
-use Rattle.viterbi.specs.Survivors.{Start}
-use Rattle.reference_decoders.proofs.survivor_trellis.start_column.Given as goal
-
-abbrev pub invariant-loop-state : goal.invariant-loop-state
-invariant-loop-state l = record {
-  whole : length l.column ≡ 256;
-  each : (t : ℕ) → t < l.state → Start l.ends t (get_or l.column t None);
-}
