@@ -49,7 +49,7 @@ class Places(unittest.TestCase):
             ("rx {Row}", "a place that is none"),
             ("rx 'a", "No closing quotation"),
             ("", "names no program"),
-            ("rx -a{arguments}", "needs to be one by itself"),
+            ("rx -a{arguments}", "must stand by itself"),
             ("rx {row}", "has no --row"),
         ):
             with self.subTest(line), self.assertRaisesRegex(WrongArguments, why):
