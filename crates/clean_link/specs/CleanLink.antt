@@ -6,7 +6,7 @@ use Rattle.clean_link.specs.Common.{superframe_chips}
 use Rattle.clean_link.specs.Common.{places, norm, after, symbol_chips, window_chips, Form}
 use Rattle.clean_link.specs.Common.{sync_capsule, SyncFields, IsFreeOf, message_of}
 use Rattle.clean_link.specs.Common.{superframes_a_sending, phase_at, CellPlan, SyncPlan}
-use Rattle.clean_link.specs.Common.{TrafficBody, Tuning, Event, Mark, Traffic}
+use Rattle.clean_link.specs.Common.{TrafficBody, Tuning, Event, Sync, Mark, Traffic}
 use Rattle.traffic_message.specs.declared.body.TrafficBody.TheVariants as bodies
 use Rattle.heard_events.specs.declared.event.Event.TheVariants.{Traffic as OnTraffic}
 

@@ -59,7 +59,7 @@ pub use Rattle.heard_events.specs.TrafficEvents.{power_bits_at, raw_softs}
 pub use Rattle.heard_events.specs.TrafficStreams.{has_frame, replaced_in, stream_of}
 pub use Rattle.heard_events.specs.Tuning.{Tuning, sync_stream}
 pub use Rattle.heard_events.specs.declared.event.Event.{Event}
-pub use Rattle.heard_events.specs.declared.event.Event.TheVariants.{Frame, Paging, Pilot, Sets}
+pub use Rattle.heard_events.specs.declared.event.Event.TheVariants.{Frame, Paging, Pilot}
 pub use Rattle.heard_events.specs.declared.event.Event.TheVariants.{Sync}
 pub use Rattle.heard_events.specs.declared.leg.Leg.{Leg}
 pub use Rattle.heard_events.specs.declared.mark.Mark.{Mark}
