@@ -2,15 +2,16 @@
 use Rattle.cdma_replay.proofs.Common.{◌≡◌, ℕ, ◌+◌, ◌≤◌, ◌++◌, List, [], length, take, refl, sym, ap, ◌∙◌, subst, arith, inr, append_assoc}
 use Rattle.cdma_replay.proofs.Common.{on_ok, on_err, OnOk, OnErr, Result, append-nil, length-append, All, Option, None, Some, IfSome}
 use Rattle.cdma_replay.proofs.Common.{take_at, flat_map-append, All-append, flat_map, StartsWith, Appends, Consumes, IsAtEnd, Appends-trans}
-use Rattle.cdma_replay.proofs.Common.{Consumes-nil, Consumes-trans, Sample, Header, Width, AppendsPrefix, HasBits, IsLawfulHeader}
-use Rattle.cdma_replay.proofs.Common.{header_spelling, sample_spelling, width_of, IsBestIn, best_phase, best_phase-only, best_energy-only}
-use Rattle.cdma_replay.proofs.Common.{Pilot, event_line, KeptTap, Rank, begins_more, prefix_of, taken_begins, HandsetOptions, Listener}
-use Rattle.cdma_replay.proofs.Common.{Shown, Followed, Found, Ranks, Purpose, Find, Follow, Survey, Reception, Status, TakesSpan}
-use Rattle.cdma_replay.proofs.Common.{WritesNoMore, WritesText, BeginsBehind, HearsPart, HearsRest, IsFresh, Listening, Listens, Nobody}
-use Rattle.cdma_replay.proofs.Common.{Tells, TellsMore, TellsPart, best_pilot, end_when, file_end_of, file_text, first_text, is_told}
-use Rattle.cdma_replay.proofs.Common.{listening, told, IsBest, Shows, listening_in, shown_text, Best, ranking, ranks_text, survey_text}
+use Rattle.cdma_replay.proofs.Common.{Consumes-nil, Consumes-trans, Sample, Header, AppendsPrefix, HasBits, IsLawfulHeader, header_spelling}
+use Rattle.cdma_replay.proofs.Common.{sample_spelling, width_of, IsBestIn, best_phase, best_phase-only, best_energy-only, Pilot, event_line}
+use Rattle.cdma_replay.proofs.Common.{KeptTap, Rank, begins_more, prefix_of, taken_begins, HandsetOptions, Listener, Shown, Followed, Found}
+use Rattle.cdma_replay.proofs.Common.{Ranks, Purpose, Find, Follow, Survey, Reception, Status, TakesSpan, WritesNoMore, WritesText}
+use Rattle.cdma_replay.proofs.Common.{BeginsBehind, HearsPart, HearsRest, IsFresh, Listening, Listens, Nobody, Tells, TellsMore, TellsPart}
+use Rattle.cdma_replay.proofs.Common.{best_pilot, end_when, file_end_of, file_text, first_text, is_told, listening, told, IsBest, Shows}
+use Rattle.cdma_replay.proofs.Common.{listening_in, shown_text, Best, ranking, ranks_text, survey_text}
 use Rattle.cdma_replay.proofs.Hearings.{more_behind, part_behind}
 use Rattle.cdma_replay.specs.declared.listener.Listener.TheVariants as by
+use Rattle.owed_replies.proofs.Files.{none_within}
 
 -- what a sweep over all phases found
 pub pilot-best : (samples : List Sample) (phase energy : ℕ) →
@@ -174,10 +175,6 @@ begins_text {taps} {r} {rest} {left} mid header samples others more counted lawf
             (taken_begins text part.count part.fits);
       });
     }
-
--- no samples are within any width
-pub none_within : (width : Width) → All (HasBits width) []
-none_within width = λ k d h. absurd (omega (arith, h))
 
 -- a beginning of the text of the first samples, and of what is told of them
 pub writes_first_text : {taps : List KeptTap} {r : Reception} {header same : Header}

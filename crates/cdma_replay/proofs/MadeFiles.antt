@@ -1,15 +1,15 @@
 -- Lemmas on scripts that are read, and on files of cells that are written.
 use Rattle.cdma_replay.proofs.Common.{◌≡◌, ◌≢◌, ℕ, ◌+◌, ◌<◌, ◌≤◌, List, [], ◌++◌, length, map, take, drop, refl, sym, ap, ◌∙◌, subst}
 use Rattle.cdma_replay.proofs.Common.{append_assoc, Header, arith, inl, inr, append-nil, le_refl, Option, None, Some, IfSome, IsOk, Result}
-use Rattle.cdma_replay.proofs.Common.{Ok, Err, flat_map, Appends, Consumes, IsAtEnd, Appends-trans, cases_lt, cond-true, lt-ltb}
-use Rattle.cdma_replay.proofs.Common.{take-append-le, take_all, flat_map-append, take-add, of_sample, Sample, Width, AppendsPrefix}
-use Rattle.cdma_replay.proofs.Common.{header_spelling, sample_spelling, CellPlan, ScriptFault, OutOfMemory, TooBig, named, plan_named}
-use Rattle.cdma_replay.proofs.Common.{stated_plan, samples_of, header_of, prefix_before, prefix_behind, prefix_of, taken_begins}
-use Rattle.cdma_replay.proofs.Common.{script_status, length-made, made_samples, WritesNoMoreMade, made_file, piece_bytes}
+use Rattle.cdma_replay.proofs.Common.{Ok, flat_map, Appends, Consumes, IsAtEnd, Appends-trans, cases_lt, take-append-le, take_all}
+use Rattle.cdma_replay.proofs.Common.{flat_map-append, take-add, of_sample, Sample, Width, AppendsPrefix, header_spelling, sample_spelling}
+use Rattle.cdma_replay.proofs.Common.{CellPlan, ScriptFault, OutOfMemory, named, plan_named, samples_of, header_of, prefix_before}
+use Rattle.cdma_replay.proofs.Common.{prefix_behind, prefix_of, taken_begins, script_status, length-made, made_samples, WritesNoMoreMade}
+use Rattle.cdma_replay.proofs.Common.{made_file, piece_bytes}
 use Rattle.std.proofs.lemmas.List.{length-take-le, take-append-drop}
-use Rattle.cdma_replay.specs.Make.{sample_bytes}
+use Rattle.owed_replies.specs.Make.{sample_bytes}
 use Rattle.cdma_replay.proofs.Counting.{next_made}
-use Rattle.cdma_replay.specs.declared.status.Status.TheVariants as Status
+use Rattle.owed_replies.specs.declared.status.Status.TheVariants as Status
 use Rattle.cell_script.proofs.ScriptAnswers.{too_big}
 
 -- ---- scripts

@@ -2,28 +2,20 @@
 use Rattle.std.specs.Prelude.{◌≡◌, ℕ, ◌≤◌, List, [], take}
 use Rattle.chip_core.specs.declared.sample.Sample.{Sample}
 use Rattle.cdma_io.specs.declared.header.Header.{Header}
-use Rattle.command_line.specs.Args.{IsBase, IsFingers, IsTop, IsWidth}
+use Rattle.command_line.specs.Args.{IsFingers}
 use Rattle.pilot_search.specs.BestIn.{IsBestIn}
 use Rattle.pilot_search.specs.declared.sweeping.Best.{Best}
 use Rattle.heard_events.specs.declared.event.Event.{Event}
 use Rattle.heard_events.specs.declared.event.Event.TheVariants as told
 use Rattle.event_tap.specs.EventLines.{event_line}
 use Rattle.event_tap.specs.Taps.{KeptTap}
-use Rattle.tuned_listener.specs.TunedTexts.{IsLawfulTuned}
-use Rattle.cdma_replay.specs.Hearing.{ByFrames, ByTaps, IsLawfulHandset, Listening, Nobody}
-use Rattle.cdma_replay.specs.Hearing.{first_text, listening, tuning_for, waiting}
-use Rattle.cdma_replay.specs.Ranks.{ranks_text}
+use Rattle.event_tap.specs.TunedTexts.{IsLawfulTuned}
+use Rattle.owed_replies.specs.Hearing.{ByFrames, ByTaps, IsLawfulHandset, Listening, Nobody}
+use Rattle.owed_replies.specs.Hearing.{first_text, listening, tuning_for, waiting}
+use Rattle.owed_replies.specs.Ranks.{ranks_text}
 use Rattle.cdma_replay.specs.declared.opening.Shown.{Shown}
 use Rattle.cdma_replay.specs.declared.opening.Shown.TheVariants.{Followed, Found, Ranks, TunedTo}
-use Rattle.cdma_replay.specs.declared.purpose.Purpose.{Purpose}
-use Rattle.cdma_replay.specs.declared.purpose.Purpose.TheVariants.{Find, Follow, Survey, Tuned}
-
--- a receiver, a channel or the numbers of a survey, as arguments name them
-abbrev pub IsLawfulPurpose : Purpose → Type 0
-IsLawfulPurpose Find = Unit {0}
-IsLawfulPurpose (Follow options) = IsLawfulHandset options
-IsLawfulPurpose (Tuned fingers channel text) = IsFingers fingers × IsLawfulTuned channel text
-IsLawfulPurpose (Survey base width top) = IsBase base × IsWidth width × IsTop top
+use Rattle.owed_replies.specs.declared.purpose.Purpose.{Purpose}
 
 -- the phase of greatest energy of all
 abbrev pub IsBest : List Sample → Best → Type 0

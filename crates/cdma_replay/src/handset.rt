@@ -1,4 +1,4 @@
-//! How a handset receives samples, and how it is opened on the pilot's paths.
+//! How a handset is opened on the pilot's paths.
 
 ghost use Rattle.std.specs.Prelude.{◌≡◌, List, [], IfOk};
 ghost use Rattle.chip_core.specs.declared.sample.Sample.{Sample as TheSample};
@@ -6,25 +6,15 @@ ghost use Rattle.cdma_io.specs.SampleFile.{IsLawfulHeader};
 ghost use Rattle.pilot_search.specs.BestIn.{IsBestIn};
 ghost use Rattle.mobile_core.specs.Standing.{StandsFor, has_room};
 ghost use Rattle.tuned_listener.specs.Marking.{IsUntold};
-ghost use Rattle.cdma_replay.specs.Hearing.{AreNearTo, AreReady, IsLawfulHandset, tuning_for};
+ghost use Rattle.owed_replies.specs.Hearing.{AreNearTo, AreReady, IsLawfulHandset, tuning_for};
 
 use cdma_io::Header;
 use chip_core::OutOfMemory;
-use mobile_core::{Mobile, Settings, Traffic};
+use mobile_core::{Mobile, Settings};
+use owed_replies::HandsetOptions;
 use pilot_search::{Best, Near};
 use short_code::Codes;
 use std::alloc::Global;
-
-/// How a handset receives a file.
-#[derive(Clone, Copy, PartialEq, Eq, Debug)]
-pub struct HandsetOptions {
-    /// Over how many fingers it follows the signal, 1 to 3.
-    pub fingers: u8,
-    /// The number of the paging channel that it follows, 1 to 7.
-    pub paging: u8,
-    /// The traffic channel that it follows; `None` where it follows none.
-    pub traffic: Option<Traffic>,
-}
 
 /// A handset for samples of this header, with paths near the pilot's phase, in memory of its own.
 // Its frame holds the handset several times over, and is free again before the handset hears.

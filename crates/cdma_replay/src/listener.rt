@@ -8,7 +8,8 @@ ghost use Rattle.heard_events.specs.Events.{events};
 ghost use Rattle.mobile_core.specs.Standing.{StandsFor, has_room};
 ghost use Rattle.heard_events.specs.Tuning.{Tuning};
 ghost use Rattle.event_tap.specs.Taps.{IsKept, KeptTap, run_taps};
-ghost use Rattle.cdma_replay.specs.Hearing.{ByTaps, GivesAll, TellsMore, TellsPart, told};
+ghost use Rattle.owed_replies.specs.Hearing.{ByTaps, TellsMore, TellsPart, told};
+ghost use Rattle.cdma_replay.specs.Listeners.{GivesAll};
 
 use cdma_io::{Failed, Sink};
 use chip_core::Sample;
@@ -32,9 +33,10 @@ impl Listener {
     ghost use Rattle.chip_core.specs.declared.sample.Sample.{Sample as TheSample};
     ghost use Rattle.cdma_io.specs.Outside.{AppendsPrefix, HasCause};
     ghost use Rattle.event_tap.specs.Taps.{IsKept, KeptTap};
-    ghost use Rattle.cdma_replay.specs.Hearing.{BeginsBehind, HasRoom, HasRoomFor, IsFresh};
-    ghost use Rattle.cdma_replay.specs.Hearing.{Listening, Listens, Tells, TellsPart, is_told};
-    ghost use Rattle.cdma_replay.specs.Hearing.{told};
+    ghost use Rattle.cdma_replay.specs.Listeners.{BeginsBehind, HasRoom, HasRoomFor, IsFresh};
+    ghost use Rattle.owed_replies.specs.Hearing.{Listening, TellsPart, is_told};
+    ghost use Rattle.cdma_replay.specs.Listeners.{Listens, Tells};
+    ghost use Rattle.owed_replies.specs.Hearing.{told};
 
     /// Tells what is told before any sample is taken: the taps hear the pilot of a handset.
     ///

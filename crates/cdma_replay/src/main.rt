@@ -7,19 +7,15 @@
 #![tactic(auto)]
 
 mod handset;
-pub mod laws;
 mod listener;
 mod making;
 mod opening;
 #[cfg(test)]
 mod outside_tests;
 mod program;
-mod purpose;
 mod ranks;
 mod receiving;
 mod replaying;
-mod status;
-mod task;
 #[cfg(test)]
 mod test_inputs;
 #[cfg(test)]
@@ -33,9 +29,9 @@ mod workspace;
 
 use cdma_io::{ReaderSource, WriterSink};
 pub use command_line::{Job, WordFault, words_of};
+pub use owed_replies::Status;
 use program::{run, without_args};
 pub use replaying::replay;
-pub use status::Status;
 use std::process::ExitCode;
 use std::rt::Env;
 use std::{env, io};

@@ -7,16 +7,16 @@ ghost use Rattle.cdma_io.specs.declared.file_fault.FileFault.{FileFault};
 ghost use Rattle.cdma_io.specs.Outside.{ConsumesAtMost, Rose};
 ghost use Rattle.cell_script.specs.declared.script_fault.ScriptFault.{ScriptFault};
 ghost use Rattle.cell_script.specs.Script.{plan_named};
-ghost use Rattle.cdma_replay.specs.Find.{ended};
-ghost use Rattle.cdma_replay.specs.TaskRuns.{MakesFile};
+ghost use Rattle.owed_replies.specs.Find.{ended};
+ghost use Rattle.owed_replies.specs.TaskRuns.{MakesFile};
 
 mod writing;
 
-use crate::status::Status;
 use crate::workspace::PIECE;
 use base_modulator::{Cell, ScriptFault};
 use cdma_io::{Failed, Sink, Source, Width, fill};
 use chip_core::{OutOfMemory, Sample};
+use owed_replies::Status;
 use std::alloc::Global;
 use writing::write_cell;
 

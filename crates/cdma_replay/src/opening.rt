@@ -8,26 +8,28 @@ ghost use Rattle.cdma_io.specs.declared.header.Header.{Header as TheHeader};
 ghost use Rattle.command_line.specs.Args.{IsFingers, IsWorkers};
 ghost use Rattle.event_tap.specs.Taps.{IsKept, KeptTap};
 ghost use Rattle.tuned_listener.specs.TunedListening.{ListensTuned, tuned_room};
-ghost use Rattle.tuned_listener.specs.TunedTexts.{IsLawfulTuned};
-ghost use Rattle.cdma_replay.specs.Hearing.{AreNearTo, AreReady, BeginsBehind, HasRoom, IsFresh};
-ghost use Rattle.cdma_replay.specs.Hearing.{told, tuning_for, waiting};
-ghost use Rattle.cdma_replay.specs.Openings.{IsBest, IsFollowable, IsLawfulPurpose, IsTellable};
+ghost use Rattle.event_tap.specs.TunedTexts.{IsLawfulTuned};
+ghost use Rattle.owed_replies.specs.Hearing.{AreNearTo, AreReady};
+ghost use Rattle.cdma_replay.specs.Listeners.{BeginsBehind, HasRoom, IsFresh};
+ghost use Rattle.owed_replies.specs.Hearing.{told, tuning_for, waiting};
+ghost use Rattle.cdma_replay.specs.Openings.{IsBest, IsFollowable, IsTellable};
+ghost use Rattle.owed_replies.specs.Tasks.{IsLawfulPurpose};
 ghost use Rattle.cdma_replay.specs.Openings.{Shows, listening_in, pilot_event, shown_text};
 
-use crate::handset::{HandsetOptions, handset};
+use crate::handset::handset;
 use crate::listener::Listener;
-use crate::purpose::Purpose;
 use crate::ranks::write_ranks;
 use cdma_io::{Failed, Header, Sink};
 use chip_core::{OutOfMemory, Phase, Sample};
-use event_tap::{KeepsTaps, write_event};
+use event_tap::{KeepsTaps, TunedText, write_event};
 use mobile_core::{Channel, Event};
+use owed_replies::{HandsetOptions, Purpose};
 use pilot_search::{Best, Gate, Near, near, search};
 use pilot_survey::{Survey, survey};
 use short_code::Codes;
 use std::alloc::Global;
 use std::thread::Threads;
-use tuned_listener::{TunedListener, TunedText};
+use tuned_listener::TunedListener;
 
 /// What was found in the first samples of a file.
 #[derive(Drop)]

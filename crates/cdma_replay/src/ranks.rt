@@ -3,14 +3,14 @@
 ghost use Rattle.std.specs.Prelude.{◌≡◌, ◌≤◌, OnErr, OnOk, take};
 ghost use Rattle.std.specs.Io.KnownBytes.{Appends};
 ghost use Rattle.cdma_io.specs.Outside.{AppendsPrefix, HasCause};
-ghost use Rattle.cdma_replay.specs.Ranks.{rank_line, ranks_text};
+ghost use Rattle.owed_replies.specs.Ranks.{rank_line, ranks_text};
 
 use cdma_io::{Failed, Sink, write_all};
 use event_tap::Text;
 use pilot_survey::{Rank, Survey};
 
 /// The line of a rank.
-#[tactic(auto, unfolding(crate::specs::Ranks::rank_line))]
+#[tactic(auto, unfolding(owed_replies::specs::Ranks::rank_line))]
 fn line_of(rank: Rank) -> Text
     ensures { result ≡ rank_line rank }
 {

@@ -9,38 +9,27 @@ ghost use Rattle.cdma_io.specs.SampleFile.{sample_len, width_of};
 ghost use Rattle.event_tap.specs.Taps.{IsKept};
 ghost use Rattle.command_line.specs.Args.{IsWorkers};
 ghost use Rattle.chip_core.specs.declared.sample.Sample.{Sample};
-ghost use Rattle.cdma_replay.specs.Hearing.{HasRoom, HearsPart, HearsRest, Listening, Listens};
-ghost use Rattle.cdma_replay.specs.Hearing.{end_when};
-ghost use Rattle.cdma_replay.specs.Openings.{IsLawfulPurpose};
-ghost use Rattle.cdma_replay.specs.Broken.{HearsFirst, IsCut, IsLong, IsUnopened, TakesFew};
-ghost use Rattle.cdma_replay.specs.Find.{IsEnd, IsFault, IsFaultIn, IsHeaderFault, IsRestFault};
-ghost use Rattle.cdma_replay.specs.Find.{IsSearchable, TakesNoMore, TakesSpan, ended};
-ghost use Rattle.cdma_replay.specs.Status.{file_status};
-ghost use Rattle.cdma_replay.specs.TaskRuns.{ReceivesFile};
+ghost use Rattle.cdma_replay.specs.Listeners.{HasRoom, HearsRest, Listens};
+ghost use Rattle.owed_replies.specs.Hearing.{HearsPart, Listening};
+ghost use Rattle.owed_replies.specs.Hearing.{end_when};
+ghost use Rattle.owed_replies.specs.Tasks.{IsLawfulPurpose};
+ghost use Rattle.owed_replies.specs.Broken.{HearsFirst, IsCut, IsLong, IsUnopened, TakesFew};
+ghost use Rattle.owed_replies.specs.Find.{IsEnd, IsFault, IsFaultIn, IsHeaderFault, IsRestFault};
+ghost use Rattle.owed_replies.specs.Find.{IsSearchable, TakesNoMore, TakesSpan, ended};
+ghost use Rattle.owed_replies.specs.Status.{file_status};
+ghost use Rattle.owed_replies.specs.TaskRuns.{ReceivesFile};
 
 use crate::listener::Listener;
 use crate::opening::{find_first, listener_for, tell_first};
-use crate::purpose::Purpose;
-use crate::status::Status;
 use crate::workspace::Workspace;
 use cdma_io::{Failed, FileFault, SampleReader, Sink, Source};
 use chip_core::Sample;
 use event_tap::KeepsTaps;
+use owed_replies::{Reception, Status};
 use pilot_search::Gate;
 use short_code::Codes;
 use std::alloc::Global;
 use std::thread::Threads;
-
-/// How a sample file is received.
-#[derive(Clone, Copy, PartialEq, Eq, Debug)]
-pub struct Reception {
-    /// In how many of the first samples the pilot is searched, or all are measured, 64 to 32,768.
-    pub span: u16,
-    /// How many workers search or measure, 1 to 64. What is found doesn't depend on it.
-    pub workers: u8,
-    /// What is wanted of it.
-    pub purpose: Purpose,
-}
 
 /// Opens a sample file and reads its first samples, as many as `span` has room for.
 fn open_span<S: Source>(source: &mut S, span: &mut [Sample]) -> Result<SampleReader, FileFault>

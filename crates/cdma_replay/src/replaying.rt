@@ -2,20 +2,19 @@
 
 ghost use Rattle.std.specs.Prelude.{◌≡◌, ◌≤◌, ℕ, List, map};
 ghost use Rattle.command_line.specs.Args.{IsWorkers, job_named};
-ghost use Rattle.cdma_replay.specs.Find.{ended};
-ghost use Rattle.cdma_replay.specs.Openings.{IsLawfulPurpose};
-ghost use Rattle.cdma_replay.specs.Runs.{RunsCommand};
-ghost use Rattle.cdma_replay.specs.TaskRuns.{RunsTask};
-ghost use Rattle.cdma_replay.specs.Tasks.{IsLawfulTask, untapped};
+ghost use Rattle.owed_replies.specs.Find.{ended};
+ghost use Rattle.owed_replies.specs.Tasks.{IsLawfulPurpose};
+ghost use Rattle.owed_replies.specs.Runs.{RunsCommand};
+ghost use Rattle.owed_replies.specs.TaskRuns.{RunsTask};
+ghost use Rattle.owed_replies.specs.Tasks.{IsLawfulTask, untapped};
 
 use crate::making::make;
-use crate::receiving::{Reception, receive};
-use crate::status::Status;
-use crate::task::{Task, task_of};
+use crate::receiving::receive;
 use crate::trial::trial;
 use cdma_io::{Sink, Source};
 use command_line::{WordFault, words_of};
 use event_tap::{Tap, Taps};
+use owed_replies::{Reception, Status, Task, task_of};
 use pilot_search::Gate;
 use std::alloc::Global;
 use std::thread::Threads;

@@ -1,8 +1,8 @@
 //! The command `trial`: a link that a number tells is made and followed, and what a handset hears
 //! of it is counted.
 
-ghost use Rattle.std.specs.Prelude.{◌≡◌, ◌≤◌, ◌+◌, ◌++◌, ◌⊎◌, ℕ, List, [], length, Err, IfOk};
-ghost use Rattle.std.specs.Prelude.{IfErr, OnOk, OnErr, ◌<◌, ◌^◌, take};
+ghost use Rattle.std.specs.Prelude.{◌≡◌, ◌≤◌, ◌+◌, ◌++◌, ◌⊎◌, List, length, Err, IfOk};
+ghost use Rattle.std.specs.Prelude.{IfErr, OnOk, OnErr, ◌<◌, take};
 ghost use Rattle.std.specs.Io.KnownBytes.{Appends};
 ghost use Rattle.chip_core.specs.declared.sample.Sample.{Sample as TheSample};
 ghost use Rattle.cdma_io.specs.Outside.{AppendsPrefix, Rose};
@@ -14,17 +14,17 @@ ghost use Rattle.heard_events.specs.Events.{events};
 ghost use Rattle.mobile_core.specs.Standing.{StandsFor, has_room, steps_left};
 ghost use Rattle.heard_events.specs.Tuning.{Tuning};
 ghost use Rattle.heard_events.specs.declared.event.Event.{Event as TheEvent};
-ghost use Rattle.cdma_replay.specs.Trials.{LeavesRoom, counts_of, counts_with, summary, trial_line};
-ghost use Rattle.cdma_replay.specs.Trials.{trial_options};
+ghost use Rattle.owed_replies.specs.Trials.{LeavesRoom, counts_of, summary, trial_line};
+ghost use Rattle.owed_replies.specs.Trials.{trial_options};
 
-use crate::handset::{HandsetOptions, handset};
-use crate::status::Status;
+use crate::handset::handset;
 use crate::workspace::Workspace;
 use base_modulator::{Cell, trial_script, trial_serial_number};
 use cdma_io::{Failed, Sink, Width, write_all};
 use chip_core::{OutOfMemory, Sample};
 use event_tap::Text;
-use mobile_core::{Event, Mobile, Traffic};
+use mobile_core::{Mobile, Traffic};
+use owed_replies::{Counts, HandsetOptions, Status};
 use pilot_search::{Gate, near, search};
 use short_code::Codes;
 use std::alloc::Global;
@@ -32,51 +32,6 @@ use std::thread::Threads;
 
 /// In how many of the first samples the pilot is searched.
 const SPAN: usize = 2048;
-
-/// How many events of each kind a handset told.
-#[derive(Clone, Copy, PartialEq, Eq, Debug)]
-pub struct Counts {
-    /// Messages of the sync channel.
-    pub syncs: u64,
-    /// Messages of the paging channel.
-    pub pagings: u64,
-    /// Frames of the traffic channel.
-    pub frames: u64,
-    /// Those of them that are good.
-    pub good: u64,
-}
-
-impl Counts {
-    /// None yet.
-    #[tactic(auto, unfolding(crate::specs::Trials::counts_of))]
-    fn none() -> Counts
-        ensures value { result ≡ counts_of [] }
-        ensures room { LeavesRoom result (2 ^ 63) }
-    {
-        Counts {
-            syncs: 0,
-            pagings: 0,
-            frames: 0,
-            good: 0,
-        }
-    }
-
-    /// One event more.
-    fn add(&mut self, event: &Event)
-        requires { LeavesRoom self.old 1 }
-        ensures { self.new ≡ counts_with self.old event.now }
-    {
-        match event {
-            Event::Sync { .. } => self.syncs += 1,
-            Event::Paging { .. } => self.pagings += 1,
-            Event::Frame { good, .. } => {
-                self.frames += 1;
-                self.good += u64::from(*good);
-            }
-            _ => {}
-        }
-    }
-}
 
 /// How the link is received: over one finger, with paging channel 1 and the traffic channel whose
 /// frames are drawn from the number.
@@ -165,7 +120,7 @@ fn count_rest(mobile: &mut Mobile, cell: &mut Cell, piece: &mut [Sample], counts
 }
 
 /// The line that tells what was counted.
-#[tactic(auto, unfolding(crate::specs::Trials::summary))]
+#[tactic(auto, unfolding(owed_replies::specs::Trials::summary))]
 fn summary_of(number: u64, samples: u64, phase: u16, counts: &Counts) -> Text
     ensures { result ≡ summary number samples phase counts.now }
 {

@@ -4,3 +4,4 @@ mod TrafficTexts
 pub mod Runs
 pub mod TapLists
 pub mod Texts
+pub mod Prefixes

@@ -5,7 +5,8 @@
 //! listens to a run hands in its [`Tap`]s, boxed: each hears the events of its form's kinds up to
 //! its limit, and [`Taps`] gives what they make of an event to a sink. A frame of rate set 2, which
 //! is no event of a handset, has a line too ([`write_frame2`]), and so has a slot of a sleeping
-//! handset ([`write_slot`]).
+//! handset ([`write_slot`]). A [`TunedText`] says which of these are written of the frames of one
+//! channel.
 #![tactic(auto)]
 
 mod frame;
@@ -20,6 +21,7 @@ mod sync;
 mod tap;
 mod taps;
 mod traffic;
+mod tuned_text;
 mod writing;
 
 pub use kinds::{FormTap, FrameTap, MessageTap, PilotTap, RawTap};
@@ -27,4 +29,5 @@ pub use line::line_into;
 pub use line_text::Text;
 pub use tap::{Heard, Tap};
 pub use taps::{KeepsTaps, Taps};
+pub use tuned_text::TunedText;
 pub use writing::{write_event, write_frame2, write_slot};

@@ -92,16 +92,16 @@ pub use Rattle.tuned_listener.specs.FrameWriting.{HoldsFrames, IsReady, WritesFr
 pub use Rattle.tuned_listener.specs.Marking.{HasNoMark, HearsUntold, IsMarkedAt, IsUntold, ListensAhead}
 pub use Rattle.tuned_listener.specs.SlotLaws.{AgreeInSlot, IsWrittenByTimes, NeedsMark, SleepsThroughTheRest}
 pub use Rattle.tuned_listener.specs.SlotWriting.{HoldsSlot, IsReadyForSlots, page_list, pages_ending}
-pub use Rattle.tuned_listener.specs.Slots.{slot_more, slot_text}
-unfoldable pub use Rattle.tuned_listener.specs.Slots.{slot_behind}
+pub use Rattle.event_tap.specs.Slots.{slot_more, slot_text}
+unfoldable pub use Rattle.event_tap.specs.Slots.{slot_behind}
 pub use Rattle.tuned_listener.specs.TunedListening.{ListensBehind, ListensFrom, ListensTuned, TellsTuned, TellsTunedPart}
-pub use Rattle.tuned_listener.specs.TunedTexts.{behind_mark, frame_text, frames_from, listed_text, rate2_text, text_behind, text_from}
-unfoldable pub use Rattle.tuned_listener.specs.TunedTexts.{frames_text, tuned_text}
+pub use Rattle.event_tap.specs.TunedTexts.{behind_mark, frame_text, frames_from, listed_text, rate2_text, text_behind, text_from}
+unfoldable pub use Rattle.event_tap.specs.TunedTexts.{frames_text, tuned_text}
 pub use Rattle.tuned_listener.specs.declared.channel_receiver.ChannelReceiver.{ChannelReceiver}
 pub use Rattle.tuned_listener.specs.declared.frame_writer.FrameWriter.{FrameWriter}
 pub use Rattle.tuned_listener.specs.declared.slot_writer.Page.{Page}
 pub use Rattle.tuned_listener.specs.declared.slot_writer.SlotWriter.{SlotWriter}
 pub use Rattle.tuned_listener.specs.declared.tuned.Behind.{Behind}
 pub use Rattle.tuned_listener.specs.declared.tuned.TunedListener.{TunedListener}
-pub use Rattle.tuned_listener.specs.declared.tuned_text.TunedText.{TunedText}
-pub use Rattle.tuned_listener.specs.declared.tuned_text.TunedText.TheVariants.{Listed, RateSetTwo, Slots}
+pub use Rattle.event_tap.specs.declared.tuned_text.TunedText.{TunedText}
+pub use Rattle.event_tap.specs.declared.tuned_text.TunedText.TheVariants.{Listed, RateSetTwo, Slots}

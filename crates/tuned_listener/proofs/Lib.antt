@@ -2,7 +2,6 @@ pub mod Common
 pub mod FrameTexts
 pub mod FramesGiven
 pub mod HeardSlots
-pub mod Prefixes
 pub mod SlotFrames
 pub mod SlotPages
 pub mod TunedFrames

@@ -7,7 +7,7 @@ use Rattle.tuned_listener.proofs.Common.{flat_map_ext_places, AppendsPrefix, pag
 use Rattle.tuned_listener.proofs.Common.{half_frame_capsule_ending, paging_reading, PagingMessage, Rate, slot_pages, page_list}
 use Rattle.tuned_listener.proofs.Common.{pages_ending, Page}
 use Rattle.std.proofs.lemmas.List.{length-take-le}
-use Rattle.tuned_listener.proofs.Prefixes.{prefix_before, prefix_behind}
+use Rattle.event_tap.proofs.Prefixes.{prefix_before, prefix_behind}
 
 -- what stands at the front of the pieces of more numbers
 pieces_begin : {X : Type 0} (f : ℕ → List X) (n d : ℕ) →

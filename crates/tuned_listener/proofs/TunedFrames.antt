@@ -8,7 +8,7 @@ use Rattle.tuned_listener.proofs.Common.{frames_within, soft_frame, soft_frames,
 use Rattle.tuned_listener.proofs.Common.{SoftFrame, Tuner, TunerStep, frames_sooner, HoldsFrames, WritesFrames, WritesFramesPart}
 use Rattle.tuned_listener.proofs.Common.{slot_behind, slot_more, frame_text, frames_text, text_from, FrameWriter, TunedText}
 use Rattle.tuned_listener.proofs.FrameTexts.{kept_behind, kept_behind_none, kept_behind_one, text_of_none, text_of_one, texts_joined}
-use Rattle.tuned_listener.proofs.Prefixes.{begins_more, prefix_before, prefix_behind, taken_begins}
+use Rattle.event_tap.proofs.Prefixes.{begins_more, prefix_before, prefix_behind, taken_begins}
 use Rattle.heard_events.proofs.Arrivals.{Arrivals, by_parts, frames_in, is_by}
 use Rattle.heard_events.proofs.ChannelFrames.{channel_ordered}
 use Rattle.chip_core.proofs.Ranges as ranges

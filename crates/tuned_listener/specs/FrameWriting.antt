@@ -13,13 +13,13 @@ use Rattle.heard_events.specs.declared.mark.Mark.{Mark}
 use Rattle.heard_events.specs.declared.soft_frame.SoftFrame.{SoftFrame}
 use Rattle.tuned_listener.specs.declared.tuner.Tuner.{Tuner}
 use Rattle.tuned_listener.specs.SlotWriting.{HoldsSlot, IsReadyForSlots}
-use Rattle.tuned_listener.specs.Slots.{slot_behind}
-use Rattle.tuned_listener.specs.TunedTexts.{text_from}
+use Rattle.event_tap.specs.Slots.{slot_behind}
+use Rattle.event_tap.specs.TunedTexts.{text_from}
 use Rattle.tuned_listener.specs.declared.frame_writer.FrameWriter.{FrameWriter}
 use Rattle.tuned_listener.specs.declared.frame_writer.FrameWriter.TheVariants as writers
-use Rattle.tuned_listener.specs.declared.tuned_text.TunedText.{TunedText}
-use Rattle.tuned_listener.specs.declared.tuned_text.TunedText.TheVariants.{Listed, RateSetTwo}
-use Rattle.tuned_listener.specs.declared.tuned_text.TunedText.TheVariants.{Slots}
+use Rattle.event_tap.specs.declared.tuned_text.TunedText.{TunedText}
+use Rattle.event_tap.specs.declared.tuned_text.TunedText.TheVariants.{Listed, RateSetTwo}
+use Rattle.event_tap.specs.declared.tuned_text.TunedText.TheVariants.{Slots}
 
 -- which text it writes
 abbrev pub text_of : FrameWriter → TunedText

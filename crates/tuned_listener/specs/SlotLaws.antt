@@ -10,8 +10,8 @@ use Rattle.heard_events.specs.Tuning.{Tuning, sync_stream}
 use Rattle.heard_events.specs.declared.channel.Channel.TheVariants.{Paging}
 use Rattle.heard_events.specs.declared.mark.Mark.{Mark}
 use Rattle.event_tap.specs.SlotLines.{is_heard, lines_by_times}
-use Rattle.tuned_listener.specs.TunedTexts.{tuned_text}
-use Rattle.tuned_listener.specs.declared.tuned_text.TunedText.TheVariants.{Slots}
+use Rattle.event_tap.specs.TunedTexts.{tuned_text}
+use Rattle.event_tap.specs.declared.tuned_text.TunedText.TheVariants.{Slots}
 
 -- ---- slots by their times
 

@@ -12,11 +12,11 @@ use Rattle.heard_events.specs.declared.channel.Channel.{Channel}
 use Rattle.mobile_core.specs.declared.mobile.Mobile.{Mobile}
 use Rattle.tuned_listener.specs.FrameWriting.{HoldsFrames, text_of}
 use Rattle.tuned_listener.specs.Marking.{ListensAhead}
-use Rattle.tuned_listener.specs.Slots.{slot_behind}
-use Rattle.tuned_listener.specs.TunedTexts.{behind_mark, tuned_text}
+use Rattle.event_tap.specs.Slots.{slot_behind}
+use Rattle.event_tap.specs.TunedTexts.{behind_mark, tuned_text}
 use Rattle.tuned_listener.specs.declared.tuned.Behind.{Behind}
 use Rattle.tuned_listener.specs.declared.tuned.TunedListener.{TunedListener}
-use Rattle.tuned_listener.specs.declared.tuned_text.TunedText.{TunedText}
+use Rattle.event_tap.specs.declared.tuned_text.TunedText.{TunedText}
 
 -- a receiver has taken these samples, which set the mark that it is behind
 pub record ListensBehind (t : Tuning) (channel : Channel) (b : Behind) (heard : List Sample)

@@ -15,16 +15,15 @@ ghost use Rattle.heard_events.specs.declared.channel.Channel.{Channel as TheChan
 ghost use Rattle.heard_events.specs.declared.soft_frame.SoftFrame.{SoftFrame as TheFrame};
 ghost use Rattle.tuned_listener.specs.FrameWriting.{HoldsFrames, IsLawfulText, IsReady, text_of};
 ghost use Rattle.tuned_listener.specs.FrameWriting.{WritesFrames, WritesFramesPart};
-ghost use Rattle.tuned_listener.specs.Slots.{slot_behind, slot_more};
-ghost use Rattle.tuned_listener.specs.TunedTexts.{listed_text, rate2_text, frame_text};
+ghost use Rattle.event_tap.specs.Slots.{slot_behind, slot_more};
+ghost use Rattle.event_tap.specs.TunedTexts.{listed_text, rate2_text, frame_text};
 
 use crate::slot_writer::SlotWriter;
-use crate::tuned_text::TunedText;
 use crate::tuner::Tuner;
 use cdma_io::{Failed, Sink};
 use chip_core::air::{FRAME_BITS, SET_TWO_FRAME_BITS};
 use chip_core::{CheckForm, OutOfMemory, Sample};
-use event_tap::{write_event, write_frame2};
+use event_tap::{TunedText, write_event, write_frame2};
 use heard_events::{Event, Mark, SoftFrame};
 use list_viterbi::ListDecoder;
 use listed_frame::listed_frame;

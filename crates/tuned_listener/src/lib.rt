@@ -13,10 +13,9 @@ pub mod laws;
 mod marking;
 mod slot_writer;
 mod tuned;
-mod tuned_text;
 mod tuner;
 
+pub use event_tap::TunedText;
 pub use heard_events::{PowerControl, SoftFrame};
 pub use tuned::TunedListener;
-pub use tuned_text::TunedText;
 pub use tuner::{Tuner, TunerStep};

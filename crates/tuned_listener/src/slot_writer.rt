@@ -13,7 +13,7 @@ ghost use Rattle.paging_message.specs.HalfFrames.{IsPagingRate, StandsFor};
 ghost use Rattle.event_tap.specs.SlotLines.{slot_lines, slot_pages};
 ghost use Rattle.tuned_listener.specs.SlotWriting.{HoldsSlot, IsReadyForSlots, page_list};
 ghost use Rattle.tuned_listener.specs.SlotWriting.{pages_ending};
-ghost use Rattle.tuned_listener.specs.Slots.{slot_more, slot_text};
+ghost use Rattle.event_tap.specs.Slots.{slot_more, slot_text};
 
 use cdma_io::{Failed, Sink};
 use chip_core::air::{DATA_SYMBOLS, SLOT_FRAMES, SPAN_BITS};

@@ -5,10 +5,10 @@ ghost use Rattle.tuned_listener.specs.SoundListener.{IsSoundListener};
 
 use crate::frame_writer::{FrameWriter, hear_frames};
 use crate::marking::{Reached, step_to_mark};
-use crate::tuned_text::TunedText;
 use crate::tuner::Tuner;
 use cdma_io::{Failed, Sink};
 use chip_core::{CheckForm, OutOfMemory, Phase, Sample};
+use event_tap::TunedText;
 use heard_events::{Channel, Mark};
 use mobile_core::{HeardRing, Mobile};
 use pilot_search::Near;
@@ -54,8 +54,8 @@ impl TunedListener {
     ghost use Rattle.tuned_listener.specs.Marking.{IsUntold};
     ghost use Rattle.tuned_listener.specs.TunedListening.{ListensTuned, TellsTuned, TellsTunedPart};
     ghost use Rattle.tuned_listener.specs.TunedListening.{tuned_room};
-    ghost use Rattle.tuned_listener.specs.TunedTexts.{IsLawfulTuned, tuned_text};
-    ghost use Rattle.tuned_listener.specs.declared.tuned_text.TunedText.{TunedText as TheText};
+    ghost use Rattle.event_tap.specs.TunedTexts.{IsLawfulTuned, tuned_text};
+    ghost use Rattle.event_tap.specs.declared.tuned_text.TunedText.{TunedText as TheText};
 
     /// The listener of a channel, for a base station at a phase and near it, in place of a handset
     /// that has taken no sample of a file. `check` is the form of the check that the messages of a

@@ -4,7 +4,7 @@ ghost use Rattle.std.specs.Prelude.{◌≡◌, ◌≤◌, ◌+◌, ◌-◌, ◌*
 ghost use Rattle.std.specs.Io.KnownBytes.{Appends};
 ghost use Rattle.cdma_io.specs.Outside.{AppendsPrefix, HasCause};
 ghost use Rattle.cdma_io.specs.SampleFile.{sample_len};
-ghost use Rattle.cdma_replay.specs.Make.{made_file, piece_bytes};
+ghost use Rattle.owed_replies.specs.Make.{made_file, piece_bytes};
 
 use base_modulator::Cell;
 use cdma_io::{Failed, Sink, Width, header_bytes, sample_bytes_into, write_all};

@@ -1,5 +1,5 @@
 use Rattle.cdma_replay.proofs.Common.{[], inl, inr, refl, rules, arith, Appends-nil, IfSome_then}
-use Rattle.cdma_replay.proofs.Files.{ended_by}
+use Rattle.owed_replies.proofs.Files.{ended_by}
 use Rattle.cdma_replay.proofs.MadeFiles.{writes_part, writes_whole}
 use Rattle.cdma_replay.proofs.making.make_file.Goals as goal
 

@@ -1,5 +1,5 @@
 use Rattle.cdma_replay.proofs.Common.{◌∙◌}
-use Rattle.cdma_replay.proofs.Runs.{line_told}
+use Rattle.owed_replies.proofs.Runs.{line_told}
 use Rattle.cdma_replay.proofs.program.report.Goals as goal
 
 pub returns : goal.returns

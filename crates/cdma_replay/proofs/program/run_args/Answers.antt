@@ -1,5 +1,5 @@
 use Rattle.cdma_replay.proofs.Common.{refl}
-use Rattle.cdma_replay.proofs.Runs.{by_vtable, four_forms, run_with}
+use Rattle.owed_replies.proofs.Runs.{by_vtable, four_forms, run_with}
 use Rattle.cdma_replay.proofs.program.run_args.OwnLists.{own-1}
 use Rattle.cdma_replay.proofs.program.run_args.Goals as goal
 

@@ -1,5 +1,5 @@
 use Rattle.cdma_replay.proofs.Common.{ap, ◌∙◌}
-use Rattle.cdma_replay.proofs.Runs.{passed_run, run_passed}
+use Rattle.owed_replies.proofs.Runs.{passed_run, run_passed}
 use Rattle.cdma_replay.proofs.program.run_tapped.Goals as goal
 
 pub returns-clause-ran : goal.returns-clause-ran

@@ -3,10 +3,10 @@ use Rattle.cdma_replay.proofs.Common.{arith, rules, Reading, width_of, sample_le
 use Rattle.cdma_replay.proofs.Common.{IsLong, IsRestFault, file_status, HasRoom}
 use Rattle.cdma_replay.proofs.Broken.{has_bytes, no_long_cut}
 use Rattle.cdma_replay.proofs.Faults.{rest_cut_fault, rest_extra_fault}
-use Rattle.cdma_replay.proofs.Files.{blamed, ended_by, wrong_length}
+use Rattle.owed_replies.proofs.Files.{blamed, ended_by, wrong_length}
 use Rattle.cdma_replay.proofs.HeardRest.{hears_all, hears_first, hears_more, hears_nothing, hears_part, hears_stopped}
 use Rattle.cdma_replay.proofs.Hearings.{room_for}
-use Rattle.cdma_replay.proofs.Bounds.{passed_most, piece_most}
+use Rattle.owed_replies.proofs.Bounds.{passed_most, piece_most}
 use Rattle.cdma_replay.proofs.receiving.hear_rest.Given.{Over}
 use Rattle.cdma_replay.proofs.receiving.hear_rest.Goals.{After-finish, After-read}
 use Rattle.cdma_replay.proofs.receiving.hear_rest.Goals as goal

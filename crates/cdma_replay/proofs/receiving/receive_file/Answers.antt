@@ -2,12 +2,12 @@ use Rattle.cdma_replay.proofs.Common.{◌≡◌, ◌+◌, ℕ, List, [], IfSome,
 use Rattle.cdma_replay.proofs.Common.{IsCut, IsLong, IsEnd, IsFault, IsFaultIn, IsOfFiles, ended, Listening, Listens, end_when, listening}
 use Rattle.cdma_replay.proofs.Common.{file_status, Status}
 use Rattle.cdma_replay.proofs.Broken.{nothing_all, nothing_first, writes_all, writes_first}
-use Rattle.cdma_replay.proofs.Ends.{begins_file, by_end, by_file_status, ends_well, fault_no_end, lost_file, starved_file}
+use Rattle.owed_replies.proofs.Ends.{begins_file, by_end, by_file_status, ends_well, fault_no_end, lost_file, starved_file}
 use Rattle.cdma_replay.proofs.Faults.{fault_of_rest}
-use Rattle.cdma_replay.proofs.Files.{blamed, ended_by, unsearchable}
+use Rattle.owed_replies.proofs.Files.{blamed, ended_by, unsearchable}
 use Rattle.cdma_replay.proofs.Lines.{HasBegun, has_begun, writes_first_part, writes_first_text, writes_rest_part, writes_text}
-use Rattle.cdma_replay.proofs.Bounds.{none_most, rest_most}
-use Rattle.cdma_replay.proofs.Runs.{rose_before}
+use Rattle.owed_replies.proofs.Bounds.{none_most, rest_most}
+use Rattle.owed_replies.proofs.Runs.{rose_before}
 use Rattle.cdma_replay.proofs.receiving.receive_file.Given.{Over}
 use Rattle.cdma_replay.proofs.receiving.receive_file.Goals.{In-Ok}
 use Rattle.cdma_replay.proofs.receiving.receive_file.Goals as goal

@@ -1,6 +1,6 @@
 use Rattle.cdma_replay.proofs.Common.{◌∙◌, [], ◌∷◌, None}
-use Rattle.cdma_replay.proofs.Replies.{none_kept}
-use Rattle.cdma_replay.proofs.TaskRuns.{file_run, with_taps}
+use Rattle.owed_replies.proofs.Replies.{none_kept}
+use Rattle.owed_replies.proofs.TaskRuns.{file_run, with_taps}
 use Rattle.cdma_replay.proofs.replaying.receive_untapped.Goals as goal
 
 pub returns : goal.returns

@@ -1,4 +1,4 @@
-use Rattle.cdma_replay.proofs.Commands.{command_run}
+use Rattle.owed_replies.proofs.Commands.{command_run}
 use Rattle.cdma_replay.proofs.replaying.replay.Goals as goal
 
 pub returns-in-Ok : goal.returns-in-Ok

@@ -1,5 +1,5 @@
 use Rattle.cdma_replay.proofs.Common.{Some, refl}
-use Rattle.cdma_replay.proofs.TaskRuns.{file_run, made_run, trial_run, with_taps}
+use Rattle.owed_replies.proofs.TaskRuns.{file_run, made_run, trial_run, with_taps}
 use Rattle.cdma_replay.proofs.replaying.run_task.Goals as goal
 
 -- where taps hear nothing, and where they do

@@ -1,6 +1,6 @@
 use Rattle.tuned_listener.proofs.Common.{ℕ, length, subst, Appends, paging_line, slot_line, slot_pages}
 use Rattle.std.specs.List.{flat_map}
-use Rattle.tuned_listener.proofs.Prefixes.{on_err, prefix_behind}
+use Rattle.event_tap.proofs.Prefixes.{on_err, prefix_behind}
 use Rattle.tuned_listener.proofs.slot_writer.write_lines.Goals as goal
 
 pub returns-clause-err : goal.returns-clause-err

@@ -1,5 +1,5 @@
 use Rattle.tuned_listener.proofs.Common.{refl, Behind}
-use Rattle.tuned_listener.proofs.Prefixes.{on_err, on_ok}
+use Rattle.event_tap.proofs.Prefixes.{on_err, on_ok}
 use Rattle.tuned_listener.proofs.TunedListeners.{ready_writer, tells_behind, tells_cut, tells_nothing}
 use Rattle.tuned_listener.proofs.tuned.TunedListener.write_frames.Goals as goal
 

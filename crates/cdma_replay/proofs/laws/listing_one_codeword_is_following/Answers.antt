@@ -1,8 +1,0 @@
-use Rattle.cdma_replay.proofs.OneCodeword.{one_frame, one_codeword_follows}
-use Rattle.cdma_replay.proofs.laws.listing_one_codeword_is_following.Goals as goal
-
-pub returns-clause-frame : goal.returns-clause-frame
-returns-clause-frame c = one_frame
-
-pub returns-clause-text : goal.returns-clause-text
-returns-clause-text c = one_codeword_follows

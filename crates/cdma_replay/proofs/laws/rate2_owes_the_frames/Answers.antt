@@ -1,5 +1,0 @@
-use Rattle.cdma_replay.proofs.Owed.{rate2_owes}
-use Rattle.cdma_replay.proofs.laws.rate2_owes_the_frames.Goals as goal
-
-pub returns : goal.returns
-returns c = rate2_owes

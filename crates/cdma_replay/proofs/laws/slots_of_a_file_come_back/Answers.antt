@@ -1,5 +1,0 @@
-use Rattle.cdma_replay.proofs.SlotReplies.{file_slots}
-use Rattle.cdma_replay.proofs.laws.slots_of_a_file_come_back.Goals as goal
-
-pub returns : goal.returns
-returns c = file_slots

@@ -1,5 +1,0 @@
-use Rattle.cdma_replay.proofs.SleepLaw.{sleep_changes_no_reply}
-use Rattle.cdma_replay.proofs.laws.what_is_slept_through_changes_no_reply.Goals as goal
-
-pub returns : goal.returns
-returns c = sleep_changes_no_reply

@@ -1,0 +1,82 @@
+-- Who hears a file on the way: what was taken and told so far, and what is still to come.
+use Rattle.std.specs.Prelude.{◌≡◌, ℕ, ◌≤◌, List, [], ◌++◌, length, All, Option}
+use Rattle.std.specs.List.{flat_map}
+use Rattle.std.specs.Io.KnownBytes.{Appends, Consumes}
+use Rattle.chip_core.specs.declared.sample.Sample.{Sample}
+use Rattle.chip_core.specs.declared.width.Width.{Width}
+use Rattle.cdma_io.specs.SampleFile.{HasBits, sample_spelling}
+use Rattle.heard_events.specs.Events.{events}
+use Rattle.mobile_core.specs.Standing.{StandsFor, has_room}
+use Rattle.heard_events.specs.Tuning.{Tuning}
+use Rattle.heard_events.specs.declared.event.Event.{Event}
+use Rattle.mobile_core.specs.declared.mobile.Mobile.{Mobile}
+use Rattle.event_tap.specs.Taps.{KeptTap, run_taps, run_text}
+use Rattle.tuned_listener.specs.TunedListening.{ListensTuned, tuned_room}
+use Rattle.cdma_replay.specs.declared.listener.Listener.{Listener}
+use Rattle.cdma_replay.specs.declared.listener.Listener.TheVariants as by
+use Rattle.owed_replies.specs.Hearing.{ByFrames, ByTaps, Listening, Nobody, TellsMore, told}
+
+-- it has taken no sample and told nothing, and these taps are to hear it
+abbrev pub IsFresh : Listening → Listener → List KeptTap → Type 0
+IsFresh Nobody by.Nobody kept = Unit {0}
+IsFresh (ByTaps t taps) (by.Handset mobile) kept = StandsFor t mobile.value [] [] × (kept ≡ taps)
+IsFresh (ByFrames t channel text) (by.Tuned tuned) kept =
+    ListensTuned t channel text tuned.value []
+IsFresh l listener kept = ⊥
+
+-- a handset has taken these samples and given all that is heard in them, and these taps are kept
+-- behind that
+abbrev pub GivesAll : Tuning → List KeptTap → Mobile → List KeptTap → List Sample → Type 0
+GivesAll t taps mobile kept heard =
+    StandsFor t mobile heard (events t heard) × (kept ≡ run_taps taps (events t heard))
+
+-- it has taken these samples and told all of them, and these taps are kept behind them
+abbrev pub Listens : Listening → Listener → List KeptTap → List Sample → Type 0
+Listens Nobody by.Nobody kept heard = Unit {0}
+Listens (ByTaps t taps) (by.Handset mobile) kept heard = GivesAll t taps mobile.value kept heard
+Listens (ByFrames t channel text) (by.Tuned tuned) kept heard =
+    ListensTuned t channel text tuned.value heard
+Listens l listener kept heard = ⊥
+
+-- it takes just so many samples more
+abbrev pub HasRoom : Listener → ℕ → Type 0
+HasRoom by.Nobody count = Unit {0}
+HasRoom (by.Handset mobile) count = has_room mobile.value ≡ count
+HasRoom (by.Tuned tuned) count = tuned_room tuned.value ≡ count
+
+-- it takes so many samples more, or others too
+abbrev pub HasRoomFor : Listener → ℕ → Type 0
+HasRoomFor by.Nobody count = Unit {0}
+HasRoomFor (by.Handset mobile) count = count ≤ has_room mobile.value
+HasRoomFor (by.Tuned tuned) count = count ≤ tuned_room tuned.value
+
+-- it has taken no sample, and a sink got a text and what is told before any sample: the pilot,
+-- where taps hear a handset
+pub record BeginsBehind (text : List ℕ) (l : Listening) (listener : Listener)
+    (kept : List KeptTap) (old new : Option (List ℕ)) : Type 0 where
+  pub written : Appends old new (text ++ told l [])
+  pub listens : Listens l listener kept []
+
+-- a listener has taken these samples, and a sink got what is told of them beyond those before
+pub record Tells (l : Listening) (listener : Listener) (kept : List KeptTap)
+    (before heard : List Sample) (old new : Option (List ℕ)) : Type 0 where
+  pub more : TellsMore l before heard old new
+  pub listens : Listens l listener kept heard
+
+-- a handset has given these events behind others, and a sink got their text
+pub record HasTold (t : Tuning) (taps : List KeptTap) (mobile : Mobile) (kept : List KeptTap)
+    (given : List Event) (heard : List Sample) (old new : Option (List ℕ)) : Type 0 where
+  pub more : List Event
+  pub written : Appends old new (run_text (run_taps taps given) more)
+  pub stands : StandsFor t mobile heard (given ++ more)
+  pub behind : kept ≡ run_taps taps (given ++ more)
+
+-- a source lost the spellings of so many samples, and the listener heard them
+pub record HearsRest (l : Listening) (width : Width) (count : ℕ) (listener : Listener)
+    (kept : List KeptTap) (heard : List Sample) (rest left old new : Option (List ℕ)) :
+    Type 0 where
+  pub samples : List Sample
+  pub counted : length samples ≡ count
+  pub in_range : All (HasBits width) samples
+  pub consumed : Consumes rest left (flat_map (sample_spelling width) samples)
+  pub tells : Tells l listener kept heard (heard ++ samples) old new

@@ -1,0 +1,84 @@
+-- What is written of the frames of one channel behind the mark.
+use Rattle.std.specs.Prelude.{◌≤◌, ℕ, Bool, List, [], ◌∷◌, ◌++◌, length, ℤ, Option, None, Some}
+use Rattle.chip_core.specs.Air.{IsListLength}
+use Rattle.chip_core.specs.declared.check_form.CheckForm.{CheckForm}
+use Rattle.chip_core.specs.declared.sample.Sample.{Sample}
+use Rattle.event_tap.specs.FrameLines.{frame2_line, frame_line}
+use Rattle.frame_decoder.specs.declared.traffic.Decoded.{Decoded}
+use Rattle.listed_frame.specs.ListedFrames.{listed}
+use Rattle.rate_set_two.specs.TrafficFrames.{decoded2}
+use Rattle.heard_events.specs.Channels.{IsLawful}
+use Rattle.heard_events.specs.Marks.{mark}
+use Rattle.heard_events.specs.SoftFrames.{soft_frames}
+use Rattle.heard_events.specs.Tuning.{Tuning}
+use Rattle.heard_events.specs.declared.channel.Channel.{Channel}
+use Rattle.heard_events.specs.declared.mark.Mark.{Mark}
+use Rattle.heard_events.specs.declared.soft_frame.PowerControl.{PowerControl}
+use Rattle.heard_events.specs.declared.soft_frame.SoftFrame.{SoftFrame}
+use Rattle.event_tap.specs.Slots.{slot_more, slot_text}
+use Rattle.event_tap.specs.declared.tuned_text.TunedText.{TunedText}
+use Rattle.event_tap.specs.declared.tuned_text.TunedText.TheVariants.{Listed, RateSetTwo}
+use Rattle.event_tap.specs.declared.tuned_text.TunedText.TheVariants.{Slots}
+
+-- ---- the frames behind the mark, and their text
+
+-- none where no mark is set
+abbrev pub frames_from : Tuning → Channel → List Sample → Option Mark → List SoftFrame
+frames_from t channel samples None = []
+frames_from t channel samples (Some m) = soft_frames t channel m samples
+
+-- the frames of a channel that end within these samples, from the mark on that these set
+abbrev pub behind_mark : Tuning → Channel → List Sample → List SoftFrame
+behind_mark t channel samples = frames_from t channel samples (mark t samples (length samples))
+
+-- the line of a frame of rate set 2; one of a channel without power control bits has none
+abbrev pub rate2_text : ℕ → List ℤ → Option PowerControl → List ℕ
+rate2_text place descrambled None = []
+rate2_text place descrambled (Some power) =
+    frame2_line place (decoded2 power.replaced descrambled) power.power_bits
+
+-- the line of a frame of rate set 1, of which this was decoded
+abbrev pub decoded_line : ℕ → Decoded → List Bool → List ℕ
+decoded_line place frame power_bits =
+    frame_line place frame.rate frame.good frame.bits power_bits
+
+-- the line of a frame of rate set 1 with the first k codewords of a rate; one of a channel without
+-- power control bits has none
+abbrev pub listed_text : ℕ → ℕ → List ℤ → Option PowerControl → List ℕ
+listed_text k place descrambled None = []
+listed_text k place descrambled (Some power) =
+    decoded_line place (listed k power.replaced descrambled) power.power_bits
+
+-- what is written of a frame, where these are the frames of its slot up to it
+abbrev pub frame_text : TunedText → CheckForm → Mark → List SoftFrame → SoftFrame → List ℕ
+frame_text RateSetTwo check m slot frame = rate2_text frame.end frame.descrambled frame.power
+frame_text (Listed k) check m slot frame = listed_text k frame.end frame.descrambled frame.power
+frame_text (Slots key cycle) check m slot frame = slot_text key cycle check m slot frame
+
+-- what is written of frames in order, where these of a slot are kept from those before
+unfoldable pub frames_text : TunedText → CheckForm → Mark → List SoftFrame → List SoftFrame → List ℕ
+frames_text form check m kept [] = []
+frames_text form check m kept (frame ∷ frames) =
+    let slot = slot_more kept frame in
+    frame_text form check m slot frame ++ frames_text form check m slot frames
+
+-- the text of the frames behind a mark
+abbrev pub text_from : TunedText → Tuning → Channel → Mark → List Sample → List ℕ
+text_from form t channel m samples =
+    frames_text form t.check30 m [] (soft_frames t channel m samples)
+
+-- the same where none may be set
+abbrev pub text_behind : TunedText → Tuning → Channel → List Sample → Option Mark → List ℕ
+text_behind form t channel samples None = []
+text_behind form t channel samples (Some m) = text_from form t channel m samples
+
+-- what is written of all frames that end within these samples, from the mark on that these set
+unfoldable pub tuned_text : TunedText → Tuning → Channel → List Sample → List ℕ
+tuned_text form t channel samples =
+    text_behind form t channel samples (mark t samples (length samples))
+
+-- which channels have such a text
+abbrev pub IsLawfulTuned : Channel → TunedText → Type 0
+IsLawfulTuned channel RateSetTwo = IsLawful channel
+IsLawfulTuned channel (Listed k) = IsLawful channel × IsListLength k
+IsLawfulTuned channel (Slots key cycle) = IsLawful channel × (cycle ≤ 7)

@@ -1,0 +1,135 @@
+-- Lemmas on what is promised of a command: a run that does the task of the job that arguments name does
+-- their command, and so does one that moves nothing, of arguments that name none or for want of memory.
+use Rattle.owed_replies.proofs.Common.{◌≡◌, ◌↔◌, ℕ, ◌⊎◌, inl, inr, List, [], refl, sym, subst, arith, Option, None, Some, Appends-nil, Job}
+use Rattle.owed_replies.proofs.Common.{IsLawfulJob, Purpose, Status, Task, Receive, IsCut, IsEnd, IsLong, IsFileEnd, IsPurposeEnd}
+use Rattle.owed_replies.proofs.Common.{IsSearchEnd, IsEndOf, IsTaskEnd, IsVerdict, RunsCommand, RunsTask, task_of}
+use Rattle.command_line.specs.declared.job.Job.TheVariants.{Follow, Trial}
+use Rattle.owed_replies.proofs.Bounds.{none_most, unread_most}
+use Rattle.owed_replies.proofs.CleanLinks.{each_answer}
+use Rattle.owed_replies.proofs.CleanTexts.{clean_answer}
+use Rattle.owed_replies.proofs.Completed.{complete_answer}
+use Rattle.owed_replies.proofs.Replies.{named_well, same_job}
+use Rattle.owed_replies.proofs.TaskRuns.{exact_answer, run_of}
+use Rattle.owed_replies.specs.declared.purpose.Purpose.TheVariants as purposes
+
+-- ---- ends that each task has
+
+each_purpose : (purpose : Purpose) (status : Status) → IsSearchEnd status → IsFileEnd status →
+    IsPurposeEnd purpose status
+each_purpose (purposes.Follow options) status search file = file
+each_purpose (purposes.Tuned fingers channel text) status search file = file
+each_purpose purpose status search file = search
+
+pub write_fault_end : (task : Task) → IsTaskEnd task Status.WriteFault
+write_fault_end (Receive r limits) = each_purpose r.purpose Status.WriteFault tt tt
+write_fault_end task = tt
+
+no_memory_end : (task : Task) → IsTaskEnd task Status.NoMemory
+no_memory_end (Receive r limits) = each_purpose r.purpose Status.NoMemory tt tt
+no_memory_end task = tt
+
+-- ---- the task of the job that is named
+
+named_end : {P : Type 0} (task : Task) (status : Status) → IsTaskEnd task status →
+    status ≡ Status.BadWords → P
+named_end task status end bad = absurd (named_well task (subst (IsTaskEnd task) bad end))
+
+module _ {rest left : Option (List ℕ)} {misread misread_now : ℕ} {SameSource : Type 0}
+    {old new : Option (List ℕ)} {miswritten miswritten_now : ℕ} {SameSink : Type 0} where
+  pub command_run : {forms : List ℕ} {task : Task} {status : Status} {named : Option Job} {one : Job} →
+      IsLawfulJob one → task ≡ task_of one → named ≡ Some one →
+      RunsTask forms task status rest left misread misread_now SameSource old new miswritten
+      miswritten_now SameSink →
+      RunsCommand forms named status rest left misread misread_now SameSource old new miswritten
+      miswritten_now SameSink SameSink
+  command_run {forms} {task} {status} {named} {one} lawful is so ran =
+      let run = λ (job : Job) (also : named ≡ Some job). run_of job is so also ran in
+      let lawful_named = λ (job : Job) (also : named ≡ Some job).
+      subst IsLawfulJob (same_job named one job so also) lawful in
+      record {
+        bad_words = (named_end task status ran.kind, λ none. absurd (cc));
+        untouched = named_end task status ran.kind;
+        exact = λ job bytes held reply also.
+            exact_answer forms (task_of job) status (run job also) bytes held reply;
+        clean = λ width script bytes held plan span workers fingers paging traffic limits header
+            samples also told was file enough clean reads writes.
+            let job = Follow span workers fingers paging traffic limits in
+            each_answer width script plan span workers fingers paging traffic header samples clean
+            file.counted (lawful_named job also).3 _ bytes held status _ file enough
+            (λ reply owed. exact_answer _ _ _ (run job also) bytes held reply told was owed reads
+            writes);
+        all_distinct = λ width script bytes held plan span workers fingers paging traffic limits
+            header samples also told was file enough clean free follows reads writes.
+            let job = Follow span workers fingers paging traffic limits in
+            clean_answer _ width script bytes held plan span workers fingers paging traffic header
+            samples status _ file enough (lawful_named job also).3 clean free follows
+            (λ reply owed. exact_answer _ _ _ (run job also) bytes held reply told was owed reads
+            writes);
+        complete = λ job also. complete_answer forms (task_of job) status (run job also);
+        kind = λ job also. (run job also).kind;
+        verdict = λ job also. (run job also).verdict;
+        read_fault = ran.read_fault;
+        write_fault = λ job also. (run job also).write_fault;
+        memory = λ job also. (run job also).memory;
+        unread = λ job also. (run job also).unread;
+        trial = λ number workers also. (run (Trial number workers) also).trial number workers refl;
+        at_end = λ job also. (run job also).at_end;
+        early = ran.early;
+        header = ran.header;
+        bound = λ job also. (run job also).bound;
+        written = λ job also. (run job also).written;
+        cut = λ job also. (run job also).cut;
+        long = λ job also. (run job also).long;
+        later_source = ran.later_source;
+        later_sink = ran.later_sink;
+      }
+
+-- ---- nothing is moved
+
+-- arguments name no job, or memory ran out
+pub still_run : (forms : List ℕ) (named : Option Job) (status : Status) (rest old : Option (List ℕ))
+    (misread miswritten : ℕ) {SameSource SameSink Unwritten : Type 0} →
+    ((status ≡ Status.BadWords) ↔ (named ≡ None)) →
+    (status ≡ Status.BadWords) ⊎ (status ≡ Status.NoMemory) → SameSource → SameSink →
+    RunsCommand forms named status rest rest misread misread SameSource old old miswritten miswritten
+    SameSink Unwritten
+still_run forms named status rest old misread miswritten bad either source sink =
+    let want : (job : Job) → named ≡ Some job → status ≡ Status.NoMemory = λ job is.
+    elim either [
+      | inl words ↦ let none : named ≡ None = bad.0 words in absurd (cc)
+      | inr none ↦ none
+    ] in
+    let never : (other : Status) → status ≡ other → ¬ (other ≡ Status.BadWords) →
+    ¬ (other ≡ Status.NoMemory) → ⊥ = λ other is not_bad not_want.
+    elim either [
+      | inl words ↦ not_bad (cc)
+      | inr none ↦ not_want (cc)
+    ] in
+    record {
+      bad_words = bad;
+      untouched = λ is. (source, sink);
+      exact = λ job bytes held reply is told was owed reads writes. inl (want job is);
+      clean = λ width script bytes held plan span workers fingers paging traffic limits header
+          samples is told was file enough clean reads writes.
+          inl (want (Follow span workers fingers paging traffic limits) is);
+      all_distinct = λ width script bytes held plan span workers fingers paging traffic limits header
+          samples is told was file enough clean free follows reads writes.
+          inl (want (Follow span workers fingers paging traffic limits) is);
+      complete = λ job is well writes. inl (want job is);
+      kind = λ job is. subst (IsEndOf job) (sym (want job is)) (no_memory_end (task_of job));
+      verdict = λ job is verdict. absurd (subst IsVerdict (want job is) verdict);
+      read_fault = λ is. absurd (never Status.ReadFault is (λ s. cc) (λ s. cc));
+      write_fault = λ job is lost. absurd (never Status.WriteFault lost (λ s. cc) (λ s. cc));
+      memory = λ job is none. (sink, inl source);
+      unread = λ job is unread. source;
+      trial = λ number workers is done. absurd (never Status.Done done (λ s. cc) (λ s. cc));
+      at_end = λ job is reads end. absurd (subst IsEnd (want job is) end);
+      early = λ early. sink;
+      header = λ fault is header. none_most 16 rest;
+      bound = λ job is. unread_most (task_of job) rest;
+      written = λ job is. record { text = []; written = Appends-nil old; part = inl refl };
+      cut = λ job is cut. absurd (subst IsCut (want job is) cut);
+      long = λ job is long. absurd (subst IsLong (want job is) long);
+      later_source = omega arith;
+      later_sink = omega arith;
+    }

@@ -1,0 +1,13 @@
+pub mod BorneFiles
+pub mod Bounds
+pub mod CleanLinks
+pub mod CleanTexts
+pub mod Commands
+pub mod Common
+pub mod Completed
+pub mod Ends
+pub mod Files
+pub mod Replies
+pub mod Runs
+pub mod TaskRuns
+pub mod TuningLaw

@@ -1,0 +1,262 @@
+-- What a run owes: for each command and the bytes of its input, the text that is written of it and
+-- how the run ends, or the fault that it has.
+use Rattle.std.specs.Prelude.{◌≡◌, ◌≢◌, ℕ, ◌≤◌, ◌++◌, ◌⊎◌, List, [], length, Option, IsOk, None}
+use Rattle.std.specs.Prelude.{Some, Result, Ok, Err}
+use Rattle.std.specs.Io.{StartsWith}
+use Rattle.std.specs.Io.KnownBytes.{Appends}
+use Rattle.chip_core.specs.declared.sample.Sample.{Sample}
+use Rattle.cdma_io.specs.declared.file_fault.FileFault.{FileFault}
+use Rattle.cdma_io.specs.declared.file_fault.FileFault.TheVariants as file
+use Rattle.cdma_io.specs.declared.header.Header.{Header}
+use Rattle.chip_core.specs.declared.width.Width.{Width}
+use Rattle.cdma_io.specs.Outside.{ConsumesAtMost}
+use Rattle.cdma_io.specs.SampleFile.{IsSampleFile}
+use Rattle.cell_plan.specs.declared.plan.CellPlan.{CellPlan}
+use Rattle.cell_script.specs.declared.script_fault.ScriptFault.{ScriptFault}
+use Rattle.cell_script.specs.declared.script_fault.ScriptFault.TheVariants as script
+use Rattle.cell_script.specs.Script.{plan_named}
+use Rattle.event_tap.specs.Taps.{KeptTap, kept_by}
+use Rattle.command_line.specs.declared.job.Job.{Job}
+use Rattle.owed_replies.specs.declared.purpose.Purpose.{Purpose}
+use Rattle.owed_replies.specs.declared.purpose.Purpose.TheVariants as purposes
+use Rattle.owed_replies.specs.declared.reception.Reception.{Reception}
+use Rattle.owed_replies.specs.declared.status.Status.{Status}
+use Rattle.owed_replies.specs.declared.status.Status.TheVariants as ends
+use Rattle.owed_replies.specs.declared.task.Task.{Task}
+use Rattle.owed_replies.specs.declared.task.Task.TheVariants.{Make, Receive, Trial}
+use Rattle.owed_replies.specs.Broken.{WritesAll, WritesFirst}
+use Rattle.owed_replies.specs.Find.{BeginsFile, BeginsText, IsFaultIn, IsHeaderFault, IsSearchable}
+use Rattle.owed_replies.specs.Find.{TakesNoMore}
+use Rattle.owed_replies.specs.Hearing.{file_end_of, file_text}
+use Rattle.owed_replies.specs.Make.{BeginsMadeFile, made_file}
+use Rattle.owed_replies.specs.Tasks.{task_of}
+use Rattle.owed_replies.specs.Trials.{trial_line}
+
+-- ---- replies
+
+-- the whole text and how the run ends, or the fault that the run ends with
+abbrev pub Reply : Type 0
+Reply = Result (List ℕ × Status) Status
+
+-- the bytes are a sample file of as many samples as the span is or more, and this is its text and
+-- its end
+pub record IsWholeFile (taps : List KeptTap) (r : Reception) (bytes text : List ℕ)
+    (end : Status) : Type 0 where
+  pub header : Header
+  pub samples : List Sample
+  pub file : IsSampleFile bytes header samples
+  pub enough : r.span ≤ length samples
+  pub text_is : text ≡ file_text taps r header samples
+  pub end_is : end ≡ file_end_of r header samples
+
+-- the bytes have this fault as a file of so many samples or more
+pub record IsFaultyFile (span : ℕ) (bytes : List ℕ) (end : Status) : Type 0 where
+  pub fault : FileFault
+  pub is : IsFaultIn span bytes fault
+  pub end_is : end ≡ ends.BadFile fault
+
+abbrev pub IsFileReply : List KeptTap → Reception → List ℕ → Reply → Type 0
+IsFileReply taps r bytes (Ok whole) = IsWholeFile taps r bytes whole.0 whole.1
+IsFileReply taps r bytes (Err end) = IsFaultyFile r.span bytes end
+
+-- the bytes are a script that names a cell, and this is the cell's file
+pub record IsWholeScript (width : Width) (bytes text : List ℕ) (end : Status) : Type 0 where
+  pub plan : CellPlan
+  pub named : plan_named width bytes ≡ Ok plan
+  pub text_is : text ≡ made_file width plan
+  pub end_is : end ≡ ends.Done
+
+-- the bytes are a script with this fault
+pub record IsFaultyScript (width : Width) (bytes : List ℕ) (end : Status) : Type 0 where
+  pub fault : ScriptFault
+  pub is : plan_named width bytes ≡ Err fault
+  pub end_is : end ≡ ends.BadScript fault
+
+abbrev pub IsScriptReply : Width → List ℕ → Reply → Type 0
+IsScriptReply width bytes (Ok whole) = IsWholeScript width bytes whole.0 whole.1
+IsScriptReply width bytes (Err end) = IsFaultyScript width bytes end
+
+-- a trial has one line and one end, whatever its input
+abbrev pub IsTrialReply : ℕ → Reply → Type 0
+IsTrialReply number (Ok whole) = whole ≡ (trial_line number, ends.Done)
+IsTrialReply number (Err end) = ⊥
+
+-- ---- task by task
+
+-- the taps that hear a file, by the limits of their forms; there are none where they hear nothing
+abbrev pub taps_by : Option (List ℕ) → List ℕ → List KeptTap
+taps_by None forms = []
+taps_by (Some limits) forms = kept_by limits forms
+
+-- what a run over these bytes owes, with taps of these forms
+abbrev pub IsTaskReply : List ℕ → Task → List ℕ → Reply → Type 0
+IsTaskReply forms (Receive r limits) = IsFileReply (taps_by limits forms) r
+IsTaskReply forms (Make width) = IsScriptReply width
+IsTaskReply forms (Trial number workers) = λ bytes. IsTrialReply number
+
+-- what memory may run out behind, or a write fail behind: a good beginning of the input
+abbrev pub IsTaskPromising : Task → List ℕ → Type 0
+IsTaskPromising (Receive r limits) = BeginsFile r.span
+IsTaskPromising (Make width) = λ bytes. IsOk (plan_named width bytes)
+IsTaskPromising (Trial number workers) = λ bytes. Unit {0}
+
+-- a run that reads its input to the end, where it ends well; a trial reads nothing
+abbrev pub TaskReadsInput : Task → Type 0
+TaskReadsInput (Trial number workers) = ⊥
+TaskReadsInput task = Unit {0}
+
+-- what may have been written, whatever the answer: a beginning of the text of what the input begins
+-- with, and of no more than was taken of it
+abbrev pub TaskBegins : List ℕ → Task → Option (List ℕ) → Option (List ℕ) → List ℕ → Type 0
+TaskBegins forms (Receive r limits) = BeginsText (taps_by limits forms) r
+TaskBegins forms (Make width) = λ rest left text. BeginsMadeFile width rest text
+TaskBegins forms (Trial number workers) = λ rest left text. StartsWith (trial_line number) text
+
+-- what was written where the input breaks off, or a read failed: the text of the first of the
+-- samples that were taken; and nothing of a script, which is read before anything is written, as
+-- this type says
+abbrev pub TaskTellsFirst : List ℕ → Task → Type 0 → Option (List ℕ) → Option (List ℕ) →
+    Option (List ℕ) → Option (List ℕ) → Type 0
+TaskTellsFirst forms (Receive r limits) Unwritten = WritesFirst (taps_by limits forms) r
+TaskTellsFirst forms (Make width) Unwritten = λ rest left old new. Unwritten
+TaskTellsFirst forms (Trial number workers) Unwritten = λ rest left old new. Unit {0}
+
+-- and where it goes on behind its samples: their whole text
+abbrev pub TaskTellsAll : List ℕ → Task → Option (List ℕ) → Option (List ℕ) → Option (List ℕ) →
+    Type 0
+TaskTellsAll forms (Receive r limits) = WritesAll (taps_by limits forms) r
+TaskTellsAll forms task = λ rest old new. Unit {0}
+
+-- how many bytes are taken of the input at most, however the run ends: of a file a byte more than
+-- its header counts, of a script a byte more than it may have, and for a trial none
+abbrev pub TaskTakesNoMore : Task → Option (List ℕ) → Option (List ℕ) → Type 0
+TaskTakesNoMore (Receive r limits) = TakesNoMore
+TaskTakesNoMore (Make width) = λ rest left. ConsumesAtMost 1048577 rest left
+TaskTakesNoMore (Trial number workers) = λ rest left. ConsumesAtMost 0 rest left
+
+-- an input without a fault
+abbrev pub IsLawfulTaskInput : Task → List ℕ → Type 0
+IsLawfulTaskInput (Receive r limits) = λ bytes. IsSearchable bytes r.span
+IsLawfulTaskInput (Make width) = λ bytes. IsOk (plan_named width bytes)
+IsLawfulTaskInput (Trial number workers) = λ bytes. Unit {0}
+
+-- the input is known to have no fault, and no read of it failed; a trial has none
+abbrev pub TaskReadsWell : Task → Option (List ℕ) → Type 0 → Type 0
+TaskReadsWell (Trial number workers) rest Failed = Unit {0}
+TaskReadsWell task None Failed = ⊥
+TaskReadsWell task (Some bytes) Failed = IsLawfulTaskInput task bytes × ¬ Failed
+
+-- ---- ends
+
+-- an end of a run over a sample file
+abbrev pub IsFileEnd : Status → Type 0
+IsFileEnd ends.BadWords = ⊥
+IsFileEnd (ends.BadScript fault) = ⊥
+IsFileEnd (ends.BadFile fault) = fault ≢ file.ReadFault
+IsFileEnd status = Unit {0}
+
+-- and over one without a handset
+abbrev pub IsSearchEnd : Status → Type 0
+IsSearchEnd ends.NoSync = ⊥
+IsSearchEnd status = IsFileEnd status
+
+-- and over a script
+abbrev pub IsScriptEnd : Status → Type 0
+IsScriptEnd ends.BadWords = ⊥
+IsScriptEnd ends.NoSync = ⊥
+IsScriptEnd (ends.BadFile fault) = ⊥
+IsScriptEnd (ends.BadScript fault) = fault ≢ script.OutOfMemory
+IsScriptEnd status = Unit {0}
+
+-- and over no input
+abbrev pub IsTrialEnd : Status → Type 0
+IsTrialEnd ends.Done = Unit {0}
+IsTrialEnd ends.WriteFault = Unit {0}
+IsTrialEnd ends.NoMemory = Unit {0}
+IsTrialEnd status = ⊥
+
+-- the ends of a run over a sample file for a purpose
+abbrev pub IsPurposeEnd : Purpose → Status → Type 0
+IsPurposeEnd purposes.Find = IsSearchEnd
+IsPurposeEnd (purposes.Survey base width top) = IsSearchEnd
+IsPurposeEnd purpose = IsFileEnd
+
+-- the ends of a task
+abbrev pub IsTaskEnd : Task → Status → Type 0
+IsTaskEnd (Receive r limits) = IsPurposeEnd r.purpose
+IsTaskEnd (Make width) = IsScriptEnd
+IsTaskEnd (Trial number workers) = IsTrialEnd
+
+-- ---- command by command
+
+-- each of these of a job is that of its task; `follow` alone uses the taps
+
+abbrev pub IsReply : List ℕ → Job → List ℕ → Reply → Type 0
+IsReply forms job = IsTaskReply forms (task_of job)
+
+abbrev pub IsPromising : Job → List ℕ → Type 0
+IsPromising job = IsTaskPromising (task_of job)
+
+abbrev pub ReadsInput : Job → Type 0
+ReadsInput job = TaskReadsInput (task_of job)
+
+abbrev pub Begins : List ℕ → Job → Option (List ℕ) → Option (List ℕ) → List ℕ → Type 0
+Begins forms job = TaskBegins forms (task_of job)
+
+abbrev pub TellsFirst : List ℕ → Job → Type 0 → Option (List ℕ) → Option (List ℕ) →
+    Option (List ℕ) → Option (List ℕ) → Type 0
+TellsFirst forms job = TaskTellsFirst forms (task_of job)
+
+abbrev pub TellsAll : List ℕ → Job → Option (List ℕ) → Option (List ℕ) → Option (List ℕ) → Type 0
+TellsAll forms job = TaskTellsAll forms (task_of job)
+
+abbrev pub BoundsInput : Job → Option (List ℕ) → Option (List ℕ) → Type 0
+BoundsInput job = TaskTakesNoMore (task_of job)
+
+abbrev pub IsLawfulInput : Job → List ℕ → Type 0
+IsLawfulInput job = IsLawfulTaskInput (task_of job)
+
+abbrev pub ReadsWell : Job → Option (List ℕ) → Type 0 → Type 0
+ReadsWell job = TaskReadsWell (task_of job)
+
+abbrev pub IsEndOf : Job → Status → Type 0
+IsEndOf job = IsTaskEnd (task_of job)
+
+-- ---- answers
+
+-- an end that tells of the input: of all of it, or of its fault
+abbrev pub IsVerdict : Status → Type 0
+IsVerdict ends.Done = Unit {0}
+IsVerdict ends.NoSync = Unit {0}
+IsVerdict (ends.BadFile fault) = Unit {0}
+IsVerdict (ends.BadScript fault) = Unit {0}
+IsVerdict status = ⊥
+
+-- a fault that shows before anything is written
+abbrev pub IsEarlyFault : Status → Type 0
+IsEarlyFault (ends.BadFile fault) = IsHeaderFault fault
+IsEarlyFault (ends.BadScript fault) = Unit {0}
+IsEarlyFault status = ⊥
+
+-- a run answered this, and the sink's bytes grew by it; of a fault only the end is fixed
+abbrev pub Answers : Reply → Status → Option (List ℕ) → Option (List ℕ) → Type 0
+Answers (Ok whole) status old new = (status ≡ whole.1) × Appends old new whole.0
+Answers (Err end) status old new = status ≡ end
+
+-- the sink held these bytes
+abbrev pub AnswersBehind : List ℕ → Reply → Status → Option (List ℕ) → Type 0
+AnswersBehind held (Ok whole) status new = (status ≡ whole.1) × (new ≡ Some (held ++ whole.0))
+AnswersBehind held (Err end) status new = status ≡ end
+
+-- a run answered what it owes
+pub record IsAnswered (owes : Reply → Type 0) (status : Status) (old new : Option (List ℕ)) :
+    Type 0 where
+  pub reply : Reply
+  pub owed : owes reply
+  pub answers : Answers reply status old new
+
+-- known bytes grew by nothing, or by such a text
+pub record WritesPart (begins : List ℕ → Type 0) (old new : Option (List ℕ)) : Type 0 where
+  pub text : List ℕ
+  pub written : Appends old new text
+  pub part : (text ≡ []) ⊎ begins text

@@ -1,0 +1,104 @@
+-- What a run promises that receives a sample file, makes one, or does a task. It ends so, over a
+-- source that told these bytes and then tells those that are left, and a sink that told these and
+-- then those; of each, numbers are its counts of faults before and after, and a type says that it
+-- is as it was.
+use Rattle.std.specs.Prelude.{◌≡◌, ◌≢◌, ℕ, ◌≤◌, ◌⊎◌, List, Option, IfSome, IsOk, Err}
+use Rattle.std.specs.Io.KnownBytes.{Appends, IsAtEnd}
+use Rattle.chip_core.specs.declared.width.Width.{Width}
+use Rattle.cdma_io.specs.Outside.{ConsumesAtMost, Rose}
+use Rattle.cdma_io.specs.declared.file_fault.FileFault.{FileFault}
+use Rattle.cdma_io.specs.declared.file_fault.FileFault.TheVariants as file
+use Rattle.cell_script.specs.declared.script_fault.ScriptFault.{ScriptFault}
+use Rattle.cell_script.specs.declared.script_fault.ScriptFault.TheVariants as script
+use Rattle.cell_script.specs.Script.{plan_named}
+use Rattle.event_tap.specs.Taps.{KeptTap}
+use Rattle.owed_replies.specs.declared.reception.Reception.{Reception}
+use Rattle.owed_replies.specs.declared.status.Status.{Status}
+use Rattle.owed_replies.specs.declared.status.Status.TheVariants as ends
+use Rattle.owed_replies.specs.declared.task.Task.{Task}
+use Rattle.owed_replies.specs.declared.task.Task.TheVariants.{Trial}
+use Rattle.owed_replies.specs.Broken.{IsCut, IsLong, WritesAll, WritesFirst}
+use Rattle.owed_replies.specs.Find.{BeginsFile, IsEnd, IsFaultIn, IsHeaderFault, IsOfFiles}
+use Rattle.owed_replies.specs.Find.{IsSearchable, TakesNoMore, WritesNoMore, WritesText}
+use Rattle.owed_replies.specs.Hearing.{IsUnheard}
+use Rattle.owed_replies.specs.Make.{WritesMadeFile, WritesNoMoreMade}
+use Rattle.owed_replies.specs.Replies.{IsAnswered, IsEarlyFault, IsTaskEnd, IsTaskPromising}
+use Rattle.owed_replies.specs.Replies.{IsTaskReply, IsVerdict, TaskBegins, TaskReadsInput}
+use Rattle.owed_replies.specs.Replies.{TaskTakesNoMore, TaskTellsAll, TaskTellsFirst, WritesPart}
+use Rattle.owed_replies.specs.Trials.{trial_line}
+
+-- a sample file was received, with these taps
+pub record ReceivesFile (taps : List KeptTap) (r : Reception) (status : Status)
+    (rest left : Option (List ℕ)) (misread misread_now : ℕ) (SameSource : Type 0)
+    (old new : Option (List ℕ)) (miswritten miswritten_now : ℕ) (SameSink : Type 0) : Type 0 where
+  pub done : IsEnd status → IfSome rest (λ bytes. WritesText taps r status bytes old new)
+  pub at_end : IsEnd status → IsAtEnd left
+  pub others : IsOfFiles status
+  pub memory : status ≡ ends.NoMemory → SameSink
+  pub early : status ≡ ends.NoMemory → SameSource ⊎ IfSome rest (BeginsFile r.span)
+  pub alone : IsUnheard r.purpose → status ≢ ends.NoSync
+  pub bad_file : (fault : FileFault) → status ≡ ends.BadFile fault →
+      (fault ≢ file.ReadFault) × IfSome rest (λ bytes. ¬ (IsSearchable bytes r.span))
+  pub place : (fault : FileFault) → status ≡ ends.BadFile fault →
+      IfSome rest (λ bytes. IsFaultIn r.span bytes fault)
+  pub read_fault : status ≡ ends.ReadFault → Rose misread misread_now
+  pub write_fault : status ≡ ends.WriteFault → Rose miswritten miswritten_now
+  pub begun : status ≡ ends.WriteFault → IfSome rest (BeginsFile r.span)
+  pub header : (fault : FileFault) → status ≡ ends.BadFile fault → IsHeaderFault fault → SameSink
+  pub header_alone : (fault : FileFault) → status ≡ ends.BadFile fault → IsHeaderFault fault →
+      ConsumesAtMost 16 rest left
+  pub bound : TakesNoMore rest left
+  pub written : WritesNoMore taps r rest left old new
+  pub cut : IsCut status → WritesFirst taps r rest left old new
+  pub long : IsLong status → WritesAll taps r rest old new
+  pub later_source : misread ≤ misread_now
+  pub later_sink : miswritten ≤ miswritten_now
+
+-- the file of a script's cell was made
+pub record MakesFile (width : Width) (status : Status)
+    (rest left : Option (List ℕ)) (misread misread_now : ℕ) (SameSource : Type 0)
+    (old new : Option (List ℕ)) (miswritten miswritten_now : ℕ) (SameSink : Type 0) : Type 0 where
+  pub done : status ≡ ends.Done → IfSome rest (λ bytes. WritesMadeFile width bytes old new)
+  pub at_end : status ≡ ends.Done → IsAtEnd left
+  pub others : (status ≢ ends.NoSync) × (status ≢ ends.BadWords) ×
+      ((fault : FileFault) → status ≢ ends.BadFile fault)
+  pub memory : status ≡ ends.NoMemory → SameSink
+  pub early : status ≡ ends.NoMemory →
+      SameSource ⊎ IfSome rest (λ bytes. IsOk (plan_named width bytes))
+  pub bad_script : (fault : ScriptFault) → status ≡ ends.BadScript fault →
+      (fault ≢ script.OutOfMemory) × SameSink ×
+      IfSome rest (λ bytes. plan_named width bytes ≡ Err fault)
+  pub read_fault : status ≡ ends.ReadFault → Rose misread misread_now
+  pub unwritten : status ≡ ends.ReadFault → SameSink
+  pub write_fault : status ≡ ends.WriteFault → Rose miswritten miswritten_now
+  pub lawful : status ≡ ends.WriteFault → IfSome rest (λ bytes. IsOk (plan_named width bytes))
+  pub written : WritesNoMoreMade width rest old new
+  pub bound : ConsumesAtMost 1048577 rest left
+  pub later_source : misread ≤ misread_now
+  pub later_sink : miswritten ≤ miswritten_now
+
+-- a task was done, with taps of these forms
+pub record RunsTask (forms : List ℕ) (task : Task) (status : Status)
+    (rest left : Option (List ℕ)) (misread misread_now : ℕ) (SameSource : Type 0)
+    (old new : Option (List ℕ)) (miswritten miswritten_now : ℕ) (SameSink : Type 0) : Type 0 where
+  pub kind : IsTaskEnd task status
+  pub verdict : IsVerdict status →
+      IfSome rest (λ bytes. IsAnswered (IsTaskReply forms task bytes) status old new)
+  pub read_fault : status ≡ ends.ReadFault → Rose misread misread_now
+  pub write_fault : status ≡ ends.WriteFault →
+      Rose miswritten miswritten_now × IfSome rest (IsTaskPromising task)
+  pub memory : status ≡ ends.NoMemory →
+      SameSink × (SameSource ⊎ IfSome rest (IsTaskPromising task))
+  pub early : IsEarlyFault status → SameSink
+  pub header : (fault : FileFault) → status ≡ ends.BadFile fault → IsHeaderFault fault →
+      ConsumesAtMost 16 rest left
+  pub at_end : TaskReadsInput task → IsEnd status → IsAtEnd left
+  pub unread : ¬ (TaskReadsInput task) → SameSource
+  pub bound : TaskTakesNoMore task rest left
+  pub trial : (number workers : ℕ) → task ≡ Trial number workers → status ≡ ends.Done →
+      Appends old new (trial_line number)
+  pub written : WritesPart (TaskBegins forms task rest left) old new
+  pub cut : IsCut status → TaskTellsFirst forms task SameSink rest left old new
+  pub long : IsLong status → TaskTellsAll forms task rest old new
+  pub later_source : misread ≤ misread_now
+  pub later_sink : miswritten ≤ miswritten_now

@@ -1,0 +1,10 @@
+pub mod Common
+pub mod MadeLinks
+pub mod NearPaths
+pub mod NoisyReplies
+pub mod OneCodeword
+pub mod Owed
+pub mod SentLines
+pub mod SentReplies
+pub mod SleepLaw
+pub mod SlotReplies

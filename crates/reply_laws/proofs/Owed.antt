@@ -1,0 +1,225 @@
+-- Each input is owed a reply, the number of workers changes none, and what each command owes.
+use Rattle.reply_laws.proofs.Common.{◌≡◌, ℕ, zero, suc, ◌*◌, ◌+◌, ◌≤◌, ◌++◌, inl, inr, List, [], ◌∷◌, length, take, drop, refl, sym, ap}
+use Rattle.reply_laws.proofs.Common.{◌∙◌, arith, All, append-nil, length-drop, length-take-le, take-append-drop, Result, Ok, Err, cases_lt}
+use Rattle.reply_laws.proofs.Common.{All-cons, flat_map, read_sfits, Sample, Width, Eight, Sixteen, HasBits, IsSampleFile, bits_of}
+use Rattle.reply_laws.proofs.Common.{header_spelling, opening, sample_len, sample_spelling, width_of, FileFault, Extra, Short, TooFew}
+use Rattle.reply_laws.proofs.Common.{Header, AreBytes, AreBytes-drop, AreBytes-from_all, AreBytes-take, opening-ok, sample_bytes, sample_in}
+use Rattle.reply_laws.proofs.Common.{plan_named, CellPlan, ScriptFault, KeptTap, Channel, TunedText, IsFaultIn, file_end, ByFrames}
+use Rattle.reply_laws.proofs.Common.{best_pilot, file_end_of, file_text, told, tuning_for, waiting, made_file, IsFileReply, IsScriptReply}
+use Rattle.reply_laws.proofs.Common.{IsTaskReply, IsWholeFile, Reply, taps_by, EachInputIsOwed, FindOwesThePilot, FollowOwesTheEvents}
+use Rattle.reply_laws.proofs.Common.{IdleOwesTheSlots, ListOwesTheFrames, MakeOwesTheFile, Rate2OwesTheFrames, SurveyOwesTheRanks}
+use Rattle.reply_laws.proofs.Common.{TrialOwesItsLine, WorkersChangeNoReply, hearing, task_of, trial_line, Reception, Status, Task, Make}
+use Rattle.reply_laws.proofs.Common.{Receive, Trial}
+use Rattle.owed_replies.proofs.Files.{none_within}
+use Rattle.owed_replies.proofs.Replies.{whole_file}
+use Rattle.command_line.specs.declared.job.Job.TheVariants as jobs
+
+-- ---- bytes are those of samples
+
+record Spells (width : Width) (n : ℕ) (bytes : List ℕ) : Type 0 where
+  samples : List Sample
+  counted : length samples ≡ n
+  in_range : All (HasBits width) samples
+  spelled : bytes ≡ flat_map (sample_spelling width) samples
+
+none_left : (bytes : List ℕ) → length bytes ≡ 0 → bytes ≡ []
+none_left [] none = refl
+none_left (b ∷ bs) none = absurd (omega (arith, none))
+
+nothing : (width : Width) → sample_len width * 0 ≡ 0
+nothing Sixteen = refl
+nothing Eight = refl
+
+one_more : (width : Width) (n : ℕ) → sample_len width * suc n ≡ sample_len width + sample_len width * n
+one_more Sixteen n = omega arith
+one_more Eight n = omega arith
+
+has_bits : (width : Width) (bytes : List ℕ) → HasBits width (sample_in width bytes)
+has_bits width bytes = record {
+  in_phase = read_sfits (bits_of width) _;
+  quadrature = read_sfits (bits_of width) _;
+}
+
+spells : (width : Width) (n : ℕ) (bytes : List ℕ) → AreBytes bytes →
+    length bytes ≡ sample_len width * n → Spells width n bytes
+spells width zero bytes small long = record {
+  samples = [];
+  counted = refl;
+  in_range = none_within width;
+  spelled = none_left bytes (long ∙ nothing width);
+}
+spells width (suc n) bytes small long =
+    let l = sample_len width in
+    let front = take l bytes in
+    let back = drop l bytes in
+    let room : l ≤ length bytes = omega (arith, long, one_more width n) in
+    let less : length back ≡ l * n = omega (arith, long, one_more width n, length-drop l bytes) in
+    let more = spells width n back (AreBytes-drop l bytes small) less in
+    let first = sample_in width front in
+    record {
+      samples = first ∷ more.samples;
+      counted = ap suc more.counted;
+      in_range = All-cons (HasBits width) first more.samples (has_bits width front) more.in_range;
+      spelled =
+          sym (take-append-drop l bytes)
+          ∙ ap (λ (xs : List ℕ). xs ++ back)
+          (sample_bytes width front (length-take-le l bytes room) (AreBytes-take l bytes small))
+          ∙ ap (λ (xs : List ℕ). sample_spelling width first ++ xs) more.spelled;
+    }
+
+-- ---- each input is owed a reply
+
+faulty : {taps : List KeptTap} {r : Reception} {bytes : List ℕ} (fault : FileFault) →
+    IsFaultIn r.span bytes fault →
+    (reply : Reply) × IsFileReply taps r bytes reply
+faulty fault is =
+    (Err (Status.BadFile fault), record { fault = fault; is = is; end_is = refl })
+
+opened_owed : (taps : List KeptTap) (r : Reception) (bytes : List ℕ) (header : Header) →
+    AreBytes bytes → opening bytes ≡ Ok header → (reply : Reply) × IsFileReply taps r bytes reply
+opened_owed taps r bytes header small is =
+    let opened = opening-ok bytes header small is in
+    elim (cases_lt header.count r.span) [
+      | inl few ↦ faulty (TooFew header.count) (inr (header, is, (refl, few)))
+      | inr enough ↦ elim (cases_lt (length bytes) (file_end header)) [
+        | inl short ↦ faulty (Short (length bytes)) (inr (header, is, (enough, refl, short)))
+        | inr longer ↦ elim (cases_lt (file_end header) (length bytes)) [
+          | inl long ↦ faulty (Extra (file_end header)) (inr (header, is, (enough, refl, long)))
+          | inr just ↦
+              let rest : length (drop 16 bytes) ≡ sample_len (width_of header) * header.count =
+              omega (arith, longer, just, length-drop 16 bytes) in
+              let s =
+              spells (width_of header) header.count (drop 16 bytes) (AreBytes-drop 16 bytes small) rest
+              in (
+                Ok (file_text taps r header s.samples, file_end_of r header s.samples),
+                whole_file (record {
+                  lawful = opened.lawful;
+                  counted = s.counted;
+                  in_range = s.in_range;
+                  spelled =
+                      opened.spelled
+                      ∙ ap (λ (xs : List ℕ). header_spelling header ++ xs) s.spelled;
+                }) (omega (arith, enough, s.counted)),
+              )
+        ]
+      ]
+    ]
+
+file_owed : (taps : List KeptTap) (r : Reception) (bytes : List ℕ) (due : Result Header FileFault) →
+    AreBytes bytes → opening bytes ≡ due → (reply : Reply) × IsFileReply taps r bytes reply
+file_owed taps r bytes (Ok header) small is = opened_owed taps r bytes header small is
+file_owed taps r bytes (Err fault) small is = faulty fault (inl is)
+
+script_owed : (width : Width) (bytes : List ℕ) (due : Result CellPlan ScriptFault) →
+    plan_named width bytes ≡ due → (reply : Reply) × IsScriptReply width bytes reply
+script_owed width bytes (Ok plan) is = (
+  Ok (made_file width plan, Status.Done),
+  record { plan = plan; named = is; text_is = refl; end_is = refl },
+)
+script_owed width bytes (Err fault) is =
+    (Err (Status.BadScript fault), record { fault = fault; is = is; end_is = refl })
+
+task_owed : (forms : List ℕ) (task : Task) (bytes : List ℕ) → AreBytes bytes →
+    (reply : Reply) × IsTaskReply forms task bytes reply
+task_owed forms (Receive r limits) bytes small =
+    file_owed (taps_by limits forms) r bytes (opening bytes) small refl
+task_owed forms (Make width) bytes small =
+    script_owed width bytes (plan_named width bytes) refl
+task_owed forms (Trial number workers) bytes small = (Ok (trial_line number, Status.Done), refl)
+
+pub each_owed : EachInputIsOwed
+each_owed forms job bytes small = task_owed forms (task_of job) bytes (AreBytes-from_all bytes small)
+
+-- ---- the number of workers changes no reply
+
+abbrev shared_by : ℕ → Reception → Reception
+shared_by n r = record { span = r.span; workers = n; purpose = r.purpose }
+
+shared_text : (taps : List KeptTap) (r : Reception) (n : ℕ) (header : Header)
+    (samples : List Sample) → file_text taps r header samples ≡ file_text taps (shared_by n r) header samples
+unfolding file_text
+shared_text taps r n header samples = refl
+
+shared_end : (r : Reception) (n : ℕ) (header : Header) (samples : List Sample) →
+    file_end_of r header samples ≡ file_end_of (shared_by n r) header samples
+unfolding file_end_of
+shared_end r n header samples = refl
+
+shared : (taps : List KeptTap) (r : Reception) (n : ℕ) (bytes : List ℕ) (reply : Reply) →
+    IsFileReply taps r bytes reply → IsFileReply taps (shared_by n r) bytes reply
+shared taps r n bytes (Ok all) w = record {
+  header = w.header;
+  samples = w.samples;
+  file = w.file;
+  enough = w.enough;
+  text_is = w.text_is ∙ shared_text taps r n w.header w.samples;
+  end_is = w.end_is ∙ shared_end r n w.header w.samples;
+}
+shared taps r n bytes (Err end) f = f
+
+pub workers_change_nothing : WorkersChangeNoReply
+workers_change_nothing forms (jobs.Make width) n bytes reply owed = owed
+workers_change_nothing forms (jobs.Trial number workers) n bytes reply owed = owed
+workers_change_nothing forms other n bytes reply owed =
+    shared _ _ n bytes reply owed
+
+-- ---- what each command owes
+
+-- a text by another name
+named : {taps : List KeptTap} {r : Reception} {bytes text also : List ℕ} {end : Status} →
+    text ≡ also → IsWholeFile taps r bytes text end → IsWholeFile taps r bytes also end
+named is w = record {
+  header = w.header;
+  samples = w.samples;
+  file = w.file;
+  enough = w.enough;
+  text_is = sym is ∙ w.text_is;
+  end_is = w.end_is;
+}
+
+pub find_owes : FindOwesThePilot
+unfolding file_text file_end_of told best_pilot
+find_owes forms span workers bytes header samples file enough =
+    named (append-nil _) (whole_file file enough)
+
+pub follow_owes : FollowOwesTheEvents
+unfolding file_text file_end_of told
+follow_owes forms span workers options limits bytes header samples file enough = whole_file file enough
+
+frames_owed : (span workers fingers : ℕ) (channel : Channel) (text : TunedText) (bytes : List ℕ)
+    (header : Header) (samples : List Sample) → IsSampleFile bytes header samples →
+    span ≤ length samples →
+    IsFileReply [] (hearing span workers fingers channel text) bytes
+    (Ok (
+      told (ByFrames (tuning_for header
+          (take span samples) (waiting fingers)) channel text) samples,
+      file_end_of (hearing span workers fingers channel text) header samples,
+    ))
+unfolding file_text
+frames_owed span workers fingers channel text bytes header samples file enough = whole_file file enough
+
+pub rate2_owes : Rate2OwesTheFrames
+unfolding file_end_of told
+rate2_owes span workers fingers offset esn row forms bytes header samples file enough =
+    frames_owed span workers fingers _ _ bytes header samples file enough
+
+pub list_owes : ListOwesTheFrames
+unfolding file_end_of told
+list_owes span workers fingers offset esn row k forms bytes header samples file enough =
+    frames_owed span workers fingers _ _ bytes header samples file enough
+
+pub idle_owes : IdleOwesTheSlots
+unfolding file_end_of told
+idle_owes span workers fingers paging key cycle forms bytes header samples file enough =
+    frames_owed span workers fingers _ _ bytes header samples file enough
+
+pub survey_owes : SurveyOwesTheRanks
+unfolding file_text file_end_of told
+survey_owes forms span workers base width top bytes header samples file enough =
+    named (append-nil _) (whole_file file enough)
+
+pub make_owes : MakeOwesTheFile
+make_owes forms width bytes plan is = record { plan = plan; named = is; text_is = refl; end_is = refl }
+
+pub trial_owes : TrialOwesItsLine
+trial_owes forms number workers bytes = refl

@@ -1,0 +1,240 @@
+-- The lines of a traffic channel's frames come back.
+use Rattle.reply_laws.proofs.Common.{◌≡◌, ◌≤◌, ℕ, ◌*◌, ◌%◌, refl, sym, ap, ◌∙◌, subst, arith, List, [], ◌∷◌, length, take, Bool, Option, ℤ}
+use Rattle.reply_laws.proofs.Common.{None, Some, Contains, flat_map, flat_map-map, CheckForm, Sample, Width, traffic_mask, decoded2}
+use Rattle.reply_laws.proofs.Common.{frames_of, cycled_frame, frame_state, set_one, HandsetOptions, Header, IsTrafficFrame, CellPlan}
+use Rattle.reply_laws.proofs.Common.{TrafficPlan, TrafficFrame, TrafficFrame2, event_line, frame2_line, traffic_channel, mark, soft_frames}
+use Rattle.reply_laws.proofs.Common.{frame_event, Tuning, Mark, Traffic, SoftFrame, IsReceivable, frame_ends, received_frames, replaced_of}
+use Rattle.reply_laws.proofs.Common.{sent_bits, sent_power_bits, codeword_symbols, IsAssigned, SendsSetOne, SendsSetTwo, SendsSymbols}
+use Rattle.reply_laws.proofs.Common.{cycled_frame2, AreReceived, told_with_sync, power_pairs, one_taken, one_there, Decoded, lawful_traffic}
+use Rattle.reply_laws.proofs.Common.{set_one_sends, listed_texts, rate2_texts, decoded_line, frames_text, listed_text, rate2_text}
+use Rattle.reply_laws.proofs.Common.{text_behind, tuned_text, TunedText, Listed, RateSetTwo, tuning_for, AreSentLines, IsLineOfSetOne}
+use Rattle.reply_laws.proofs.Common.{IsLineOfSetTwo, IsSentLine, IsSentLine2, IsSentText, LinesComeBack, ListedLinesComeBack}
+use Rattle.reply_laws.proofs.Common.{SetTwoLinesComeBack, named_receivable, Bears, Decoded2, HoldsBehindMark, IsReceivedBySigns}
+use Rattle.reply_laws.proofs.Common.{IsSentFrame2BySigns, noisy_frames_behind_mark, noisy_set_two_behind_mark, signs_frame_listed}
+use Rattle.reply_laws.proofs.Common.{untold_in, good_frame}
+use Rattle.listed_frame.specs.ListedFrames.{listed}
+use Rattle.owed_replies.proofs.BorneFiles.{IsBorneFile, cell_borne, long, none_on_traffic, path, shows, sync_there}
+
+-- ---- any frames
+
+-- what is written of frames one after the other is this line of each, whatever their slots
+abbrev IsLineByLine : TunedText → (SoftFrame → List ℕ) → Type 0
+IsLineByLine form line = (check : CheckForm) (m : Mark) (frames : List SoftFrame) →
+    frames_text form check m [] frames ≡ flat_map line frames
+
+-- In a file whose sync channel bears its noise: where the frames after a mark are those of which
+-- this is true, and the line of one of them is one of which that is true, the text is of such lines.
+module _ (e : ℕ) (width : Width) (plan : CellPlan) (p : TrafficPlan) (span : ℕ)
+    (options : HandsetOptions) (traffic : Traffic) (header : Header) (samples : List Sample)
+    (file : IsBorneFile e width plan span options.fingers header samples)
+    (form : TunedText) (line : SoftFrame → List ℕ) (lines : IsLineByLine form line)
+    (Says : ℕ → SoftFrame → Type 0) (Is : ℕ → List ℕ → Type 0)
+    (all : (m : Mark) →
+    mark (tuning_for header (take span samples) options) samples (length samples) ≡ Some m →
+    AreReceived plan p Says
+    (soft_frames (tuning_for header (take span samples) options) (traffic_channel traffic) m samples))
+    (back : (frame : ℕ) (soft : SoftFrame) → Says frame soft → Is frame (line soft))
+  where
+    abbrev t : Tuning
+    t = tuning_for header (take span samples) options
+
+    -- after the mark that is set, and where none is
+    behind_last : (last : Option Mark) → mark t samples (length samples) ≡ last →
+        IsSentText plan p Is (told_with_sync plan plan.sync)
+        (text_behind form t (traffic_channel traffic) samples last)
+    behind_last None unset =
+        let on = path options file in
+        let count : length samples ≡ t.count = long options file ∙ sym on.count in
+        let none =
+        untold_in (shows options file) on plan.sync refl
+        (ap (mark t samples) (sym count) ∙ unset) in
+        subst (λ (told : Option ℕ). IsSentText plan p Is told []) (sym none) refl
+    behind_last (Some m) set =
+        let some = all m set in
+        let text = text_behind form t (traffic_channel traffic) samples (Some m) in
+        let sent : AreSentLines plan p Is some.superframes text = record {
+          line = λ frame. line (some.soft frame);
+          each = lines t.check30 m (soft_frames t (traffic_channel traffic) m samples)
+              ∙ ap (flat_map line) some.each
+              ∙ flat_map-map line some.soft
+              (received_frames plan p (98304 * some.superframes));
+          are = λ frame received. back frame (some.soft frame) (some.are frame received);
+        } in
+        subst (λ (told : Option ℕ). IsSentText plan p Is told text) (sym some.told) sent
+
+    text_back : IsSentText plan p Is (told_with_sync plan plan.sync)
+        (tuned_text form t (traffic_channel traffic) samples)
+    unfolding tuned_text
+    text_back = behind_last (mark t samples (length samples)) refl
+
+-- so of each channel that bears the noise
+abbrev pub BorneLinesComeBack : TunedText → (TrafficPlan → Type 0) →
+    (CellPlan → TrafficPlan → ℕ → List ℕ → Type 0) → Type 0
+BorneLinesComeBack form Sends Is = (e : ℕ) (width : Width) (plan : CellPlan) (p : TrafficPlan)
+    (span : ℕ) (options : HandsetOptions) (traffic : Traffic) (header : Header)
+    (samples : List Sample) → IsBorneFile e width plan span options.fingers header samples →
+    Bears plan p.gain e → Contains plan.traffic p → IsAssigned p traffic → Sends p →
+    IsSentText plan p (Is plan p) (told_with_sync plan plan.sync)
+    (tuned_text form (tuning_for header (take span samples) options) (traffic_channel traffic)
+    samples)
+
+-- of whose frames something is true after a mark
+borne_lines : (form : TunedText) (line : SoftFrame → List ℕ) → IsLineByLine form line →
+    (Sends : TrafficPlan → Type 0) (Is : CellPlan → TrafficPlan → ℕ → List ℕ → Type 0)
+    (Says : CellPlan → TrafficPlan → ℕ → SoftFrame → Type 0) →
+    HoldsBehindMark (λ plan p frames. Sends p → AreReceived plan p (Says plan p) frames) →
+    ((width : Width) (plan : CellPlan) (p : TrafficPlan) (frame : ℕ) (soft : SoftFrame) →
+    IsReceivable width plan → Contains plan.traffic p → Sends p → Says plan p frame soft →
+    Is plan p frame (line soft)) →
+    BorneLinesComeBack form Sends Is
+borne_lines form line lines Sends Is Says behind back e width plan p span options traffic header
+    samples file bears has assigned some =
+    text_back e width plan p span options traffic header samples file form line lines (Says plan p)
+    (Is plan p)
+    (λ m set.
+    let (sync, is) = sync_there options file m set in
+    behind width plan sync p e samples (tuning_for header (take span samples) options) traffic m is
+    bears (path options file) has assigned set some)
+    (λ frame soft says. back width plan p frame soft file.near.receivable has some says)
+
+-- a file that holds what a script's cell sends has no noise
+of_cell : (form : TunedText) (Sends : TrafficPlan → Type 0)
+    (Is : CellPlan → TrafficPlan → ℕ → List ℕ → Type 0) → BorneLinesComeBack form Sends Is →
+    LinesComeBack form Sends Is
+of_cell form Sends Is borne width script plan p span options traffic header samples file counted has
+    assigned some =
+    borne 0 width plan p span options traffic header samples
+    (cell_borne file counted) (none_on_traffic (named_receivable width script plan file.named) has)
+    has assigned some
+
+-- ---- frames of rate set 1
+
+-- one of them is sent at each number
+frame_there : (width : Width) (plan : CellPlan) (p : TrafficPlan) (frame : ℕ) →
+    IsReceivable width plan → Contains plan.traffic p → SendsSetOne p → (f : TrafficFrame)
+    × (cycled_frame (frames_of plan p) frame ≡ f ∷ []) × IsTrafficFrame f
+frame_there width plan p frame is has some =
+    let frames = set_one p.frames in
+    let (f, here) = one_there frames (frame % length frames) (omega (arith, some)) in (
+      f,
+      here,
+      one_taken IsTrafficFrame frames (frame % length frames) f
+          (lawful_traffic width plan p is.lawful has).sized.one here,
+    )
+
+-- what it shows by its signs is shown of whatever is sent
+abbrev ShowsSent : CellPlan → TrafficPlan → ℕ → SoftFrame → Type 0
+ShowsSent plan p frame soft = (symbols power_bits : List Bool) →
+    SendsSymbols plan p frame symbols power_bits →
+    IsReceivedBySigns plan p frame symbols power_bits soft
+
+-- the line of what is decoded is that of its event
+pub line_of_event : (n : ℕ) (decoded : Decoded) (power_bits : List Bool) →
+    decoded_line n decoded power_bits ≡ event_line (frame_event n decoded power_bits)
+unfolding event_line
+line_of_event n decoded power_bits = refl
+
+-- what is listed of a frame
+abbrev pub listed_of : ℕ → SoftFrame → List ℕ
+listed_of k soft = listed_text k soft.end soft.descrambled soft.power
+
+-- the line of one that comes back
+listed_back : (k : ℕ) → 1 ≤ k → (plan : CellPlan) (p : TrafficPlan) (frame : ℕ) (f : TrafficFrame)
+    (soft : SoftFrame) → IsTrafficFrame f →
+    IsReceivedBySigns plan p frame (codeword_symbols f) f.power_bits soft →
+    IsSentLine plan p frame f (listed_of k soft)
+listed_back k most plan p frame f soft sized received =
+    let few = (power_pairs (frame_state (frames_of plan p) frame) (traffic_mask p.esn)).long in
+    let shown = received.shown in
+    let replaced = replaced_of plan p frame in
+    let ends = frame_ends plan p frame in
+    let spelled : listed_of k soft ≡
+    event_line (frame_event ends (listed k replaced soft.descrambled) (sent_power_bits f)) =
+    ap (listed_text k soft.end soft.descrambled) received.powered
+    ∙ ap (λ (n : ℕ). decoded_line n (listed k replaced soft.descrambled) (sent_bits f.power_bits))
+    received.ends
+    ∙ line_of_event ends (listed k replaced soft.descrambled) (sent_bits f.power_bits) in
+    record {
+      decoded = listed k replaced soft.descrambled;
+      spelled = spelled;
+      back = λ distinct.
+          spelled
+          ∙ ap (λ (d : Decoded). event_line (frame_event ends d (sent_power_bits f)))
+          (signs_frame_listed k replaced f.rate f.information soft.descrambled most
+          (omega (arith, few)) shown.long sized shown.keeps distinct);
+    }
+
+listed_line : (k : ℕ) → 1 ≤ k → (width : Width) (plan : CellPlan) (p : TrafficPlan) (frame : ℕ)
+    (soft : SoftFrame) → IsReceivable width plan → Contains plan.traffic p → SendsSetOne p →
+    ShowsSent plan p frame soft → IsLineOfSetOne plan p frame (listed_of k soft)
+listed_line k most width plan p frame soft is has some shows =
+    let (f, here, sized) = frame_there width plan p frame is has some in (
+      f,
+      here,
+      listed_back k most plan p frame f soft sized
+          (shows (codeword_symbols f) f.power_bits (set_one_sends plan p frame f here)),
+    )
+
+-- ---- frames of rate set 2
+
+-- what is received of one
+abbrev IsSent2 : CellPlan → TrafficPlan → ℕ → SoftFrame → Type 0
+IsSent2 plan p frame soft = (f : TrafficFrame2)
+    × (cycled_frame2 (frames_of plan p) frame ≡ f ∷ []) × IsSentFrame2BySigns plan p frame f soft
+
+-- what is written of a frame
+abbrev rate2_of : SoftFrame → List ℕ
+rate2_of soft = rate2_text soft.end soft.descrambled soft.power
+
+-- the line of what is decoded has no score
+of_any_score : (place : ℕ) (f : TrafficFrame2) (score other : ℤ) (power_bits : List Bool) →
+    frame2_line place (good_frame f.rate f.information score) power_bits
+    ≡ frame2_line place (good_frame f.rate f.information other) power_bits
+unfolding frame2_line
+of_any_score place f score other power_bits = refl
+
+-- the line of one that comes back
+line_back : (plan : CellPlan) (p : TrafficPlan) (frame : ℕ) (f : TrafficFrame2)
+    (soft : SoftFrame) → IsSentFrame2BySigns plan p frame f soft →
+    IsSentLine2 plan p frame f (rate2_of soft)
+line_back plan p frame f soft sent =
+    let decoded = decoded2 (replaced_of plan p frame) soft.descrambled in
+    let ends = frame_ends plan p frame in
+    let spelled : rate2_of soft ≡ frame2_line ends decoded (sent_bits f.power_bits) =
+    ap (rate2_text soft.end soft.descrambled) sent.received.powered
+    ∙ ap (λ (n : ℕ). frame2_line n decoded (sent_bits f.power_bits)) sent.received.ends in
+    record {
+      decoded = decoded;
+      spelled = spelled;
+      back = λ distinct.
+          let back = sent.decoded distinct in
+          spelled
+          ∙ ap (λ (d : Decoded2). frame2_line ends d (sent_bits f.power_bits)) back.same
+          ∙ of_any_score ends f back.score _ (sent_bits f.power_bits);
+    }
+
+set_two_line : (plan : CellPlan) (p : TrafficPlan) (frame : ℕ) (soft : SoftFrame) →
+    IsSent2 plan p frame soft → IsLineOfSetTwo plan p frame (rate2_of soft)
+set_two_line plan p frame soft (f, here, sent) = (f, here, line_back plan p frame f soft sent)
+
+-- ---- the laws
+
+pub listed_borne : (k : ℕ) → 1 ≤ k → BorneLinesComeBack (Listed k) SendsSetOne IsLineOfSetOne
+listed_borne k most =
+    borne_lines (Listed k) (listed_of k) (λ check m frames. listed_texts check m [] frames k)
+    SendsSetOne IsLineOfSetOne ShowsSent
+    (λ width plan sync p e samples t traffic m is bears on has assigned set some.
+    noisy_frames_behind_mark width plan sync p e samples t traffic m is bears on has assigned set)
+    (listed_line k most)
+
+pub set_two_borne : BorneLinesComeBack RateSetTwo SendsSetTwo IsLineOfSetTwo
+set_two_borne =
+    borne_lines RateSetTwo rate2_of (λ check m frames. rate2_texts check m [] frames) SendsSetTwo
+    IsLineOfSetTwo IsSent2 noisy_set_two_behind_mark
+    (λ width plan p frame soft is has some sent. set_two_line plan p frame soft sent)
+
+pub listed_lines : ListedLinesComeBack
+listed_lines k most = of_cell (Listed k) SendsSetOne IsLineOfSetOne (listed_borne k most)
+
+pub set_two_lines : SetTwoLinesComeBack
+set_two_lines = of_cell RateSetTwo SendsSetTwo IsLineOfSetTwo set_two_borne

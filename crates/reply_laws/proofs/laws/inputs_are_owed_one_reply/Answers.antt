@@ -1,0 +1,5 @@
+use Rattle.owed_replies.proofs.Replies.{one_reply}
+use Rattle.reply_laws.proofs.laws.inputs_are_owed_one_reply.Goals as goal
+
+pub returns : goal.returns
+returns c = one_reply

@@ -1,0 +1,8 @@
+pub mod MadeLaws
+pub mod NoisyReplies
+pub mod OneCodeword
+pub mod ReplyLaws
+pub mod SentLines
+pub mod SentReplies
+pub mod SleepLaw
+pub mod SlotReplies
