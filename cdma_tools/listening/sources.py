@@ -206,23 +206,27 @@ class ServerReader:
     def take(self, data: bytes) -> None:
         """Adds bytes to the backlog; where that is full they are left out, and a whole sample is the next one taken."""
         self.since = time.monotonic()
-        size = self.server.sample_bytes
-        first = -self.received % size if self.lost else 0
+        first = -self.received % self.server.sample_bytes if self.lost else 0
         self.received += len(data)
         rest = data[first:]
-        if self.lost and rest and self.backlog.has_room(len(rest)):
-            lost = -(-(self.lost + first) // size)
-            self.backlog.put(Skipped(lost, f"the lock fell behind {self.server.name}"))
-            self.lost = 0
-        elif self.lost:
+        if self.lost and not (rest and self.backlog.has_room(len(rest))):
             self.lost += len(data)
             return
+        self.tell_lost(first)
         if not self.backlog.put(rest, may_wait=False):
             self.lost += len(rest)
+
+    def tell_lost(self, more: int = 0) -> None:
+        """Says what was left out, and so many bytes more of a sample that isn't whole."""
+        if self.lost:
+            samples = -(-(self.lost + more) // self.server.sample_bytes)
+            self.backlog.put(Skipped(samples, f"the lock fell behind {self.server.name}"))
+            self.lost = 0
 
     def reach_again(self, why: str) -> None:
         """Tries to reach the server until it is there again."""
         self.connection.close()
+        self.tell_lost()
         self.backlog.put(Told(f"{self.server.name} is gone: {why}; it is tried again every {RETRY:.0f} s"))
         while not self.backlog.is_stopped.wait(RETRY):
             since = self.since
@@ -231,6 +235,6 @@ class ServerReader:
             except OSError:
                 continue
             away = self.since - since
-            self.received = self.lost = 0
+            self.received = 0
             self.backlog.put(Skipped(round(away * self.server.rate), f"{self.server.name} was away for {away:.1f} s"))
             return

@@ -15,6 +15,7 @@ import time
 import unittest
 import xml.etree.ElementTree
 
+from tools.tests.cluster_helping import started, started_scheduler, started_worker, wait_for
 from tools.tests.helping import EXAMPLES, NO_PROGRAM, PROGRAM, PYTHON, ROOT, TOOLS, example, needs, temporary_folder
 
 needs("numpy", "scipy", "matplotlib", "distributed")
@@ -32,8 +33,6 @@ FRAMES_A_FILE = 6
 FRAMES = 36
 BATCHES = 12
 SECONDS = 240
-# A worker's or a scheduler's command, as docs/CURVES.md has it.
-SERVER = [PYTHON, "-B", "-m"]
 ENDS = ("lost", "marked_bad", "bad_but_right", "other_rate", "wrong_but_good")
 
 
@@ -109,14 +108,6 @@ class Curves(unittest.TestCase):
         finally:
             base.close()
 
-    def wait_for(self, condition, ended):
-        """Waits until a condition holds; it must before a process ends."""
-        until = time.monotonic() + SECONDS
-        while not condition():
-            self.assertIsNone(ended.poll(), "the run ended too soon")
-            self.assertLess(time.monotonic(), until, "too slow")
-            time.sleep(0.05)
-
     def begun(self, words):
         """A run that has counted a batch; what it says is read later. It hears an interrupt though the tests themselves
         run by a shell that has it ignored."""
@@ -126,19 +117,12 @@ class Curves(unittest.TestCase):
 
         child = subprocess.Popen(words, stdout=subprocess.DEVNULL, stderr=subprocess.PIPE, text=True, preexec_fn=heard)
         self.addCleanup(child.stderr.close)
-        self.wait_for(lambda: self.batches() >= 1, child)
+        wait_for(lambda: self.batches() >= 1, child)
         return child
 
-    def start(self, words, **more):
+    def start(self, words):
         """A process of its own, which ends with the test."""
-        child = subprocess.Popen(words, stdout=subprocess.DEVNULL, stderr=subprocess.DEVNULL, cwd=ROOT, **more)
-
-        def end():
-            child.kill()
-            child.wait()
-
-        self.addCleanup(end)
-        return child
+        return started(words, self.addCleanup)
 
 
 class Counts(Curves):
@@ -234,7 +218,7 @@ class Broken(Curves):
     def test_a_killed_run_goes_on_where_it_was(self):
         slow = self.program("fake", "slow")
         child = self.start(self.words("--workers", "2", maker=slow))
-        self.wait_for(lambda: self.batches() >= 3, child)
+        wait_for(lambda: self.batches() >= 3, child)
         child.send_signal(signal.SIGKILL)
         child.wait()
         self.assertLess(self.batches(), BATCHES)
@@ -268,35 +252,18 @@ class Broken(Curves):
 class Cluster(Curves):
     def scheduler(self):
         """A scheduler of its own on this machine, and its address."""
-        path = self.at("scheduler.json")
-        child = self.start(
-            [*SERVER, "distributed.cli.dask_scheduler", "--host", "127.0.0.1", "--port", "0", "--no-dashboard",
-             "--scheduler-file", path]
-        )  # fmt: skip
-
-        def address():
-            try:
-                with open(path, encoding="ascii") as file:
-                    return json.load(file)["address"]
-            except (OSError, ValueError):
-                return None
-
-        self.wait_for(address, child)
-        return child, address()
+        return started_scheduler(self.folder, self.addCleanup)
 
     def worker(self, address):
         """A worker of its own on this machine."""
-        return self.start(
-            [*SERVER, "distributed.cli.dask_worker", address, "--nthreads", "1", "--no-nanny", "--no-dashboard",
-             "--local-directory", self.folder]
-        )  # fmt: skip
+        return started_worker(address, self.folder, self.addCleanup)
 
     def test_a_worker_that_dies_loses_nothing_and_counts_nothing_twice(self):
         slow = self.program("fake", "slow")
         _, address = self.scheduler()
         first, second = self.worker(address), self.worker(address)
         child = self.start(self.words("--scheduler", address, maker=slow))
-        self.wait_for(lambda: self.batches() >= 2, child)
+        wait_for(lambda: self.batches() >= 2, child)
         first.send_signal(signal.SIGKILL)
         self.assertEqual(child.wait(timeout=SECONDS), 0)
         self.assertIsNone(second.poll())
@@ -345,7 +312,7 @@ class Faults(Curves):
         os.chmod(bad, 0o755)
         words = self.words("--receiver", bad, frames=600)
         child = self.start(words)
-        self.wait_for(lambda: self.batches() >= 2, child)
+        wait_for(lambda: self.batches() >= 2, child)
         open(flag, "w", encoding="ascii").close()
         self.assertEqual(child.wait(timeout=SECONDS), 1)
         self.assertGreaterEqual(self.batches(), 2)

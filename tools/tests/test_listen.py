@@ -7,6 +7,7 @@ import importlib.util
 import json
 import math
 import os
+import random
 import re
 import signal
 import socket
@@ -15,11 +16,13 @@ import threading
 import time
 import unittest
 import unittest.mock
+import warnings
 from collections import Counter
 from typing import Any, ClassVar
 
 import numpy
 
+from tools.tests.cluster_helping import started_scheduler, started_worker
 from tools.tests.helping import NO_PROGRAM, PROGRAM, PYTHON, ROOT, needs, temporary_folder
 from tools.tests.radio_helping import run_main
 from tools.tests.listening_cell import (
@@ -28,12 +31,15 @@ from tools.tests.listening_cell import (
 
 needs("numpy", "scipy")
 
-from cdma_tools.listening.events import Event
+from cdma_tools.cluster import connected
+from cdma_tools.listening.events import Collected, Event
+from cdma_tools.listening.follow_run import Handset
 from cdma_tools.listening.line_writer import Already, LineWriter
-from cdma_tools.listening.listening import Anchor
+from cdma_tools.listening.listening import Anchor, Listening
 from cdma_tools.listening.parts import Joiner, Part, PartHeard, Recording, part_at, parts_of
+from cdma_tools.listening.pieces import Unheard
 from cdma_tools.listening.sharing import joined_parts
-from cdma_tools.listening.sources import Backlog
+from cdma_tools.listening.sources import Backlog, ServerReader, Skipped, server_of
 from cdma_tools.listening.stream_lock import LockOptions
 
 SECONDS = float(os.environ.get("CDMA_LISTEN_SECONDS", "20"))
@@ -136,6 +142,20 @@ class ListenTest(unittest.TestCase):
             status, lines, said = listen(*STREAM, self.path, *HANDSET, *self.parts, "--workers", workers)
             self.assertEqual((status, said), (0, self.said))
             self.assertTrue(lines == self.lines, workers)
+
+    @unittest.skipUnless(importlib.util.find_spec("distributed"), "no distributed: install python3-distributed")
+    def test_workers_of_a_scheduler_write_the_same(self) -> None:
+        """A scheduler and two workers, each a process of its own."""
+        _, address = started_scheduler(self.folder, self.addCleanup)
+        for _ in range(2):
+            started_worker(address, self.folder, self.addCleanup)
+        with warnings.catch_warnings():
+            warnings.simplefilter("ignore")  # of what dask itself uses
+            with connected(address, 0) as client:
+                client.wait_for_workers(2, timeout=60)
+        status, lines, said = listen(*STREAM, self.path, *HANDSET, *self.parts, "--scheduler", address)
+        self.assertEqual((status, said), (0, self.said))
+        self.assertTrue(lines == self.lines)
 
     def test_streams_of_three_types(self) -> None:
         parts = numpy.frombuffer(self.data, dtype=numpy.uint8)[: 2 * int(OTHER_SECONDS * RATE)]
@@ -537,8 +557,55 @@ class RuleTest(unittest.TestCase):
             self.assertEqual(len(wrote), 4)
 
 
+class SilenceTest(unittest.TestCase):
+    """What is said of a stream in which no pilot stands out."""
+
+    def test_a_line_a_minute(self) -> None:
+        heard = Collected()
+        listening = Listening(LockOptions("cu8", float(RATE)), Handset("/no/program"), heard)
+        for number in range(84):
+            listening.take(Unheard(2.4 * number, 2.4 * (number + 1)))
+        seconds = [remark.seconds for remark in heard.remarks]
+        self.assertEqual(len(seconds), 4)
+        self.assertTrue(all(60 <= after - before < 63 for before, after in zip(seconds, seconds[1:])), seconds)
+        self.assertIn("half are searched, and half left out", heard.remarks[0].text)
+        self.assertRegex(heard.remarks[-1].text, r"^no pilot has stood out for 1\d\d s$")
+
+
 class BacklogTest(unittest.TestCase):
     """What waits for the lock."""
+
+    def test_what_finds_no_room_is_counted(self) -> None:
+        """Samples that tell their own numbers: those that come and those that are told to be missing are all."""
+        backlog, draws, place = Backlog(1 << 14), random.Random(1), 0
+        server = Server([b""])
+        reader = ServerReader(server_of(server.address, RATE, 2, None), backlog)
+        self.addCleanup(reader.connection.close)
+        data = (numpy.arange(400_000) % 65_536).astype("<u2").tobytes()
+        came = lost = begin = 0
+        while begin < len(data):
+            size = draws.randrange(1, 9_000)
+            reader.take(data[begin : begin + size])
+            begin += size
+            while backlog.items and draws.random() < 0.3:
+                came, lost = self.taken(backlog, came, lost)
+        reader.tell_lost()
+        while backlog.items:
+            came, lost = self.taken(backlog, came, lost)
+        self.assertEqual(came + lost, 2 * 400_000)
+        self.assertTrue(came > 100_000 and lost > 100_000, (came, lost))
+
+    def taken(self, backlog: Backlog, came: int, lost: int) -> tuple[int, int]:
+        """The bytes that have come and those that are missing, with the next item, whose place they tell."""
+        item = backlog.get()
+        if isinstance(item, Skipped):
+            return came, (came + lost) // 2 * 2 + 2 * item.samples - came  # half a sample is forgotten
+        assert isinstance(item, bytes)
+        numbers = (came + lost + numpy.arange(len(item))) // 2 % 65_536
+        odd = (came + lost + numpy.arange(len(item))) % 2 == 1
+        wanted = numpy.where(odd, numbers >> 8, numbers & 255)
+        self.assertTrue(numpy.array_equal(numpy.frombuffer(item, dtype=numpy.uint8), wanted))
+        return came + len(item), lost
 
     def test_it_is_bounded_in_bytes(self) -> None:
         backlog = Backlog(10)
