@@ -43,6 +43,11 @@ class Pursuit(Tracker):
         """Chips for which the pilot hasn't been heard."""
         return self.next - self.heard
 
+    @property
+    def first_node(self) -> float:
+        """The chip of the first node: nodes are as far apart as steps, and so each step has the last point of one."""
+        return self.points[0].chip - (TOGETHER - 1) * STRIDE
+
     def due(self) -> NDArray[numpy.int64]:
         """The first chips of the segments that are taken next: one by one at first, then two of every eight."""
         if self.taken < CLOSE:

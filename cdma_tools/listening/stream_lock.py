@@ -250,7 +250,7 @@ class StreamLock:
         power = float(numpy.mean([point.power for point in pursuit.points]))
         self.scale = ROOT_MEAN_SQUARE[1] / math.sqrt(max(power, 1e-30))
         fit = pursuit.fit(self.has_equaliser, self.options.fingers)
-        first = pursuit.points[0].chip
+        first = pursuit.first_node
         pursuit.timeline = Timeline(float(fit.offset.derivative(first)), fit.shift)
         pursuit.add_node(first)
         if self.origin is None:
@@ -298,7 +298,7 @@ class StreamLock:
         end, begin = part_ways(self.chip_front, before, after)
         yield from self.emit_before_loss(lost, end)
         new.timeline = Timeline(self.missing.slope, lost.timeline.shift)
-        new.add_node(new.points[0].chip)
+        new.add_node(new.first_node)
         if begin > self.out:
             yield Lost(self.out, begin - self.out, float(before.times(end)) / CHIP_RATE)
         self.out, self.missing, self.state = max(begin, self.out), None, State.FOLLOWING

@@ -11,7 +11,6 @@ import resource
 import signal
 import sqlite3
 import subprocess
-import time
 import unittest
 import xml.etree.ElementTree
 

@@ -1,13 +1,15 @@
 """Tests of the lock that streams, over recordings that are made without the program."""
 
+import json
+import subprocess
 import unittest
 from typing import ClassVar
 
 import numpy
 from numpy.typing import NDArray
 
-from tools.tests.helping import needs
-from tools.tests.radio_helping import PERIOD, PHASE, Recordings, run_main, signal_to_noise
+from tools.tests.helping import PYTHON, ROOT, needs
+from tools.tests.radio_helping import PERIOD, PHASE, Recordings, read_chips, run_main, signal_to_noise
 
 needs("numpy", "scipy")
 
@@ -126,6 +128,39 @@ class LockTest(Recordings):
         assert wanted is not None
         kinds = [type(piece) for piece in wanted if not isinstance(piece, Unheard)]
         self.assertEqual(kinds, [Chips, Lost, Chips, Break, Chips])
+
+    def test_chips_come_in_time(self) -> None:
+        """Once the lock is there, a chip is out 0.3 seconds after its samples at most, counted in samples."""
+        lock, late = narrow(), list[float]()
+        for place in range(0, len(self.data), 2 * RATE // 100):
+            pieces = list(lock.feed(self.data[place : place + 2 * RATE // 100]))
+            if late or any(isinstance(piece, Chips) for piece in pieces):
+                late.append(lock.seconds - (lock.out - (lock.origin or 0)) / CHIP_RATE)
+        self.assertGreater(len(late), 50)
+        self.assertLess(max(late), 0.3)
+
+    def test_overload_is_that_of_the_lock_of_a_file(self) -> None:
+        """At a level near full scale, and with bursts far above it, no more of the pilot is lost than in a file."""
+        meta = self.recorded("--type", "cu8", "--level", -1, "--carrier", 900, "--clock", 3, "--ec-io", -9)
+        path = meta.replace(".sigmf-meta", ".sigmf-data")
+        samples = numpy.fromfile(path, dtype=numpy.uint8)
+        for place in range(RATE, len(samples), RATE // 3):
+            samples[place : place + 4_000] = numpy.resize([255, 255, 0, 0], 4_000)
+        samples.tofile(path)
+        found = self.locked(meta, "--search", 3_000)
+        share = ec_io(int(found["phase"]), read_chips(self.at("out.is95")))
+        first, chips = joined(taken(narrow(), samples.tobytes(), BLOCK))
+        self.assertLess(abs(ec_io(first, chips) - share), 0.05)
+        self.assertGreater(len(chips), 2.9 * CHIP_RATE)
+
+    def test_memory_of_the_process(self) -> None:
+        """All that a process of its own has at most, of samples at 2.4 million a second."""
+        path = self.at("shared.sigmf-data")
+        words = ["-m", "cdma_tools.listening.measuring", "cu8", RATE, path, self.at("chips.is95"), 1]
+        ran = subprocess.run([PYTHON, "-B", *map(str, words)], cwd=ROOT, capture_output=True, check=True)
+        figures = json.loads(ran.stdout)
+        self.assertGreater(figures["chips"], 2.9 * CHIP_RATE)
+        self.assertLess(figures["megabytes"], 250)
 
     def test_losses_are_counted_by_the_code(self) -> None:
         """Of whole periods only the rest is told; chips on both sides are those that were sent."""
