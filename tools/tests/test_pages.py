@@ -1,0 +1,197 @@
+"""The commands of the pages are run as a reader would, in an empty folder, and what the pages show of it is compared.
+
+A command stands as `    $ COMMAND` in a page, with what it writes below; a line of `.. and so on` there stands for lines
+that are left out. The folder has links to what a checkout has, and is else empty, so that each command finds just what
+earlier ones of its page made. An HTML comment before a block marks it: `not run: WHY` is never run here, `by hand: WHY` is
+run where ROLVENST_PAGES=all, and `status: N` says with which status the block's last command ends. docs/LESSON.md, whose
+commands are all shown with all that they write, has a test of its own.
+"""
+
+import os
+import re
+import subprocess
+import unittest
+from dataclasses import dataclass, field
+
+from tools.tests.helping import NO_PROGRAM, PROGRAM, PYTHON, ROOT, needs, temporary_folder
+
+needs("numpy", "scipy", "matplotlib", "plotly", "tqdm", "distributed", "markupsafe")
+
+PAGES = ("README.md", "docs/GUIDE.md", "docs/RADIO.md", "docs/CURVES.md", "docs/FORMATS.md")
+LINKED = ("cdma_tools", "conformance", "docs", "examples", "model", "tools")
+IS_WHOLE = os.environ.get("ROLVENST_PAGES") == "all"
+MARK = re.compile(r"<!-- (not run|by hand|status): (.+) -->")
+LEFT_OUT = ".. and "
+SECONDS = 900
+# What the radio of a reader records: `-` is standard output, and else the last argument is the file.
+RADIO = '#!/bin/sh\nfor file; do :; done\nif [ "$file" = - ]; then cat "$AIR"; else cat "$AIR" > "$file"; fi\n'
+
+
+@dataclass
+class Command:
+    """A command of a page: its line, what the page shows of what it writes, its block's mark, and its status."""
+
+    text: str
+    shown: list[str] = field(default_factory=list)
+    mark: tuple[str, str] | None = None
+    status: int = 0
+
+    def take(self, line: str) -> None:
+        """A line below the command: an open quotation mark goes on with it, else it is shown."""
+        if self.text.count('"') % 2:
+            self.text += "\n" + line
+        else:
+            self.shown.append(line)
+
+
+def commands_of(text: str) -> list[Command]:
+    """The commands of a page, in order. What is fenced by no command, as a diagram, is none."""
+    found: list[Command] = []
+    mark: tuple[str, str] | None = None
+    is_open = False
+    for line in text.splitlines():
+        told = MARK.fullmatch(line)
+        if told:
+            mark = (told[1], told[2])
+        elif line.startswith("    $ "):
+            found.append(Command(line[6:], mark=mark))
+            is_open = True
+        elif line.startswith("    ") and is_open:
+            found[-1].take(line[4:])
+        elif line and is_open:
+            close_block(found, mark)
+            mark, is_open = None, False
+    close_block(found, mark)
+    return found
+
+
+def close_block(found: list[Command], mark: tuple[str, str] | None) -> None:
+    """A mark of a status goes for the last command of its block."""
+    if mark and mark[0] == "status" and found:
+        found[-1].status = int(mark[1])
+
+
+def pattern_of(shown: list[str]) -> str:
+    """What a command's lines have to match: each line as it is, and any lines for those that are left out."""
+    return "".join(r"(?:.*\n)+" if line.startswith(LEFT_OUT) else re.escape(line) + "\n" for line in shown)
+
+
+class Parts(unittest.TestCase):
+    """How a page is read."""
+
+    def test_commands_and_marks(self) -> None:
+        page = (
+            "text\n\n    $ one \"a\n    b\"\n    said\n    .. and more\n\n<!-- by hand: long -->\n\n    $ two\n\n"
+            "text\n\n    figure\n\n<!-- status: 1 -->\n\n    $ three\n    $ four\n\nend\n\n    $ five\n"
+        )
+        found = [(one.text, one.shown, one.mark and one.mark[0], one.status) for one in commands_of(page)]
+        wanted = [
+            ('one "a\nb"', ["said", ".. and more"], None, 0),
+            ("two", [], "by hand", 0),
+            ("three", [], "status", 0),
+            ("four", [], "status", 1),
+            ("five", [], None, 0),
+        ]
+        self.assertEqual(found, wanted)
+
+    def test_lines_that_are_left_out(self) -> None:
+        pattern = pattern_of(["a+b", ".. and one more"])
+        self.assertRegex("a+b\nc\nd\n", rf"\A{pattern}\Z")
+        self.assertNotRegex("aab\nc\n", rf"\A{pattern}\Z")
+        self.assertNotRegex("a+b\n", rf"\A{pattern}\Z")
+
+
+@unittest.skipUnless(PROGRAM, NO_PROGRAM)
+class Pages(unittest.TestCase):
+    """Each page in a folder of its own."""
+
+    def setUp(self) -> None:
+        self.folder = temporary_folder(self.addCleanup)
+        self.bin = temporary_folder(self.addCleanup)
+        for name in LINKED:
+            os.symlink(os.path.join(ROOT, name), os.path.join(self.folder, name))
+        os.symlink(os.path.abspath(str(PROGRAM)), os.path.join(self.bin, "cdma_replay"))
+        radio = os.path.join(self.bin, "rtl_sdr")
+        with open(radio, "w", encoding="ascii") as file:
+            file.write(RADIO)
+        os.chmod(radio, 0o755)
+        self.environment = dict(
+            os.environ,
+            PATH=f"{self.bin}:{os.environ['PATH']}",
+            PYTHONDONTWRITEBYTECODE="1",
+            AIR=os.path.join(self.bin, "air.cu8"),
+        )
+        self.environment.pop("CDMA_REPLAY")
+
+    def ran(self, command: str) -> subprocess.CompletedProcess[str]:
+        """A command's run, with what it wrote on both streams, as a terminal shows it."""
+        return subprocess.run(
+            ["bash", "-c", command], cwd=self.folder, env=self.environment, stdin=subprocess.DEVNULL,
+            stdout=subprocess.PIPE, stderr=subprocess.STDOUT, text=True, timeout=SECONDS,
+        )  # fmt: skip
+
+    def record_the_air(self) -> None:
+        """What the stand-in for a radio gives: a second of a cell."""
+        script = os.path.join(ROOT, "examples", "second_of_paging.script")
+        made = self.ran(
+            f"cdma_replay make < {script} > {self.bin}/air.is95 && {PYTHON} -B tools/channel --type cu8 "
+            f"--carrier 2000 --clock 5 --ec-io -9 {self.bin}/air.is95 {self.bin}/air.cu8"
+        )
+        self.assertEqual(made.returncode, 0, made.stdout)
+
+    def expect_page(self, page: str) -> None:
+        """Runs a page's commands, each of which ends as the page says and writes what it shows."""
+        with open(os.path.join(ROOT, page), encoding="utf-8") as file:
+            commands = commands_of(file.read())
+        self.assertTrue(commands)
+        if any(one.text.startswith("rtl_sdr") for one in commands):
+            self.record_the_air()
+        for one in commands:
+            if one.mark and (one.mark[0] == "not run" or one.mark[0] == "by hand" and not IS_WHOLE):
+                continue
+            with self.subTest(one.text):
+                ended = self.ran(one.text)
+                self.assertEqual(ended.returncode, one.status, ended.stdout)
+                if one.shown:
+                    self.assertRegex(ended.stdout, rf"\A{pattern_of(one.shown)}\Z")
+
+    def test_the_readme(self) -> None:
+        self.expect_page("README.md")
+
+    def test_the_guide(self) -> None:
+        self.expect_page("docs/GUIDE.md")
+
+    def test_the_page_on_recordings(self) -> None:
+        self.expect_page("docs/RADIO.md")
+
+    def test_the_page_on_curves(self) -> None:
+        self.expect_page("docs/CURVES.md")
+
+    def test_the_page_on_formats(self) -> None:
+        self.expect_page("docs/FORMATS.md")
+
+
+class Readme(unittest.TestCase):
+    """What the first page promises of itself."""
+
+    def test_its_length(self) -> None:
+        with open(os.path.join(ROOT, "README.md"), encoding="utf-8") as file:
+            self.assertLessEqual(len(file.readlines()), 150)
+
+    def test_links_name_files_and_headings_that_are_there(self) -> None:
+        for page in (*PAGES, "CONTRIBUTING.md", "docs/ARCHITECTURE.md", "docs/PROOFS.md"):
+            with open(os.path.join(ROOT, page), encoding="utf-8") as file:
+                found = re.findall(r"\]\((?!http)([^)#]*)(?:#([^)]*))?\)", file.read())
+            for name, heading in found:
+                with self.subTest(page=page, name=name, heading=heading):
+                    path = os.path.join(ROOT, os.path.dirname(page), name) if name else os.path.join(ROOT, page)
+                    self.assertTrue(os.path.exists(path))
+                    if heading:
+                        self.assertIn(heading, headings_of(path))
+
+
+def headings_of(path: str) -> list[str]:
+    """The anchors of a page's headings: lower case, hyphens for spaces, and no other signs."""
+    with open(path, encoding="utf-8") as file:
+        titles = re.findall(r"(?m)^#+ (.*)$", file.read())
+    return [re.sub(r"[^\w -]", "", title.lower()).replace(" ", "-") for title in titles]
