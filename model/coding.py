@@ -1,4 +1,4 @@
-"""The convolutional code, repetition, the sent order, checks, the rates of both rate sets, and the best code word."""
+"""The convolutional code, repetition, the sent order, checks, the rates of both rate sets, and the best codeword."""
 
 from typing import Any, NamedTuple
 
@@ -128,7 +128,7 @@ def is_right(rate: Rate, bits: Bits) -> bool:
     return bits[rate.information : rate.bits() - TAIL] == quality(rate, bits[: rate.information])
 
 
-# ---- the best code word (own)
+# ---- the best codeword (own)
 
 REVERSED = np.array([number(spelled(8, state)[::-1]) for state in range(256)])
 """A state's eight bits read from the newest back, as a number: how words are ordered that end in different states."""

@@ -1,4 +1,4 @@
-"""The first so many code words, and frames that are taken from such lists (docs/FORMATS.md, `list`)."""
+"""The first so many codewords, and frames that are taken from such lists (docs/FORMATS.md, `list`)."""
 
 from typing import Any
 

@@ -6,6 +6,8 @@ import shutil
 import subprocess
 import unittest
 
+from cdma_tools.arguments import INSTALLED
+from cdma_tools.lines import SHAPES
 from tools.tests.helping import ROOT
 
 PAGE = os.path.join(ROOT, "docs", "cdma_replay.1")
@@ -34,6 +36,28 @@ class Page(unittest.TestCase):
             self.assertRegex(page, rf"\n\.It Fl -{option} Ar [NH]\n")
         statuses = re.findall(r"\n\| (\d) \|", formats[formats.index("| Status |") :])
         self.assertEqual(re.findall(r"\n\.It (\d)\n", page), statuses)
+
+    def test_each_line_has_its_fields(self):
+        """Each kind of line stands in it with its fields, in their order, each by its name in the standard or what it is."""
+        page = text_of(PAGE)
+        part = page[page.index(".Ss Lines that are written\n") : page.index(".Sh EXIT STATUS\n")]
+        items = re.findall(r"(?m)^\.It Li (.+)\n((?:[^.].*\n)+)", part)
+        told = {title: " ".join(text.split()) for title, text in items}
+        wanted = {}
+        for shape in SHAPES:
+            fields = ", ".join(f"{one.name} ({one.meaning})" for one in shape.fields())
+            wanted[f"{shape.line} {shape.word or ''}".strip()] = f"{fields}."
+        self.assertEqual(told, wanted)
+
+    def test_what_it_names_is_installed(self):
+        """No path of a checkout's tools stands in it, which a reader of an installed page hasn't."""
+        page = text_of(PAGE)
+        for path in re.findall(r"\.Pa (\S+)", page):
+            self.assertTrue(path.startswith(("share/", "docs/", "/usr")), path)
+            if path.startswith("docs/"):
+                self.assertTrue(os.path.exists(os.path.join(ROOT, path)), path)
+        for command in re.findall(r"\.Ql (cdma-\w+)", page):
+            self.assertIn(command, INSTALLED.values())
 
 
 if __name__ == "__main__":
