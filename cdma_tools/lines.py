@@ -186,7 +186,7 @@ def numbers(form: Form) -> Form:
 
 
 def records(*forms: Form) -> Form:
-    """A list of records, which may be empty; each has so many numbers, parted by / in the line."""
+    """A list of records, which may be empty; each has so many numbers, separated by / in the line."""
 
     def read_record(given: str) -> list[int]:
         parts = given.split("/")

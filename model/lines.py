@@ -13,7 +13,7 @@ def fields(message: dict[str, Any], names: Iterable[str]) -> str:
 
 
 def joined(records: Iterable[Any]) -> str:
-    """Records parted by commas, the numbers of each by strokes."""
+    """Records separated by commas, the numbers of each by slashes."""
     return ",".join("/".join(map(str, record)) if isinstance(record, tuple) else str(record) for record in records)
 
 
