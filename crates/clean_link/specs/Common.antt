@@ -67,6 +67,7 @@ pub use Rattle.heard_events.specs.declared.soft_frame.SoftFrame.{SoftFrame}
 pub use Rattle.long_code.specs.LongCode.{after, before, traffic_mask}
 unfoldable pub use Rattle.message_layout.specs.Reading.{fields_at, group_at, number_part, octets_at}
 unfoldable pub use Rattle.message_layout.specs.Reading.{part_at, presence_at, reading, records_at}
+unfoldable pub use Rattle.message_layout.specs.Spelling.{spelling}
 pub use Rattle.paging_message.specs.HalfFrames.{half_frame_body, half_frame_capsule_ending}
 unfoldable pub use Rattle.paging_message.specs.Laying.{fill, framed, half_frames_of, laid_on}
 pub use Rattle.paging_message.specs.Reading.{message_at, number_at}

@@ -6,7 +6,8 @@ use Rattle.clean_link.specs.Common.{octets_at, part_at, presence_at, reading, re
 use Rattle.clean_link.specs.Common.{front_capsule, is_stated, capsule_ending, check_bits, R1200}
 use Rattle.clean_link.specs.Common.{R9600, Message, message_body, traffic_capsule, split}
 use Rattle.clean_link.specs.Common.{split_9600, body_reading, head_at, head_of, is_body}
-use Rattle.clean_link.specs.Common.{part_reading, traffic_reading, Other, CellPlan, TrafficFrame}
+use Rattle.clean_link.specs.Common.{part_reading, spelling, traffic_reading, Other, CellPlan}
+use Rattle.clean_link.specs.Common.{TrafficFrame}
 use Rattle.heard_events.specs.declared.event.Event.TheVariants.{Traffic}
 use Rattle.clean_link.specs.HeardFrames.{messages_sent}
 use Rattle.clean_link.specs.WorkedCells.{cell_of_frames}
@@ -49,23 +50,23 @@ cell samples = cell_of_frames 0 samples Complemented frames
 -- Behind superframe 8 the message begins in frame 33 and ends in frame 35, at that frame's end.
 in_two_frames : messages_sent (cell 887808) 9 786432 ≡ Traffic 887808 spelled message ∷ []
 unfolding cell frames slow signaling spelled message messages_sent split split_9600 capsule_ending
-    front_capsule is_stated traffic_reading traffic_capsule message_body body_reading is_body
-    head_at head_of part_reading reading fields_at group_at presence_at octets_at number_part
-    part_at records_at capsule check_bits binary places
+    front_capsule is_stated traffic_reading traffic_capsule message_body spelling body_reading
+    is_body head_at head_of part_reading reading fields_at group_at presence_at octets_at
+    number_part part_at records_at capsule check_bits binary places
 in_two_frames = refl
 
 -- one sample less, and its last frame isn't in the file
 cut_short : messages_sent (cell 887807) 9 786432 ≡ []
 unfolding cell frames slow signaling spelled message messages_sent split split_9600 capsule_ending
-    front_capsule is_stated traffic_reading traffic_capsule message_body body_reading is_body
-    head_at head_of part_reading reading fields_at group_at presence_at octets_at number_part
-    part_at records_at capsule check_bits binary places
+    front_capsule is_stated traffic_reading traffic_capsule message_body spelling body_reading
+    is_body head_at head_of part_reading reading fields_at group_at presence_at octets_at
+    number_part part_at records_at capsule check_bits binary places
 cut_short = refl
 
 -- a mark behind the beginning of its first frame
 begun_before : messages_sent (cell 887808) 9 814081 ≡ []
 unfolding cell frames slow signaling spelled message messages_sent split split_9600 capsule_ending
-    front_capsule is_stated traffic_reading traffic_capsule message_body body_reading is_body
-    head_at head_of part_reading reading fields_at group_at presence_at octets_at number_part
-    part_at records_at capsule check_bits binary places
+    front_capsule is_stated traffic_reading traffic_capsule message_body spelling body_reading
+    is_body head_at head_of part_reading reading fields_at group_at presence_at octets_at
+    number_part part_at records_at capsule check_bits binary places
 begun_before = refl

@@ -5,7 +5,8 @@ use Rattle.paging_message.specs.Channels.{IsChannelList}
 use Rattle.paging_message.specs.Neighbors.{IsNeighborList}
 use Rattle.paging_message.specs.declared.fields.ChannelFields.{ChannelFields}
 use Rattle.paging_message.specs.declared.fields.NeighborFields.{NeighborFields}
-use Rattle.paging_message.proofs.ByLayout.{few_channels, few_neighbors, neighbor_fit_at}
+use Rattle.paging_message.proofs.ByLayout.{few_channels, few_neighbors, freqs_fit, neighbor_fit_at}
+use Rattle.paging_message.proofs.ByLayout.{neighbors_paired}
 use Rattle.event_tap.specs.PagingLines.{neighbor_text, neighbor_texts}
 use Rattle.event_tap.proofs.PartTexts.{fields-below}
 
@@ -19,13 +20,17 @@ neighbor_texts-at (config ∷ configs) (pn ∷ pns) zero a b = refl
 neighbor_texts-at (config ∷ configs) (pn ∷ pns) (suc i) a b =
     neighbor_texts-at configs pns i (omega (arith, a)) (omega (arith, b))
 
-pub long_neighbor_texts : (configs pns : List ℕ) → length configs ≡ length pns →
+long_neighbor_texts : (configs pns : List ℕ) → length configs ≡ length pns →
     length (neighbor_texts configs pns) ≡ length configs
 unfolding neighbor_texts
 long_neighbor_texts [] pns paired = refl
 long_neighbor_texts (config ∷ configs) [] paired = absurd (omega (arith, paired))
 long_neighbor_texts (config ∷ configs) (pn ∷ pns) paired =
     ap suc (long_neighbor_texts configs pns (omega (arith, paired)))
+
+pub long_texts : (m : NeighborFields) → IsNeighborList m →
+    length (neighbor_texts m.configs m.pns) ≡ length m.configs
+long_texts m is = long_neighbor_texts m.configs m.pns (neighbors_paired m is)
 
 -- what is known of a neighbor: how long its parts are, and its text
 pub record NeighborAt (m : NeighborFields) (i config pn : ℕ) : Type 0 where
@@ -40,7 +45,7 @@ neighbor_at m i config pn is a b =
     let second = slice_get_within m.pns i pn b in
     let config_is = get_or_from_slice_get m.configs i config 0 a in
     let pn_is = get_or_from_slice_get m.pns i pn 0 b in
-    let fit = neighbor_fit_at m.configs m.pns i is.spelled.fits.1.1.1.1 first second in
+    let fit = neighbor_fit_at m i is first in
     record {
       config_fits = omega (arith, config_is, fit.0);
       pn_fits = omega (arith, pn_is, fit.1);
@@ -60,4 +65,4 @@ most_freqs m is = omega (arith, few_channels m is)
 -- they have at most four digits
 pub small_freqs : (m : ChannelFields) → IsChannelList m → All (λ n. n < 10 ^ 4) m.freqs
 small_freqs m is k d within =
-    omega (arith, fields-below 11 m.freqs is.spelled.fits.1.1.1 k d within)
+    omega (arith, fields-below 11 m.freqs (freqs_fit m is) k d within)

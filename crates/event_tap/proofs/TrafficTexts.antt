@@ -1,18 +1,17 @@
 -- Lemmas on the lines of traffic messages: the texts of records, and how many there are.
 use Rattle.std.proofs.Common.{◌≡◌, ℕ, zero, suc, ◌<◌, ◌≤◌, Some, refl, ap, ◌∙◌, List, [], ◌∷◌, length, get_or, slice_get, All, ◌^◌, arith}
-use Rattle.std.proofs.Common.{subst}
+use Rattle.std.proofs.lemmas.List.{get_or_default}
 use Rattle.std.proofs.lemmas.Option.{get_or_from_slice_get, slice_get_within}
-use Rattle.traffic_message.specs.Messages.{IsOfKind, IsTrafficMessage, Message, bits_of}
+use Rattle.traffic_message.specs.Messages.{IsTrafficMessage, Message, bits_of}
 use Rattle.traffic_message.specs.Handoff.{IsHandoffDirection}
 use Rattle.traffic_message.specs.Neighbors.{IsNeighborUpdate}
 use Rattle.traffic_message.specs.declared.body.TrafficBody.TheVariants.{Handoff}
 use Rattle.traffic_message.specs.declared.fields.DirectionFields.{DirectionFields}
 use Rattle.traffic_message.specs.declared.fields.UpdateFields.{UpdateFields}
 use Rattle.traffic_message.proofs.Bodies.{length-message}
-use Rattle.traffic_message.proofs.Directions.{length-direction}
-use Rattle.traffic_message.proofs.Records.{length-records, record_fits}
+use Rattle.traffic_message.proofs.ByLayout.{combs_paired, neighbor_fits, record_fits, rows_paired}
+use Rattle.traffic_message.proofs.Directions.{records_room}
 use Rattle.event_tap.specs.TrafficLines.{record_text, record_texts}
-use Rattle.event_tap.proofs.PartTexts.{fields-below}
 
 -- a record of a direction
 record_texts-at : (pns rows combs : List ℕ) (i : ℕ) → i < length pns → i < length rows →
@@ -27,7 +26,7 @@ record_texts-at (pn ∷ pns) (row ∷ rows) (comb ∷ combs) zero a b c = refl
 record_texts-at (pn ∷ pns) (row ∷ rows) (comb ∷ combs) (suc i) a b c =
     record_texts-at pns rows combs i (omega (arith, a)) (omega (arith, b)) (omega (arith, c))
 
-pub long_record_texts : (pns rows combs : List ℕ) → length rows ≡ length pns →
+long_record_texts : (pns rows combs : List ℕ) → length rows ≡ length pns →
     length combs ≡ length pns → length (record_texts pns rows combs) ≡ length pns
 unfolding record_texts
 long_record_texts [] rows combs a b = refl
@@ -35,6 +34,10 @@ long_record_texts (pn ∷ pns) [] combs a b = absurd (omega (arith, a))
 long_record_texts (pn ∷ pns) (row ∷ rows) [] a b = absurd (omega (arith, b))
 long_record_texts (pn ∷ pns) (row ∷ rows) (comb ∷ combs) a b =
     ap suc (long_record_texts pns rows combs (omega (arith, a)) (omega (arith, b)))
+
+pub long_texts : (m : DirectionFields) → IsHandoffDirection m →
+    length (record_texts m.pns m.rows m.combs) ≡ length m.pns
+long_texts m is = long_record_texts m.pns m.rows m.combs (rows_paired m is) (combs_paired m is)
 
 -- what is known of a record: how long its parts are, and its text
 pub record RecordAt (m : DirectionFields) (i pn row comb : ℕ) : Type 0 where
@@ -53,7 +56,7 @@ record_at m i pn row comb is a b c =
     let pn_is = get_or_from_slice_get m.pns i pn 0 a in
     let row_is = get_or_from_slice_get m.rows i row 0 b in
     let comb_is = get_or_from_slice_get m.combs i comb 0 c in
-    let fit = record_fits m.pns m.combs m.rows i is.records first third second in
+    let fit = record_fits m i is first in
     record {
       pn_fits = omega (arith, pn_is, fit.0);
       row_fits = omega (arith, row_is, fit.2);
@@ -68,17 +71,16 @@ record_at m i pn row comb is a b c =
 pub most_records : (m : Message) (d : DirectionFields) → IsTrafficMessage m →
     m.body ≡ Handoff d → length d.pns ≤ 62
 most_records m d is body =
-    let says = (subst (IsOfKind m.head) body is.says).1 in
     omega (
       arith,
       is.fills.whole,
       is.fills.most,
       length-message m,
       ap (λ b. length (bits_of b)) body,
-      length-direction d,
-      length-records d.pns d.combs d.rows says.combs says.rows,
+      records_room d,
     )
 
 -- the offsets of neighbors have at most four digits
 pub small_pilots : (m : UpdateFields) → IsNeighborUpdate m → All (λ n. n < 10 ^ 4) m.pns
-small_pilots m is k d within = omega (arith, fields-below 9 m.pns is.fits.1 k d within)
+small_pilots m is k d within =
+    omega (arith, get_or_default m.pns k d 0 within, neighbor_fits m k is within)

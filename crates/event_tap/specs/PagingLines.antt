@@ -1,10 +1,9 @@
 -- The lines of the messages of the paging channel, in the style of the lines of events, and of the
 -- slots in which a sleeping handset hears them.
 use Rattle.std.specs.Prelude.{ℕ, List, [], ◌∷◌, ◌++◌, map, codes, decimal}
-use Rattle.paging_message.specs.Channels.{channel_values}
-use Rattle.paging_message.specs.Neighbors.{neighbor_values}
-use Rattle.paging_message.specs.System.{system_values}
-use Rattle.paging_message.specs.Widths.{channel_names, neighbor_names, system_names}
+use Rattle.paging_message.specs.Channels.{channel_names, channel_values}
+use Rattle.paging_message.specs.Neighbors.{neighbor_names, neighbor_values}
+use Rattle.paging_message.specs.System.{system_names, system_values}
 use Rattle.paging_message.specs.declared.fields.ChannelFields.{ChannelFields}
 use Rattle.paging_message.specs.declared.fields.NeighborFields.{NeighborFields}
 use Rattle.paging_message.specs.declared.fields.OtherFields.{OtherFields}

@@ -135,7 +135,7 @@ impl Items for NeighborFields {
 
     ghost width = { λ _. 6 };
 
-    #[tactic(auto, using(crate::proofs::PagingTexts::long_neighbor_texts))]
+    #[tactic(auto, using(crate::proofs::PagingTexts::long_texts))]
     fn count(&self) -> u8 {
         self.configs.len()
     }
@@ -155,7 +155,7 @@ impl Items for DirectionFields {
 
     ghost width = { λ _. 10 };
 
-    #[tactic(auto, using(crate::proofs::TrafficTexts::long_record_texts))]
+    #[tactic(auto, using(crate::proofs::TrafficTexts::long_texts))]
     fn count(&self) -> u8 {
         self.pns.len()
     }

@@ -4,7 +4,7 @@ ghost use Rattle.std.specs.Prelude.{◌≡◌, ◌≤◌, ◌+◌, [], ◌++◌,
 ghost use Rattle.chip_core.specs.Fields.{FieldsFit};
 ghost use Rattle.event_tap.specs.TrafficLines.{handoff_text, kind_text, search_text, start_text};
 ghost use Rattle.event_tap.specs.TrafficLines.{system_text, traffic_line, update_text};
-ghost use Rattle.traffic_message.specs.Handoff.{search_fields};
+ghost use Rattle.traffic_message.specs.Handoff.{SearchFits};
 ghost use Rattle.traffic_message.specs.Messages.{head_fields};
 ghost use Rattle.traffic_message.specs.Neighbors.{IsNeighborUpdate};
 
@@ -97,7 +97,7 @@ fn append_direction(text: &mut Text, message: &HandoffDirection)
 /// Adds the search parameters where there are any.
 #[tactic(auto, unfolding(crate::specs::Parts::are_short))]
 fn append_search(text: &mut Text, search: &Option<Search>)
-    requires fit { FieldsFit (search_fields search.now) }
+    requires fit { SearchFits search.now }
     requires room { length text.old + 93 ≤ 1024 }
     ensures value { text.new ≡ text.old ++ search_text search.now }
     ensures len { length text.new ≤ length text.old + 80 }

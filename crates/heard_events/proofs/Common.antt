@@ -31,7 +31,6 @@ pub use Rattle.frame_decoder.specs.TrafficFrames.{preferred, rate_frame, rate_co
 unfoldable pub use Rattle.frame_decoder.specs.TrafficFrames.{decoded}
 pub use Rattle.frame_decoder.specs.declared.traffic.Decoded.{Decoded}
 pub use Rattle.frame_decoder.proofs.RateCodewords.{length-rate_codeword}
-pub use Rattle.paging_message.specs.Neighbors.{neighbor_records}
 pub use Rattle.pilot_sets.specs.Standing.{Standing, new_standing, began_in, deltas_with, due_at, due_for, shown, shown_active, change_at}
 pub use Rattle.pilot_sets.specs.Standing.{stepped}
 pub use Rattle.pilot_sets.specs.declared.change.SetChange.{SetChange}

@@ -1,11 +1,10 @@
 -- Layouts without a group and without octets: what is said by one, spelled and read by places.
-use Rattle.message_layout.proofs.Common.{◌≡◌, ℕ, ◌+◌, ◌*◌, ◌/◌, ◌%◌, ◌≤◌, ◌&&◌, Bool, cond, List, [], ◌∷◌, ◌++◌, length, map, drop, refl}
-use Rattle.message_layout.proofs.Common.{sym, ap, ◌∙◌, nil_from_length, arith, nat_le, inl, inr, Option, Some, None, cases_Bool, le-leb}
-use Rattle.message_layout.proofs.Common.{div-add-mod', length-append, length-drop, length-in_widths, field, spelled, in_widths, total}
-use Rattle.message_layout.proofs.Common.{FieldsFit, values_at, Field, binary, height, record_fields, shares, fields_at}
-use Rattle.message_layout.proofs.Common.{group_at, number_part, octets_at, part_at, presence_at, reading, records_at, plain_contents}
-use Rattle.message_layout.proofs.Common.{plain_shape, spelling, HaveValues, IsOf, IsRest, Contents}
-pub use Rattle.message_layout.specs.Plain.{list_said}
+use Rattle.message_layout.proofs.Common.{◌≡◌, ℕ, ◌+◌, ◌*◌, ◌≤◌, Bool, cond, List, [], ◌∷◌, ◌++◌, length, map, drop, refl, sym, ap, ◌∙◌}
+use Rattle.message_layout.proofs.Common.{nil_from_length, arith, nat_le, inl, inr, Option, Some, None, cases_Bool, le-leb, length-append}
+use Rattle.message_layout.proofs.Common.{length-drop, length-in_widths, field, spelled, in_widths, total, FieldsFit, Field, binary, height}
+use Rattle.message_layout.proofs.Common.{record_fields, shares, fields_at, group_at, number_part, octets_at, part_at, presence_at, reading}
+use Rattle.message_layout.proofs.Common.{records_at, plain_contents, plain_shape, spelling, count_in, HaveValues, IsOf, IsRest, Contents}
+pub use Rattle.message_layout.specs.Plain.{has_length, list_said}
 use Rattle.message_layout.proofs.Columns.{length-records}
 use Rattle.message_layout.proofs.Messages.{no_columns, no_octets}
 
@@ -74,47 +73,22 @@ record_map w [] = refl
 record_map w (n ∷ ns) = ap (λ (fs : List Field). field w n ∷ fs) (record_map w ns)
 
 -- READ
--- fields, and all bits behind them
-pub fields_reading : (ws : List ℕ) (bits : List Bool) →
-    reading (plain_shape ws [] 0 None) bits
-    ≡ cond (nat_le (total ws) (length bits))
-    (Some (plain_contents (values_at ws bits) ([] ∷ [] ∷ [] ∷ []) (drop (total ws) bits))) None
+-- fields, records and a rest, where there are as many bits as these have
+pub plain_reading : (ws rs : List ℕ) (least : ℕ) (most : Option ℕ) (bits : List Bool) →
+    reading (plain_shape ws rs least most) bits
+    ≡ cond (has_length (plain_shape ws rs least most) (length bits)) (Some (list_said ws rs bits)) None
 unfolding reading fields_at group_at presence_at octets_at number_part part_at records_at
-fields_reading ws bits =
-    elim (cases_Bool (nat_le (total ws) (length bits))) [
-      | inl t ↦
-          let any = le-leb 0 (length (drop (total ws) bits)) (omega arith) in
-          rw (t, any, any, any) refl
-      | inr f ↦ rw f refl
-    ]
-
--- fields, and as many records as fit behind them
-abbrev pub list_told : List ℕ → List ℕ → ℕ → ℕ → List Bool → Bool
-list_told ws rs least most bits =
+plain_reading ws rs least most bits =
     let w = drop (total ws) bits in
-    nat_le (total ws) (length bits)
-    && (nat_le least (length w / total rs) && nat_le (length w % total rs) most)
-
-pub list_reading : (ws : List ℕ) (r : ℕ) (rs : List ℕ) (least most : ℕ) (bits : List Bool) →
-    reading (plain_shape ws (r ∷ rs) least (Some most)) bits
-    ≡ cond (list_told ws (r ∷ rs) least most bits) (Some (list_said ws (r ∷ rs) bits)) None
-unfolding reading fields_at group_at presence_at octets_at number_part part_at records_at
-list_reading ws r rs least most bits =
-    let size = total (r ∷ rs) in
-    let w = drop (total ws) bits in
-    let n = length w / size in
+    let n = count_in rs (length w) in
     let any = le-leb 0 (length w) (omega arith) in
-    let left : length (drop (n * size) w) ≡ length w % size =
-    omega (arith, length-drop (n * size) w, div-add-mod' (length w) size) in
+    let behind = length-drop (total ws) bits in
+    let left = length-drop (n * total rs) w in
     elim (cases_Bool (nat_le (total ws) (length bits))) [
       | inr f ↦ rw f refl
       | inl t ↦
           elim (cases_Bool (nat_le least n)) [
-            | inr f ↦ rw (t, any, any, any, f) refl
-            | inl some ↦
-                elim (cases_Bool (nat_le (length w % size) most)) [
-                  | inl few ↦ rw (t, any, any, any, some, left, few) refl
-                  | inr many ↦ rw (t, any, any, any, some, left, many) refl
-                ]
+            | inr f ↦ rw (← behind, t, any, any, any, f) refl
+            | inl some ↦ rw (← behind, t, any, any, any, some, left) refl
           ]
     ]

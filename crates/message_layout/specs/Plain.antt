@@ -1,8 +1,9 @@
 -- Layouts without a group and without octets, and contents of these.
-use Rattle.std.specs.Prelude.{ℕ, ◌*◌, Bool, List, [], length, drop, Option, None}
+use Rattle.std.specs.Prelude.{ℕ, ◌*◌, ◌-◌, ◌&&◌, Bool, List, [], length, drop, nat_le, Option, None}
 use Rattle.chip_core.specs.Fields.{total}
 use Rattle.chip_core.specs.Readings.{values_at}
 use Rattle.message_layout.specs.Contents.{columns_in, count_in}
+use Rattle.message_layout.specs.Reading.{is_few}
 use Rattle.message_layout.specs.Shapes.{Shape}
 use Rattle.message_layout.specs.declared.contents.Contents.{Contents}
 use Rattle.message_layout.specs.declared.layout.Presence.TheVariants.{Never}
@@ -35,3 +36,11 @@ list_said fixed records bits =
     let w = drop (total fixed) bits in
     let n = count_in records (length w) in
     plain_contents (values_at fixed bits) (columns_in records n w) (drop (n * total records) w)
+
+-- whether so many bits are contents of such a layout: the fixed fields, records enough, and no more
+-- bits behind them than may be left
+abbrev pub has_length : Shape → ℕ → Bool
+has_length s count =
+    let left = count - total s.fixed in
+    let n = count_in s.records left in
+    nat_le (total s.fixed) count && (nat_le s.least n && is_few s.most (left - n * total s.records))

@@ -76,9 +76,12 @@ unfoldable pub records_at : List ℕ → ℕ → List Bool → Option (List (Lis
 records_at widths least bits = records_from widths least (count_in widths (length bits)) bits
 
 -- whether no more bits are left than may be
+abbrev pub is_few : Option ℕ → ℕ → Bool
+is_few None count = true
+is_few (Some most) count = nat_le count most
+
 abbrev pub is_rest : Option ℕ → List Bool → Bool
-is_rest None rest = true
-is_rest (Some most) rest = nat_le (length rest) most
+is_rest most rest = is_few most (length rest)
 
 -- the contents that end with these records and the bits behind them
 abbrev pub rest_at : Option ℕ → List ℕ → Option (List ℕ) → List Bool → List (List ℕ) → List Bool →

@@ -13,23 +13,22 @@ pub use Rattle.std.proofs.lemmas.Nat.{div-mul-add, mod-mul-add}
 pub use Rattle.std.specs.List.{flat_map, list_any}
 pub use Rattle.std.specs.Option.{option_to_list}
 pub use Rattle.std.specs.Prelude.{IfSome, IsSome, IsTrue, ◌↔◌}
-pub use Rattle.chip_core.proofs.FieldLists.{bits_more, length-binary, spelled-append}
+pub use Rattle.chip_core.proofs.FieldLists.{bits_more, length-binary}
 pub use Rattle.chip_core.proofs.Places.{map-places-all, map-places-more, places-none}
 pub use Rattle.chip_core.proofs.Ranges.{flat_map-places-more, flat_map_ext_places, map_ext_places}
 pub use Rattle.chip_core.proofs.ValueLists.{behind_front, front, number_front}
 pub use Rattle.chip_core.specs.Bits.{binary, number}
 unfoldable pub use Rattle.chip_core.specs.Bits.{places}
-pub use Rattle.chip_core.specs.Fields.{FieldsFit, field, in_widths, spelled}
+pub use Rattle.chip_core.specs.Fields.{FieldsFit, field, total}
 pub use Rattle.chip_core.specs.Readings.{number_at}
 pub use Rattle.chip_core.specs.declared.check_form.CheckForm.{CheckForm}
-pub use Rattle.chip_core.specs.declared.field.Field.{Field}
 pub use Rattle.message_layout.proofs.Loops.{not_both}
 pub use Rattle.message_layout.proofs.Messages.{both_columns, first_column, mapped_cond, mapped_some, no_columns}
 pub use Rattle.message_layout.proofs.Parts.{guard_some, number_again, number_there}
-pub use Rattle.message_layout.proofs.Plain.{fields_reading, list_reading, list_said, list_told, plain_back, plain_length, plain_of}
-pub use Rattle.message_layout.proofs.Plain.{plain_spelled, record_map, rest_back}
+pub use Rattle.message_layout.proofs.Columns.{record_fit}
+pub use Rattle.message_layout.proofs.Plain.{has_length, list_said, plain_back, plain_length, plain_reading, record_map, rest_back}
 pub use Rattle.message_layout.proofs.Round.{reading_again, reading_there}
-pub use Rattle.message_layout.specs.Contents.{count_in, height, record_fields}
+pub use Rattle.message_layout.specs.Contents.{count_in, height}
 pub use Rattle.message_layout.specs.Plain.{plain_contents, plain_shape}
 pub use Rattle.message_layout.specs.Reading.{mapped, number_part, reading}
 pub use Rattle.message_layout.specs.Shapes.{Shape, shape}
@@ -48,21 +47,19 @@ pub use Rattle.quality_bits.specs.declared.rate.Rate.{Rate}
 pub use Rattle.quality_bits.specs.declared.rate.Rate.TheVariants.{R1200, R2400, R4800, R9600}
 pub use Rattle.paging_message.specs.Admitted.{HasMessage}
 unfoldable pub use Rattle.paging_message.specs.Admitted.{admits}
-pub use Rattle.paging_message.specs.Channels.{IsChannelList, channel_body, channel_records, channel_values}
+pub use Rattle.paging_message.specs.Channels.{IsChannelList, channel_contents, channel_shape, channel_widths, channels_from}
 pub use Rattle.paging_message.specs.HalfFrames.{Framing, half_frame_body, half_frame_capsule_ending, half_under_way}
 unfoldable pub use Rattle.paging_message.specs.HalfFrames.{bits_left, capsules_in, ends_chain, open_chain}
 pub use Rattle.paging_message.specs.Laying.{HasLaid, Laid, Place, bit_on, fill, laid_on, way_for}
-pub use Rattle.paging_message.specs.Layouts.{channel_contents, channels_from, contents_of, kind_of, message_from, neighbor_contents}
-pub use Rattle.paging_message.specs.Layouts.{neighbors_from, other_contents, other_from, shape_of, system_contents, system_from}
-pub use Rattle.paging_message.specs.Messages.{IsPagingMessage, message_body}
-unfoldable pub use Rattle.paging_message.specs.Messages.{paging_capsule}
-pub use Rattle.paging_message.specs.Neighbors.{IsNeighborList, neighbor_body, neighbor_records, neighbor_values}
+pub use Rattle.paging_message.specs.Layouts.{contents_of, kind_of, message_from, shape_of}
+pub use Rattle.paging_message.specs.Messages.{IsPagingMessage}
+unfoldable pub use Rattle.paging_message.specs.Messages.{message_body, paging_capsule}
+pub use Rattle.paging_message.specs.Neighbors.{IsNeighborList, neighbor_contents, neighbor_shape, neighbor_widths, neighbors_from}
+pub use Rattle.paging_message.specs.Others.{other_contents, other_from, other_shape}
 unfoldable pub use Rattle.paging_message.specs.Reading.{body_reading, is_body, message_at, paging_reading}
-unfoldable pub use Rattle.paging_message.specs.Spelling.{body_of_fields}
-pub use Rattle.paging_message.specs.System.{IsSystem, system_values}
-pub use Rattle.paging_message.specs.Widths.{channel_widths, neighbor_widths, system_widths}
+pub use Rattle.paging_message.specs.Spelling.{IsSpelled, body_of}
+pub use Rattle.paging_message.specs.System.{IsSystem, system_contents, system_from, system_shape, system_values, system_widths}
+unfoldable pub use Rattle.paging_message.specs.System.{system_of}
 pub use Rattle.paging_message.specs.declared.fields.ChannelFields.{ChannelFields}
 pub use Rattle.paging_message.specs.declared.fields.NeighborFields.{NeighborFields}
-pub use Rattle.paging_message.specs.declared.fields.OtherFields.{OtherFields}
-pub use Rattle.paging_message.specs.declared.fields.SystemFields.{SystemFields}
 pub use Rattle.paging_message.specs.declared.message.PagingMessage.{PagingMessage}

@@ -6,20 +6,11 @@ use Rattle.paging_message.proofs.Common.{length-binary, behind_front, front, num
 use Rattle.paging_message.proofs.Common.{not_both, number_again, number_part, number_there, mapped, mapped_some, reading, reading_again}
 use Rattle.paging_message.proofs.Common.{reading_there, spelling, IsOf, Contents, Shape, admits, HasMessage, message_body, IsPagingMessage}
 use Rattle.paging_message.proofs.Common.{PagingMessage, contents_of, kind_of, message_from, shape_of, body_reading, is_body, message_at}
-use Rattle.paging_message.proofs.ByLayout.{admits_short, lawful, made_of, placed, says}
-use Rattle.paging_message.specs.declared.message.PagingMessage.TheVariants as messages
+use Rattle.paging_message.proofs.ByLayout.{admits_short, lawful, made_again, made_of, placed, spelled_by}
 
 pub message_fills : (m : PagingMessage) → IsPagingMessage m → FillsCapsule M30 (message_body m)
-message_fills (messages.System m) is = is.fills
-message_fills (messages.Neighbors m) is = is.spelled.fills
-message_fills (messages.Channels m) is = is.spelled.fills
-message_fills (messages.Other m) is = is.spelled.fills
-
-kind_fits : (m : PagingMessage) → IsPagingMessage m → kind_of m < 2 ^ 8
-kind_fits (messages.System m) is = omega arith
-kind_fits (messages.Neighbors m) is = omega arith
-kind_fits (messages.Channels m) is = omega arith
-kind_fits (messages.Other m) is = is.spelled.fits.0
+unfolding message_body
+message_fills m is = (spelled_by m is).fills
 
 -- a message type and the bits behind it are read by its layout
 pub typed_reading : (k : ℕ) (w : List Bool) → k < 2 ^ 8 → FillsCapsule M30 (binary 8 k ++ w) →
@@ -35,14 +26,13 @@ typed_reading k w small fills =
 
 -- what was spelled is read again
 pub reads_body : (m : PagingMessage) → IsPagingMessage m → body_reading (message_body m) ≡ Some m
+unfolding message_body
 reads_body m is =
     let k = kind_of m in
-    let s = says m is in
-    let fills = subst (FillsCapsule M30) (sym s.same) (message_fills m is) in
-    ap body_reading (sym s.same)
-    ∙ typed_reading k (spelling (shape_of k) (contents_of m)) (kind_fits m is) fills
-    ∙ ap (mapped (message_from k)) (reading_again (shape_of k) (contents_of m) (lawful k) s.is)
-    ∙ ap Some s.made
+    let s = spelled_by m is in
+    typed_reading k (spelling (shape_of k) (contents_of m)) s.typed s.fills
+    ∙ ap (mapped (message_from k)) (reading_again (shape_of k) (contents_of m) (lawful k) s.said)
+    ∙ ap Some (made_again m is)
 
 -- the test of a body, and its type
 pub record IsTyped (body : List Bool) : Type 0 where
@@ -107,7 +97,8 @@ body_is_read body m e =
     let there = reading_there (shape_of k) w some.0 (lawful k) some.1 in
     let spelled : body ≡ binary 8 k ++ spelling (shape_of k) some.0 =
     t.same ∙ ap (λ (r : List Bool). binary 8 k ++ r) there.1 in
-    let made = made_of k some.0 t.kind there.0 (subst (FillsCapsule M30) spelled t.fills) in
+    let made = made_of k some.0
+    (record { typed = t.kind; said = there.0; fills = subst (FillsCapsule M30) spelled t.fills }) in
     subst (λ (n : PagingMessage). IsPagingMessage n × (body ≡ message_body n)) some.2
     (made.0, spelled ∙ made.1)
 
@@ -181,7 +172,8 @@ told_is body w k s c fills typed layout found =
     let there = subst (λ (r : Shape). IsOf r c × (w ≡ spelling r c)) layout found in
     let same : body ≡ binary 8 k ++ spelling (shape_of k) c =
     t.1 ∙ ap (λ (r : List Bool). binary 8 k ++ r) there.1 in
-    (made_of k c t.0 there.0 (subst (FillsCapsule M30) same fills)).0
+    (made_of k c
+    (record { typed = t.0; said = there.0; fills = subst (FillsCapsule M30) same fills })).0
 
 -- what is written
 pub record IsWritten (k : ℕ) (s : Shape) (c : Contents) (m : PagingMessage) : Type 0 where
@@ -189,26 +181,22 @@ pub record IsWritten (k : ℕ) (s : Shape) (c : Contents) (m : PagingMessage) : 
   pub same : binary 8 k ++ spelling s c ≡ message_body m
   pub room : 8 + length (spelling s c) ≤ 1184
   pub fills : FillsCapsule M30 (message_body m)
-  pub fits : k < 2 ^ 8
 
 pub written : (m : PagingMessage) (k : ℕ) (s : Shape) (c : Contents) → IsPagingMessage m →
     k ≡ kind_of m → s ≡ shape_of k → c ≡ contents_of m → IsWritten k s c m
+unfolding message_body
 written m k s c is kind layout contents =
     rw (layout, kind, contents) (
-    let own = says m is in
-    let fills = message_fills m is in
-    let behind = spelling (shape_of (kind_of m)) (contents_of m) in
+    let own = spelled_by m is in
     record {
-      is = own.is;
-      same = own.same;
+      is = own.said;
+      same = refl;
       room = omega (
         arith,
-        fills.whole,
-        fills.most,
-        ap length own.same,
-        length-append (binary 8 (kind_of m)) behind,
+        own.fills.whole,
+        own.fills.most,
+        length-append (binary 8 (kind_of m)) (spelling (shape_of (kind_of m)) (contents_of m)),
         length-binary 8 (kind_of m),
       );
-      fills = fills;
-      fits = kind_fits m is;
+      fills = own.fills;
     })

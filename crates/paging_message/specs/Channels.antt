@@ -1,29 +1,38 @@
 -- The CDMA Channel List Message (TIA/EIA-95-B, 7.7.2.3.2.4).
-use Rattle.std.specs.Prelude.{ℕ, ◌≤◌, Bool, List, [], ◌∷◌, ◌++◌, length, map}
-use Rattle.chip_core.specs.Fields.{field}
-use Rattle.chip_core.specs.declared.field.Field.{Field}
-use Rattle.paging_message.specs.Spelling.{body_of_fields, IsSpelled}
+use Rattle.std.specs.Prelude.{ℕ, List, [], ◌∷◌, codes, get_or, Some}
+use Rattle.message_layout.specs.Plain.{plain_contents, plain_shape}
+use Rattle.message_layout.specs.Shapes.{Shape}
+use Rattle.message_layout.specs.declared.contents.Contents.{Contents}
+use Rattle.paging_message.specs.Spelling.{IsSpelled}
 use Rattle.paging_message.specs.declared.fields.ChannelFields.{ChannelFields}
+
+-- the widths of the first fields, and their names
+abbrev pub channel_widths : List ℕ
+channel_widths = 9 ∷ 6 ∷ []
+
+abbrev pub channel_names : List (List ℕ)
+channel_names = codes "pn" ∷ codes "seq" ∷ []
+
+-- behind them as many frequencies as fit
+abbrev pub channel_shape : Shape
+channel_shape = plain_shape channel_widths (11 ∷ []) 0 (Some 7)
 
 -- the values of the first fields, in the order of the table
 abbrev pub channel_values : ChannelFields → List ℕ
 channel_values m = m.pn ∷ m.seq ∷ []
 
--- the frequencies, 11 bits each
-abbrev pub channel_records : List ℕ → List Field
-channel_records freqs = map (field 11) freqs
+-- what the message says
+abbrev pub channel_contents : ChannelFields → Contents
+channel_contents m = plain_contents (channel_values m) (m.freqs ∷ [] ∷ [] ∷ []) m.rest
 
--- the message type, 4, and the fields before the frequencies
-abbrev pub channel_head : ChannelFields → List Field
-channel_head m = field 8 4 ∷ field 9 m.pn ∷ field 6 m.seq ∷ []
+abbrev pub IsChannelList : ChannelFields → Type 0
+IsChannelList m = IsSpelled 4 channel_shape (channel_contents m)
 
-abbrev pub channel_fields : ChannelFields → List Field
-channel_fields m = channel_head m ++ channel_records m.freqs
-
-abbrev pub channel_body : ChannelFields → List Bool
-channel_body m = body_of_fields (channel_fields m) m.rest
-
--- as many frequencies as fit leave at most 7 bits
-pub record IsChannelList (m : ChannelFields) : Type 0 where
-  pub spelled : IsSpelled (channel_fields m) m.rest
-  pub left : length m.rest ≤ 7
+-- the message that says so
+abbrev pub channels_from : Contents → ChannelFields
+channels_from c = record {
+  pn = get_or c.fixed 0 0;
+  seq = get_or c.fixed 1 0;
+  freqs = get_or c.columns 0 [];
+  rest = c.rest;
+}

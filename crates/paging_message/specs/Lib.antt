@@ -9,5 +9,4 @@ pub mod Others
 pub mod Reading
 pub mod Spelling
 pub mod System
-pub mod Widths
 mod Worked

@@ -3,18 +3,18 @@ use Rattle.std.specs.Prelude.{Bool, List}
 use Rattle.chip_core.specs.declared.check_form.CheckForm.{CheckForm}
 use Rattle.quality_bits.specs.Capsules.{capsule}
 use Rattle.quality_bits.specs.declared.kind.Kind.TheVariants.{M30}
-use Rattle.paging_message.specs.Channels.{channel_body, IsChannelList}
-use Rattle.paging_message.specs.Neighbors.{neighbor_body, IsNeighborList}
-use Rattle.paging_message.specs.Others.{other_body, IsOther}
-use Rattle.paging_message.specs.System.{system_body, IsSystem}
+use Rattle.paging_message.specs.Channels.{IsChannelList}
+use Rattle.paging_message.specs.Layouts.{contents_of, kind_of, shape_of}
+use Rattle.paging_message.specs.Neighbors.{IsNeighborList}
+use Rattle.paging_message.specs.Others.{IsOther}
+use Rattle.paging_message.specs.Spelling.{body_of}
+use Rattle.paging_message.specs.System.{IsSystem}
 use Rattle.paging_message.specs.declared.message.PagingMessage.{PagingMessage}
 use Rattle.paging_message.specs.declared.message.PagingMessage.TheVariants as messages
 
-abbrev pub message_body : PagingMessage → List Bool
-message_body (messages.System m) = system_body m
-message_body (messages.Neighbors m) = neighbor_body m
-message_body (messages.Channels m) = channel_body m
-message_body (messages.Other m) = other_body m
+-- the type, and what the message says by the type's layout
+unfoldable pub message_body : PagingMessage → List Bool
+message_body m = body_of (kind_of m) (shape_of (kind_of m)) (contents_of m)
 
 -- the message has a spelling
 abbrev pub IsPagingMessage : PagingMessage → Type 0

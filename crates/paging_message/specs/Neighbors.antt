@@ -1,33 +1,40 @@
 -- The Neighbor List Message (TIA/EIA-95-B, 7.7.2.3.2.3).
-use Rattle.std.specs.Prelude.{ℕ, ◌≡◌, ◌≤◌, Bool, List, [], ◌∷◌, ◌++◌, length}
-use Rattle.chip_core.specs.Fields.{field}
-use Rattle.chip_core.specs.declared.field.Field.{Field}
-use Rattle.paging_message.specs.Spelling.{body_of_fields, IsSpelled}
+use Rattle.std.specs.Prelude.{ℕ, List, [], ◌∷◌, codes, get_or, Some}
+use Rattle.message_layout.specs.Plain.{plain_contents, plain_shape}
+use Rattle.message_layout.specs.Shapes.{Shape}
+use Rattle.message_layout.specs.declared.contents.Contents.{Contents}
+use Rattle.paging_message.specs.Spelling.{IsSpelled}
 use Rattle.paging_message.specs.declared.fields.NeighborFields.{NeighborFields}
+
+-- the widths of the first fields, and their names
+abbrev pub neighbor_widths : List ℕ
+neighbor_widths = 9 ∷ 6 ∷ 4 ∷ []
+
+abbrev pub neighbor_names : List (List ℕ)
+neighbor_names = codes "pn" ∷ codes "seq" ∷ codes "inc" ∷ []
+
+-- behind them as many neighbors as fit, of each its configuration and its offset
+abbrev pub neighbor_shape : Shape
+neighbor_shape = plain_shape neighbor_widths (3 ∷ 9 ∷ []) 0 (Some 7)
 
 -- the values of the first fields, in the order of the table
 abbrev pub neighbor_values : NeighborFields → List ℕ
 neighbor_values m = m.pn ∷ m.seq ∷ m.inc ∷ []
 
--- the neighbors, for each its configuration in 3 bits and its offset in 9
-abbrev pub neighbor_records : List ℕ → List ℕ → List Field
-neighbor_records [] pns = []
-neighbor_records (config ∷ configs) [] = []
-neighbor_records (config ∷ configs) (pn ∷ pns) =
-    field 3 config ∷ field 9 pn ∷ neighbor_records configs pns
+-- what the message says
+abbrev pub neighbor_contents : NeighborFields → Contents
+neighbor_contents m = plain_contents (neighbor_values m) (m.configs ∷ m.pns ∷ [] ∷ []) m.rest
 
--- the message type, 3, and the fields before the neighbors
-abbrev pub neighbor_head : NeighborFields → List Field
-neighbor_head m = field 8 3 ∷ field 9 m.pn ∷ field 6 m.seq ∷ field 4 m.inc ∷ []
+abbrev pub IsNeighborList : NeighborFields → Type 0
+IsNeighborList m = IsSpelled 3 neighbor_shape (neighbor_contents m)
 
-abbrev pub neighbor_fields : NeighborFields → List Field
-neighbor_fields m = neighbor_head m ++ neighbor_records m.configs m.pns
-
-abbrev pub neighbor_body : NeighborFields → List Bool
-neighbor_body m = body_of_fields (neighbor_fields m) m.rest
-
--- each neighbor has both, and as many neighbors as fit leave at most 7 bits
-pub record IsNeighborList (m : NeighborFields) : Type 0 where
-  pub spelled : IsSpelled (neighbor_fields m) m.rest
-  pub paired : length m.configs ≡ length m.pns
-  pub left : length m.rest ≤ 7
+-- the message that says so
+abbrev pub neighbors_from : Contents → NeighborFields
+neighbors_from c = record {
+  pn = get_or c.fixed 0 0;
+  seq = get_or c.fixed 1 0;
+  inc = get_or c.fixed 2 0;
+  configs = get_or c.columns 0 [];
+  pns = get_or c.columns 1 [];
+  rest = c.rest;
+}

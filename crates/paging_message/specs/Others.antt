@@ -1,19 +1,25 @@
 -- Messages of other types: the type, and all bits behind it.
-use Rattle.std.specs.Prelude.{◌≢◌, Bool, List, [], ◌∷◌}
-use Rattle.chip_core.specs.Fields.{field}
-use Rattle.chip_core.specs.declared.field.Field.{Field}
-use Rattle.paging_message.specs.Spelling.{body_of_fields, IsSpelled}
+use Rattle.std.specs.Prelude.{ℕ, ◌≢◌, [], ◌∷◌, None}
+use Rattle.message_layout.specs.Plain.{plain_contents, plain_shape}
+use Rattle.message_layout.specs.Shapes.{Shape}
+use Rattle.message_layout.specs.declared.contents.Contents.{Contents}
+use Rattle.paging_message.specs.Spelling.{IsSpelled}
 use Rattle.paging_message.specs.declared.fields.OtherFields.{OtherFields}
 
-abbrev pub other_fields : OtherFields → List Field
-other_fields m = field 8 m.kind ∷ []
+abbrev pub other_shape : Shape
+other_shape = plain_shape [] [] 0 None
 
-abbrev pub other_body : OtherFields → List Bool
-other_body m = body_of_fields (other_fields m) m.bits
+-- what the message says
+abbrev pub other_contents : OtherFields → Contents
+other_contents m = plain_contents [] ([] ∷ [] ∷ [] ∷ []) m.bits
 
 -- the types 1, 3 and 4 have fields of their own
 pub record IsOther (m : OtherFields) : Type 0 where
-  pub spelled : IsSpelled (other_fields m) m.bits
+  pub spelled : IsSpelled m.kind other_shape (other_contents m)
   pub not_system : m.kind ≢ 1
   pub not_neighbors : m.kind ≢ 3
   pub not_channels : m.kind ≢ 4
+
+-- the message of this type that says so
+abbrev pub other_from : ℕ → Contents → OtherFields
+other_from kind c = record { kind = kind; bits = c.rest }

@@ -1,10 +1,31 @@
 -- The System Parameters Message (TIA/EIA-95-B, 7.7.2.3.2.1).
-use Rattle.std.specs.Prelude.{ℕ, Bool, List, [], ◌∷◌, get_or}
-use Rattle.chip_core.specs.Fields.{field}
-use Rattle.chip_core.specs.declared.field.Field.{Field}
-use Rattle.paging_message.specs.Spelling.{body_of_fields, IsSpelled}
-use Rattle.paging_message.specs.Widths.{in_widths, system_widths}
+use Rattle.std.specs.Prelude.{ℕ, Bool, List, [], ◌∷◌, codes, get_or, None}
+use Rattle.message_layout.specs.Plain.{plain_contents, plain_shape}
+use Rattle.message_layout.specs.Shapes.{Shape}
+use Rattle.message_layout.specs.declared.contents.Contents.{Contents}
+use Rattle.paging_message.specs.Spelling.{IsSpelled}
 use Rattle.paging_message.specs.declared.fields.SystemFields.{SystemFields}
+
+-- the widths of the fields in their order
+abbrev pub system_widths : List ℕ
+system_widths =
+    9 ∷ 6 ∷ 15 ∷ 16 ∷ 12 ∷ 3 ∷ 3 ∷ 1 ∷ 1 ∷ 16 ∷ 4 ∷ 3 ∷ 3 ∷ 1 ∷ 1 ∷ 1 ∷ 1 ∷ 1 ∷ 1 ∷ 7 ∷ 22 ∷ 23
+    ∷ 11 ∷ 4 ∷ 4 ∷ 4 ∷ 4 ∷ 5 ∷ 4 ∷ 1 ∷ 1 ∷ 5 ∷ 1 ∷ 6 ∷ 6 ∷ 4 ∷ 4 ∷ []
+
+-- their names
+abbrev pub system_names : List (List ℕ)
+system_names =
+    codes "pn" ∷ codes "seq" ∷ codes "sid" ∷ codes "nid" ∷ codes "zone" ∷ codes "zones"
+    ∷ codes "ztimer" ∷ codes "msids" ∷ codes "mnids" ∷ codes "base" ∷ codes "bclass"
+    ∷ codes "pages" ∷ codes "cycle" ∷ codes "home" ∷ codes "fsid" ∷ codes "fnid" ∷ codes "up"
+    ∷ codes "down" ∷ codes "param" ∷ codes "prd" ∷ codes "lat" ∷ codes "long" ∷ codes "dist"
+    ∷ codes "wina" ∷ codes "winn" ∷ codes "winr" ∷ codes "age" ∷ codes "pthresh"
+    ∷ codes "pframes" ∷ codes "pthen" ∷ codes "pperen" ∷ codes "pdelay" ∷ codes "rescan"
+    ∷ codes "tadd" ∷ codes "tdrop" ∷ codes "tcomp" ∷ codes "ttdrop" ∷ []
+
+-- all bits behind the fields
+abbrev pub system_shape : Shape
+system_shape = plain_shape system_widths [] 0 None
 
 -- the values of the fields, in the order of the table
 abbrev pub system_values : SystemFields → List ℕ
@@ -14,15 +35,12 @@ system_values m =
     ∷ m.lat ∷ m.long ∷ m.dist ∷ m.wina ∷ m.winn ∷ m.winr ∷ m.age ∷ m.pthresh ∷ m.pframes
     ∷ m.pthen ∷ m.pperen ∷ m.pdelay ∷ m.rescan ∷ m.tadd ∷ m.tdrop ∷ m.tcomp ∷ m.ttdrop ∷ []
 
--- the message type, 1, and the fields
-abbrev pub system_fields : SystemFields → List Field
-system_fields m = field 8 1 ∷ in_widths system_widths (system_values m)
-
-abbrev pub system_body : SystemFields → List Bool
-system_body m = body_of_fields (system_fields m) m.rest
+-- what the message says
+abbrev pub system_contents : SystemFields → Contents
+system_contents m = plain_contents (system_values m) ([] ∷ [] ∷ [] ∷ []) m.rest
 
 abbrev pub IsSystem : SystemFields → Type 0
-IsSystem m = IsSpelled (system_fields m) m.rest
+IsSystem m = IsSpelled 1 system_shape (system_contents m)
 
 -- the fields of these values
 unfoldable pub system_of : List ℕ → List Bool → SystemFields
@@ -66,3 +84,7 @@ system_of values rest = record {
   ttdrop = get_or values 36 0;
   rest = rest;
 }
+
+-- the message that says so
+abbrev pub system_from : Contents → SystemFields
+system_from c = system_of c.fixed c.rest

@@ -1,47 +1,79 @@
 -- Worked values.
-use Rattle.std.specs.Prelude.{◌≡◌, refl, ◌+◌, ◌*◌, ◌-◌, Bool, true, false, List, [], ◌∷◌, ◌++◌}
+use Rattle.std.specs.Prelude.{◌≡◌, refl, ℕ, ◌+◌, ◌*◌, ◌-◌, Bool, true, false, List, [], ◌∷◌, ◌++◌}
 use Rattle.std.specs.Prelude.{replicate, length, take, map, Some, None}
 use Rattle.chip_core.specs.Bits.{number, binary, places}
 use Rattle.chip_core.specs.declared.check_form.CheckForm.TheVariants.{Plain}
+use Rattle.message_layout.specs.Spelling.{spelling}
 use Rattle.quality_bits.specs.Capsules.{capsule, is_stated}
 use Rattle.quality_bits.specs.declared.kind.Kind.TheVariants.{M30}
 use Rattle.quality_bits.specs.Quality.{check_bits}
-use Rattle.paging_message.specs.Channels.{channel_body}
 use Rattle.paging_message.specs.HalfFrames.{bits_left, ends_chain, half_frames}
 use Rattle.paging_message.specs.HalfFrames.{half_frame_capsule_ending}
 use Rattle.paging_message.specs.Laying.{Laid, laid_on, nothing_laid, half_frames_of, framed, fill}
-use Rattle.paging_message.specs.Messages.{paging_capsule}
+use Rattle.paging_message.specs.Messages.{message_body, paging_capsule}
 use Rattle.paging_message.specs.Admitted.{admits}
 use Rattle.paging_message.specs.Reading.{body_reading, is_body, message_at}
 use Rattle.paging_message.specs.Reading.{paging_reading}
-use Rattle.paging_message.specs.Spelling.{body_of_fields}
+use Rattle.paging_message.specs.System.{system_of}
 use Rattle.paging_message.specs.declared.fields.ChannelFields.{ChannelFields}
-use Rattle.paging_message.specs.declared.message.PagingMessage.TheVariants.{Channels, Other}
+use Rattle.paging_message.specs.declared.fields.NeighborFields.{NeighborFields}
+use Rattle.paging_message.specs.declared.message.PagingMessage.TheVariants.{Channels, Neighbors}
+use Rattle.paging_message.specs.declared.message.PagingMessage.TheVariants.{Other, System}
 
 -- a CDMA Channel List: `34:04ff8046c0`, nine octets as a capsule
 one_channel : ChannelFields
 one_channel = record { pn = 511; seq = 0; freqs = 283 ∷ []; rest = [] }
 
-channel_spelled : channel_body one_channel ++ replicate 6 false ≡ binary 40 0x04ff8046c0
-unfolding one_channel body_of_fields binary
+channel_spelled :
+    message_body (Channels one_channel) ++ replicate 6 false ≡ binary 40 0x04ff8046c0
+unfolding one_channel message_body spelling binary
 channel_spelled = refl
+
+-- a Neighbor List of two neighbors, and three bits behind them
+two_neighbors : NeighborFields
+two_neighbors =
+    record {
+      pn = 511;
+      seq = 0;
+      inc = 4;
+      configs = 0 ∷ 7 ∷ [];
+      pns = 4 ∷ 508 ∷ [];
+      rest = binary 3 5;
+    }
+
+neighbors_spelled :
+    message_body (Neighbors two_neighbors) ++ replicate 2 false ≡ binary 56 0x03ff808009ff94
+unfolding two_neighbors message_body spelling binary
+neighbors_spelled = refl
+
+-- a System Parameters Message whose fields are the places of the table, as far as they have room
+places_in_order : List ℕ
+places_in_order =
+    0 ∷ 1 ∷ 2 ∷ 3 ∷ 4 ∷ 5 ∷ 6 ∷ 1 ∷ 0 ∷ 9 ∷ 10 ∷ 3 ∷ 4 ∷ 1 ∷ 0 ∷ 1 ∷ 0 ∷ 1 ∷ 0 ∷ 19 ∷ 20 ∷ 21 ∷ 22
+    ∷ 7 ∷ 8 ∷ 9 ∷ 10 ∷ 11 ∷ 12 ∷ 1 ∷ 0 ∷ 15 ∷ 1 ∷ 17 ∷ 18 ∷ 3 ∷ 4 ∷ []
+
+system_spelled :
+    message_body (System (system_of places_in_order [])) ++ replicate 2 false
+    ≡ binary 224 0x0100020008000c012e800269ca898000280000540b3c4d2f27d148d0
+unfolding places_in_order system_of message_body spelling binary
+system_spelled = refl
 
 channel_octets : (length (paging_capsule Plain (Channels one_channel)) ≡ 72) ×
     (number (take 8 (paging_capsule Plain (Channels one_channel))) ≡ 9)
-unfolding one_channel paging_capsule body_of_fields capsule check_bits binary places
+unfolding one_channel paging_capsule message_body spelling capsule check_bits binary places
 channel_octets = (refl, refl)
 
 -- what is read is what was spelled
 channel_read :
     paging_reading Plain (paging_capsule Plain (Channels one_channel)) ≡ Some (Channels one_channel)
 unfolding one_channel paging_reading body_reading is_body admits message_at
-    paging_capsule body_of_fields capsule check_bits binary places
+    paging_capsule message_body spelling capsule check_bits binary places
 channel_read = refl
 
 -- the longest message of type 9
 longest : length (paging_capsule Plain (Other (record { kind = 9; bits = replicate 1138 false })))
     ≡ 1184
-unfolding paging_capsule body_of_fields capsule check_bits binary places
+unfolding paging_capsule message_body spelling capsule check_bits binary places
 longest = refl
 
 -- A capsule of 94 octets fills eight half-frames but for 8 bits, and another one of 6 octets

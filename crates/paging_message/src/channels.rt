@@ -1,8 +1,8 @@
 //! The CDMA Channel List Message.
 
 ghost use Rattle.std.specs.Prelude.{◌≡◌};
-ghost use Rattle.paging_message.specs.Channels.{channel_values, IsChannelList};
-ghost use Rattle.paging_message.specs.Layouts.{channel_contents, channels_from};
+ghost use Rattle.paging_message.specs.Channels.{channel_contents, channel_values};
+ghost use Rattle.paging_message.specs.Channels.{channels_from, IsChannelList};
 
 use crate::fields::ChannelFields;
 use crate::table::CHANNEL_FIELDS;

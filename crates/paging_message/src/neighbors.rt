@@ -1,8 +1,8 @@
 //! The Neighbor List Message.
 
 ghost use Rattle.std.specs.Prelude.{◌≡◌};
-ghost use Rattle.paging_message.specs.Layouts.{neighbor_contents, neighbors_from};
-ghost use Rattle.paging_message.specs.Neighbors.{neighbor_values, IsNeighborList};
+ghost use Rattle.paging_message.specs.Neighbors.{neighbor_contents, neighbor_values};
+ghost use Rattle.paging_message.specs.Neighbors.{neighbors_from, IsNeighborList};
 
 use crate::fields::NeighborFields;
 use crate::table::NEIGHBOR_FIELDS;

@@ -1,8 +1,7 @@
 //! Messages of types without fields of their own.
 
 ghost use Rattle.std.specs.Prelude.{◌≡◌};
-ghost use Rattle.paging_message.specs.Layouts.{other_contents, other_from};
-ghost use Rattle.paging_message.specs.Others.{IsOther};
+ghost use Rattle.paging_message.specs.Others.{other_contents, other_from, IsOther};
 
 use crate::fields::OtherFields;
 use chip_core::{Bits, Numbers};

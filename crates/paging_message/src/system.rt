@@ -1,10 +1,9 @@
 //! The System Parameters Message.
 
 ghost use Rattle.std.specs.Prelude.{◌≡◌};
-ghost use Rattle.chip_core.specs.Fields.{FieldsFit};
-ghost use Rattle.paging_message.specs.Layouts.{system_contents, system_from};
-ghost use Rattle.paging_message.specs.System.{system_of, system_values, IsSystem};
-ghost use Rattle.paging_message.specs.Widths.{in_widths, system_widths};
+ghost use Rattle.chip_core.specs.Fields.{in_widths, FieldsFit};
+ghost use Rattle.paging_message.specs.System.{system_contents, system_from, system_of};
+ghost use Rattle.paging_message.specs.System.{system_values, system_widths, IsSystem};
 
 use crate::fields::SystemFields;
 use crate::table::{SYSTEM_FIELDS, system_fields};

@@ -1,7 +1,7 @@
 //! The fields of the messages by name and width.
 
 ghost use Rattle.std.specs.Prelude.{◌≡◌, ◌<◌, [], get_or};
-ghost use Rattle.paging_message.specs.Widths.{system_names};
+ghost use Rattle.paging_message.specs.System.{system_names};
 
 use message_layout::{field_rows, name_in};
 

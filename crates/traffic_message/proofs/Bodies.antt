@@ -6,9 +6,10 @@ use Rattle.traffic_message.proofs.Common.{drop_at, binary, digit, spelled, in_wi
 use Rattle.traffic_message.proofs.Common.{length-in_widths, values_again, values_there, FillsCapsule, M16, is_hard, head_widths}
 use Rattle.traffic_message.proofs.Common.{TrafficBody, Head, Form, HasFields, body_from, contents_of, form_at, form_in, shape_of, Contents}
 use Rattle.traffic_message.proofs.Common.{mapped, fields_at, mapped_some, some_is, reading_again, reading_there, not_both, get_or}
-use Rattle.traffic_message.proofs.Common.{head_contents, head_in, head_shape, typed_widths, spelling}
+use Rattle.traffic_message.proofs.Common.{head_contents, head_in, head_shape, typed_widths, spelling, plain_spelled, plain_contents}
+use Rattle.traffic_message.proofs.Common.{plain_shape, []}
 use Rattle.message_layout.specs.Reading as layouts
-use Rattle.traffic_message.proofs.ByLayout.{head_written, laid, lawful, made_of, spelled_as}
+use Rattle.traffic_message.proofs.ByLayout.{head_written, laid, lawful, made_again, made_of, spelled_as}
 use Rattle.traffic_message.proofs.Directions.{soft_bits}
 use Rattle.traffic_message.specs.Messages as messages
 use Rattle.traffic_message.specs.Reading as reading
@@ -62,6 +63,10 @@ only_plain h forms.Direction kind bits is (inr (a, b, inl other)) = absurd (othe
 only_plain h forms.Direction kind bits is (inr (a, b, inr hard)) = absurd (not_both is.2 hard)
 only_plain h forms.Plain kind bits is of_kind = refl
 
+plain_bits : (bits : List Bool) →
+    spelling (plain_shape [] [] 0 None) (plain_contents [] ([] ∷ [] ∷ [] ∷ []) bits) ≡ bits
+plain_bits bits = plain_spelled [] [] 0 None [] ([] ∷ [] ∷ [] ∷ []) bits
+
 form_again : (h : Head) (b : TrafficBody) → messages.IsOfKind h b →
     form_at (messages.kind_of b) h.encryption (messages.bits_of b) ≡ form_in b
 form_again h (bodies.System m) is = let t = eq-eqb h.encryption 0 is.0 in rw t refl
@@ -71,7 +76,8 @@ form_again h (bodies.Handoff m) is =
     let soft = soft_bits m in
     rw (t, soft) refl
 form_again h (bodies.Other kind bits) is =
-    only_plain h (form_at kind h.encryption bits) kind bits (form_is kind h.encryption bits) is
+    rw (plain_bits bits)
+    (only_plain h (form_at kind h.encryption bits) kind bits (form_is kind h.encryption bits) is)
 
 fields_of : (h : Head) (b : TrafficBody) → messages.IsOfKind h b → HasFields b
 fields_of h (bodies.System m) is = is.1
@@ -89,9 +95,8 @@ part_again h b is =
     let bits = messages.bits_of b in
     let own = laid b (fields_of h b is) in
     ap (λ (g : Form). mapped (body_from g k) (layouts.reading (shape_of g) bits)) (form_again h b is)
-    ∙ ap (λ (r : List Bool). mapped (body_from f k) (layouts.reading (shape_of f) r)) (sym own.same)
-    ∙ ap (mapped (body_from f k)) (reading_again (shape_of f) (contents_of b) (lawful f) own.is)
-    ∙ ap Some own.made
+    ∙ ap (mapped (body_from f k)) (reading_again (shape_of f) (contents_of b) (lawful f) own)
+    ∙ ap Some (made_again b)
 
 -- what it says has this type and these bits
 abbrev pub Says : ℕ → ℕ → List Bool → TrafficBody → Type 0
@@ -116,7 +121,12 @@ of_kind forms.Direction kind encryption bits c h is fields same e = (e ∙ is.0,
 of_kind forms.Plain kind encryption bits c h (inl secret) fields same e =
     inl (λ z. secret (sym e ∙ z))
 of_kind forms.Plain kind encryption bits c h (inr plain) fields same e =
-    inr (plain.0, plain.1, subst (λ (r : List Bool). (kind ≢ 17) ⊎ (is_hard r ≡ true)) same plain.2)
+    inr (
+      plain.0,
+      plain.1,
+      subst (λ (r : List Bool). (kind ≢ 17) ⊎ (is_hard r ≡ true))
+          (same ∙ plain_bits c.rest) plain.2,
+    )
 
 -- what is read is spelled so
 pub part_there : (h : Head) (kind : ℕ) (bits : List Bool) (b : TrafficBody) →

@@ -1,9 +1,8 @@
 -- What the proofs of this crate cite of what lies below, and of its own definitions, passed on from one place.
 pub use Rattle.std.proofs.Common.{Bool, List, None, Ok, Option, Some, [], ap, append_assoc, arith, cond, drop, false, get_or, inl, inr}
-pub use Rattle.std.proofs.Common.{length, length-append, map, nat_le, not, refl, rules, slice_get, subst, suc, sym, take, true, zero, ℕ}
+pub use Rattle.std.proofs.Common.{is_some, length, length-append, nat_le, refl, rules, slice_get, subst, sym, take, true, ℕ}
 pub use Rattle.std.proofs.Common.{◌%◌, ◌&&◌, ◌*◌, ◌++◌, ◌+◌, ◌-◌, ◌/◌, ◌<◌, ◌==◌, ◌^◌, ◌∙◌, ◌∷◌, ◌≡◌, ◌≢◌, ◌≤◌, ◌⊎◌}
-pub use Rattle.std.proofs.lemmas.Bool.{and_from, and_parts, cases_Bool, cases_lt, eq-eqb, eqb-false, eqb-true, le-leb, leb-false, leb-true}
-pub use Rattle.std.proofs.lemmas.Bool.{lt-leb, ne_eqb}
+pub use Rattle.std.proofs.lemmas.Bool.{and_from, and_parts, cases_Bool, eq-eqb, eqb-false, eqb-true, le-leb, leb-true}
 pub use Rattle.std.proofs.lemmas.List.{append-nil, drop_all, drop_at, length-drop, take-append-drop, take_all}
 pub use Rattle.std.proofs.lemmas.List.Elements.{All-from_get_or}
 pub use Rattle.std.proofs.lemmas.Option.{get_or_from_slice_get}
@@ -11,24 +10,22 @@ pub use Rattle.std.specs.Prelude.{IfSome}
 pub use Rattle.chip_core.proofs.Digits.{digit_of}
 pub use Rattle.chip_core.proofs.FieldLists.{length-binary, slice_get-drop}
 pub use Rattle.chip_core.proofs.Places.{map-places-all}
-pub use Rattle.chip_core.proofs.ValueLists.{behind_front, dropped, front, length-in_widths, number_front, values_again, values_there}
+pub use Rattle.chip_core.proofs.ValueLists.{behind_front, dropped, length-in_widths, number_front, values_again, values_there}
 pub use Rattle.chip_core.specs.Bits.{digit, number}
 unfoldable pub use Rattle.chip_core.specs.Bits.{binary, places}
-pub use Rattle.chip_core.specs.Fields.{FieldsFit, field, in_widths, spelled, total}
-pub use Rattle.chip_core.specs.Readings.{column_at, number_at, values_at}
+pub use Rattle.chip_core.specs.Fields.{FieldsFit, in_widths, spelled}
+pub use Rattle.chip_core.specs.Readings.{number_at, values_at}
 pub use Rattle.chip_core.specs.declared.check_form.CheckForm.{CheckForm}
-pub use Rattle.chip_core.specs.declared.field.Field.{Field}
 pub use Rattle.message_layout.proofs.Loops.{not_both}
-pub use Rattle.message_layout.proofs.Messages.{all_columns, first_column, mapped_cond, mapped_some, no_columns, one_value}
+pub use Rattle.message_layout.proofs.Messages.{all_columns, first_column, mapped_some, no_columns, one_value}
 pub use Rattle.message_layout.proofs.Parts.{some_is}
-pub use Rattle.message_layout.proofs.Plain.{fields_reading, list_reading, list_said, list_told, plain_back, plain_of, plain_spelled}
-pub use Rattle.message_layout.proofs.Plain.{record_map, rest_back}
+pub use Rattle.message_layout.proofs.Columns.{length-records, record_fit}
+pub use Rattle.message_layout.proofs.Plain.{plain_back, plain_of, plain_spelled, rest_back}
 pub use Rattle.message_layout.proofs.Round.{reading_again, reading_there}
 pub use Rattle.message_layout.specs.Contents.{count_in, record_fields}
 pub use Rattle.message_layout.specs.Plain.{plain_contents, plain_shape}
-pub use Rattle.message_layout.specs.Reading.{mapped, rest_at, ◌>>=◌}
-unfoldable pub use Rattle.message_layout.specs.Reading.{fields_at, group_at, number_part, octets_at, part_at, presence_at, reading}
-unfoldable pub use Rattle.message_layout.specs.Reading.{records_at}
+pub use Rattle.message_layout.specs.Reading.{mapped}
+unfoldable pub use Rattle.message_layout.specs.Reading.{fields_at, reading}
 pub use Rattle.message_layout.specs.Shapes.{Shape}
 unfoldable pub use Rattle.message_layout.specs.Shapes.{is_lawful}
 pub use Rattle.message_layout.specs.Spelling.{IsGroup, IsOf, behind_group, group_fields}
@@ -40,22 +37,20 @@ pub use Rattle.quality_bits.proofs.Decoded.{undecoded, whole_checked}
 pub use Rattle.quality_bits.specs.Capsules.{FillsCapsule, capsule}
 pub use Rattle.quality_bits.specs.declared.kind.Kind.TheVariants.{M16}
 pub use Rattle.traffic_message.specs.Admitted.{HasMessage}
-unfoldable pub use Rattle.traffic_message.specs.Admitted.{admits, part_admits}
-pub use Rattle.traffic_message.specs.Handoff.{direction_records, is_hard}
+unfoldable pub use Rattle.traffic_message.specs.Admitted.{admits}
+pub use Rattle.traffic_message.specs.Handoff.{is_hard}
 pub use Rattle.traffic_message.specs.Layouts.{HasFields, body_from, contents_of, form_at, form_in, head_contents, head_in, head_shape}
 pub use Rattle.traffic_message.specs.Layouts.{shape_of, typed_widths}
 pub use Rattle.traffic_message.specs.Messages.{IsTrafficMessage, Message, bits_of, head_fields, head_values, kind_of, message_body}
 unfoldable pub use Rattle.traffic_message.specs.Messages.{traffic_capsule}
 pub use Rattle.traffic_message.specs.Multiplex.{joined, primary_bits}
 unfoldable pub use Rattle.traffic_message.specs.Multiplex.{split_9600}
-unfoldable pub use Rattle.traffic_message.specs.Neighbors.{has_neighbors}
 pub use Rattle.traffic_message.specs.Reading.{body_reading, head_at, is_body, traffic_reading}
 unfoldable pub use Rattle.traffic_message.specs.Reading.{part_reading}
 pub use Rattle.traffic_message.specs.Widths.{head_widths, in_traffic_widths, search_widths, time_widths}
 pub use Rattle.traffic_message.specs.declared.body.TrafficBody.{TrafficBody}
 pub use Rattle.traffic_message.specs.declared.fields.DirectionFields.{DirectionFields}
 pub use Rattle.traffic_message.specs.declared.fields.Head.{Head}
-pub use Rattle.traffic_message.specs.declared.fields.InTrafficFields.{InTrafficFields}
 pub use Rattle.traffic_message.specs.declared.fields.Search.{Search}
 pub use Rattle.traffic_message.specs.declared.fields.UpdateFields.{UpdateFields}
 pub use Rattle.traffic_message.specs.declared.layouts.Form.{Form}

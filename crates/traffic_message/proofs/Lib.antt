@@ -5,4 +5,3 @@ pub mod Directions
 pub mod Frames
 pub mod ByLayout
 pub mod Readings
-pub mod Records

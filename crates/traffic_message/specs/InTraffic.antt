@@ -1,7 +1,9 @@
 -- The In-Traffic System Parameters Message (TIA/EIA-95-B, 7.7.3.3.2.7).
-use Rattle.std.specs.Prelude.{ℕ, Bool, List, [], ◌∷◌, ◌++◌, get_or}
-use Rattle.chip_core.specs.Fields.{spelled, in_widths, FieldsFit}
-use Rattle.chip_core.specs.declared.field.Field.{Field}
+use Rattle.std.specs.Prelude.{ℕ, Bool, List, [], ◌∷◌, get_or, None}
+use Rattle.message_layout.specs.Plain.{plain_contents, plain_shape}
+use Rattle.message_layout.specs.Shapes.{Shape}
+use Rattle.message_layout.specs.Spelling.{IsOf}
+use Rattle.message_layout.specs.declared.contents.Contents.{Contents}
 use Rattle.traffic_message.specs.Widths.{in_traffic_widths}
 use Rattle.traffic_message.specs.declared.fields.InTrafficFields.{InTrafficFields}
 
@@ -10,16 +12,16 @@ abbrev pub in_traffic_values : InTrafficFields → List ℕ
 in_traffic_values m =
     m.sid ∷ m.nid ∷ m.wina ∷ m.winn ∷ m.winr ∷ m.tadd ∷ m.tdrop ∷ m.tcomp ∷ m.ttdrop ∷ m.age ∷ []
 
-abbrev pub in_traffic_fields : InTrafficFields → List Field
-in_traffic_fields m = in_widths in_traffic_widths (in_traffic_values m)
+-- the fields, and all bits behind them
+abbrev pub in_traffic_shape : Shape
+in_traffic_shape = plain_shape in_traffic_widths [] 0 None
 
--- what stands behind the head
-unfoldable pub in_traffic_bits : InTrafficFields → List Bool
-in_traffic_bits m = spelled (in_traffic_fields m) ++ m.rest
+-- what the message says, which fits
+abbrev pub in_traffic_contents : InTrafficFields → Contents
+in_traffic_contents m = plain_contents (in_traffic_values m) ([] ∷ [] ∷ [] ∷ []) m.rest
 
--- the fields fit
 abbrev pub IsInTraffic : InTrafficFields → Type 0
-IsInTraffic m = FieldsFit (in_traffic_fields m)
+IsInTraffic m = IsOf in_traffic_shape (in_traffic_contents m)
 
 -- the fields of these values
 unfoldable pub in_traffic_of : List ℕ → List Bool → InTrafficFields
@@ -36,3 +38,7 @@ in_traffic_of values rest = record {
   age = get_or values 9 0;
   rest = rest;
 }
+
+-- the message that says so
+abbrev pub in_traffic_from : Contents → InTrafficFields
+in_traffic_from c = in_traffic_of c.fixed c.rest

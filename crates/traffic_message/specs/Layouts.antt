@@ -1,28 +1,34 @@
 -- The layouts of what stands behind the head, and what the messages say as contents of these.
 use Rattle.std.specs.Prelude.{ℕ, ◌==◌, ◌&&◌, if◌then◌else◌, not, Bool, List, [], ◌∷◌, get_or}
-use Rattle.std.specs.Prelude.{Option, None, Some}
+use Rattle.std.specs.Prelude.{None}
+use Rattle.chip_core.specs.Bits.{digit}
+use Rattle.chip_core.specs.Fields.{in_widths}
+use Rattle.chip_core.specs.declared.field.Field.{Field}
 use Rattle.message_layout.specs.Plain.{plain_contents, plain_shape}
 use Rattle.message_layout.specs.Shapes.{Shape}
+use Rattle.message_layout.specs.Spelling.{spelling}
 use Rattle.message_layout.specs.declared.contents.Contents.{Contents}
-use Rattle.message_layout.specs.declared.layout.Presence.TheVariants.{Flagged}
-use Rattle.traffic_message.specs.Handoff.{direction_of, is_hard, search_of, search_values}
-use Rattle.traffic_message.specs.Handoff.{time_values, IsHandoffDirection}
-use Rattle.traffic_message.specs.InTraffic.{in_traffic_of, in_traffic_values, IsInTraffic}
-use Rattle.traffic_message.specs.Messages.{head_values}
-use Rattle.traffic_message.specs.Neighbors.{update_values, IsNeighborUpdate}
-use Rattle.traffic_message.specs.Widths.{head_widths, in_traffic_widths, search_widths, time_widths}
-use Rattle.traffic_message.specs.Widths.{update_widths}
+use Rattle.traffic_message.specs.Handoff.{direction_contents, direction_from, direction_shape}
+use Rattle.traffic_message.specs.Handoff.{is_hard, IsHandoffDirection}
+use Rattle.traffic_message.specs.InTraffic.{in_traffic_contents, in_traffic_from, in_traffic_shape}
+use Rattle.traffic_message.specs.InTraffic.{IsInTraffic}
+use Rattle.traffic_message.specs.Neighbors.{update_contents, update_from, update_shape}
+use Rattle.traffic_message.specs.Neighbors.{IsNeighborUpdate}
+use Rattle.traffic_message.specs.Widths.{head_widths}
 use Rattle.traffic_message.specs.declared.body.TrafficBody.{TrafficBody}
 use Rattle.traffic_message.specs.declared.body.TrafficBody.TheVariants as bodies
-use Rattle.traffic_message.specs.declared.fields.DirectionFields.{DirectionFields}
 use Rattle.traffic_message.specs.declared.fields.Head.{Head}
-use Rattle.traffic_message.specs.declared.fields.InTrafficFields.{InTrafficFields}
-use Rattle.traffic_message.specs.declared.fields.Search.{Search}
-use Rattle.traffic_message.specs.declared.fields.UpdateFields.{UpdateFields}
 use Rattle.traffic_message.specs.declared.layouts.Form.{Form}
 use Rattle.traffic_message.specs.declared.layouts.Form.TheVariants as forms
 
 -- THE TYPE AND THE HEAD
+-- the values of the fields of the head, in the order of the table
+abbrev pub head_values : Head → List ℕ
+head_values h = h.ack_seq ∷ h.msg_seq ∷ digit h.ack_req ∷ h.encryption ∷ []
+
+abbrev pub head_fields : Head → List Field
+head_fields h = in_widths head_widths (head_values h)
+
 abbrev pub typed_widths : List ℕ
 typed_widths = 8 ∷ head_widths
 
@@ -40,61 +46,6 @@ head_in values = record {
   ack_req = get_or values 3 0 == 1;
   encryption = get_or values 4 0;
 }
-
--- IN-TRAFFIC SYSTEM PARAMETERS
-abbrev pub in_traffic_shape : Shape
-in_traffic_shape = plain_shape in_traffic_widths [] 0 None
-
-abbrev pub in_traffic_contents : InTrafficFields → Contents
-in_traffic_contents m = plain_contents (in_traffic_values m) ([] ∷ [] ∷ [] ∷ []) m.rest
-
-abbrev pub in_traffic_from : Contents → InTrafficFields
-in_traffic_from c = in_traffic_of c.fixed c.rest
-
--- NEIGHBOR LIST UPDATE
-abbrev pub update_shape : Shape
-update_shape = plain_shape update_widths (9 ∷ []) 1 (Some 7)
-
-abbrev pub update_contents : UpdateFields → Contents
-update_contents m = plain_contents (update_values m) (m.pns ∷ [] ∷ [] ∷ []) m.rest
-
-abbrev pub update_from : Contents → UpdateFields
-update_from c = record { inc = get_or c.fixed 0 0; pns = get_or c.columns 0 []; rest = c.rest }
-
--- EXTENDED HANDOFF DIRECTION
-abbrev pub direction_shape : Shape
-direction_shape = record {
-  fixed = time_widths;
-  presence = Flagged;
-  group = search_widths;
-  zeros = 1;
-  count = 3;
-  records = 9 ∷ 1 ∷ 8 ∷ [];
-  least = 1;
-  most = Some 7;
-}
-
-abbrev pub search_group : Option Search → Option (List ℕ)
-search_group None = None
-search_group (Some search) = Some (search_values search)
-
-abbrev pub search_from : Option (List ℕ) → Option Search
-search_from None = None
-search_from (Some values) = Some (search_of values)
-
-abbrev pub direction_contents : DirectionFields → Contents
-direction_contents m = record {
-  fixed = time_values m;
-  group = search_group m.search;
-  octets = m.extra;
-  columns = m.pns ∷ m.combs ∷ m.rows ∷ [];
-  rest = m.rest;
-}
-
-abbrev pub direction_from : Contents → DirectionFields
-direction_from c =
-    direction_of c.fixed (search_from c.group) c.octets (get_or c.columns 0 [])
-    (get_or c.columns 1 []) (get_or c.columns 2 []) c.rest
 
 -- WHAT STANDS BEHIND A HEAD
 -- its form, by the type where nothing is encrypted
@@ -128,6 +79,10 @@ body_from forms.Parameters kind c = bodies.System (in_traffic_from c)
 body_from forms.Update kind c = bodies.Neighbors (update_from c)
 body_from forms.Direction kind c = bodies.Handoff (direction_from c)
 body_from forms.Plain kind c = bodies.Other kind c.rest
+
+-- what is spelled so
+abbrev pub bits_of : TrafficBody → List Bool
+bits_of b = spelling (shape_of (form_in b)) (contents_of b)
 
 -- the fields are those of a message
 abbrev pub HasFields : TrafficBody → Type 0

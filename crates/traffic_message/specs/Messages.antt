@@ -1,15 +1,14 @@
 -- The signaling messages of the traffic channel (TIA/EIA-95-B, 7.7.3).
 use Rattle.std.specs.Prelude.{ℕ, ◌≡◌, ◌≢◌, ◌⊎◌, Bool, true, List, [], ◌∷◌, ◌++◌}
-use Rattle.chip_core.specs.Bits.{binary, digit}
-use Rattle.chip_core.specs.Fields.{field, spelled, in_widths, FieldsFit}
-use Rattle.chip_core.specs.declared.field.Field.{Field}
+use Rattle.chip_core.specs.Bits.{binary}
+use Rattle.chip_core.specs.Fields.{field, spelled, FieldsFit}
 use Rattle.chip_core.specs.declared.check_form.CheckForm.{CheckForm}
 use Rattle.quality_bits.specs.Capsules.{FillsCapsule, capsule}
 use Rattle.quality_bits.specs.declared.kind.Kind.TheVariants.{M16}
-use Rattle.traffic_message.specs.Handoff.{direction_bits, is_hard, IsHandoffDirection}
-use Rattle.traffic_message.specs.InTraffic.{in_traffic_bits, IsInTraffic}
-use Rattle.traffic_message.specs.Neighbors.{update_bits, IsNeighborUpdate}
-use Rattle.traffic_message.specs.Widths.{head_widths}
+use Rattle.traffic_message.specs.Handoff.{is_hard, IsHandoffDirection}
+use Rattle.traffic_message.specs.InTraffic.{IsInTraffic}
+pub use Rattle.traffic_message.specs.Layouts.{bits_of, head_fields, head_values}
+use Rattle.traffic_message.specs.Neighbors.{IsNeighborUpdate}
 use Rattle.traffic_message.specs.declared.body.TrafficBody.{TrafficBody}
 use Rattle.traffic_message.specs.declared.body.TrafficBody.TheVariants as bodies
 use Rattle.traffic_message.specs.declared.fields.Head.{Head}
@@ -25,20 +24,6 @@ kind_of (bodies.System m) = 7
 kind_of (bodies.Neighbors m) = 8
 kind_of (bodies.Handoff m) = 17
 kind_of (bodies.Other kind bits) = kind
-
--- what stands behind the head
-abbrev pub bits_of : TrafficBody → List Bool
-bits_of (bodies.System m) = in_traffic_bits m
-bits_of (bodies.Neighbors m) = update_bits m
-bits_of (bodies.Handoff m) = direction_bits m
-bits_of (bodies.Other kind bits) = bits
-
--- the values of the fields of the head, in the order of the table
-abbrev pub head_values : Head → List ℕ
-head_values h = h.ack_seq ∷ h.msg_seq ∷ digit h.ack_req ∷ h.encryption ∷ []
-
-abbrev pub head_fields : Head → List Field
-head_fields h = in_widths head_widths (head_values h)
 
 -- the body of the message's capsule: the type, the head, and what stands behind it
 unfoldable pub message_body : Message → List Bool

@@ -1,29 +1,27 @@
 -- The Neighbor List Update Message (TIA/EIA-95-B, 7.7.3.3.2.8).
-use Rattle.std.specs.Prelude.{ℕ, ◌-◌, ◌%◌, ◌≤◌, ◌&&◌, Bool, List, [], ◌∷◌, ◌++◌, length, map}
-use Rattle.std.specs.Prelude.{nat_le}
-use Rattle.chip_core.specs.Bits.{binary}
-use Rattle.chip_core.specs.Fields.{field, spelled, FieldsFit}
-use Rattle.chip_core.specs.declared.field.Field.{Field}
+use Rattle.std.specs.Prelude.{ℕ, List, [], ◌∷◌, get_or, Some}
+use Rattle.message_layout.specs.Plain.{plain_contents, plain_shape}
+use Rattle.message_layout.specs.Shapes.{Shape}
+use Rattle.message_layout.specs.Spelling.{IsOf}
+use Rattle.message_layout.specs.declared.contents.Contents.{Contents}
+use Rattle.traffic_message.specs.Widths.{update_widths}
 use Rattle.traffic_message.specs.declared.fields.UpdateFields.{UpdateFields}
+
+-- the step of offsets, and behind it the offsets of as many neighbors as fit, one at least
+abbrev pub update_shape : Shape
+update_shape = plain_shape update_widths (9 ∷ []) 1 (Some 7)
 
 -- the value of the first field, as the table has it
 abbrev pub update_values : UpdateFields → List ℕ
 update_values m = m.inc ∷ []
 
--- the step of offsets in 4 bits, and each neighbor's offset in 9
-abbrev pub update_fields : UpdateFields → List Field
-update_fields m = field 4 m.inc ∷ map (field 9) m.pns
+-- what the message says, which fits
+abbrev pub update_contents : UpdateFields → Contents
+update_contents m = plain_contents (update_values m) (m.pns ∷ [] ∷ [] ∷ []) m.rest
 
--- what stands behind the head
-unfoldable pub update_bits : UpdateFields → List Bool
-update_bits m = binary 4 m.inc ++ (spelled (map (field 9) m.pns) ++ m.rest)
+abbrev pub IsNeighborUpdate : UpdateFields → Type 0
+IsNeighborUpdate m = IsOf update_shape (update_contents m)
 
--- the fields fit, there is a neighbor, and as many as fit leave at most 7 bits
-pub record IsNeighborUpdate (m : UpdateFields) : Type 0 where
-  pub fits : FieldsFit (update_fields m)
-  pub some : 1 ≤ length m.pns
-  pub left : length m.rest ≤ 7
-
--- whether there is a neighbor, and at most 7 bits are left
-unfoldable pub has_neighbors : List Bool → Bool
-has_neighbors bits = nat_le 13 (length bits) && nat_le ((length bits - 4) % 9) 7
+-- the message that says so
+abbrev pub update_from : Contents → UpdateFields
+update_from c = record { inc = get_or c.fixed 0 0; pns = get_or c.columns 0 []; rest = c.rest }

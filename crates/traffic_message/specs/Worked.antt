@@ -5,12 +5,12 @@ use Rattle.chip_core.specs.Bits.{binary, places}
 use Rattle.chip_core.specs.declared.check_form.CheckForm.TheVariants.{Plain, Complemented}
 use Rattle.message_layout.specs.Reading.{fields_at, group_at, number_part, octets_at, part_at}
 use Rattle.message_layout.specs.Reading.{presence_at, reading, records_at}
+use Rattle.message_layout.specs.Spelling.{spelling}
 use Rattle.quality_bits.specs.Capsules.{capsule, front_capsule, is_stated}
 use Rattle.quality_bits.specs.Pieces.{piece, capsule_ending}
 use Rattle.quality_bits.specs.Quality.{check_bits}
 use Rattle.quality_bits.specs.declared.rate.Rate.TheVariants.{R9600, R4800}
-use Rattle.traffic_message.specs.Handoff.{added_bits, direction_bits, direction_of, hard_place}
-use Rattle.traffic_message.specs.Handoff.{is_hard, search_of}
+use Rattle.traffic_message.specs.Handoff.{direction_of, hard_place, is_hard, search_of}
 use Rattle.traffic_message.specs.InTraffic.{in_traffic_of}
 use Rattle.traffic_message.specs.Messages.{Message, message_body, traffic_capsule}
 use Rattle.traffic_message.specs.Multiplex.{split, split_9600}
@@ -61,7 +61,7 @@ unfolding first_head
 other = record { head = first_head; body = Other 1 (replicate 7 false) }
 
 other_spelled : message_body other ≡ binary 24 0x014e00
-unfolding other first_head message_body binary
+unfolding other first_head message_body spelling binary
 other_spelled = refl
 
 other_read : body_reading (binary 24 0x014e00) ≡ Some other
@@ -77,9 +77,9 @@ too_short = refl
 -- what is read is what was spelled, with the check in its form
 other_again : (traffic_reading Complemented (traffic_capsule Complemented other) ≡ Some other)
     × (traffic_reading Plain (traffic_capsule Complemented other) ≡ None)
-unfolding other first_head traffic_reading traffic_capsule message_body body_reading is_body head_at
-    head_of part_reading reading fields_at group_at presence_at octets_at number_part part_at
-    records_at is_hard hard_place capsule check_bits binary places
+unfolding other first_head traffic_reading traffic_capsule message_body spelling body_reading
+    is_body head_at head_of part_reading reading fields_at group_at presence_at octets_at
+    number_part part_at records_at is_hard hard_place capsule check_bits binary places
 other_again = (refl, refl)
 
 -- HANDOFF DIRECTIONS
@@ -111,7 +111,7 @@ unfolding one_pilot no_head body_reading is_body head_at head_of part_reading re
 one_pilot_read = refl
 
 one_pilot_spelled : message_body one_pilot ≡ binary 56 0x11007101ff0a00
-unfolding one_pilot no_head message_body direction_bits added_bits binary
+unfolding one_pilot no_head message_body spelling binary
 one_pilot_spelled = refl
 
 -- with HARD_INCLUDED 1 it is passed on as it is
@@ -140,7 +140,7 @@ two_pilots = record {
 }
 
 two_pilots_again : body_reading (message_body two_pilots) ≡ Some two_pilots
-unfolding two_pilots no_head message_body direction_bits added_bits body_reading is_body head_at
+unfolding two_pilots no_head message_body spelling body_reading is_body head_at
     head_of part_reading reading fields_at group_at presence_at octets_at number_part part_at
     records_at is_hard hard_place direction_of search_of binary
 two_pilots_again = refl
@@ -161,6 +161,13 @@ unfolding no_head body_reading is_body head_at head_of part_reading reading fiel
     presence_at octets_at number_part part_at records_at binary
 one_neighbor = refl
 
+two_neighbors : message_body (record {
+  head = first_head;
+  body = Neighbors (record { inc = 1; pns = 63 ∷ 511 ∷ []; rest = true ∷ [] });
+}) ≡ binary 40 0x084e08ffff
+unfolding first_head message_body spelling binary
+two_neighbors = refl
+
 -- without a neighbor it is none
 no_neighbor : body_reading (binary 24 0x080008) ≡ None
 unfolding body_reading is_body head_at head_of part_reading reading fields_at group_at presence_at
@@ -178,6 +185,25 @@ unfolding no_head body_reading is_body head_at head_of part_reading reading fiel
 secret = refl
 
 -- PARAMETERS
+parameters_spelled : message_body (record {
+  head = first_head;
+  body = System (record {
+    sid = 4660;
+    nid = 22136;
+    wina = 9;
+    winn = 10;
+    winr = 11;
+    tadd = 28;
+    tdrop = 32;
+    tcomp = 5;
+    ttdrop = 3;
+    age = 12;
+    rest = binary 4 5;
+  });
+}) ≡ binary 88 0x074e123456789ab72053c5
+unfolding first_head message_body spelling binary
+parameters_spelled = refl
+
 -- 67 bits behind the head are enough, and 63 aren't
 enough : (body_reading (binary 8 7 ++ replicate 80 false)
     ≡ Some (record {

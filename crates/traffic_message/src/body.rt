@@ -1,8 +1,9 @@
 //! What a message says behind its head.
 
 ghost use Rattle.std.specs.Prelude.{◌≡◌, ◌+◌, ◌≤◌, ◌++◌, drop, length};
-ghost use Rattle.traffic_message.specs.Layouts.{body_from, contents_of, form_in, HasFields};
-ghost use Rattle.traffic_message.specs.Messages.{bits_of, kind_of as type_of};
+ghost use Rattle.traffic_message.specs.Layouts.{bits_of, body_from, contents_of, form_in};
+ghost use Rattle.traffic_message.specs.Layouts.{HasFields};
+ghost use Rattle.traffic_message.specs.Messages.{kind_of as type_of};
 ghost use Rattle.traffic_message.specs.Reading.{part_reading};
 
 use crate::handoff::HandoffDirection;

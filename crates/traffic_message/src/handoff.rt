@@ -4,10 +4,10 @@ ghost use Rattle.std.specs.Prelude.{◌≡◌, ◌<◌, ◌≤◌, ◌==◌, dro
 ghost use Rattle.std.specs.List.{All};
 ghost use Rattle.chip_core.specs.Fields.{in_widths, FieldsFit};
 ghost use Rattle.chip_core.specs.Readings.{number_at};
-ghost use Rattle.traffic_message.specs.Handoff.{hard_place, is_hard, search_fields, search_of};
+ghost use Rattle.traffic_message.specs.Handoff.{direction_contents, direction_from, hard_place};
+ghost use Rattle.traffic_message.specs.Handoff.{is_hard, search_from, search_group, search_of};
 ghost use Rattle.traffic_message.specs.Handoff.{search_values, time_values, IsHandoffDirection};
-ghost use Rattle.traffic_message.specs.Layouts.{direction_contents, direction_from, search_from};
-ghost use Rattle.traffic_message.specs.Layouts.{search_group};
+ghost use Rattle.traffic_message.specs.Handoff.{SearchFits};
 ghost use Rattle.traffic_message.specs.Widths.{search_widths, time_widths};
 
 use crate::fields::{DirectionFields, Search};
@@ -124,7 +124,7 @@ fn hard_at(bits: &BitSlice<'_>, from: u16) -> u16
 #[tactic(auto, unfolding(crate::specs::Handoff::direction_of))]
 fn fields_from(contents: &Contents) -> DirectionFields
     requires times { FieldsFit (in_widths time_widths (time_values (direction_from contents.now))) }
-    requires search { FieldsFit (search_fields (search_from contents.now.group)) }
+    requires search { SearchFits (search_from contents.now.group) }
     ensures { result ≡ direction_from contents.now }
 {
     DirectionFields {
@@ -142,7 +142,7 @@ fn fields_from(contents: &Contents) -> DirectionFields
 
 /// The search parameters that were read.
 fn search_in(group: &Option<FieldValues>) -> Option<Search>
-    requires { FieldsFit (search_fields (search_from group.now)) }
+    requires { SearchFits (search_from group.now) }
     ensures { result ≡ search_from group.now }
 {
     match group {

@@ -2,8 +2,8 @@
 
 ghost use Rattle.std.specs.Prelude.{◌≡◌};
 ghost use Rattle.chip_core.specs.Fields.{in_widths, FieldsFit};
+ghost use Rattle.traffic_message.specs.InTraffic.{in_traffic_contents, in_traffic_from};
 ghost use Rattle.traffic_message.specs.InTraffic.{in_traffic_of, in_traffic_values, IsInTraffic};
-ghost use Rattle.traffic_message.specs.Layouts.{in_traffic_contents, in_traffic_from};
 ghost use Rattle.traffic_message.specs.Widths.{in_traffic_widths};
 
 use crate::fields::InTrafficFields;

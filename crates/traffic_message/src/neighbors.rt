@@ -2,8 +2,8 @@
 
 ghost use Rattle.std.specs.Prelude.{◌≡◌, ◌<◌, ◌≤◌, length};
 ghost use Rattle.std.specs.List.{All};
-ghost use Rattle.traffic_message.specs.Layouts.{update_contents, update_from};
-ghost use Rattle.traffic_message.specs.Neighbors.{update_values, IsNeighborUpdate};
+ghost use Rattle.traffic_message.specs.Neighbors.{update_contents, update_from, update_values};
+ghost use Rattle.traffic_message.specs.Neighbors.{IsNeighborUpdate};
 
 use crate::fields::UpdateFields;
 use chip_core::Numbers;

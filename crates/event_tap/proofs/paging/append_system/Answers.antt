@@ -1,7 +1,6 @@
 use Rattle.std.proofs.Common.{List, ℕ, ap, ◌++◌, ◌∙◌}
 use Rattle.std.specs.Prelude.{codes, decimal}
-use Rattle.paging_message.specs.System.{system_values}
-use Rattle.paging_message.specs.Widths.{system_names}
+use Rattle.paging_message.specs.System.{system_names, system_values}
 use Rattle.paging_message.specs.declared.fields.SystemFields.{SystemFields}
 use Rattle.event_tap.specs.PagingLines.{system_line}
 use Rattle.event_tap.specs.Parts.{named_values, rest_text}

@@ -1,6 +1,15 @@
 use Rattle.std.proofs.Common.{◌++◌, sym, ap, ◌∙◌, arith}
+use Rattle.traffic_message.proofs.ByLayout.{combs_paired, rows_paired}
 use Rattle.event_tap.proofs.TrafficTexts.{record_at}
 use Rattle.event_tap.proofs.items.DirectionFieldsItems.append_item.Goals as goal
+
+pub get-row-requires : goal.get-row-requires
+get-row-requires c =
+    omega (arith, c.requires.within, rows_paired c.args.self.now c.requires.fit)
+
+pub get-requires-2 : goal.get-requires-2
+get-requires-2 c =
+    omega (arith, c.requires.within, combs_paired c.args.self.now c.requires.fit)
 
 pub returns-clause-value : goal.returns-clause-value
 returns-clause-value c =

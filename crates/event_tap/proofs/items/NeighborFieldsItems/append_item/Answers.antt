@@ -1,6 +1,11 @@
 use Rattle.std.proofs.Common.{◌++◌, sym, ap, ◌∙◌, arith}
+use Rattle.paging_message.proofs.ByLayout.{neighbors_paired}
 use Rattle.event_tap.proofs.PagingTexts.{neighbor_at}
 use Rattle.event_tap.proofs.items.NeighborFieldsItems.append_item.Goals as goal
+
+pub get-requires-2 : goal.get-requires-2
+get-requires-2 c =
+    omega (arith, c.requires.within, neighbors_paired c.args.self.now c.requires.fit)
 
 pub returns-clause-value : goal.returns-clause-value
 returns-clause-value c =

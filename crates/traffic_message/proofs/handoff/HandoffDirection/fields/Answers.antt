@@ -1,5 +1,5 @@
 use Rattle.traffic_message.proofs.Common.{◌<◌, arith, All-from_get_or}
-use Rattle.traffic_message.proofs.Records.{record_fits}
+use Rattle.traffic_message.proofs.ByLayout.{combs_paired, record_fits, rows_paired}
 use Rattle.traffic_message.proofs.handoff.HandoffDirection.fields.Goals as goal
 
 pub returns-clause-pilots : goal.returns-clause-pilots
@@ -9,8 +9,7 @@ returns-clause-pilots c =
     All-from_get_or (λ pn. pn < 512) m.pns 0
     (λ i h. omega (
       arith,
-      (record_fits m.pns m.combs m.rows i is.records h (omega (arith, h, is.combs))
-          (omega (arith, h, is.rows))).0,
+      (record_fits m i is h).0,
     ))
 
 pub returns-clause-channels : goal.returns-clause-channels
@@ -20,6 +19,11 @@ returns-clause-channels c =
     All-from_get_or (λ row. row < 256) m.rows 0
     (λ i h. omega (
       arith,
-      (record_fits m.pns m.combs m.rows i is.records (omega (arith, h, is.rows))
-          (omega (arith, h, is.rows, is.combs)) h).2,
+      (record_fits m i is (omega (arith, h, rows_paired m is))).2,
     ))
+
+pub returns-clause-combs : goal.returns-clause-combs
+returns-clause-combs c = combs_paired c.self.inside.fields c.self.invariant
+
+pub returns-clause-rows : goal.returns-clause-rows
+returns-clause-rows c = rows_paired c.self.inside.fields c.self.invariant

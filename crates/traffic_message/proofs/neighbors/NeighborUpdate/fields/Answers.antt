@@ -4,6 +4,6 @@ use Rattle.traffic_message.proofs.neighbors.NeighborUpdate.fields.Goals as goal
 
 pub returns-clause-pilots : goal.returns-clause-pilots
 returns-clause-pilots c =
-    let pns = c.self.inside.fields.pns in
-    All-from_get_or (λ pn. pn < 512) pns 0
-    (λ i h. omega (arith, neighbor_fits pns i c.self.invariant.fits.1 h))
+    let m = c.self.inside.fields in
+    All-from_get_or (λ pn. pn < 512) m.pns 0
+    (λ i h. omega (arith, neighbor_fits m i c.self.invariant h))

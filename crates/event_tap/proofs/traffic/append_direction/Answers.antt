@@ -1,0 +1,6 @@
+use Rattle.traffic_message.proofs.ByLayout.{search_fits}
+use Rattle.event_tap.proofs.traffic.append_direction.Goals as goal
+
+pub append_search-requires-clause-fit : goal.append_search-requires-clause-fit
+append_search-requires-clause-fit c =
+    search_fits c.fields-fields.result.search _ c.fields-fields.ensures.spelled.group
