@@ -23,7 +23,7 @@ refilled_is m pn time lc is offset early below =
     let small : pn < 2 ^ 9 = omega (arith, offset) in
     let fits : FieldsFit (fixed_fields (refilled m pn time lc)) =
     (type, (prev, (min, (sid, (nid, (small, (below, (early, behind)))))))) in
-    admitted (refilled m pn time lc) m.freq refl fits (tail_of m m.freq refl is)
+    admitted (refilled m pn time lc) fits (tail_of m is)
 
 pub length-sync : (form : CheckForm) (m : SyncFields) →
     length (sync_capsule form m) ≡ 38 + length (sync_body m)

@@ -7,7 +7,7 @@ use Rattle.short_code.specs.ShortCode.{chips_to}
 use Rattle.quality_bits.specs.Capsules.{capsule}
 use Rattle.quality_bits.specs.Quality.{check_bits}
 use Rattle.symbol_path.specs.SentOrder.{sent}
-use Rattle.sync_message.specs.SyncMessage.{sync_body, sync_capsule}
+use Rattle.sync_message.specs.SyncMessage.{spelling, sync_body, sync_capsule}
 use Rattle.walsh.specs.Walsh.{walsh}
 use Rattle.cell_plan.specs.declared.plan.CellPlan.{CellPlan}
 use Rattle.cell_plan.specs.declared.plan.SyncPlan.{SyncPlan}
@@ -31,6 +31,6 @@ pilot_alone = refl
 
 with_sync : sample_of (cell (Some (some_sync 1))) 0 ≡ record { i = negsuc 209; q = pos 210 }
 unfolding cell sample_of carriers sent_chip chips_to walsh binary sync_symbols
-    continued_symbols sync_frame_bits message_of after sync_capsule sync_body capsule check_bits
-    places sent
+    continued_symbols sync_frame_bits message_of after sync_capsule sync_body spelling capsule
+    check_bits places sent
 with_sync = refl

@@ -195,7 +195,7 @@ message_bounds : (m message : SyncFields) → FieldsFit (fixed_fields m) → IsF
     lawful_message m ≡ Some message → IsSyncMessage message
 message_bounds m message fixed freq e =
     let told = cond_some (has_lawful_rest m.freq m.rest) m message e in
-    subst IsSyncMessage told.1 (admitted m m.freq refl fixed (is_tail m.freq m.rest freq told.0))
+    subst IsSyncMessage told.1 (admitted m fixed (is_tail m.freq m.rest freq told.0))
 
 fields_fit : (network local : List ℕ) (freq : Option ℕ) (rest : List Bool) →
     AreUpTo network_rows network → AreUpTo local_rows local →

@@ -20,12 +20,12 @@ is_tail (Some freq) rest small test =
     (small, eqb-true (length rest % 8) 0 both.0, leb-true (length rest) 976 both.1)
 
 pub is_message : (m : SyncFields) → IsSyncMessage m → lawful_message m ≡ Some m
-is_message m is = cond-true _ _ _ (tested m.freq m.rest (tail_of m m.freq refl is))
+is_message m is = cond-true _ _ _ (tested m.freq m.rest (tail_of m is))
 
 pub no_message : (m : SyncFields) → FieldsFit (fixed_fields m) → IfSome m.freq (λ n. n < 2 ^ 11) →
     ¬ IsSyncMessage m → lawful_message m ≡ None
 no_message m fixed freq none = by_test (has_lawful_rest m.freq m.rest) refl
   where
     by_test : (test : Bool) → has_lawful_rest m.freq m.rest ≡ test → lawful_message m ≡ None
-    by_test true e = absurd (none (admitted m m.freq refl fixed (is_tail m.freq m.rest freq e)))
+    by_test true e = absurd (none (admitted m fixed (is_tail m.freq m.rest freq e)))
     by_test false e = cond-false _ _ _ e

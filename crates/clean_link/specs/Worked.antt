@@ -1,7 +1,7 @@
 -- Worked values of a clean link, which the checker computes.
 use Rattle.std.specs.Prelude.{◌≡◌, refl, ℕ, ◌-◌, List, [], ◌∷◌, map, Some}
 use Rattle.clean_link.specs.Common.{Plain, capsule, check_bits, binary, places, Data, sync_body}
-use Rattle.clean_link.specs.Common.{sync_capsule, CellPlan, some_sync}
+use Rattle.clean_link.specs.Common.{spelling, sync_capsule, CellPlan, some_sync}
 use Rattle.rake_finger.specs.declared.form.Form.TheVariants.{Sync}
 use Rattle.clean_link.specs.CleanLink.{first_sync_frame, heard_behind, sending_ends, soft_strength}
 use Rattle.clean_link.specs.CleanLink.{whole_sendings}
@@ -22,21 +22,21 @@ heard plan =
     (whole_sendings plan told_message)
 
 from_the_first_chip : heard (cell 0 1228800) ≡ 294848 ∷ 589760 ∷ 884672 ∷ 1179584 ∷ []
-unfolding heard cell sync_capsule sync_body capsule check_bits places binary
+unfolding heard cell sync_capsule sync_body spelling capsule check_bits places binary
 from_the_first_chip = refl
 
 -- a transmission under way at the file's start isn't whole
 from_a_later_chip : whole_sendings (cell 102400 1228800) told_message ≡ 1 ∷ 2 ∷ 3 ∷ []
-unfolding cell sync_capsule sync_body capsule check_bits places binary
+unfolding cell sync_capsule sync_body spelling capsule check_bits places binary
 from_a_later_chip = refl
 
 -- the file ends with the first transmission's last frame, or one sample before it
 just_whole : heard (cell 0 262080) ≡ 262080 ∷ []
-unfolding heard cell sync_capsule sync_body capsule check_bits places binary
+unfolding heard cell sync_capsule sync_body spelling capsule check_bits places binary
 just_whole = refl
 
 not_whole : heard (cell 0 262079) ≡ []
-unfolding heard cell sync_capsule sync_body capsule check_bits places binary
+unfolding heard cell sync_capsule sync_body spelling capsule check_bits places binary
 not_whole = refl
 
 later_frames : first_sync_frame (cell 102400 1228800) ≡ 3

@@ -1,42 +1,35 @@
 -- The fields of a message, and how many bits its body has.
-use Rattle.std.proofs.Common.{◌≡◌, ℕ, ◌+◌, ◌*◌, ◌/◌, ◌%◌, ◌^◌, ◌<◌, ◌≤◌, Bool, List, [], ◌∷◌, ◌++◌, length, refl, ap, ◌∙◌, arith}
-use Rattle.std.proofs.Common.{append_assoc, length-append, Option, Some, None, IsNone, IsSome, ◌⊎◌, inl, inr}
+use Rattle.std.proofs.Common.{◌≡◌, ℕ, ◌+◌, ◌*◌, ◌/◌, ◌≤◌, Bool, List, [], ◌∷◌, ◌++◌, length, refl, ap, arith}
+use Rattle.std.proofs.Common.{length-append, Option, Some, None, IsNone, IsSome, ◌⊎◌, inl, inr}
 use Rattle.chip_core.specs.Bits.{binary}
-use Rattle.chip_core.specs.Fields.{field, spelled, in_widths, FieldsFit}
-use Rattle.chip_core.proofs.FieldLists.{length-binary, spelled-append}
+use Rattle.chip_core.specs.Fields.{spelled, in_widths, FieldsFit}
+use Rattle.chip_core.proofs.FieldLists.{length-binary}
 use Rattle.chip_core.proofs.ValueLists.{length-in_widths}
-use Rattle.message_layout.proofs.Columns.{fit_append, fit_back, fit_front}
+use Rattle.message_layout.specs.Spelling.{group_fields, spelling, IsGroup}
+use Rattle.message_layout.specs.declared.layout.Presence.TheVariants.{UnlessLeft}
 use Rattle.quality_bits.specs.Capsules.{octets, FillsCapsule}
 use Rattle.quality_bits.specs.declared.kind.Kind.TheVariants.{M30}
+use Rattle.sync_message.specs.Layouts.{freq_group}
 use Rattle.sync_message.specs.Rows.{sync_values, sync_widths}
-use Rattle.sync_message.specs.SyncMessage.{fixed_fields, freq_fields, sync_body, IsSyncMessage}
+use Rattle.sync_message.specs.SyncMessage.{fixed_fields, sync_body, IsSyncMessage}
 use Rattle.sync_message.specs.Tails.{IsTail}
 use Rattle.sync_message.specs.declared.fields.SyncFields.{SyncFields}
 
-pub length-fixed : (m : SyncFields) → length (spelled (fixed_fields m)) ≡ 159
-length-fixed m =
+-- what stands behind the fields that each message has
+abbrev pub tail : Option ℕ → List Bool → List Bool
+tail freq rest = spelled (group_fields (UnlessLeft 3) (11 ∷ []) (freq_group freq)) ++ rest
+
+pub length-body : (m : SyncFields) → length (sync_body m) ≡ 159 + length (tail m.freq m.rest)
+unfolding sync_body spelling binary
+length-body m =
+    let fixed = spelled (in_widths sync_widths (sync_values m)) in
     omega (
       arith,
-      length-append (binary 8 1) (spelled (in_widths sync_widths (sync_values m))),
+      length-append (binary 8 1) (fixed ++ tail m.freq m.rest),
+      length-append fixed (tail m.freq m.rest),
       length-binary 8 1,
       length-in_widths sync_widths (sync_values m) refl,
     )
-
--- what stands behind the fields that each message has
-abbrev pub tail : Option ℕ → List Bool → List Bool
-tail freq rest = spelled (freq_fields freq) ++ rest
-
-pub sync_body-parts : (m : SyncFields) →
-    sync_body m ≡ spelled (fixed_fields m) ++ tail m.freq m.rest
-unfolding sync_body
-sync_body-parts m =
-    ap (λ (r : List Bool). r ++ m.rest) (spelled-append (fixed_fields m) (freq_fields m.freq)) ∙
-    append_assoc (spelled (fixed_fields m)) (spelled (freq_fields m.freq)) m.rest
-
-pub length-body : (m : SyncFields) → length (sync_body m) ≡ 159 + length (tail m.freq m.rest)
-length-body m =
-    ap length (sync_body-parts m) ∙ length-append (spelled (fixed_fields m)) (tail m.freq m.rest) ∙
-    ap (λ (n : ℕ). n + length (tail m.freq m.rest)) (length-fixed m)
 
 -- TAILS
 pub tail-some : (freq : ℕ) (rest : List Bool) → length (tail (Some freq) rest) ≡ 11 + length rest
@@ -58,60 +51,81 @@ fills_from n body least most whole =
       most = omega (arith, count, most);
     }
 
-pub admitted : (m : SyncFields) (freq : Option ℕ) → m.freq ≡ freq → FieldsFit (fixed_fields m) →
-    IsTail m.freq m.rest → IsSyncMessage m
-admitted m None e fits tail_is =
-    let long : length m.rest ≡ 3 = rw e at tail_is in
-    let all : length (tail m.freq m.rest) ≡ 3 = ap (λ (f : Option ℕ). length (tail f m.rest)) e ∙
-    long in
-    let none : FieldsFit (freq_fields m.freq) = rw e tt in
+-- the group of a frequency in front of a rest
+group_told : (freq : Option ℕ) (rest : List Bool) → IsTail freq rest →
+    IsGroup (UnlessLeft 3) (11 ∷ []) (freq_group freq) (length rest)
+group_told None rest told = told
+group_told (Some freq) rest told = record { all = refl; fit = (told.0, tt) }
+
+-- how many octets the capsule has
+record Whole (freq : Option ℕ) (rest : List Bool) : Type 0 where
+  count : ℕ
+  least : 25 ≤ count
+  most : count ≤ 148
+  filled : 8 * count ≡ 197 + length (tail freq rest)
+
+tail_whole : (freq : Option ℕ) (rest : List Bool) → IsTail freq rest → Whole freq rest
+tail_whole None rest told =
     record {
-      fits = fit_append (fixed_fields m) (freq_fields m.freq) fits none;
-      rest = rw e long;
-      fills = fills_from 25 (sync_body m) (omega arith) (omega arith)
-          (omega (arith, length-body m, all));
+      count = 25;
+      least = omega arith;
+      most = omega arith;
+      filled = omega (arith, told);
     }
-admitted m (Some freq) e fits tail_is =
-    let told : (freq < 2 ^ 11) × (length m.rest % 8 ≡ 0) × (length m.rest ≤ 976) =
-    rw e at tail_is in
-    let all : length (tail m.freq m.rest) ≡ 11 + length m.rest =
-    ap (λ (f : Option ℕ). length (tail f m.rest)) e ∙ tail-some freq m.rest in
-    let one : FieldsFit (freq_fields m.freq) = rw e (told.0, tt) in
+tail_whole (Some freq) rest told =
     record {
-      fits = fit_append (fixed_fields m) (freq_fields m.freq) fits one;
-      rest = rw e tt;
-      fills = fills_from (26 + length m.rest / 8) (sync_body m) (omega arith)
-          (omega (arith, told.2)) (omega (arith, length-body m, all, told.1));
+      count = 26 + length rest / 8;
+      least = omega arith;
+      most = omega (arith, told.2);
+      filled = omega (arith, told.1, tail-some freq rest);
+    }
+
+pub admitted : (m : SyncFields) → FieldsFit (fixed_fields m) → IsTail m.freq m.rest → IsSyncMessage m
+unfolding binary
+admitted m fits told =
+    let whole = tail_whole m.freq m.rest told in
+    record {
+      said = record {
+        fixed = record { all = refl; fit = fits.1 };
+        group = group_told m.freq m.rest told;
+        whole = refl;
+        counted = omega arith;
+        columns = refl;
+        records = tt;
+        least = omega arith;
+        left = tt;
+      };
+      fills = fills_from whole.count (sync_body m) whole.least whole.most
+          (omega (arith, whole.filled, length-body m));
     }
 
 -- what a message's fields say of its parts
 pub fixed_fit : (m : SyncFields) → IsSyncMessage m → FieldsFit (fixed_fields m)
-fixed_fit m is = fit_front (fixed_fields m) (freq_fields m.freq) is.fits
+fixed_fit m is = (omega arith, is.said.fixed.fit)
 
-pub freq_fit : (m : SyncFields) → IsSyncMessage m → FieldsFit (freq_fields m.freq)
-freq_fit m is = fit_back (fixed_fields m) (freq_fields m.freq) is.fits
+tail_told : (freq : Option ℕ) (rest : List Bool) (n : ℕ) → n ≤ 148 →
+    8 * n ≡ 197 + length (tail freq rest) →
+    IsGroup (UnlessLeft 3) (11 ∷ []) (freq_group freq) (length rest) → IsTail freq rest
+tail_told None rest n most whole is = is
+tail_told (Some freq) rest n most whole is =
+    let long = tail-some freq rest in
+    (is.fit.0, omega (arith, whole, long), omega (arith, most, whole, long))
 
-pub tail_of : (m : SyncFields) (freq : Option ℕ) → m.freq ≡ freq → IsSyncMessage m →
-    IsTail m.freq m.rest
-tail_of m None e is = let long : length m.rest ≡ 3 = rw e at is.rest in rw e long
-tail_of m (Some freq) e is =
-    let fit : FieldsFit (field 11 freq ∷ []) = rw e at (freq_fit m is) in
-    let all : length (tail m.freq m.rest) ≡ 11 + length m.rest =
-    ap (λ (f : Option ℕ). length (tail f m.rest)) e ∙ tail-some freq m.rest in
-    let whole = is.fills.whole in
-    let most = is.fills.most in
-    rw e (
-      fit.0,
-      omega (arith, whole, length-body m, all),
-      omega (arith, whole, most, length-body m, all),
-    )
+pub tail_of : (m : SyncFields) → IsSyncMessage m → IsTail m.freq m.rest
+unfolding binary
+tail_of m is =
+    tail_told m.freq m.rest (octets M30 (sync_body m)) (omega (arith, is.fills.most))
+    (omega (arith, is.fills.whole, length-body m)) is.said.group
 
 -- what stands behind the first fields has 3 bits, or 11 and more
-pub length-tail : (m : SyncFields) → IsSyncMessage m → (freq : Option ℕ) → m.freq ≡ freq →
-    ((IsNone m.freq) × (length m.rest ≡ 3) × (length (tail m.freq m.rest) ≡ 3)) ⊎
-    ((IsSome m.freq) × (length (tail m.freq m.rest) ≡ 11 + length m.rest))
-length-tail m is None e =
-    let long : length m.rest ≡ 3 = rw e at is.rest in
-    inl (rw e refl, long, ap (λ (f : Option ℕ). length (tail f m.rest)) e ∙ long)
-length-tail m is (Some freq) e =
-    inr (rw e refl, ap (λ (f : Option ℕ). length (tail f m.rest)) e ∙ tail-some freq m.rest)
+abbrev HasLength : Option ℕ → List Bool → Type 0
+HasLength freq rest =
+    ((IsNone freq) × (length rest ≡ 3) × (length (tail freq rest) ≡ 3)) ⊎
+    ((IsSome freq) × (length (tail freq rest) ≡ 11 + length rest))
+
+tail_length : (freq : Option ℕ) (rest : List Bool) → IsTail freq rest → HasLength freq rest
+tail_length None rest told = inl (refl, told, told)
+tail_length (Some freq) rest told = inr (refl, tail-some freq rest)
+
+pub length-tail : (m : SyncFields) → IsSyncMessage m → HasLength m.freq m.rest
+length-tail m is = tail_length m.freq m.rest (tail_of m is)

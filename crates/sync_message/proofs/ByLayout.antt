@@ -1,50 +1,36 @@
 -- What stands behind the message type, by its layout.
-use Rattle.std.proofs.Common.{◌≡◌, ℕ, ◌+◌, ◌≤◌, ◌==◌, Bool, true, cond, List, [], ◌∷◌, ◌++◌, length, get_or, refl, sym, ap, subst, ◌∙◌}
-use Rattle.std.proofs.Common.{arith, append_assoc, length-append, Option, Some, None}
+use Rattle.std.proofs.Common.{◌≡◌, ℕ, ◌+◌, ◌<◌, ◌≤◌, ◌^◌, ◌==◌, Bool, true, cond, List, [], ◌∷◌, ◌++◌, length, get_or, refl, sym, ap}
+use Rattle.std.proofs.Common.{subst, ◌∙◌, arith, length-append, Option, Some, None}
 use Rattle.std.proofs.lemmas.Bool.{eqb-true}
+use Rattle.std.specs.Prelude.{IfSome}
 use Rattle.chip_core.specs.Bits.{binary, places}
-use Rattle.chip_core.specs.Fields.{spelled, in_widths, FieldsFit}
-use Rattle.chip_core.specs.declared.field.Field.{Field}
+use Rattle.chip_core.specs.Fields.{in_widths, FieldsFit}
 use Rattle.chip_core.proofs.FieldLists.{length-binary}
 use Rattle.chip_core.proofs.Places.{map-places-all}
 use Rattle.message_layout.specs.Reading.{mapped, number_part, reading}
 use Rattle.message_layout.specs.Shapes.{is_lawful}
-use Rattle.message_layout.specs.Spelling.{behind_group, group_fields, spelling, IsGroup, IsOf}
+use Rattle.message_layout.specs.Spelling.{behind_group, spelling, IsGroup, IsOf}
 use Rattle.message_layout.specs.declared.contents.Contents.{Contents}
 use Rattle.message_layout.specs.declared.layout.Presence.TheVariants.{UnlessLeft}
-use Rattle.message_layout.proofs.Columns.{fit_append}
 use Rattle.message_layout.proofs.Messages.{ByLayout, contents_in, no_columns, no_octets, one_value, read_again, read_there}
 use Rattle.message_layout.proofs.Parts.{bind_some, guard_some, number_again, number_there}
 use Rattle.quality_bits.specs.Capsules.{FillsCapsule}
 use Rattle.quality_bits.specs.declared.kind.Kind.TheVariants.{M30}
 use Rattle.sync_message.specs.Layouts.{body_reading, freq_from, freq_group, sync_contents, sync_from, sync_of, sync_shape}
 use Rattle.sync_message.specs.Rows.{sync_values, sync_widths}
-use Rattle.sync_message.specs.SyncMessage.{fixed_fields, freq_fields, sync_body, HasRest, IsSyncMessage}
+use Rattle.sync_message.specs.SyncMessage.{sync_body, IsSyncMessage}
 use Rattle.sync_message.specs.declared.fields.SyncFields.{SyncFields}
-use Rattle.sync_message.proofs.Bodies.{fixed_fit, freq_fit, sync_body-parts}
 
 pub sync_lawful : is_lawful sync_shape ≡ true
 unfolding is_lawful
 sync_lawful = refl
 
 -- THE FREQUENCY
-group_same : (freq : Option ℕ) →
-    group_fields (UnlessLeft 3) (11 ∷ []) (freq_group freq) ≡ freq_fields freq
-group_same None = refl
-group_same (Some freq) = refl
-
-group_of : (freq : Option ℕ) (rest : List Bool) (behind : ℕ) → FieldsFit (freq_fields freq) →
-    HasRest freq rest → behind ≡ length rest →
-    IsGroup (UnlessLeft 3) (11 ∷ []) (freq_group freq) behind
-group_of None rest behind fit has is = is ∙ has
-group_of (Some freq) rest behind fit has is = record { all = refl; fit = fit }
-
--- a frequency that the layout has fits, and so does what stands behind it
-group_fits : (freq : Option ℕ) (rest : List Bool) (behind : ℕ) →
-    IsGroup (UnlessLeft 3) (11 ∷ []) (freq_group freq) behind → behind ≡ length rest →
-    FieldsFit (freq_fields freq) × HasRest freq rest
-group_fits None rest behind is same = (tt, sym same ∙ is)
-group_fits (Some freq) rest behind is same = (is.fit, tt)
+-- one that the layout has fits
+group_fits : (freq : Option ℕ) (behind : ℕ) →
+    IsGroup (UnlessLeft 3) (11 ∷ []) (freq_group freq) behind → IfSome freq (λ n. n < 2 ^ 11)
+group_fits None behind is = tt
+group_fits (Some freq) behind is = is.fit.0
 
 group_back : (group : Option (List ℕ)) (behind : ℕ) →
     IsGroup (UnlessLeft 3) (11 ∷ []) group behind → freq_group (freq_from group) ≡ group
@@ -55,51 +41,8 @@ freq_made : (freq : Option ℕ) → freq_from (freq_group freq) ≡ freq
 freq_made None = refl
 freq_made (Some freq) = refl
 
--- nothing but the rest stands behind it
-only_rest : (m : SyncFields) → behind_group sync_shape (sync_contents m) ≡ m.rest
-unfolding binary
-only_rest m = refl
-
 -- THE MESSAGE
--- messages are contents of the layout
-pub sync_of_message : (m : SyncFields) → IsSyncMessage m → IsOf sync_shape (sync_contents m)
-sync_of_message m is =
-    record {
-      fixed = record { all = refl; fit = (fixed_fit m is).1 };
-      group = group_of m.freq m.rest (length (behind_group sync_shape (sync_contents m)))
-          (freq_fit m is) is.rest (ap length (only_rest m));
-      whole = refl;
-      counted = omega arith;
-      columns = refl;
-      records = tt;
-      least = omega arith;
-      left = tt;
-    }
-
--- contents of the layout whose body fills a capsule are a message
-pub sync_is : (m : SyncFields) → IsOf sync_shape (sync_contents m) →
-    FillsCapsule M30 (sync_body m) → IsSyncMessage m
-sync_is m is fills =
-    let group = group_fits m.freq m.rest (length (behind_group sync_shape (sync_contents m)))
-    is.group (ap length (only_rest m)) in
-    record {
-      fits = fit_append (fixed_fields m) (freq_fields m.freq) (omega arith, is.fixed.fit) group.0;
-      rest = group.1;
-      fills = fills;
-    }
-
-pub sync_spelled : (m : SyncFields) →
-    sync_body m ≡ binary 8 1 ++ spelling sync_shape (sync_contents m)
-unfolding spelling
-sync_spelled m =
-    let fixed = spelled (in_widths sync_widths (sync_values m)) in
-    sync_body-parts m ∙ append_assoc (binary 8 1) fixed (spelled (freq_fields m.freq) ++ m.rest)
-    ∙ ap (λ (fs : List Field). binary 8 1 ++ (fixed ++ (spelled fs ++ m.rest)))
-    (sym (group_same m.freq))
-    ∙ ap (λ (r : List Bool). binary 8 1 ++ (fixed
-    ++ (spelled (group_fields (UnlessLeft 3) (11 ∷ []) (freq_group m.freq)) ++ r)))
-    (sym (only_rest m))
-
+-- contents of the layout are those of the message that is made of them
 sync_back : (c : Contents) → IsOf sync_shape c → sync_contents (sync_from c) ≡ c
 unfolding sync_of places
 sync_back c is =
@@ -120,28 +63,26 @@ by_layout = record { lawful = sync_lawful; back = sync_back; made = sync_made }
 -- contents that were read fit
 pub fields_fit : (c : Contents) → IsOf sync_shape c →
     FieldsFit (in_widths sync_widths (sync_values (sync_from c)))
-    × FieldsFit (freq_fields (freq_from c.group))
+    × IfSome (freq_from c.group) (λ n. n < 2 ^ 11)
 unfolding sync_of
 fields_fit c is =
     let m = sync_from c in
     let there = contents_in sync_shape sync_contents sync_from by_layout c is in (
       there.fixed.fit,
-      (group_fits m.freq m.rest (length (behind_group sync_shape (sync_contents m))) there.group
-          (ap length (only_rest m))).0,
+      group_fits m.freq (length (behind_group sync_shape (sync_contents m))) there.group,
     )
 
 -- what was spelled is read again, and what is read is spelled so
 pub body_again : (m : SyncFields) → IsSyncMessage m → body_reading (sync_body m) ≡ Some m
-unfolding body_reading
+unfolding body_reading sync_body
 body_again m is =
     let bits = spelling sync_shape (sync_contents m) in
-    let front : number_part 8 (sync_body m) ≡ Some (1, bits) =
-    ap (number_part 8) (sync_spelled m) ∙ number_again 8 1 bits (omega arith) in
-    rw front (read_again sync_shape sync_contents sync_from by_layout m (sync_of_message m is))
+    let front = number_again 8 1 bits (omega arith) in
+    rw front (read_again sync_shape sync_contents sync_from by_layout m is.said)
 
 pub body_is : (body : List Bool) (m : SyncFields) → body_reading body ≡ Some m →
     IsOf sync_shape (sync_contents m) × (body ≡ sync_body m)
-unfolding body_reading
+unfolding body_reading sync_body
 body_is body m e =
     let first = bind_some (number_part 8 body) (λ kind.
     cond (kind.0 == 1) (mapped sync_from (reading sync_shape kind.1)) None) m e in
@@ -151,29 +92,29 @@ body_is body m e =
     let there = read_there sync_shape sync_contents sync_from by_layout first.0.1 m test.1 in (
       there.0,
       front.1 ∙ ap (λ (k : ℕ). binary 8 k ++ first.0.1) (eqb-true first.0.0 1 test.0)
-          ∙ ap (λ (r : List Bool). binary 8 1 ++ r) there.1 ∙ sym (sync_spelled m),
+          ∙ ap (λ (r : List Bool). binary 8 1 ++ r) there.1,
     )
 
 pub body_there : (body : List Bool) (m : SyncFields) → FillsCapsule M30 body →
     body_reading body ≡ Some m → IsSyncMessage m × (body ≡ sync_body m)
 body_there body m fills e =
     let is = body_is body m e in
-    (sync_is m is.0 (subst (FillsCapsule M30) is.1 fills), is.1)
+    (record { said = is.0; fills = subst (FillsCapsule M30) is.1 fills }, is.1)
 
 -- WRITTEN
 pub body_written : (m : SyncFields) (one after : List Bool) → one ≡ binary 8 1 →
     after ≡ one ++ spelling sync_shape (sync_contents m) → after ≡ sync_body m
+unfolding sync_body
 body_written m one after first behind =
     behind ∙ ap (λ (r : List Bool). r ++ spelling sync_shape (sync_contents m)) first
-    ∙ sym (sync_spelled m)
 
 -- there is room behind the message type
 pub body_room : (m : SyncFields) → IsSyncMessage m →
     8 + length (spelling sync_shape (sync_contents m)) ≤ 1184
+unfolding sync_body
 body_room m is =
     omega (
       arith,
-      ap length (sync_spelled m),
       length-append (binary 8 1) (spelling sync_shape (sync_contents m)),
       length-binary 8 1,
       is.fills.whole,

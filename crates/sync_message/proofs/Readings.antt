@@ -1,5 +1,5 @@
 -- Capsules read as messages.
-use Rattle.std.proofs.Common.{◌≡◌, ◌+◌, ◌-◌, ◌*◌, ◌/◌, ◌%◌, ◌==◌, List, Bool, length, take, drop, refl, ap, ◌∙◌, arith, Some, nat_le}
+use Rattle.std.proofs.Common.{◌≡◌, ◌-◌, ◌/◌, ◌%◌, ◌==◌, List, Bool, length, take, drop, refl, ap, ◌∙◌, arith, Some, nat_le}
 use Rattle.std.proofs.lemmas.Bool.{and_parts, eq-eqb, eqb-true, le-leb, leb-true}
 use Rattle.chip_core.specs.declared.check_form.CheckForm.{CheckForm}
 use Rattle.message_layout.proofs.Parts.{guard_some}
@@ -12,7 +12,7 @@ use Rattle.sync_message.specs.Reading.{is_whole, sync_reading}
 use Rattle.sync_message.specs.SyncMessage.{sync_body, sync_capsule, IsSyncMessage}
 use Rattle.sync_message.specs.declared.fields.SyncFields.{SyncFields}
 use Rattle.sync_message.proofs.Bodies.{fills_from, length-body}
-use Rattle.sync_message.proofs.ByLayout.{body_again, body_is, body_there, sync_is}
+use Rattle.sync_message.proofs.ByLayout.{body_again, body_is, body_there}
 
 pub reads_capsule : (form : CheckForm) (m : SyncFields) → IsSyncMessage m →
     sync_reading form (sync_capsule form m) ≡ Some m
@@ -37,7 +37,8 @@ reading_is_message form bits m e =
     let long = ap length both.1 ∙ length-capsule M30 form (sync_body m) in
     let fills = fills_from (length bits / 8) (sync_body m)
     (omega (arith, octets, long, length-body m)) (omega (arith, most)) (omega (arith, octets, long)) in
-    (sync_is m (body_is (take (length bits - 38) (drop 8 bits)) m both.0).0 fills, both.1)
+    let said = body_is (take (length bits - 38) (drop 8 bits)) m both.0 in
+    (record { said = said.0; fills = fills }, both.1)
 
 -- WHAT THE CODE GIVES
 pub are_read : (form : CheckForm) →

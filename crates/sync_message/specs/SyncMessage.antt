@@ -1,36 +1,28 @@
 -- The Sync Channel Message (TIA/EIA-95-B, 7.7.1.3).
-use Rattle.std.specs.Prelude.{ℕ, ◌≡◌, Bool, List, [], ◌∷◌, ◌++◌, length, Option, Some, None}
-use Rattle.chip_core.specs.Fields.{field, spelled, FieldsFit}
+use Rattle.std.specs.Prelude.{Bool, List, ◌∷◌, ◌++◌}
+use Rattle.chip_core.specs.Bits.{binary}
+use Rattle.chip_core.specs.Fields.{field}
 use Rattle.chip_core.specs.declared.field.Field.{Field}
 use Rattle.chip_core.specs.declared.check_form.CheckForm.{CheckForm}
+use Rattle.message_layout.specs.Spelling.{IsOf}
+unfoldable pub use Rattle.message_layout.specs.Spelling.{spelling}
 use Rattle.quality_bits.specs.Capsules.{FillsCapsule, capsule}
 use Rattle.quality_bits.specs.declared.kind.Kind.TheVariants.{M30}
-use Rattle.sync_message.specs.Rows.{freq_row, in_widths, sync_values, sync_widths}
+use Rattle.sync_message.specs.Layouts.{sync_contents, sync_shape}
+use Rattle.sync_message.specs.Rows.{in_widths, sync_values, sync_widths}
 use Rattle.sync_message.specs.declared.fields.SyncFields.{SyncFields}
 
 -- the message type, 1, and the fields that each message has
 abbrev pub fixed_fields : SyncFields → List Field
 fixed_fields m = field 8 1 ∷ in_widths sync_widths (sync_values m)
 
-abbrev pub freq_fields : Option ℕ → List Field
-freq_fields None = []
-freq_fields (Some freq) = field freq_row.width freq ∷ []
-
-abbrev pub fields : SyncFields → List Field
-fields m = fixed_fields m ++ freq_fields m.freq
-
+-- the type, and what the message says by its layout
 unfoldable pub sync_body : SyncFields → List Bool
-sync_body m = spelled (fields m) ++ m.rest
-
--- at 25 octets there is no frequency
-abbrev pub HasRest : Option ℕ → List Bool → Type 0
-HasRest None rest = length rest ≡ 3
-HasRest (Some freq) rest = Unit {0}
+sync_body m = binary 8 1 ++ spelling sync_shape (sync_contents m)
 
 -- the fields have a spelling
 pub record IsSyncMessage (m : SyncFields) : Type 0 where
-  pub fits : FieldsFit (fields m)
-  pub rest : HasRest m.freq m.rest
+  pub said : IsOf sync_shape (sync_contents m)
   pub fills : FillsCapsule M30 (sync_body m)
 
 unfoldable pub sync_capsule : CheckForm → SyncFields → List Bool

@@ -1,11 +1,10 @@
 //! The layout of what stands behind the message type, and the message as contents of it.
 
-ghost use Rattle.std.specs.Prelude.{◌≡◌, IfSome};
+ghost use Rattle.std.specs.Prelude.{◌≡◌, ◌<◌, ◌^◌, IfSome};
 ghost use Rattle.chip_core.specs.Fields.{in_widths, FieldsFit};
 ghost use Rattle.sync_message.specs.Layouts.{body_reading, freq_from, freq_group, sync_contents};
 ghost use Rattle.sync_message.specs.Layouts.{sync_from};
 ghost use Rattle.sync_message.specs.Rows.{sync_values, sync_widths};
-ghost use Rattle.sync_message.specs.SyncMessage.{freq_fields};
 
 use crate::fields::SyncFields;
 use crate::table::{FREQ_FIELD, SYNC_FIELDS, sync_fields};
@@ -72,7 +71,7 @@ fn group_of(freq: Option<u16>) -> Option<FieldValues>
 #[tactic(auto, unfolding(crate::specs::Layouts::sync_of))]
 fn fields_from(contents: &Contents) -> SyncFields
     requires fixed { FieldsFit (in_widths sync_widths (sync_values (sync_from contents.now))) }
-    requires freq { FieldsFit (freq_fields (freq_from contents.now.group)) }
+    requires freq { IfSome (freq_from contents.now.group) (λ n. n < 2 ^ 11) }
     ensures { result ≡ sync_from contents.now }
 {
     let freq = freq_in(&contents.group);
@@ -82,7 +81,7 @@ fn fields_from(contents: &Contents) -> SyncFields
 
 /// The frequency that was read.
 fn freq_in(group: &Option<FieldValues>) -> Option<u16>
-    requires { FieldsFit (freq_fields (freq_from group.now)) }
+    requires { IfSome (freq_from group.now) (λ n. n < 2 ^ 11) }
     ensures { result ≡ freq_from group.now }
 {
     match group {

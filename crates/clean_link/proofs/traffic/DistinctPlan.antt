@@ -1,8 +1,8 @@
 -- A cell with a distinct frame of each rate.
-use Rattle.clean_link.proofs.Common.{◌≡◌, ◌≢◌, ℕ, ◌+◌, ◌*◌, ◌^◌, ◌<◌, ◌≤◌, Bool, true, List, [], ◌∷◌, length, map, refl, sym, ap, ◌∙◌}
+use Rattle.clean_link.proofs.Common.{◌≡◌, ◌≢◌, ℕ, ◌+◌, ◌*◌, ◌^◌, ◌<◌, ◌≤◌, Bool, true, List, [], ◌∷◌, map, refl, sym, ap, ◌∙◌}
 use Rattle.clean_link.proofs.Common.{set_one, set_two, FrameList, channel_on, arith, subst, nat_le, inl, inr, Some, All, flat_map}
 use Rattle.clean_link.proofs.Common.{and_parts, cases_eq, leb-true, All-cons, All-nil, binary, places, norm, Sixteen, after, traffic_mask}
-use Rattle.clean_link.proofs.Common.{after-after, IsState-before, capsule, octets, check_bits, traffic_codeword, M30, Rate, R9600, R4800}
+use Rattle.clean_link.proofs.Common.{after-after, IsState-before, capsule, check_bits, traffic_codeword, Rate, R9600, R4800}
 use Rattle.clean_link.proofs.Common.{R2400, R1200, codeword_bits, power_places, Rate2, R14400, R7200, R3600, R1800, on_again, sync_body}
 use Rattle.clean_link.proofs.Common.{sync_capsule, IsSyncMessage, split_9600, loudness, AreLawfulBeside, IsFreeOf, IsLawfulPlan}
 use Rattle.clean_link.proofs.Common.{IsPagingPlan, IsTrafficPlan, paging_rate, IsStatedPaging, IsReceivable, frames_of, cycled_frame}
@@ -15,6 +15,8 @@ use Rattle.clean_link.proofs.Common.{zero, suc, false, get_or, common_parity, di
 use Rattle.clean_link.proofs.Common.{after_lt, after_none, after_one, stepped, after-before, before_lt, after-injective, group_scrambling}
 use Rattle.clean_link.proofs.Common.{power_place, power_start}
 use Rattle.long_code.specs.LongCode.{before}
+use Rattle.sync_message.proofs.Bodies.{admitted}
+use Rattle.message_layout.specs.Spelling.{spelling}
 use Rattle.traffic_message.specs.Multiplex.{split}
 use Rattle.clean_link.proofs.traffic.SharedFrames.{distinct_by_sharing, distinct_by_sharing2}
 use Rattle.symbol_path.specs.Scrambling.{symbol_chips}
@@ -385,24 +387,8 @@ distinct_two =
 
 -- ---- the cell
 
-told_octets : octets M30 (sync_body told_message) ≡ 25
-unfolding sync_body binary
-told_octets = refl
-
-told_fills : 8 * octets M30 (sync_body told_message) ≡ 8 + length (sync_body told_message) + 30
-unfolding sync_body binary
-told_fills = refl
-
 told_lawful : IsSyncMessage told_message
-told_lawful = record {
-  fits = search rules;
-  rest = refl;
-  fills = record {
-    whole = told_fills;
-    least = omega (arith, told_octets);
-    most = omega (arith, told_octets);
-  };
-}
+told_lawful = admitted told_message (search rules) refl
 
 -- what is true of each of four
 all_four : {A : Type 0} (P : A → Type 0) (a b c d : A) → P a → P b → P c → P d →
@@ -490,7 +476,7 @@ receivable = record {
 }
 
 told_is : told_with_sync distinct_plan distinct_plan.sync ≡ Some 7
-unfolding sync_capsule sync_body capsule check_bits places binary
+unfolding sync_capsule sync_body spelling capsule check_bits places binary
 told_is = refl
 
 -- ---- the laws
@@ -518,8 +504,8 @@ unfolding places
 rates_two = refl
 
 silent : signaling_sent distinct_plan (Some (on_row 8)) ≡ []
-unfolding signaling_sent messages_sent split split_9600 sync_capsule sync_body capsule check_bits
-    places binary
+unfolding signaling_sent messages_sent split split_9600 sync_capsule sync_body spelling capsule
+    check_bits places binary
 silent = refl
 
 pub has_set_one : HasSetOne

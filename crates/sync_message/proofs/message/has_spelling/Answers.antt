@@ -1,4 +1,4 @@
-use Rattle.std.proofs.Common.{refl, subst, ◌∙◌, arith}
+use Rattle.std.proofs.Common.{subst, ◌∙◌, arith}
 use Rattle.chip_core.specs.Fields.{in_widths, FieldsFit}
 use Rattle.sync_message.specs.Rows.{sync_widths}
 use Rattle.sync_message.proofs.Bodies.{admitted, tail_of}
@@ -9,6 +9,6 @@ returns-then-fit c =
     let m = c.args.fields.now in
     let fit = subst (λ vs. FieldsFit (in_widths sync_widths vs)) (c.of.ensures ∙ c.values_of.ensures)
     (c.fit.ensures.0 c.if-fit.true) in (
-      λ told. admitted m m.freq refl (omega arith, fit) (c.has_tail.ensures.0 told),
-      λ is. c.has_tail.ensures.1 (tail_of m m.freq refl is),
+      λ told. admitted m (omega arith, fit) (c.has_tail.ensures.0 told),
+      λ is. c.has_tail.ensures.1 (tail_of m is),
     )

@@ -6,7 +6,7 @@ use Rattle.quality_bits.specs.Capsules.{FillsCapsule}
 use Rattle.quality_bits.specs.declared.kind.Kind.TheVariants.{M30}
 use Rattle.sync_message.specs.Layouts.{sync_shape}
 use Rattle.sync_message.specs.SyncMessage.{sync_body}
-use Rattle.sync_message.proofs.ByLayout.{body_room, body_written, sync_lawful, sync_of_message}
+use Rattle.sync_message.proofs.ByLayout.{body_room, body_written, sync_lawful}
 use Rattle.sync_message.proofs.message.SyncMessage.body.Goals as goal
 
 pub append-requires-clause-lawful : goal.append-requires-clause-lawful
@@ -15,7 +15,7 @@ append-requires-clause-lawful c = sync_lawful
 pub append-requires-clause-contents : goal.append-requires-clause-contents
 append-requires-clause-contents c =
     subst (IsOf sync_shape) (sym c.contents_of.ensures)
-    (sync_of_message c.self.inside.fields c.self.invariant)
+    c.self.invariant.said
 
 pub append-requires-clause-room : goal.append-requires-clause-room
 append-requires-clause-room c =
