@@ -217,7 +217,8 @@ pub use Rattle.symbol_path.specs.FramesTwo.{codeword_bits}
 pub use Rattle.symbol_path.specs.Scrambling.{group_scrambling, power_place, power_start, scrambling, symbol_or_power_bit}
 unfoldable pub use Rattle.symbol_path.specs.Scrambling.{power_places, with_power_bits}
 pub use Rattle.symbol_path.specs.SentOrder.{Shape, address, data_shape, place, shape_of, size, sync_shape}
-unfoldable pub use Rattle.symbol_path.specs.SentOrder.{sent}
+pub use Rattle.symbol_path.specs.SentOrder.{sent}
+unfoldable pub use Rattle.symbol_path.specs.SentOrder.{sent_by}
 pub use Rattle.symbol_path.specs.SentOrderTwo.{is_dropped, repeated_symbol, sent2}
 pub use Rattle.symbol_path.specs.declared.kinds.Kind.{Kind}
 pub use Rattle.symbol_path.specs.declared.rate_two.Rate2.{Rate2}

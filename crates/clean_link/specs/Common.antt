@@ -40,7 +40,9 @@ pub use Rattle.conv_code.specs.ConvCode.{code_symbols, g0, g1, symbol}
 pub use Rattle.frame_decoder.specs.Laws.{IsUnshared, ShowSymbols, frame_codeword, kept_count}
 pub use Rattle.frame_decoder.specs.Signs.{KeepSigns}
 pub use Rattle.frame_decoder.specs.Spans.{Channel, score, sending}
-pub use Rattle.frame_decoder.specs.TrafficFrames.{frame_bits, frame_score, frame_symbols}
+pub use Rattle.frame_decoder.specs.Formats.{bits_in, format_of, score_in}
+pub use Rattle.frame_decoder.specs.declared.formats.FrameFormat.{FrameFormat}
+pub use Rattle.frame_decoder.specs.TrafficFrames.{frame_bits, frame_symbols}
 pub use Rattle.frame_decoder.specs.TrafficFrames.{is_replaced, unreplaced}
 pub use Rattle.frame_decoder.specs.declared.traffic.Decoded.{Decoded}
 pub use Rattle.heard_events.specs.Events.{events}
@@ -92,7 +94,7 @@ pub use Rattle.rate_set_two.specs.declared.traffic.Decoded2.{Decoded2}
 pub use Rattle.symbol_path.specs.FramesTwo.{codeword_bits}
 pub use Rattle.symbol_path.specs.Scrambling.{power_places}
 pub use Rattle.symbol_path.specs.SentOrder.{address, data_shape, shape_of, size}
-unfoldable pub use Rattle.symbol_path.specs.SentOrder.{sent}
+pub use Rattle.symbol_path.specs.SentOrder.{sent}
 pub use Rattle.symbol_path.specs.SentOrderTwo.{is_dropped, repeated_symbol}
 pub use Rattle.symbol_path.specs.declared.kinds.Kind.{Kind}
 pub use Rattle.symbol_path.specs.declared.rate_two.Rate2.{Rate2}

@@ -9,7 +9,8 @@ use Rattle.clean_link.specs.Common.{TrafficFrame, frames_at, legs_at, messages_a
 use Rattle.clean_link.specs.Common.{power_bits_at, decoded_at, frame_heard, raw_softs, has_frame}
 use Rattle.clean_link.specs.Common.{replaced_in, stream_of, Tuning, Leg, Mark, Traffic}
 use Rattle.clean_link.specs.Common.{IsReceivable, Decoded, Rate, Rate2, IsAllowed, Codeword, Zero}
-use Rattle.clean_link.specs.Common.{frame_codeword, frame_bits, frame_score, unreplaced}
+use Rattle.clean_link.specs.Common.{frame_codeword, unreplaced, FrameFormat, bits_in, format_of}
+use Rattle.clean_link.specs.Common.{score_in}
 use Rattle.clean_link.specs.Common.{IsTrafficFrame, IsTrafficFrame2, TrafficFrame2, SoftFrame}
 use Rattle.clean_link.specs.Common.{HasSign, KeepSigns, is_replaced}
 use Rattle.clean_link.specs.CleanLink.{IsNotDirected, IsOnPath, IsTrueMark, soft_strength}
@@ -17,7 +18,6 @@ use Rattle.clean_link.specs.HeardFrames.{frame_ends, frames_of_channel, received
 use Rattle.clean_link.specs.HeardFrames.{sent_power_bits, codeword_symbols, AreDistinct, IsAssigned}
 use Rattle.clean_link.specs.HeardFrames.{IsDistinctFrame, IsOnePilot, SendsSetOne, ShowPowerBits}
 use Rattle.clean_link.specs.HeardFrames.{messages_of_channel, replaced_of}
-use Rattle.symbol_path.specs.RatesTwo as rates_two
 use Rattle.rate_set_two.specs.TrafficFrames as second
 use Rattle.clean_link.specs.ReceivedFrames.{codeword_symbols2, IsDistinctFrame2, IsReceivedAs}
 use Rattle.clean_link.specs.BoundedNoise.{Bears, IsNear}
@@ -172,21 +172,27 @@ pub record ShowsTraffic (plan : CellPlan) (p : TrafficPlan) (t : Tuning) (traffi
       IsHeardAs plan p t traffic m legs superframes k f →
       power_bits_at t traffic m legs samples k ≡ sent_power_bits f
 
--- ---- rate set 1
+-- ---- the only best codeword
 
--- how well a codeword of a rate agrees with a frame's soft values at the places that power control
--- bits leave
-abbrev pub kept_score : List ℕ → List ℤ → Rate → Codeword → ℤ
-kept_score replaced softs rate w = frame_score (unreplaced replaced softs) rate w
+-- how well a codeword of a format agrees with a frame's soft values at the places that power
+-- control bits leave
+abbrev pub kept_score : {R : Type 0} → List ℕ → List ℤ → FrameFormat R → Codeword → ℤ
+kept_score replaced softs format w = score_in (unreplaced replaced softs) format w
 
--- A codeword of a rate, such that every other codeword of any of the four rates, its quality
--- indicator right or not, has a lesser score.
-pub record IsOnlyBestFrame (replaced : List ℕ) (softs : List ℤ) (rate : Rate) (best : Codeword) :
-    Type 0 where
-  pub allowed : IsAllowed Zero (frame_bits rate) best
-  pub lesser : (r : Rate) (w : Codeword) → IsAllowed Zero (frame_bits r) w →
+-- Of the rates of a set, which have these formats: a codeword of one, such that every other
+-- codeword of any of them, its quality indicator right or not, has a lesser score.
+pub record IsOnlyBestIn {R : Type 0} (format_of : R → FrameFormat R) (replaced : List ℕ)
+    (softs : List ℤ) (rate : R) (best : Codeword) : Type 0 where
+  pub allowed : IsAllowed Zero (bits_in (format_of rate)) best
+  pub lesser : (r : R) (w : Codeword) → IsAllowed Zero (bits_in (format_of r)) w →
       ¬ ((r ≡ rate) × (w ≡ best)) →
-      kept_score replaced softs r w <ℤ kept_score replaced softs rate best
+      kept_score replaced softs (format_of r) w <ℤ kept_score replaced softs (format_of rate) best
+
+abbrev pub IsOnlyBestFrame : List ℕ → List ℤ → Rate → Codeword → Type 0
+IsOnlyBestFrame = IsOnlyBestIn format_of
+
+abbrev pub IsOnlyBestFrame2 : List ℕ → List ℤ → Rate2 → Codeword → Type 0
+IsOnlyBestFrame2 = IsOnlyBestIn second.format_of
 
 -- So it is of the codeword of a distinct frame that a handset hears behind a true mark,
 abbrev pub HeardAreTheOnlyBest : Type 0
@@ -206,16 +212,6 @@ ReceivedAreTheOnlyBest = (plan : CellPlan) (p : TrafficPlan) (frame : ℕ) (f : 
     (frame_codeword f.rate f.information)
 
 -- ---- rate set 2
-
-abbrev pub kept_score2 : List ℕ → List ℤ → Rate2 → Codeword → ℤ
-kept_score2 replaced softs rate w = second.frame_score (unreplaced replaced softs) rate w
-
-pub record IsOnlyBestFrame2 (replaced : List ℕ) (softs : List ℤ) (rate : Rate2) (best : Codeword) :
-    Type 0 where
-  pub allowed : IsAllowed Zero (rates_two.frame_bits rate) best
-  pub lesser : (r : Rate2) (w : Codeword) → IsAllowed Zero (rates_two.frame_bits r) w →
-      ¬ ((r ≡ rate) × (w ≡ best)) →
-      kept_score2 replaced softs r w <ℤ kept_score2 replaced softs rate best
 
 -- so it is of a distinct frame of that set
 abbrev pub SetTwoAreTheOnlyBest : Type 0

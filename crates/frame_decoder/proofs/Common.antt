@@ -39,13 +39,12 @@ pub use Rattle.quality_bits.specs.Kinds.{IsChecked, body_length, generator_of, q
 pub use Rattle.quality_bits.specs.Quality.{check_bits}
 pub use Rattle.quality_bits.specs.declared.rate.Rate.{Rate}
 pub use Rattle.quality_bits.specs.declared.rate.Rate.TheVariants.{R1200, R2400, R4800, R9600}
-pub use Rattle.symbol_path.proofs.Agreement.{agreement-gathered, agreement-keyed, length-gathered, length-sent}
-pub use Rattle.symbol_path.proofs.Gathering.{added_fits, part, part-none, sizes_none, stored_is, sum_has_room, turn, turn_sizes}
+pub use Rattle.symbol_path.proofs.Agreement.{agreement-gathered, agreement-gathered_by, length-gathered, length-gathered_by, length-sent, length-sent_by}
+pub use Rattle.symbol_path.proofs.Gathering.{added_fits, gathered_all, part, part-none, sizes_none, stored_is, sum_has_room, turn, turn_sizes}
 pub use Rattle.symbol_path.proofs.Interleaving.{count_is, size_some, symbol_lt}
 pub use Rattle.symbol_path.proofs.Permutation.{address_lt}
 pub use Rattle.symbol_path.proofs.SentOnceTwo.{kept_lt}
-pub use Rattle.symbol_path.specs.SentOrder.{address, data_shape, gathered, shape_of, size}
-unfoldable pub use Rattle.symbol_path.specs.SentOrder.{sent}
+pub use Rattle.symbol_path.specs.SentOrder.{address, data_shape, gathered, sent, shape_of, size}
 pub use Rattle.symbol_path.specs.SentOrderTwo.{repeated_symbol}
 pub use Rattle.symbol_path.specs.declared.kinds.Kind.{Kind}
 pub use Rattle.symbol_path.specs.declared.kinds.Kind.TheVariants.{Data}
@@ -56,15 +55,17 @@ pub use Rattle.viterbi.specs.Codewords.{Codeword, correlation, score_of, codewor
 unfoldable pub use Rattle.viterbi.specs.Codewords.{best_codeword}
 pub use Rattle.viterbi.specs.declared.codeword.Ends.TheVariants.{Free, Zero}
 pub use borrow.Rule.Slice.PartMut.{put_mid}
-pub use Rattle.frame_decoder.specs.Laws.{AgreeElsewhere, IsNothingGood, IsOneFrame, IsSentFrameDecoded, IsUnshared, ShowSymbols}
-pub use Rattle.frame_decoder.specs.Laws.{frame_codeword, kept_count}
+pub use Rattle.frame_decoder.specs.Laws.{AgreeElsewhere, IsNothingGood, IsOneFrame, IsSentFrameDecoded, ShowSymbols, kept_count}
 pub use Rattle.frame_decoder.specs.Formats.{IsFormat, better, bits_in, candidate_in, candidate_of, frame_in, good_or, is_right, not_good}
 pub use Rattle.frame_decoder.specs.Formats.{place_in, preferred, repeated_in, rising, format_of, score_in, shown_of}
-unfoldable pub use Rattle.frame_decoder.specs.Formats.{frame_of, gathered_in, symbols_in, codeword_in}
+pub use Rattle.frame_decoder.specs.Formats.{gathered_in, symbols_in}
+unfoldable pub use Rattle.frame_decoder.specs.Formats.{frame_of, codeword_in}
 pub use Rattle.frame_decoder.specs.Spans.{Channel, channel_of, gathered_span, own_bits, score, sending, sent_frames}
-pub use Rattle.frame_decoder.specs.TrafficFrames.{best_candidate, power_bit, frame_bits, frame_score, group_sum, has_quality, is_replaced}
-pub use Rattle.frame_decoder.specs.TrafficFrames.{is_up, rate_frame, shown, subchannels}
-unfoldable pub use Rattle.frame_decoder.specs.TrafficFrames.{decoded, rate_codeword, unreplaced}
+pub use Rattle.frame_decoder.specs.Replaced.{is_replaced}
+unfoldable pub use Rattle.frame_decoder.specs.Replaced.{unreplaced}
+pub use Rattle.frame_decoder.specs.TrafficFrames.{as_decoded, frame_bits, group_sum, is_up, lower_formats, lower_rates, power_bit}
+pub use Rattle.frame_decoder.specs.TrafficFrames.{subchannels}
+unfoldable pub use Rattle.frame_decoder.specs.TrafficFrames.{decoded}
 pub use Rattle.frame_decoder.specs.declared.formats.FrameFormat.{FrameFormat}
 pub use Rattle.frame_decoder.specs.declared.formats.DecodedFrame.{DecodedFrame}
 pub use Rattle.frame_decoder.specs.declared.traffic.Decoded.{Decoded}

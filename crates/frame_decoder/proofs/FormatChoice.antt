@@ -6,6 +6,28 @@ use Rattle.frame_decoder.proofs.Common.{FrameFormat, DecodedFrame, better, prefe
 use Rattle.frame_decoder.proofs.Common.{score_in, codeword_in, candidate_of, candidate_in, shown_of, frame_of, unreplaced}
 use Rattle.frame_decoder.proofs.ShownSymbols.{lt_true, le_false}
 
+-- ---- what is so of a candidate, if there is one
+abbrev pub IsOf : {R : Type 0} → (DecodedFrame R → Type 0) → Option (DecodedFrame R) → Type 0
+IsOf P None = Unit {0}
+IsOf P (Some e) = P e
+
+pub either_of : {R : Type 0} (P : DecodedFrame R → Type 0) (x y : DecodedFrame R) (b : Bool) → P x → P y →
+    P (if b then y else x)
+either_of P x y true p q = q
+either_of P x y false p q = p
+
+pub preferred_of : {R : Type 0} (P : DecodedFrame R → Type 0) (x y : Option (DecodedFrame R)) → IsOf P x →
+    IsOf P y → IsOf P (preferred x y)
+preferred_of P None y p q = q
+preferred_of P (Some x) None p q = p
+preferred_of P (Some x) (Some y) p q = either_of P x y (int_lt x.score y.score) p q
+
+pub found_of : {R : Type 0} (P : DecodedFrame R → Type 0) (g : Codeword → DecodedFrame R) (w : Codeword)
+    (found : Option Codeword) (passes : Bool) → P (g w) → IsOf P (option_map g found) →
+    IsOf P (option_map g (cond passes (Some w) found))
+found_of P g w found true p q = p
+found_of P g w found false p q = q
+
 -- ---- one frame above all others
 -- a frame is this one, or has a lesser score
 abbrev pub Below : {R : Type 0} → DecodedFrame R → DecodedFrame R → Type 0
@@ -13,19 +35,7 @@ Below d e = (e ≡ d) ⊎ (e.score <ℤ d.score)
 
 -- a candidate, if there is one, is this one or has a lesser score
 abbrev pub IsBelow : {R : Type 0} → DecodedFrame R → Option (DecodedFrame R) → Type 0
-IsBelow d None = Unit {0}
-IsBelow d (Some e) = Below d e
-
-chosen_below : {R : Type 0} (d x y : DecodedFrame R) (b : Bool) → Below d x → Below d y →
-    Below d (if b then y else x)
-chosen_below d x y true p q = q
-chosen_below d x y false p q = p
-
-below_preferred : {R : Type 0} (d : DecodedFrame R) (x y : Option (DecodedFrame R)) → IsBelow d x →
-    IsBelow d y → IsBelow d (preferred x y)
-below_preferred d None y p q = q
-below_preferred d (Some x) None p q = p
-below_preferred d (Some x) (Some y) p q = chosen_below d x y (int_lt x.score y.score) p q
+IsBelow d = IsOf (Below d)
 
 keeps : {R : Type 0} (d y : DecodedFrame R) → Below d y → better d y ≡ d
 keeps {R} d y h = ⊎_elim
@@ -70,7 +80,16 @@ taken_rising {R} d f [] rate after best each is low =
     (ap (λ (c : Option (DecodedFrame R)). preferred c best) is ∙ takes d best low)
 taken_rising d f (r ∷ before) rate after best each is low =
     taken_rising d f before rate after (preferred (f r) best) each is
-    (below_preferred d (f r) best (each r) low)
+    (preferred_of (Below d) (f r) best (each r) low)
+
+-- the formats of a set's rates, the highest behind the others
+pub rising_rates : {R : Type 0} (f : FrameFormat R → Option (DecodedFrame R)) (format_of : R → FrameFormat R)
+    (lower : List R) (highest : R) (best : Option (DecodedFrame R)) →
+    rising best (map (λ r. f (format_of r)) (lower ++ highest ∷ []))
+    ≡ preferred (f (format_of highest)) (rising best (map f (map format_of lower)))
+rising_rates f format_of [] highest best = refl
+rising_rates f format_of (r ∷ lower) highest best =
+    rising_rates f format_of lower highest (preferred (f (format_of r)) best)
 
 -- a rate among those of a set
 pub record IsAmong {R : Type 0} (rate : R) (rates : List R) : Type 0 where
@@ -87,12 +106,6 @@ chosen_is {R} d f rate rates among each is =
     ∙ taken_rising d f among.before rate among.after None each is tt
 
 -- ---- a format's candidate among some codewords
-one_of : {R : Type 0} (d : DecodedFrame R) (g : Codeword → DecodedFrame R) (w : Codeword) (found : Option Codeword)
-    (passes : Bool) → Below d (g w) → IsBelow d (option_map g found) →
-    IsBelow d (option_map g (cond passes (Some w) found))
-one_of d g w found true p q = p
-one_of d g w found false p q = q
-
 pub candidate_below : {R : Type 0} (d : DecodedFrame R) (softs : List ℤ) (format : FrameFormat R)
     (ws : List Codeword) → All (λ w. Below d (frame_in format w.bits (score_in softs format w))) ws →
     IsBelow d (candidate_of softs format ws)
@@ -100,7 +113,7 @@ candidate_below d softs format [] h = tt
 candidate_below {R} d softs format (w ∷ ws) h =
     let g : Codeword → DecodedFrame R = λ v. frame_in format v.bits (score_in softs format v) in
     let low : Codeword → Type 0 = λ v. Below d (g v) in
-    one_of d g w (find (λ v. is_right format v.bits) ws) (is_right format w.bits) (All-head low w ws h)
+    found_of (Below d) g w (find (λ v. is_right format v.bits) ws) (is_right format w.bits) (All-head low w ws h)
     (candidate_below d softs format ws (All-tail low w ws h))
 
 no_first : {A : Type 0} {B : Type 0} (x : A) → [] ≡ x ∷ [] → B
@@ -177,46 +190,25 @@ pub record IsSilent {R : Type 0} (d : DecodedFrame R) : Type 0 where
   pub bad : d.good ≡ false
   pub none : d.score ≡ pos 0
 
--- a candidate, if there is one, is such a frame
-abbrev pub AreSilent : {R : Type 0} → Option (DecodedFrame R) → Type 0
-AreSilent None = Unit {0}
-AreSilent (Some d) = IsSilent d
-
-either_silent : {R : Type 0} (x y : DecodedFrame R) (b : Bool) → IsSilent x → IsSilent y →
-    IsSilent (if b then y else x)
-either_silent x y true p q = q
-either_silent x y false p q = p
-
-preferred_silent : {R : Type 0} (x y : Option (DecodedFrame R)) → AreSilent x → AreSilent y →
-    AreSilent (preferred x y)
-preferred_silent None y p q = q
-preferred_silent (Some x) None p q = p
-preferred_silent (Some x) (Some y) p q = either_silent x y (int_lt x.score y.score) p q
-
-silent_one : {R : Type 0} (g : Codeword → DecodedFrame R) (w : Codeword) (passes : Bool) → IsSilent (g w) →
-    AreSilent (option_map g (cond passes (Some w) None))
-silent_one g w true p = p
-silent_one g w false p = tt
-
 silent_format : {R : Type 0} (softs : List ℤ) (format : FrameFormat R) (w : Codeword) →
-    score_in softs format w ≡ pos 0 → AreSilent (candidate_of softs format (w ∷ []))
+    score_in softs format w ≡ pos 0 → IsOf IsSilent (candidate_of softs format (w ∷ []))
 silent_format {R} softs format w e =
     let g : Codeword → DecodedFrame R = λ v. frame_in format v.bits (score_in softs format v) in
-    silent_one g w (is_right format w.bits) (record { bad = ap (int_lt (pos 0)) e; none = e })
+    found_of IsSilent g w None (is_right format w.bits) (record { bad = ap (int_lt (pos 0)) e; none = e }) tt
 
 -- where each format's codeword has a score of 0 no candidate is good
 pub rising_silent : {R : Type 0} (softs : List ℤ) (codewords : FrameFormat R → Codeword) (formats : List (FrameFormat R))
     (best : Option (DecodedFrame R)) → ((format : FrameFormat R) → score_in softs format (codewords format) ≡ pos 0) →
-    AreSilent best →
-    AreSilent (rising best (map (λ format. candidate_of softs format (codewords format ∷ [])) formats))
+    IsOf IsSilent best →
+    IsOf IsSilent (rising best (map (λ format. candidate_of softs format (codewords format ∷ [])) formats))
 rising_silent softs codewords [] best each low = low
 rising_silent softs codewords (format ∷ formats) best each low =
     let c = candidate_of softs format (codewords format ∷ []) in
     rising_silent softs codewords formats (preferred c best) each
-    (preferred_silent c best (silent_format softs format (codewords format) (each format)) low)
+    (preferred_of IsSilent c best (silent_format softs format (codewords format) (each format)) low)
 
 silent_or : {R : Type 0} (format : FrameFormat R) (bits : List Bool) (score : ℤ) (best : Option (DecodedFrame R)) →
-    score ≡ pos 0 → AreSilent best → good_or format bits score best ≡ not_good format bits (pos 0)
+    score ≡ pos 0 → IsOf IsSilent best → good_or format bits score best ≡ not_good format bits (pos 0)
 silent_or format bits score None e h = ap (not_good format bits) e
 silent_or format bits score (Some d) e h =
     ap (λ (b : Bool). if b then d else not_good format bits d.score) h.bad
@@ -235,5 +227,5 @@ silent_shown softs codewords highest formats each =
     let lower = rising None (map (λ format. candidate_of softs format (codewords format ∷ [])) formats) in
     silent_or highest codeword.bits (score_in softs highest codeword)
     (preferred (candidate_of softs highest (codeword ∷ [])) lower) (each highest)
-    (preferred_silent (candidate_of softs highest (codeword ∷ [])) lower
+    (preferred_of IsSilent (candidate_of softs highest (codeword ∷ [])) lower
     (silent_format softs highest codeword (each highest)) (rising_silent softs codewords formats None each tt))

@@ -1,10 +1,10 @@
 -- The codewords of a format, their scores, and their quality indicators.
-use Rattle.frame_decoder.proofs.Common.{◌≡◌, ℕ, ◌+◌, ◌-◌, ◌*◌, ◌<◌, ◌≤◌, Bool, true, false, List, length, get_or, take, drop, sym, ap, ◌∙◌}
-use Rattle.frame_decoder.proofs.Common.{arith, subst, ℤ, pos, ◌↔◌, IsTrue, if◌then◌else◌, Option, None, Some, Decides, one_answer}
-use Rattle.frame_decoder.proofs.Common.{booleans_Decides, pointwise, pointwise_decides, beq, drop-take, take-take, Plain, length-map-places}
-use Rattle.frame_decoder.proofs.Common.{get_or-map-places, map-places-all, code_symbols, length-code_symbols, generator_of, body_length}
+use Rattle.frame_decoder.proofs.Common.{◌≡◌, ℕ, ◌+◌, ◌-◌, ◌*◌, ◌<◌, ◌≤◌, Bool, true, false, List, length, take, drop, sym, ap, ◌∙◌}
+use Rattle.frame_decoder.proofs.Common.{arith, subst, ℤ, ◌↔◌, IsTrue, if◌then◌else◌, Option, None, Some, Decides, one_answer}
+use Rattle.frame_decoder.proofs.Common.{booleans_Decides, pointwise, pointwise_decides, beq, drop-take, take-take, Plain}
+use Rattle.frame_decoder.proofs.Common.{code_symbols, length-code_symbols, generator_of, body_length}
 use Rattle.frame_decoder.proofs.Common.{IsChecked, quality_indicator, quality_length, check_bits, data_shape, address, repeated_symbol}
-use Rattle.frame_decoder.proofs.Common.{Data, agreement-keyed, part, symbol_lt, address_lt, kept_lt, Codeword, score_of, IsBestCodeword}
+use Rattle.frame_decoder.proofs.Common.{Data, agreement-gathered_by, length-gathered_by, length-sent_by, symbol_lt, address_lt, kept_lt, Codeword, score_of, IsBestCodeword}
 use Rattle.frame_decoder.proofs.Common.{Zero, by_definition, FrameFormat, IsFormat, bits_in, repeated_in, place_in, symbols_in, gathered_in}
 use Rattle.frame_decoder.proofs.Common.{score_in, codeword_in, is_right, length-take-le}
 use Rattle.frame_decoder.proofs.ZeroCodewords.{length-best_zero_codeword, best_zero_codeword-same}
@@ -25,42 +25,13 @@ place_lt format i h lt =
 pub bits_least : {R : Type 0} (format : FrameFormat R) → 8 ≤ bits_in format
 bits_least format = omega arith
 
--- ---- the sums
--- of the soft values that are sent for a code symbol
-abbrev pub sum_in : {R : Type 0} → FrameFormat R → List ℤ → ℕ → ℤ
-sum_in format softs c = part (λ i. get_or softs i (pos 0)) (place_in format) 384 c
-
+-- ---- codewords
 pub length-gathered_in : {R : Type 0} (format : FrameFormat R) (softs : List ℤ) →
     length (gathered_in format softs) ≡ 2 * bits_in format
-unfolding gathered_in
-length-gathered_in format softs = length-map-places (sum_in format softs) (2 * bits_in format)
+length-gathered_in format softs = length-gathered_by (place_in format) 384 (2 * bits_in format) softs
 
-get_or-gathered_in : {R : Type 0} (format : FrameFormat R) (softs : List ℤ) (c : ℕ) → c < 2 * bits_in format →
-    get_or (gathered_in format softs) c (pos 0) ≡ sum_in format softs c
-unfolding gathered_in
-get_or-gathered_in format softs c h =
-    get_or-map-places (sum_in format softs) (2 * bits_in format) c (pos 0) h
-
--- the sums of all soft values
-pub gathered_all : {R : Type 0} (format : FrameFormat R) (sums softs : List ℤ) →
-    length sums ≡ 2 * bits_in format →
-    ((c : ℕ) → get_or sums c (pos 0) ≡ sum_in format softs c) → sums ≡ gathered_in format softs
-unfolding gathered_in
-gathered_all format sums softs long each =
-    map-places-all (sum_in format softs) sums (2 * bits_in format) (pos 0) long (λ c lt. each c)
-
--- ---- codewords
 pub length-symbols_in : {R : Type 0} (format : FrameFormat R) (w : Codeword) → length (symbols_in format w) ≡ 384
-unfolding symbols_in
-length-symbols_in format w =
-    length-map-places (λ i. get_or (code_symbols w.start w.bits) (place_in format i) false) 384
-
-get_or-symbols_in : {R : Type 0} (format : FrameFormat R) (w : Codeword) (i : ℕ) → i < 384 →
-    get_or (symbols_in format w) i false ≡ get_or (code_symbols w.start w.bits) (place_in format i) false
-unfolding symbols_in
-get_or-symbols_in format w i h =
-    get_or-map-places (λ k. get_or (code_symbols w.start w.bits) (place_in format k) false) 384 i false
-    h
+length-symbols_in format w = length-sent_by (place_in format) 384 (code_symbols w.start w.bits)
 
 pub length-codeword_in : {R : Type 0} (softs : List ℤ) (format : FrameFormat R) →
     length (codeword_in softs format).bits ≡ bits_in format
@@ -77,10 +48,8 @@ gathered_score softs format w h long long' =
     let size : length code ≡ 2 * bits_in format =
     length-code_symbols w.start w.bits ∙ ap (λ (n : ℕ). 2 * n) long' in
     sym
-    (agreement-keyed 384 (2 * bits_in format) (place_in format) softs (gathered_in format softs)
-    (symbols_in format w) code long (length-symbols_in format w) (length-gathered_in format softs) size
-    (λ i lt. place_lt format i h lt) (λ i lt. get_or-symbols_in format w i lt)
-    (λ c lt. get_or-gathered_in format softs c lt))
+    (agreement-gathered_by (place_in format) 384 (2 * bits_in format) softs code long size
+    (λ i lt. place_lt format i h lt))
 
 -- the best codeword of the gathered soft values is the format's
 pub best_is : {R : Type 0} (softs : List ℤ) (format : FrameFormat R) (best : Codeword) → IsFormat format →

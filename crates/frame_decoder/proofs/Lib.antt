@@ -11,6 +11,7 @@ pub mod FormatCodewords
 pub mod Unreplaced
 pub mod ShownSymbols
 pub mod FormatChoice
+pub mod InformationBits
 pub mod SignedScores
 pub mod SentFormats
 pub mod Chosen

@@ -4,27 +4,22 @@ use Rattle.frame_decoder.proofs.Common.{drop, replicate, refl, sym, ap, ◌∙�
 use Rattle.frame_decoder.proofs.Common.{int_lt, All, get_or, None, Some, option_map, booleans_Decides, pointwise_decides, cases_Bool}
 use Rattle.frame_decoder.proofs.Common.{take_at, drop_at, length-replicate, All-cons, All-nil, code_symbols, quality_indicator}
 use Rattle.frame_decoder.proofs.Common.{quality_length, length-quality_indicator, Codeword, score_of, IsAllowed, Zero, by_definition}
-use Rattle.frame_decoder.proofs.Common.{zero_codeword_best, FrameFormat, DecodedFrame, unreplaced, AgreeElsewhere}
+use Rattle.frame_decoder.proofs.Common.{zero_codeword_best, FrameFormat, DecodedFrame, unreplaced}
 use Rattle.frame_decoder.proofs.Common.{bits_in, symbols_in, score_in, codeword_in, is_right, frame_in, candidate_of, rising}
-use Rattle.frame_decoder.proofs.Common.{not_good, frame_of, shown_of}
+use Rattle.frame_decoder.proofs.Common.{not_good, good_or, candidate_in, frame_of, shown_of, Option}
 use Rattle.frame_decoder.proofs.Common.{◌<ℤ◌, zeros_score}
-use Rattle.frame_decoder.proofs.SignedScores.{agree_left, own_some}
-use Rattle.frame_decoder.specs.Signs.{KeepSigns}
-use Rattle.frame_decoder.proofs.FormatChoice.{Below, IsAmong, chosen_is, candidate_below, first_found, silent_shown}
+use Rattle.frame_decoder.proofs.SignedScores.{agree_left, own_some, shown_keep, shown_score}
+use Rattle.frame_decoder.specs.Signs.{DecodesBySigns, KeepSigns}
+use Rattle.frame_decoder.specs.Laws.{DecodesSentFrames, IsUnsharedIn, good_frame, sent_codeword}
+use Rattle.frame_decoder.proofs.FormatChoice.{Below, IsAmong, chosen_is, candidate_below, first_found, rising_rates, silent_shown}
 use Rattle.frame_decoder.proofs.FormatCodewords.{bits_least, length-symbols_in}
 use Rattle.frame_decoder.proofs.ShownSymbols.{lt_true, le_of_false, lt_of_true}
 use Rattle.frame_decoder.proofs.Unreplaced.{zeros_kept}
 use Rattle.frame_decoder.proofs.ZeroCodewords.{best_zero_codeword_allowed, best_zero_codeword_greatest, best_zero_codeword-same}
 
 -- ---- the codeword of a frame
--- its information, its quality indicator, and eight tail bits
-abbrev pub sent_bits : {R : Type 0} → FrameFormat R → List Bool → List Bool
-sent_bits format information =
-    information ++ quality_indicator format.quality information ++ replicate 8 false
-
-abbrev pub sent_codeword : {R : Type 0} → FrameFormat R → List Bool → Codeword
-sent_codeword format information =
-    record { start = replicate 8 false; bits = sent_bits format information }
+abbrev sent_bits : {R : Type 0} → FrameFormat R → List Bool → List Bool
+sent_bits format information = (sent_codeword format information).bits
 
 codeword_is : {R : Type 0} (format : FrameFormat R) (information : List Bool) → sent_bits format information
     ≡ information ++ (quality_indicator format.quality information ++ replicate 8 false)
@@ -57,7 +52,7 @@ codeword_right format information long =
     ap (quality_indicator format.quality) (front_is format information long) in
     (pointwise_decides booleans_Decides end sent).1 (left ∙ sym right)
 
-codeword_allowed : {R : Type 0} (format : FrameFormat R) (information : List Bool) →
+pub codeword_allowed : {R : Type 0} (format : FrameFormat R) (information : List Bool) →
     length information ≡ format.information →
     IsAllowed Zero (bits_in format) (sent_codeword format information)
 codeword_allowed format information long =
@@ -94,18 +89,6 @@ codeword_in_greatest softs format w h =
     best_zero_codeword_greatest (score_in softs format) (bits_in format) w (bits_least format) h
 
 -- ---- a sent frame
--- no other codeword of any rate of a set, its quality indicator right or not, has a codeword's symbols where
--- no power control bit replaces them
-abbrev pub IsUnsharedIn : {R : Type 0} → (R → FrameFormat R) → List ℕ → R → Codeword → Type 0
-IsUnsharedIn {R} format_of replaced rate w =
-    (r : R) (v : Codeword) → IsAllowed Zero (bits_in (format_of r)) v →
-    AgreeElsewhere replaced (symbols_in (format_of rate) w) (symbols_in (format_of r) v) →
-    (r ≡ rate) × (v ≡ w)
-
-abbrev good_frame : {R : Type 0} → R → List Bool → ℤ → DecodedFrame R
-good_frame rate information m =
-    record { rate = rate; good = true; bits = information; score = m }
-
 -- the codeword of a frame as a decoded frame
 shown_own : {R : Type 0} (rate : R) (format : FrameFormat R) (information : List Bool) (m : ℤ) → pos 0 <ℤ m →
     format.rate ≡ rate → length information ≡ format.information →
@@ -203,6 +186,35 @@ best_codewords format_of kept = record {
       All-cons is (codeword_in kept (format_of r)) [] (codeword_in_allowed kept (format_of r)) (All-nil is);
   first = λ r. refl;
 }
+
+-- so that frame is decoded, among the rates of a set,
+pub signs_decoded : {R D : Type 0} (format_of : R → FrameFormat R) (shown : DecodedFrame R → D) (highest : R)
+    (lower : List R) → ((r : R) → (format_of r).rate ≡ r) → ((r : R) → IsAmong r (lower ++ highest ∷ [])) →
+    DecodesBySigns format_of shown
+    (λ replaced softs. shown (frame_of (format_of highest) (map format_of lower) replaced softs))
+unfolding frame_of
+signs_decoded {R} format_of shown highest lower named among replaced rate information softs few long long'
+    keeps unshared =
+    let kept = unreplaced replaced softs in
+    let format = format_of highest in
+    let codeword = codeword_in kept format in
+    ap (λ (best : Option (DecodedFrame R)). shown (good_or format codeword.bits (score_in kept format codeword) best))
+    (sym (rising_rates (candidate_in kept) format_of lower highest None)
+    ∙ signs_chosen format_of (lower ++ highest ∷ []) replaced rate information softs
+    (λ ks r. codeword_in ks (format_of r) ∷ []) named among (best_codewords format_of) few long long' keeps
+    unshared)
+
+-- and one number times the signs has the signs, and its sum is the score
+pub shown_decoded : {R D : Type 0} (format_of : R → FrameFormat R) (shown : DecodedFrame R → D)
+    (decoded : List ℕ → List ℤ → D) → DecodesBySigns format_of shown decoded →
+    DecodesSentFrames format_of shown decoded
+shown_decoded format_of shown decoded signs n replaced rate information softs some few long long' shows unshared =
+    let format = format_of rate in
+    let w = sent_codeword format information in
+    let xs = symbols_in format w in
+    signs replaced rate information softs few long long' (shown_keep n replaced xs softs some shows) unshared
+    ∙ ap (λ (score : ℤ). shown (good_frame rate information score))
+    (shown_score n replaced xs softs some long (length-symbols_in format w) shows)
 
 -- ---- nothing heard
 -- the best codeword is that of zeros

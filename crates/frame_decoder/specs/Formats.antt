@@ -1,24 +1,21 @@
 -- The frames of a traffic channel, whatever its rate set: each rate has a format that says what its
 -- frames are made of. How well codewords agree with soft values, and the choice among the
 -- candidates of the rates.
-use Rattle.std.specs.Prelude.{◌≡◌, ℕ, ◌+◌, ◌*◌, ◌/◌, ◌≤◌, ◌==◌, Bool, false, if◌then◌else◌, List}
-use Rattle.std.specs.Prelude.{[], ◌∷◌, map, filter, take, drop, get_or, ℤ, pos, int_lt, Option}
-use Rattle.std.specs.Prelude.{None, Some}
+use Rattle.std.specs.Prelude.{◌≡◌, ℕ, ◌+◌, ◌*◌, ◌/◌, ◌≤◌, Bool, false, if◌then◌else◌, List, [], ◌∷◌}
+use Rattle.std.specs.Prelude.{map, take, drop, ℤ, pos, int_lt, Option, None, Some}
 use Rattle.std.specs.List.{find}
 use Rattle.std.specs.Option.{option_map}
 use Rattle.std.specs.Cmp.Lexicographic.{pointwise}
 use Rattle.std.proofs.Math.Bool.{beq}
-use Rattle.chip_core.specs.Bits.{places}
-use Rattle.chip_core.specs.Sums.{total}
 use Rattle.conv_code.specs.ConvCode.{code_symbols}
 use Rattle.quality_bits.specs.Kinds.{quality_indicator, quality_length}
 use Rattle.quality_bits.specs.TrafficCodewords.{repeats_of, information_of, quality_of}
 use Rattle.quality_bits.specs.declared.rate.Rate.{Rate}
-use Rattle.symbol_path.specs.SentOrder.{data_shape, address}
+use Rattle.symbol_path.specs.SentOrder.{data_shape, address, sent_by, gathered_by}
 use Rattle.symbol_path.specs.SentOrderTwo.{repeated_symbol}
 use Rattle.viterbi.specs.Codewords.{Codeword, correlation, best_codeword}
 use Rattle.viterbi.specs.declared.codeword.Ends.TheVariants.{Zero}
-use Rattle.frame_decoder.specs.TrafficFrames.{unreplaced}
+use Rattle.frame_decoder.specs.Replaced.{unreplaced}
 use Rattle.frame_decoder.specs.declared.formats.FrameFormat.{FrameFormat}
 use Rattle.frame_decoder.specs.declared.formats.DecodedFrame.{DecodedFrame}
 
@@ -55,16 +52,12 @@ place_in format i =
 
 -- ---- codewords and soft values
 -- a codeword's symbols as a frame of the format sends them
-unfoldable pub symbols_in : {R : Type 0} → FrameFormat R → Codeword → List Bool
-symbols_in format w =
-    map (λ i. get_or (code_symbols w.start w.bits) (place_in format i) false) (places 384)
+abbrev pub symbols_in : {R : Type 0} → FrameFormat R → Codeword → List Bool
+symbols_in format w = sent_by (place_in format) 384 (code_symbols w.start w.bits)
 
 -- for each code symbol the sum of the soft values of the symbols that are sent for it
-unfoldable pub gathered_in : {R : Type 0} → FrameFormat R → List ℤ → List ℤ
-gathered_in format softs =
-    map (λ c. total
-    (map (λ i. get_or softs i (pos 0)) (filter (λ i. place_in format i == c) (places 384))))
-    (places (2 * bits_in format))
+abbrev pub gathered_in : {R : Type 0} → FrameFormat R → List ℤ → List ℤ
+gathered_in format softs = gathered_by (place_in format) 384 (2 * bits_in format) softs
 
 -- how well a codeword's symbols agree with the soft values
 abbrev pub score_in : {R : Type 0} → List ℤ → FrameFormat R → Codeword → ℤ
@@ -91,12 +84,16 @@ frame_in format bits score = record {
   score = score;
 }
 
--- the first of some codewords whose quality indicator is right, as a frame
+-- the first of some codewords whose quality indicator is right, if any
+abbrev pub first_right : {R : Type 0} → FrameFormat R → List Codeword → Option Codeword
+first_right format codewords = find (λ w. is_right format w.bits) codewords
+
+-- that one as a frame
 abbrev pub candidate_of : {R : Type 0} → List ℤ → FrameFormat R → List Codeword →
     Option (DecodedFrame R)
 candidate_of softs format codewords =
     option_map (λ w. frame_in format w.bits (score_in softs format w))
-    (find (λ w. is_right format w.bits) codewords)
+    (first_right format codewords)
 
 -- a format's candidate by its best codeword
 abbrev pub candidate_in : {R : Type 0} → List ℤ → FrameFormat R → Option (DecodedFrame R)

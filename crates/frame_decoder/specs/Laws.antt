@@ -1,17 +1,20 @@
 -- The laws of frames.
-use Rattle.std.specs.Prelude.{◌≡◌, ℕ, ◌*◌, ◌<◌, Bool, true, false, not, List, length, filter}
-use Rattle.std.specs.Prelude.{get_or, replicate, ℤ, pos, ◌*ℤ◌}
+use Rattle.std.specs.Prelude.{◌≡◌, ℕ, ◌*◌, ◌<◌, Bool, true, false, not, List, ◌++◌, length}
+use Rattle.std.specs.Prelude.{filter, get_or, replicate, ℤ, pos, ◌*ℤ◌}
 use Rattle.chip_core.specs.Bits.{places, sign}
 use Rattle.conv_code.specs.ConvCode.{code_symbols}
 use Rattle.symbol_path.specs.SentOrder.{sent}
-use Rattle.quality_bits.specs.TrafficCodewords.{information_of, traffic_codeword}
+use Rattle.quality_bits.specs.Kinds.{quality_indicator}
 use Rattle.quality_bits.specs.declared.rate.Rate.{Rate}
 use Rattle.quality_bits.specs.declared.rate.Rate.TheVariants.{R9600}
 use Rattle.viterbi.specs.Best.{IsAllowed}
 use Rattle.viterbi.specs.Codewords.{Codeword, correlation, best_codeword}
 use Rattle.viterbi.specs.declared.codeword.Ends.TheVariants.{Zero, Free}
 use Rattle.frame_decoder.specs.Spans.{Channel, own_bits}
-use Rattle.frame_decoder.specs.TrafficFrames.{frame_bits, is_replaced, frame_symbols, decoded}
+use Rattle.frame_decoder.specs.declared.formats.FrameFormat.{FrameFormat}
+use Rattle.frame_decoder.specs.declared.formats.DecodedFrame.{DecodedFrame}
+use Rattle.frame_decoder.specs.Formats.{bits_in, format_of, symbols_in}
+use Rattle.frame_decoder.specs.TrafficFrames.{is_replaced, as_decoded, decoded}
 
 -- ---- a span of one frame
 -- how well a codeword agrees with the soft values of one frame
@@ -24,11 +27,13 @@ IsOneFrame =
     (c : Channel) (softs : List ℤ) →
     own_bits c 1 0 softs ≡ (best_codeword (frame_score c softs) Free c.bits).bits
 
--- ---- sent frames of traffic channels
--- a frame's codeword: its bits behind eight zeros
-abbrev pub frame_codeword : Rate → List Bool → Codeword
-frame_codeword rate information =
-    record { start = replicate 8 false; bits = traffic_codeword rate information }
+-- ---- sent frames of traffic channels, whatever their rate set
+-- a frame's codeword: its information, its quality indicator and eight tail bits, behind eight zeros
+abbrev pub sent_codeword : {R : Type 0} → FrameFormat R → List Bool → Codeword
+sent_codeword format information = record {
+  start = replicate 8 false;
+  bits = information ++ quality_indicator format.quality information ++ replicate 8 false;
+}
 
 -- soft values that are a number times the signs of symbols at the places that aren't replaced
 abbrev pub ShowSymbols : List ℕ → ℕ → List Bool → List ℤ → Type 0
@@ -42,30 +47,46 @@ AgreeElsewhere replaced xs ys =
     (i : ℕ) → i < 384 → is_replaced replaced i ≡ false →
     get_or xs i false ≡ get_or ys i false
 
--- no other codeword of any rate, its quality indicator right or not, has a codeword's symbols there
-abbrev pub IsUnshared : List ℕ → Rate → Codeword → Type 0
-IsUnshared replaced rate w =
-    (r : Rate) (v : Codeword) → IsAllowed Zero (frame_bits r) v →
-    AgreeElsewhere replaced (frame_symbols rate w) (frame_symbols r v) → (r ≡ rate) × (v ≡ w)
+-- of rates with these formats: no other codeword of any of them, its quality indicator right or not,
+-- has a codeword's symbols there
+abbrev pub IsUnsharedIn : {R : Type 0} → (R → FrameFormat R) → List ℕ → R → Codeword → Type 0
+IsUnsharedIn {R} format_of replaced rate w =
+    (r : R) (v : Codeword) → IsAllowed Zero (bits_in (format_of r)) v →
+    AgreeElsewhere replaced (symbols_in (format_of rate) w) (symbols_in (format_of r) v) →
+    (r ≡ rate) × (v ≡ w)
 
 -- how many symbols aren't replaced
 abbrev pub kept_count : List ℕ → ℕ
 kept_count replaced = length (filter (λ i. not (is_replaced replaced i)) (places 384))
 
+-- a good frame with these information bits
+abbrev pub good_frame : {R : Type 0} → R → List Bool → ℤ → DecodedFrame R
+good_frame rate information score =
+    record { rate = rate; good = true; bits = information; score = score }
+
 -- soft values that show the symbols of a frame which no other codeword shares give that frame
-abbrev pub IsSentFrameDecoded : Type 0
-IsSentFrameDecoded =
-    (strength : ℕ) (replaced : List ℕ) (rate : Rate) (information : List Bool) (softs : List ℤ) →
-    let w = frame_codeword rate information in
+abbrev pub DecodesSentFrames : {R D : Type 0} → (R → FrameFormat R) → (DecodedFrame R → D) →
+    (List ℕ → List ℤ → D) → Type 0
+DecodesSentFrames {R} format_of shown decoded =
+    (strength : ℕ) (replaced : List ℕ) (rate : R) (information : List Bool) (softs : List ℤ) →
+    let format = format_of rate in
+    let w = sent_codeword format information in
     0 < strength → length replaced < 384 → length softs ≡ 384 →
-    length information ≡ information_of rate →
-    ShowSymbols replaced strength (frame_symbols rate w) softs → IsUnshared replaced rate w →
-    decoded replaced softs ≡ record {
-      rate = rate;
-      good = true;
-      bits = information;
-      score = pos (strength * kept_count replaced);
-    }
+    length information ≡ format.information →
+    ShowSymbols replaced strength (symbols_in format w) softs →
+    IsUnsharedIn format_of replaced rate w →
+    decoded replaced softs
+    ≡ shown (good_frame rate information (pos (strength * kept_count replaced)))
+
+-- ---- those of rate set 1
+abbrev pub frame_codeword : Rate → List Bool → Codeword
+frame_codeword rate information = sent_codeword (format_of rate) information
+
+abbrev pub IsUnshared : List ℕ → Rate → Codeword → Type 0
+IsUnshared = IsUnsharedIn format_of
+
+abbrev pub IsSentFrameDecoded : Type 0
+IsSentFrameDecoded = DecodesSentFrames format_of as_decoded decoded
 
 -- where all soft values are 0, no frame is good, and the bits are zeros
 abbrev pub IsNothingGood : Type 0

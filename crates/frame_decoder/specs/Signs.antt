@@ -1,11 +1,11 @@
 -- Frames whose soft values have the signs of symbols, whatever their sizes.
-use Rattle.std.specs.Prelude.{◌≡◌, ℕ, ◌<◌, Bool, true, false, List, length, get_or, ℤ, pos}
-use Rattle.quality_bits.specs.TrafficCodewords.{information_of}
-use Rattle.quality_bits.specs.declared.rate.Rate.{Rate}
+use Rattle.std.specs.Prelude.{◌≡◌, ℕ, ◌<◌, Bool, false, List, length, get_or, ℤ, pos}
 pub use Rattle.viterbi.specs.Signs.{HasSign, HaveSigns}
-use Rattle.frame_decoder.specs.Laws.{IsUnshared, frame_codeword}
-use Rattle.frame_decoder.specs.TrafficFrames.{decoded, frame_score, frame_symbols, is_replaced}
-use Rattle.frame_decoder.specs.TrafficFrames.{unreplaced}
+use Rattle.frame_decoder.specs.declared.formats.FrameFormat.{FrameFormat}
+use Rattle.frame_decoder.specs.declared.formats.DecodedFrame.{DecodedFrame}
+use Rattle.frame_decoder.specs.Formats.{format_of, score_in, symbols_in}
+use Rattle.frame_decoder.specs.Laws.{IsUnsharedIn, good_frame, sent_codeword}
+use Rattle.frame_decoder.specs.TrafficFrames.{as_decoded, decoded, is_replaced, unreplaced}
 
 -- At each place of a frame that no power control bit replaces, the symbol and the soft value stand
 -- in a relation.
@@ -20,15 +20,16 @@ KeepSigns = AreKept HasSign
 
 -- Soft values with the signs of the symbols of a frame, which no other codeword shares, give that
 -- frame, with its rate and its information bits, as a good one. Its score is its codeword's.
+abbrev pub DecodesBySigns : {R D : Type 0} → (R → FrameFormat R) → (DecodedFrame R → D) →
+    (List ℕ → List ℤ → D) → Type 0
+DecodesBySigns {R} format_of shown decoded =
+    (replaced : List ℕ) (rate : R) (information : List Bool) (softs : List ℤ) →
+    let format = format_of rate in
+    let w = sent_codeword format information in
+    length replaced < 384 → length softs ≡ 384 → length information ≡ format.information →
+    KeepSigns replaced (symbols_in format w) softs → IsUnsharedIn format_of replaced rate w →
+    decoded replaced softs
+    ≡ shown (good_frame rate information (score_in (unreplaced replaced softs) format w))
+
 abbrev pub IsDecodedBySigns : Type 0
-IsDecodedBySigns =
-    (replaced : List ℕ) (rate : Rate) (information : List Bool) (softs : List ℤ) →
-    let w = frame_codeword rate information in
-    length replaced < 384 → length softs ≡ 384 → length information ≡ information_of rate →
-    KeepSigns replaced (frame_symbols rate w) softs → IsUnshared replaced rate w →
-    decoded replaced softs ≡ record {
-      rate = rate;
-      good = true;
-      bits = information;
-      score = frame_score (unreplaced replaced softs) rate w;
-    }
+IsDecodedBySigns = DecodesBySigns format_of as_decoded decoded

@@ -1,7 +1,7 @@
 //! The symbols that power control bits replace.
 
 ghost use Rattle.std.specs.Prelude.{◌≡◌, ◌≤◌, pos, slice_set, sum_by, unsigned_abs};
-ghost use Rattle.frame_decoder.specs.TrafficFrames.{unreplaced};
+ghost use Rattle.frame_decoder.specs.Replaced.{unreplaced};
 
 use crate::frame_softs::FrameSofts;
 use symbol_path::PowerPlaces;

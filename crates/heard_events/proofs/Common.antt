@@ -26,11 +26,11 @@ pub use Rattle.chip_core.specs.declared.sample.Sample.{Sample}
 pub use Rattle.frame_decoder.proofs.BestCodewords.{length-best_codeword}
 pub use Rattle.frame_decoder.proofs.Parts.{within}
 pub use Rattle.frame_decoder.specs.Spans.{own_bits, score, sending}
-pub use Rattle.frame_decoder.specs.TrafficFrames.{power_bit, group_sums, best_candidate, better, frame_bits, has_quality, not_good}
-pub use Rattle.frame_decoder.specs.TrafficFrames.{preferred, rate_frame, rate_codeword, unreplaced}
+pub use Rattle.frame_decoder.specs.Formats.{format_of}
+pub use Rattle.frame_decoder.specs.TrafficFrames.{power_bit, group_sums, lower_rates}
 unfoldable pub use Rattle.frame_decoder.specs.TrafficFrames.{decoded}
 pub use Rattle.frame_decoder.specs.declared.traffic.Decoded.{Decoded}
-pub use Rattle.frame_decoder.proofs.RateCodewords.{length-rate_codeword}
+pub use Rattle.frame_decoder.proofs.InformationBits.{frame_long}
 pub use Rattle.pilot_sets.specs.Standing.{Standing, new_standing, began_in, deltas_with, due_at, due_for, shown, shown_active, change_at}
 pub use Rattle.pilot_sets.specs.Standing.{stepped}
 pub use Rattle.pilot_sets.specs.declared.change.SetChange.{SetChange}

@@ -1,49 +1,14 @@
 -- The signaling of a decoded frame.
-use Rattle.heard_events.proofs.Common.{◌≡◌, ℕ, ◌≤◌, Bool, true, false, List, length, take, drop, ℤ, arith, Option, Some, None, length-drop}
-use Rattle.heard_events.proofs.Common.{[], ◌∷◌, cond, get_or, if◌then◌else◌, int_lt, IfSome, length-take-le, best_candidate, better}
-use Rattle.heard_events.proofs.Common.{decoded, frame_bits, has_quality, not_good, preferred, rate_frame, rate_codeword, unreplaced}
-use Rattle.heard_events.proofs.Common.{Decoded, length-rate_codeword, information_of, Rate, R9600, R4800, R2400, R1200, primary_bits, split}
-use Rattle.heard_events.proofs.Common.{split_9600, Mux}
+use Rattle.heard_events.proofs.Common.{Bool, IfSome, List, Mux, None, Option, R1200, R2400, R4800, R9600, Rate, Some, arith, decoded}
+use Rattle.heard_events.proofs.Common.{drop, false, format_of, frame_long, get_or, information_of, length, length-drop, lower_rates}
+use Rattle.heard_events.proofs.Common.{primary_bits, split, split_9600, true, ℕ, ℤ, ◌≡◌, ◌≤◌}
 use Rattle.std.proofs.lemmas.Bool.{cond_both}
 
 -- A DECODED FRAME HAS THE INFORMATION BITS OF ITS RATE
-abbrev IsLong : Decoded → Type 0
-IsLong frame = length frame.bits ≡ information_of frame.rate
-
-within : (rate : Rate) → information_of rate ≤ frame_bits rate
-within R9600 = omega arith
-within R4800 = omega arith
-within R2400 = omega arith
-within R1200 = omega arith
-
--- the information bits of a rate's best codeword
-information_long : (softs : List ℤ) (rate : Rate) →
-    length (take (information_of rate) (rate_codeword softs rate).bits) ≡ information_of rate
-information_long softs rate =
-    let long = length-rate_codeword softs rate in
-    length-take-le (information_of rate) (rate_codeword softs rate).bits
-    (omega (arith, long, within rate))
-
-best_long : (softs : List ℤ) (rates : List Rate) → IsLong (best_candidate softs rates)
-best_long softs [] = information_long softs R1200
-best_long softs (rate ∷ rates) =
-    let higher = rate_frame softs rate in
-    let lower = best_candidate softs rates in
-    let long = best_long softs rates in
-    cond_both (has_quality rate (rate_codeword softs rate).bits) (better higher lower) lower IsLong
-    (λ _.
-    cond_both (int_lt higher.score lower.score) lower higher IsLong (λ _. long)
-    (λ _. information_long softs rate))
-    (λ _. long)
-
 pub decoded_long : (replaced : List ℕ) (softs : List ℤ) →
     length (decoded replaced softs).bits ≡ information_of (decoded replaced softs).rate
 unfolding decoded
-decoded_long replaced softs =
-    let kept = unreplaced replaced softs in
-    let best = best_candidate kept (R9600 ∷ R4800 ∷ R2400 ∷ []) in
-    cond_both best.good best (not_good (rate_codeword kept R9600).bits best.score) IsLong
-    (λ _. best_long kept (R9600 ∷ R4800 ∷ R2400 ∷ [])) (λ _. information_long kept R9600)
+decoded_long replaced softs = frame_long information_of format_of R9600 lower_rates replaced softs (λ r. refl)
 
 -- ITS SIGNALING IS SOME BITS LONG
 abbrev IsLongSignal : Option (List Bool) → Type 0

@@ -1,23 +1,18 @@
 -- A sent frame is shown, however many codewords are listed.
-use Rattle.std.proofs.Common.{ℕ, ◌<◌, List, refl, sym, ap, ◌∙◌, arith, ℤ}
-use Rattle.std.specs.Prelude.{Option, true}
-use Rattle.conv_code.specs.ConvCode.{code_symbols}
-use Rattle.quality_bits.specs.TrafficCodewords.{repeats_of}
+use Rattle.std.proofs.Common.{ℕ, ◌<◌, List, [], ◌∷◌, ◌++◌, refl, ap, ◌∙◌, arith, ℤ}
+use Rattle.std.specs.Prelude.{Option}
 use Rattle.quality_bits.specs.declared.rate.Rate.{Rate}
 use Rattle.quality_bits.specs.declared.rate.Rate.TheVariants.{R9600, R4800, R2400, R1200}
-use Rattle.symbol_path.specs.SentOrder.{data_shape, sent}
-use Rattle.symbol_path.proofs.Agreement.{length-sent}
 use Rattle.frame_decoder.specs.declared.formats.DecodedFrame.{DecodedFrame}
-use Rattle.frame_decoder.specs.Formats.{format_of, symbols_in, codeword_in, score_in, good_or}
-use Rattle.frame_decoder.specs.TrafficFrames.{frame_symbols, unreplaced}
-use Rattle.frame_decoder.specs.declared.traffic.Decoded.{Decoded}
-use Rattle.frame_decoder.specs.Laws.{frame_codeword}
-use Rattle.frame_decoder.proofs.Chosen.{as_decoded}
-use Rattle.frame_decoder.proofs.SentFrames.{rates, among, unshared_in}
+use Rattle.frame_decoder.specs.Formats.{format_of, codeword_in, score_in, good_or}
+use Rattle.frame_decoder.specs.TrafficFrames.{as_decoded, frame_symbols, lower_rates, unreplaced}
+use Rattle.frame_decoder.specs.Laws.{frame_codeword, good_frame}
+use Rattle.frame_decoder.proofs.FormatCodewords.{length-symbols_in}
+use Rattle.frame_decoder.proofs.SentFrames.{among}
 use Rattle.frame_decoder.proofs.SentFormats.{AreCodewords, signs_chosen}
 use Rattle.frame_decoder.proofs.SignedScores.{shown_keep, shown_score}
+use Rattle.listed_frame.specs.ListedFrames.{count_of, listed_codewords, listed}
 use Rattle.listed_frame.specs.Laws.{IsListedBySigns, IsSentFrameListed}
-use Rattle.listed_frame.proofs.Choice.{count_of, listed_codewords, listed_is}
 use Rattle.listed_frame.proofs.FirstCodewords.{codewords_allowed, best_first}
 
 some_listed : (k : ℕ) (rate : Rate) → 0 < k → 0 < count_of k rate
@@ -33,26 +28,21 @@ are_codewords k some kept = record {
 }
 
 pub signs_frame_listed : IsListedBySigns
-unfolding symbols_in sent
+unfolding listed
 signs_frame_listed k replaced rate information softs listing few long long' keeps unshared =
     let kept = unreplaced replaced softs in
     let codeword = codeword_in kept (format_of R9600) in
-    sym (listed_is k replaced softs)
-    ∙ ap (λ (best : Option (DecodedFrame Rate)).
+    ap (λ (best : Option (DecodedFrame Rate)).
     as_decoded (good_or (format_of R9600) codeword.bits (score_in kept (format_of R9600) codeword) best))
-    (signs_chosen format_of rates replaced rate information softs (listed_codewords k) (λ r. refl) among
-    (are_codewords k listing) few long long' keeps
-    (unshared_in replaced rate (frame_codeword rate information) unshared))
+    (signs_chosen format_of (lower_rates ++ R9600 ∷ []) replaced rate information softs (listed_codewords k) (λ r. refl) among
+    (are_codewords k listing) few long long' keeps unshared)
 
 -- one number times the signs has the signs, and its sum is the score
 pub sent_frame_listed : IsSentFrameListed
-unfolding sent
 sent_frame_listed k n replaced rate information softs listing some few long long' shows unshared =
     let w = frame_codeword rate information in
     let xs = frame_symbols rate w in
     signs_frame_listed k replaced rate information softs listing few long long'
     (shown_keep n replaced xs softs some shows) unshared
-    ∙ ap (λ (score : ℤ).
-    let frame : Decoded = record { rate = rate; good = true; bits = information; score = score } in frame)
-    (shown_score n replaced xs softs some long
-    (length-sent data_shape (repeats_of rate) (code_symbols w.start w.bits)) shows)
+    ∙ ap (λ (score : ℤ). as_decoded (good_frame rate information score))
+    (shown_score n replaced xs softs some long (length-symbols_in (format_of rate) w) shows)

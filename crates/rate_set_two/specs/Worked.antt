@@ -1,14 +1,13 @@
 -- Worked values, which the checker computes.
 use Rattle.std.specs.Prelude.{◌≡◌, refl, Bool, true, false, List, [], ◌∷◌, ◌++◌, map, take}
-use Rattle.std.specs.Prelude.{replicate, pos, None, Some}
 use Rattle.chip_core.specs.Bits.{binary, number, places}
 use Rattle.quality_bits.specs.Quality.{check_bits}
-use Rattle.symbol_path.specs.SentOrderTwo.{place2, sent2}
+use Rattle.symbol_path.specs.SentOrder.{sent_by}
+use Rattle.symbol_path.specs.SentOrderTwo.{place2}
 use Rattle.symbol_path.specs.FramesTwo.{codeword_bits}
-use Rattle.rate_set_two.specs.TrafficFrames.{frame_codeword, frame_symbols, has_quality, shown}
-use Rattle.rate_set_two.specs.TrafficFrames.{preferred, good_or}
+use Rattle.rate_set_two.specs.TrafficFrames.{format_of, frame_codeword, frame_symbols}
+use Rattle.frame_decoder.specs.Formats.{is_right}
 use Rattle.symbol_path.specs.declared.rate_two.Rate2.TheVariants.{R14400, R7200, R3600, R1800}
-use Rattle.rate_set_two.specs.declared.traffic.Decoded2.{Decoded2}
 
 -- which code symbols are sent
 places_14400 : map (place2 R14400) (0 ∷ 1 ∷ 96 ∷ 288 ∷ 383 ∷ []) ≡ 0 ∷ 96 ∷ 3 ∷ 5 ∷ 575 ∷ []
@@ -50,39 +49,15 @@ codeword_1800 = refl
 symbols_1800 : frame_symbols R1800 (frame_codeword R1800 few) ≡
     binary 192 0x044992712e55044992b6f11f044992712e55712e55b6f11f
     ++ binary 192 0x044992712e55044992b6f11f044992b6f11f712e55b6f11f
-unfolding few binary places check_bits sent2
+unfolding few binary places check_bits sent_by
 symbols_1800 = refl
 
 -- quality indicators, right and with a bit changed
-right_7200 : has_quality R7200
+right_7200 : is_right (format_of R7200)
     (binary 64 0x7b41f3ba74f6b323 ++ binary 64 0xe2e6eab2cb9fcfb3 ++ binary 16 0x9d00) ≡ true
 unfolding binary places check_bits
 right_7200 = refl
 
-wrong_1800 : has_quality R1800 (binary 36 0x5a5a5b300) ≡ false
+wrong_1800 : is_right (format_of R1800) (binary 36 0x5a5a5b300) ≡ false
 unfolding binary places check_bits
 wrong_1800 = refl
-
--- a frame of each of two rates, of the same score
-abbrev half : Decoded2
-half = shown R7200 (replicate 144 false) (pos 352)
-
-abbrev eighth : Decoded2
-eighth = shown R1800 (replicate 36 false) (pos 352)
-
-tie : preferred true half (Some eighth) ≡ Some half
-tie = refl
-
-no_candidate : preferred false half (Some eighth) ≡ Some eighth
-no_candidate = refl
-
--- a score of 0 isn't good, and only it is kept then
-nothing_good : good_or (replicate 288 false) (pos 7)
-    (Some (shown R1800 (replicate 36 true) (pos 0)))
-    ≡ record { rate = R14400; good = false; bits = replicate 268 false; score = pos 0 }
-nothing_good = refl
-
--- no candidate: the best codeword at 14,400 bits a second, which isn't good
-no_frame : good_or (replicate 288 true) (pos 7) None
-    ≡ record { rate = R14400; good = false; bits = replicate 268 true; score = pos 7 }
-no_frame = refl

@@ -2,7 +2,7 @@
 use Rattle.symbol_path.proofs.Common.{◌≡◌, ℕ, zero, suc, ◌+◌, ◌*◌, ◌/◌, ◌<◌, Bool, true, false, List, [], ◌∷◌, length, get_or, refl, sym}
 use Rattle.symbol_path.proofs.Common.{ap, ◌∙◌, arith, add-one, ℤ, pos, ◌+ℤ◌, ◌*ℤ◌, sign, sum_below, sum_same, sum_front, sum_none}
 use Rattle.symbol_path.proofs.Common.{sum_changed, length-map-places, get_or-map-places, distrib_right, Kind, agreement, Shape, shape_of}
-use Rattle.symbol_path.proofs.Common.{size, address, sent, gathered}
+use Rattle.symbol_path.proofs.Common.{size, address, code_symbol, sent, gathered, sent_by, gathered_by}
 use Rattle.symbol_path.proofs.Permutation.{address_lt}
 use Rattle.symbol_path.proofs.Interleaving.{size_some, symbol_lt, count_is}
 use Rattle.symbol_path.proofs.Gathering.{part, part-none, part_here, part_other}
@@ -49,52 +49,58 @@ by_key f key symbol count (suc n) low =
     ∙ sym changed
     ∙ ap (λ (m : ℕ). sum_below count (λ c. part f key m c *ℤ sign (symbol c))) next
 
--- What is sent for code symbols by a key, number by number, agrees with soft values as the code symbols
--- agree with the sums of the soft values of each key.
-pub agreement-keyed : (n count : ℕ) (key : ℕ → ℕ) (softs sums : List ℤ) (sent code : List Bool) →
-    length softs ≡ n → length sent ≡ n → length sums ≡ count → length code ≡ count →
-    ((i : ℕ) → i < n → key i < count) →
-    ((i : ℕ) → i < n → get_or sent i false ≡ get_or code (key i) false) →
-    ((c : ℕ) → c < count → get_or sums c (pos 0) ≡ part (λ i. get_or softs i (pos 0)) key n c) →
-    agreement softs sent ≡ agreement sums code
-agreement-keyed n count key softs sums sent code long long' all all' low each summed =
+-- what is sent by a key, and the sums by it
+pub length-sent_by : (key : ℕ → ℕ) (n : ℕ) (code : List Bool) → length (sent_by key n code) ≡ n
+unfolding sent_by
+length-sent_by key n code = length-map-places (λ i. get_or code (key i) false) n
+
+pub get_or-sent_by : (key : ℕ → ℕ) (n : ℕ) (code : List Bool) (i : ℕ) → i < n →
+    get_or (sent_by key n code) i false ≡ get_or code (key i) false
+unfolding sent_by
+get_or-sent_by key n code i h = get_or-map-places (λ i. get_or code (key i) false) n i false h
+
+pub length-gathered_by : (key : ℕ → ℕ) (n count : ℕ) (softs : List ℤ) →
+    length (gathered_by key n count softs) ≡ count
+unfolding gathered_by
+length-gathered_by key n count softs = length-map-places (part (λ i. get_or softs i (pos 0)) key n) count
+
+get_or-gathered_by : (key : ℕ → ℕ) (n count : ℕ) (softs : List ℤ) (c : ℕ) → c < count →
+    get_or (gathered_by key n count softs) c (pos 0) ≡ part (λ i. get_or softs i (pos 0)) key n c
+unfolding gathered_by
+get_or-gathered_by key n count softs c h =
+    get_or-map-places (part (λ i. get_or softs i (pos 0)) key n) count c (pos 0) h
+
+-- What is sent for code symbols agrees with soft values as the code symbols agree with the sums.
+pub agreement-gathered_by : (key : ℕ → ℕ) (n count : ℕ) (softs : List ℤ) (code : List Bool) →
+    length softs ≡ n → length code ≡ count → ((i : ℕ) → i < n → key i < count) →
+    agreement softs (sent_by key n code) ≡ agreement (gathered_by key n count softs) code
+agreement-gathered_by key n count softs code long all low =
     let soft = λ (i : ℕ). get_or softs i (pos 0) in
-    agreement_is n softs sent long long'
+    let sent = sent_by key n code in
+    let sums = gathered_by key n count softs in
+    agreement_is n softs sent long (length-sent_by key n code)
     ∙ sum_same n (λ i. soft i *ℤ sign (get_or sent i false))
     (λ i. soft i *ℤ sign (get_or code (key i) false))
-    (λ i lt. ap (λ (b : Bool). soft i *ℤ sign b) (each i lt))
+    (λ i lt. ap (λ (b : Bool). soft i *ℤ sign b) (get_or-sent_by key n code i lt))
     ∙ by_key soft key (λ c. get_or code c false) count n low
     ∙ sum_same count (λ c. part soft key n c *ℤ sign (get_or code c false))
     (λ c. get_or sums c (pos 0) *ℤ sign (get_or code c false))
-    (λ c lt. ap (λ (z : ℤ). z *ℤ sign (get_or code c false)) (sym (summed c lt)))
-    ∙ sym (agreement_is count sums code all all')
+    (λ c lt. ap (λ (z : ℤ). z *ℤ sign (get_or code c false))
+    (sym (get_or-gathered_by key n count softs c lt)))
+    ∙ sym (agreement_is count sums code (length-gathered_by key n count softs) all)
 
 pub length-sent : (s : Shape) (repeats : ℕ) (code : List Bool) →
     length (sent s repeats code) ≡ size s
-unfolding sent
-length-sent s repeats code =
-    length-map-places (λ i. get_or code (address s i / repeats) false) (size s)
+length-sent s repeats code = length-sent_by (code_symbol s repeats) (size s) code
 
 pub get_or-sent : (s : Shape) (repeats : ℕ) (code : List Bool) (i : ℕ) → i < size s →
-    get_or (sent s repeats code) i false ≡ get_or code (address s i / repeats) false
-unfolding sent
-get_or-sent s repeats code i h =
-    get_or-map-places (λ i. get_or code (address s i / repeats) false) (size s) i false h
+    get_or (sent s repeats code) i false ≡ get_or code (code_symbol s repeats i) false
+get_or-sent s repeats code i h = get_or-sent_by (code_symbol s repeats) (size s) code i h
 
 pub length-gathered : (s : Shape) (repeats : ℕ) (softs : List ℤ) →
     length (gathered s repeats softs) ≡ size s / repeats
-unfolding gathered
 length-gathered s repeats softs =
-    length-map-places (part (λ i. get_or softs i (pos 0)) (λ i. address s i / repeats) (size s))
-    (size s / repeats)
-
-pub get_or-gathered : (s : Shape) (repeats : ℕ) (softs : List ℤ) (c : ℕ) → c < size s / repeats →
-    get_or (gathered s repeats softs) c (pos 0) ≡
-    part (λ i. get_or softs i (pos 0)) (λ i. address s i / repeats) (size s) c
-unfolding gathered
-get_or-gathered s repeats softs c h =
-    get_or-map-places (part (λ i. get_or softs i (pos 0)) (λ i. address s i / repeats) (size s))
-    (size s / repeats) c (pos 0) h
+    length-gathered_by (code_symbol s repeats) (size s) (size s / repeats) softs
 
 pub agreement-gathered : (kind : Kind) (repeats : ℕ) (softs : List ℤ) (code : List Bool) →
     length softs ≡ size (shape_of kind) → length code * repeats ≡ size (shape_of kind) →
@@ -104,9 +110,7 @@ agreement-gathered kind repeats softs code p q =
     let s = shape_of kind in
     let count : size s / repeats ≡ length code =
     count_is (length code) repeats (size s) q (size_some kind) in
-    let key = λ (i : ℕ). address s i / repeats in
-    agreement-keyed (size s) (length code) key softs (gathered s repeats softs) (sent s repeats code)
-    code p (length-sent s repeats code) (length-gathered s repeats softs ∙ count) refl
-    (λ i lt. symbol_lt (address s i) (length code) repeats (size s) q (address_lt kind i lt))
-    (λ i lt. get_or-sent s repeats code i lt)
-    (λ c lt. get_or-gathered s repeats softs c (omega (arith, lt, count)))
+    agreement-gathered_by (code_symbol s repeats) (size s) (size s / repeats) softs code p (sym count)
+    (λ i lt.
+    let low = symbol_lt (address s i) (length code) repeats (size s) q (address_lt kind i lt) in
+    omega (arith, low, count))

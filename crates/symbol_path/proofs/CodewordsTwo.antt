@@ -6,23 +6,13 @@ use Rattle.symbol_path.proofs.Common.{quality_length, frame_bits, symbols_of, qu
 
 -- how many bits a frame has
 pub bits_least : (rate : Rate2) → 8 ≤ frame_bits rate
-bits_least R14400 = omega arith
-bits_least R7200 = omega arith
-bits_least R3600 = omega arith
-bits_least R1800 = omega arith
+bits_least rate = omega arith
 
 pub bits_most : (rate : Rate2) → frame_bits rate ≤ 288
 bits_most R14400 = omega arith
 bits_most R7200 = omega arith
 bits_most R3600 = omega arith
 bits_most R1800 = omega arith
-
--- the information, the quality indicator and the tail are all of them
-pub parts_are : (rate : Rate2) → information_of rate + quality_length rate + 8 ≡ frame_bits rate
-parts_are R14400 = refl
-parts_are R7200 = refl
-parts_are R3600 = refl
-parts_are R1800 = refl
 
 -- two code symbols a bit
 pub symbols_are : (rate : Rate2) → symbols_of rate ≡ 2 * frame_bits rate
@@ -52,7 +42,6 @@ length-checked rate information long =
       length-append information (quality_indicator rate information),
       length-quality_indicator rate information,
       long,
-      parts_are rate,
     )
 
 pub length-codeword_bits : (rate : Rate2) (information : List Bool) →

@@ -42,10 +42,10 @@ pub use Rattle.symbol_path.specs.FramesTwo.{quality_indicator, codeword_bits}
 pub use Rattle.symbol_path.specs.RatesTwo.{frame_bits, information_of, quality_length, quality_of, symbols_of}
 pub use Rattle.symbol_path.specs.Scrambling.{group_scrambling, power_place, power_start, symbol_or_power_bit}
 unfoldable pub use Rattle.symbol_path.specs.Scrambling.{power_places, symbol_chips, with_power_bits}
-pub use Rattle.symbol_path.specs.SentOrder.{Shape, address, data_shape, place, reversed, shape_of, size, sync_shape}
-unfoldable pub use Rattle.symbol_path.specs.SentOrder.{gathered, sent}
-pub use Rattle.symbol_path.specs.SentOrderTwo.{IsDropped, IsKeptOnce, is_dropped, kept_symbol, place2, repeated_symbol}
-unfoldable pub use Rattle.symbol_path.specs.SentOrderTwo.{sent2}
+pub use Rattle.symbol_path.specs.SentOrder.{Shape, address, code_symbol, data_shape, gathered, place, reversed, sent, shape_of, size}
+pub use Rattle.symbol_path.specs.SentOrder.{sync_shape}
+unfoldable pub use Rattle.symbol_path.specs.SentOrder.{gathered_by, sent_by}
+pub use Rattle.symbol_path.specs.SentOrderTwo.{IsDropped, IsKeptOnce, is_dropped, kept_symbol, place2, repeated_symbol, sent2}
 pub use Rattle.symbol_path.specs.declared.kinds.Kind.{Kind}
 pub use Rattle.symbol_path.specs.declared.kinds.Kind.TheVariants.{Data, Sync}
 pub use Rattle.symbol_path.specs.declared.rate_two.Rate2.{Rate2}

@@ -1,9 +1,9 @@
 -- Sums of the soft values of a code symbol.
-use Rattle.symbol_path.proofs.Common.{◌≡◌, ◌≢◌, ℕ, suc, ◌+◌, ◌/◌, ◌^◌, ◌<◌, ◌≤◌, Bool, cond, List, [], ◌∷◌, ◌++◌, length, get_or, set, map}
+use Rattle.symbol_path.proofs.Common.{◌≡◌, ◌≢◌, ℕ, suc, ◌+◌, ◌^◌, ◌<◌, ◌≤◌, Bool, cond, List, [], ◌∷◌, ◌++◌, length, get_or, set, map}
 use Rattle.symbol_path.proofs.Common.{take, refl, sym, ap, ◌∙◌, arith, ⊎_elim, ℤ, pos, ◌+ℤ◌, filter, ◌==◌, sum_by, unsigned_abs, ints}
 use Rattle.symbol_path.proofs.Common.{fits_signed_from_abs, to_z-of_z, cases_eq, eq-eqb, ne_eqb, map-append, get_or-set_same}
 use Rattle.symbol_path.proofs.Common.{get_or-set_other, filter-append, sum_by-cons, sum_by-set, sum_by_more, sum_by_more_le}
-use Rattle.symbol_path.proofs.Common.{get_or-le-sum_by, w64, SFits, to_z, of_z, places, total, Shape, size, address, gathered, places-none}
+use Rattle.symbol_path.proofs.Common.{get_or-le-sum_by, w64, SFits, to_z, of_z, places, total, gathered_by, places-none}
 use Rattle.symbol_path.proofs.Common.{places-more, map-places-all}
 
 -- the sum of f over the numbers below n whose key is c
@@ -148,13 +148,9 @@ turn_sizes n at sums softs h l bound most =
     (sizes_more sums softs at n h l most)
 
 -- the sums of all soft values
-pub gathered_all : (s : Shape) (repeats : ℕ) (sums softs : List ℤ) →
-    length sums ≡ size s / repeats →
-    ((c : ℕ) →
-    get_or sums c (pos 0) ≡
-    part (λ i. get_or softs i (pos 0)) (λ i. address s i / repeats) (size s) c) →
-    sums ≡ gathered s repeats softs
-unfolding gathered
-gathered_all s repeats sums softs long each =
-    map-places-all (λ c. part (λ i. get_or softs i (pos 0)) (λ i. address s i / repeats) (size s) c)
-    sums (size s / repeats) (pos 0) long (λ c lt. each c)
+pub gathered_all : (key : ℕ → ℕ) (n count : ℕ) (sums softs : List ℤ) → length sums ≡ count →
+    ((c : ℕ) → get_or sums c (pos 0) ≡ part (λ i. get_or softs i (pos 0)) key n c) →
+    sums ≡ gathered_by key n count softs
+unfolding gathered_by
+gathered_all key n count sums softs long each =
+    map-places-all (part (λ i. get_or softs i (pos 0)) key n) sums count (pos 0) long (λ c lt. each c)

@@ -1,5 +1,5 @@
 -- The rates of rate set 2, and what a frame of each has.
-use Rattle.std.specs.Prelude.{ℕ, ◌/◌}
+use Rattle.std.specs.Prelude.{ℕ, ◌+◌, ◌/◌}
 use Rattle.quality_bits.specs.Kinds.{generator_of}
 use Rattle.quality_bits.specs.declared.kind.Kind.{Kind}
 use Rattle.quality_bits.specs.declared.kind.Kind.TheVariants.{Q6, Q8, Q10, Q12}
@@ -33,7 +33,7 @@ quality_length rate = (generator_of (quality_of rate)).degree
 
 -- how many bits a frame has, its quality indicator and its eight tail bits included
 abbrev pub frame_bits : Rate2 → ℕ
-frame_bits rate = 288 / repeats_of rate
+frame_bits rate = information_of rate + quality_length rate + 8
 
 -- how many code symbols a frame has: repeated, they are 576
 abbrev pub symbols_of : Rate2 → ℕ

@@ -37,13 +37,24 @@ address s i = 2 ^ s.width * (i % s.columns) + reversed s.width (i / s.columns)
 abbrev pub place : Shape → ℕ → ℕ
 place s a = s.columns * reversed s.width (a % 2 ^ s.width) + a / 2 ^ s.width
 
--- the code symbols in the order in which they are sent, each of them sent so many times
-unfoldable pub sent : Shape → ℕ → List Bool → List Bool
-sent s repeats symbols = map (λ i. get_or symbols (address s i / repeats) false) (places (size s))
+-- the code symbols in the order in which they are sent, where a key gives the number of the code
+-- symbol that is sent at each of so many places
+unfoldable pub sent_by : (ℕ → ℕ) → ℕ → List Bool → List Bool
+sent_by key count symbols = map (λ i. get_or symbols (key i) false) (places count)
 
--- for each code symbol the sum of the soft values of the symbols that are sent for it
-unfoldable pub gathered : Shape → ℕ → List ℤ → List ℤ
-gathered s repeats softs =
-    map (λ c. total
-    (map (λ i. get_or softs i (pos 0))
-    (filter (λ i. address s i / repeats == c) (places (size s))))) (places (size s / repeats))
+-- for each of so many code symbols the sum of the soft values of the symbols that are sent for it
+unfoldable pub gathered_by : (ℕ → ℕ) → ℕ → ℕ → List ℤ → List ℤ
+gathered_by key count code_symbols softs =
+    map (λ c. total (map (λ i. get_or softs i (pos 0)) (filter (λ i. key i == c) (places count))))
+    (places code_symbols)
+
+-- which code symbol is sent as symbol i, where each of them is sent so many times
+abbrev pub code_symbol : Shape → ℕ → ℕ → ℕ
+code_symbol s repeats i = address s i / repeats
+
+-- so the code symbols in the order in which they are sent, and the sums for them
+abbrev pub sent : Shape → ℕ → List Bool → List Bool
+sent s repeats symbols = sent_by (code_symbol s repeats) (size s) symbols
+
+abbrev pub gathered : Shape → ℕ → List ℤ → List ℤ
+gathered s repeats softs = gathered_by (code_symbol s repeats) (size s) (size s / repeats) softs

@@ -1,8 +1,7 @@
 -- Repetition, dropping and interleaving: which code symbol is sent when.
 use Rattle.std.specs.Prelude.{◌≡◌, ℕ, ◌+◌, ◌*◌, ◌/◌, ◌%◌, ◌<◌, ◌==◌, ◌||◌, Bool, false, List, []}
-use Rattle.std.specs.Prelude.{◌∷◌, map, get_or}
-use Rattle.chip_core.specs.Bits.{places}
-use Rattle.symbol_path.specs.SentOrder.{data_shape, address}
+use Rattle.std.specs.Prelude.{◌∷◌, get_or}
+use Rattle.symbol_path.specs.SentOrder.{data_shape, address, sent_by}
 use Rattle.symbol_path.specs.declared.rate_two.Rate2.{Rate2}
 use Rattle.symbol_path.specs.RatesTwo.{repeats_of}
 
@@ -20,8 +19,8 @@ abbrev pub place2 : Rate2 → ℕ → ℕ
 place2 rate i = repeated_symbol i / repeats_of rate
 
 -- the code symbols in the order in which they are sent
-unfoldable pub sent2 : Rate2 → List Bool → List Bool
-sent2 rate code = map (λ i. get_or code (place2 rate i) false) (places 384)
+abbrev pub sent2 : Rate2 → List Bool → List Bool
+sent2 rate code = sent_by (place2 rate) 384 code
 
 -- whether a repeated symbol is the third or the fifth of its six
 abbrev pub is_dropped : ℕ → Bool

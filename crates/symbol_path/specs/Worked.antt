@@ -6,7 +6,7 @@ use Rattle.quality_bits.specs.Quality.{check_bits}
 use Rattle.symbol_path.specs.Scrambling.{power_place, symbol_chips}
 use Rattle.symbol_path.specs.SentOrder.{address, sync_shape, data_shape}
 use Rattle.quality_bits.specs.TrafficCodewords.{traffic_codeword}
-use Rattle.quality_bits.specs.declared.rate.Rate.TheVariants.{R9600, R4800, R1200}
+use Rattle.quality_bits.specs.declared.rate.Rate.TheVariants.{R9600, R4800, R2400, R1200}
 
 places_data : map (address data_shape) (0 ∷ 1 ∷ 5 ∷ 6 ∷ 383 ∷ []) ≡ 0 ∷ 64 ∷ 320 ∷ 32 ∷ 383 ∷ []
 unfolding binary
@@ -27,6 +27,10 @@ codeword_4800 : number (traffic_codeword R4800 (binary 64 0xe17e1018de3b9058 ++ 
     ≡ 0xe17e1018de3b90584cd96800
 unfolding binary places check_bits
 codeword_4800 = refl
+
+codeword_2400 : number (traffic_codeword R2400 (binary 40 0x9c5a3317e2)) ≡ 0x9c5a3317e200
+unfolding binary
+codeword_2400 = refl
 
 codeword_1200 : number (traffic_codeword R1200 (replicate 16 true)) ≡ 0xffff00
 codeword_1200 = refl

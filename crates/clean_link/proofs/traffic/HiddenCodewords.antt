@@ -5,7 +5,7 @@ use Rattle.clean_link.proofs.Common.{and_from, and_parts, drop_at, drop-drop, xo
 use Rattle.clean_link.proofs.Common.{behind, length-state_after, pair, state_after-append, state_after-none, is_hidden, is_kept, is_seen}
 use Rattle.clean_link.proofs.Common.{stays_apart, ◌/◌, ⊎_elim, nat_eq, cases_Bool, eq-eqb, eqb-true, not-true, or_cases, or_left, or_right}
 use Rattle.clean_link.proofs.Common.{list_all_at, list_any-append, places, places-none, places-more, length-places, get_or-places}
-use Rattle.clean_link.proofs.Common.{get_or-map-places, address, data_shape, place, sent, size, address-place, place_lt, AgreeElsewhere}
+use Rattle.clean_link.proofs.Common.{get_or-sent, address, data_shape, place, sent, sent_by, address-place, place_lt, AgreeElsewhere}
 use Rattle.clean_link.proofs.Common.{is_replaced, lost_symbols, subst, length-append, code_symbols, symbols_at, quality_indicator}
 use Rattle.clean_link.proofs.Common.{quality_of, traffic_codeword, R9600, R4800, R2400, R1200, codeword_fills, codewords_same}
 use Rattle.clean_link.proofs.Common.{frame_codeword, shows_full_rate, tells_all_bits, full_rate_symbols, FullRateFramesAreDistinct, binary}
@@ -57,10 +57,8 @@ at_one p (suc n) any = ⊎_elim
 sent_there : (repeats : ℕ) (symbols : List Bool) (a : ℕ) → a < 384 →
     get_or (sent data_shape repeats symbols) (place data_shape a) false
     ≡ get_or symbols (a / repeats) false
-unfolding sent
 sent_there repeats symbols a below =
-    get_or-map-places (λ i. get_or symbols (address data_shape i / repeats) false) (size data_shape)
-    (place data_shape a) false (place_lt Data a below)
+    get_or-sent data_shape repeats symbols (place data_shape a) (place_lt Data a below)
     ∙ ap (λ (n : ℕ). get_or symbols (n / repeats) false) (address-place Data a below)
 
 -- a replaced place loses its code symbol
@@ -519,7 +517,7 @@ full_rate_frame_distinct =
 -- all symbols are 0 at both rates
 zeros_same : frame_symbols R2400 (frame_codeword R2400 (replicate 40 false))
     ≡ frame_symbols R1200 (frame_codeword R1200 (replicate 16 false))
-unfolding binary places sent
+unfolding binary places sent_by
 zeros_same = refl
 
 -- both are codewords that a decoder tries

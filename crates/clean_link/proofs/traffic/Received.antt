@@ -10,11 +10,9 @@ use Rattle.clean_link.proofs.Common.{ShowPowerBits, cycled_frame2, codeword_symb
 use Rattle.clean_link.proofs.Common.{FramesBehindMark, FramesShowPowerBits, FramesShowSymbols, SetTwoBehindMark, IsSentFrame2, HearsTraffic}
 use Rattle.clean_link.proofs.Common.{SetTwoFramesComeBack, Bears, IsNear, IsReceivedBySigns, IsSentFrame2BySigns, NoisyFramesAreReceived}
 use Rattle.clean_link.proofs.Common.{NoisyFramesBehindMark, NoisySetTwoBehindMark, NoisySetTwoFramesComeBack, HavePowerSigns, NoisyFrame}
-use Rattle.clean_link.proofs.Common.{IsReceived, ShowsSync, false, ◌++◌, drop, replicate, length-append, ◌<ℤ◌, drop_at, code_symbols}
-use Rattle.clean_link.proofs.Common.{quality_indicator, information_of, quality_of, repeats_of, traffic_codeword, Rate, R9600}
-use Rattle.clean_link.proofs.Common.{codeword_fills, data_shape, Rate2, length-sent, length-sent2, length-codeword_bits, IsAllowed}
-use Rattle.clean_link.proofs.Common.{Codeword, correlation, Zero, frame_codeword, AgreeElsewhere, IsUnshared, frame_bits, frame_symbols}
-use Rattle.clean_link.proofs.Common.{unreplaced, frame_softs, stream_of, HeardAreTheOnlyBest, IsOnlyBestFrame, IsOnlyBestFrame2}
+use Rattle.clean_link.proofs.Common.{IsReceived, ShowsSync, ◌<ℤ◌}
+use Rattle.clean_link.proofs.Common.{correlation, AgreeElsewhere}
+use Rattle.clean_link.proofs.Common.{unreplaced, frame_softs, stream_of, HeardAreTheOnlyBest}
 use Rattle.clean_link.proofs.Common.{ReceivedAreTheOnlyBest, SetTwoAreTheOnlyBest, by_lt_z, codeword_symbols, KeepSigns}
 use Rattle.clean_link.proofs.Common.{NoisyReceivedAreTheOnlyBest, NoisySetTwoAreTheOnlyBest, NoisyFramesAreTheOnlyBest, agree_left}
 use Rattle.clean_link.proofs.Common.{shown_keep}
@@ -29,9 +27,12 @@ use Rattle.clean_link.proofs.traffic.Frames.{by_marks_frames, inside_at, known_i
 use Rattle.clean_link.proofs.traffic.Steady.{one_stream, traffic_file_to, traffic_known_is}
 use Rattle.rate_set_two.proofs.SentFrames as second_back
 use Rattle.heard_events.specs.TrafficStreams as heard
-use Rattle.symbol_path.specs.FramesTwo as codewords_two
-use Rattle.symbol_path.specs.RatesTwo as rates_two
-use Rattle.rate_set_two.specs.Laws as laws_two
+use Rattle.clean_link.specs.TrafficLaws.{IsOnlyBestIn}
+use Rattle.frame_decoder.proofs.FormatCodewords.{length-symbols_in}
+use Rattle.frame_decoder.proofs.SentFormats.{codeword_allowed}
+use Rattle.frame_decoder.specs.Formats.{format_of, symbols_in}
+use Rattle.frame_decoder.specs.Laws.{IsUnsharedIn, sent_codeword}
+use Rattle.frame_decoder.specs.declared.formats.FrameFormat.{FrameFormat}
 use Rattle.rate_set_two.specs.TrafficFrames as second
 
 -- ---- any symbols
@@ -48,70 +49,21 @@ others_less replaced xs ys softs long size size' keep apart =
 
 -- ---- codewords
 
--- bits behind which a tail stands are an allowed codeword
-tailed_allowed : (front : List Bool) (n : ℕ) → length (front ++ replicate 8 false) ≡ n →
-    IsAllowed Zero n (record { start = replicate 8 false; bits = front ++ replicate 8 false })
-tailed_allowed front n long =
-    let size : length (front ++ replicate 8 false) - 8 ≡ length front =
-    omega (arith, length-append front (replicate 8 false)) in
-    record {
-      start_long = refl;
-      bits_long = long;
-      begins = refl;
-      closes = ap (λ (k : ℕ). drop k (front ++ replicate 8 false)) size
-          ∙ drop_at front (replicate 8 false) (length front) refl;
-    }
-
--- a frame's bits are as many as its rate has
-bits_fill : (rate : Rate) (n : ℕ) → n * repeats_of rate ≡ 192 → n ≡ frame_bits rate
-bits_fill R9600 n h = omega (arith, h)
-bits_fill rate n h = omega (arith, h)
-
-codeword_allowed : (rate : Rate) (information : List Bool) → length information ≡ information_of rate →
-    IsAllowed Zero (frame_bits rate) (frame_codeword rate information)
-codeword_allowed rate information long =
-    tailed_allowed (information ++ quality_indicator (quality_of rate) information)
-    (frame_bits rate)
-    (bits_fill rate (length (traffic_codeword rate information)) (codeword_fills rate information long))
-
-codeword_allowed2 : (rate : Rate2) (information : List Bool) →
-    length information ≡ rates_two.information_of rate →
-    IsAllowed Zero (rates_two.frame_bits rate) (second.frame_codeword rate information)
-codeword_allowed2 rate information long =
-    tailed_allowed (information ++ codewords_two.quality_indicator rate information)
-    (rates_two.frame_bits rate) (length-codeword_bits rate information long)
-
 -- so the codeword of a frame that no other shares is the only one of greatest score, at any rate
-signs_only_best : (replaced : List ℕ) (softs : List ℤ) (rate : Rate) (information : List Bool) →
-    length information ≡ information_of rate →
-    NoisyFrame replaced (frame_symbols rate (frame_codeword rate information)) softs →
-    IsUnshared replaced rate (frame_codeword rate information) →
-    IsOnlyBestFrame replaced softs rate (frame_codeword rate information)
-signs_only_best replaced softs rate information size is unshared =
-    let w = frame_codeword rate information in
-    let sent : (r : Rate) (v : Codeword) → length (frame_symbols r v) ≡ 384 =
-    λ r v. length-sent data_shape (repeats_of r) (code_symbols v.start v.bits) in
+signs_only_best : {R : Type 0} (format_of : R → FrameFormat R) (replaced : List ℕ) (softs : List ℤ) (rate : R)
+    (information : List Bool) →
+    let w = sent_codeword (format_of rate) information in
+    length information ≡ (format_of rate).information →
+    NoisyFrame replaced (symbols_in (format_of rate) w) softs → IsUnsharedIn format_of replaced rate w →
+    IsOnlyBestIn format_of replaced softs rate w
+signs_only_best format_of replaced softs rate information size is unshared =
+    let w = sent_codeword (format_of rate) information in
     record {
-      allowed = codeword_allowed rate information size;
+      allowed = codeword_allowed (format_of rate) information size;
       lesser = λ r v allowed other.
-          others_less replaced (frame_symbols rate w) (frame_symbols r v) softs is.long (sent rate w)
-          (sent r v) is.keeps (λ agree. other (unshared r v allowed agree));
-    }
-
-signs_only_best2 : (replaced : List ℕ) (softs : List ℤ) (rate : Rate2) (information : List Bool) →
-    length information ≡ rates_two.information_of rate →
-    NoisyFrame replaced (second.frame_symbols rate (second.frame_codeword rate information)) softs →
-    laws_two.IsUnshared replaced rate (second.frame_codeword rate information) →
-    IsOnlyBestFrame2 replaced softs rate (second.frame_codeword rate information)
-signs_only_best2 replaced softs rate information size is unshared =
-    let w = second.frame_codeword rate information in
-    let sent : (r : Rate2) (v : Codeword) → length (second.frame_symbols r v) ≡ 384 =
-    λ r v. length-sent2 r (code_symbols v.start v.bits) in
-    record {
-      allowed = codeword_allowed2 rate information size;
-      lesser = λ r v allowed other.
-          others_less replaced (second.frame_symbols rate w) (second.frame_symbols r v) softs is.long
-          (sent rate w) (sent r v) is.keeps (λ agree. other (unshared r v allowed agree));
+          others_less replaced (symbols_in (format_of rate) w) (symbols_in (format_of r) v) softs is.long
+          (length-symbols_in (format_of rate) w) (length-symbols_in (format_of r) v) is.keeps
+          (λ agree. other (unshared r v allowed agree));
     }
 
 -- a frame that is received of a clean link is received by the signs of its symbols
@@ -136,7 +88,7 @@ pub noisy_only_best : NoisyFramesAreTheOnlyBest
 noisy_only_best width plan p t traffic m legs superframes k e f samples is heard near bears distinct =
     let signs = noisy_traffic_signs width plan p t traffic m legs superframes k e f samples is heard near
     bears in
-    signs_only_best (replaced_in traffic m k) (frame_softs samples (stream_of t traffic m legs k) k)
+    signs_only_best format_of (replaced_in traffic m k) (frame_softs samples (stream_of t traffic m legs k) k)
     f.rate f.information (sized is heard) (record { long = signs.0; keeps = signs.1 }) distinct
 
 pub heard_only_best : HeardAreTheOnlyBest
@@ -147,12 +99,12 @@ heard_only_best width plan p t traffic m legs superframes k f is heard distinct 
 -- of frames that are received by the signs of their symbols
 pub noisy_received_only_best : NoisyReceivedAreTheOnlyBest
 noisy_received_only_best plan p frame f soft size received distinct =
-    signs_only_best (replaced_of plan p frame) soft.descrambled f.rate f.information size received.shown
+    signs_only_best format_of (replaced_of plan p frame) soft.descrambled f.rate f.information size received.shown
     distinct
 
 pub noisy_set_two_only_best : NoisySetTwoAreTheOnlyBest
 noisy_set_two_only_best plan p frame f soft size received distinct =
-    signs_only_best2 (replaced_of plan p frame) soft.descrambled f.rate f.information size received.shown
+    signs_only_best second.format_of (replaced_of plan p frame) soft.descrambled f.rate f.information size received.shown
     distinct
 
 pub received_only_best : ReceivedAreTheOnlyBest

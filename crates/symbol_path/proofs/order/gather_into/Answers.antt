@@ -1,4 +1,4 @@
-use Rattle.symbol_path.proofs.Common.{◌≡◌, ◌<◌, ◌*◌, ◌/◌, ℕ, arith, pos, get_or, length, sym, ap, ◌∙◌, shape_of, size, address}
+use Rattle.symbol_path.proofs.Common.{◌≡◌, ◌<◌, ◌*◌, ◌/◌, ℕ, arith, pos, get_or, length, sym, ap, ◌∙◌, shape_of, size, address, code_symbol}
 use Rattle.symbol_path.proofs.Interleaving.{symbol_lt, size_some, count_is}
 use Rattle.symbol_path.proofs.Gathering.{part-none, part, turn, turn_sizes, sum_has_room, added_fits, gathered_all}
 use Rattle.symbol_path.proofs.order.gather_into.Goals as goal
@@ -53,7 +53,8 @@ returns-clause-value c =
     (size_some c.args.kind)) in
     let ended : c.loop-i.i ≡ size (shape_of c.args.kind) =
     omega (arith, c.frame_symbols-i-end.ensures) in
-    gathered_all (shape_of c.args.kind) c.args.repeats c.loop-i.out c.args.softs.now count
+    gathered_all (code_symbol (shape_of c.args.kind) c.args.repeats) (size (shape_of c.args.kind))
+    (size (shape_of c.args.kind) / c.args.repeats) c.loop-i.out c.args.softs.now count
     (λ k. c.loop-i.invariant.sums k ∙
     ap (λ (n : ℕ). part (λ i. get_or c.args.softs.now i (pos 0))
     (λ i. address (shape_of c.args.kind) i / c.args.repeats) n k) ended)

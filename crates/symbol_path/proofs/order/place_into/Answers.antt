@@ -1,5 +1,5 @@
 use Rattle.symbol_path.proofs.Common.{◌≡◌, ◌/◌, ℕ, arith, get_or, false, map, length, sym, ap, ◌∙◌, get_or_from_slice_get, places}
-use Rattle.symbol_path.proofs.Common.{places-none, map-places-more, length-map-places, shape_of, size, address, sent}
+use Rattle.symbol_path.proofs.Common.{places-none, map-places-more, length-map-places, shape_of, size, address, sent_by}
 use Rattle.symbol_path.proofs.Interleaving.{size_most}
 use Rattle.symbol_path.proofs.order.place_into.Goals as goal
 
@@ -29,7 +29,7 @@ loop-i-preserved c =
     c.append.ensures ∙ rw (c.loop-i.invariant, ← read) (sym (map-places-more symbol c.loop-i.i))
 
 pub returns-clause-value : goal.returns-clause-value
-unfolding sent
+unfolding sent_by
 returns-clause-value c =
     let ended : c.loop-i.i ≡ size (shape_of c.args.kind) =
     omega (arith, c.frame_symbols-i-end.ensures) in

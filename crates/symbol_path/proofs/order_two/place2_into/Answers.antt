@@ -1,5 +1,5 @@
 use Rattle.symbol_path.proofs.Common.{◌≡◌, ℕ, Bool, arith, get_or, false, map, length, sym, ap, ◌∙◌, get_or_from_slice_get, places}
-use Rattle.symbol_path.proofs.Common.{places-none, map-places-more, length-map-places, place2, sent2}
+use Rattle.symbol_path.proofs.Common.{places-none, map-places-more, length-map-places, place2, sent_by}
 use Rattle.symbol_path.proofs.order_two.place2_into.Goals as goal
 
 pub loop-i-init : goal.loop-i-init
@@ -21,7 +21,7 @@ loop-i-preserved c =
     c.append.ensures ∙ rw (c.loop-i.invariant, ← read) (sym (map-places-more symbol c.loop-i.i))
 
 pub returns-clause-value : goal.returns-clause-value
-unfolding sent2
+unfolding sent_by
 returns-clause-value c =
     let symbol : ℕ → Bool = λ i. get_or c.args.code.now (place2 c.args.rate i) false in
     let ended : c.loop-i.i ≡ 384 = omega arith in

@@ -1,6 +1,5 @@
-use Rattle.frame_decoder.proofs.Common.{◌≡◌, ◌<◌, ℕ, arith, pos, get_or, length, sym, ap, ◌∙◌, rules, part-none, part, turn, turn_sizes}
-use Rattle.frame_decoder.proofs.Common.{sum_has_room, added_fits, sizes_none, place_in}
-use Rattle.frame_decoder.proofs.FormatCodewords.{gathered_all}
+use Rattle.frame_decoder.proofs.Common.{◌≡◌, ◌<◌, ◌*◌, ℕ, arith, pos, get_or, length, sym, ap, ◌∙◌, rules, part-none, part, turn, turn_sizes}
+use Rattle.frame_decoder.proofs.Common.{sum_has_room, added_fits, sizes_none, place_in, bits_in, gathered_all}
 use Rattle.frame_decoder.proofs.formats.FrameFormat.gather_into.Goals as goal
 
 pub loop-i-init : goal.loop-i-init
@@ -37,7 +36,7 @@ loop-i-preserved g c =
 pub returns-clause-value : goal.returns-clause-value
 returns-clause-value g c =
     let ended : c.loop-i.i ≡ 384 = omega arith in
-    gathered_all c.args.self.now c.loop-i.out c.args.softs.now
+    gathered_all (place_in c.args.self.now) 384 (2 * bits_in c.args.self.now) c.loop-i.out c.args.softs.now
     (c.loop-i.auto.out ∙ c.requires.code)
     (λ k. c.loop-i.invariant.sums k
     ∙ ap (λ (n : ℕ).

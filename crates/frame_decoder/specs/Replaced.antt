@@ -1,0 +1,14 @@
+-- The symbols of a frame that power control bits replace (TIA/EIA-95-B, 7.1.3.1.7).
+use Rattle.std.specs.Prelude.{ℕ, Bool, if◌then◌else◌, nat_eq, List, map, length, get_or, ℤ, pos}
+use Rattle.std.specs.List.{list_any}
+use Rattle.chip_core.specs.Bits.{places}
+
+-- whether a place is that of a symbol that a power control bit replaces
+abbrev pub is_replaced : List ℕ → ℕ → Bool
+is_replaced replaced i = list_any (nat_eq i) replaced
+
+-- the soft values, with 0 in place of those of the replaced symbols
+unfoldable pub unreplaced : List ℕ → List ℤ → List ℤ
+unreplaced replaced softs =
+    map (λ i. if is_replaced replaced i then pos 0 else get_or softs i (pos 0))
+    (places (length softs))
