@@ -9,6 +9,7 @@ pub mod HeardEach
 pub mod HeardFrames
 pub mod HeardPages
 pub mod NearFiles
+pub mod NoisyFile
 pub mod ReceivedFrames
 pub mod ReceivedLaws
 pub mod SentEvents
@@ -19,4 +20,4 @@ mod HeardWorked
 mod NoiseWorked
 mod SignalsWorked
 mod Worked
-mod WorkedCells
+pub mod WorkedCells

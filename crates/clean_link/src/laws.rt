@@ -34,6 +34,7 @@ ghost use Rattle.clean_link.specs.HeardPages.{PagesComeBack};
 ghost use Rattle.clean_link.specs.NearFiles.{NearWithinNoneIsSame, NoiseAddsUp};
 ghost use Rattle.clean_link.specs.NearFiles.{LouderLinksAreLouder, OtherPathsAreNoise};
 ghost use Rattle.clean_link.specs.NearFiles.{RoundingIsNoise};
+ghost use Rattle.clean_link.specs.NoisyFile.{ComesBackAtItsMargin};
 ghost use Rattle.clean_link.specs.ReceivedLaws.{NoisyFramesAreReceived, NoisyFramesBehindMark};
 ghost use Rattle.clean_link.specs.ReceivedLaws.{NoisyReceivedAreTheOnlyBest};
 ghost use Rattle.clean_link.specs.ReceivedLaws.{NoisySetTwoAreTheOnlyBest, NoisySetTwoBehindMark};
@@ -304,4 +305,12 @@ pub fn rounding_is_noise()
     ensures path { OtherPathsAreNoise }
     ensures louder { LouderLinksAreLouder }
     ensures rounded { RoundingIsNoise }
+{}
+
+/// Of one cell the sync channel bears noise of 54 in I and in Q of each sample and no more, where
+/// its own amplitude is 90. In a file with noise of 54 against each of its chips two fifths of its
+/// soft values are left, and a handset hears its two whole transmissions, and the pages of the four
+/// half-frames after the mark. With noise of 90 all of the channel's soft values there are 0.
+pub fn a_file_comes_back_at_its_margin()
+    ensures { ComesBackAtItsMargin }
 {}

@@ -19,7 +19,8 @@
 //!
 //! Where each sample differs a little from what the cell sends, whatever the difference is, each
 //! channel that bears noise of that size still comes back (`BoundedNoise`, `NearFiles`): another
-//! cell, another path and rounding are such noise (`Rounding`).
+//! cell, another path and rounding are such noise (`Rounding`). One file is worked out whose noise
+//! is all that its sync channel bears (`NoisyFile`).
 #![tactic(auto)]
 
 pub mod laws;

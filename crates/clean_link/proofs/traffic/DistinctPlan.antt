@@ -387,7 +387,7 @@ distinct_two =
 
 -- ---- the cell
 
-told_lawful : IsSyncMessage told_message
+pub told_lawful : IsSyncMessage told_message
 told_lawful = admitted told_message (search rules) refl
 
 -- what is true of each of four
