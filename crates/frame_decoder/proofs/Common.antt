@@ -39,8 +39,10 @@ pub use Rattle.quality_bits.specs.Kinds.{IsChecked, body_length, generator_of, q
 pub use Rattle.quality_bits.specs.Quality.{check_bits}
 pub use Rattle.quality_bits.specs.declared.rate.Rate.{Rate}
 pub use Rattle.quality_bits.specs.declared.rate.Rate.TheVariants.{R1200, R2400, R4800, R9600}
-pub use Rattle.symbol_path.proofs.Agreement.{agreement-gathered, agreement-gathered_by, length-gathered, length-gathered_by, length-sent, length-sent_by}
-pub use Rattle.symbol_path.proofs.Gathering.{added_fits, gathered_all, part, part-none, sizes_none, stored_is, sum_has_room, turn, turn_sizes}
+pub use Rattle.symbol_path.proofs.Agreement.{agreement-gathered, agreement-gathered_by, length-gathered, length-gathered_by}
+pub use Rattle.symbol_path.proofs.Agreement.{length-sent, length-sent_by}
+pub use Rattle.symbol_path.proofs.Gathering.{added_fits, gathered_all, part, part-none, sizes_none, stored_is, sum_has_room}
+pub use Rattle.symbol_path.proofs.Gathering.{turn, turn_sizes}
 pub use Rattle.symbol_path.proofs.Interleaving.{count_is, size_some, symbol_lt}
 pub use Rattle.symbol_path.proofs.Permutation.{address_lt}
 pub use Rattle.symbol_path.proofs.SentOnceTwo.{kept_lt}

@@ -4,7 +4,8 @@ use Rattle.frame_decoder.proofs.Common.{arith, subst, ℤ, ◌↔◌, IsTrue, if
 use Rattle.frame_decoder.proofs.Common.{booleans_Decides, pointwise, pointwise_decides, beq, drop-take, take-take, Plain}
 use Rattle.frame_decoder.proofs.Common.{code_symbols, length-code_symbols, generator_of, body_length}
 use Rattle.frame_decoder.proofs.Common.{IsChecked, quality_indicator, quality_length, check_bits, data_shape, address, repeated_symbol}
-use Rattle.frame_decoder.proofs.Common.{Data, agreement-gathered_by, length-gathered_by, length-sent_by, symbol_lt, address_lt, kept_lt, Codeword, score_of, IsBestCodeword}
+use Rattle.frame_decoder.proofs.Common.{Data, agreement-gathered_by, length-gathered_by, length-sent_by, symbol_lt, address_lt, kept_lt}
+use Rattle.frame_decoder.proofs.Common.{Codeword, score_of, IsBestCodeword}
 use Rattle.frame_decoder.proofs.Common.{Zero, by_definition, FrameFormat, IsFormat, bits_in, repeated_in, place_in, symbols_in, gathered_in}
 use Rattle.frame_decoder.proofs.Common.{score_in, codeword_in, is_right, length-take-le}
 use Rattle.frame_decoder.proofs.ZeroCodewords.{length-best_zero_codeword, best_zero_codeword-same}

@@ -28,7 +28,8 @@ IsOneFrame =
     own_bits c 1 0 softs ≡ (best_codeword (frame_score c softs) Free c.bits).bits
 
 -- ---- sent frames of traffic channels, whatever their rate set
--- a frame's codeword: its information, its quality indicator and eight tail bits, behind eight zeros
+-- a frame's codeword: its information, its quality indicator and eight tail bits, after eight
+-- zeros
 abbrev pub sent_codeword : {R : Type 0} → FrameFormat R → List Bool → Codeword
 sent_codeword format information = record {
   start = replicate 8 false;
@@ -47,8 +48,8 @@ AgreeElsewhere replaced xs ys =
     (i : ℕ) → i < 384 → is_replaced replaced i ≡ false →
     get_or xs i false ≡ get_or ys i false
 
--- of rates with these formats: no other codeword of any of them, its quality indicator right or not,
--- has a codeword's symbols there
+-- of rates with these formats: no other codeword of any of them, its quality indicator right or
+-- not, has a codeword's symbols there
 abbrev pub IsUnsharedIn : {R : Type 0} → (R → FrameFormat R) → List ℕ → R → Codeword → Type 0
 IsUnsharedIn {R} format_of replaced rate w =
     (r : R) (v : Codeword) → IsAllowed Zero (bits_in (format_of r)) v →
