@@ -17,7 +17,7 @@ pub use Rattle.std.proofs.lemmas.Int.{by_lt_z, int_rem_euclid_is, ints, unsigned
 pub use Rattle.std.proofs.lemmas.List.{get_or-append-add, get_or-replicate, get_or_append_left, nil_from_length, replicate-append-replicate}
 pub use Rattle.std.proofs.lemmas.List.{drop-append-le, drop-replicate, length-replicate, length-take-le, take-append-drop, take-append-le}
 pub use Rattle.std.proofs.lemmas.List.{append-nil, ext_get_or, get_or-drop, get_or-map, length-map, length-take, map-append, take-replicate}
-pub use Rattle.std.proofs.lemmas.List.{drop-drop, drop-take, drop_at, take-take, take_all, take_at}
+pub use Rattle.std.proofs.lemmas.List.{drop-drop, drop_at, take-take, take_all, take_at}
 pub use Rattle.std.proofs.lemmas.List.Elements.{All-append, All-cons, All-contains, All-contains_itself, All-get_or, All-head, All-map}
 pub use Rattle.std.proofs.lemmas.List.Elements.{All-nil, All-same, All-tail, All-weaker, Contains-append_left, Contains-append_right}
 pub use Rattle.std.proofs.lemmas.List.Elements.{filter-append, length_all_zip}
@@ -153,14 +153,11 @@ pub use Rattle.long_code.proofs.Period.{IsState-after, IsState-before, after-inj
 pub use Rattle.long_code.specs.LongCode.{IsState, after, paging_mask}
 unfoldable pub use Rattle.long_code.specs.LongCode.{long_chip, traffic_mask}
 pub use Rattle.paging_message.proofs.Carried.{rate_large}
-pub use Rattle.paging_message.proofs.Chains.{is_there}
-pub use Rattle.paging_message.proofs.Cutting.{halves_more, mark_ends, part}
 pub use Rattle.paging_message.proofs.Layings.{any_other, below_more, below_push, framed_whole, half_front, not_begun}
 pub use Rattle.paging_message.proofs.Readings.{reads_body, reads_capsule}
 pub use Rattle.paging_message.specs.Admitted.{HasMessage}
 pub use Rattle.paging_message.specs.HalfFrames.{half_frame_body}
-unfoldable pub use Rattle.paging_message.specs.HalfFrames.{bits_left, ends_chain, half_frame_capsule_ending, half_frames}
-pub use Rattle.paging_message.specs.Laying.{padded}
+unfoldable pub use Rattle.paging_message.specs.HalfFrames.{bits_left, half_frame_capsule_ending}
 unfoldable pub use Rattle.paging_message.specs.Laying.{fill}
 unfoldable pub use Rattle.paging_message.specs.Messages.{paging_capsule}
 pub use Rattle.paging_message.specs.Reading.{is_body, paging_reading}
@@ -174,7 +171,6 @@ pub use Rattle.pilot_sets.specs.declared.standing.Accepted.{Accepted}
 pub use Rattle.pilot_sets.specs.declared.standing.ActivePilot.{ActivePilot}
 pub use Rattle.pilot_sets.specs.declared.strengths.Strength.{Strength}
 pub use Rattle.pilot_sets.specs.declared.thresholds.Thresholds.{Thresholds}
-pub use Rattle.quality_bits.proofs.Opened.{stated_bounds, stated_from}
 pub use Rattle.quality_bits.proofs.TrafficCodewords.{codeword_fills}
 pub use Rattle.quality_bits.proofs.Wholes.{length-capsule, whole-capsule}
 pub use Rattle.quality_bits.specs.Capsules.{FillsCapsule, IsWhole, octets, stated_bits}

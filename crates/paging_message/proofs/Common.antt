@@ -3,18 +3,22 @@ pub use Rattle.std.proofs.Common.{Bool, List, None, Ok, Option, Some, [], ap, ap
 pub use Rattle.std.proofs.Common.{inl, inr, length, length-append, length-drop, map, nat_le, nat_lt, not, refl, replicate, rules, subst}
 pub use Rattle.std.proofs.Common.{suc, sym, take, true, zero, ℕ, ◌%◌, ◌&&◌, ◌*◌, ◌++◌, ◌+◌, ◌-◌, ◌/◌, ◌<◌, ◌==◌, ◌^◌, ◌||◌, ◌∙◌, ◌∷◌, ◌≡◌}
 pub use Rattle.std.proofs.Common.{◌≢◌, ◌≤◌}
-pub use Rattle.std.proofs.Math.Nat.{div-add-mod, mod-eq_of_lt, mod-lt, mod_self, mul-add-mod_self_left, mul-le-mul_left}
-pub use Rattle.std.proofs.lemmas.Bool.{and_from, and_parts, cases_Bool, cases_lt, eq-eqb, eqb-false, eqb-true, false_from_ne_true, le-leb}
-pub use Rattle.std.proofs.lemmas.Bool.{leb-true, lt-leb, lt-ltb, ne_eqb}
-pub use Rattle.std.proofs.lemmas.List.{append-nil, drop-append-le, drop_all, drop_at, length-replicate, length-take-le}
-pub use Rattle.std.proofs.lemmas.List.{replicate-append-replicate, take-append-drop, take-append-le, take_all}
+pub use Rattle.std.proofs.Math.Nat.{div-add-mod, div-add-mod', mod-eq_of_lt, mod-lt, mod_self, mul-add-mod_self_left, mul-le-mul_left}
+pub use Rattle.std.proofs.Math.Seq.{take-add, take-append-add}
+pub use Rattle.std.proofs.lemmas.Bool.{and_from, and_left, and_parts, and_right, cases_Bool, cases_lt, cases_order, eq-eqb, eqb-false}
+pub use Rattle.std.proofs.lemmas.Bool.{eqb-true, false_from_ne_true, le-leb, le-ltb, leb-true, lt-leb, lt-ltb, ne_eqb}
+pub use Rattle.std.proofs.lemmas.Grind.{flat_map-append}
+pub use Rattle.std.proofs.lemmas.List.{append-nil, drop-append-le, drop-drop, drop-take, drop_all, drop_at, length-replicate}
+pub use Rattle.std.proofs.lemmas.List.{length-take-le, map-append, replicate-append-replicate, take-append-drop, take-append-le, take-take}
+pub use Rattle.std.proofs.lemmas.List.{take_all, take_at}
 pub use Rattle.std.proofs.lemmas.List.Folds.{list_any-append}
-pub use Rattle.std.proofs.lemmas.Nat.{div-mul-add, mod-mul-add}
-pub use Rattle.std.specs.List.{flat_map, list_any}
+pub use Rattle.std.proofs.lemmas.Nat.{div-mul-add, mod-mul-add, mod_below}
+pub use Rattle.std.specs.List.{flat_map, list_any, range_with_len}
 pub use Rattle.std.specs.Option.{option_to_list}
 pub use Rattle.std.specs.Prelude.{IfSome, IsSome, IsTrue, ◌↔◌}
-pub use Rattle.chip_core.proofs.FieldLists.{bits_more, length-binary}
-pub use Rattle.chip_core.proofs.Places.{map-places-all, map-places-more, places-none}
+pub use Rattle.chip_core.proofs.Counted.{flat_map-add, flat_map-next, flat_map-nothing, flat_map-zero, map-next, map-zero}
+pub use Rattle.chip_core.proofs.FieldLists.{bits_more, length-binary, spelled-append}
+pub use Rattle.chip_core.proofs.Places.{length-map-places, map-places-all, map-places-more, places-none}
 pub use Rattle.chip_core.proofs.Ranges.{flat_map-places-more, flat_map_ext_places, map_ext_places}
 pub use Rattle.chip_core.proofs.ValueLists.{behind_front, front, number_front}
 pub use Rattle.chip_core.specs.Bits.{binary, number}
@@ -37,6 +41,7 @@ pub use Rattle.message_layout.specs.Spelling.{IsOf, spelling}
 pub use Rattle.message_layout.specs.declared.contents.Contents.{Contents}
 pub use Rattle.quality_bits.proofs.Decoded.{AreRead, IsDecoded, IsNone, decoded, fault_read, if_spelled-again, if_spelled-there, uncapsuled}
 pub use Rattle.quality_bits.proofs.Decoded.{undecoded, whole_checked}
+pub use Rattle.quality_bits.proofs.Opened.{stated_bounds, stated_from}
 pub use Rattle.quality_bits.proofs.Streams.{bodies-more, extended, from_last_start_more, from_last_start_new}
 pub use Rattle.quality_bits.specs.Capsules.{FillsCapsule, IsWhole, awaits_more, capsule, completed, continued, is_stated, stated_bits}
 pub use Rattle.quality_bits.specs.Capsules.{still_open}
@@ -48,9 +53,11 @@ pub use Rattle.quality_bits.specs.declared.rate.Rate.TheVariants.{R1200, R2400, 
 pub use Rattle.paging_message.specs.Admitted.{HasMessage}
 unfoldable pub use Rattle.paging_message.specs.Admitted.{admits}
 pub use Rattle.paging_message.specs.Channels.{IsChannelList, channel_contents, channel_shape, channel_widths, channels_from}
-pub use Rattle.paging_message.specs.HalfFrames.{Framing, half_frame_body, half_frame_capsule_ending, half_under_way}
-unfoldable pub use Rattle.paging_message.specs.HalfFrames.{bits_left, capsules_in, ends_chain, open_chain}
-pub use Rattle.paging_message.specs.Laying.{HasLaid, Laid, Place, bit_on, fill, laid_on, way_for}
+pub use Rattle.paging_message.specs.HalfFrames.{Framing, half_frame_body, half_under_way}
+unfoldable pub use Rattle.paging_message.specs.HalfFrames.{bits_left, capsules_in, ends_chain, half_frame_capsule_ending, half_frames}
+unfoldable pub use Rattle.paging_message.specs.HalfFrames.{open_chain}
+pub use Rattle.paging_message.specs.Laying.{HasLaid, Laid, Place, bit_on, laid_on, padded, way_for}
+unfoldable pub use Rattle.paging_message.specs.Laying.{fill}
 pub use Rattle.paging_message.specs.Layouts.{contents_of, kind_of, message_from, shape_of}
 pub use Rattle.paging_message.specs.Messages.{IsPagingMessage}
 unfoldable pub use Rattle.paging_message.specs.Messages.{message_body, paging_capsule}

@@ -5,4 +5,7 @@ pub mod Common
 pub mod Cutting
 pub mod Layings
 pub mod Messages
+pub mod Pieces
 pub mod Readings
+pub mod Runs
+pub mod Scans

@@ -10,10 +10,12 @@ use Rattle.clean_link.proofs.Common.{paging_frame_size, IsStatedPaging, PagingPl
 use Rattle.clean_link.proofs.Common.{is_whole_page, flat_map-nothing, zero, append_assoc, map-append, filter-append, mul-add-div}
 use Rattle.clean_link.proofs.Common.{flat_map-next, length-repeated, ◌%◌, get_or, get_or-append-add, get_or_append_left, mod-mul-add}
 use Rattle.clean_link.proofs.Common.{mod_below, div-add-mod, map-places-all, map_ext_places, map-add}
-use Rattle.clean_link.proofs.pages.Runs.{joined, length-padded, no_width, run_bits, run_piece, run_pieces, run_width, run_width_some}
-use Rattle.clean_link.proofs.pages.Runs.{AreChained}
-use Rattle.clean_link.proofs.pages.Scans.{length-stream, no_piece, stream, whole-append, whole-map, AreWhole, frames_scanned, in_frame}
-use Rattle.clean_link.proofs.pages.Scans.{scan, bits_of, AreFrames}
+use Rattle.paging_message.proofs.Runs.{joined, length-padded, no_width, run_bits, run_piece, run_pieces, run_width, run_width_some}
+use Rattle.paging_message.proofs.Runs.{AreChained}
+use Rattle.paging_message.proofs.Scans.{length-stream, no_piece, stream, whole-append, whole-map, AreWhole}
+use Rattle.clean_link.proofs.pages.Scans.{frames_scanned, in_frame}
+use Rattle.paging_message.proofs.Scans.{scan, bits_of}
+use Rattle.clean_link.proofs.pages.Scans.{AreFrames}
 use Rattle.clean_link.proofs.pages.Laid.{length-page, page_capsule, pages_placed, placed-begins, runs-begin, runs-follow, runs_laid}
 use Rattle.clean_link.proofs.pages.Laid.{runs_of, turned_back, under_way, whole_rows, first_begins, first_runs, placed-follows}
 use Rattle.clean_link.proofs.pages.RunsHeard.{from_within, is_inside, pieces_of, placed_runs, selected, spelled, told, AreRuns, placed_run}

@@ -7,9 +7,9 @@ use Rattle.clean_link.proofs.Common.{mul-add-mod_self_left, mul-le-mul_left, pla
 use Rattle.clean_link.proofs.Common.{below_more, below_push, framed_whole, not_begun, put_of, Page, flat_map_ext_places, placed, Placed}
 use Rattle.clean_link.proofs.Common.{flat_map-add, any_other, half_front, subst, false_from_ne_true, mod_self, IsWhole, whole-capsule}
 use Rattle.clean_link.proofs.Common.{bits_left, fill, laid_behind, AreSendable, AreHeard}
-use Rattle.clean_link.proofs.pages.Runs.{joined, AreChained, length-padded, run_bits, run_piece, run_pieces, run_width, run_width_some}
-use Rattle.clean_link.proofs.pages.Runs.{width, fills, no_width}
-use Rattle.clean_link.proofs.pages.Scans.{bits_of, stream}
+use Rattle.paging_message.proofs.Runs.{joined, AreChained, length-padded, run_bits, run_piece, run_pieces, run_width, run_width_some}
+use Rattle.paging_message.proofs.Runs.{width, fills, no_width}
+use Rattle.paging_message.proofs.Scans.{bits_of, stream}
 use Rattle.clean_link.proofs.pages.RunsHeard.{pieces_of, placed_run, placed_runs, spelled, AreRuns}
 use Rattle.paging_message.specs.Laying as laying
 

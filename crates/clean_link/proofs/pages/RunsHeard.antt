@@ -5,9 +5,9 @@ use Rattle.clean_link.proofs.Common.{option_to_list, and_left, and_right, cases_
 use Rattle.clean_link.proofs.Common.{drop_at, map-append, take-append-le, filter-append, div_below, le-div, mul-le-mul_left}
 use Rattle.clean_link.proofs.Common.{take-append-add, take-nil, places, length-map-places, Piece, Page, flat_map_ext_places, Placed}
 use Rattle.clean_link.proofs.Common.{flat_map-add, flat_map-next, flat_map-nothing, map-add, take-map-places, filter}
-use Rattle.clean_link.proofs.pages.Runs.{ended_of, joined, AreChained, ended-before, ended-behind, ended-first, ended-past, ending_at}
-use Rattle.clean_link.proofs.pages.Runs.{fills, later_begins_none, run_piece, run_pieces, run_scanned, run_width}
-use Rattle.clean_link.proofs.pages.Scans.{none_starts-map, NoneStarts, scan, scan-append, scan_silent, with_number}
+use Rattle.paging_message.proofs.Runs.{ended_of, joined, AreChained, ended-before, ended-behind, ended-first, ended-past, ending_at}
+use Rattle.paging_message.proofs.Runs.{fills, later_begins_none, run_piece, run_pieces, run_scanned, run_width}
+use Rattle.paging_message.proofs.Scans.{none_starts-map, NoneStarts, scan, scan-append, scan_silent, with_number}
 
 -- ---- where the pages of runs lie
 

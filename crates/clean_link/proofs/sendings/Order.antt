@@ -7,6 +7,7 @@ use Rattle.clean_link.proofs.Common.{length, Some, is_some, and_parts, eqb-true,
 use Rattle.clean_link.proofs.Common.{mark_before, is_in_file, known_at, heard_at, events_of, sync_events_at, IsTimed, Tuning, sync_stream}
 use Rattle.clean_link.proofs.Common.{sync_bound, Event, known_between, known_le, mark_is, filter_enough, flat_map_ext_places}
 use Rattle.clean_link.proofs.Common.{flat_map_ext_filter}
+use Rattle.heard_events.proofs.Arrivals.{every}
 
 -- ---- by key
 abbrev pub at_key : (ℕ → Bool) → (ℕ → ℕ) → ℕ → ℕ → Bool
@@ -102,10 +103,6 @@ split_key P key n (suc b) rising =
     (cases_Bool (P b))
 
 -- a test that all pass
-every : (xs : List ℕ) → filter (λ k. true) xs ≡ xs
-every [] = refl
-every (x ∷ xs) = ap (λ (ys : List ℕ). x ∷ ys) (every xs)
-
 pub all_kept : (p : ℕ → Bool) (n : ℕ) → ((k : ℕ) → k < n → p k ≡ true) →
     filter p (places n) ≡ places n
 all_kept p n all = filter_ext_places p (λ k. true) n all ∙ every (places n)

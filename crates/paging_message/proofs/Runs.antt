@@ -1,16 +1,19 @@
 -- The half-frames of a run of capsules, and what their bits end.
-use Rattle.clean_link.proofs.Common.{◌≡◌, ℕ, zero, suc, ◌+◌, ◌-◌, ◌*◌, ◌/◌, ◌%◌, ◌<◌, ◌≤◌, ◌==◌, Bool, true, false, List, [], ◌∷◌, ◌++◌}
-use Rattle.clean_link.proofs.Common.{length, map, take, drop, replicate, refl, sym, ap, ◌∙◌, arith, Some, None, inl, inr, append_assoc}
-use Rattle.clean_link.proofs.Common.{length-append, nat_le, nat_lt, flat_map, option_to_list, cases_lt, eq-eqb, le-leb, le-ltb, lt-leb}
-use Rattle.clean_link.proofs.Common.{lt-ltb, ne_eqb, flat_map-append, append-nil, length-replicate, length-take-le, take-take, map-append}
-use Rattle.clean_link.proofs.Common.{div-mul-add, mod-mul-add, mod_below, mul-le-mul_left, take-add, places, length-map-places, Piece}
-use Rattle.clean_link.proofs.Common.{bodies, from_last_start, ends_chain, fill, padded, flat_map_ext_places, flat_map-add, flat_map-zero}
-use Rattle.clean_link.proofs.Common.{map-next, map-zero, div-add-mod', cond, Option, if◌then◌else◌, and_from, and_left, and_right}
-use Rattle.clean_link.proofs.Common.{cases_order, false_from_ne_true, drop-take, drop_at, take-append-le, take_at, number, is_stated}
-use Rattle.clean_link.proofs.Common.{stated_bits, IsWhole, stated_bounds, stated_from, bits_left, is_there}
-use Rattle.clean_link.proofs.pages.Scans.{from_start_of_run, none_starts-append, NoneStarts, chain_of, cut_short, ended, scan, scan-next}
-use Rattle.clean_link.proofs.pages.Scans.{told_in, with_number}
-use Rattle.clean_link.proofs.sendings.Capsules.{run, run-places}
+use Rattle.paging_message.proofs.Common.{◌≡◌, ℕ, zero, suc, ◌+◌, ◌-◌, ◌*◌, ◌/◌, ◌%◌, ◌<◌, ◌≤◌, ◌==◌, Bool, false, List, [], ◌∷◌, ◌++◌}
+use Rattle.paging_message.proofs.Common.{length, map, take, refl, sym, ap, ◌∙◌, arith, append_assoc, length-append, Option, None, inl}
+use Rattle.paging_message.proofs.Common.{inr, flat_map, option_to_list, cases_lt, ne_eqb, flat_map-append, append-nil, length-take-le}
+use Rattle.paging_message.proofs.Common.{map-append, take-append-le, mod-mul-add, places, length-map-places, Piece, bodies}
+use Rattle.paging_message.proofs.Common.{from_last_start, ends_chain, flat_map_ext_places, flat_map-add, flat_map-zero, map-next}
+use Rattle.paging_message.proofs.Common.{map-zero, true, cond, drop, replicate, length-replicate, drop_at, take_at, Some, nat_le, nat_lt}
+use Rattle.paging_message.proofs.Common.{eq-eqb, le-leb, le-ltb, lt-leb, lt-ltb, take-take, div-mul-add, mod_below, mul-le-mul_left}
+use Rattle.paging_message.proofs.Common.{take-add, fill, padded, div-add-mod', if◌then◌else◌, and_from, and_left, and_right, cases_order}
+use Rattle.paging_message.proofs.Common.{false_from_ne_true, drop-take, number, is_stated, stated_bits, IsWhole, stated_bounds}
+use Rattle.paging_message.proofs.Common.{stated_from, bits_left}
+use Rattle.paging_message.proofs.Common.{mod-eq_of_lt}
+use Rattle.paging_message.proofs.Chains.{is_there}
+use Rattle.paging_message.proofs.Pieces.{run, run-places}
+use Rattle.paging_message.proofs.Scans.{NoneStarts, chain_of, cut_short, ended, from_start_of_run, none_starts-append, scan, scan-next}
+use Rattle.paging_message.proofs.Scans.{told_in, with_number}
 
 -- there are 8 bits for a capsule more, where there is one
 abbrev pub HasRoom : ℕ → ℕ → List (List Bool) → Type 0
@@ -196,10 +199,6 @@ chain_ends (c ∷ cs) (suc fuel) size at pads m chained enough room =
 abbrev pub width : ℕ → ℕ → ℕ
 width size count = (count + size - 1) / size
 
-small : (x w : ℕ) → x < w → x % w ≡ x
-small x w lt =
-    let e : x ≡ 0 * w + x = omega arith in ap (λ (n : ℕ). n % w) e ∙ mod-mul-add 0 w x lt
-
 fills_from : (size count q r : ℕ) → count ≡ q * size + r → r < size →
     count + fill size count ≡ size * width size count
 unfolding fill
@@ -209,7 +208,7 @@ fills_from size count q r parts low =
       | inl some ↦
           let f : (size - count % size) % size ≡ size - r =
           ap (λ (k : ℕ). (size - k) % size) rest
-          ∙ small (size - r) size (omega (arith, some, low)) in
+          ∙ mod-eq_of_lt (omega (arith, some, low)) in
           let turned : count + size - 1 ≡ suc q * size + (r - 1) = omega (arith, parts, some) in
           let w : width size count ≡ suc q =
           ap (λ (k : ℕ). k / size) turned
