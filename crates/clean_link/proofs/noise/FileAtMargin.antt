@@ -9,14 +9,17 @@ use Rattle.clean_link.proofs.Common.{Carrier, CellPlan, PagingPlan, SyncPlan, Tr
 use Rattle.clean_link.proofs.Common.{IsStatedPaging, IsReceivable, AreSendable, paging_rate, loudness, with_added, Bears, IsNear, Plain}
 use Rattle.clean_link.proofs.Common.{IsCloseSample, IsOnPath, HearsSync, zipped_at, page_cycle, fill, whole_sendings, sending_ends}
 use Rattle.clean_link.proofs.Common.{sending_event, heard_behind, sync_sent, paging_sent, pages_sent, tuning_to, IsNotDirected, Sync}
-use Rattle.clean_link.proofs.Common.{signaling_sent, signed, sync_shape, sync_symbols, length-sent}
+use Rattle.clean_link.proofs.Common.{signaling_sent, signed, sync_shape, sync_symbols, length, length-sent, take}
+use Rattle.chip_core.specs.Bits.{number}
 use Rattle.cell_plan.specs.Signal.{symbol_of}
 use Rattle.cell_plan.specs.SomeMessage.{some_message}
 use Rattle.heard_events.specs.declared.event.Event.TheVariants.{Paging}
+use Rattle.message_layout.specs.Spelling.{spelling}
+use Rattle.paging_message.proofs.Messages.{admits_message}
+use Rattle.paging_message.specs.Admitted.{admits}
 use Rattle.paging_message.specs.Laying.{framed, half_frames_of, laid_on}
 use Rattle.paging_message.specs.Messages.{message_body}
 use Rattle.paging_message.specs.Reading.{message_at}
-use Rattle.paging_message.specs.Spelling.{body_of_fields}
 use Rattle.clean_link.specs.BoundedNoise.{IsMargin, added_sample}
 use Rattle.clean_link.specs.HeardEach.{HearsBearing}
 use Rattle.clean_link.specs.NoisyFile.{ComesBackAtItsMargin, against, cell, cell_beside, channels, file, file_with, first_softs, heard}
@@ -30,21 +33,19 @@ use Rattle.clean_link.proofs.traffic.DistinctPlan.{told_lawful}
 -- ---- the cell
 
 body_fills : FillsCapsule M30 (message_body channels)
-unfolding body_of_fields binary
+unfolding message_body spelling binary
 body_fills = record { whole = refl; least = omega arith; most = omega arith }
 
+page_admitted : admits (number (take 8 (message_body channels))) (length (message_body channels))
+    ≡ true
+unfolding admits message_body spelling binary
+page_admitted = refl
+
 page_heard : HasMessage (message_body channels)
-page_heard = record {
-  message = channels;
-  spelled = record {
-    spelled = record { fits = search rules; fills = body_fills };
-    left = omega arith;
-  };
-  same = refl;
-}
+page_heard = admits_message (message_body channels) body_fills page_admitted
 
 page_sendable : AreSendable 95 0 paging_channel.pages
-unfolding body_of_fields binary fill
+unfolding message_body spelling binary fill
 page_sendable = (body_fills, omega arith, tt)
 
 paging_lawful : IsPagingPlan R9600 paging_channel
@@ -332,7 +333,7 @@ ends_at sending = heard_behind 32768 737280 (sending_ends cell (some_message 1) 
 
 whole_are : (whole_sendings cell (some_message 1) ≡ 0 ∷ 1 ∷ [])
     × (ends_at 0 ≡ 294848) × (ends_at 1 ≡ 589760)
-unfolding sync_capsule sync_body capsule check_bits places binary
+unfolding sync_capsule sync_body spelling capsule check_bits places binary
 whole_are = (refl, refl, refl)
 
 sync_told : sync_sent cell ≡ sync_event 294848 0 ∷ sync_event 589760 1 ∷ []
@@ -344,7 +345,7 @@ sync_told =
 pages_told : paging_sent cell 1 ≡
     replicate 4 (Paging 737280 (capsule M30 Plain (message_body channels)) channels)
 unfolding paging_sent pages_sent page_cycle half_frames_of framed laid_on fill message_at
-    body_of_fields sync_capsule sync_body capsule check_bits places binary
+    message_body spelling sync_capsule sync_body capsule check_bits places binary
 pages_told = refl
 
 margin_54 : IsMargin cell (30 ∷ []) 54
