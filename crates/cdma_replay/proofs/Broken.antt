@@ -102,7 +102,7 @@ nothing_all taps r None old new never = tt
 nothing_all taps r (Some bytes) old new never =
     λ (header : Header) (opened : opening bytes ≡ Ok header). absurd (never header opened)
 
--- ---- behind them
+-- ---- after them
 
 -- a file that breaks off isn't too long
 pub no_long_cut : (e : FileFault) (wanted from : ℕ) (old new : Option (List ℕ)) →
@@ -110,7 +110,7 @@ pub no_long_cut : (e : FileFault) (wanted from : ℕ) (old new : Option (List �
 no_long_cut (Extra place) wanted from old new cut = absurd cut
 no_long_cut e wanted from old new cut = λ long. long
 
--- the first samples were read and told of, and those behind them so far as they were heard
+-- the first samples were read and told of, and those after them so far as they were heard
 pub has_written : {taps : List KeptTap} {r : Reception} {header : Header} {samples : List Sample}
     {one other : Listener} {kept behind : List KeptTap} {counted : ℕ → Type 0} {most : ℕ}
     (bytes more : List ℕ) (left : Option (List ℕ)) {old between later new : Option (List ℕ)}
@@ -230,7 +230,7 @@ writes_first {taps} {r} {header} {samples} {count} (Some bytes) (Some more) (Som
     )
     (omega (arith, length-append samples others, begun.counted, fewer, counts)))
 
--- where a file goes on behind its samples, all of them were told of
+-- where a file goes on after its samples, all of them were told of
 pub writes_all : {taps : List KeptTap} {r : Reception} {header : Header} {samples : List Sample}
     {count : ℕ} {one other : Listener} {kept behind : List KeptTap} {most : ℕ}
     (rest mid left old : Option (List ℕ)) {between later : Option (List ℕ)} (new : Option (List ℕ)) →

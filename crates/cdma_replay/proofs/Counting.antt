@@ -138,7 +138,7 @@ next_made plan given n out is =
     ∙ sym (take-map sample_with n (drop given (samples_of plan)))
     ∙ ap (take n) (sym (drop-map sample_with given (samples_of plan)))
 
--- behind those before
+-- after those before
 pub made_more : (plan : CellPlan) (given n : ℕ) (out : List Sample) →
     out ≡ take n (drop given (made_samples plan)) →
     take given (made_samples plan) ++ out ≡ take (given + n) (made_samples plan)
@@ -177,7 +177,7 @@ pub span_is : (cell : CellState) (number n : ℕ) (out : List Sample) → cell �
 span_is cell number n out is long from =
     next_made (trial_plan number) 0 2048 out (rw (is, long) at from)
 
--- behind them
+-- after them
 pub behind_span : (cell now : CellState) (number n : ℕ) → cell ≡ fresh_cell number → n ≡ 2048 →
     now ≡ record cell { given = cell.given + n } →
     (now.plan ≡ trial_plan number) × (take now.given (made_samples now.plan) ≡ trial_span number)

@@ -111,7 +111,7 @@ rest_cut_fault ReadFault begun now (Some bytes) (Some rest) new room same p low 
 rest_cut_fault e begun now (Some bytes) (Some rest) new room same p low counted cut other =
     absurd cut
 
--- a byte comes behind what is left
+-- a byte comes after what is left
 pub rest_extra_fault : (e : FileFault) (begun now : Reading) (old mid : Option (List ℕ)) →
     now.header ≡ begun.header →
     PassesSamples (width_of begun.header) (begun.left - now.left) old mid → now.left ≤ 0 →

@@ -1,4 +1,4 @@
--- A listener hears the samples behind the first ones, piece by piece, to the end of the file.
+-- A listener hears the samples after the first ones, piece by piece, to the end of the file.
 use Rattle.cdma_replay.proofs.Common.{◌≡◌, ℕ, ◌+◌, ◌-◌, ◌≤◌, ◌++◌, [], List, length, take, sym, subst, arith, append_assoc, append-nil}
 use Rattle.cdma_replay.proofs.Common.{length-append, length-take-le, All, Option, flat_map-append, flat_map, Consumes, Keeps, Consumes-kept}
 use Rattle.cdma_replay.proofs.Common.{Consumes-nil, Consumes-trans, All-append, Width, ConsumesAtMost, HasBits, sample_spelling, Sample}
@@ -29,7 +29,7 @@ hears_nothing {width} {listener} {kept} {rest} {old} n = record {
       rw (append-nil heard) (record { more = more_none l heard old; listens = is });
 }
 
--- spellings behind others
+-- spellings after others
 consumes_more : (width same : Width) (rest mid left : Option (List ℕ))
     (samples more : List Sample) → same ≡ width →
     Consumes rest mid (flat_map (sample_spelling width) samples) →
@@ -99,7 +99,7 @@ hears_all {width} {one} {other} {kept} {behind} {rest} {mid} {left} all now h do
       tells = h.tells l heard is;
     }
 
--- what was told so far is a part of it, whatever few bytes were taken behind it
+-- what was told so far is a part of it, whatever few bytes were taken after it
 pub hears_part : {width : Width} {count limit : ℕ} {one other : Listener}
     {kept behind : List KeptTap} {rest mid left old new : Option (List ℕ)} (most : ℕ) →
     Hears width count one other kept behind rest mid old new → count ≤ most →
@@ -118,7 +118,7 @@ hears_part {width} {count} {limit} {one} {other} {kept} {behind} {rest} {mid} {l
       tells = all_part (h.tells l heard is).more;
     }
 
--- a write failed behind what was told so far
+-- a write failed after what was told so far
 pub hears_stopped : {width same : Width} {count : ℕ} {one other : Listener}
     {kept behind : List KeptTap} {rest mid old between new : Option (List ℕ)}
     (left : Option (List ℕ)) (more : List Sample) (most : ℕ) → same ≡ width →

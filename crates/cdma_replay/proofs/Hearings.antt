@@ -33,7 +33,7 @@ taken_joined (suc i) n (x ∷ xs) =
     let next : suc (i + n) ≡ suc i + n = omega arith in
     ap (λ (ys : List _). x ∷ ys) (taken_joined i n xs) ∙ ap (λ (k : ℕ). take k (x ∷ xs)) next
 
--- numbers below one, and those behind them
+-- numbers below one, and those after them
 places_parted : (a b : ℕ) → places (a + b) ≡ places a ++ range_with_len a b
 places_parted a zero = ap places (omega arith) ∙ sym (append-nil (places a))
 places_parted a (suc b) =
@@ -56,14 +56,14 @@ told_none t taps mobile kept given heard old stands behind = record {
   behind = behind ∙ ap (run_taps taps) (sym (append-nil given));
 }
 
--- the samples of a step behind those taken before
+-- the samples of a step after those taken before
 pub taken_more : (heard samples : List Sample) (taken n : ℕ) →
     (heard ++ take taken samples) ++ take n (drop taken samples) ≡ heard ++ take (taken + n) samples
 taken_more heard samples taken n =
     append_assoc heard (take taken samples) (take n (drop taken samples)) ∙
     ap (λ (xs : List Sample). heard ++ xs) (taken_joined taken n samples)
 
--- a step behind them that gave this event, or none
+-- a step after them that gave this event, or none
 pub step_stands : {one other : Mobile} {step : Step} (t : Tuning) (heard samples : List Sample)
     (taken : ℕ) (found : Option Event) → step.event ≡ found →
     Steps one other (take (length samples - taken) (drop taken samples)) step →
@@ -182,7 +182,7 @@ first_events t low timed near xs ys =
           ap (λ (es : List Event). es ++ flat_map g (range_with_len (n + 1) (length ys))) sooner),
     )
 
--- the text of events behind others begins with that of the next ones, and so far as it goes of one
+-- the text of events after others begins with that of the next ones, and so far as it goes of one
 -- more
 text_begins : (taps : List KeptTap) (given more : List Event) (event : Event)
     (others : List Event) →
@@ -434,7 +434,7 @@ tuned_begins l tuned kept old fresh = absurd fresh
 
 -- ---- a handset that has taken nothing
 
--- the first of three, behind which nothing was found
+-- the first of three, after which nothing was found
 pub first_near : (deltas found : List ℤ) (count : ℕ) → length deltas ≡ 3 → count ≤ 3 →
     deltas ≡ found ++ replicate (3 - count) (pos 0) → take count deltas ≡ found
 first_near deltas found count long most is =

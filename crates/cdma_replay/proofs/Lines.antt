@@ -135,7 +135,7 @@ parted front one other more =
     ∙ ap (λ (xs : List ℕ). front ++ xs) (sym (append_assoc one other more))
     ∙ sym (append_assoc front (one ++ other) more)
 
--- a beginning of the text of the first samples and those behind them was written
+-- a beginning of the text of the first samples and those after them was written
 begins_text : {taps : List KeptTap} {r : Reception} {rest left old new : Option (List ℕ)}
     (mid : Option (List ℕ)) (header : Header) (samples others : List Sample) (more : List ℕ) →
     length samples ≡ r.span → IsLawfulHeader header → All (HasBits (width_of header)) samples →
@@ -199,7 +199,7 @@ writes_first_text {taps} {r} {header} {same} {samples} {count} {left} {rest} {mi
     AppendsPrefix old new (shown_text shown ++ told (listening_in taps shown h samples) all)) is
     (part same samples all (fresh taps)))))
 
--- ---- the first samples, and those behind them
+-- ---- the first samples, and those after them
 
 -- the first samples were read, their text was written and what is told before any sample, and a
 -- listener has heard nothing yet
@@ -247,7 +247,7 @@ has_begun taps r {header} {same} {samples} {count} {left} shown one {other} {kep
       listens = begun.listens;
     }
 
--- behind a text and what is told before any sample, a sink got what is told of samples, or a beginning
+-- after a text and what is told before any sample, a sink got what is told of samples, or a beginning
 -- of it
 more_text : (front : List ℕ) (l : Listening) {heard : List Sample} (old : Option (List ℕ))
     {between new : Option (List ℕ)} → Appends old between (front ++ told l []) →
@@ -284,7 +284,7 @@ writes_first_part {taps} {r} {header} {samples} {listener} {kept} {rest} {mid} {
     (sym (append-nil samples))
     (part_text (told_first r samples) l old begun.line (tells l [] begun.listens)))
 
--- that text and what is told of the first samples, and a beginning of what is told behind them
+-- that text and what is told of the first samples, and a beginning of what is told after them
 pub writes_rest_part : {taps : List KeptTap} {r : Reception} {header : Header}
     {samples : List Sample} {count : ℕ} {one other : Listener} {kept behind : List KeptTap}
     {rest mid left old between later new : Option (List ℕ)} → count + r.span ≡ header.count →

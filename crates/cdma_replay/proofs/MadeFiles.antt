@@ -130,7 +130,7 @@ front_more width plan given n =
     ap (λ (bytes : List ℕ). header ++ bytes) (first_more width plan given n)
     ∙ sym (append_assoc header (first_bytes width plan given) (piece_bytes width plan given n))
 
--- all of them, and those behind them
+-- all of them, and those after them
 front_all : (width : Width) (plan : CellPlan) →
     file_front width plan plan.link.samples ≡ made_file width plan
 unfolding made_file

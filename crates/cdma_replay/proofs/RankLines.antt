@@ -37,7 +37,7 @@ lines_more ranks place rank old mid new is lines line =
     subst (Appends old new) (sym (ranks_more ranks place rank is))
     (Appends-trans old mid new (ranks_text (take place ranks)) (rank_line rank) lines line)
 
--- the lines of ranks are those of the first of them, the next one, and those behind it
+-- the lines of ranks are those of the first of them, the next one, and those after it
 ranks_parted : (ranks : List Rank) (place top : ℕ) (rank : Rank) →
     slice_get ranks place ≡ Some rank → place < top →
     ranks_text (take top ranks) ≡

@@ -25,12 +25,12 @@ IsFresh (ByFrames t channel text) (by.Tuned tuned) kept =
 IsFresh l listener kept = ⊥
 
 -- a handset has taken these samples and given all that is heard in them, and these taps are kept
--- behind that
+-- after that
 abbrev pub GivesAll : Tuning → List KeptTap → Mobile → List KeptTap → List Sample → Type 0
 GivesAll t taps mobile kept heard =
     StandsFor t mobile heard (events t heard) × (kept ≡ run_taps taps (events t heard))
 
--- it has taken these samples and told all of them, and these taps are kept behind them
+-- it has taken these samples and told all of them, and these taps are kept after them
 abbrev pub Listens : Listening → Listener → List KeptTap → List Sample → Type 0
 Listens Nobody by.Nobody kept heard = Unit {0}
 Listens (ByTaps t taps) (by.Handset mobile) kept heard = GivesAll t taps mobile.value kept heard
@@ -63,7 +63,7 @@ pub record Tells (l : Listening) (listener : Listener) (kept : List KeptTap)
   pub more : TellsMore l before heard old new
   pub listens : Listens l listener kept heard
 
--- a handset has given these events behind others, and a sink got their text
+-- a handset has given these events after others, and a sink got their text
 pub record HasTold (t : Tuning) (taps : List KeptTap) (mobile : Mobile) (kept : List KeptTap)
     (given : List Event) (heard : List Sample) (old new : Option (List ℕ)) : Type 0 where
   pub more : List Event

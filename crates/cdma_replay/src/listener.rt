@@ -20,7 +20,7 @@ use tuned_listener::TunedListener;
 /// Who hears the samples of a file.
 #[derive(Drop)]
 pub enum Listener {
-    /// Nobody: nothing is wanted of the samples behind the first ones.
+    /// Nobody: nothing is wanted of the samples after the first ones.
     Nobody,
     /// A handset, whose events taps hear.
     Handset(Box<Mobile>),

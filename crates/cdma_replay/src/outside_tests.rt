@@ -155,7 +155,7 @@ fn a_sink_has_little_room(rt: HostRuntime) -> Result<(), Fail> {
 
 /// How many octets a source gives at once, which of its calls fails, which of the sink's, how many
 /// lines are written before, and how the run ends. By call 500,000 of 7 octets 873,713 whole
-/// samples were taken, of which those behind the 869,617th may be unheard: the third sync message,
+/// samples were taken, of which those after the 869,617th may be unheard: the third sync message,
 /// at 884,672, isn't known, and all before it is.
 static CALLS: [(usize, u64, u64, usize, Status); 3] = [
     (65536, 1, 0, 0, Status::ReadFault),

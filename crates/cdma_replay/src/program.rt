@@ -164,7 +164,7 @@ fn without_taps(alloc: Global, args: &[String]) -> Status
     }
 }
 
-/// The arguments behind the first, which is the program's own name.
+/// The arguments after the first, which is the program's own name.
 fn args_behind_name(args: &[String]) -> &[String]
     ensures { result.now ≡ drop 1 args.now }
 {
@@ -219,7 +219,7 @@ fn report<E: Sink>(status: Status, errors: &mut E)
 
 /// All that the process does with its arguments, of which the first is its own name, with its
 /// input, its output and its stream of errors, and what it exits with: the status of the command
-/// that the arguments behind the name tell, with a tap of each form, or that of a process which
+/// that the arguments after the name tell, with a tap of each form, or that of a process which
 /// wasn't given its arguments. The line of any end but [`Status::Done`] is written on the stream of
 /// errors.
 pub fn run<R: AllocGlobal + Threads + Sync, S: Source, K: Output, E: Sink>(
@@ -234,7 +234,7 @@ pub fn run<R: AllocGlobal + Threads + Sync, S: Source, K: Output, E: Sink>(
         (source.new ≡ source.old) × (sink.new ≡ sink.old) ×
         TellsEnd status (E.written errors.old) (E.written errors.new)
         (E.faults errors.old) (E.faults errors.new) (errors.new ≡ errors.old)) }
-    // The exit status is that of an end with all that `replay` promises of the arguments behind the
+    // The exit status is that of an end with all that `replay` promises of the arguments after the
     // first, with a tap of each form; the end is told, and what was written was passed on.
     ensures ran { IfOk args (λ given. ExitsBy
         (λ status. RunsCommand each_form (job_named (drop 1 given.items)) status

@@ -61,7 +61,7 @@ fn open_span<S: Source>(source: &mut S, span: &mut [Sample]) -> Result<SampleRea
 }
 
 /// Reads the samples that are left in pieces, gives them to the listener, and sees that the file
-/// ends behind them.
+/// ends after them.
 fn hear_rest<S: Source, T: KeepsTaps, K: Sink>(
     reader: &mut SampleReader,
     source: &mut S,

@@ -93,7 +93,7 @@ const SECOND_SCRIPT: &[u8] = b"cell pn=511 time=1000 lc=20000000000 checks=0\n\
     paging channel=1 gain=60\n\
     page half 34:04ff8046c0\n";
 
-/// Lines, and behind them two of the page for each frame that ends at one of these numbers of
+/// Lines, and after them two of the page for each frame that ends at one of these numbers of
 /// samples.
 macro_rules! with_pages {
     ($($lines:literal, [$($at:literal),*]),*) => {
@@ -130,7 +130,7 @@ pub const SECOND_LINES: &str = with_pages!(
 pub const RAW_LINE: &str =
     "raw at=294848 sync 200:1901030100020005ff40a874b9420000000fbc340022eab573\n";
 
-/// What the handset of key 0 hears in its one slot that lies behind the mark.
+/// What the handset of key 0 hears in its one slot that lies after the mark.
 pub const SLOT_LINES: &str = with_pages!(
     "slot at=884736 time=1008 messages=8\n",
     [884736, 884736, 884736, 884736]

@@ -6,7 +6,7 @@ use chip_core::{OutOfMemory, Sample};
 use short_code::Codes;
 use std::alloc::Global;
 
-/// How many samples are taken or written at once, at most, behind those that are searched.
+/// How many samples are taken or written at once, at most, after those that are searched.
 pub(crate) const PIECE: usize = 4096;
 
 /// The buffers of a run.

@@ -116,7 +116,7 @@ amplitudes_most chip (c ∷ cs) =
       amplitudes_most chip cs,
     )
 
--- channels behind others add their gains
+-- channels after others add their gains
 gains_append : (cs ds : List Carrier) → gains (cs ++ ds) ≡ gains cs + gains ds
 gains_append [] ds = omega arith
 gains_append (c ∷ cs) ds = omega (arith, gains_append cs ds)

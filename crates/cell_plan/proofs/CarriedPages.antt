@@ -6,7 +6,7 @@ use Rattle.cell_plan.proofs.Common.{AreSendable, AreHeard, IsCarried, IsStatedPa
 use Rattle.cell_plan.proofs.LaidPages.{length-on}
 use Rattle.paging_message.specs.Laying as laying
 
--- pages behind what was laid are lawful puts
+-- pages after what was laid are lawful puts
 puts_lawful : (size : ℕ) (form : CheckForm) (l : laying.Laid) (pages : List Page) (count : ℕ) →
     length l.body ≡ count → AreSendable size count pages → AreHeard size count pages →
     laying.AreLawful size l (map (put_of form) pages)

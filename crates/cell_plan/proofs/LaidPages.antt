@@ -151,7 +151,7 @@ laid_none size form pages layout bits same laid none are = record {
   most = omega (arith, ap length none);
 }
 
--- the next page, and those behind it
+-- the next page, and those after it
 pub here : (size count k : ℕ) (pages : List Page) → k < length pages →
     specs.AreSendable size count (drop k pages) →
     specs.AreSendable size count (get_or pages k no_page ∷ drop (k + 1) pages)

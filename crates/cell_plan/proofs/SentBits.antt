@@ -12,14 +12,14 @@ before-next : (bits : ℕ → List Bool) (k : ℕ) →
 unfolding bits_before
 before-next bits k = rw add-one refl
 
--- the encoder's state behind eight bits or more is the last eight
+-- the encoder's state after eight bits or more is the last eight
 pub last_eight : (start bits : List Bool) → length start ≡ 8 → 8 ≤ length bits →
     state_after start bits ≡ drop (length bits - 8) bits
 last_eight start bits eight enough =
     let n : length bits ≡ length start + (length bits - 8) = omega (arith, eight, enough) in
     ap (λ (k : ℕ). drop k (start ++ bits)) n ∙ drop-append-add start bits (length bits - 8)
 
--- behind a frame of eight bits or more the encoder is in the next frame's first state
+-- after a frame of eight bits or more the encoder is in the next frame's first state
 pub last_before : (bits : ℕ → List Bool) (k start last : ℕ) (frame : List Bool) → frame ≡ bits k →
     8 ≤ length frame → binary 8 last ≡ state_after (binary 8 start) frame →
     binary 8 last ≡ bits_before bits (k + 1)

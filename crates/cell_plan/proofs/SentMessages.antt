@@ -61,7 +61,7 @@ superframes_few form m is = omega (arith, capsule_most form m is)
 
 -- FRAMES
 
--- zeros behind a list don't show where a place behind its end has a 0
+-- zeros after a list don't show where a place after its end has a 0
 pub padded_at : (bits : List Bool) (n i : ℕ) → i < length bits + n →
     get_or (bits ++ replicate n false) i false ≡ get_or bits i false
 padded_at [] n i within = get_or-replicate n i false false (omega (arith, within))

@@ -32,7 +32,7 @@ page_cycle rate form pages =
 
 -- ---- how many bits they have
 
--- the body bits behind a capsule of so many bits that is laid behind others
+-- the body bits after a capsule of so many bits that is laid after others
 abbrev pub laid_behind : ℕ → ℕ → Bool → ℕ → ℕ
 laid_behind size count follows bits =
     if follows then count + bits else count + fill size count + bits
@@ -41,7 +41,7 @@ laid_behind size count follows bits =
 abbrev pub half_frame_bits : ℕ → ℕ → ℕ
 half_frame_bits size count = count + (count + size - 1) / size
 
--- Pages behind so many body bits: each fills a capsule, and the half-frames have at most 8,192 bits
+-- Pages after so many body bits: each fills a capsule, and the half-frames have at most 8,192 bits
 -- up to the end of the last capsule.
 abbrev pub AreSendable : ℕ → ℕ → List Page → Type 0
 AreSendable size count [] = Unit {0}

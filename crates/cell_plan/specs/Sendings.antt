@@ -11,7 +11,7 @@ use Rattle.sync_message.specs.SyncMessage.{sync_capsule}
 use Rattle.sync_message.specs.declared.fields.SyncFields.{SyncFields}
 use Rattle.cell_plan.specs.declared.plan.CellIdentity.{CellIdentity}
 
--- The message of a transmission tells the time and the state four superframes behind its last one,
+-- The message of a transmission tells the time and the state four superframes after its last one,
 -- less the pilot's offset. How many superframes a transmission has doesn't depend on what is filled
 -- in.
 abbrev pub superframes_a_sending : CellIdentity → SyncFields → ℕ
@@ -29,7 +29,7 @@ message_of cell m sending =
       lc = after cell.lc (superframe_chips * told_superframes cell m sending);
     }
 
--- the capsule of a transmission, and zeros behind it
+-- the capsule of a transmission, and zeros after it
 abbrev pub padded_sending : CellIdentity → SyncFields → ℕ → List Bool
 padded_sending cell m sending =
     sync_capsule cell.check30 (message_of cell m sending) ++ replicate 93 false

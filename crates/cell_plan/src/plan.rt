@@ -73,7 +73,7 @@ pub struct SyncPlan {
 /// 7.7.2.1).
 #[derive(Clone, Copy, PartialEq, Eq, Debug)]
 pub struct Page {
-    /// Whether the capsule begins right behind the one before it, and not with the next half-frame.
+    /// Whether the capsule begins right after the one before it, and not with the next half-frame.
     pub follows: bool,
     /// The body.
     pub body: Bits,

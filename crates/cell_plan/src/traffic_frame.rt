@@ -26,7 +26,7 @@ pub struct TrafficFrame {
     pub power_bits: PowerBits,
 }
 
-/// Information bits, and behind them the quality indicator, where frames of the rate have one.
+/// Information bits, and after them the quality indicator, where frames of the rate have one.
 fn with_quality(rate: Rate, information: &Bits) -> Bits
     requires { length information.now ≡ information_of rate }
     ensures { result ≡ information.now ++ quality_indicator (quality_of rate) information.now }
@@ -40,7 +40,7 @@ fn with_quality(rate: Rate, information: &Bits) -> Bits
 }
 
 /// The bits of a frame with this information, 192, 96, 48 or 24 by the rate: the quality indicator
-/// stands behind the information, and the tail behind both.
+/// stands after the information, and the tail after both.
 fn codeword(rate: Rate, information: &Bits) -> Bits
     requires { length information.now ≡ information_of rate }
     ensures value { result ≡ traffic_codeword rate information.now }

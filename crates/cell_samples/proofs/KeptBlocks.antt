@@ -8,7 +8,7 @@ use Rattle.cell_samples.proofs.Common.{scaled, AreChips, AreFirstLevels, AreLeve
 use Rattle.cell_samples.proofs.Common.{IsQuiet, IsTurned, chip_at, no_sample, ChannelState, carrier_of}
 use Rattle.std.specs.List.{All}
 
--- an entry is the same whatever stands for entries behind the end
+-- an entry is the same whatever stands for entries after the end
 any_default : {X : Type 0} (xs : List X) (n : ℕ) (d e : X) → n < length xs →
     get_or xs n d ≡ get_or xs n e
 any_default [] n d e inside = absurd (omega (arith, inside))

@@ -144,7 +144,7 @@ bits_given width plan block given phase signs out are loud =
     (chip_is plan block (chip + k) are.sent are.link) loud (are.turned k low).in_phase
     (are.turned k low).quadrature)
 
--- ---- pieces behind one another
+-- ---- pieces after one another
 
 piece_joined : {X : Type 0} (out part : List X) (done k count : ℕ) → done ≤ length out →
     length part ≡ count → take (done + count) (put_mid done k out part) ≡ take done out ++ part

@@ -22,7 +22,7 @@ pub const BLOCK: usize = WALSH_CHIPS as usize;
 /// For how many channels a block keeps levels.
 const MOST_CHANNELS: usize = 128;
 
-/// The level of each channel of a cell over a block, and 0 behind the last channel.
+/// The level of each channel of a cell over a block, and 0 after the last channel.
 type Levels = [i64; MOST_CHANNELS];
 
 /// The sum of the channels' amplitudes at each chip of a block, times the link.

@@ -18,7 +18,7 @@ use symbol_path::place_into;
 #[derive(Drop)]
 pub struct ContinuedEncoder {
     source: FrameSource,
-    // The frame behind the one that was coded last, and the encoder's state before it.
+    // The frame after the one that was coded last, and the encoder's state before it.
     next: u64,
     state: u8,
 }
@@ -68,7 +68,7 @@ impl ContinuedEncoder {
         self.source.form()
     }
 
-    /// The encoder's state before a frame: that behind the frame coded last, where this is the
+    /// The encoder's state before a frame: that after the frame coded last, where this is the
     /// next.
     fn state_at(&mut self, frame: u64) -> u8
         requires { frame < 2 ^ 20 }

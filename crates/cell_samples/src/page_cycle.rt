@@ -112,7 +112,7 @@ impl PageCycle {
         self.bits.get((place % count) as u16)
     }
 
-    /// The bits of a frame: those behind the ones of the frames before it.
+    /// The bits of a frame: those after the ones of the frames before it.
     pub fn frame_bits(&self, frame: u64) -> Bits
         requires { frame < 2 ^ 20 }
         ensures value { result ≡ cycle_frame_bits self.now frame }

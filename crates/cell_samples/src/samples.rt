@@ -112,7 +112,7 @@ fn paging_channel(plan: &CellPlan, paging: &PagingPlan) -> Channel
     )
 }
 
-/// Channels, and behind them the paging channels of a cell.
+/// Channels, and after them the paging channels of a cell.
 fn with_paging(
     mut channels: Vec<Channel>,
     plan: &CellPlan,
@@ -149,7 +149,7 @@ fn traffic_channel(
     Ok(Channel::open(traffic.gain, traffic.row, first, source))
 }
 
-/// Channels, and behind them the traffic channels of a cell.
+/// Channels, and after them the traffic channels of a cell.
 fn with_traffic(
     alloc: Global,
     mut channels: Vec<Channel>,

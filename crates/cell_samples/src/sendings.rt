@@ -48,7 +48,7 @@ fn superframes_for(capsule: &Bits) -> u64
 }
 
 /// The message of a transmission: it tells the time and the long code's state four superframes
-/// behind its last one, less the pilot's offset.
+/// after its last one, less the pilot's offset.
 fn message_for(
     cell: &CellIdentity,
     message: &SyncFields,
@@ -81,7 +81,7 @@ fn capsule_for(cell: &CellIdentity, message: SyncFields) -> Bits
     SyncMessage::new(message).unwrap().encode(cell.check30)
 }
 
-/// A bit of a list, and 0 behind its end.
+/// A bit of a list, and 0 after its end.
 fn bit_or_zero(bits: &Bits, i: u16) -> bool
     ensures { result ≡ get_or bits.now i false }
 {
@@ -89,7 +89,7 @@ fn bit_or_zero(bits: &Bits, i: u16) -> bool
 }
 
 /// The bits of a frame of a transmission: the SOM bit, 1 in the first frame, and 31 bits of the
-/// capsule, with zeros behind it.
+/// capsule, with zeros after it.
 fn piece_of(capsule: &Bits, place: u16) -> Bits
     requires { 31 * place ≤ length capsule.now + 62 }
     ensures value { result ≡

@@ -26,7 +26,7 @@ use Rattle.cell_script.specs.declared.statements.Statement.TheVariants as statem
 
 -- ---- pages of a cycle
 
--- the body bits of a cycle behind these pages
+-- the body bits of a cycle after these pages
 abbrev pub count_of : ℕ → ℕ → List Page → ℕ
 count_of size count [] = count
 count_of size count (page ∷ pages) =
@@ -168,7 +168,7 @@ channels_sync stage next plan sync has e = absurd (cc e)
 abbrev with_channel : CellPlan → PagingLine → CellPlan
 with_channel plan line = record plan { paging = plan.paging ++ opened line ∷ [] }
 
--- a channel is opened behind others
+-- a channel is opened after others
 opened_behind : (rate : Rate) (plan : CellPlan) (line : PagingLine) →
     (1 ≤ line.number) × (line.number ≤ 7) → paging_rate plan.sync ≡ rate →
     plan.traffic ≡ [] → All (IsStatedPaging rate) plan.paging →
@@ -289,7 +289,7 @@ with_traffic plan line = record plan { traffic = plan.traffic ++ opened_traffic 
 abbrev IsRowed : TrafficLine → Type 0
 IsRowed line = (line.row ≤ 63) × (line.offset ≤ 15)
 
--- a traffic channel is opened behind others
+-- a traffic channel is opened after others
 traffic_behind : (plan : CellPlan) (line : TrafficLine) → IsRowed line →
     All (IsStatedPaging (paging_rate plan.sync)) plan.paging → All IsStatedTraffic plan.traffic →
     IsOpenTraffic (with_traffic plan line)
@@ -465,14 +465,14 @@ paging_first (Paging rate) next plan has e = has.0.1
 paging_first (Pages rate count) next plan has e = has.0.bare
 paging_first stage next plan has e = absurd (cc e)
 
--- a statement that may stand next stands behind those whose channels come first
+-- a statement that may stand next stands after those whose channels come first
 pub in_order : (stage next : Stage) (plan : CellPlan) (statement : Statement) → IsAt stage plan →
     next_stage stage statement ≡ Some next → IsInOrder plan statement
 in_order stage next plan (statements.Paging line) before e =
     paging_first stage next plan before.channels e
 in_order stage next plan statement before e = tt
 
--- ---- the draft behind a line
+-- ---- the draft after a line
 
 abbrev Said : Draft → Type 0
 Said draft = IsAt draft.stage draft.plan

@@ -20,12 +20,12 @@ use Rattle.cell_script.specs.declared.statements.Statement.TheVariants as statem
 
 -- ---- steps that may fail
 
--- a step that may fail and the steps behind it, as the statements' readings have them
+-- a step that may fail and the steps after it, as the statements' readings have them
 abbrev step : {A B : Type 0} → Option A → (A → Option B) → Option B
 step (Some x) f = f x
 step None f = None
 
--- what holds of each value of the steps behind holds of each value of all
+-- what holds of each value of the steps after holds of each value of all
 both_steps : {A B : Type 0} {P : B → Type 0} (o : Option A) (f : A → Option B) →
     ((x : A) → o ≡ Some x → (y : B) → f x ≡ Some y → P y) → (y : B) → step o f ≡ Some y → P y
 both_steps (Some x) f has y e = has x refl y e

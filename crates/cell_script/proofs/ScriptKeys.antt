@@ -8,7 +8,7 @@ both : (a b c : Bool) → (a && (b && c)) ≡ ((a && b) && c)
 both true b c = refl
 both false b c = refl
 
--- a text begins with two texts where it begins with the first, and what is behind it with the other
+-- a text begins with two texts where it begins with the first, and what is after it with the other
 begins_more : (text a b : List ℕ) →
     begins_with text (a ++ b) ≡ (begins_with text a && begins_with (drop (length a) text) b)
 begins_more text [] b = refl

@@ -85,7 +85,7 @@ within_step draft k n line more (Some next) is rest fault =
     let there = rest next (sym (stated-next draft next k line more is) ∙ fault) in
     (omega (arith, there.0), omega (arith, there.1))
 
--- the fault is at one of the lines, or behind the last
+-- the fault is at one of the lines, or after the last
 within : (draft : Draft) (k n : ℕ) (ls : List (List ℕ)) → stated draft k ls ≡ Err n →
     (k ≤ n) × (n ≤ k + length ls)
 within draft k n [] fault =

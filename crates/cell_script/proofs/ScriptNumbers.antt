@@ -199,7 +199,7 @@ line_of p = channel p.number p.gain
 abbrev traffic_line_of : TrafficPlan → ChannelLine
 traffic_line_of t = channel t.row t.gain
 
--- what holds of the lines of paging channels and of lines behind them holds of each
+-- what holds of the lines of paging channels and of lines after them holds of each
 parted : (P : ChannelLine → Type 0) (paging : List PagingPlan) (ls : List ChannelLine) →
     All P (paging_lines paging ++ ls) → All (λ (p : PagingPlan). P (line_of p)) paging × All P ls
 parted P [] ls are = (All-nil (λ (p : PagingPlan). P (line_of p)), are)
@@ -278,7 +278,7 @@ traffic_all P (t ∷ traffic) are =
     (All-head P (traffic_line_of t) (traffic_lines traffic) are)
     (traffic_all P traffic (All-tail P (traffic_line_of t) (traffic_lines traffic) are))
 
--- the lines behind those of paging channels have rows of their own
+-- the lines after those of paging channels have rows of their own
 own_behind : (paging : List PagingPlan) (ls : List ChannelLine) →
     HaveOwnRows (paging_lines paging ++ ls) → HaveOwnRows ls
 own_behind [] ls own = own

@@ -7,7 +7,7 @@ use Rattle.cell_script.proofs.Common.{ltb-false, not-true, and_parts, eqb-suc-ze
 use Rattle.cell_script.proofs.Common.{digits_decimal, digits_value-decimal, decimal_nonempty, first_decimal, length-decimal-le, digits_from}
 use Rattle.cell_script.proofs.Common.{behind, is_plain, negative, number_in, number_up_to, positive, signed_behind, signed_in, up_to}
 
--- the value of digits behind a number
+-- the value of digits after a number
 abbrev pub read_on : ℕ → List ℕ → ℕ
 read_on n [] = n
 read_on n (digit ∷ digits) = read_on (10 * n + (digit - 48)) digits
@@ -144,7 +144,7 @@ one_numeral most n text small = (spelled most n text small, reads_back most n te
 
 -- ---- numbers with a sign
 
--- a number of one of both signs, read from what stands behind the sign
+-- a number of one of both signs, read from what stands after the sign
 signed_in-minus : (digits : List ℕ) →
     signed_in (45 ∷ digits) ≡ option_and_then negative (number_up_to 32768 digits)
 unfolding signed_in

@@ -33,7 +33,7 @@ unfolding first_stated
 first_none text inside is =
     sym (cond-true _ _ _ (lt-ltb (length_before 10 text) (length text) inside)) ∙ is
 
--- ---- the draft behind it
+-- ---- the draft after it
 
 with_line-next : (plan : CellPlan) (stage next : Stage) (text : List ℕ) (statement : Statement) →
     statement_in text ≡ Some statement → next_stage stage statement ≡ Some next →

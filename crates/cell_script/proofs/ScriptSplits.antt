@@ -76,7 +76,7 @@ pub draft_after-other : (draft : Draft) (line : List ℕ) → is_line line ≡ f
 unfolding draft_after
 draft_after-other draft line is = cond-false _ _ _ is
 
--- ---- a line and what is behind it
+-- ---- a line and what is after it
 
 no_bytes : (bytes : List ℕ) → (length bytes == 0) ≡ true → bytes ≡ []
 no_bytes [] none = refl

@@ -1,7 +1,7 @@
 -- The fields of a traffic channel's line.
 use Rattle.cell_script.proofs.Common.{◌≡◌, ℕ, List, [], refl, sym, Some, past_at, traffic_in, traffic_line, traffic_rows, unsigned_at}
 
--- they were read one after another, and nothing is left behind them
+-- they were read one after another, and nothing is left after them
 pub traffic_read : (text0 text1 text2 text3 text4 : List ℕ) (row esn offset gain : ℕ) →
     unsigned_at traffic_rows 0 text0 ≡ Some row → text1 ≡ past_at traffic_rows 0 text0 →
     unsigned_at traffic_rows 1 text1 ≡ Some esn → text2 ≡ past_at traffic_rows 1 text1 →

@@ -33,7 +33,7 @@ network_rows = map sync_row (0 ∷ 1 ∷ 2 ∷ 3 ∷ [])
 abbrev pub local_rows : List NumberRow
 local_rows = map sync_row (7 ∷ 8 ∷ 9 ∷ 10 ∷ [])
 
--- the numbers of fields that follow one another, and the text behind them
+-- the numbers of fields that follow one another, and the text after them
 unfoldable pub numbers_in : List NumberRow → List ℕ → Option (List ℕ)
 numbers_in [] text = Some []
 numbers_in (f ∷ fields) text = do

@@ -23,7 +23,7 @@ abbrev pub onto_first : ℕ → List (List ℕ) → List (List ℕ)
 onto_first byte [] = (byte ∷ []) ∷ []
 onto_first byte (line ∷ lines) = (byte ∷ line) ∷ lines
 
--- the lines of a script, each with its LF; what stands behind the last LF is a last line without
+-- the lines of a script, each with its LF; what stands after the last LF is a last line without
 -- one
 unfoldable pub lines : List ℕ → List (List ℕ)
 lines [] = []
@@ -35,7 +35,7 @@ unfoldable pub is_line : List ℕ → Bool
 is_line [] = false
 is_line (byte ∷ bytes) = if byte == 10 then length bytes == 0 else is_line bytes
 
--- the draft behind a line; None where the line can't stand next, as one without LF
+-- the draft after a line; None where the line can't stand next, as one without LF
 unfoldable pub draft_after : Draft → List ℕ → Option Draft
 draft_after draft line =
     if is_line line then with_line draft (take (length line - 1) line) else None

@@ -91,12 +91,12 @@ empty_draft = record { stage = Cell; plan = empty_plan }
 abbrev pub draft_at : CellPlan → Stage → Draft
 draft_at plan stage = record { stage = stage; plan = plan }
 
--- the draft behind a statement; None where it can't stand next
+-- the draft after a statement; None where it can't stand next
 unfoldable pub with_next : Draft → Statement → Option Draft
 with_next draft statement =
     option_map (draft_at (with_statement draft.plan statement)) (next_stage draft.stage statement)
 
--- the draft behind a line's text
+-- the draft after a line's text
 unfoldable pub with_line : Draft → List ℕ → Option Draft
 with_line draft text = option_and_then (with_next draft) (statement_in text)
 

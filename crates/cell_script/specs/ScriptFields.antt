@@ -7,7 +7,7 @@ use Rattle.cell_script.specs.declared.tables.FieldForm.TheVariants as forms
 use Rattle.cell_script.specs.ScriptValues.{begins_with, length_before, number_up_to}
 use Rattle.cell_script.specs.ScriptValues.{serial_number_in, signed_in, state_in}
 
--- what stands behind a key, from there up to the next space, and from that space on
+-- what stands after a key, from there up to the next space, and from that space on
 abbrev pub keyed : List ℕ → List ℕ → List ℕ
 keyed key text = drop (length key) text
 
@@ -66,7 +66,7 @@ formed key form = record { key = key; form = form }
 abbrev pub row_at : List StatementRow → ℕ → StatementRow
 row_at rows i = get_or rows i (formed [] forms.State)
 
--- its value at the beginning of a text, and the text behind it
+-- its value at the beginning of a text, and the text after it
 abbrev pub unsigned_at : List StatementRow → ℕ → List ℕ → Option ℕ
 unsigned_at rows i text = field (row_at rows i).key (unsigned_of (row_at rows i).form) text
 

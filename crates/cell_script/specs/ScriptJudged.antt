@@ -33,7 +33,7 @@ pub record HasJudged (judge : Judge) (plan : CellPlan) : Type 0 where
   pub sync : judge.sync ≡ plan.sync
   pub channels : HasSeen judge.channels (channel_lines plan)
 
--- a statement whose channel stands behind those of a plan: no paging channel stands behind a
+-- a statement whose channel stands after those of a plan: no paging channel stands after a
 -- traffic channel
 abbrev pub IsInOrder : CellPlan → Statement → Type 0
 IsInOrder plan (statements.Cell cell) = Unit {0}

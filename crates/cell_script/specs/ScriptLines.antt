@@ -151,7 +151,7 @@ sync_fields network local freq rest = record {
   rest = rest;
 }
 
--- what the line says by its gain, its numbers and the text behind them
+-- what the line says by its gain, its numbers and the text after them
 unfoldable pub sync_behind : ℕ → List ℕ → List ℕ → List ℕ → Option SyncPlan
 sync_behind gain network local text0 =
     let text1 = past_freq text0 in
@@ -253,7 +253,7 @@ frame_rate = rate_by frame_key (R9600 ∷ R4800 ∷ R2400 ∷ R1200 ∷ [])
 abbrev pub lawful_frame : {A : Type 0} → ℕ → List Bool → A → Option A
 lawful_frame size information frame = if length information == size then Some frame else None
 
--- what is made of so many information bits behind a key, and of the commands behind them
+-- what is made of so many information bits after a key, and of the commands after them
 abbrev pub frame_by : {A : Type 0} → List ℕ → ℕ → (List Bool → List Bool → A) → List ℕ → Option A
 frame_by key size made text0 =
     let text1 = past key text0 in

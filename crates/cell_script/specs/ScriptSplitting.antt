@@ -1,4 +1,4 @@
--- The first line of a script and the lines behind it.
+-- The first line of a script and the lines after it.
 use Rattle.std.specs.Prelude.{ℕ, nat_lt, if◌then◌else◌, List, length, take, Option, None}
 use Rattle.cell_script.specs.declared.statements.Statement.{Statement}
 use Rattle.cell_script.specs.ScriptLines.{statement_in}

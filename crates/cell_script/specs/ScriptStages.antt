@@ -16,7 +16,7 @@ use Rattle.cell_plan.specs.Pages.{half_frame_bits, laid_behind}
 
 -- ---- pages (TIA/EIA-95-B, 7.7.2.1)
 
--- the body bits of a cycle behind one more page, whose capsule has 8 bits of length and a check of
+-- the body bits of a cycle after one more page, whose capsule has 8 bits of length and a check of
 -- 30 bits
 abbrev pub count_behind : Rate → ℕ → Page → ℕ
 count_behind rate count page =
@@ -36,7 +36,7 @@ pages_behind rate count page =
     if may_follow rate count page.follows && is_cycle rate (count_behind rate count page)
     then Some (Pages rate (count_behind rate count page)) else None
 
--- ---- what may stand behind each kind of statement
+-- ---- what may stand after each kind of statement
 
 abbrev pub after_cell : Stage → Option Stage
 after_cell Cell = Some Link
@@ -90,7 +90,7 @@ after_frame2 FirstFrame = Some Frames2
 after_frame2 Frames2 = Some Frames2
 after_frame2 _ = None
 
--- what may stand behind a statement; None where it can't stand
+-- what may stand after a statement; None where it can't stand
 abbrev pub next_stage : Stage → Statement → Option Stage
 next_stage stage (statements.Cell cell) = after_cell stage
 next_stage stage (statements.Link link) = after_link stage

@@ -20,7 +20,7 @@ length_before mark (byte ∷ bytes) = if byte == mark then 0 else suc (length_be
 abbrev pub begins_with : List ℕ → List ℕ → Bool
 begins_with text front = pointwise nat_eq (take (length front) text) front
 
--- what stands behind a text's front; None where it doesn't begin with it
+-- what stands after a text's front; None where it doesn't begin with it
 abbrev pub behind : List ℕ → List ℕ → Option (List ℕ)
 behind front text = if begins_with text front then Some (drop (length front) text) else None
 
@@ -63,7 +63,7 @@ signed_in text = signed_behind text (behind (codes "-") text)
 abbrev pub hex_digit : ℕ → Option ℕ
 hex_digit byte = if nat_lt (digit_value byte) 16 then Some (digit_value byte) else None
 
--- hex digits behind a number
+-- hex digits after a number
 unfoldable pub hex_from : ℕ → List ℕ → Option ℕ
 hex_from number [] = Some number
 hex_from number (digit ∷ digits) =
@@ -90,7 +90,7 @@ all_clear [] = true
 all_clear (bit ∷ bits) = if bit then false else all_clear bits
 
 -- the first so many bits of whole octets; None where there aren't just as many octets as they need,
--- or where a bit behind them is 1
+-- or where a bit after them is 1
 abbrev pub unpadded : ℕ → List Bool → Option (List Bool)
 unpadded count bits =
     if nat_lt (length bits) count then None
@@ -119,7 +119,7 @@ bits_in text =
 abbrev pub binary_digit : ℕ → Option Bool
 binary_digit byte = if byte == 48 then Some false else (if byte == 49 then Some true else None)
 
--- bits and behind them those that digits are
+-- bits and after them those that digits are
 unfoldable pub digits_behind : List Bool → List ℕ → Option (List Bool)
 digits_behind bits [] = Some bits
 digits_behind bits (digit ∷ digits) =

@@ -43,7 +43,7 @@ paging_script link =
     script link ++ codes "paging channel=1 gain=60" ++ 10 ∷ codes "page half 34:04ff8046c0" ++ 10
     ∷ []
 
--- one with a traffic channel of rate set 2, and these lines behind its frame
+-- one with a traffic channel of rate set 2, and these lines after its frame
 traffic_script : List ℕ → List ℕ
 traffic_script behind =
     script (codes "re=0 im=-3 start=0 samples=1228800")
@@ -113,7 +113,7 @@ unfolding paging_script script plan paging_plan page plan_named stated_plan stat
     is_body admits pages_behind bits_left fill
 paged = refl
 
--- a frame of rate set 2 alone, and with one of rate set 1 behind it
+-- a frame of rate set 2 alone, and with one of rate set 1 after it
 of_rate_set_two : map (λ behind. plan_named Sixteen (traffic_script behind))
     ([] ∷ (codes "frame 1200 16:ffff 0101010101010101" ++ 10 ∷ []) ∷ [])
     ≡ Ok (record (plan []) { traffic = traffic_plan ∷ [] }) ∷ Err (Line 7) ∷ []

@@ -47,7 +47,7 @@ impl<'a> Fields<'a> {
         self.text.is_empty()
     }
 
-    /// The text of the value behind this key.
+    /// The text of the value after this key.
     #[tactic(auto, unfolding(crate::specs::ScriptFields::past))]
     fn value(&mut self, key: &[u8]) -> Option<&'a [u8]>
         ensures value { MatchOption result (begins_with self.old key.now ≡ false)
@@ -128,7 +128,7 @@ impl<'a> Fields<'a> {
     }
 }
 
-/// What stands behind ` name=`, with which a text begins.
+/// What stands after ` name=`, with which a text begins.
 #[tactic(auto, using(crate::proofs::ScriptKeys::key_told, crate::proofs::ScriptKeys::key_behind))]
 fn behind_name<'a>(text: &'a [u8], name: &str) -> Option<&'a [u8]>
     ensures { MatchOption result (begins_with text.now (key_of name.now) ≡ false)

@@ -110,7 +110,7 @@ impl Judge {
         }
     }
 
-    /// Behind one more statement.
+    /// After one more statement.
     pub(crate) fn with(self, statement: &Statement) -> Judge
         requires row { HasRow statement.now }
         requires room { self.channels.gains < 2 ^ 40 }

@@ -1,8 +1,8 @@
 //! Scripts of cells: lines of text that say what a cell sends, and what a handset receives of it.
 //!
 //! Each line is a statement and ends with LF: `cell`, `link`, `pilot`, and perhaps `sync`, in this
-//! order; behind `sync` any number of `paging` lines, each with one or more `page` lines behind it,
-//! and then any number of `traffic` lines, each with one or more `frame` lines behind it, or one or
+//! order; after `sync` any number of `paging` lines, each with one or more `page` lines after it,
+//! and then any number of `traffic` lines, each with one or more `frame` lines after it, or one or
 //! more `frame2` lines.
 //!
 //! A script is read twice. First its statements are judged one after another, without memory; only

@@ -13,7 +13,7 @@ use symbol_path::Rate;
 /// The most bits of a cycle up to the end of its last capsule, SCI bits among them.
 const MOST_CYCLE_BITS: u32 = 8192;
 
-/// How many bits of a capsule stand before and behind its body: its length and its check
+/// How many bits of a capsule stand before and after its body: its length and its check
 /// (TIA/EIA-95-B, 7.7.2).
 const CAPSULE_BITS: u32 = 38;
 
@@ -68,7 +68,7 @@ fn half_frame_body(rate: Rate) -> u32
     }
 }
 
-/// How many body bits of the half-frame under way are left behind so many.
+/// How many body bits of the half-frame under way are left after so many.
 fn bits_left(size: u32, count: u16) -> u32
     requires some { 1 ≤ size }
     requires most { size ≤ 95 }
@@ -79,7 +79,7 @@ fn bits_left(size: u32, count: u16) -> u32
     (size - u32::from(count) % size) % size
 }
 
-/// How many body bits a cycle has behind one more page. It begins with a half-frame unless it
+/// How many body bits a cycle has after one more page. It begins with a half-frame unless it
 /// follows at once.
 fn count_behind(rate: Rate, count: u16, page: &Page) -> u32
     ensures value { result ≡ count_behind rate count page.now }
@@ -92,7 +92,7 @@ fn count_behind(rate: Rate, count: u16, page: &Page) -> u32
     u32::from(count) + bits_left(half_frame_body(rate), count) + capsule
 }
 
-/// Whether a page may stand behind so many body bits: one that follows at once needs room for its
+/// Whether a page may stand after so many body bits: one that follows at once needs room for its
 /// capsule's length in the half-frame.
 fn may_follow(rate: Rate, count: u16, follows: bool) -> bool
     ensures { result ≡ may_follow rate count follows }
@@ -113,7 +113,7 @@ fn is_cycle(rate: Rate, count: u32) -> bool
     count + (count + size - 1) / size <= MOST_CYCLE_BITS
 }
 
-/// The stage behind a page that stands behind so many body bits of its cycle.
+/// The stage after a page that stands after so many body bits of its cycle.
 #[tactic(auto, unfolding(crate::specs::ScriptStages::pages_behind))]
 fn pages_behind(rate: Rate, count: u16, page: &Page) -> Option<Stage>
     ensures { result ≡ pages_behind rate count page.now }
@@ -131,7 +131,7 @@ fn pages_behind(rate: Rate, count: u16, page: &Page) -> Option<Stage>
     })
 }
 
-/// What may stand behind a `sync` line: traffic channels, and before them paging channels where its
+/// What may stand after a `sync` line: traffic channels, and before them paging channels where its
 /// message says that they have 9600 or 4800 bits per second (TIA/EIA-95-B, 7.7.1.3).
 fn behind_sync(sync: &SyncPlan) -> Stage
     ensures { result ≡ behind_sync sync.now }
@@ -144,7 +144,7 @@ fn behind_sync(sync: &SyncPlan) -> Stage
 }
 
 impl Stage {
-    /// What may stand behind a statement; `None` where it can't stand.
+    /// What may stand after a statement; `None` where it can't stand.
     pub fn after(self, statement: &Statement) -> Option<Stage>
         ensures { result ≡ next_stage self statement.now }
     {

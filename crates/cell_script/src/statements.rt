@@ -37,11 +37,11 @@ pub enum Statement {
     Pilot(PilotPlan),
     /// Its sync channel.
     Sync(SyncPlan),
-    /// One more paging channel, whose pages the lines behind state.
+    /// One more paging channel, whose pages the lines after state.
     Paging(PagingLine),
     /// One more page of that channel.
     Page(Page),
-    /// One more traffic channel, whose frames the lines behind state.
+    /// One more traffic channel, whose frames the lines after state.
     Traffic(TrafficLine),
     /// One more frame of that channel, of rate set 1.
     Frame(TrafficFrame),
@@ -220,7 +220,7 @@ fn local_numbers(fields: &mut Fields<'_>) -> Option<TableNumbers>
     ])
 }
 
-/// What a `sync` line says by its gain, its numbers and the fields behind them.
+/// What a `sync` line says by its gain, its numbers and the fields after them.
 #[tactic(auto, unfolding(crate::specs::ScriptLines::sync_behind))]
 fn sync_behind(
     gain: u16,

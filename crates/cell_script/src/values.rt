@@ -147,7 +147,7 @@ fn hex_digit(byte: u8) -> Option<u8>
     Some(value as u8)
 }
 
-/// A number with one more hex digit behind it.
+/// A number with one more hex digit after it.
 fn with_hex_digit(number: u64, digit: u8) -> u64
     requires number { number < 16 ^ 11 }
     requires digit { digit < 16 }
@@ -223,7 +223,7 @@ fn bits_of(octets: &[u8]) -> Bits
 }
 
 /// The first so many bits of octets, if there are just as many octets as they need, and the bits
-/// behind them are 0.
+/// after them are 0.
 fn unpadded(count: u16, bits: &Bits) -> Option<Bits>
     requires { count ≤ 1184 }
     ensures { result ≡ unpadded count bits.now }

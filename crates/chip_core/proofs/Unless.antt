@@ -103,7 +103,7 @@ next_best-first taken f (suc n) best none start e =
     (value_of_taken taken f best before)
     ∙ ap (λ (y : Option ℤ). pick (suc n) best None y) (value_of_free taken f (suc n) e)
 
--- a number that isn't taken, behind others
+-- a number that isn't taken, after others
 takes : (taken : List ℕ) (f : ℕ → ℤ) (n best : ℕ) → IsGreatestUnless taken f n best →
     list_any (nat_eq n) taken ≡ false → f best <ℤ f n → IsGreatestUnless taken f (n + 1) n
 takes taken f n best is e more = record {

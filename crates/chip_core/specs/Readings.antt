@@ -2,11 +2,11 @@
 use Rattle.std.specs.Prelude.{ℕ, zero, suc, Bool, List, [], ◌∷◌, take, drop}
 use Rattle.chip_core.specs.Bits.{number}
 
--- the number of the first so many bits behind a place
+-- the number of the first so many bits after a place
 abbrev pub number_at : ℕ → ℕ → List Bool → ℕ
 number_at place width bits = number (take width (drop place bits))
 
--- the numbers of fields of these widths, one behind another
+-- the numbers of fields of these widths, one after another
 abbrev pub values_at : List ℕ → List Bool → List ℕ
 values_at [] bits = []
 values_at (width ∷ widths) bits = number_at 0 width bits ∷ values_at widths (drop width bits)

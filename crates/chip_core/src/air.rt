@@ -45,7 +45,7 @@ pub const SET_TWO_FRAME_BITS: u16 = 288;
 /// state zero (7.1.3.5).
 pub const TAIL_BITS: u8 = 8;
 
-/// The most frames that are decoded together: one, the one before it and the one behind it.
+/// The most frames that are decoded together: one, the one before it and the one after it.
 pub const SPAN_FRAMES: u16 = 3;
 
 /// The most bits of frames that are decoded together.
@@ -72,7 +72,7 @@ pub const PILOT_ROW: u8 = 0;
 /// The Walsh row of the sync channel (7.1.3.1.8).
 pub const SYNC_ROW: u8 = 32;
 
-/// How many bits of a capsule a frame of the sync channel has, behind its SOM bit (7.7.1.2).
+/// How many bits of a capsule a frame of the sync channel has, after its SOM bit (7.7.1.2).
 pub const SYNC_BODY_BITS: u16 = 31;
 
 /// How many bits of a capsule the three frames of a superframe have (7.7.1.2).

@@ -20,7 +20,7 @@ pub fn digits_in(text: &[u8]) -> Option<u128>
     Some(number)
 }
 
-/// A number with one more digit behind it.
+/// A number with one more digit after it.
 fn with_digit(number: u128, digit: u8) -> u128
     requires number { number < 10 ^ 20 }
     requires digit { is_ascii_digit digit ≡ true }

@@ -2,5 +2,5 @@
 pub mod Times
 pub mod Scores
 pub mod Heard
--- those of any channel that is heard, of the sync channel, and of a paging channel behind the mark
+-- those of any channel that is heard, of the sync channel, and of a paging channel after the mark
 pub mod ChannelFrames

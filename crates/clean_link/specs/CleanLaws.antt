@@ -1,5 +1,5 @@
 -- What a clean link, and a link with bounded noise, gives back of the sync channel and of paging
--- channels, the latter behind a true mark with the sync message's PRAT.
+-- channels, the latter after a true mark with the sync message's PRAT.
 use Rattle.std.specs.Prelude.{ℕ, ◌+◌, ◌<◌, ◌≡◌, true, false, nat_lt, length, replicate, pos}
 use Rattle.std.specs.Prelude.{is_some, None, Some, List, ◌*◌, ◌≤◌, ◌≢◌, All, Bool}
 use Rattle.std.specs.List.{flat_map, Contains}
@@ -160,7 +160,7 @@ abbrev pub ordered_symbols : Cycle → ℕ → List Bool
 ordered_symbols c frame =
     sent data_shape (repeats_of c.rate) (continued_symbols (cycle_frame_bits c) frame)
 
--- Something holds of frame k behind a true mark of a paging channel that is sent, where the frame
+-- Something holds of frame k after a true mark of a paging channel that is sent, where the frame
 -- lies in the file.
 abbrev pub HoldsOfPaging : (CellPlan → PagingPlan → Tuning → Mark → ℕ → ℕ → Type 0) → Type 0
 HoldsOfPaging P = (width : Width) (plan : CellPlan) (sync : SyncPlan) (p : PagingPlan) (t : Tuning)
@@ -169,7 +169,7 @@ HoldsOfPaging P = (width : Width) (plan : CellPlan) (sync : SyncPlan) (p : Pagin
     IsTrueMark plan m superframes → m.prat ≡ sync.message.prat →
     is_in_file t.count (paging_stream t p.number m) k ≡ true → P plan p t m superframes k
 
--- Frame k behind the mark is the frame that the channel sends k frames behind the mark's
+-- Frame k after the mark is the frame that the channel sends k frames after the mark's
 -- superframe, of which each has four. Its soft values are one positive number times the signs of
 -- the symbols before scrambling.
 abbrev pub PagingHaveSentSigns : Type 0

@@ -29,20 +29,20 @@ is_hidden lost j nine =
     not (is_kept lost (2 * j) && symbol g0 nine 0) &&
     not (is_kept lost (2 * j + 1) && symbol g1 nine 0)
 
--- whether n bits from bit j on, behind these eight, never end in eight zeros while all are hidden
+-- whether n bits from bit j on, after these eight, never end in eight zeros while all are hidden
 unfoldable pub stays_apart : List ℕ → ℕ → ℕ → List Bool → Bool
 stays_apart lost zero j eight = list_any (λ bit. bit) eight
 stays_apart lost (suc n) j eight =
     list_all (λ nine. stays_apart lost n (j + 1) (drop 1 nine))
     (filter (is_hidden lost j) ((eight ++ false ∷ []) ∷ (eight ++ true ∷ []) ∷ []))
 
--- whether a 1 as bit j, the first behind zeros, leads to none of 192 hidden bits that end in zeros
+-- whether a 1 as bit j, the first after zeros, leads to none of 192 hidden bits that end in zeros
 abbrev pub is_seen : List ℕ → ℕ → Bool
 is_seen lost j =
     list_all (λ nine. stays_apart lost (191 - j) (j + 1) (drop 1 nine))
     (filter (is_hidden lost j) ((replicate 8 false ++ true ∷ []) ∷ []))
 
--- so whether no two codewords of 192 bits, which begin behind zeros and end in eight zeros, have
+-- so whether no two codewords of 192 bits, which begin after zeros and end in eight zeros, have
 -- the same kept symbols
 abbrev pub tells_all_bits : List ℕ → Bool
 tells_all_bits lost = list_all (is_seen lost) (places 192)
@@ -75,7 +75,7 @@ gives shown j nine =
     list_all (beq (symbol g0 nine 0)) (shown (2 * j)) &&
     list_all (beq (symbol g1 nine 0)) (shown (2 * j + 1))
 
--- the codewords of n bits, from bit j on behind these eight, that give all that is shown of their
+-- the codewords of n bits, from bit j on after these eight, that give all that is shown of their
 -- code symbols, and end in eight zeros
 unfoldable pub codewords_giving : (ℕ → List Bool) → ℕ → ℕ → List Bool → List (List Bool)
 codewords_giving shown zero j eight = if list_any (λ bit. bit) eight then [] else [] ∷ []

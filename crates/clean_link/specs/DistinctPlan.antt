@@ -1,4 +1,4 @@
--- A cell with a mark, and behind it a distinct frame of each rate of both rate sets.
+-- A cell with a mark, and after it a distinct frame of each rate of both rate sets.
 use Rattle.std.specs.Prelude.{◌≡◌, ℕ, true, All, Bool, List, [], ◌∷◌, ◌++◌, map, replicate, pos}
 use Rattle.std.specs.Prelude.{negsuc, Some}
 use Rattle.std.specs.List.{Contains, flat_map}

@@ -29,7 +29,7 @@ abbrev bits_in : Event → ℕ
 bits_in (Frame n rate good bits power_bits) = length bits
 bits_in event = 0
 
--- when the frames behind superframe 8 end, and how many information bits they have
+-- when the frames after superframe 8 end, and how many information bits they have
 heard : CellPlan → ℕ → List (ℕ × ℕ)
 heard plan row = map (λ (e : Event). (at_of e, bits_in e)) (frames_sent plan row 786432)
 

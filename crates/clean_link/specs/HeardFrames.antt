@@ -87,7 +87,7 @@ replaced_of plan p frame = power_places (frame_state (frames_of plan p) frame) (
 abbrev pub frame_chip : TrafficPlan → ℕ → ℕ
 frame_chip p frame = frame_offset_chips * p.offset + data_frame_chips * frame
 
--- whether it begins at the mark or behind it, and lies in the file; the mark is at this local chip
+-- whether it begins at the mark or after it, and lies in the file; the mark is at this local chip
 abbrev pub is_received : CellPlan → TrafficPlan → ℕ → ℕ → Bool
 is_received plan p mark_chip frame =
     nat_le mark_chip (frame_chip p frame) && nat_le (frame_chip p (frame + 1)) (end_chip plan)

@@ -16,7 +16,7 @@ use Rattle.clean_link.specs.CleanLink.{heard_behind, IsOnPath, IsTrueMark}
 
 -- ---- what is heard
 
--- the capsules that the bits of frame k end, behind those of the frames before it
+-- the capsules that the bits of frame k end, after those of the frames before it
 abbrev pub frame_capsules : ℕ → (ℕ → List Bool) → ℕ → List (List Bool)
 frame_capsules size own k =
     flat_map
@@ -44,7 +44,7 @@ pub record Placed : Type 0 where
   pub last : ℕ
   pub page : Page
 
--- the pages behind so many body bits, where the run under way began in this half-frame
+-- the pages after so many body bits, where the run under way began in this half-frame
 abbrev pub placed : ℕ → CheckForm → ℕ → ℕ → List Page → List Placed
 placed size form at run [] = []
 placed size form at run (page ∷ pages) =
@@ -58,7 +58,7 @@ placed size form at run (page ∷ pages) =
 abbrev pub cycle_half_frames : Rate → CheckForm → List Page → ℕ
 cycle_half_frames rate form pages = length (page_cycle rate form pages) / (half_frame_body rate + 1)
 
--- whether a transmission of a page, so many half-frames behind the first one, begins its run in
+-- whether a transmission of a page, so many half-frames after the first one, begins its run in
 -- half-frame `low` or later and ends before half-frame `high`
 abbrev pub is_between : ℕ → ℕ → ℕ → Placed → Bool
 is_between low high half_frames p =
@@ -82,8 +82,8 @@ sendings_between rate form pages first n rounds =
 
 -- ---- in a file
 
--- whether a transmission of a page, so many half-frames behind the first one, begins its run at a
--- mark or behind it, and ends in a frame that the file holds whole; both are local chips
+-- whether a transmission of a page, so many half-frames after the first one, begins its run at a
+-- mark or after it, and ends in a frame that the file holds whole; both are local chips
 abbrev pub is_whole_page : ℕ → ℕ → ℕ → Placed → Bool
 is_whole_page mark_chip end_chip half_frames p =
     nat_le mark_chip (12288 * (half_frames + p.run)) &&
@@ -140,7 +140,7 @@ known_page n page = record { at = n; capsule = page.capsule; message = page.mess
 
 -- ---- what is heard
 
--- the pages of a channel, behind a mark that may be set, that are known within the first n samples,
+-- the pages of a channel, after a mark that may be set, that are known within the first n samples,
 -- in order
 abbrev pub pages_within : Tuning → ℕ → Option Mark → List Sample → ℕ → List KnownPage
 pages_within t channel m samples n =
@@ -152,7 +152,7 @@ pages_within t channel m samples n =
 abbrev pub message_in : List Bool → PagingMessage
 message_in body = message_at (number_at 0 8 body) (drop 8 body)
 
--- what a handset tells of a transmission of a page, so many half-frames behind the first one, when
+-- what a handset tells of a transmission of a page, so many half-frames after the first one, when
 -- it knows the frame of its last bit
 abbrev pub page_told : CellPlan → ℕ → Placed → KnownPage
 page_told plan half_frames p = record {
@@ -167,7 +167,7 @@ abbrev pub placed_pages : CellPlan → PagingPlan → List Placed
 placed_pages plan p =
     placed (half_frame_body (paging_rate plan.sync)) plan.cell.check30 0 0 p.pages
 
--- the local chip behind the file's last one
+-- the local chip after the file's last one
 abbrev pub end_chip : CellPlan → ℕ
 end_chip plan = plan.link.start + plan.link.samples
 
@@ -196,7 +196,7 @@ pages_sent plan channel mark_chip = pages_numbered plan plan.paging channel mark
 
 -- ---- the law
 
--- A handset hears the whole pages of a channel behind its mark, each when it knows the frame of its
+-- A handset hears the whole pages of a channel after its mark, each when it knows the frame of its
 -- last bit, in order, and nothing else, where no traffic channel has the channel's row.
 abbrev pub PagesComeBack : Type 0
 PagesComeBack = (width : Width) (plan : CellPlan) (sync : SyncPlan) (t : Tuning) (channel : ℕ)

@@ -22,14 +22,14 @@ cell samples = cell_with 0 samples Plain None (record {
   pages = page false 20 ∷ page true 21 ∷ page false 22 ∷ [];
 } ∷ []) []
 
--- when the pages behind superframe 8 are known, and their message types
+-- when the pages after superframe 8 are known, and their message types
 heard : ℕ → ℕ → List (ℕ × ℕ)
 heard samples channel =
     map (λ (known : KnownPage). (known.at, number_at 8 8 known.capsule))
     (pages_sent (cell samples) channel 786432)
 
--- The mark lies behind the first half-frame of a round, so that round's run isn't whole. The file
--- ends with three frames behind the mark.
+-- The mark lies after the first half-frame of a round, so that round's run isn't whole. The file
+-- ends with three frames after the mark.
 three_frames : heard 860160 1 ≡
     (835584, 22) ∷ (860160, 20) ∷ (860160, 21) ∷ (860160, 22) ∷ (860160, 20) ∷ []
 unfolding heard cell page pages_sent page_cycle half_frames_of framed laid_on fill
@@ -42,7 +42,7 @@ unfolding heard cell page pages_sent page_cycle half_frames_of framed laid_on fi
     capsule check_bits places binary
 two_frames = refl
 
--- a mark behind the file, and a channel that isn't sent
+-- a mark after the file, and a channel that isn't sent
 before_the_mark : heard 786431 1 ≡ []
 unfolding heard cell page pages_sent page_cycle half_frames_of framed laid_on fill
     capsule check_bits places binary

@@ -59,11 +59,11 @@ pub record IsSentFrame2 (plan : CellPlan) (p : TrafficPlan) (frame : ℕ) (f : T
   pub decoded : IsDistinctFrame2 (replaced_of plan p frame) f →
       decoded2 (replaced_of plan p frame) soft.descrambled ≡ sent_decoded2 plan p frame f
 
--- ---- behind a mark
+-- ---- after a mark
 
--- Soft frames that are just a channel's frames that begin at the mark or behind it and lie in the
+-- Soft frames that are just a channel's frames that begin at the mark or after it and lie in the
 -- file, in order, one for each of them, of which something is true; the first whole transmission
--- tells how many superframes the mark is behind local chip 0.
+-- tells how many superframes the mark is after local chip 0.
 pub record AreReceived (plan : CellPlan) (p : TrafficPlan) (Is : ℕ → SoftFrame → Type 0)
     (frames : List SoftFrame) : Type 0 where
   pub superframes : ℕ

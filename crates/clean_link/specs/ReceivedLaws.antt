@@ -36,7 +36,7 @@ SetTwoSends = (plan : CellPlan) (p : TrafficPlan) (frame : ℕ) (f : TrafficFram
 -- ---- what is received
 
 -- The frames that are received are, in order, one for each frame of the channel that begins at the
--- mark or behind it and lies in the file: each superframe has four. So it is in any file that is as
+-- mark or after it and lies in the file: each superframe has four. So it is in any file that is as
 -- long as the cell's, whatever its samples are.
 abbrev pub EachFrameIsReceived : Type 0
 EachFrameIsReceived = (width : Width) (plan : CellPlan) (p : TrafficPlan) (t : Tuning)
@@ -75,7 +75,7 @@ SetTwoFramesComeBack = (plan : CellPlan) (p : TrafficPlan) (frame : ℕ) (f : Tr
 
 -- ---- in a file
 
--- Behind the mark of a file's samples just the channel's frames are received that begin there or
+-- After the mark of a file's samples just the channel's frames are received that begin there or
 -- later and lie in the file, in order, and each shows what it sends.
 abbrev pub FramesBehindMark : Type 0
 FramesBehindMark = (width : Width) (plan : CellPlan) (p : TrafficPlan) (t : Tuning)

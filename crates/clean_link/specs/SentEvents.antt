@@ -46,7 +46,7 @@ abbrev pub told_by_first : CellPlan → SyncFields → List ℕ → Option ℕ
 told_by_first plan m [] = None
 told_by_first plan m (sending ∷ sendings) = Some (told_superframes plan.cell m sending)
 
--- what it tells of the whole pages of a channel behind the mark, where one is set
+-- what it tells of the whole pages of a channel after the mark, where one is set
 abbrev pub pages_behind_mark : CellPlan → ℕ → Option ℕ → List Event
 pages_behind_mark plan channel None = []
 pages_behind_mark plan channel (Some superframes) =
@@ -80,7 +80,7 @@ told_followed sent (Some traffic) None = []
 told_followed sent (Some traffic) (Some superframes) =
     sent traffic.row (superframe_chips * superframes)
 
--- its frames behind the mark
+-- its frames after the mark
 unfoldable pub traffic_sent : CellPlan → Option Traffic → List Event
 traffic_sent plan followed =
     told_followed (frames_sent plan) followed (told_with_sync plan plan.sync)

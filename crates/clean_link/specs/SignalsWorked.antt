@@ -47,7 +47,7 @@ frames =
 cell : ℕ → CellPlan
 cell samples = cell_of_frames 0 samples Complemented frames
 
--- Behind superframe 8 the message begins in frame 33 and ends in frame 35, at that frame's end.
+-- After superframe 8 the message begins in frame 33 and ends in frame 35, at that frame's end.
 in_two_frames : messages_sent (cell 887808) 9 786432 ≡ Traffic 887808 spelled message ∷ []
 unfolding cell frames slow signaling spelled message messages_sent split split_9600 capsule_ending
     front_capsule is_stated traffic_reading traffic_capsule message_body spelling body_reading
@@ -63,7 +63,7 @@ unfolding cell frames slow signaling spelled message messages_sent split split_9
     number_part part_at records_at capsule check_bits binary places
 cut_short = refl
 
--- a mark behind the beginning of its first frame
+-- a mark after the beginning of its first frame
 begun_before : messages_sent (cell 887808) 9 814081 ≡ []
 unfolding cell frames slow signaling spelled message messages_sent split split_9600 capsule_ending
     front_capsule is_stated traffic_reading traffic_capsule message_body spelling body_reading

@@ -1,4 +1,4 @@
--- What a clean link, and a link with bounded noise, gives back of a traffic channel, behind a true
+-- What a clean link, and a link with bounded noise, gives back of a traffic channel, after a true
 -- mark (TIA/EIA-95-B, 7.1.3.5).
 use Rattle.std.specs.Prelude.{ℕ, ◌+◌, ◌-◌, ◌*◌, ◌<◌, ◌≤◌, ◌≡◌, true, List, [], ◌∷◌, length, map}
 use Rattle.std.specs.Prelude.{pos, All, ℤ, ◌<ℤ◌, ◌/◌, Bool, false, get_or}
@@ -22,7 +22,7 @@ use Rattle.rate_set_two.specs.TrafficFrames as second
 use Rattle.clean_link.specs.ReceivedFrames.{codeword_symbols2, IsDistinctFrame2, IsReceivedAs}
 use Rattle.clean_link.specs.BoundedNoise.{Bears, IsNear}
 
--- A handset behind a true mark, which was assigned a traffic channel that the cell sends.
+-- A handset after a true mark, which was assigned a traffic channel that the cell sends.
 pub record HearsTraffic (width : Width) (plan : CellPlan) (p : TrafficPlan) (t : Tuning)
     (traffic : Traffic) (m : Mark) (superframes : ℕ) : Type 0 where
   pub receivable : IsReceivable width plan
@@ -31,8 +31,8 @@ pub record HearsTraffic (width : Width) (plan : CellPlan) (p : TrafficPlan) (t :
   pub tuned : IsOnPath plan t
   pub marked : IsTrueMark plan m superframes
 
--- Frame k behind the mark is heard from the reference's pilot alone, lies in the file, and is this
--- one, which the channel sends k frames behind the first that begins at the mark's superframe or
+-- Frame k after the mark is heard from the reference's pilot alone, lies in the file, and is this
+-- one, which the channel sends k frames after the first that begins at the mark's superframe or
 -- later: each superframe has four.
 pub record IsHeardAs (plan : CellPlan) (p : TrafficPlan) (t : Tuning) (traffic : Traffic)
     (m : Mark) (legs : ℕ → List Leg) (superframes k : ℕ) (f : TrafficFrame) : Type 0 where
@@ -101,7 +101,7 @@ SixteenPowerBitsAreSent =
 -- ---- in a file
 
 -- Where no handoff is directed there is one event for each frame of the channel that begins at the
--- mark or behind it and lies in the file, at the frame's own end, in order. It is what any pilots
+-- mark or after it and lies in the file, at the frame's own end, in order. It is what any pilots
 -- tell of whom the reference's is the only one.
 abbrev pub EachFrameIsHeard : Type 0
 EachFrameIsHeard = (width : Width) (plan : CellPlan) (p : TrafficPlan) (t : Tuning)
@@ -194,7 +194,7 @@ IsOnlyBestFrame = IsOnlyBestIn format_of
 abbrev pub IsOnlyBestFrame2 : List ℕ → List ℤ → Rate2 → Codeword → Type 0
 IsOnlyBestFrame2 = IsOnlyBestIn second.format_of
 
--- So it is of the codeword of a distinct frame that a handset hears behind a true mark,
+-- So it is of the codeword of a distinct frame that a handset hears after a true mark,
 abbrev pub HeardAreTheOnlyBest : Type 0
 HeardAreTheOnlyBest = HoldsOfCleanFrames (λ plan p t traffic m legs k f.
     IsDistinctFrame (replaced_in traffic m k) f →

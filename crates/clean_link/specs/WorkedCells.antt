@@ -15,7 +15,7 @@ cell_with start samples check16 sync paging traffic = record {
   traffic = traffic;
 }
 
--- one with a traffic channel alone, on row 9, 3,072 chips behind the system's frames
+-- one with a traffic channel alone, on row 9, 3,072 chips after the system's frames
 abbrev pub cell_of_frames : ℕ → ℕ → CheckForm → List TrafficFrame → CellPlan
 cell_of_frames start samples check16 frames = cell_with start samples check16 None [] (record {
   row = 9;

@@ -1,8 +1,8 @@
 //! Laws of the definitions: each function does nothing, and its contract is the law.
 //!
 //! Those of any channel hold of what is sent on any Walsh row, to any stream with one finger on the
-//! path; those of the sync channel are their first case, and those of the paging channels behind a
-//! mark their second. Soft values of a traffic channel behind a mark are a third. Those of a cycle
+//! path; those of the sync channel are their first case, and those of the paging channels after a
+//! mark their second. Soft values of a traffic channel after a mark are a third. Those of a cycle
 //! of pages speak of bits alone.
 
 ghost use Rattle.clean_link.specs.BoundedNoise.{LessIsBorne, MarginsAreOne, NoNoiseIsBorne};
@@ -117,7 +117,7 @@ pub fn marks_are_true()
 
 /// Heard from any of its frames on, a paging channel's half-frames end just the capsules of the
 /// pages whose run begins there or later, once for each round of the cycle, in order, each in the
-/// frame of its last bit. So behind a mark a handset hears the pages that the file holds whole from
+/// frame of its last bit. So after a mark a handset hears the pages that the file holds whole from
 /// there on, each with its message, when it knows that frame, and nothing else; of a channel that
 /// isn't sent it hears nothing.
 pub fn whole_pages_come_back()
@@ -133,7 +133,7 @@ pub fn whole_pages_come_back()
 /// signs of its symbols and of its power control bits, where V is 1,536 and C 64. So its power
 /// control bits come back, and where no other codeword of any rate shares its symbols at the places
 /// that they leave, its rate and its information bits, as a good frame. In a file without a
-/// direction there is one event behind a mark for each frame that begins there or later and lies in
+/// direction there is one event after a mark for each frame that begins there or later and lies in
 /// the file, at the frame's own end. Where each of these is distinct, the messages are those that
 /// the capsules in their signaling spell, each at the end of the frame with its capsule's last bit.
 /// Then none is heard that directs a handoff where none is sent.
@@ -150,10 +150,10 @@ pub fn traffic_frames_come_back()
 {}
 
 /// Of the reference base station alone the frames of a traffic channel are received that begin at
-/// the mark or behind it and lie in the file, in order, each at its own end, whatever messages are
+/// the mark or after it and lie in the file, in order, each at its own end, whatever messages are
 /// heard. Each shows what it sends, of whichever rate set, so its power control bits come back; and
 /// where no other codeword of any rate of rate set 2 shares the symbols of a frame of that set at
-/// the places that they leave, its rate and its information bits, as a good frame. Behind the mark
+/// the places that they leave, its rate and its information bits, as a good frame. After the mark
 /// that the first whole transmission of the sync channel tells that is so of any file that holds
 /// what the cell sends.
 pub fn frames_are_received_of_the_reference()
@@ -182,7 +182,7 @@ pub fn whole_messages_come_back()
 /// Where no handoff is directed, a handset hears of the sync channel just the whole transmissions;
 /// of the paging channel that it follows just the whole pages, where the cell sends the channel or
 /// no traffic channel has its row; and of a traffic channel that it follows, where the cell sends
-/// the channel with frames of rate set 1, one frame for each that begins at the mark or behind it
+/// the channel with frames of rate set 1, one frame for each that begins at the mark or after it
 /// and lies in the file, with its power control bits, and with its rate and its information bits,
 /// as a good frame, where it is distinct; and where each of them is, just the messages that the
 /// signaling in them spells.
@@ -281,7 +281,7 @@ pub fn each_channel_comes_back_through_noise()
 /// shows by the signs of its soft values what it sends, of whichever rate set, so its power control
 /// bits come back. Where no other codeword of any rate of its rate set shares its symbols at the
 /// places that they leave, its codeword alone has the greatest score; then a frame of rate set 2
-/// comes back, rate and information bits, as a good frame. Behind the mark that the first whole
+/// comes back, rate and information bits, as a good frame. After the mark that the first whole
 /// transmission of the sync channel tells that is so of any near file in which the sync channel
 /// bears the noise too.
 pub fn noisy_frames_are_received()

@@ -10,7 +10,7 @@ use Rattle.command_line.proofs.Common.{EightDigits, Given, OptionEntry, Text, ad
 use Rattle.command_line.proofs.Common.{is_named_in, joined, names, number_in, part_by, part_of, parted, eight_digits_in, spelled_in}
 use Rattle.command_line.proofs.Common.{text_in, value_in}
 
--- ---- an item of a list behind the first k of them
+-- ---- an item of a list after the first k of them
 
 get_or-of-map : {X Y : Type 0} (g : X → Y) (xs : List X) (k : ℕ) (d : X) →
     get_or (map g xs) k (g d) ≡ g (get_or xs k d)
@@ -185,7 +185,7 @@ Part = Text × Text × ℕ
 same_part : (one other : Part) → Some one ≡ Some other → one ≡ other
 same_part one other e = ap (λ (o : Option Part). unwrap_or o one) e
 
--- the arguments behind one option
+-- the arguments after one option
 behind_one : (entries : List OptionEntry) (given : Given) (arg name text : Text) (args : List Text) →
     long_of arg ≡ Some (name, Some text) →
     given_behind entries (Some given) (arg ∷ args)

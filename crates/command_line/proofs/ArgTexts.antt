@@ -1,4 +1,4 @@
--- Lemmas on the texts of options, as the arguments behind a command give them.
+-- Lemmas on the texts of options, as the arguments after a command give them.
 use Rattle.command_line.proofs.Common.{◌≡◌, ◌++◌, ◌∙◌, Bool, true, false, if◌then◌else◌, List, [], ◌∷◌, refl, sym, ap, rules, find}
 use Rattle.command_line.proofs.Common.{option_map, option_and_then, Option, None, Some, option_map_or, bytes_eq, long_of, Given}
 use Rattle.command_line.proofs.Common.{OptionEntry, Text, added, given_behind, is_joined, joined, part_by, parted, text_in, text_of}
@@ -56,12 +56,12 @@ text_of-added entries option text before after name e =
 
 -- ---- all arguments
 
--- the texts of the arguments stand behind those that were given before
+-- the texts of the arguments stand after those that were given before
 abbrev Adds : Text → Given → List Text → Given → Type 0
 Adds name before args given =
     first_text (text_of name before) (text_in name args) ≡ text_of name given
 
--- an option and its text, and the arguments behind them
+-- an option and its text, and the arguments after them
 adds_one : (entries : List OptionEntry) (name option text : Text) (before onward given : Given)
     (args rest : List Text) → added entries option text before ≡ Some onward →
     text_in name args ≡ (if bytes_eq option name then Some text else text_in name rest) →
@@ -162,7 +162,7 @@ args_add entries name (arg ∷ text ∷ args) before given e =
     go (Some (option, None)) long is first second =
         on_parted option long (added entries option text before) refl is second
 
--- the text of an option stands behind the first argument that names it
+-- the text of an option stands after the first argument that names it
 pub texts_given : (entries : List OptionEntry) (args : List Text) (given : Given) (name : Text) →
     given_behind entries (Some []) args ≡ Some given → text_in name args ≡ text_of name given
 texts_given entries args given name is = args_add entries name args [] given is

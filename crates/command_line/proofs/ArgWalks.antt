@@ -95,7 +95,7 @@ entry_has : (name : Text) (given : Given) → has_row name (found_rows given) �
 entry_has name [] = refl
 entry_has name (p ∷ given) = ap (λ (b : Bool). bytes_eq p.0 name || b) (entry_has name given)
 
--- a use of an option that wasn't given before puts its row behind the others
+-- a use of an option that wasn't given before puts its row after the others
 at_missing : (name : Text) (change : Row → List Row) (missing : List Row) (given : Given) →
     has_name name given ≡ false → at_row name change missing (found_rows given)
     ≡ found_rows given ++ missing
@@ -113,7 +113,7 @@ rows_more : (given : Given) (p : Text × Text) →
     found_rows given ++ row p ∷ [] ≡ found_rows (given ++ p ∷ [])
 rows_more given p = sym (map-append row given (p ∷ []))
 
--- the rows behind one use of an option that wasn't given before
+-- the rows after one use of an option that wasn't given before
 used_new : (name text : Text) (given : Given) → has_name name given ≡ false →
     used (opt name) (text ∷ []) (found_rows given) ≡ found_rows (given ++ (name, text) ∷ [])
 used_new name text given fresh =

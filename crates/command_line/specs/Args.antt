@@ -323,7 +323,7 @@ is_allowed entries name text =
     option_map_or (λ entry. is_some (value_in entry.form text))
     (find (λ entry. bytes_eq entry.name name) entries) false
 
--- ---- the options behind a command
+-- ---- the options after a command
 
 -- what was given: names, each with the text of its value
 abbrev pub Given : Type 0
@@ -338,7 +338,7 @@ added entries name text given =
     if is_allowed entries name text && not (has_name name given)
     then Some (given ++ (name, text) ∷ []) else None
 
--- an argument `--name=VALUE`, and an argument `--name` with the argument behind it
+-- an argument `--name=VALUE`, and an argument `--name` with the argument after it
 abbrev pub joined : List OptionEntry → Option (Text × Option Text) → Given → Option Given
 joined entries (Some (name, Some text)) given = added entries name text given
 joined entries _ given = None
@@ -351,7 +351,7 @@ abbrev pub is_joined : Option (Text × Option Text) → Bool
 is_joined (Some (name, Some text)) = true
 is_joined _ = false
 
--- what arguments give behind what was given before them; none where they aren't options of the
+-- what arguments give after what was given before them; none where they aren't options of the
 -- table
 unfoldable pub given_behind : List OptionEntry → Option Given → List Text → Option Given
 given_behind entries given [] = given
@@ -380,19 +380,19 @@ numbers_by entries texts = map (λ entry. number_by entry (texts entry.name)) en
 abbrev pub job_with : CommandEntry → (Text → Option Text) → Option Job
 job_with entry texts = entry.job (numbers_by entry.options texts)
 
--- the job of a command with the arguments behind it
+-- the job of a command with the arguments after it
 unfoldable pub job_by : CommandEntry → List Text → Option Job
 job_by entry args =
     option_and_then (λ given. job_with entry (λ name. text_of name given))
     (given_behind entry.options (Some []) args)
 
--- the job of a command's name with the arguments behind it
+-- the job of a command's name with the arguments after it
 abbrev pub job_behind : Text → List Text → Option Job
 job_behind command args =
     option_and_then (λ entry. job_by entry args)
     (find (λ entry. pointwise nat_eq command entry.name) commands)
 
--- the job of the arguments: a command, and what stands behind it
+-- the job of the arguments: a command, and what stands after it
 unfoldable pub job_in : List Text → Option Job
 job_in [] = None
 job_in (command ∷ args) = job_behind command args
@@ -421,7 +421,7 @@ names name arg = option_map_or (λ p. bytes_eq p.0 name) (long_of arg) false
 abbrev pub is_named_in : Text → List Text → Bool
 is_named_in name args = list_any (names name) args
 
--- the text of an option, behind the first argument that names it
+-- the text of an option, after the first argument that names it
 abbrev pub text_in : Text → List Text → Option Text
 text_in name [] = None
 text_in name (arg ∷ args) =

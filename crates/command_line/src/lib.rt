@@ -1,6 +1,6 @@
 //! The arguments of the command line.
 //!
-//! [`words_of`] makes a [`Job`] of the arguments behind the program's name: a command, and its
+//! [`words_of`] makes a [`Job`] of the arguments after the program's name: a command, and its
 //! options in any order, each at most once, as `--name VALUE` or `--name=VALUE`. The options stand
 //! in one table, each with the form of its values and the number that stands where it isn't given;
 //! each command says which it takes, and which job their numbers make, if they go together. The

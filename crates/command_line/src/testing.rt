@@ -41,7 +41,7 @@ pub fn are_lawful(rules: &[OptionRule], args: &[String]) -> bool
     true
 }
 
-/// The text of the option of this name, behind the first argument that names it.
+/// The text of the option of this name, after the first argument that names it.
 pub fn text_in<'a>(args: &'a [String], name: &str) -> Option<&'a str>
     ensures { option_map (λ s. s.now) result ≡ text_in name.now (map string_bytes args.now) }
 {
@@ -129,14 +129,14 @@ fn option_of(arg: &str) -> Option<(&str, Option<&str>)>
     Some(name_and_value(rest))
 }
 
-/// What stands behind a first hyphen.
+/// What stands after a first hyphen.
 fn behind_hyphen(arg: &str) -> Option<&str>
     ensures { option_map (λ s. s.now) result ≡ strip_byte 45 arg.now }
 {
     arg.strip_prefix('-')
 }
 
-/// What stands before the first `=`, and what stands behind it, if there is one.
+/// What stands before the first `=`, and what stands after it, if there is one.
 fn name_and_value(text: &str) -> (&str, Option<&str>)
     ensures { (result.0.now, option_map (λ s. s.now) result.1) ≡ name_and_value text.now }
 {

@@ -18,7 +18,7 @@ pub trait Texts {
         ensures { option_map (λ s. s.now) result ≡ text_at self.now name.now };
 }
 
-/// The arguments behind a command.
+/// The arguments after a command.
 #[derive(Clone, Copy)]
 pub struct Args<'a> {
     /// All of them, in order.

@@ -1,4 +1,4 @@
--- The symbols of bits behind other bits.
+-- The symbols of bits after other bits.
 use Rattle.conv_code.proofs.Common.{◌≡◌, ℕ, zero, suc, ◌+◌, ◌-◌, ◌*◌, ◌<◌, ◌≤◌, Bool, true, false, List, [], ◌∷◌, ◌++◌, length, get_or, map}
 use Rattle.conv_code.proofs.Common.{drop, refl, sym, ap, ◌∙◌, arith, append_assoc, append-nil, length-append, length-drop, nat_le, flat_map}
 use Rattle.conv_code.proofs.Common.{list_all, get_or_append_left, get_or-drop, drop-append-le, drop-drop, flat_map-append, and_parts}

@@ -17,7 +17,7 @@ symbols_more start register xs symbols bit first second given state one two =
     let eight : length (binary 8 start) ≡ 8 = length-binary 8 start in
     rw (given, one, two, state) (sym (code_symbols-push (binary 8 start) xs bit eight))
 
--- the state behind one bit more
+-- the state after one bit more
 pub state_more : (start register next : ℕ) (xs : List Bool) (bit : Bool) →
     binary 8 register ≡ state_after (binary 8 start) xs →
     binary 8 next ≡ state_after (binary 8 register) (bit ∷ []) →

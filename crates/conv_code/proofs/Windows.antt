@@ -1,4 +1,4 @@
--- The register's window of nine bits against the bits behind eight others.
+-- The register's window of nine bits against the bits after eight others.
 use Rattle.conv_code.proofs.Common.{◌≡◌, ℕ, zero, suc, ◌+◌, ◌-◌, ◌*◌, ◌%◌, ◌^◌, ◌<◌, ◌≤◌, Bool, true, false, List, [], ◌∷◌, ◌++◌, length}
 use Rattle.conv_code.proofs.Common.{get_or, map, drop, refl, sym, ap, ◌∙◌, arith, length-append, length-drop, bit_and, nat_le, list_all}
 use Rattle.conv_code.proofs.Common.{get_or_append_left, get_or_push, get_or-drop, ext_get_or, and_parts, leb-true, bit_of, binary, digit}

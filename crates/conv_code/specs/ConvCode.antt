@@ -22,7 +22,7 @@ code_symbols start bits =
     flat_map (λ j. symbol g0 (start ++ bits) j ∷ symbol g1 (start ++ bits) j ∷ [])
     (places (length bits))
 
--- the last eight bits of the start bits and the bits behind them
+-- the last eight bits of the start bits and the bits after them
 abbrev pub state_after : List Bool → List Bool → List Bool
 state_after start bits = drop (length bits) (start ++ bits)
 
@@ -39,6 +39,6 @@ abbrev pub IsOnlyStart : List Bool → List Bool → Type 0
 IsOnlyStart symbols only =
     (start bits : List Bool) → length start ≡ 8 → code_symbols start bits ≡ symbols → start ≡ only
 
--- the only bit that gives this first symbol behind eight bits
+-- the only bit that gives this first symbol after eight bits
 abbrev pub IsBitFor : List Bool → Bool → Bool → Type 0
 IsBitFor state first only = (bit : Bool) → symbol g0 (state ++ bit ∷ []) 0 ≡ first → bit ≡ only

@@ -13,7 +13,7 @@ IsDistinctCode = (start start' bits bits' : List Bool) → length start ≡ 8 �
     code_symbols start bits ≡ code_symbols start' bits' →
     AreSameCodewords start start' bits bits'
 
--- bits behind others are encoded from the state that those leave
+-- bits after others are encoded from the state that those leave
 abbrev pub IsContinuedCode : Type 0
 IsContinuedCode = (start xs ys : List Bool) → length start ≡ 8 →
     code_symbols start (xs ++ ys) ≡ code_symbols start xs ++ code_symbols (state_after start xs) ys

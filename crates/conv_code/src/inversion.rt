@@ -63,7 +63,7 @@ fn bit_for(mut register: Register, first: bool) -> bool
 /// The one start state that can have given the symbols.
 ///
 /// The generators have no common factor, so for each k up to 15 there are polynomials a and b of
-/// degree below 8 with a g0 + b g1 = D^k. So each of the sixteen bits behind the first eight pairs
+/// degree below 8 with a g0 + b g1 = D^k. So each of the sixteen bits after the first eight pairs
 /// of symbols is a sum of some of these sixteen symbols, and the start is the oldest eight bits.
 fn start_of(symbols: &Bits) -> u8
     requires { 16 ≤ length symbols.now }

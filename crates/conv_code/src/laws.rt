@@ -7,7 +7,7 @@ pub fn symbols_fix_the_bits()
     ensures { IsDistinctCode }
 {}
 
-/// The symbols of two lists of bits, one behind the other, are those of the first from the start
+/// The symbols of two lists of bits, one after the other, are those of the first from the start
 /// state, and then those of the second from the state that the first leaves.
 pub fn symbols_continue()
     ensures { IsContinuedCode }

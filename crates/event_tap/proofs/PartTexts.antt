@@ -1,4 +1,4 @@
--- Lemmas on what lines of messages have in common: items joined by commas, values behind their
+-- Lemmas on what lines of messages have in common: items joined by commas, values after their
 -- names, and the text of few bits.
 use Rattle.std.proofs.Common.{◌≡◌, ℕ, zero, suc, ◌+◌, ◌^◌, ◌<◌, ◌≤◌, ◌&&◌, nat_lt, Bool, true, All, List, [], ◌∷◌, Some, slice_get}
 use Rattle.std.proofs.Common.{◌++◌, length, get_or, map, take, drop, codes, decimal, refl, sym, ap, ◌∙◌, arith, rules, append_assoc}
@@ -24,7 +24,7 @@ pub no_items : (before : List ℕ) → before ≡ before ++ commas []
 unfolding commas
 no_items before = sym (append-nil before)
 
--- one item more behind others
+-- one item more after others
 commas_push : (items : List (List ℕ)) (item : List ℕ) →
     commas (items ++ item ∷ []) ≡ (commas items ++ comma_before (length items)) ++ item
 unfolding commas
@@ -33,7 +33,7 @@ commas_push (first ∷ items) item =
     sym (append_assoc (commas (first ∷ items)) (codes ",") item
     ∙ flat_map_more (λ (next : List ℕ). codes "," ++ next) first items item)
 
--- a comma and an item behind those before it
+-- a comma and an item after those before it
 pub comma_item : (before text with_comma next : List ℕ) (items : List (List ℕ)) (i : ℕ)
     (item : List ℕ) → length items ≡ i → text ≡ before ++ commas items →
     with_comma ≡ text ++ comma_before i → next ≡ with_comma ++ item →
@@ -60,7 +60,7 @@ fields-below width (n ∷ numbers) fit zero d within = fit.0
 fields-below width (n ∷ numbers) fit (suc k) d within =
     fields-below width numbers fit.1 k d (omega (arith, within))
 
--- VALUES BEHIND THEIR NAMES
+-- VALUES AFTER THEIR NAMES
 
 pub no_values : (before : List ℕ) → before ≡ before ++ named_values [] []
 unfolding named_values
@@ -85,7 +85,7 @@ named_values-more (name ∷ names) (value ∷ values) (suc i) a b =
     ∙ sym (append_assoc field (named_values (take i names) (take i values))
     (named (get_or names i []) ++ decimal (get_or values i 0))))
 
--- a name and a value behind those before them
+-- a name and a value after those before them
 pub value_behind : (before text next name : List ℕ) (names : List (List ℕ)) (values : List ℕ)
     (i : ℕ) → i < length names → i < length values →
     text ≡ before ++ named_values (take i names) (take i values) → name ≡ get_or names i [] →
@@ -154,7 +154,7 @@ unfolding octets
 length-octets zero bits = refl
 length-octets (suc count) bits = ap suc (length-octets count (drop 8 bits))
 
--- two digits for each octet, behind at most two for the count and a colon
+-- two digits for each octet, after at most two for the count and a colon
 length-few_bits : (bits : List Bool) → length bits ≤ 56 → length (bit_text bits) ≤ 17
 unfolding bit_text
 length-few_bits bits few =

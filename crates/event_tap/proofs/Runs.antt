@@ -12,7 +12,7 @@ use Rattle.event_tap.specs.Taps.{line_list, run_taps, run_text, tap_behind, taps
 -- EVENTS THAT FOLLOW ONE ANOTHER
 
 -- the text of events is the text of the first of them, and then that of the others by the taps that
--- are kept behind the first
+-- are kept after the first
 pub run_text-append : (taps : List KeptTap) (events more : List Event) →
     run_text taps (events ++ more) ≡ run_text taps events ++ run_text (run_taps taps events) more
 unfolding run_text run_taps
@@ -93,7 +93,7 @@ kept_with-kept form (suc left) within =
     subst (All IsKept) (sym (kept_with-left form (suc left) (omega arith)))
     (All-cons IsKept (tap form (suc left)) [] (omega arith, within) (All-nil IsKept))
 
--- each tap that is kept behind an event has events left
+-- each tap that is kept after an event has events left
 pub taps_behind-kept : (taps : List KeptTap) (event : Event) → All IsKept taps →
     All IsKept (taps_behind taps event)
 taps_behind-kept [] event kept = All-nil IsKept

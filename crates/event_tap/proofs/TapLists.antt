@@ -131,7 +131,7 @@ module _ {T : Type 0} where
   at_place F xs place t within is =
       at_drop_more F xs place t within ∙ ap (λ (x : T). F (x ∷ drop (place + 1) xs)) (sym is)
 
-  -- the text behind the next tap
+  -- the text after the next tap
   whole_more : (shape left : T → ℕ) (event : Event) (all now : List T) (place : ℕ) (t y : T)
       (text line : List ℕ) (answer : Heard) →
       text ++ heard_text (map (seen shape left) (drop place now)) event ≡
@@ -156,7 +156,7 @@ module _ {T : Type 0} where
       sym (ap (λ (n : ℕ). kept_with n (left y)) h.form_is ∙
       ap (λ (n : ℕ). kept_with (shape t) n) h.left_is)
 
-  -- the taps behind the next one
+  -- the taps after the next one
   behind_more : (shape left : T → ℕ) (event : Event) (all now : List T) (place : ℕ) (t y : T)
       (line : List ℕ) (answer : Heard) →
       map (seen shape left) (take place now) ++ taps_behind (map (seen shape left) (drop place now))

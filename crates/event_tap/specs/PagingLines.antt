@@ -28,7 +28,7 @@ neighbor_texts (config ∷ configs) [] = []
 neighbor_texts (config ∷ configs) (pn ∷ pns) =
     neighbor_text config pn ∷ neighbor_texts configs pns
 
--- `paging at=A system pn=.. seq=..` and so on, each field of the table behind its name, then
+-- `paging at=A system pn=.. seq=..` and so on, each field of the table after its name, then
 -- ` rest=BITS` and LF
 unfoldable pub system_line : ℕ → SystemFields → List ℕ
 system_line place m =
@@ -62,7 +62,7 @@ paging_line place (messages.Channels m) = channel_line place m
 paging_line place (messages.Other m) = other_line place m
 
 -- `slot at=A time=T messages=C` and LF: what begins the lines of a slot, with the number of samples
--- behind which it ends, its system time in units of 80 ms and how many messages there are in it
+-- after which it ends, its system time in units of 80 ms and how many messages there are in it
 unfoldable pub slot_line : ℕ → ℕ → ℕ → List ℕ
 slot_line place time messages =
     codes "slot at=" ++ decimal place ++ codes " time=" ++ decimal time ++ codes " messages="

@@ -1,4 +1,4 @@
--- What lines of messages have in common: values behind their names, items joined by commas, the
+-- What lines of messages have in common: values after their names, items joined by commas, the
 -- bits at the end of a line, and the lines of capsules as they came.
 use Rattle.std.specs.Prelude.{ℕ, zero, suc, ◌^◌, ◌&&◌, Bool, List, [], ◌∷◌, ◌++◌, length, codes}
 use Rattle.std.specs.Prelude.{decimal, nat_lt}
@@ -19,7 +19,7 @@ comma_before (suc i) = codes ","
 abbrev pub rest_text : List Bool → List ℕ
 rest_text bits = codes " rest=" ++ bit_text bits ++ codes "\n"
 
--- values, each behind its name
+-- values, each after its name
 unfoldable pub named_values : List (List ℕ) → List ℕ → List ℕ
 named_values [] values = []
 named_values (name ∷ names) [] = []

@@ -1,4 +1,4 @@
--- The slots of a sleeping handset (TIA/EIA-95-B, 6.6.2.1.1.3) behind a mark, by their times: the
+-- The slots of a sleeping handset (TIA/EIA-95-B, 6.6.2.1.1.3) after a mark, by their times: the
 -- messages of a slot, and what is written of it.
 use Rattle.std.specs.Prelude.{ℕ, ◌+◌, ◌*◌, ◌/◌, ◌&&◌, Bool, nat_le, nat_lt, List, [], ◌++◌, length}
 use Rattle.std.specs.Prelude.{filter, ℤ, Option, None, Some}
@@ -32,7 +32,7 @@ slot_pages check rate bits =
     flat_map (λ capsule. option_to_list (paging_reading check capsule))
     (capsules_in (half_frame_body rate) bits)
 
--- the line of a slot that ends behind so many samples, and those of its messages
+-- the line of a slot that ends after so many samples, and those of its messages
 abbrev pub slot_lines : ℕ → ℕ → List PagingMessage → List ℕ
 slot_lines place time pages =
     slot_line place time (length pages) ++ flat_map (paging_line place) pages
@@ -89,7 +89,7 @@ abbrev pub lines_behind : ℕ → ℕ → Tuning → ℕ → List Sample → Opt
 lines_behind key cycle t number samples None = []
 lines_behind key cycle t number samples (Some m) = lines_by_times key cycle t number m samples
 
--- those behind the mark that the samples set
+-- those after the mark that the samples set
 abbrev pub lines_of_slots : ℕ → ℕ → Tuning → ℕ → List Sample → List ℕ
 lines_of_slots key cycle t number samples =
     lines_behind key cycle t number samples (mark t samples (length samples))

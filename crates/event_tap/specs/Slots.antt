@@ -15,14 +15,14 @@ use Rattle.event_tap.specs.SlotLines.{slot_lines, slot_pages}
 
 -- The four frames of a slot are those whose numbers, counted from the mark on, have one quotient by
 -- 4. The frames of a slot up to a frame, where those before that one are kept: a slot's first frame
--- begins it anew, another one goes behind those before it, and where one of these is missing there
+-- begins it anew, another one goes after those before it, and where one of these is missing there
 -- are none.
 abbrev pub slot_more : List SoftFrame → SoftFrame → List SoftFrame
 slot_more kept frame =
     if frame.number % 4 == 0 then frame ∷ []
     else (if frame.number % 4 == length kept then kept ++ frame ∷ [] else [])
 
--- the frames of a slot that are kept behind all of these
+-- the frames of a slot that are kept after all of these
 unfoldable pub slot_behind : List SoftFrame → List SoftFrame → List SoftFrame
 slot_behind kept [] = kept
 slot_behind kept (frame ∷ frames) = slot_behind (slot_more kept frame) frames

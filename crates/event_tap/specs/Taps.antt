@@ -62,7 +62,7 @@ abbrev pub line_text : Option (List ℕ) → List ℕ
 line_text None = []
 line_text (Some line) = line
 
--- how many events are left behind one that has this line or none
+-- how many events are left after one that has this line or none
 abbrev pub left_behind : Option (List ℕ) → ℕ → ℕ
 left_behind None left = left
 left_behind (Some line) left = left - 1
@@ -75,7 +75,7 @@ heard_at left = if nat_eq left 0 then Done else Keep
 abbrev pub kept_with : ℕ → ℕ → List KeptTap
 kept_with form left = if nat_eq left 0 then [] else record { form = form; left = left } ∷ []
 
--- a kept tap behind an event, where it has events left
+-- a kept tap after an event, where it has events left
 abbrev pub tap_behind : Event → KeptTap → List KeptTap
 tap_behind event tap =
     kept_with tap.form (left_behind (form_line tap.form event) tap.left)
@@ -84,7 +84,7 @@ tap_behind event tap =
 abbrev pub heard_text : List KeptTap → Event → List ℕ
 heard_text taps event = flat_map (λ tap. line_text (form_line tap.form event)) taps
 
--- the taps that are kept behind an event
+-- the taps that are kept after an event
 abbrev pub taps_behind : List KeptTap → Event → List KeptTap
 taps_behind taps event = flat_map (tap_behind event) taps
 
@@ -93,7 +93,7 @@ unfoldable pub run_text : List KeptTap → List Event → List ℕ
 run_text taps [] = []
 run_text taps (event ∷ events) = heard_text taps event ++ run_text (taps_behind taps event) events
 
--- the taps that are kept behind events
+-- the taps that are kept after events
 unfoldable pub run_taps : List KeptTap → List Event → List KeptTap
 run_taps taps [] = taps
 run_taps taps (event ∷ events) = run_taps (taps_behind taps event) events
@@ -108,7 +108,7 @@ unfoldable pub form_lines : ℕ → List Event → List (List ℕ)
 form_lines form [] = []
 form_lines form (event ∷ events) = line_list (form_line form event) ++ form_lines form events
 
--- the lines, one behind the other
+-- the lines, one after the other
 abbrev pub joined : List (List ℕ) → List ℕ
 joined lines = flat_map (λ line. line) lines
 

@@ -19,7 +19,7 @@ unfoldable pub start_text : ℕ → Head → List ℕ
 start_text place h =
     codes "traffic at=" ++ decimal place ++ named_values head_names (head_values h)
 
--- ` system sid=.. nid=..` and so on, each field of the table behind its name, then ` rest=BITS` and
+-- ` system sid=.. nid=..` and so on, each field of the table after its name, then ` rest=BITS` and
 -- LF
 unfoldable pub system_text : InTrafficFields → List ℕ
 system_text m =
@@ -61,7 +61,7 @@ unfoldable pub kind_text : ℕ → List Bool → List ℕ
 kind_text kind bits =
     codes " other type=" ++ decimal kind ++ codes " bits=" ++ bit_text bits ++ codes "\n"
 
--- what the line says behind the head
+-- what the line says after the head
 abbrev pub body_text : TrafficBody → List ℕ
 body_text (bodies.System m) = system_text m
 body_text (bodies.Neighbors m) = update_text m

@@ -1,4 +1,4 @@
--- What is written of the frames of one channel behind the mark.
+-- What is written of the frames of one channel after the mark.
 use Rattle.std.specs.Prelude.{◌≤◌, ℕ, Bool, List, [], ◌∷◌, ◌++◌, length, ℤ, Option, None, Some}
 use Rattle.chip_core.specs.Air.{IsListLength}
 use Rattle.chip_core.specs.declared.check_form.CheckForm.{CheckForm}
@@ -20,7 +20,7 @@ use Rattle.event_tap.specs.declared.tuned_text.TunedText.{TunedText}
 use Rattle.event_tap.specs.declared.tuned_text.TunedText.TheVariants.{Listed, RateSetTwo}
 use Rattle.event_tap.specs.declared.tuned_text.TunedText.TheVariants.{Slots}
 
--- ---- the frames behind the mark, and their text
+-- ---- the frames after the mark, and their text
 
 -- none where no mark is set
 abbrev pub frames_from : Tuning → Channel → List Sample → Option Mark → List SoftFrame
@@ -62,7 +62,7 @@ frames_text form check m kept (frame ∷ frames) =
     let slot = slot_more kept frame in
     frame_text form check m slot frame ++ frames_text form check m slot frames
 
--- the text of the frames behind a mark
+-- the text of the frames after a mark
 abbrev pub text_from : TunedText → Tuning → Channel → Mark → List Sample → List ℕ
 text_from form t channel m samples =
     frames_text form t.check30 m [] (soft_frames t channel m samples)

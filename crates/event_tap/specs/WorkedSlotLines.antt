@@ -38,7 +38,7 @@ heard : ℕ → ℕ → ℕ → List ℕ
 heard key prat n =
     filter (is_heard key 0 1228800 (stream (pos 0 ∷ [])) (marked prat) n) (places (slot_bound n))
 
--- five whole slots lie behind the mark, those of times 1007 to 1011
+-- five whole slots lie after the mark, those of times 1007 to 1011
 within : filter (is_slot_within 1228800 (stream (pos 0 ∷ [])) 1228800) (places (slot_bound 1228800))
     ≡ 0 ∷ 1 ∷ 2 ∷ 3 ∷ 4 ∷ []
 unfolding tuned marked stream places

@@ -59,7 +59,7 @@ impl<const FORM: u8> Tap for FormTap<FORM> {
 }
 
 /// Makes the text the line that a form has for the event, or empty where it has none; answers how
-/// many of `left` events are left to hear behind it.
+/// many of `left` events are left to hear after it.
 #[tactic(auto, unfolding(crate::specs::Taps::form_line))]
 fn hear_in(form: u8, left: u32, event: &Event, out: &mut Text) -> u32
     requires form { form ≤ 3 }
@@ -85,7 +85,7 @@ fn plain_form_of(event: &Event) -> u8
 }
 
 /// Makes the text the line of the event where the form hears it, and else empty; answers how many
-/// of `left` events are left to hear behind it.
+/// of `left` events are left to hear after it.
 fn hear_where(heard: bool, left: u32, event: &Event, out: &mut Text) -> u32
     requires { 1 ≤ left }
     ensures text { out.new ≡ line_text (if heard then Some (event_line event.now) else None) }
@@ -101,7 +101,7 @@ fn hear_where(heard: bool, left: u32, event: &Event, out: &mut Text) -> u32
 }
 
 /// Makes the text the line of a message as it came, bit by bit, and empty for any other event;
-/// answers how many of `left` events are left to hear behind it.
+/// answers how many of `left` events are left to hear after it.
 fn hear_raw(left: u32, event: &Event, out: &mut Text) -> u32
     requires { 1 ≤ left }
     ensures text { out.new ≡ line_text (raw_of event.now) }

@@ -13,7 +13,7 @@ pub fn taps_hear_the_first_events()
 {}
 
 /// The text of events is that of the first of them, and then that of the others by the taps that
-/// are kept behind the first.
+/// are kept after the first.
 pub fn text_goes_on()
     ensures text { (taps : List KeptTap) (events more : List TheEvent) →
         run_text taps (events ++ more) ≡

@@ -10,7 +10,7 @@ use chip_core::Bits;
 use line_text::Text;
 use message_layout::{FieldRow, name_in};
 
-/// Adds the values of a message's fields, each behind its name in the table.
+/// Adds the values of a message's fields, each after its name in the table.
 pub(crate) fn append_values(text: &mut Text, table: &[FieldRow], values: &[u64])
     requires all { length values.now ≡ length table.now }
     requires short { are_short (map (λ row. row.0.now) table.now) (map (λ row. row.1) table.now)
@@ -26,7 +26,7 @@ pub(crate) fn append_values(text: &mut Text, table: &[FieldRow], values: &[u64])
     }
 }
 
-/// Adds a value of at most seven digits behind a name of at most seven bytes.
+/// Adds a value of at most seven digits after a name of at most seven bytes.
 fn append_value(text: &mut Text, name: &str, value: u64)
     requires ascii { IsAscii name.now }
     requires short { length name.now ≤ 7 }
@@ -39,7 +39,7 @@ fn append_value(text: &mut Text, name: &str, value: u64)
     text.append_short(value);
 }
 
-/// Adds the bits that are left behind a message's fields, and the end of the line.
+/// Adds the bits that are left after a message's fields, and the end of the line.
 pub(crate) fn append_rest(text: &mut Text, rest: &Bits)
     requires room { length text.old + 309 ≤ 1024 }
     ensures value { text.new ≡ text.old ++ rest_text rest.now }
@@ -50,7 +50,7 @@ pub(crate) fn append_rest(text: &mut Text, rest: &Bits)
     text.append_str("\n");
 }
 
-/// Adds at most seven bits that are left behind a message's fields, and the end of the line.
+/// Adds at most seven bits that are left after a message's fields, and the end of the line.
 pub(crate) fn append_few_rest(text: &mut Text, rest: &Bits)
     requires few { length rest.now ≤ 7 }
     requires room { length text.old + 24 ≤ 1024 }
@@ -76,7 +76,7 @@ pub(crate) fn append_few_bits(text: &mut Text, bits: &Bits)
 }
 
 /// Adds the line of a message's capsule, as it came, to the empty text. `channel` is the name of
-/// its channel, with a space before and behind it.
+/// its channel, with a space before and after it.
 pub(crate) fn append_raw(text: &mut Text, channel: &str, at: u64, capsule: &Bits)
     requires empty { text.old ≡ [] }
     requires ascii { IsAscii channel.now }

@@ -1,6 +1,6 @@
-//! What is made of the frames of one channel behind the mark.
+//! What is made of the frames of one channel after the mark.
 
-/// What is made of the frames of one channel behind the mark.
+/// What is made of the frames of one channel after the mark.
 #[derive(Clone, Copy, PartialEq, Eq, Debug)]
 pub enum TunedText {
     /// Each frame is decoded as one of rate set 2 (TIA/EIA-95-B, 7.1.3.5), and has its line.
@@ -12,7 +12,7 @@ pub enum TunedText {
         k: u8,
     },
     /// Each slot of a paging channel that a sleeping handset monitors (6.6.2.1.1.3) has its line,
-    /// and behind it those of its messages.
+    /// and after it those of its messages.
     Slots {
         /// The key of the handset.
         key: u32,

@@ -82,7 +82,7 @@ taken_rising d f (r ∷ before) rate after best each is low =
     taken_rising d f before rate after (preferred (f r) best) each is
     (preferred_of (Below d) (f r) best (each r) low)
 
--- the formats of a set's rates, the highest behind the others
+-- the formats of a set's rates, the highest after the others
 pub rising_rates : {R : Type 0} (f : FrameFormat R → Option (DecodedFrame R)) (format_of : R → FrameFormat R)
     (lower : List R) (highest : R) (best : Option (DecodedFrame R)) →
     rising best (map (λ r. f (format_of r)) (lower ++ highest ∷ []))

@@ -39,7 +39,7 @@ none_small code size softs out =
     let none : code * 0 ≡ 0 = omega arith in
     rw none (omega arith)
 
--- a frame's part is written behind those before
+-- a frame's part is written after those before
 pub written : (bits code k : ℕ) (out part : List ℤ) → code ≡ 2 * bits → length part ≡ code →
     code * k ≤ length out →
     take (2 * bits * (k + 1)) (put_mid (code * k) (code * k + code - code * k) out part)

@@ -23,7 +23,7 @@ pub struct PowerSofts {
     /// How many subchannels are heard, at most six.
     pub count: u8,
     /// For each of them the sums of the two soft values of each power control bit. What stands
-    /// behind the first `count` means nothing.
+    /// after the first `count` means nothing.
     pub sums: [GroupSums; 6],
 }
 

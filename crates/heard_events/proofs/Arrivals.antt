@@ -123,7 +123,7 @@ by_parts a n k both =
     let parts = and_parts (a.inside k) (nat_le (a.known k) n) both in
     (parts.0, leb-true (a.known k) n parts.1)
 
--- each is known no later than those behind it, and there are enough numbers
+-- each is known no later than those after it, and there are enough numbers
 pub record AreOrdered (a : Arrivals) : Type 0 where
   pub ordered : (j k : ℕ) → a.inside j ≡ true → a.inside k ≡ true → j < k → a.known j ≤ a.known k
   pub enough : (n : ℕ) → AreLater a (a.bound n) (n + 1)
@@ -218,7 +218,7 @@ module _ (a : Arrivals) (o : AreOrdered a) where
     parted = part (a.bound n) (o.enough n)
 
 -- WHAT STAYS WHERE MORE SAMPLES FOLLOW
--- what each gives, from when it is known; what hangs on those before a number, from when these are
+-- what each gives, from when it is known; what depends on those before a number, from when these are
 -- known; and what is told of no more samples than there are
 abbrev pub Stays : {A : Type 0} → Arrivals → (List Sample → ℕ → A) → Type 0
 Stays a gives = (xs ys : List Sample) (k : ℕ) → a.inside k ≡ true → a.known k ≤ length xs →
@@ -231,7 +231,7 @@ StaysBefore a gives = (xs ys : List Sample) (next : ℕ) → AreKnown a next (le
 abbrev pub StaysWithin : {A : Type 0} → (List Sample → ℕ → A) → Type 0
 StaysWithin told = (xs ys : List Sample) (n : ℕ) → n ≤ length xs → told (xs ++ ys) n ≡ told xs n
 
--- what hangs on those up to one stays from when this one is known, without it or with it
+-- what depends on those up to one stays from when this one is known, without it or with it
 module _ {A : Type 0} (a : Arrivals) (o : AreOrdered a) (gives : List Sample → ℕ → A)
     (stays : StaysBefore a gives) where
   pub stays_at : Stays a gives

@@ -1,4 +1,4 @@
--- The frames of a channel behind the mark, before they are decoded.
+-- The frames of a channel after the mark, before they are decoded.
 use Rattle.heard_events.proofs.Common.{◌≡◌, ℕ, ◌+◌, ◌*◌, ◌≤◌, true, List, ◌++◌, length, refl, ap, arith, Sample, channel_stream}
 use Rattle.heard_events.proofs.Common.{offset_of, paging_bound, frames_within, soft_frame, frame_start, is_in_file, known_at, IsTimed}
 use Rattle.heard_events.proofs.Common.{stream_end, Tuning, Channel, Paging, Mark, AgreeIn}
@@ -9,7 +9,7 @@ use Rattle.rake_finger.proofs.Sooner.{all_fit, softs_sooner, softs_same}
 use Rattle.heard_events.proofs.Arrivals.{AreOrdered, frames_in, frames_ordered, by_parts, is_by}
 use Rattle.chip_core.proofs.Ranges as ranges
 
--- frame 0 begins at the channel's offset behind the mark
+-- frame 0 begins at the channel's offset after the mark
 pub first_by : (channel : Channel) (m : Mark) → m.sample + offset_of channel ≡ start_of channel m
 first_by (Paging number) m = omega arith
 first_by (Traffic traffic) m = refl
@@ -21,7 +21,7 @@ module _ (t : Tuning) (channel : Channel) (m : Mark) where
   unfolding stream_end
   own_end k = refl
 
-  -- each is known no later than those behind it
+  -- each is known no later than those after it
   pub channel_ordered : {low : ℕ} → IsTimed t.count (channel_stream t channel m) low →
       AreOrdered (frames_in t.count (channel_stream t channel m) paging_bound)
   channel_ordered timed =

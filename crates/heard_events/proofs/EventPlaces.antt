@@ -43,7 +43,7 @@ module _ (n : ℕ) where
         | inr e ↦ rw e (All-nil (IsAt n))
       ]
 
-  -- where a channel may be followed, behind a mark that may be set
+  -- where a channel may be followed, after a mark that may be set
   behind_here : {C : Type 0} (heard : C → Mark → List Event) →
       ((c : C) (m : Mark) → AreAt n (heard c m)) → (followed : Option C) (m : Option Mark) →
       AreAt n (if_followed heard followed m)

@@ -13,7 +13,7 @@ use Rattle.chip_core.proofs.Places.{places-none}
 use Rattle.heard_events.proofs.Growth as growth
 use Rattle.heard_events.proofs.MarkStays as stays
 
--- behind the mark it is what is heard of the channels that are followed from there on
+-- after the mark it is what is heard of the channels that are followed from there on
 pub events_at_by : (t : Tuning) (xs : List Sample) (n : ℕ) (m : Option Mark) → mark t xs n ≡ m →
     events_at t xs n ≡ sync_events_at t xs n ++ followed_behind t m xs n
 unfolding events_at

@@ -36,7 +36,7 @@ module _ (t : Tuning) (traffic : Traffic) (m : Mark) (legs : ℕ → List Leg) w
         let high = known_high j in
         omega (arith, less, low, high)
 
-    -- behind the first samples a frame lies in the file where it ends there
+    -- after the first samples a frame lies in the file where it ends there
     pub has_is : 2 ^ 16 ≤ m.sample → (k : ℕ) →
         has_frame t traffic m legs k ≡ nat_le (frame_known t traffic m legs k) t.count
     has_is far k =

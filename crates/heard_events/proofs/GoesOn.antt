@@ -4,7 +4,7 @@ use Rattle.heard_events.proofs.Common.{drop, take, length-take-le, take-append-d
 use Rattle.heard_events.proofs.Arrivals.{AreKnown, AreLater, Arrivals, all_left, left, none_between, none_left, none_now, now, StaysWithin}
 use Rattle.std.proofs.Common.{ap₂}
 
--- Behind these samples nothing is told up to a number of samples, and what is told there is left:
+-- After these samples nothing is told up to a number of samples, and what is told there is left:
 -- `told samples n` is told of some samples when just n have been taken, and `left samples` is left
 -- to be given of their end.
 pub record GoesOn {E : Type 0} (told : List Sample → ℕ → List E) (left : List Sample → List E)
@@ -85,7 +85,7 @@ mapped f {heard = heard} goes = record {
   come = λ more some most. ap (map (f (length (heard ++ more)))) (goes.come more some most);
 }
 
--- What stays where more samples follow hangs on the first samples alone.
+-- What stays where more samples follow depends on the first samples alone.
 pub of_first : {A : Type 0} (f : List Sample → ℕ → A) → StaysWithin f →
     (one other : List Sample) (n : ℕ) → n ≤ length one → n ≤ length other →
     take n one ≡ take n other → f one n ≡ f other n

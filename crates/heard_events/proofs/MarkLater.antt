@@ -1,4 +1,4 @@
--- The mark lies behind the samples within which its message is known, so a channel that begins
+-- The mark lies after the samples within which its message is known, so a channel that begins
 -- there hasn't begun.
 use Rattle.heard_events.proofs.Common.{◌≡◌, ℕ, ◌+◌, ◌-◌, ◌*◌, ◌/◌, ◌<◌, ◌≤◌, ◌==◌, ◌&&◌, Bool, true, false, cond, List, [], ◌∷◌, length}
 use Rattle.heard_events.proofs.Common.{length-append, map, take, drop, length-take, length-drop, refl, sym, ap, subst, arith, inl, inr}
@@ -135,7 +135,7 @@ told_is form None heard e = absurd (cc)
 told_is form (Some capsule) heard e = read_is form capsule _ refl heard e
 
 -- a capsule's frames are at most three for each of its superframes, and the time that it tells lies
--- four superframes behind these
+-- four superframes after these
 late_enough : (first frames bits pn known : ℕ) → 31 * (frames - 1) < bits →
     known ≤ first + 32768 * frames + 32896 → pn ≤ 511 →
     known < first + 98304 * ((bits + 92) / 93 + 4) - 64 * pn

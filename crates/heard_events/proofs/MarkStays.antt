@@ -90,7 +90,7 @@ module _ (t : Tuning) (low : ℕ) (timed : IsSyncTimed t low) where
       (λ k below inside. let known = parts.0 k below inside in omega (arith, known, more))
       (sym (mark_is t timed samples n next parts.0 parts.1) ∙ h)
 
-  -- the mark of the first samples is that of a file that goes on behind them
+  -- the mark of the first samples is that of a file that goes on after them
   pub mark_sooner : (xs ys : List Sample) (n : ℕ) → n ≤ length xs →
       mark t (xs ++ ys) n ≡ mark t xs n
   unfolding mark
@@ -114,7 +114,7 @@ module _ (t : Tuning) (low : ℕ) (timed : IsSyncTimed t low) where
       let both : None ≡ Some x = sym none ∙ found in
       absurd (cc)
 
-  -- It lies behind the samples within which it isn't set yet.
+  -- It lies after the samples within which it isn't set yet.
   pub mark_behind : AreNear (sync_stream t).fingers → (samples : List Sample) (n n' : ℕ)
       (m : Mark) → mark t samples n ≡ None → mark t samples n' ≡ Some m → n < m.sample
   mark_behind near samples n n' m none h =
@@ -126,7 +126,7 @@ module _ (t : Tuning) (low : ℕ) (timed : IsSyncTimed t low) where
       ]
 
 -- WHAT A MARK OPENS
--- what is told behind a mark that may be set, of samples that don't reach it: nothing
+-- what is told after a mark that may be set, of samples that don't reach it: nothing
 pub record OpensBehind {E : Type 0} (n : ℕ) (heard : Option Mark → List E) : Type 0 where
   pub unset : heard None ≡ []
   pub early : (m : Mark) → n ≤ m.sample → heard (Some m) ≡ []

@@ -1,4 +1,4 @@
--- What is kept behind each moment hangs on the samples before it.
+-- What is kept after each moment depends on the samples before it.
 use Rattle.heard_events.proofs.Common.{◌≡◌, ℕ, zero, suc, ◌+◌, ◌<◌, ◌≤◌, true, false, List, [], ◌∷◌, ◌++◌, length, take, refl, arith}
 use Rattle.heard_events.proofs.Common.{nat_le, le-leb, lt-leb, take-append-le, Sample, Standing, heard_from, kept_to, moment_place}
 use Rattle.heard_events.proofs.Common.{moments_before, passed, sets_at, all_noted, noted, Tuning, Event, Mark, Traffic, ap, ◌∙◌}
@@ -10,7 +10,7 @@ use Rattle.std.proofs.Common.{add-one}
 pub first_same : (xs ys : List Sample) (n : ℕ) → n ≤ length xs → take n (xs ++ ys) ≡ take n xs
 first_same xs ys n h = take-append-le n xs ys h
 
--- one list of events behind another
+-- one list of events after another
 pub noted-append : (m : Mark) (xs ys : List Event) (s : Standing) →
     all_noted m (xs ++ ys) s ≡ all_noted m ys (all_noted m xs s)
 noted-append m [] ys s = refl
@@ -35,7 +35,7 @@ module _ (t : Tuning) (traffic : Traffic) (m : Mark) where
       let early : nat_le i j ≡ true = le-leb i j most in
       rw (add-one, early) refl
 
-  -- more samples behind a moment leave what is kept up to it
+  -- more samples after a moment leave what is kept up to it
   pub kept_sooner : (xs ys : List Sample) (j : ℕ) → (0 < j → moment_place m j ≤ length xs) →
       kept_to t traffic m (xs ++ ys) j ≡ kept_to t traffic m xs j
   unfolding kept_to

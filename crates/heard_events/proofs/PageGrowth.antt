@@ -56,7 +56,7 @@ module _ (t : Tuning) (channel : ℕ) (m : Mark) (heard : List Sample) (k i : �
       let more : size - i ≡ suc (size - (i + 1)) = omega arith in
       ap (λ (n : ℕ). flat_map of_bit (range_with_len i n)) more
 
-  -- behind the last bit there are none
+  -- after the last bit there are none
   pub pages_behind_last : length (frame_own_bits t.count heard (paging_stream t channel m) k) ≤ i →
       pages_from t channel m heard k i ≡ []
   unfolding pages_from

@@ -30,7 +30,7 @@ abbrev pub told_at : Tuning → Traffic → Mark → (ℕ → List Leg) → List
 told_at t traffic m legs samples n =
     frames_by t traffic m legs samples n ++ messages_by t traffic m legs samples n
 
--- of what is left behind a kept message
+-- of what is left after a kept message
 abbrev pub told_left : Tuning → Traffic → Mark → (ℕ → List Leg) → List Sample → ℕ → List Event
 told_left t traffic m legs samples next =
     frames_left_of t traffic m legs samples next
@@ -142,7 +142,7 @@ module _ (t : Tuning) (traffic : Traffic) (m : Mark) (legs : ℕ → List Leg) w
       heard_sooner n xs ys k parts.0 (omega (arith, parts.1, h)))
 
   module _ (close : AreCloseAll t legs) where
-    -- behind the frame that ends just now no other does, so its event and its message are all
+    -- after the frame that ends just now no other does, so its event and its message are all
     pub told_next : (xs : List Sample) (next : ℕ) → has_frame t traffic m legs next ≡ true →
         frame_known t traffic m legs next ≡ length xs →
         told_left t traffic m legs xs next
@@ -187,7 +187,7 @@ last_piece f g a (suc d) same none =
     (before ∙ ap (λ (xs : List _). flat_map f (places a) ++ xs) quiet
     ∙ append-nil (flat_map f (places a))) refl)
 
--- WHAT IS HEARD BEHIND A MOMENT
+-- WHAT IS HEARD AFTER A MOMENT
 -- told_by is what is heard of both channels
 pub told_is : (t : Tuning) (traffic : Traffic) (m : Mark) (legs : ℕ → List Leg)
     (samples : List Sample) (n : ℕ) →
@@ -197,14 +197,14 @@ pub told_is : (t : Tuning) (traffic : Traffic) (m : Mark) (legs : ℕ → List L
 unfolding told_by
 told_is t traffic m legs samples n = refl
 
--- it hangs on the first n samples
+-- it depends on the first n samples
 pub told_first : (t : Tuning) (traffic : Traffic) (m : Mark) (legs : ℕ → List Leg) →
     StaysWithin (told_by t traffic m legs)
 unfolding told_by
 told_first t traffic m legs xs ys n h = rw (first_same xs ys n h) refl
 
 module _ (t : Tuning) (traffic : Traffic) (m : Mark) (kept : ℕ → Standing) (j : ℕ) where
-  -- what is heard at each sample behind it
+  -- what is heard at each sample after it
   abbrev pub heard_at_next : List Sample → ℕ → List Event
   heard_at_next samples i =
       told_by t traffic m (legs_by traffic m kept) samples (moment_place m j + i + 1)
@@ -222,7 +222,7 @@ module _ (t : Tuning) (traffic : Traffic) (m : Mark) (kept : ℕ → Standing) (
       ap (λ (es : List Event). all_noted m es (kept j)) (last_piece f g a d same none)
       ∙ noted-append m (flat_map f (places a)) (g (a + d)) (kept j)
 
-  -- behind no sample nothing is heard
+  -- after no sample nothing is heard
   pub heard_none : (xs ys : List Sample) → heard_from t traffic m kept xs j 0 ≡ kept j
   unfolding heard_from places
   heard_none xs ys = refl

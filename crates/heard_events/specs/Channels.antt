@@ -25,7 +25,7 @@ abbrev pub row_of : Channel → ℕ
 row_of (Paging number) = number
 row_of (Traffic traffic) = traffic.row
 
--- how many chips behind the mark its frame 0 begins
+-- how many chips after the mark its frame 0 begins
 abbrev pub offset_of : Channel → ℕ
 offset_of (Paging number) = 0
 offset_of (Traffic traffic) = frame_offset_chips * traffic.offset

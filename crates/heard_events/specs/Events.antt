@@ -16,7 +16,7 @@ use Rattle.heard_events.specs.declared.event.Event.{Event}
 use Rattle.heard_events.specs.declared.event.Event.TheVariants.{Pilot}
 use Rattle.heard_events.specs.declared.mark.Mark.{Mark}
 
--- THE CHANNELS BEHIND THE MARK
+-- THE CHANNELS AFTER THE MARK
 -- What is heard on a channel when just n samples have been taken: of a traffic channel the frames
 -- come first, then the messages that they complete, then the event of the pilot sets.
 abbrev pub told_on : Tuning → List Sample → ℕ → Channel → Mark → List Event
@@ -26,7 +26,7 @@ told_on t samples n (Traffic traffic) m =
     (frames_at t traffic m samples n ++ messages_at t traffic m samples n)
     ++ sets_at t traffic m samples n
 
--- the same where a channel may be followed, behind a mark that may be set
+-- the same where a channel may be followed, after a mark that may be set
 abbrev pub told_behind : Tuning → Option Channel → Option Mark → List Sample → ℕ → List Event
 told_behind t followed mark samples n = if_followed (told_on t samples n) followed mark
 

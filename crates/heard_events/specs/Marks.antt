@@ -15,11 +15,11 @@ use Rattle.heard_events.specs.declared.event.Event.TheVariants.{Sync}
 use Rattle.heard_events.specs.SpelledMessages.{SpelledMessage}
 use Rattle.heard_events.specs.declared.mark.Mark.{Mark}
 
--- how many frames the message under way has behind the frames before `next`
+-- how many frames the message under way has after the frames before `next`
 unfoldable pub frames_open : Tuning → List Sample → ℕ → ℕ
 frames_open t samples next = length (from_last_start (map piece (frames_before t samples next)))
 
--- Four superframes of 98,304 chips behind the last one of the message, less the pilot's offset,
+-- Four superframes of 98,304 chips after the last one of the message, less the pilot's offset,
 -- lies the time that it
 -- tells. `first` is the reference sample at which its first frame begins (TIA/EIA-95-B, 7.7.1.3).
 abbrev pub mark_at : ℕ → SpelledMessage → Mark

@@ -26,7 +26,7 @@ use Rattle.heard_events.specs.declared.leg.Leg.{Leg}
 use Rattle.heard_events.specs.declared.mark.Mark.{Mark}
 use Rattle.chip_core.specs.declared.assignment.Traffic.{Traffic}
 
--- Moment j lies j superframes behind the mark, and has a time as much later. Moment 0 is the mark,
+-- Moment j lies j superframes after the mark, and has a time as much later. Moment 0 is the mark,
 -- where nothing is measured.
 abbrev pub moment_place : Mark → ℕ → ℕ
 moment_place m j = m.sample + superframe_chips * j
@@ -50,7 +50,7 @@ strengths_at m samples place s = map (pilot_strength m samples place s) (pilots 
 abbrev pub power_at : List Sample → ℕ → ℕ
 power_at samples place = sample_power (samples_before samples place)
 
--- The sets behind moment j: the direction for its time takes effect, then all pilots of the sets
+-- The sets after moment j: the direction for its time takes effect, then all pilots of the sets
 -- are measured, and move.
 unfoldable pub passed : Mark → List Sample → ℕ → Standing → Standing
 passed m samples j s =
@@ -78,18 +78,18 @@ moment_events m j change s =
 abbrev pub moment_of : Traffic → ℕ → ℕ
 moment_of traffic k = chips_behind traffic k / superframe_chips
 
--- the active pilots of each frame, from what is kept behind each moment
+-- the active pilots of each frame, from what is kept after each moment
 abbrev pub legs_by : Traffic → Mark → (ℕ → Standing) → ℕ → List Leg
 legs_by traffic m kept k = legs_of m (kept (moment_of traffic k))
 
--- what is heard behind the mark when just n samples have been taken, from these samples
+-- what is heard after the mark when just n samples have been taken, from these samples
 unfoldable pub told_by : Tuning → Traffic → Mark → (ℕ → List Leg) → List Sample → ℕ → List Event
 told_by t traffic m legs samples n =
     let first = take n samples in
     map (page_event n) (pages_behind t t.paging (Some m) first n)
     ++ (frames_by t traffic m legs first n ++ messages_by t traffic m legs first n)
 
--- the sets with what is heard behind moment j, over so many samples
+-- the sets with what is heard after moment j, over so many samples
 unfoldable pub heard_from : Tuning → Traffic → Mark → (ℕ → Standing) → List Sample → ℕ → ℕ →
     Standing
 heard_from t traffic m kept samples j count =
@@ -98,8 +98,8 @@ heard_from t traffic m kept samples j count =
     (places count))
     (kept j)
 
--- What is kept behind each moment up to j, by its number: a later one isn't known yet, and has what
--- moment j has. It hangs on the samples before moment j alone.
+-- What is kept after each moment up to j, by its number: a later one isn't known yet, and has what
+-- moment j has. It depends on the samples before moment j alone.
 unfoldable pub kept_to : Tuning → Traffic → Mark → List Sample → ℕ → (ℕ → Standing)
 kept_to t traffic m samples zero = λ i. new_standing m.pilot traffic.row
 kept_to t traffic m samples (suc j) =

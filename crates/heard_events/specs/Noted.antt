@@ -64,7 +64,7 @@ noted_with pn first event s = s
 abbrev pub noted : Mark → Event → Standing → Standing
 noted m event s = noted_with m.pilot (m.time + moment_from m (at_of event)) event s
 
--- one behind the other
+-- one after the other
 abbrev pub all_noted : Mark → List Event → Standing → Standing
 all_noted m [] s = s
 all_noted m (event ∷ events) s = all_noted m events (noted m event s)

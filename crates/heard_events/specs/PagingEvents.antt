@@ -27,7 +27,7 @@ abbrev pub page_in : CheckForm → Option (List Bool) → Option SpelledPage
 page_in form = spelled_in (paging_reading form)
 
 -- The bits of the frames in the file before frame `next`, which all follow one another: a mark lies
--- so far behind the file's first sample that frame 0 is in the file where a later one is.
+-- so far after the file's first sample that frame 0 is in the file where a later one is.
 unfoldable pub bits_before : ℕ → List Sample → Stream → ℕ → List Bool
 bits_before count samples s next =
     flat_map (frame_own_bits count samples s) (filter (is_in_file count s) (places next))
@@ -57,7 +57,7 @@ pages_at t channel m samples n =
     flat_map (λ k. pages_from t channel m samples k 0)
     (known_now t.count (paging_stream t channel m) n (paging_bound n))
 
--- the same behind a mark that may be set; with the values 2 and 3 of PRAT no channel is heard
+-- the same after a mark that may be set; with the values 2 and 3 of PRAT no channel is heard
 abbrev pub pages_behind : Tuning → ℕ → Option Mark → List Sample → ℕ → List SpelledPage
 pages_behind t channel None samples n = []
 pages_behind t channel (Some m) samples n =

@@ -41,7 +41,7 @@ signals_before t traffic m legs samples next =
     flat_map (λ k. option_to_list (signal_at t traffic m legs samples k))
     (filter (has_frame t traffic m legs) (places next))
 
--- the capsule whose last bit lies in a signaling part behind those before it, where there is one
+-- the capsule whose last bit lies in a signaling part after those before it, where there is one
 abbrev pub capsule_with : List (List Bool) → Option (List Bool) → Option (List Bool)
 capsule_with before None = None
 capsule_with before (Some signal) = capsule_ending (map piece (before ++ signal ∷ []))

@@ -1,9 +1,9 @@
--- The marks behind which channels are followed.
+-- The marks after which channels are followed.
 use Rattle.std.specs.Prelude.{◌^◌, ◌<◌, ◌≤◌}
 use Rattle.long_code.specs.LongCode.{IsState}
 use Rattle.heard_events.specs.declared.mark.Mark.{Mark}
 
--- The mark isn't far behind a file, and lies behind all that a finger may read too early; there the
+-- The mark isn't far after a file, and lies after all that a finger may read too early; there the
 -- time has 36 bits, the long code has a state and the pilot a number.
 pub record IsSoundMark (m : Mark) : Type 0 where
   pub early : m.sample < 2 ^ 29

@@ -59,7 +59,7 @@ unfoldable pub frames_by : Tuning → Traffic → Mark → (ℕ → List Leg) �
 frames_by t traffic m legs samples n =
     map (frame_heard t traffic m legs samples n) (frames_now t traffic m legs n)
 
--- what is heard where a channel may be followed, behind a mark that may be set
+-- what is heard where a channel may be followed, after a mark that may be set
 abbrev pub if_followed : {C : Type 0} → (C → Mark → List Event) → Option C → Option Mark →
     List Event
 if_followed heard None mark = []

@@ -16,7 +16,7 @@ use Rattle.heard_events.specs.declared.leg.Leg.{Leg}
 use Rattle.heard_events.specs.declared.mark.Mark.{Mark}
 use Rattle.chip_core.specs.declared.assignment.Traffic.{Traffic}
 
--- how many chips behind the mark frame k begins: the channel's offset is in units of 1,536 chips
+-- how many chips after the mark frame k begins: the channel's offset is in units of 1,536 chips
 abbrev pub chips_behind : Traffic → ℕ → ℕ
 chips_behind traffic k = frame_offset_chips * traffic.offset + data_frame_chips * k
 
@@ -24,8 +24,8 @@ chips_behind traffic k = frame_offset_chips * traffic.offset + data_frame_chips 
 abbrev pub frame_state : Traffic → Mark → ℕ → ℕ
 frame_state traffic m k = after m.state (chips_behind traffic k)
 
--- Frame 0 begins at the channel's offset behind the mark. A frame is encoded on its own, and so
--- doesn't wait for the one behind it. At 9,600 bits a second it has as many bits and symbols as one
+-- Frame 0 begins at the channel's offset after the mark. A frame is encoded on its own, and so
+-- doesn't wait for the one after it. At 9,600 bits a second it has as many bits and symbols as one
 -- of a paging channel, and is scrambled like one, under the channel's mask.
 abbrev pub traffic_stream : Traffic → Mark → List Finger → Stream
 traffic_stream traffic m fingers = record {
@@ -46,7 +46,7 @@ abbrev pub replaced_in : Traffic → Mark → ℕ → List ℕ
 replaced_in traffic m k = power_places (frame_state traffic m k) (traffic_mask traffic.esn)
 
 -- FRAME BY FRAME
--- The frames hang on the active pilots, which may be others from frame to frame: `legs k` are those
+-- The frames depend on the active pilots, which may be others from frame to frame: `legs k` are those
 -- of frame k.
 abbrev pub stream_of : Tuning → Traffic → Mark → (ℕ → List Leg) → ℕ → Stream
 stream_of t traffic m legs k =

@@ -109,7 +109,7 @@ open_frames = refl
 abbrev pages_of : ℕ → Stream
 pages_of prat = paging_stream alone 1 (paged prat)
 
--- the frame at the mark is known when the one behind it has ended, two frames behind the mark; 22
+-- the frame at the mark is known when the one after it has ended, two frames after the mark; 22
 -- frames lie in the file, of which the last two are known together, at its end
 pages_known : map (known_at 1228800 (pages_of 0)) (0 ∷ 20 ∷ 21 ∷ [])
     ≡ 737280 ∷ 1228800 ∷ 1228800 ∷ []
@@ -126,7 +126,7 @@ no_rate : pages_behind alone 1 (Some (paged 2)) [] 0 ≡ []
 no_rate = refl
 
 -- A TRAFFIC CHANNEL
--- one whose frames begin three times 1,536 chips behind the mark
+-- one whose frames begin three times 1,536 chips after the mark
 abbrev assigned : Traffic
 assigned = record { esn = 0xabcd; row = 10; offset = 3 }
 
@@ -145,7 +145,7 @@ no_frame = refl
 unassigned : told_behind alone None (Some (paged 0)) [] 0 ≡ []
 unassigned = refl
 
--- a frame of 9,600 bits a second, of which MM and TT are told, and all behind them is other traffic
+-- a frame of 9,600 bits a second, of which MM and TT are told, and all after them is other traffic
 abbrev mixed : Bool → Bool → Bool → Decoded
 mixed good mm tt' = record {
   rate = R9600;
@@ -171,7 +171,7 @@ before_moments = refl
 from_moments : map (moment_from (paged 0)) (786432 ∷ 786433 ∷ 688128 ∷ []) ≡ 1 ∷ 2 ∷ 1 ∷ []
 from_moments = refl
 
--- four frames are heard from the pilots behind one moment
+-- four frames are heard from the pilots after one moment
 of_moments : map (moment_of assigned) (3 ∷ 4 ∷ []) ≡ 0 ∷ 1 ∷ []
 of_moments = refl
 

@@ -1,4 +1,4 @@
-//! A channel of the reference base station, behind the mark.
+//! A channel of the reference base station, after the mark.
 
 use chip_core::Traffic;
 use chip_core::air::FRAME_OFFSET_CHIPS;
@@ -28,7 +28,7 @@ impl Channel {
         }
     }
 
-    /// How many chips behind the mark its frame 0 begins.
+    /// How many chips after the mark its frame 0 begins.
     pub fn offset(&self) -> u64
         requires { IsLawful self.now }
         ensures value { result ≡ offset_of self.now }

@@ -63,9 +63,9 @@ pub enum Event {
         at: u64,
         /// The time of this evaluation, in units of 80 ms.
         time: u64,
-        /// The active set behind the evaluation.
+        /// The active set after the evaluation.
         active: ActiveList,
-        /// The candidate set behind it.
+        /// The candidate set after it.
         candidate: PilotList,
         /// Whether a pilot strength report is due.
         report: bool,

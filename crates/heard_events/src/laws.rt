@@ -18,7 +18,7 @@ ghost use Rattle.heard_events.specs.declared.channel.Channel.{Channel};
 ghost use Rattle.heard_events.specs.declared.mark.Mark.{Mark};
 ghost use Rattle.chip_core.specs.declared.assignment.Traffic.{Traffic};
 
-/// What a handset has heard by a sample doesn't hang on later samples: the events that end within
+/// What a handset has heard by a sample doesn't depend on later samples: the events that end within
 /// the first n samples, and the mark that they set, are the same for all files with these first n
 /// samples.
 pub fn later_samples_change_nothing()
@@ -30,7 +30,7 @@ pub fn later_samples_change_nothing()
         mark t one n ≡ mark t other n }
 {}
 
-/// What is received of a channel's frames by a sample doesn't hang on later samples: the frames
+/// What is received of a channel's frames by a sample doesn't depend on later samples: the frames
 /// that end within the first n samples are the same, soft value by soft value, for all files with
 /// these first n samples.
 pub fn later_samples_change_no_frame()
@@ -39,8 +39,8 @@ pub fn later_samples_change_no_frame()
         frames_within t channel m one n ≡ frames_within t channel m other n }
 {}
 
-/// What is received of a frame hangs on its fingers' samples alone: it is the same for all files
-/// that agree in these, whatever lies before and behind.
+/// What is received of a frame depends on its fingers' samples alone: for one tuning it is the same
+/// for all files that agree in these, whatever lies before and after.
 pub fn a_frame_hangs_on_its_samples()
     ensures { (t : Tuning) (channel : Channel) (m : Mark) (one other : List Sample) (k : ℕ) →
         AgreeIn one other (channel_stream t channel m).form

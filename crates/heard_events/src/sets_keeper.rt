@@ -85,7 +85,7 @@ impl SetsKeeper {
         self.passed
     }
 
-    /// The number of the last moment at or before a reference sample behind the mark.
+    /// The number of the last moment at or before a reference sample after the mark.
     pub fn moment_at(&self, start: u64) -> u64
         requires { self.now.mark.sample ≤ start }
         ensures { result ≡ (start - self.now.mark.sample) / 98304 }

@@ -17,7 +17,7 @@ pub struct PowerControl {
 /// A frame of a channel as it is received, before it is decoded.
 #[derive(Clone, Copy, PartialEq, Eq, Debug)]
 pub struct SoftFrame {
-    /// Its number, counted from the channel's first frame behind the mark.
+    /// Its number, counted from the channel's first frame after the mark.
     pub number: u64,
     /// How many samples of the file have been taken when it ends on every finger.
     pub end: u64,

@@ -9,7 +9,7 @@ pub no_digits : (before : List ℕ) (bits : List Bool) → before ≡ before ++ 
 unfolding digits_of
 no_digits before bits = sym (append-nil before)
 
--- one digit more behind others
+-- one digit more after others
 pub digit_more : (before text now : List ℕ) (bits : List Bool) (i : ℕ) → i < length bits →
     text ≡ before ++ digits_of (take i bits) → now ≡ text ++ digit_of (get_or bits i false) →
     now ≡ before ++ digits_of (take (i + 1) bits)

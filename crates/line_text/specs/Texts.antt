@@ -11,7 +11,7 @@ use Rattle.hex.specs.Hex.{encode_lower}
 abbrev pub octet_count : List Bool → ℕ
 octet_count bits = (length bits + 7) / 8
 
--- the bits, and zeros behind them up to whole octets
+-- the bits, and zeros after them up to whole octets
 unfoldable pub padded : List Bool → List Bool
 padded bits = bits ++ replicate (8 * octet_count bits - length bits) false
 

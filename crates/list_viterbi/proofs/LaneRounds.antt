@@ -1,4 +1,4 @@
--- Turns of two states' lists, one behind the other.
+-- Turns of two states' lists, one after the other.
 use Rattle.list_viterbi.proofs.Common.{◌≡◌, pos, refl, even_after, four_choices, four_scores, odd_after, taken_scores, taken_weights, Heads}
 use Rattle.list_viterbi.proofs.LaneChoices.{heads_of}
 

@@ -21,7 +21,7 @@ picks_from oldest gain place (s ∷ ss) =
     record { score = s +ℤ gain; back = 2 * place + oldest }
     ∷ picks_from oldest gain (suc place) ss
 
--- the first k codewords into a state, where the bit adds so much behind oldest bit 0
+-- the first k codewords into a state, where the bit adds so much after oldest bit 0
 unfoldable pub picks_by : List (List ℤ) → ℤ → ℕ → ℕ → List Pick
 picks_by column gain k t =
     merge pick_score k (picks_from 0 gain 0 (get_or column (2 * (t % 128) + 0) []))

@@ -23,7 +23,7 @@ use crate::scores::Scores;
 use std::simd::prelude::*;
 use viterbi::symbol_gains::lane_gains;
 
-/// Two states' next four scores behind oldest bit 0 or 1.
+/// Two states' next four scores after oldest bit 0 or 1.
 #[derive(Clone, Copy)]
 struct Heads {
     first: i64x2,
@@ -218,7 +218,7 @@ fn merge_block(even: &Heads, odd: &Heads, at: usize, next: &mut [i64], choices: 
 }
 
 /// The first four scores and the choices of two states from `2 * block` on, where the bit adds
-/// `gain` behind oldest bit 0, and of the two states 128 on, where it takes as much off.
+/// `gain` after oldest bit 0, and of the two states 128 on, where it takes as much off.
 fn merge_pair(ranks: &[i64], gain: i64x2, block: usize, next: &mut [i64], choices: &mut Choices)
     requires whole { length ranks.now ≡ 1024 }
     requires whole_next { length next.old ≡ 1024 }

@@ -136,8 +136,8 @@ fn picked_of_full(
 }
 
 /// The scores of the first `k` codewords into a state go into `scores`, where the bit adds `gain`
-/// behind oldest bit 0; the answer is their choices. Both generators, 753 and 561 octal
-/// (TIA/EIA-95-B, 7.1.3.1.3.1), tap the oldest bit, so behind oldest bit 1 the bit takes as much
+/// after oldest bit 0; the answer is their choices. Both generators, 753 and 561 octal
+/// (TIA/EIA-95-B, 7.1.3.1.3.1), tap the oldest bit, so after oldest bit 1 the bit takes as much
 /// off.
 fn picked_into(column: &[Scores], state: u8, gain: i64, k: u8, scores: &mut Scores) -> u32
     requires whole { length column.now ≡ 256 }

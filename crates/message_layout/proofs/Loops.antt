@@ -146,7 +146,7 @@ place_within size first width i count all h within =
     mul-le-mul_right size (let e : suc i ≤ count = omega (arith, h) in e) in
     omega (arith, most, suc-mul i size, within)
 
--- the numbers behind a place of a list
+-- the numbers after a place of a list
 pub column_moved : (base size place width n : ℕ) (bits : List Bool) →
     column_at size (base + place) width n bits ≡ column_at size place width n (drop base bits)
 column_moved base size place width zero bits = refl

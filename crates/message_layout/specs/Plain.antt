@@ -8,7 +8,7 @@ use Rattle.message_layout.specs.Shapes.{Shape}
 use Rattle.message_layout.specs.declared.contents.Contents.{Contents}
 use Rattle.message_layout.specs.declared.layout.Presence.TheVariants.{Never}
 
--- fixed fields, so many records at least, and so many bits behind them at most
+-- fixed fields, so many records at least, and so many bits after them at most
 abbrev pub plain_shape : List ℕ → List ℕ → ℕ → Option ℕ → Shape
 plain_shape fixed records least most = record {
   fixed = fixed;
@@ -30,7 +30,7 @@ plain_contents fixed columns rest = record {
   rest = rest;
 }
 
--- what stands at the places of fields, of as many records as fit behind them, and behind these
+-- what stands at the places of fields, of as many records as fit after them, and after these
 abbrev pub list_said : List ℕ → List ℕ → List Bool → Contents
 list_said fixed records bits =
     let w = drop (total fixed) bits in
@@ -38,7 +38,7 @@ list_said fixed records bits =
     plain_contents (values_at fixed bits) (columns_in records n w) (drop (n * total records) w)
 
 -- whether so many bits are contents of such a layout: the fixed fields, records enough, and no more
--- bits behind them than may be left
+-- bits after them than may be left
 abbrev pub has_length : Shape → ℕ → Bool
 has_length s count =
     let left = count - total s.fixed in

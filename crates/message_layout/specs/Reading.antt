@@ -1,4 +1,4 @@
--- Bits read by a layout, part by part: of each part what it says, and the bits behind it.
+-- Bits read by a layout, part by part: of each part what it says, and the bits after it.
 use Rattle.std.specs.Prelude.{ℕ, ◌*◌, ◌==◌, if◌then◌else◌, not, Bool, true, false, List, length}
 use Rattle.std.specs.Prelude.{take, drop, nat_le, Option, None, Some}
 use Rattle.chip_core.specs.Fields.{total}
@@ -19,7 +19,7 @@ abbrev pub mapped : {A B : Type 0} → (A → B) → Option A → Option B
 mapped f None = None
 mapped f (Some x) = Some (f x)
 
--- what was read, and the bits behind it, which begin at a place of a list
+-- what was read, and the bits after it, which begin at a place of a list
 abbrev pub behind : {A : Type 0} → List Bool → Option (A × ℕ) → Option (A × List Bool)
 behind bits None = None
 behind bits (Some x) = Some (x.0, drop x.1 bits)
@@ -83,7 +83,7 @@ is_few (Some most) count = nat_le count most
 abbrev pub is_rest : Option ℕ → List Bool → Bool
 is_rest most rest = is_few most (length rest)
 
--- the contents that end with these records and the bits behind them
+-- the contents that end with these records and the bits after them
 abbrev pub rest_at : Option ℕ → List ℕ → Option (List ℕ) → List Bool → List (List ℕ) → List Bool →
     Option Contents
 rest_at most fixed group octets columns rest =

@@ -25,7 +25,7 @@ octet_bits zeros count octets =
 abbrev pub records_of : Shape → Contents → List Field
 records_of s c = record_fields s.records (height c.columns) c.columns
 
--- behind the group
+-- after the group
 abbrev pub behind_group : Shape → Contents → List Bool
 behind_group s c = octet_bits s.zeros s.count c.octets ++ (spelled (records_of s c) ++ c.rest)
 
@@ -39,7 +39,7 @@ pub record HaveValues (widths values : List ℕ) : Type 0 where
   pub all : length values ≡ length widths
   pub fit : FieldsFit (in_widths widths values)
 
--- the group may be there, or not, where so many bits stand behind it
+-- the group may be there, or not, where so many bits stand after it
 abbrev pub IsGroup : Presence → List ℕ → Option (List ℕ) → ℕ → Type 0
 IsGroup Never widths group behind = group ≡ None
 IsGroup Flagged widths None behind = Unit {0}

@@ -46,7 +46,7 @@ unfolding all_parts said spelling reading fields_at group_at presence_at octets_
     part_at records_at binary
 read = refl
 
--- three bits behind a field of four are a rest, and no group
+-- three bits after a field of four are a rest, and no group
 unless_left : Shape
 unless_left =
     record {

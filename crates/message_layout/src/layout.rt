@@ -1,6 +1,6 @@
 //! Layouts as tables.
 //!
-//! A [`Layout`] has five parts, one behind another, each of which may have nothing:
+//! A [`Layout`] has five parts, one after another, each of which may have nothing:
 //!
 //! - fixed fields, which each body has;
 //! - a group of fields, which is there where a bit before it is 1, or where another number of bits
@@ -10,7 +10,7 @@
 //! - a rest of at most so many bits.
 //!
 //! The message type, by which a layout is chosen, stands before all of them. The bodies of sync,
-//! paging and traffic channels are such layouts behind their types:
+//! paging and traffic channels are such layouts after their types:
 //!
 //! | Message | Fixed | Group | Octets | Records | Rest |
 //! |---|---|---|---|---|---|
@@ -24,7 +24,7 @@
 //! | Extended Handoff Direction | 3 fields | 5 fields | a count | of 9, 1 and 8 bits | at most 7 |
 //! | Of any other type | | | | | all |
 //!
-//! In an Extended Handoff Direction the group stands behind SEARCH_INCLUDED, one bit 0 and a count
+//! In an Extended Handoff Direction the group stands after SEARCH_INCLUDED, one bit 0 and a count
 //! of 3 bits stand before the octets, and the records are one or more.
 
 ghost use Rattle.std.specs.Prelude.{◌≡◌, ◌<◌, [], length, map, get_or};
@@ -32,7 +32,7 @@ ghost use Rattle.std.specs.Prelude.{◌≡◌, ◌<◌, [], length, map, get_or}
 /// A field of a message: its name in lines of text, and in how many bits it is sent.
 pub type FieldRow = (&'static str, u8);
 
-/// The fields of a body behind its message type, in the order in which they are sent.
+/// The fields of a body after its message type, in the order in which they are sent.
 ///
 /// A layout has at most 48 fixed fields and 48 fields in its group, of 1 to 64 bits each, at most
 /// three fields in a record, of 1 to 32 bits each, and a rest that is shorter than a record.
@@ -46,7 +46,7 @@ pub struct Layout {
     pub octets: Octets,
     /// The records to the end.
     pub records: Records,
-    /// How many bits are left at most behind all of these; `None` where any number may be left.
+    /// How many bits are left at most after all of these; `None` where any number may be left.
     pub most: Option<u16>,
 }
 
@@ -64,7 +64,7 @@ pub struct Group {
 pub enum Presence {
     /// Nowhere.
     Never,
-    /// Behind a bit that is 1; where that bit is 0 there is none.
+    /// After a bit that is 1; where that bit is 0 there is none.
     Flagged,
     /// Unless just so many bits are left, fewer than the group has.
     UnlessLeft(u16),

@@ -1,7 +1,7 @@
 //! Bits read by a layout.
 //!
 //! Each function reads what stands at a place of one slice, counted from 0, and gives the place
-//! behind it; so nothing is copied but octets and a rest.
+//! after it; so nothing is copied but octets and a rest.
 //!
 //! The larger functions are put into their callers: a layout that is known there is gone by without
 //! a table, and what was read isn't copied from one call to the next.
@@ -54,7 +54,7 @@ pub fn read_from(layout: &Layout, bits: &BitSlice<'_>, from: u16) -> Option<Cont
     read_parts(layout, bits, from)
 }
 
-/// The message type, 8 bits, and the place behind it; `None` exactly where there are fewer.
+/// The message type, 8 bits, and the place after it; `None` exactly where there are fewer.
 pub fn read_kind(bits: &BitSlice<'_>) -> Option<(u8, u16)>
     ensures kind { behind bits.now result ≡ number_part 8 bits.now }
     ensures within { IfSome result (λ x. x.1 ≤ length bits.now) }
@@ -107,7 +107,7 @@ fn rest_of(bits: &BitSlice<'_>, from: u16) -> Bits
     bits.part(from, bits.len() - from)
 }
 
-/// The values of fields of a table from a place on, at most 48, and the place behind them; `None`
+/// The values of fields of a table from a place on, at most 48, and the place after them; `None`
 /// exactly where there are fewer bits.
 #[inline(always)]
 pub fn read_fields(rows: &[FieldRow], bits: &BitSlice<'_>, from: u16) -> Option<(FieldValues, u16)>
@@ -296,7 +296,7 @@ fn read_column(fields: &[FieldRow], j: usize, count: u8, bits: &BitSlice<'_>, fr
     read_places(bits, first, width_in(fields, j), size_of(fields), count)
 }
 
-/// The numbers at a place and at so many bits behind it each, `count` of them.
+/// The numbers at a place and at so many bits after it each, `count` of them.
 fn read_places(bits: &BitSlice<'_>, first: u16, width: u8, size: u16, count: u8) -> Numbers
     requires width { (1 ≤ width) × (width ≤ 32) }
     requires size { size ≤ 192 }

@@ -6,7 +6,7 @@ use chip_core::{BitWriter, Bits, Full};
 use message_layout::{Contents, Group, Layout, Octets, Presence, Records, append, read};
 use std::test::Fail;
 
-/// Two fields, two more behind a bit, octets behind two bits that are 0 and their count, records of
+/// Two fields, two more after a bit, octets after two bits that are 0 and their count, records of
 /// three fields, and at most 7 bits.
 const ALL_PARTS: Layout = Layout {
     fixed: &[("first", 5), ("second", 42)],

@@ -125,7 +125,7 @@ module _ {t : Tuning} {traffic : Traffic} {m : Mark} {r : SoftHandoff} {heard : 
             (take_all n (heard ++ more) (omega arith)) refl);
       }
 
--- BEHIND THE MARK
+-- AFTER THE MARK
 module _ {t : Tuning} {assigned : Option Traffic} {mark : Option Mark} {r : SoftHandoff}
     {heard : List Sample} {pages : List Event} (st : FollowsTraffic t assigned mark r heard pages) where
   -- it has heard more, or more is left to be heard

@@ -46,7 +46,7 @@ none_come r sound none =
       | inr more ↦ let order = sound.receiver.frames.clocked.next_have in omega (arith, more, order)
     ]
 
--- a frame begins at the moment that tells its pilots, or behind it
+-- a frame begins at the moment that tells its pilots, or after it
 pub start_moment : (traffic : Traffic) (m : Mark) (k : ℕ) →
     moment_place m (moment_of traffic k) ≤ traffic_start traffic m k
 start_moment traffic m k = omega arith
@@ -89,7 +89,7 @@ module _ {t : Tuning} {traffic : Traffic} {m : Mark} {r : SoftHandoff} {heard : 
   abbrev end : ℕ
   end = r.receiver.frames.clock.end
 
-  -- the moment that passed last, and the one behind it
+  -- the moment that passed last, and the one after it
   abbrev place : ℕ
   place = moment_place m r.sets.passed
 
@@ -240,7 +240,7 @@ module _ {t : Tuning} {traffic : Traffic} {m : Mark} {r : SoftHandoff} {heard : 
         (λ k inside e.
         let low = known_low t traffic m legs closes k in omega (arith, low, e, at_mark))
 
-    -- the sets, behind the mark and before it
+    -- the sets, after the mark and before it
     sets_more : all_noted m (later ++ left_of samples) r.sets.sets
         ≡ heard_from t traffic m kept samples r.sets.passed (taken - place)
     sets_more =
@@ -318,7 +318,7 @@ module _ {t : Tuning} {traffic : Traffic} {m : Mark} {r : SoftHandoff} {heard : 
       ∙ ap (power_places (frame_state traffic m k)) st.tuned.mask_is
 
   -- A FRAME
-  -- The soft values of the frame whose last sample has just come: the pilots of the one behind it
+  -- The soft values of the frame whose last sample has just come: the pilots of the one after it
   -- are still to be told.
   pub hears_come : (fresh : List ℤ) (power : PowerSofts) (replaced : List ℕ) → coming ≡ next →
       end ≡ length heard → fresh ≡ softs heard r.receiver.frames.fingers Data r.receiver.frames.clock.start →

@@ -1,4 +1,4 @@
--- A handset that has just told a mark has taken no sample behind it, and one that has told all has the mark of all samples.
+-- A handset that has just told a mark has taken no sample after it, and one that has told all has the mark of all samples.
 use Rattle.mobile_core.proofs.Common.{◌≡◌, ℕ, ◌+◌, ◌≤◌, true, false, List, [], ◌∷◌, ◌++◌, length, sym, ap, ◌∙◌, arith, inl, inr, nat_le}
 use Rattle.mobile_core.proofs.Common.{Some, flat_map, list_all, list_any, and_from, cases_lt, le-leb, lt-leb, append_assoc, places, Sample}
 use Rattle.mobile_core.proofs.Common.{events_at, at_of, mark, sets_mark, AreNear, Mobile, Tuning, sync_stream, Event, Pilot, Mark, subst}
@@ -21,7 +21,7 @@ mark_is t mobile heard given st m set =
     (sym st.sync.marked ∙ set)
 
 -- Where the event given last ends at the last sample taken, and none before it sets a mark, the mark
--- lies there or behind.
+-- lies there or after.
 pub mark_ahead : (t : Tuning) (mobile : Mobile) (heard : List Sample) (given : List Event)
     (event : Event) → StandsFor t mobile heard (given ++ event ∷ []) → at_of event ≡ length heard →
     list_any sets_mark given ≡ false → (m : Mark) → mobile.sync.mark ≡ Some m →

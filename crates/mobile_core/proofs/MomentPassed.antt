@@ -62,7 +62,7 @@ module _ {t : Tuning} {traffic : Traffic} {m : Mark} {r : SoftHandoff} {heard : 
       ∙ st.sets_are
       ∙ ap (heard_from t traffic m kept_now heard last) count
 
-  -- behind the moment those that pass it are kept
+  -- after the moment those that pass it are kept
   kept_here : (i : ℕ) → last < i → kept_then i ≡ passed m heard (last + 1) r.sets.sets
   kept_here i less =
       let whole : take (moment_place m (last + 1)) heard ≡ heard =

@@ -26,7 +26,7 @@ module _ {r : TrafficReceiver} (is : IsSoundTraffic r) where
             frames.begun room (ended ∙ frames.ends));
       }
 
-  -- a frame's soft values, and on to the frame behind it, in a file
+  -- a frame's soft values, and on to the frame after it, in a file
   pub sound_taken : (softs : List ℤ) (power : PowerSofts) →
       sum_by unsigned_abs softs ≤ 3 * 2 ^ 60 → power.count ≤ 6 →
       r.frames.clock.have ≡ r.frames.clock.next → r.frames.clock.end ≤ 2 ^ 26 →
@@ -49,14 +49,14 @@ module _ {r : TrafficReceiver} (is : IsSoundTraffic r) where
         subchannels = few;
       }
 
--- other pilots' frame ends behind a place near its first sample
+-- other pilots' frame ends after a place near its first sample
 pub waits_tuned : (start end n : ℕ) (fingers : List Finger) → AreClose fingers →
     end ≡ frame_end fingers Data start → n ≤ start + 226 → n < end
 waits_tuned start end n fingers close ends few =
     let low = (close_ends start fingers close).0 in
     omega (arith, low, ends, few)
 
--- behind a moment the active pilots' fingers are close
+-- after a moment the active pilots' fingers are close
 pub passed_close : {t : Tuning} {traffic : Traffic} {m mark : Mark} {r : TrafficReceiver} →
     IsTunedIn t traffic m mark r.phase r.near r.frames.scrambling → IsSoundTraffic r →
     (k : SetsKeeper) → k.mark ≡ m → 1 ≤ length (legs_of k.mark k.sets) →

@@ -165,7 +165,7 @@ module _ {t : Tuning} {count : ℕ} {check : CheckForm} {pilot : Option Best} {r
       (subst (λ (m : Option Mark). HearsFollowed t others m heard) (sym set) follows)
       (ap is_some set ∙ sym (or-false (is_some sync.mark))) (rw (next, set, left) refl)
 
-  -- a frame of the sync channel that is heard leaves the mark, or sets one that lies behind
+  -- a frame of the sync channel that is heard leaves the mark, or sets one that lies after
   pub heard_sets : (after : SyncReceiver) → HearsSync t after heard → IsSoundSync after →
       IsDueAt t.count sync.received.clock →
       after.received.clock.next ≡ sync.received.clock.next + 1 →

@@ -16,13 +16,13 @@ use Rattle.mobile_core.specs.declared.paging_receiver.PagingReceiver.{PagingRece
 use Rattle.heard_events.specs.SpelledMessages.{SpelledPage}
 use Rattle.mobile_core.specs.declared.soft_handoff.SoftHandoff.{SoftHandoff}
 
--- What is told by n samples leaves the mark, or sets one that lies behind them.
+-- What is told by n samples leaves the mark, or sets one that lies after them.
 abbrev pub SetsMark : ℕ → Option Mark → Option Mark → Type 0
 SetsMark n before after =
     (after ≡ before) ⊎ ((before ≡ None) × ForSome after (λ m. n < m.sample))
 
 -- THE PAGING CHANNEL
--- whether it is heard behind a mark that may be set: its PRAT has to stand for a rate
+-- whether it is heard after a mark that may be set: its PRAT has to stand for a rate
 abbrev pub is_paged : Option Mark → Bool
 is_paged None = false
 is_paged (Some m) = nat_lt m.prat 2

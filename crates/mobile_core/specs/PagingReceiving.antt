@@ -26,7 +26,7 @@ pub record IsUnderWay (t : Tuning) (channel : ℕ) (m : Mark) (r : PagingReceive
   pub due : IsDueAt t.count r.received.clock
   pub own : r.frame ≡ frame_own_bits t.count heard (paging_stream t channel m) r.received.clock.next
 
--- what no step changes is that of the channel behind the mark
+-- what no step changes is that of the channel after the mark
 pub record IsOfChannel (channel : ℕ) (m : Mark) (scrambling : Scrambling) (rate : Rate)
     (size : ℕ) : Type 0 where
   pub state_is : scrambling.state ≡ m.state
@@ -54,7 +54,7 @@ pub record HearsBit (t : Tuning) (channel : ℕ) (m : Mark) (heard : List Sample
       ++ pages_left t channel m heard after.received.clock.next after.place
       ≡ pages_left t channel m heard before.received.clock.next before.place
 
--- one bit of the next frame has been heard; behind its last one the frame has been heard
+-- one bit of the next frame has been heard; after its last one the frame has been heard
 abbrev pub bit_passed : PagingReceiver → PagingReceiver
 bit_passed r =
     if nat_lt (r.place + 1) (length r.frame) then record r { place = r.place + 1 }

@@ -59,7 +59,7 @@ abbrev pub IsDueFor : Mobile → Type 0
 IsDueFor m = IsDueIn m.count m.pilot m.sync m.followed
 
 -- whether the pilot hasn't been told, how many frames of the sync channel have come that haven't
--- been heard, and how much of the channels behind the mark
+-- been heard, and how much of the channels after the mark
 abbrev pub due_parts : Mobile → ℕ
 due_parts mobile =
     length (pilot_left mobile.pilot)

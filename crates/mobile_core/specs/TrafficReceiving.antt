@@ -50,7 +50,7 @@ first_keeper m row = record {
 }
 
 -- THE EVENTS THAT ARE LEFT
--- What a receiver has still to tell of the channel, from what is kept behind each moment: the
+-- What a receiver has still to tell of the channel, from what is kept after each moment: the
 -- message that it keeps comes first.
 abbrev pub told_left_with : Tuning → Traffic → Mark → List Sample → TrafficReceiver →
     (ℕ → Standing) → List Event
@@ -59,7 +59,7 @@ told_left_with t traffic m samples r kept =
     ++ (frames_left_of t traffic m (legs_by traffic m kept) samples r.frames.clock.next
     ++ messages_left_of t traffic m (legs_by traffic m kept) samples r.frames.clock.next)
 
--- what is kept behind the moments that have passed
+-- what is kept after the moments that have passed
 abbrev pub kept_in : Tuning → Traffic → Mark → SoftHandoff → List Sample → (ℕ → Standing)
 kept_in t traffic m r heard = kept_to t traffic m heard r.sets.passed
 
@@ -85,7 +85,7 @@ pub record WaitsAt (taken : ℕ) (r : SoftHandoff) : Type 0 where
   pub before : taken < next_end r
   pub due : r.sets.due ≡ true → taken ≡ moment_place r.sets.mark (r.sets.passed + 1)
 
--- what of a receiver never changes is that of this channel behind this mark
+-- what of a receiver never changes is that of this channel after this mark
 pub record IsTunedIn (t : Tuning) (traffic : Traffic) (m mark : Mark) (phase : ℕ) (near : Near)
     (turns : Scrambling) : Type 0 where
   pub mark_is : mark ≡ m
@@ -121,7 +121,7 @@ pub record HasHeard (t : Tuning) (traffic : Traffic) (m : Mark) (legs : ℕ → 
   pub framed : StandsFor framer (signals_before t traffic m legs heard next)
 
 -- It has taken these samples, in which the events `pages` of the paging channel haven't been heard;
--- `kept` is what is kept behind the moments that have passed, and those before moment `until` have
+-- `kept` is what is kept after the moments that have passed, and those before moment `until` have
 -- told the pilots of the frame that comes next. The sets are those of the definition, but for what
 -- is still to be told, and a moment passes where nothing is.
 pub record HearsUpTo (until : ℕ) (t : Tuning) (traffic : Traffic) (m : Mark) (r : SoftHandoff)

@@ -79,8 +79,8 @@ impl Followed {
     /// Opens the receivers where a mark is set and none is open, when so many samples have been
     /// taken.
     ///
-    /// Where some samples behind the mark have been taken already they stay closed; a message sets
-    /// a mark that lies behind the samples in which it is known.
+    /// Where some samples after the mark have been taken already they stay closed; a message sets
+    /// a mark that lies after the samples in which it is known.
     pub(crate) fn follow(&mut self, mark: &Option<Mark>, taken: u64)
         requires sound { IsSoundFollowed self.old }
         requires mark { ForSome mark.now IsSoundMark }
@@ -105,7 +105,7 @@ impl Followed {
         self.traffic = Some(handoff);
     }
 
-    /// Whether no receiver is open, and a mark lies behind so many samples.
+    /// Whether no receiver is open, and a mark lies after so many samples.
     fn opens(&self, mark: &Mark, taken: u64) -> bool
         ensures { IsTrue result ↔ (taken < mark.now.sample)
             × ((self.now.paging ≡ None) × (self.now.traffic ≡ None)) }

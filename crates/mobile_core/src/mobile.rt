@@ -29,7 +29,7 @@ pub struct Step {
     pub event: Option<Event>,
 }
 
-/// What a handset leaves to who hears the samples behind those that it has taken.
+/// What a handset leaves to who hears the samples after those that it has taken.
 #[derive(Drop)]
 pub struct HeardRing {
     /// How many samples the file has.
@@ -44,7 +44,7 @@ pub struct HeardRing {
 /// search found, and what it hears, as events: the pilot before it takes a sample, and each other
 /// one when its last sample has been taken.
 ///
-/// It decodes each frame of the sync channel together with the frame before it and the frame behind
+/// It decodes each frame of the sync channel together with the frame before it and the frame after
 /// it, where these lie in the file, and so knows a frame one frame later (TIA/EIA-95-B, 7.7.1).
 /// Where a message sets a mark it follows one paging channel from there on, in the same way
 /// (7.7.2), and a traffic channel where one is assigned, whose frames are known when they end
@@ -140,7 +140,7 @@ impl Mobile {
     /// The mark that a message of the sync channel set, the first with a long-code state that isn't
     /// 0; `None` exactly where none is set.
     ///
-    /// Behind the step that gives this message's event the mark lies ahead: no sample behind it has
+    /// After the step that gives this message's event the mark lies ahead: no sample after it has
     /// been taken.
     pub fn mark(&self) -> Option<Mark>
         ensures given { (t : Tuning) (heard : List Sample) (given : List TheEvent) →
@@ -160,7 +160,7 @@ impl Mobile {
         self.sync.mark()
     }
 
-    /// The samples that it has taken, for who hears those behind them in its place: the last 65,536
+    /// The samples that it has taken, for who hears those after them in its place: the last 65,536
     /// of them, and the codes. It allocates nothing.
     pub fn into_ring(self) -> HeardRing
         ensures count { result.count ≤ 67108864 }
@@ -221,7 +221,7 @@ impl Mobile {
         event
     }
 
-    /// Hears what is due of the channels behind the mark, and gives the event that it completes.
+    /// Hears what is due of the channels after the mark, and gives the event that it completes.
     // Its frame holds several events, and is not to lie beneath that of another channel.
     #[inline(never)]
     fn hear_followed(&mut self) -> Option<Event>

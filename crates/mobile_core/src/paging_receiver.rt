@@ -125,7 +125,7 @@ impl PagingReceiver {
             .own_bits(decoder, FrameKind::Paging(self.rate))
     }
 
-    /// Goes on behind a bit of the next frame.
+    /// Goes on after a bit of the next frame.
     fn pass_bit(&mut self)
         requires sound { IsSoundPaging self.old }
         requires come { self.old.received.clock.next < self.old.received.clock.have }

@@ -1,4 +1,4 @@
-//! What receives the channels behind the mark.
+//! What receives the channels after the mark.
 
 use chip_core::CheckForm;
 use heard_events::Event;
@@ -6,7 +6,7 @@ use rake_finger::SampleRing;
 use short_code::Codes;
 use viterbi::Decoder;
 
-/// What receives a channel behind the mark, or several: it takes samples up to the end of what
+/// What receives a channel after the mark, or several: it takes samples up to the end of what
 /// comes next, a frame or a moment, and then hears what has come, event by event.
 pub(crate) trait Receive {
     ghost use Rattle.std.specs.Prelude.{◌≡◌, ◌<◌, ◌≤◌, ◌↔◌, ◌++◌, ℕ, IsTrue, IfSome, List, []};
@@ -43,7 +43,7 @@ pub(crate) trait Receive {
     /// How the checks of its messages are sent.
     ghost form: { Tuning → TheForm };
 
-    /// Nothing is heard behind a mark that may be set, where a mark opens a receiver; that of a
+    /// Nothing is heard after a mark that may be set, where a mark opens a receiver; that of a
     /// traffic channel opens where one is assigned.
     ghost silent: { Option Traffic → Option Mark → Type 0 } = { λ _ mark. mark ≡ None };
 

@@ -26,7 +26,7 @@ pub fn paging_scrambling(channel: u8, mark: &Mark) -> Scrambling
     }
 }
 
-/// That of a traffic channel, whose frame 0 begins at its offset behind the mark (TIA/EIA-95-B,
+/// That of a traffic channel, whose frame 0 begins at its offset after the mark (TIA/EIA-95-B,
 /// 7.1.3.1.6).
 pub fn traffic_scrambling(traffic: &Traffic, mark: &Mark) -> Scrambling
     requires mark { IsSoundMark mark.now }

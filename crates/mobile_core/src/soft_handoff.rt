@@ -12,7 +12,7 @@ use viterbi::Decoder;
 /// A traffic channel that is followed from the mark on, in soft handoff: the receiver of its
 /// frames, and the pilot sets beside it, which tell from which pilots these are heard.
 ///
-/// TIA/EIA-95-B, 6.6.6.2: a frame is heard from the pilots that are active behind the last moment
+/// TIA/EIA-95-B, 6.6.6.2: a frame is heard from the pilots that are active after the last moment
 /// at or before its first sample. What is heard changes the sets, and they move at each moment.
 #[derive(Drop)]
 pub(crate) struct SoftHandoff {
@@ -64,7 +64,7 @@ impl SoftHandoff {
     }
 
     /// Takes the soft values of the frame whose last sample has come, where one has, and goes on to
-    /// the frame behind it.
+    /// the frame after it.
     fn take_frame(&mut self, ring: &SampleRing, codes: &Codes)
         requires sound { IsSoundHandoff self.old }
         requires idle { self.old.receiver.frames.clock.have ≡ self.old.receiver.frames.clock.next }

@@ -18,7 +18,7 @@ use viterbi::Decoder;
 /// told.
 ///
 /// TIA/EIA-95-B, 7.1.3.5: each frame is encoded by itself, and so is heard at its own end. A
-/// message is heard behind the frame that completes it (7.7.3).
+/// message is heard after the frame that completes it (7.7.3).
 #[derive(Drop)]
 pub(crate) struct TrafficReceiver {
     /// Its frames: where they lie, and the fingers of the one that comes next. The frame that is
@@ -114,7 +114,7 @@ impl TrafficReceiver {
     }
 
     /// Takes the soft values of the frame whose last sample has just come, and those of its power
-    /// control bits, and goes on to the frame behind it.
+    /// control bits, and goes on to the frame after it.
     pub(crate) fn take_softs(&mut self, ring: &SampleRing, codes: &Codes)
         requires sound { IsSoundTraffic self.old }
         requires idle { self.old.frames.clock.have ≡ self.old.frames.clock.next }

@@ -91,7 +91,7 @@ module _ {taps : List KeptTap} {r : Reception} {rest left : Option (List ℕ)}
 module _ {taps : List KeptTap} {r : Reception} {rest left : Option (List ℕ)}
     {misread misread_now : ℕ} {SameSource : Type 0} {old new : Option (List ℕ)}
     {miswritten miswritten_now : ℕ} {SameSink : Type 0} where
-  -- a write failed behind a good beginning
+  -- a write failed after a good beginning
   pub lost_file : IfSome rest (BeginsFile r.span) → Rose miswritten miswritten_now →
       TakesNoMore rest left → WritesNoMore taps r rest left old new → misread ≤ misread_now →
       miswritten ≤ miswritten_now →

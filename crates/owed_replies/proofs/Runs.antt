@@ -128,7 +128,7 @@ promising forms task status None old new end answered = tt
 promising forms task status (Some bytes) old new end answered =
     owed_well forms task bytes answered.reply status old new answered.owed answered.answers end
 
--- ---- ends behind which nothing is held
+-- ---- ends after which nothing is held
 
 header_left : (fault : FileFault) → IsHeaderFault fault → ¬ (MayHold (Status.BadFile fault))
 header_left (file.Short place) early held = early
@@ -148,7 +148,7 @@ rose_later old mid new rose later = omega (arith, rose, later)
 pub rose_before : (old mid new : ℕ) → old ≤ mid → Rose mid new → Rose old new
 rose_before old mid new later rose = omega (arith, rose, later)
 
--- ---- what is passed on behind a run
+-- ---- what is passed on after a run
 
 module _ {forms : List ℕ} {named : Option Job} {rest left old mid new : Option (List ℕ)}
     {misread misread_now miswritten between miswritten_now : ℕ}
@@ -156,7 +156,7 @@ module _ {forms : List ℕ} {named : Option Job} {rest left old mid new : Option
     (run : RunsCommand forms named before rest left misread misread_now SameSource old mid miswritten
     between StillSink Unwritten) (both : StillSink → SamePassed → SameSink)
     (unwritten : Unwritten → mid ≡ old) where
-  -- a run that ends so behind it too
+  -- a run that ends so after it too
   kept_run : (¬ (MayHold before) → SamePassed) → Keeps mid new → between ≤ miswritten_now →
       RunsCommand forms named before rest left misread misread_now SameSource old new miswritten
       miswritten_now SameSink (Keeps old new)
@@ -411,7 +411,7 @@ line_told {T} {E} {SameErrors} {old} {new} is told bytes unset means same whole 
 
 -- ---- taps of each form
 
--- what each value behind a vtable tells, behind one that is the same
+-- what each value after a vtable tells, after one that is the same
 pub by_vtable : {X : Type 0} {F : X → Type 0} (form : (i : X) → F i → ℕ) (known i : X) (n : ℕ)
     (v : F i) → i ≡ known → ((w : F known) → form known w ≡ n) → form i v ≡ n
 by_vtable {X} {F} form known i n v is told =

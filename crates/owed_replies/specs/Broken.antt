@@ -22,7 +22,7 @@ IsCut (BadFile (Short place)) = Unit {0}
 IsCut ReadFault = Unit {0}
 IsCut _ = ⊥
 
--- the file went on behind its samples
+-- the file went on after its samples
 abbrev pub IsLong : Status → Type 0
 IsLong (BadFile (Extra place)) = Unit {0}
 IsLong _ = ⊥
@@ -76,7 +76,7 @@ WritesAll taps r rest old new =
     HasWritten taps r header bytes (λ k. k ≡ header.count) old new)
 
 -- A source lost the spellings of samples, such a number of them, each within its width, and at most
--- so many bytes behind them; and a sink got what is told of these samples.
+-- so many bytes after them; and a sink got what is told of these samples.
 pub record HearsFirst (l : Listening) (width : Width) (counted : ℕ → Type 0) (most : ℕ)
     (heard : List Sample) (rest left old new : Option (List ℕ)) : Type 0 where
   pub samples : List Sample

@@ -10,7 +10,7 @@ use Rattle.clean_link.specs.CleanLink.{tuning_to}
 use Rattle.clean_link.specs.HeardEach.{HearsEach}
 use Rattle.owed_replies.specs.CleanFiles.{cell_energy}
 
--- Behind what a sink held stands what taps make of a list of events. They are all of a handset in
+-- After what a sink held stands what taps make of a list of events. They are all of a handset in
 -- the cell's samples, the pilot at the cell's phase first, in the order in which they are known,
 -- and of each channel of the cell they are what it sends.
 pub record WritesEach (taps : List KeptTap) (span : ℕ) (plan : CellPlan) (paging : ℕ)

@@ -66,7 +66,7 @@ pub record WritesText (taps : List KeptTap) (r : Reception) (status : Status) (b
   pub ends : status ≡ file_end_of r searchable.header searchable.samples
 
 -- A text is a beginning of the text of samples, as many as the span is or more and no more than the
--- header counts, each within its width, with which the file of these bytes begins behind that
+-- header counts, each within its width, with which the file of these bytes begins after that
 -- lawful header, which so is the one that they open with; and all of these samples were taken, with
 -- more bytes or none.
 pub record BeginsText (taps : List KeptTap) (r : Reception) (rest left : Option (List ℕ))
@@ -117,7 +117,7 @@ abbrev pub TakesNoMore : Option (List ℕ) → Option (List ℕ) → Type 0
 TakesNoMore rest left =
     IfSome rest (λ bytes. ConsumesAtMost (most_taken (opening bytes)) (Some bytes) left)
 
--- a fault that a file of this header and of so many bytes has behind the header
+-- a fault that a file of this header and of so many bytes has after the header
 abbrev pub IsLaterFault : ℕ → Header → ℕ → FileFault → Type 0
 IsLaterFault span header len (TooFew count) = (count ≡ header.count) × (count < span)
 IsLaterFault span header len (Short place) =

@@ -69,7 +69,7 @@ abbrev pub waiting : ℕ → HandsetOptions
 waiting fingers = record { fingers = fingers; paging = 1; traffic = None }
 
 -- who hears a file: nobody, or a handset whose events these taps hear, or a handset for the mark
--- and a receiver for the frames of one channel behind it
+-- and a receiver for the frames of one channel after it
 pub data Listening : Type 0 where
   Nobody : Listening
   ByTaps : Tuning → List KeptTap → Listening

@@ -94,7 +94,7 @@ IsTaskReply forms (Receive r limits) = IsFileReply (taps_by limits forms) r
 IsTaskReply forms (Make width) = IsScriptReply width
 IsTaskReply forms (Trial number workers) = λ bytes. IsTrialReply number
 
--- what memory may run out behind, or a write fail behind: a good beginning of the input
+-- what memory may run out after, or a write fail after: a good beginning of the input
 abbrev pub IsTaskPromising : Task → List ℕ → Type 0
 IsTaskPromising (Receive r limits) = BeginsFile r.span
 IsTaskPromising (Make width) = λ bytes. IsOk (plan_named width bytes)
@@ -121,7 +121,7 @@ TaskTellsFirst forms (Receive r limits) Unwritten = WritesFirst (taps_by limits 
 TaskTellsFirst forms (Make width) Unwritten = λ rest left old new. Unwritten
 TaskTellsFirst forms (Trial number workers) Unwritten = λ rest left old new. Unit {0}
 
--- and where it goes on behind its samples: their whole text
+-- and where it goes on after its samples: their whole text
 abbrev pub TaskTellsAll : List ℕ → Task → Option (List ℕ) → Option (List ℕ) → Option (List ℕ) →
     Type 0
 TaskTellsAll forms (Receive r limits) = WritesAll (taps_by limits forms) r

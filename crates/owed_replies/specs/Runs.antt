@@ -69,7 +69,7 @@ pub record RunsCommand (forms : List ℕ) (named : Option Job) (status : Status)
   -- channel that is followed is one of the cell's, each of whose frames is distinct, or none is,
   -- that is the text of the pilot, of the whole transmissions, of the followed paging channel's
   -- whole pages, of that traffic channel's frames with the messages that their signaling spells,
-  -- and of the pilot sets behind it, in the order in which they are known.
+  -- and of the pilot sets after it, in the order in which they are known.
   pub all_distinct : (width : Width) (script bytes held : List ℕ) (plan : CellPlan)
       (span workers fingers paging : ℕ) (traffic : Option Traffic) (limits : List ℕ)
       (header : Header) (samples : List Sample) →
@@ -111,7 +111,7 @@ pub record RunsCommand (forms : List ℕ) (named : Option Job) (status : Status)
   pub bound : (job : Job) → named ≡ Some job → BoundsInput job rest left
   pub written : (job : Job) → named ≡ Some job → WritesPart (Begins forms job rest left) old new
   -- Where a sample file breaks off or a read of it failed, the text of the samples that were taken
-  -- was written, but for the last 4,096 or fewer; and where it goes on behind its samples, all
+  -- was written, but for the last 4,096 or fewer; and where it goes on after its samples, all
   -- text.
   pub cut : (job : Job) → named ≡ Some job → IsCut status →
       TellsFirst forms job Unwritten rest left old new

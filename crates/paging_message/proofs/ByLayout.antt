@@ -1,4 +1,4 @@
--- What stands behind the message types, by its layouts.
+-- What stands after the message types, by its layouts.
 use Rattle.paging_message.proofs.Common.{◌≡◌, Bool, None, Some, ap, arith, cond, false, inl, length-append, map, refl, subst, sym, true}
 use Rattle.paging_message.proofs.Common.{◌*◌, ◌+◌, ◌-◌, ◌<◌, ◌==◌, ◌^◌, ◌∙◌, ◌∷◌, ◌≢◌, ◌≤◌, eqb-false, eqb-true, le-leb, lt-leb, ne_eqb}
 use Rattle.paging_message.proofs.Common.{length-binary, map-places-all, binary, places, FieldsFit, field, total, both_columns, first_column}

@@ -14,7 +14,7 @@ use Rattle.paging_message.specs.Laying as laying
 use Rattle.paging_message.proofs.Layings as layings
 
 -- BIT BY BIT
--- the capsules that more bits end, behind others
+-- the capsules that more bits end, after others
 abbrev pub heard : ℕ → List Bool → List Bool → List (List Bool)
 heard size bits [] = []
 heard size bits (b ∷ more) =
@@ -76,7 +76,7 @@ record Feeding (size : ℕ) (l : laying.Laid) (out : List Bool)
   placed : place ≡ length out % (size + 1)
   way : o ≡ half_under_way size out
 
--- what was laid behind it, and the capsules that the framer gives of it
+-- what was laid after it, and the capsules that the framer gives of it
 record Fed (size : ℕ) (l : laying.Laid) (out : List Bool) (o : Option (List Bool))
     (capsules : List (List Bool)) : Type 0 where
   more : List Bool
@@ -102,7 +102,7 @@ abbrev pub fed_state : ℕ → laying.Laid → Option (List Bool) → Bool → O
 fed_state size l o b =
     after (bits_left size (length (l.body ++ b ∷ []))) (completed o (b ∷ [])) (continued o (b ∷ []))
 
--- what is left behind a bit
+-- what is left after a bit
 left_behind : (size place left : ℕ) (l : laying.Laid) (out : List Bool) → 0 < size → place ≤ size →
     laying.HasLaid (record { size = size; place = place }) l out →
     laying.left_in (record { size = size; place = place }) ≡ left →
@@ -255,7 +255,7 @@ behind_capsule size l = cond (nat_le 8 (bits_left size (length l.body))) (Some [
 abbrev pub bits_on : laying.Laid → List Bool → laying.Laid
 bits_on l bits = record { body = l.body ++ bits; starts = l.starts }
 
--- a body bit, by what it completes and what is open behind it
+-- a body bit, by what it completes and what is open after it
 feed_as : (size : ℕ) (l : laying.Laid) (out : List Bool) (o whole open_bits : Option (List Bool))
     (sci b : Bool) → 2 ≤ size → Feeding size l out o → (IsTrue sci → length l.body % size ≡ 0) →
     completed (begins sci o) (b ∷ []) ≡ whole → continued (begins sci o) (b ∷ []) ≡ open_bits →
@@ -269,7 +269,7 @@ feed_as size l out o whole open_bits sci b large f starts gives on =
     (subst (λ (p : Option (List Bool)). Fed size m out (after left own p) (option_to_list own)) on
     (feed size l out o sci b large f starts))
 
--- bits that are laid behind others
+-- bits that are laid after others
 then_bits : (size : ℕ) (l : laying.Laid) (out xs ys : List Bool) (o : Option (List Bool))
     (p : laying.Laid → Option (List Bool)) (cs ds : List (List Bool))
     (a : Fed size (bits_on l xs) out o cs) →

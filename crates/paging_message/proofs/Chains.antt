@@ -1,4 +1,4 @@
--- Capsules that follow one another: what one more bit ends, and what is open behind it.
+-- Capsules that follow one another: what one more bit ends, and what is open after it.
 use Rattle.paging_message.proofs.Common.{◌≡◌, ℕ, zero, suc, ◌+◌, ◌-◌, ◌<◌, ◌≤◌, ◌&&◌, Bool, true, false, cond, List, [], ◌∷◌, ◌++◌, length}
 use Rattle.paging_message.proofs.Common.{drop, refl, sym, ap, ◌∙◌, arith, length-append, length-drop, nat_le, inl, inr, Option, Some, None}
 use Rattle.paging_message.proofs.Common.{cases_Bool, le-leb, lt-leb, leb-true, and_parts, false_from_ne_true, drop-append-le, take_all}
@@ -182,7 +182,7 @@ ends_more (suc fuel) size count bits b =
     gives_cond true o = refl
     gives_cond false o = refl
 
--- what is open behind a bit that completed this, so many bits behind the start: a new capsule where
+-- what is open after a bit that completed this, so many bits after the start: a new capsule where
 -- 8 bits are left
 abbrev pub after : ℕ → Option (List Bool) → Option (List Bool) → Option (List Bool)
 after left None open_bits = open_bits

@@ -60,7 +60,7 @@ framed_more size n starts starts' front q large long some most same =
     ∙ ap (λ (l : List Bool). flat_map (laying.half_frame size starts front) (places n) ++
     (list_any (λ s. s == n) starts' ∷ l)) last
 
--- where a half-frame is under way, bits behind what was laid go on with it, up to its end
+-- where a half-frame is under way, bits after what was laid go on with it, up to its end
 framed_on : (size : ℕ) (starts : List ℕ) (body more : List Bool) → 0 < length body % size →
     length body % size + length more ≤ size →
     laying.framed size (record { body = body ++ more; starts = starts })
@@ -407,7 +407,7 @@ left_most layout false k most is =
     ]
 
 -- WHOLE HALF-FRAMES
--- what is laid, and zeros behind it
+-- what is laid, and zeros after it
 pub padded_framed : (size : ℕ) (l : laying.Laid) → 0 < size →
     laying.half_frames_of size l
     ≡ laying.framed size l ++ replicate (laying.fill size (length l.body)) false

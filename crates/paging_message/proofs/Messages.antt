@@ -12,7 +12,7 @@ pub message_fills : (m : PagingMessage) → IsPagingMessage m → FillsCapsule M
 unfolding message_body
 message_fills m is = (spelled_by m is).fills
 
--- a message type and the bits behind it are read by its layout
+-- a message type and the bits after it are read by its layout
 pub typed_reading : (k : ℕ) (w : List Bool) → k < 2 ^ 8 → FillsCapsule M30 (binary 8 k ++ w) →
     body_reading (binary 8 k ++ w) ≡ mapped (message_from k) (reading (shape_of k) w)
 unfolding body_reading is_body
@@ -154,7 +154,7 @@ typed_length body w k fills typed =
     let t = number_there 8 k body w (sym typed) in
     omega (arith, fills.whole, fills.most, ap length t.1, length-append (binary 8 k) w)
 
--- what was read behind a type, by the type's layout
+-- what was read after a type, by the type's layout
 pub told : (body w : List Bool) (k : ℕ) (s : Shape) (read : Option Contents) →
     FillsCapsule M30 body → Some (k, w) ≡ number_part 8 body → s ≡ shape_of k →
     read ≡ reading s w → mapped (message_from k) read ≡ body_reading body

@@ -33,7 +33,7 @@ ended_of (c ∷ cs) m =
     if nat_lt m (length c) then None
     else (if nat_le m (length c) then Some c else ended_of cs (m - length c))
 
--- the capsules, and so many zeros behind them
+-- the capsules, and so many zeros after them
 abbrev pub joined : List (List Bool) → ℕ → List Bool
 joined [] pads = replicate pads false
 joined (c ∷ cs) pads = c ++ joined cs pads
@@ -116,7 +116,7 @@ stated-front c more m whole enough =
     (take-take 8 m (c ++ more) enough ∙ take-append-le 8 c more whole.told)
     ∙ sym whole.all
 
--- the bits behind the first capsule
+-- the bits after the first capsule
 behind_first : (c more : List Bool) (m : ℕ) → length c ≤ m →
     drop (length c) (take m (c ++ more)) ≡ take (m - length c) more
 behind_first c more m le =
@@ -452,7 +452,7 @@ ended-behind c cs m k e =
     let d : m - length c ≡ suc k = omega (arith, e) in
     rw (a, b, d) refl
 
--- none behind all of them
+-- none after all of them
 pub ended-past : (cs : List (List Bool)) (m : ℕ) → length (joined cs 0) ≤ m →
     ended_of cs (suc m) ≡ None
 ended-past [] m past = refl

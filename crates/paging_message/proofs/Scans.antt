@@ -124,11 +124,11 @@ chain_of size bits = ends_chain (length bits) size 0 bits
 abbrev pub ended : ℕ → List Piece → Option (List Bool)
 ended size pieces = chain_of size (bodies (from_last_start pieces))
 
--- a half-frame that is cut short behind so many body bits
+-- a half-frame that is cut short after so many body bits
 abbrev pub cut_short : Piece → ℕ → Piece
 cut_short p m = record { starts = p.starts; body = take m p.body }
 
--- the capsules that a half-frame's bits end, behind others
+-- the capsules that a half-frame's bits end, after others
 abbrev pub told_in : ℕ → List Piece → Piece → List (List Bool)
 told_in size before p =
     flat_map (λ i. option_to_list (ended size (before ++ cut_short p (suc i) ∷ []))) (places size)
@@ -182,7 +182,7 @@ unfolding ends_chain
 ended_none size pieces none =
     ap (λ (l : List Piece). chain_of size (bodies l)) (from_no_start pieces none)
 
--- half-frames in which no run begins, behind others of the kind, end nothing
+-- half-frames in which no run begins, after others of the kind, end nothing
 pub scan_silent : (size : ℕ) (before : List Piece) (o : ℕ) (pieces : List Piece) →
     NoneStarts before → NoneStarts pieces → scan size before o pieces ≡ []
 scan_silent size before o [] none more = refl
@@ -225,7 +225,7 @@ unfolding half_frame_capsule_ending
 ending_of_half_frames size bits pieces inside are =
     rw inside (ap (ended size) are)
 
--- a body bit of a half-frame behind others
+-- a body bit of a half-frame after others
 body_bit_ends : (size : ℕ) (before : List Piece) (p : Piece) (i : ℕ) → AreWhole size before →
     length p.body ≡ size → i < size →
     half_frame_capsule_ending size (stream before ++ take (suc (suc i)) (bits_of p))
@@ -244,7 +244,7 @@ body_bit_ends size before p i are long lt =
     ending_of_half_frames size (stream before ++ more) (before ++ cut_short p (suc i) ∷ []) inside
     (half_frames_of_stream size before more are (omega (arith, own)) (omega (arith, own, lt)))
 
--- the capsules that more bits end, behind others
+-- the capsules that more bits end, after others
 abbrev pub ended_by_bits : ℕ → List Bool → List Bool → List (List Bool)
 ended_by_bits size bits more =
     flat_map

@@ -13,7 +13,7 @@ channel_widths = 9 ∷ 6 ∷ []
 abbrev pub channel_names : List (List ℕ)
 channel_names = codes "pn" ∷ codes "seq" ∷ []
 
--- behind them as many frequencies as fit
+-- after them as many frequencies as fit
 abbrev pub channel_shape : Shape
 channel_shape = plain_shape channel_widths (11 ∷ []) 0 (Some 7)
 

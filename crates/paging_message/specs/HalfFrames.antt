@@ -1,5 +1,5 @@
 -- Half-frames of the paging channel (TIA/EIA-95-B, 7.7.2.1): the SCI bit, 1 where a capsule begins
--- right behind it, and 95 bits of body at 9600 bits per second, or 47 at 4800.
+-- right after it, and 95 bits of body at 9600 bits per second, or 47 at 4800.
 use Rattle.std.specs.Prelude.{◌≡◌, ℕ, zero, suc, ◌+◌, ◌-◌, ◌*◌, ◌/◌, ◌%◌, ◌==◌, if◌then◌else◌, ◌&&◌}
 use Rattle.std.specs.Prelude.{Bool, List, [], ◌∷◌, length, map, take, drop, Option, Some, None}
 use Rattle.std.specs.Prelude.{nat_le}
@@ -25,12 +25,12 @@ half_frame_body R4800 = 47
 half_frame_body R2400 = 23
 half_frame_body R1200 = 11
 
--- how many body bits of its half-frame are left behind so many body bits since a start
+-- how many body bits of its half-frame are left after so many body bits since a start
 unfoldable pub bits_left : ℕ → ℕ → ℕ
 bits_left size count = (size - count % size) % size
 
 -- The capsule that ends with the last of the bits, where capsules follow one another from the
--- start: behind a capsule another one follows where 8 bits of its last half-frame are left. `count`
+-- start: after a capsule another one follows where 8 bits of its last half-frame are left. `count`
 -- is the number of bits before, and the fuel is a number of capsules.
 unfoldable pub ends_chain : ℕ → ℕ → ℕ → List Bool → Option (List Bool)
 ends_chain zero size count bits = None
@@ -60,8 +60,8 @@ capsules_in size bits =
     flat_map (λ i. option_to_list (half_frame_capsule_ending size (take (i + 1) bits)))
     (places (length bits))
 
--- The bits of the capsule that is under way behind these, where more bits may complete it: no bits
--- yet behind a capsule that another one may follow.
+-- The bits of the capsule that is under way after these, where more bits may complete it: no bits
+-- yet after a capsule that another one may follow.
 unfoldable pub open_chain : ℕ → ℕ → ℕ → List Bool → Option (List Bool)
 open_chain zero size count bits = None
 open_chain (suc fuel) size count bits =

@@ -6,7 +6,7 @@ use Rattle.chip_core.specs.Bits.{places}
 use Rattle.quality_bits.specs.Capsules.{IsWhole}
 use Rattle.paging_message.specs.HalfFrames.{bits_left}
 
--- the body bits of half-frames, and the half-frames in which a capsule begins behind an SCI bit of
+-- the body bits of half-frames, and the half-frames in which a capsule begins after an SCI bit of
 -- 1
 pub record Laid : Type 0 where
   pub body : List Bool
@@ -22,7 +22,7 @@ fill size count = (size - count % size) % size
 abbrev pub padded : ℕ → List Bool → List Bool
 padded size bits = bits ++ replicate (fill size (length bits)) false
 
--- One capsule more: right behind the bits so far where it follows, and else in the next half-frame.
+-- One capsule more: right after the bits so far where it follows, and else in the next half-frame.
 unfoldable pub laid_on : ℕ → Laid → Bool → List Bool → Laid
 laid_on size l follow capsule =
     if follow then record { body = l.body ++ capsule; starts = l.starts }

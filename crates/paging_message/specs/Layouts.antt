@@ -1,4 +1,4 @@
--- The layouts of what stands behind the message types, and what the messages say as contents of
+-- The layouts of what stands after the message types, and what the messages say as contents of
 -- these.
 use Rattle.std.specs.Prelude.{ℕ, ◌==◌, if◌then◌else◌}
 use Rattle.message_layout.specs.Shapes.{Shape}

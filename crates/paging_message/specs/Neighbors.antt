@@ -13,7 +13,7 @@ neighbor_widths = 9 ∷ 6 ∷ 4 ∷ []
 abbrev pub neighbor_names : List (List ℕ)
 neighbor_names = codes "pn" ∷ codes "seq" ∷ codes "inc" ∷ []
 
--- behind them as many neighbors as fit, of each its configuration and its offset
+-- after them as many neighbors as fit, of each its configuration and its offset
 abbrev pub neighbor_shape : Shape
 neighbor_shape = plain_shape neighbor_widths (3 ∷ 9 ∷ []) 0 (Some 7)
 

@@ -1,4 +1,4 @@
--- Messages of other types: the type, and all bits behind it.
+-- Messages of other types: the type, and all bits after it.
 use Rattle.std.specs.Prelude.{ℕ, ◌≢◌, [], ◌∷◌, None}
 use Rattle.message_layout.specs.Plain.{plain_contents, plain_shape}
 use Rattle.message_layout.specs.Shapes.{Shape}

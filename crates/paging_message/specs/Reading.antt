@@ -12,7 +12,7 @@ use Rattle.paging_message.specs.Layouts.{message_from, shape_of}
 use Rattle.paging_message.specs.Messages.{paging_capsule}
 use Rattle.paging_message.specs.declared.message.PagingMessage.{PagingMessage}
 
--- what stands behind a message type
+-- what stands after a message type
 unfoldable pub message_at : ℕ → List Bool → PagingMessage
 message_at kind bits =
     message_from kind (list_said (shape_of kind).fixed (shape_of kind).records bits)

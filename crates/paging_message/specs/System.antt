@@ -23,7 +23,7 @@ system_names =
     ∷ codes "pframes" ∷ codes "pthen" ∷ codes "pperen" ∷ codes "pdelay" ∷ codes "rescan"
     ∷ codes "tadd" ∷ codes "tdrop" ∷ codes "tcomp" ∷ codes "ttdrop" ∷ []
 
--- all bits behind the fields
+-- all bits after the fields
 abbrev pub system_shape : Shape
 system_shape = plain_shape system_widths [] 0 None
 

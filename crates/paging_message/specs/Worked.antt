@@ -29,7 +29,7 @@ channel_spelled :
 unfolding one_channel message_body spelling binary
 channel_spelled = refl
 
--- a Neighbor List of two neighbors, and three bits behind them
+-- a Neighbor List of two neighbors, and three bits after them
 two_neighbors : NeighborFields
 two_neighbors =
     record {
@@ -114,7 +114,7 @@ unfolding stream both first second laid_on half_frames_of framed fill capsule ch
     places half_frame_capsule_ending half_frames ends_chain bits_left is_stated
 nothing_earlier = refl
 
--- 8 body bits of the eighth half-frame are left behind the first, and 7 of the first one behind a
+-- 8 body bits of the eighth half-frame are left after the first, and 7 of the first one after a
 -- capsule of 11 octets
 left : (bits_left 95 (length first) ≡ 8) × (bits_left 95 88 ≡ 7)
 unfolding first bits_left capsule check_bits binary places

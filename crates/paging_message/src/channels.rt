@@ -10,7 +10,7 @@ use chip_core::{Bits, Numbers};
 use message_layout::{ALL_BITS, Contents, Layout, Records};
 use std::marker::Model;
 
-/// What stands behind the type: the fields, and CDMA_FREQ of each channel.
+/// What stands after the type: the fields, and CDMA_FREQ of each channel.
 pub(crate) const CHANNEL_LIST: Layout = Layout {
     fixed: &CHANNEL_FIELDS,
     records: Records {
@@ -75,7 +75,7 @@ impl ChannelList {
         }
     }
 
-    /// What the message says behind its type, as its layout has it.
+    /// What the message says after its type, as its layout has it.
     pub(crate) fn contents(&self) -> Contents
         ensures value { result ≡ channel_contents self.now }
         ensures spelled { IsChannelList self.now }

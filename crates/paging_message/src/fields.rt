@@ -69,7 +69,7 @@ pub struct SystemFields {
     pub pthen: u8,
     /// PWR_PERIOD_ENABLE: whether power is reported at intervals.
     pub pperen: u8,
-    /// PWR_REP_DELAY: the frames without a count behind a report.
+    /// PWR_REP_DELAY: the frames without a count after a report.
     pub pdelay: u8,
     /// RESCAN: whether a mobile station starts again from its choice of a system.
     pub rescan: u8,
@@ -81,7 +81,7 @@ pub struct SystemFields {
     pub tcomp: u8,
     /// T_TDROP: how long a pilot's timer runs.
     pub ttdrop: u8,
-    /// The bits behind the fields.
+    /// The bits after the fields.
     pub rest: Bits,
 }
 
@@ -100,7 +100,7 @@ pub struct NeighborFields {
     pub configs: Numbers,
     /// NGHBR_PN of each neighbor, 9 bits: as many as `configs` has.
     pub pns: Numbers,
-    /// The bits behind the last neighbor, at most 7.
+    /// The bits after the last neighbor, at most 7.
     pub rest: Bits,
 }
 
@@ -115,7 +115,7 @@ pub struct ChannelFields {
     pub seq: u8,
     /// CDMA_FREQ of each channel, 11 bits.
     pub freqs: Numbers,
-    /// The bits behind the last frequency, at most 7.
+    /// The bits after the last frequency, at most 7.
     pub rest: Bits,
 }
 
@@ -124,6 +124,6 @@ pub struct ChannelFields {
 pub struct OtherFields {
     /// The message type, 8 bits: not 1, 3 or 4, which have fields of their own.
     pub kind: u8,
-    /// All bits behind it.
+    /// All bits after it.
     pub bits: Bits,
 }

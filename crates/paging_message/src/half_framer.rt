@@ -12,8 +12,8 @@ use std::marker::Model;
 /// Cuts capsules out of the half-frames of a paging channel, bit by bit.
 ///
 /// TIA/EIA-95-B, 7.7.2.1: a half-frame has an SCI bit and 95 bits of body at 9600 bits per second,
-/// or 47 at 4800. SCI 1 says that a capsule begins right behind it, and drops one that isn't
-/// complete. Behind a capsule another one begins at once where at least 8 body bits of its
+/// or 47 at 4800. SCI 1 says that a capsule begins right after it, and drops one that isn't
+/// complete. After a capsule another one begins at once where at least 8 body bits of its
 /// half-frame are left. Contracts see the half-frame's width, the bits of it that were taken and
 /// the bits of the open capsule, and say for which bits the framer stands.
 #[derive(Clone, Copy, PartialEq, Eq, Debug)]
@@ -51,7 +51,7 @@ impl HalfFramer {
     }
 
     /// Takes the next bit of the half-frames, and gives the capsule that ends with it: whatever
-    /// bits the framer stood for, it stands for those and this one behind them, and the capsule is
+    /// bits the framer stood for, it stands for those and this one after them, and the capsule is
     /// the one that they end with.
     pub fn push(&mut self, bit: bool) -> Option<Bits>
         ensures size { self.new.size ≡ self.old.size }
@@ -87,7 +87,7 @@ pub(crate) fn body_bits(rate: Rate) -> u16
     }
 }
 
-/// The capsule that the bits behind an SCI bit go to: a new one where it is 1, else the one that is
+/// The capsule that the bits after an SCI bit go to: a new one where it is 1, else the one that is
 /// open.
 fn from_mark(sci: bool, capsule: OpenCapsule) -> OpenCapsule
     ensures { result ≡ cond sci (Some []) capsule }
@@ -95,7 +95,7 @@ fn from_mark(sci: bool, capsule: OpenCapsule) -> OpenCapsule
     if sci { OpenCapsule::new() } else { capsule }
 }
 
-/// The capsule that is open behind a body bit: a new one where a capsule ended and so many bits of
+/// The capsule that is open after a body bit: a new one where a capsule ended and so many bits of
 /// the half-frame are left.
 fn behind(ended: bool, left: u16, capsule: OpenCapsule) -> OpenCapsule
     ensures { result ≡ (if ended then (if nat_le 8 left then Some [] else capsule) else capsule) }

@@ -57,12 +57,12 @@ impl Layout {
         self.left() >= 8
     }
 
-    /// Lays a capsule behind what was laid, the bits of `out`, which then ends with the capsule's
+    /// Lays a capsule after what was laid, the bits of `out`, which then ends with the capsule's
     /// last bit.
     ///
-    /// Where it follows, it begins right behind the capsule before; it is heard there only if
+    /// Where it follows, it begins right after the capsule before; it is heard there only if
     /// `fits` said so. Else zeros pad the half-frame under way, and it begins in the next one,
-    /// behind an SCI bit of 1.
+    /// after an SCI bit of 1.
     pub fn put(&mut self, follow: bool, capsule: &Bits, out: &mut HalfBits)
         requires some { 1 ≤ length capsule.now }
         requires room { length out.old + 3072 ≤ 11264 }
@@ -92,7 +92,7 @@ impl Layout {
         }
     }
 
-    /// Lays one body bit; where a half-frame begins with it, behind an SCI bit.
+    /// Lays one body bit; where a half-frame begins with it, after an SCI bit.
     fn append(&mut self, sci: bool, bit: bool, out: &mut HalfBits)
         requires room { length out.old + 2 ≤ 11264 }
         ensures size { self.new.size ≡ self.old.size }
@@ -134,7 +134,7 @@ impl Layout {
     }
 }
 
-/// How many bits of a half-frame are laid behind one more body bit: none of the next one where it
+/// How many bits of a half-frame are laid after one more body bit: none of the next one where it
 /// is full.
 fn next_place(place: u16, size: u16) -> u16
     requires { place < 65535 }

@@ -130,7 +130,7 @@ impl PagingMessage {
         }
     }
 
-    /// What the message says behind its type, as its layout has it.
+    /// What the message says after its type, as its layout has it.
     fn contents(&self) -> Contents
         ensures value { result ≡ contents_of self.now }
         ensures spelled { IsPagingMessage self.now }
@@ -144,7 +144,7 @@ impl PagingMessage {
     }
 }
 
-/// The layout of what stands behind a message type.
+/// The layout of what stands after a message type.
 fn layout_of(kind: u8) -> Layout
     ensures { shape result ≡ shape_of kind }
 {

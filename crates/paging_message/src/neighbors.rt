@@ -10,7 +10,7 @@ use chip_core::{Bits, Numbers};
 use message_layout::{ALL_BITS, Contents, Layout, Records};
 use std::marker::Model;
 
-/// What stands behind the type: the fields, and of each neighbor NGHBR_CONFIG and NGHBR_PN.
+/// What stands after the type: the fields, and of each neighbor NGHBR_CONFIG and NGHBR_PN.
 pub(crate) const NEIGHBOR_LIST: Layout = Layout {
     fixed: &NEIGHBOR_FIELDS,
     records: Records {
@@ -82,7 +82,7 @@ impl NeighborList {
         }
     }
 
-    /// What the message says behind its type, as its layout has it.
+    /// What the message says after its type, as its layout has it.
     pub(crate) fn contents(&self) -> Contents
         ensures value { result ≡ neighbor_contents self.now }
         ensures spelled { IsNeighborList self.now }

@@ -49,7 +49,7 @@ impl OtherMessage {
         }
     }
 
-    /// What the message says behind its type, as its layout has it.
+    /// What the message says after its type, as its layout has it.
     pub(crate) fn contents(&self) -> Contents
         ensures value { result ≡ other_contents self.now }
         ensures spelled { IsOther self.now }

@@ -11,7 +11,7 @@ use chip_core::{Bits, Numbers};
 use message_layout::{ALL_BITS, Contents, FieldValues, Layout, fields_of_values, values_of_fields};
 use std::marker::Model;
 
-/// What stands behind the type: the fields, and all bits behind them.
+/// What stands after the type: the fields, and all bits after them.
 pub(crate) const SYSTEM_PARAMETERS: Layout = Layout {
     fixed: &SYSTEM_FIELDS,
     ..ALL_BITS
@@ -63,7 +63,7 @@ impl SystemParameters {
         SystemParameters { fields }
     }
 
-    /// What the message says behind its type, as its layout has it.
+    /// What the message says after its type, as its layout has it.
     pub(crate) fn contents(&self) -> Contents
         ensures value { result ≡ system_contents self.now }
         ensures spelled { IsSystem self.now }

@@ -64,7 +64,7 @@ despread_from (s ∷ samples) phase n turns at room =
     despread_from samples (phase + 1) (suc n) turns (omega (arith, at)) (omega (arith, room)) in
     rw (entry, place, rest)
 
--- the samples behind the part that ends with the code, or none
+-- the samples after the part that ends with the code, or none
 rest_from_start : (after : List Sample) (phase : ℕ) → length after ≤ 32768 →
     (phase ≡ 32768) ⊎ (length after ≡ 0) →
     despread phase after ≡ zip_with turned after pilot_signs
@@ -110,7 +110,7 @@ parted samples phase n low few is =
     sum_of-append (zip_with turned before (drop phase pilot_signs))
     (zip_with turned after pilot_signs))
 
--- where nothing stands behind the code's end, the part before it is all
+-- where nothing stands after the code's end, the part before it is all
 pub all_before : (samples : List Sample) (phase n : ℕ) → phase < 32768 → length samples ≤ 32768 →
     n ≡ min (length samples) (32768 - phase) → length samples ≤ n →
     correlation_with (take n samples) (drop phase pilot_signs) ≡ correlation samples phase

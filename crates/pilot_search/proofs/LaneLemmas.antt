@@ -13,7 +13,7 @@ pub abs_fits : (x : ℤ) → FitsSigned w16 x → unsigned_abs x ≤ 32768
 abs_fits (pos n) f = let h = f.sfits in omega (arith, h)
 abs_fits (negsuc n) f = let h = f.sfits in omega (arith, h)
 
--- what a list has at any place, or 0 and 0 behind its end
+-- what a list has at any place, or 0 and 0 after its end
 abbrev pub no_sign : ℤ × ℤ
 no_sign = (pos 0, pos 0)
 

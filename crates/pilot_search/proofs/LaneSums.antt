@@ -152,7 +152,7 @@ is_total k xs sum few long h e =
       bound = subst (λ (z : ℤ). unsigned_abs z ≤ 65536 * (8 * k)) (sym same) (omega (arith, mine));
     }
 
--- with the samples behind the groups
+-- with the samples after the groups
 pub sums_left : (samples : List Sample) (signs : List (ℤ × ℤ)) (k n : ℕ) (real imaginary : List ℤ)
     (sum : Pair) → k ≡ n → AreSums samples signs k real imaginary →
     sum ≡ record { i = total real; q = total imaginary } →

@@ -17,7 +17,7 @@ magnitudes (s ∷ samples) = unsigned_abs s.i + unsigned_abs s.q + magnitudes sa
 abbrev pub square_of : ℕ → ℕ
 square_of x = x * x
 
--- no more than this can the energy become, whatever the samples behind the first `done` add
+-- no more than this can the energy become, whatever the samples after the first `done` add
 abbrev pub bound : List Sample → ℕ → ℕ → ℕ
 bound samples phase done =
     let partial = correlation (take done samples) phase in

@@ -5,7 +5,7 @@ use Rattle.chip_core.specs.Sums.{first_places}
 use Rattle.chip_core.specs.declared.sample.Sample.{Sample}
 use Rattle.pilot_search.specs.Search.{energy}
 
--- The 65 phases round a phase, modulo the period: how far behind the first of them a phase lies. 64
+-- The 65 phases round a phase, modulo the period: how far after the first of them a phase lies. 64
 -- is the last.
 abbrev pub near_place : ℕ → ℕ → ℕ
 near_place best phase = (phase + 32800 - best) % 32768

@@ -13,7 +13,7 @@ pub(crate) const CHUNK: usize = 64;
 /// The sums of |I| + |Q| over the samples from every 64th on, of at most 32,768 samples.
 ///
 /// However the code falls on these samples, neither part of their correlation is greater. Contracts
-/// see the 512 sums, of which those behind the last sample are 0.
+/// see the 512 sums, of which those after the last sample are 0.
 #[derive(Drop)]
 pub struct Tails {
     sums: [u64; 512],

@@ -1,4 +1,4 @@
--- Ratios are at most 1, and there is none behind the end of their table.
+-- Ratios are at most 1, and there is none after the end of their table.
 use Rattle.pilot_sets.proofs.Common.{◌≡◌, ◌<◌, ◌≤◌, ℕ, Bool, true, false, nat_le, refl, sym, ◌∙◌, leb-true, get_or_past, list_all_at}
 use Rattle.pilot_sets.proofs.Common.{list_all, ratio, ratios}
 

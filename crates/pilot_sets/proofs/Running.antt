@@ -1,4 +1,4 @@
--- Which timers run behind a call.
+-- Which timers run after a call.
 use Rattle.pilot_sets.proofs.Common.{◌≡◌, ℕ, Bool, true, false, cond, if◌then◌else◌, ◌||◌, ◌⊎◌, ⊎_elim, inl, inr, List, [], ◌∷◌, ◌++◌, map}
 use Rattle.pilot_sets.proofs.Common.{filter, nat_eq, Option, Some, None, unwrap_or, refl, ap, sym, ◌∙◌, eqb-true, map-append, subst, eq-eqb}
 use Rattle.pilot_sets.proofs.Common.{list_any-append, has, lacks, active_pilots, candidate_pilots, timed_pilots, is_strong, timer_after}
@@ -144,7 +144,7 @@ due_runs pilot start time s =
     (λ h. h)
 
 -- A MOMENT
--- a timer that runs behind a moment ran before, or started at it
+-- a timer that runs after a moment ran before, or started at it
 timer_started : (strong : Bool) (time start : ℕ) (timer : Option ℕ) →
     timer_after strong time timer ≡ Some start → (timer ≡ Some start) ⊎ (start ≡ time)
 timer_started true time start timer e = absurd (some_none (sym e))

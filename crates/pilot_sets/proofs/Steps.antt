@@ -1,4 +1,4 @@
--- What holds behind a step of the sets, where it holds of each thing that the step may come to.
+-- What holds after a step of the sets, where it holds of each thing that the step may come to.
 use Rattle.pilot_sets.proofs.Common.{◌≡◌, ℕ, ◌<◌, Bool, true, false, not, ◌&&◌, ◌==◌, if◌then◌else◌, [], ◌∷◌, ◌++◌, length, nat_lt, Option}
 use Rattle.pilot_sets.proofs.Common.{Some, None, refl, ltb-true, DirectionFields, DirectionFault, ActivePilot, Accepted, PilotSets}
 use Rattle.pilot_sets.proofs.Common.{direction_fault, accepted_of, is_expired, fresh, left, handed_off, Standing, unless_refused}

@@ -1,11 +1,11 @@
--- Things in an array: the first so many, and a filler behind them.
+-- Things in an array: the first so many, and a filler after them.
 use Rattle.std.specs.Prelude.{◌≡◌, ℕ, ◌-◌, ◌≤◌, List, ◌++◌, drop, length, replicate}
 
 -- the array of things
 abbrev pub filled : {X : Type 0} → X → ℕ → List X → List X
 filled filler room things = things ++ replicate (room - length things) filler
 
--- the array holds so many things, and the filler behind them
+-- the array holds so many things, and the filler after them
 pub record IsFilled {X : Type 0} (filler : X) (room : ℕ) (places : List X) (count : ℕ)
     : Type 0 where
   pub within : count ≤ room

@@ -89,7 +89,7 @@ abbrev pub is_report_due : (ℕ → ℕ) → ℕ → List ℕ → PilotSets → 
 is_report_due energy time up s = nat_lt 0 (length up) || has_expired time s || has_above energy s
 
 -- THE MOMENT
--- the sets with their timers, behind the moves of candidates
+-- the sets with their timers, after the moves of candidates
 abbrev pub dropped : (ℕ → ℕ) → ℕ → ℕ → PilotSets → PilotSets
 dropped energy power time s = expired_moved time (timed energy power time s)
 

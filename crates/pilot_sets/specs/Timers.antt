@@ -13,6 +13,6 @@ abbrev pub is_expired : Thresholds → ℕ → Option ℕ → Bool
 is_expired t time None = false
 is_expired t time (Some start) = nat_le (drop_timer_ms t.t_tdrop) (80 * (time - start))
 
--- a timer behind a moment at which its pilot is strong, or isn't: it stops, or runs or goes on
+-- a timer after a moment at which its pilot is strong, or isn't: it stops, or runs or goes on
 abbrev pub timer_after : Bool → ℕ → Option ℕ → Option ℕ
 timer_after strong time timer = cond strong None (Some (unwrap_or timer time))

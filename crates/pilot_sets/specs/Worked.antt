@@ -111,7 +111,7 @@ crowded candidates neighbors = record home.sets {
 leaving : Option ℕ → ActivePilot
 leaving timer = record { pilot = 7; row = 10; subchannel = 0; timer = timer }
 
--- how many candidates and neighbors there are behind it, where its timer has run for 49 or 50
+-- how many candidates and neighbors there are after it, where its timer has run for 49 or 50
 -- moments of 80 ms or doesn't run, and the drop timer is 4,000 ms
 numbers : List (ℕ × ℕ × Option ℕ) → List (ℕ × ℕ)
 numbers [] = []

@@ -97,7 +97,7 @@ fn active_of(old: &[ActivePilot], subchannel: u8, named: &NamedPilot) -> ActiveP
     }
 }
 
-/// The power control subchannel behind another.
+/// The power control subchannel after another.
 fn subchannel_after(before: u8, combined: bool) -> u8
     requires { before < 255 }
     ensures value { result ≡ subchannel_behind before combined }

@@ -52,7 +52,7 @@ pub fn directions_wait_for_their_time()
         } }
 {}
 
-/// A direction without an action time takes effect one moment behind the first that it could; one
+/// A direction without an action time takes effect one moment after the first that it could; one
 /// with an action time at the next moment whose time is that modulo 64, the first included.
 pub fn directions_take_the_next_action_time()
     ensures at_once { (first : ℕ) (d : TheDirection) →
@@ -64,7 +64,7 @@ pub fn directions_take_the_next_action_time()
         IsNextAt first d.action (direction_time first d) }
 {}
 
-/// A timer that runs behind a call ran before it, of a pilot that was active or a candidate, or the
+/// A timer that runs after a call ran before it, of a pilot that was active or a candidate, or the
 /// call is a step and its time is when the timer started. So a pilot's timer runs only while the
 /// pilot is active or a candidate: where it leaves both sets, it starts anew.
 pub fn timers_run_in_their_sets()

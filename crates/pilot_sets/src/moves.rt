@@ -104,7 +104,7 @@ fn going(candidates: &[CandidatePilot], thresholds: &Thresholds, time: u64) -> F
     going
 }
 
-/// The neighbors with others behind them, as long as there is room.
+/// The neighbors with others after them, as long as there is room.
 fn joined(neighbors: Few<u16, 20>, others: &[u16]) -> Few<u16, 20>
     ensures { result ≡ take 20 (neighbors ++ others.now) }
 {
@@ -164,7 +164,7 @@ fn rising(sets: &PilotSets, began: &[u16], strengths: &[Strength], power: u64) -
     )
 }
 
-/// The candidates with those that have risen behind them.
+/// The candidates with those that have risen after them.
 fn with_risen(candidates: Few<CandidatePilot, 10>, up: &[u16]) -> Few<CandidatePilot, 10>
     requires { length candidates + length up.now ≤ 10 }
     ensures { result ≡ candidates ++ map fresh_candidate up.now }

@@ -53,7 +53,7 @@ pub(crate) fn is_expired(thresholds: &Thresholds, time: u64, timer: Option<u64>)
     }
 }
 
-/// A timer behind a moment at which its pilot is strong, or isn't: it stops, or it starts or goes
+/// A timer after a moment at which its pilot is strong, or isn't: it stops, or it starts or goes
 /// on.
 pub(crate) fn timer_after(is_strong: bool, time: u64, timer: Option<u64>) -> Option<u64>
     ensures { result ≡ timer_behind is_strong time timer }

@@ -52,7 +52,7 @@ next_free e n ps k is lt =
     (λ same. leads_apart e (get_or ps i d) (get_or ps k d) (is.order i k d low lt)
     (sym (same ∙ get_or-take k ps i d low) ∙ sym own)))
 
--- a number that isn't among the first ones comes at the place itself or behind it
+-- a number that isn't among the first ones comes at the place itself or after it
 free_behind : (ps : List ℕ) (k q i : ℕ) → k ≤ length ps → i < length ps → get_or ps i q ≡ q →
     list_any (nat_eq q) (take k ps) ≡ false → i < k → ⊥
 free_behind ps k q i room lt here free low =

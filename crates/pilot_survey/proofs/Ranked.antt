@@ -14,7 +14,7 @@ pilot_of r = r.pilot
 abbrev energy_of : List Sample → ℕ → ℕ → ℕ → ℕ
 energy_of samples base width pilot = (surveyed samples base width pilot).energy
 
--- a rank of this pilot, for a place behind the last one
+-- a rank of this pilot, for a place after the last one
 abbrev pub named : ℕ → Rank
 named pilot = record { pilot = pilot; delta = pos 0; energy = 0 }
 

@@ -13,7 +13,7 @@ use Rattle.pilot_survey.specs.declared.rank.Rank.{Rank}
 use Rattle.pilot_survey.proofs.Orders.{NotAfter, chained, neighbours, by_number, sorted_ranking}
 use Rattle.pilot_survey.proofs.Ranked.{ranking_only}
 
--- the first of two ranks stands behind the second
+-- the first of two ranks stands after the second
 abbrev is_late : Rank → Rank → Bool
 is_late x y = is_lt (ordering_then (nat_cmp x.energy y.energy) (nat_cmp y.pilot x.pilot))
 
@@ -29,7 +29,7 @@ sorted : List Rank → List Rank
 sorted [] = []
 sorted (x ∷ xs) = inserted x (sorted xs)
 
--- each rank may stand before all behind it
+-- each rank may stand before all after it
 Rises : List Rank → Type 0
 Rises [] = ⊤
 Rises (x ∷ xs) = All (NotAfter x) xs × Rises xs

@@ -42,7 +42,7 @@ same_numbers xs ys m n long left right = (
   (λ same. eq-eqb m n (left ∙ ap number same ∙ sym right)),
 )
 
--- bits with their check behind them are checked
+-- bits with their check after them are checked
 pub checked-sent : (kind : Kind) (form : CheckForm) (bits : List Bool) →
     IsChecked kind form (bits ++ sent_check kind form bits)
 checked-sent kind form bits =

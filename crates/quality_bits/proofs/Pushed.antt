@@ -17,7 +17,7 @@ abbrev pub pushed_all : List Bool → List Bool → List Bool → List Bool
 pushed_all below register [] = register
 pushed_all below register (bit ∷ bits) = pushed_all below (pushed below register bit) bits
 
--- a zero behind the second list changes nothing where the first is longer
+-- a zero after the second list changes nothing where the first is longer
 behind : (xs rest : List Bool) → length rest < length xs →
     plus_at_front xs (rest ++ false ∷ []) ≡ plus_at_front xs rest
 behind [] rest h = absurd (omega (arith, h))
@@ -62,7 +62,7 @@ one_lead below xs rest true long room =
     twice xs (rest ++ false ∷ []) below long
 one_lead below xs rest false long room = sym (behind xs rest room)
 
--- long division of the bits and zeros behind them, with the register added at the front
+-- long division of the bits and zeros after them, with the register added at the front
 pub divided_pushed : (below bits register : List Bool) → 0 < length below →
     length register ≡ length below →
     divided (length bits) below (plus_at_front (bits ++ replicate (length below) false) register) ≡

@@ -1,4 +1,4 @@
--- One more piece of a stream: what is under way behind it, and the capsule that ends in it.
+-- One more piece of a stream: what is under way after it, and the capsule that ends in it.
 use Rattle.std.proofs.Common.{◌≡◌, ◌-◌, Bool, true, false, cond, List, [], ◌∷◌, ◌++◌, length, refl, sym, ap, ◌∙◌, arith, length-append}
 use Rattle.std.proofs.Common.{nat_lt, nat_le, inl, inr, Option, Some, None}
 use Rattle.std.proofs.lemmas.Bool.{cases_lt, cases_Bool, lt-ltb, le-leb, lt-leb, false_from_ne_true}

@@ -39,7 +39,7 @@ abbrev pub IsChecked : Kind → CheckForm → List Bool → Type 0
 IsChecked kind form bits =
     drop (body_length kind bits) bits ≡ sent_check kind form (take (body_length kind bits) bits)
 
--- the quality indicator behind a frame's information bits, where frames of its rate have one
+-- the quality indicator after a frame's information bits, where frames of its rate have one
 -- (TIA/EIA-95-B, 7.1.3.5)
 abbrev pub quality_indicator : Option Kind → List Bool → List Bool
 quality_indicator None information = []

@@ -42,7 +42,7 @@ under_way pieces =
     let message = from_last_start pieces in
     if nat_lt 0 (length message) then still_open (bodies message) else None
 
--- an open capsule with the bits of the message that is under way behind these pieces, each with its
+-- an open capsule with the bits of the message that is under way after these pieces, each with its
 -- mark
 abbrev pub StandsFor : Option (List Bool) → List (List Bool) → Type 0
 StandsFor capsule pieces = capsule ≡ under_way (map piece pieces)

@@ -56,7 +56,7 @@ pub fn body_of(kind: Kind, form: CheckForm, bits: &Bits) -> Result<Bits, Capsule
     Ok(bits.part(8, count))
 }
 
-/// How many bits the body of a capsule has, which stands behind the 8 bits of the length.
+/// How many bits the body of a capsule has, which stands after the 8 bits of the length.
 ///
 /// `BadLength` exactly where the list isn't as long as it says or that length isn't lawful; else
 /// `BadCheck` exactly where its last bits aren't the check of those before.

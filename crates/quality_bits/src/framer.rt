@@ -41,7 +41,7 @@ impl CapsuleFramer {
     }
 
     /// Takes a frame, and gives the capsule whose last bit lies in it: whatever frames the framer
-    /// stood for, it stands for those and this one behind them, and the capsule is the one that
+    /// stood for, it stands for those and this one after them, and the capsule is the one that
     /// they end with.
     pub fn push(&mut self, frame: &Bits) -> Option<Bits>
         requires { 1 ≤ length frame.now }

@@ -12,7 +12,7 @@ pub fn capsule_has_one_body()
         capsule kind form a ≡ capsule kind form b → a ≡ b }
 {}
 
-/// What one more piece does to a stream: the capsule that ends in it and what is under way behind
+/// What one more piece does to a stream: the capsule that ends in it and what is under way after
 /// it follow from what was under way before it, or from no bits where it starts a message.
 pub fn one_more_piece()
     ensures under_way { (pieces : List Piece) (p : Piece) →

@@ -11,7 +11,7 @@ use std::marker::Model;
 
 /// The bits of a capsule that isn't complete yet, or none where no capsule is open.
 ///
-/// It closes by itself: behind the capsule's last bit, and where the first 8 bits say a length
+/// It closes by itself: after the capsule's last bit, and where the first 8 bits say a length
 /// outside 5 to 148 octets. Contracts see the bits since the capsule's start, where it is open.
 #[derive(Clone, Copy, PartialEq, Eq, Debug)]
 pub struct OpenCapsule {
@@ -88,9 +88,9 @@ impl OpenCapsule {
 
     /// Takes a piece whose first bit is its mark, and gives the capsule whose last bit lies in it.
     ///
-    /// With the mark 1 a capsule begins behind it, and one that isn't complete is dropped; with 0
+    /// With the mark 1 a capsule begins after it, and one that isn't complete is dropped; with 0
     /// the piece goes on with the open capsule, or is passed over where there is none. Whatever
-    /// pieces the capsule stood for, it stands for those and this one behind them.
+    /// pieces the capsule stood for, it stands for those and this one after them.
     pub fn push_piece(&mut self, bits: &Bits) -> Option<Bits>
         requires { 1 ≤ length bits.now }
         ensures stands { (pieces : List (List Bool)) →

@@ -44,7 +44,7 @@ impl Register {
         }
     }
 
-    /// Takes one bit: whatever bits it stood for, it stands for those and this one behind them.
+    /// Takes one bit: whatever bits it stood for, it stands for those and this one after them.
     pub fn push(&mut self, bit: bool)
         ensures { (kind : TheKind) (bits : List Bool) →
             Checks self.old kind bits → Checks self.new kind (bits ++ bit ∷ []) }

@@ -153,7 +153,7 @@ low_is s h (suc k) =
     close_begun (frame_start s (suc k)) s.fingers (near_close s.fingers h) (far s.form s.first k)
     ∙ sym (low_later (all_begun s.first s.fingers) k)
 
--- the frames of a stream whose fingers are near lie one behind another
+-- the frames of a stream whose fingers are near lie one after another
 pub timed_in : {C : Type 0} (count : ℕ) (s : Stream C) → AreNear s.fingers → IsTimed count s (near.low_in s)
 unfolding stream_end
 timed_in count s h =

@@ -43,7 +43,7 @@ module _ {C : Type 0} {count low : ℕ} (s : Stream C) (t : IsTimed count s low)
   outside_low k h =
       t.inside k ∙ and_left (nat_le low k) (nat_le (stream_end s k) count) (lt-leb low k h)
 
-  -- where frames wait, and the frame behind is in the file
+  -- where frames wait, and the frame after is in the file
   pub known_more : (k : ℕ) → s.waits ≡ true → low ≤ k → stream_end s (k + 1) ≤ count →
       known_at count s k ≡ stream_end s (k + 1)
   unfolding stream_end
@@ -65,7 +65,7 @@ module _ {C : Type 0} {count low : ℕ} (s : Stream C) (t : IsTimed count s low)
       let none = and_left s.waits (is_in_file count s (k + 1)) waits in
       rw none refl
 
-  -- a frame is known at its end, or waits for the frame behind it
+  -- a frame is known at its end, or waits for the frame after it
   pub known_parts : (k : ℕ) → low ≤ k → (known_at count s k ≡ stream_end s k)
       ⊎ ((s.waits ≡ true) × (stream_end s (k + 1) ≤ count)
       × (known_at count s k ≡ stream_end s (k + 1)))

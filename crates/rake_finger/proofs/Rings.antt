@@ -90,7 +90,7 @@ pub copied_all : {A : Type 0} (copy samples : List A) (k n : ℕ) → k ≡ n �
 copied_all copy samples k n done long same =
     sym (take_all k copy (omega (arith, done, long))) ∙ same ∙ ap (λ m. take m samples) done
 
--- the cell that is next, behind one that was
+-- the cell that is next, after one that was
 pub cell_further : (taken taken' room room' cell next : ℕ) → cell ≡ taken % room →
     next ≡ (cell + 1) % room' → taken' ≡ taken + 1 → room' ≡ room → next ≡ taken' % room'
 cell_further taken taken' room room' cell next at is more same =

@@ -1,4 +1,4 @@
--- What is read of a frame hangs on its fingers' samples alone, and so stays where more samples follow.
+-- What is read of a frame depends on its fingers' samples alone, and so stays where more samples follow.
 use Rattle.rake_finger.proofs.Common.{◌≡◌, ℕ, ◌+◌, ◌*◌, ◌/◌, ◌<◌, ◌≤◌, true, ◌&&◌, List, [], ◌∷◌, ◌++◌, map, length, take, drop, refl, ap}
 use Rattle.rake_finger.proofs.Common.{arith, ℤ, pos, ◌+ℤ◌, ◌-ℤ◌, length-drop, unsigned_abs, int_le, ints, and_parts, take-append-le}
 use Rattle.rake_finger.proofs.Common.{drop-append-le, sum_of, total, Sample, despread, symbol_chips, window_chips, symbols, frame_chips}

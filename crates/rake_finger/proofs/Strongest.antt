@@ -148,7 +148,7 @@ strength_again samples a b window few e =
     ∙ ap (λ (n : ℕ). strength_of (window_energy samples b window n) (pos n -ℤ pos (window / 2)))
     first
 
--- what comes behind a place changes nothing before it
+-- what comes after a place changes nothing before it
 pub samples_before-append : (heard more : List Sample) (end : ℕ) → 512 ≤ end →
     end ≤ length heard → samples_before (heard ++ more) end ≡ samples_before heard end
 samples_before-append heard more end begun within =

@@ -1,4 +1,4 @@
--- The samples that a frame hangs on.
+-- The samples that a frame depends on.
 use Rattle.std.specs.Prelude.{◌≡◌, ℕ, List, [], ◌∷◌, take, drop}
 use Rattle.chip_core.specs.declared.sample.Sample.{Sample}
 use Rattle.rake_finger.specs.Soft.{finger_place, frame_chips}

@@ -29,7 +29,7 @@ is_within n fingers form u =
     fingers
 
 -- A channel whose frames follow one another from reference sample `first` on, as fingers hear it.
--- Those of a sync or a paging channel wait: each is decoded with the frame behind it. How a frame's
+-- Those of a sync or a paging channel wait: each is decoded with the frame after it. How a frame's
 -- soft values are decoded is of a type that matters to nothing here.
 pub record Stream (C : Type 0) : Type 0 where
   pub channel : C
@@ -46,7 +46,7 @@ frame_start s k = s.first + frame_chips s.form * k
 abbrev pub is_in_file : {C : Type 0} → ℕ → Stream C → ℕ → Bool
 is_in_file count s k = is_within count s.fingers s.form (frame_start s k)
 
--- A frame is decoded with the frame before it and the frame behind it, where these are in the file:
+-- A frame is decoded with the frame before it and the frame after it, where these are in the file:
 -- the span.
 abbrev pub span_first : {C : Type 0} → ℕ → Stream C → ℕ → ℕ
 span_first count s zero = 0
@@ -66,7 +66,7 @@ abbrev pub frame_softs : {C : Type 0} → List Sample → Stream C → ℕ → L
 frame_softs samples s k =
     unscrambled (s.scrambling k) (softs samples s.fingers s.form (frame_start s k))
 
--- those of the frames of frame k's span, one behind another
+-- those of the frames of frame k's span, one after another
 abbrev pub span_softs : {C : Type 0} → ℕ → List Sample → Stream C → ℕ → List ℤ
 span_softs count samples s k =
     let first = span_first count s k in

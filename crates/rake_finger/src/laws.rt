@@ -30,7 +30,7 @@ pub fn later_samples_change_nothing()
 {}
 
 /// A ring with room for 65,536 samples still holds the 512 before a place where at most 65,024 have
-/// come behind it.
+/// come after it.
 pub fn samples_stay_in_the_ring()
     ensures { (ring : Held) (heard : List Sample) (end : ℕ) → HoldsLast ring heard →
         65536 ≤ ring.room → 512 ≤ end → end ≤ length heard → length heard ≤ end + 65024 →

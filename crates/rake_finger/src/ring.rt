@@ -103,7 +103,7 @@ impl SampleRing {
         (place % self.cells.len() as u64) as usize
     }
 
-    /// The cell behind a cell.
+    /// The cell after a cell.
     pub(crate) fn cell_behind(&self, cell: usize) -> usize
         requires { cell < self.now.room }
         ensures value { result ≡ (cell + 1) % self.now.room }

@@ -20,7 +20,7 @@ format_of rate = record {
   drops = true;
 }
 
--- a frame's codeword: its bits behind eight zeros
+-- a frame's codeword: its bits after eight zeros
 abbrev pub frame_codeword : Rate2 → List Bool → Codeword
 frame_codeword rate information = sent_codeword (format_of rate) information
 

@@ -115,7 +115,7 @@ module _ {C : Type 0} {count : ℕ} {s : Stream C} {c : FrameClock} {n : ℕ} (i
             ]
       ]
 
-  -- where the next frame has ended and isn't due it waits for the one behind, which is in the file
+  -- where the next frame has ended and isn't due it waits for the one after, which is in the file
   waiting : ¬ IsDueAt count c → c.next < c.have →
       (s.waits ≡ true) × (c.have ≤ c.next + 1) × (c.end ≤ count)
   waiting none less =

@@ -23,7 +23,7 @@ frames_fit symbols (suc (suc (suc zero))) few most = omega arith
 frames_fit symbols (suc (suc (suc (suc n)))) few most = absurd (omega arith)
 
 -- ONE FRAME MORE
--- the last frames, with one frame more behind them
+-- the last frames, with one frame more after them
 pub last_more : (symbols frames : ℕ) (softs fresh : List ℤ) → length softs ≡ 1152 →
     symbols * frames + symbols ≤ 1152 →
     last_softs symbols (suc frames) (drop symbols softs ++ fresh)

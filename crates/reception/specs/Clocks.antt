@@ -39,7 +39,7 @@ frame_come c = record c {
 abbrev pub frame_heard : FrameClock → FrameClock
 frame_heard c = record c { next = c.next + 1 }
 
--- whether the next frame is known: it has come, and where it waits the frame behind it has come, or
+-- whether the next frame is known: it has come, and where it waits the frame after it has come, or
 -- isn't in the file
 abbrev pub IsDueAt : ℕ → FrameClock → Type 0
 IsDueAt count c =

@@ -11,7 +11,7 @@ use short_code::Codes;
 use viterbi::Decoder;
 
 /// A channel whose encoder goes on from frame to frame, as it is received: each of its frames is
-/// decoded together with the frame before it and the frame behind it, where these lie in the file
+/// decoded together with the frame before it and the frame after it, where these lie in the file
 /// (TIA/EIA-95-B, 7.1.3.1.3).
 #[derive(Drop)]
 pub struct Continued {

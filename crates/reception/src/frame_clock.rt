@@ -8,7 +8,7 @@ use rake_finger::{Fingers, Form};
 pub struct FrameClock {
     /// How the channel's frames are cut.
     pub form: Form,
-    /// Whether a frame waits for the one behind it, with which it is decoded.
+    /// Whether a frame waits for the one after it, with which it is decoded.
     pub waits: bool,
     /// The number of the first frame in the file.
     pub low: u64,
@@ -77,7 +77,7 @@ impl FrameClock {
     }
 
     /// Whether the frame that is heard next is known, in a file of so many samples: it has come,
-    /// and where it waits the frame behind it has come, or isn't in the file.
+    /// and where it waits the frame after it has come, or isn't in the file.
     pub fn is_due(&self, count: u64) -> bool
         requires { IsSoundClock self.now }
         ensures { IsTrue result ↔ IsDueAt count self.now }
@@ -124,7 +124,7 @@ impl FrameClock {
     }
 
     /// The frames that the next frame is decoded with: the frame before it, where it is in the
-    /// file, and the frame behind it, where that has come.
+    /// file, and the frame after it, where that has come.
     pub fn span(&self) -> Span
         requires sound { IsSoundClock self.now }
         requires come { self.now.next < self.now.have }

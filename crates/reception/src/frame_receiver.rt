@@ -86,7 +86,7 @@ impl FrameReceiver {
         unscramble(&self.scrambling.frame_bits(frame), softs);
     }
 
-    /// The frame has come whose last sample has just come: goes on to the one behind it.
+    /// The frame has come whose last sample has just come: goes on to the one after it.
     pub fn advance(&mut self)
         requires sound { IsSoundReceiver self.old }
         requires near { self.old.clock.have ≤ self.old.clock.next + 1 }

@@ -27,7 +27,7 @@ OneCodewordFollowsFrame = (t : Tuning) (traffic : Traffic) (m : Mark) (samples :
     let frame = soft_frame t (traffic_channel traffic) m samples k in
     frame_text (Listed 1) t.check30 m slot frame ≡ followed_line t traffic m samples frame
 
--- so of all that end within these samples, behind the mark that these set.
+-- so of all that end within these samples, after the mark that these set.
 abbrev pub OneCodewordFollows : Type 0
 OneCodewordFollows = (t : Tuning) (traffic : Traffic) (m : Mark) (samples : List Sample) →
     mark t samples (length samples) ≡ Some m →

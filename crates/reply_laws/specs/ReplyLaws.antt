@@ -81,7 +81,7 @@ FollowOwesTheEvents =
       end_when (is_some (mark t samples (length samples))),
     ))
 
--- the text of one channel's frames behind the mark
+-- the text of one channel's frames after the mark
 abbrev pub OwesTheFrames : Job → ℕ → ℕ → Channel → TunedText → Type 0
 OwesTheFrames job span fingers channel text =
     (forms bytes : List ℕ) (header : Header) (samples : List Sample) →

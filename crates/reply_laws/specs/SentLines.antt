@@ -33,7 +33,7 @@ use Rattle.owed_replies.specs.declared.handset_options.HandsetOptions.{HandsetOp
 
 -- ---- any frames
 
--- One line for each frame of a channel that begins at the mark, so many superframes behind local
+-- One line for each frame of a channel that begins at the mark, so many superframes after local
 -- chip 0, or later, and lies in the file, in order, of which something is true.
 pub record AreSentLines (plan : CellPlan) (p : TrafficPlan) (Is : ℕ → List ℕ → Type 0)
     (superframes : ℕ) (text : List ℕ) : Type 0 where
@@ -48,7 +48,7 @@ IsSentText plan p Is None text = text ≡ []
 IsSentText plan p Is (Some superframes) text = AreSentLines plan p Is superframes text
 
 -- What is written so of a channel that the cell sends, of which something else is true, is this
--- text, behind the mark that the first whole transmission of the sync channel tells.
+-- text, after the mark that the first whole transmission of the sync channel tells.
 abbrev pub LinesComeBack : TunedText → (TrafficPlan → Type 0) →
     (CellPlan → TrafficPlan → ℕ → List ℕ → Type 0) → Type 0
 LinesComeBack form Sends Is = (width : Width) (script : List ℕ) (plan : CellPlan)

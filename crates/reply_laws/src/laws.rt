@@ -91,7 +91,7 @@ pub fn made_files_are_clean_links()
 
 /// In a file that holds what a script's cell sends, where the search finds the cell's path and
 /// there is one finger, a traffic channel of rate set 2 that the cell sends has one line for each
-/// of its frames that begins at the mark or behind it and lies in the file, in order, at the
+/// of its frames that begins at the mark or after it and lies in the file, in order, at the
 /// frame's own end. Each has the power control bits that were sent, and, where no other codeword of
 /// any rate of the set has the frame's symbols at the places that they leave, its rate and its
 /// information bits, as a good frame.
@@ -101,14 +101,14 @@ pub fn lines_of_rate_set_two_come_back()
 
 /// What is listed of a traffic channel with one codeword of a rate is, frame by frame, the line of
 /// the frame that a handset hears as long as the reference's pilot is active alone; so is all that
-/// is written of the channel behind the mark.
+/// is written of the channel after the mark.
 pub fn listing_one_codeword_is_following()
     ensures frame { OneCodewordFollowsFrame }
     ensures text { OneCodewordFollows }
 {}
 
 /// In such a file a traffic channel of rate set 1 that the cell sends has, however many codewords
-/// of a rate are listed, one line for each of its frames that begins at the mark or behind it and
+/// of a rate are listed, one line for each of its frames that begins at the mark or after it and
 /// lies in the file, in order, at the frame's own end. Each has the power control bits that were
 /// sent, and, where no other codeword of any rate of the set has the frame's symbols at the places
 /// that they leave, it is the line of the frame that was sent, as a good frame.
@@ -118,7 +118,7 @@ pub fn listed_lines_come_back()
 
 /// In such a file, of any plan that can be received, what is written of a paging channel that the
 /// cell sends, for a handset that sleeps through all slots but those of a key and a cycle, is slot
-/// by slot what the cell sends: for each slot that it monitors, that begins at the mark or behind
+/// by slot what the cell sends: for each slot that it monitors, that begins at the mark or after
 /// it and ends in the file, the slot's line and the lines of the pages whose run begins in it and
 /// which end in it, in order.
 pub fn slots_of_a_file_come_back()

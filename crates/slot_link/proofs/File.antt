@@ -128,7 +128,7 @@ signs-drop (suc n) (b ∷ bits) (z ∷ zs) have = signs-drop n bits zs have.1
 
 -- ---- a slot
 
--- n frames behind the first a of them
+-- n frames after the first a of them
 frames_within : {A : Type 0} (f : ℕ → List A) (size a n b : ℕ) →
     ((k : ℕ) → length (f k) ≡ size) →
     take (size * n) (drop (size * a) (flat_map f (places (a + (n + b))))) ≡
@@ -154,7 +154,7 @@ module _ (rate : Rate) (bits_of : ℕ → List Bool) (first : ℕ) (softs : List
   order_long : (k : ℕ) → length (order k) ≡ 384
   order_long k = length-sent data_shape (repeats_of rate) (continued_symbols bits_of (first + k))
 
-  -- those of n frames behind the first a of them
+  -- those of n frames after the first a of them
   span_order : (a n b : ℕ) → a + (n + b) ≡ 4 →
       take (384 * n) (drop (384 * a) (sent_in_span (paging_channel rate) bits_of first 4)) ≡
       sent_in_span (paging_channel rate) bits_of (first + a) n
@@ -203,7 +203,7 @@ slot_bits_back rate strength bits_of first each some =
 
 -- ---- capsules frame by frame
 
--- what more bits end behind others
+-- what more bits end after others
 capsules-append : (size : ℕ) (before own : List Bool) →
     capsules_in size (before ++ own) ≡ capsules_in size before ++
     flat_map (λ i. option_to_list (half_frame_capsule_ending size (before ++ take (i + 1) own)))
@@ -376,7 +376,7 @@ module _ (plan : CellPlan) (t : Tuning) (number : ℕ) (m : Mark) (superframes :
       let same = paging_alone t number m tuned.alone in
       record { phase = same.phase; row = same.row; fingers = same.fingers }
 
-  -- each of their frames ends so many samples behind the mark
+  -- each of their frames ends so many samples after the mark
   end_is : (slot i : ℕ) →
       frame_of_slot_end stream slot i ≡ m.sample + 24576 * (4 * slot + i + 1)
   end_is slot i =
@@ -449,7 +449,7 @@ module _ (plan : CellPlan) (t : Tuning) (number : ℕ) (m : Mark) (superframes :
     heard_high : nat_lt m.prat 2 ≡ false → (slot : ℕ) → heard slot ≡ false
     heard_high high slot = rw (high, and-false (is_monitored (m.time + slot) key cycle)) refl
 
-    -- no slot ends behind the file
+    -- no slot ends after the file
     slots_low : nat_lt m.prat 2 ≡ true → filter heard (places (slot_bound (length samples))) ≡
         monitored_slots key cycle plan superframes
     slots_low low =

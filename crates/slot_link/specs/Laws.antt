@@ -47,7 +47,7 @@ bits_in_slot bits_of first = flat_map (λ k. bits_of (first + k)) (places 4)
 abbrev pub placed_message : Placed → PagingMessage
 placed_message p = message_in p.page.body
 
--- Of the pages of one round of a cycle, which begins so many half-frames behind the first one,
+-- Of the pages of one round of a cycle, which begins so many half-frames after the first one,
 -- those whose run begins in the four frames from frame `first` on, and which end in them too, in
 -- order. A run begins with a half-frame; a page ends with its last bit.
 abbrev pub round_in_slot : ℕ → ℕ → List Placed → List PagingMessage
@@ -82,7 +82,7 @@ monitored_slots key cycle plan first =
     filter (λ i. is_monitored (plan.cell.time + (first + i)) key cycle)
     (places (slots_to_end plan first))
 
--- what is written of these behind a mark at the first chip of slot `first`, where one is set
+-- what is written of these after a mark at the first chip of slot `first`, where one is set
 abbrev pub slots_behind_mark : ℕ → ℕ → CellPlan → PagingPlan → Option ℕ → List ℕ
 slots_behind_mark key cycle plan p None = []
 slots_behind_mark key cycle plan p (Some first) =

@@ -22,7 +22,7 @@ pub fn slot_pages_come_back()
     ensures { SlotPagesComeBack }
 {}
 
-/// On a clean link these pages come back of each slot that begins at the mark or behind it and ends
+/// On a clean link these pages come back of each slot that begins at the mark or after it and ends
 /// in the file. The lines of the slots, for a handset that sleeps through all but those of its
 /// cycle, are the line of each monitored slot, with the number of samples at which it ends and its
 /// time, and the lines of its pages; and there are none where no mark is set or the cell's PRAT is

@@ -17,7 +17,7 @@ comes_again time key cycle count =
     ap (λ (r : ℕ). nat_eq r (slot_of key % period cycle))
     (add-mul-mod_self_right time count (period cycle))
 
--- from a time, whose remainder is a, up to the remainder r in the cycle behind its own
+-- from a time, whose remainder is a, up to the remainder r in the cycle after its own
 to_remainder : (from p r a q : ℕ) → p * q + a ≡ from → a < p →
     from + (r + p - a) ≡ r + (q + 1) * p
 to_remainder from p r a q parts low =

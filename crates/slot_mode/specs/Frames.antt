@@ -10,7 +10,7 @@ use Rattle.frame_decoder.specs.Spans.{paging_channel, own_bits}
 abbrev pub span_first : ℕ → ℕ
 span_first frame = frame - 1
 
--- and the frame at which it ends; 3 has none behind it
+-- and the frame at which it ends; 3 has none after it
 abbrev pub span_end : ℕ → ℕ
 span_end frame = min (frame + 2) 4
 

@@ -6,7 +6,7 @@ use Rattle.frame_decoder.specs.Spans.{paging_channel, own_bits}
 use Rattle.slot_mode.specs.Slots.{period, is_monitored, next_monitored}
 use Rattle.slot_mode.specs.Frames.{span_first, span_end, frame_bits}
 
--- with a time that is monitored, each that is a whole number of cycles behind it is
+-- with a time that is monitored, each that is a whole number of cycles after it is
 abbrev pub ComesAgain : Type 0
 ComesAgain =
     (time key cycle count : ℕ) →
@@ -44,8 +44,8 @@ IsOfNeighbours =
     ↔ ((other < 4) × (other ≤ frame + 1) × (frame ≤ other + 1))
 
 -- The two frames in the middle of a slot have the bits that a handset which never sleeps gives
--- them: whatever soft values come before the slot's and behind them, each is decoded with the frame
--- before it and the one behind it.
+-- them: whatever soft values come before the slot's and after them, each is decoded with the frame
+-- before it and the one after it.
 abbrev pub IsHeardAsEver : Type 0
 IsHeardAsEver =
     (rate : Rate) (before softs behind : List ℤ) (frame : ℕ) → length softs ≡ 1536 →

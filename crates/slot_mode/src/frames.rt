@@ -21,7 +21,7 @@ fn span_first(frame: u8) -> u8
     if frame == 0 { 0 } else { frame - 1 }
 }
 
-/// The frame at which the span ends: the one behind the next, or where there is none, the slot's
+/// The frame at which the span ends: the one after the next, or where there is none, the slot's
 /// end.
 fn span_end(frame: u8) -> u8
     requires { frame < 4 }
@@ -49,7 +49,7 @@ fn frame_bits(decoder: &mut Decoder, rate: Rate, softs: &[i64; 1536], frame: u8)
     paging_span(decoder, rate, &softs[from..to], frame - first)
 }
 
-/// Adds a frame's bits behind those of the frames before it.
+/// Adds a frame's bits after those of the frames before it.
 fn append_all(out: &mut HalfBits, bits: &Bits)
     requires { length out.old + length bits.now ≤ 11264 }
     ensures { out.new ≡ out.old ++ bits.now }
@@ -65,7 +65,7 @@ fn append_all(out: &mut HalfBits, bits: &Bits)
 /// `softs` has the soft values of the slot's four frames in the sent order, 384 a frame, turned by
 /// the scrambling; a soft value is positive where its symbol is more likely a 0. Each frame's bits
 /// are its own bits of a span (`paging_span`) of itself and its neighbours among these four. So the
-/// first frame has none before it, the last has none behind it, and no frame of another slot is
+/// first frame has none before it, the last has none after it, and no frame of another slot is
 /// used. The decoder takes three frames' bits.
 ///
 /// TIA/EIA-95-B, 6.6.2.1.1.3: a handset in slotted mode hears its slots; 7.1.3.4: a slot of 80 ms

@@ -7,7 +7,7 @@ use Rattle.symbol_path.specs.declared.rate_two.Rate2.{Rate2}
 use Rattle.symbol_path.specs.RatesTwo.{quality_of}
 use Rattle.symbol_path.specs.SentOrderTwo.{sent2}
 
--- the quality indicator behind a frame's information bits
+-- the quality indicator after a frame's information bits
 abbrev pub quality_indicator : Rate2 → List Bool → List Bool
 quality_indicator rate information = check_bits (generator_of (quality_of rate)) information
 

@@ -24,7 +24,7 @@ power_start previous =
     2 * digit (get_or previous 21 false) + digit (get_or previous 20 false)
 
 -- The place in the frame of the first symbol that group g's power control bit replaces. Group g
--- begins 1,536 g chips behind the frame's state, and the group before it 1,536 chips earlier.
+-- begins 1,536 g chips after the frame's state, and the group before it 1,536 chips earlier.
 abbrev pub power_place : ℕ → ℕ → ℕ → ℕ
 power_place state mask zero = power_start (group_scrambling (before state 1536) mask)
 power_place state mask (suc g) =

@@ -11,8 +11,8 @@ use chip_core::{Bits, CheckForm};
 use conv_code::encode_into;
 use quality_bits::append_check;
 
-/// The bits of a frame with this information: the quality indicator stands behind the information,
-/// and the tail behind both.
+/// The bits of a frame with this information: the quality indicator stands after the information,
+/// and the tail after both.
 fn codeword(rate: Rate2, info: &Bits) -> Bits
     requires { length info.now ≡ information_of rate }
     ensures value { result ≡ codeword_bits rate info.now }
@@ -27,7 +27,7 @@ fn codeword(rate: Rate2, info: &Bits) -> Bits
 /// Encodes a frame: `out` becomes its 384 symbols in the sent order before scrambling, whatever it
 /// held.
 ///
-/// `info` has the rate's information bits, the first of which is the reserved bit. Behind them
+/// `info` has the rate's information bits, the first of which is the reserved bit. After them
 /// stand the quality indicator and eight tail bits. The encoder starts each frame in state zero
 /// (TIA/EIA-95-B, 7.1.3.1.3).
 pub fn encode2_into(rate: Rate2, info: &Bits, out: &mut Bits)

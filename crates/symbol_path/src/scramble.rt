@@ -21,7 +21,7 @@ pub type PowerPlaces = [u16; 32];
 const PERIOD: u64 = 4_398_046_511_103;
 
 /// The chips of a mask of 42 bits at the first chips of the symbols from a state on, which goes on
-/// behind them.
+/// after them.
 fn symbol_chips(state: &mut State, mask: u64, out: &mut [bool])
     requires { mask < 2 ^ 42 }
     ensures chips { out.new ≡ symbol_chips state.old mask (length out.old) }
@@ -61,7 +61,7 @@ pub fn power_start(previous: &[bool; 24]) -> u8
         + u8::from(previous[20])
 }
 
-/// The scrambling bits of the power control group that begins at a state, which goes on behind it.
+/// The scrambling bits of the power control group that begins at a state, which goes on after it.
 fn group_bits(state: &mut State, mask: u64) -> [bool; 24]
     requires { mask < 2 ^ 42 }
     ensures bits { result ≡ group_scrambling state.old mask }

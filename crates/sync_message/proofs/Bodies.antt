@@ -15,7 +15,7 @@ use Rattle.sync_message.specs.SyncMessage.{fixed_fields, sync_body, IsSyncMessag
 use Rattle.sync_message.specs.Tails.{IsTail}
 use Rattle.sync_message.specs.declared.fields.SyncFields.{SyncFields}
 
--- what stands behind the fields that each message has
+-- what stands after the fields that each message has
 abbrev pub tail : Option ℕ → List Bool → List Bool
 tail freq rest = spelled (group_fields (UnlessLeft 3) (11 ∷ []) (freq_group freq)) ++ rest
 
@@ -117,7 +117,7 @@ tail_of m is =
     tail_told m.freq m.rest (octets M30 (sync_body m)) (omega (arith, is.fills.most))
     (omega (arith, is.fills.whole, length-body m)) is.said.group
 
--- what stands behind the first fields has 3 bits, or 11 and more
+-- what stands after the first fields has 3 bits, or 11 and more
 abbrev HasLength : Option ℕ → List Bool → Type 0
 HasLength freq rest =
     ((IsNone freq) × (length rest ≡ 3) × (length (tail freq rest) ≡ 3)) ⊎

@@ -1,4 +1,4 @@
--- What stands behind the message type, by its layout.
+-- What stands after the message type, by its layout.
 use Rattle.std.proofs.Common.{◌≡◌, ℕ, ◌+◌, ◌<◌, ◌≤◌, ◌^◌, ◌==◌, Bool, true, cond, List, [], ◌∷◌, ◌++◌, length, get_or, refl, sym, ap}
 use Rattle.std.proofs.Common.{subst, ◌∙◌, arith, length-append, Option, Some, None}
 use Rattle.std.proofs.lemmas.Bool.{eqb-true}
@@ -108,7 +108,7 @@ unfolding sync_body
 body_written m one after first behind =
     behind ∙ ap (λ (r : List Bool). r ++ spelling sync_shape (sync_contents m)) first
 
--- there is room behind the message type
+-- there is room after the message type
 pub body_room : (m : SyncFields) → IsSyncMessage m →
     8 + length (spelling sync_shape (sync_contents m)) ≤ 1184
 unfolding sync_body

@@ -1,4 +1,4 @@
--- The layout of what stands behind the message type, and what the message says as contents of it.
+-- The layout of what stands after the message type, and what the message says as contents of it.
 use Rattle.std.specs.Prelude.{ℕ, ◌==◌, if◌then◌else◌, Bool, List, [], ◌∷◌, get_or, Option, None}
 use Rattle.std.specs.Prelude.{Some}
 use Rattle.message_layout.specs.Reading.{◌>>=◌, mapped, number_part, reading}
@@ -59,7 +59,7 @@ sync_of values freq rest = record {
 abbrev pub sync_from : Contents → SyncFields
 sync_from c = sync_of c.fixed (freq_from c.group) c.rest
 
--- the message that a body says behind its type, 1
+-- the message that a body says after its type, 1
 unfoldable pub body_reading : List Bool → Option SyncFields
 body_reading body = do
   kind ← number_part 8 body

@@ -27,7 +27,7 @@ sync_rows =
     ∷ row (codes "prat") 2
     ∷ []
 
--- CDMA_FREQ, behind those where there is one
+-- CDMA_FREQ, after those where there is one
 abbrev pub freq_row : Row
 freq_row = row (codes "freq") 11
 

@@ -32,7 +32,7 @@ pub struct SyncFields {
     pub prat: u8,
     /// CDMA_FREQ, 11 bits; absent where the capsule has 25 octets.
     pub freq: Option<u16>,
-    /// The bits behind the fields: 3 where the capsule has 25 octets, else 8 for each octet past
+    /// The bits after the fields: 3 where the capsule has 25 octets, else 8 for each octet past
     /// 26.
     pub rest: Bits,
 }

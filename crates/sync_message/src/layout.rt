@@ -1,4 +1,4 @@
-//! The layout of what stands behind the message type, and the message as contents of it.
+//! The layout of what stands after the message type, and the message as contents of it.
 
 ghost use Rattle.std.specs.Prelude.{◌≡◌, ◌<◌, ◌^◌, IfSome};
 ghost use Rattle.chip_core.specs.Fields.{in_widths, FieldsFit};
@@ -24,7 +24,7 @@ pub(crate) const SYNC_CHANNEL: Layout = Layout {
     ..ALL_BITS
 };
 
-/// What a body says behind its type, which is 1.
+/// What a body says after its type, which is 1.
 #[tactic(auto, unfolding(crate::specs::Layouts::body_reading))]
 pub(crate) fn read_body(body: &BitSlice<'_>) -> Option<SyncFields>
     ensures { result ≡ body_reading body.now }

@@ -123,7 +123,7 @@ fn has_spelling(fields: &SyncFields) -> bool
     FieldValues::of(&values_of(fields)).fit(&SYNC_FIELDS) && has_tail(fields.freq, &fields.rest)
 }
 
-/// Whether a frequency and the bits behind it make whole octets, 25 without a frequency and 26 to
+/// Whether a frequency and the bits after it make whole octets, 25 without a frequency and 26 to
 /// 148 with one.
 fn has_tail(freq: Option<u16>, rest: &Bits) -> bool
     ensures { IsTrue result ↔ IsTail freq rest.now }

@@ -25,7 +25,7 @@ pub(crate) use sync_fields;
 /// TIA/EIA-95-B, 7.7.1.3. Whatever spells, reads or prints the message goes by this table.
 pub const SYNC_FIELDS: [FieldRow; 11] = sync_fields!(field_rows);
 
-/// CDMA_FREQ, which a message of more than 25 octets has behind those fields.
+/// CDMA_FREQ, which a message of more than 25 octets has after those fields.
 pub const FREQ_FIELD: FieldRow = ("freq", 11);
 
 /// The name of field `i` of the table, counted from 0.

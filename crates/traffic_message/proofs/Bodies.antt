@@ -16,7 +16,7 @@ use Rattle.traffic_message.specs.Reading as reading
 use Rattle.traffic_message.specs.declared.body.TrafficBody.TheVariants as bodies
 use Rattle.traffic_message.specs.declared.layouts.Form.TheVariants as forms
 
--- WHAT STANDS BEHIND THE HEAD
+-- WHAT STANDS AFTER THE HEAD
 -- what its form says of the type
 abbrev IsForm : Form → ℕ → ℕ → List Bool → Type 0
 IsForm forms.Parameters kind encryption bits = (encryption ≡ 0) × (kind ≡ 7)
@@ -162,7 +162,7 @@ head_back w fit =
     let bit : digit (c == 1) ≡ c = digit_of c (omega (arith, fit.1.1.0)) in
     rw bit refl
 
--- a body is its type and its head as fields of one table, and what stands behind them
+-- a body is its type and its head as fields of one table, and what stands after them
 typed : (m : messages.Message) →
     messages.message_body m
     ≡ spelled (in_widths typed_widths (messages.kind_of m.body ∷ messages.head_values m.head))
@@ -318,7 +318,7 @@ no_body body f = rw f refl
 abbrev pub message : Head → TrafficBody → messages.Message
 message h b = record { head = h; body = b }
 
--- the type, the head, and the bits behind them
+-- the type, the head, and the bits after them
 pub record AreParts (body : List Bool) (vs : List ℕ) (rest : List Bool) : Type 0 where
   pub kind : get_or vs 0 0 ≡ number_at 0 8 body
   pub small : get_or vs 0 0 < 2 ^ 8
@@ -361,7 +361,7 @@ are_parts body vs rest t read =
       behind = ap (λ (x : List ℕ × List Bool). x.1) same;
     }
 
--- what was read behind a head
+-- what was read after a head
 pub part_read : (body : List Bool) (vs : List ℕ) (rest : List Bool) (k : ℕ) (h : Head)
     (read : Option TrafficBody) → reading.is_body body ≡ true → AreParts body vs rest →
     k ≡ get_or vs 0 0 → h ≡ head_in vs → read ≡ reading.part_reading k h.encryption rest →

@@ -1,4 +1,4 @@
--- What stands behind the head, by its layouts.
+-- What stands after the head, by its layouts.
 use Rattle.traffic_message.proofs.Common.{◌≡◌, Bool, Option, ap, arith, length, refl, subst, sym, true, ◌<◌, ◌^◌, ◌∙◌, ◌∷◌, ◌≤◌, append-nil}
 use Rattle.traffic_message.proofs.Common.{map-places-all, places, FieldsFit, in_widths, spelled, all_columns, first_column, no_columns}
 use Rattle.traffic_message.proofs.Common.{one_value, record_fit, plain_back, plain_of, plain_spelled, rest_back, count_in, mapped, reading}
@@ -81,7 +81,7 @@ pub search_fits : (search : Option Search) (behind : ℕ) →
 search_fits None behind is = tt
 search_fits (Some search) behind is = is.fit
 
--- WHAT STANDS BEHIND A HEAD
+-- WHAT STANDS AFTER A HEAD
 pub lawful : (f : Form) → is_lawful (layouts.shape_of f) ≡ true
 unfolding is_lawful
 lawful forms.Parameters = refl

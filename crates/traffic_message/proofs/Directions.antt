@@ -17,7 +17,7 @@ place_clear : (bits : List Bool) → (number_at 9 1 bits == 1) ≡ false →
 unfolding handoff.hard_place
 place_clear bits f = rw f refl
 
--- what stands behind them
+-- what stands after them
 abbrev search_bits : Option Search → List Bool
 search_bits s = spelled (group_fields Flagged search_widths (handoff.search_group s))
 

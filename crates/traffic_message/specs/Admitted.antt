@@ -4,7 +4,7 @@ use Rattle.chip_core.specs.Readings.{number_at}
 use Rattle.traffic_message.specs.Messages.{Message, message_body, IsTrafficMessage}
 use Rattle.traffic_message.specs.Reading.{head_at, part_reading}
 
--- whether there is a head, and what stands behind it is read by the layout of its form
+-- whether there is a head, and what stands after it is read by the layout of its form
 unfoldable pub admits : List Bool → Bool
 admits body =
     nat_le 17 (length body)

@@ -57,7 +57,7 @@ abbrev pub IsHandoffDirection : DirectionFields → Type 0
 IsHandoffDirection m = IsOf direction_shape (direction_contents m)
 
 -- READ
--- where HARD_INCLUDED stands: behind the search parameters where SEARCH_INCLUDED is 1
+-- where HARD_INCLUDED stands: after the search parameters where SEARCH_INCLUDED is 1
 unfoldable pub hard_place : List Bool → ℕ
 hard_place bits = if number_at 9 1 bits == 1 then 34 else 10
 

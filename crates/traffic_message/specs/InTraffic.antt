@@ -12,7 +12,7 @@ abbrev pub in_traffic_values : InTrafficFields → List ℕ
 in_traffic_values m =
     m.sid ∷ m.nid ∷ m.wina ∷ m.winn ∷ m.winr ∷ m.tadd ∷ m.tdrop ∷ m.tcomp ∷ m.ttdrop ∷ m.age ∷ []
 
--- the fields, and all bits behind them
+-- the fields, and all bits after them
 abbrev pub in_traffic_shape : Shape
 in_traffic_shape = plain_shape in_traffic_widths [] 0 None
 

@@ -13,7 +13,7 @@ use Rattle.traffic_message.specs.declared.body.TrafficBody.{TrafficBody}
 use Rattle.traffic_message.specs.declared.body.TrafficBody.TheVariants as bodies
 use Rattle.traffic_message.specs.declared.fields.Head.{Head}
 
--- a message: what stands behind its type, and what it says
+-- a message: what stands after its type, and what it says
 pub record Message : Type 0 where
   pub head : Head
   pub body : TrafficBody
@@ -25,7 +25,7 @@ kind_of (bodies.Neighbors m) = 8
 kind_of (bodies.Handoff m) = 17
 kind_of (bodies.Other kind bits) = kind
 
--- the body of the message's capsule: the type, the head, and what stands behind it
+-- the body of the message's capsule: the type, the head, and what stands after it
 unfoldable pub message_body : Message → List Bool
 message_body m = binary 8 (kind_of m.body) ++ (spelled (head_fields m.head) ++ bits_of m.body)
 

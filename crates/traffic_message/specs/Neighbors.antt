@@ -7,7 +7,7 @@ use Rattle.message_layout.specs.declared.contents.Contents.{Contents}
 use Rattle.traffic_message.specs.Widths.{update_widths}
 use Rattle.traffic_message.specs.declared.fields.UpdateFields.{UpdateFields}
 
--- the step of offsets, and behind it the offsets of as many neighbors as fit, one at least
+-- the step of offsets, and after it the offsets of as many neighbors as fit, one at least
 abbrev pub update_shape : Shape
 update_shape = plain_shape update_widths (9 ∷ []) 1 (Some 7)
 

@@ -204,7 +204,7 @@ parameters_spelled : message_body (record {
 unfolding first_head message_body spelling binary
 parameters_spelled = refl
 
--- 67 bits behind the head are enough, and 63 aren't
+-- 67 bits after the head are enough, and 63 aren't
 enough : (body_reading (binary 8 7 ++ replicate 80 false)
     ≡ Some (record {
       head = no_head;

@@ -1,4 +1,4 @@
-//! What a message says behind its head.
+//! What a message says after its head.
 
 ghost use Rattle.std.specs.Prelude.{◌≡◌, ◌+◌, ◌≤◌, ◌++◌, drop, length};
 ghost use Rattle.traffic_message.specs.Layouts.{bits_of, body_from, contents_of, form_in};
@@ -13,7 +13,7 @@ use crate::neighbors::NeighborUpdate;
 use chip_core::{Bits, Numbers};
 use message_layout::{BitSlice, Contents, append, read_from};
 
-/// What a message of the traffic channel says behind its head.
+/// What a message of the traffic channel says after its head.
 ///
 /// TIA/EIA-95-B, 7.7.3.3.
 #[derive(Clone, Copy, PartialEq, Eq, Debug)]
@@ -28,7 +28,7 @@ pub enum TrafficBody {
     Other {
         /// The message type, 8 bits.
         kind: u8,
-        /// All bits behind the head.
+        /// All bits after the head.
         bits: Bits,
     },
 }
@@ -46,7 +46,7 @@ impl TrafficBody {
         }
     }
 
-    /// Reads what stands behind the head, from a place on, by the type where nothing is encrypted;
+    /// Reads what stands after the head, from a place on, by the type where nothing is encrypted;
     /// `None` where the fields of the type don't fit.
     pub(crate) fn read(
         kind: u8,
@@ -79,7 +79,7 @@ impl TrafficBody {
         }
     }
 
-    /// Adds what stands behind the head.
+    /// Adds what stands after the head.
     pub(crate) fn append_to(&self, body: &mut Bits)
         requires { length body.old + length (bits_of self.now) ≤ 1184 }
         ensures { body.new ≡ body.old ++ bits_of self.now }
@@ -87,7 +87,7 @@ impl TrafficBody {
         append(&layout_of(self.form()), &self.contents(), body);
     }
 
-    /// The form of what stands behind the head.
+    /// The form of what stands after the head.
     fn form(&self) -> Form
         ensures { result ≡ form_in self.now }
     {
@@ -99,7 +99,7 @@ impl TrafficBody {
         }
     }
 
-    /// What stands behind the head, as its layout has it.
+    /// What stands after the head, as its layout has it.
     fn contents(&self) -> Contents
         ensures value { result ≡ contents_of self.now }
         ensures fields { HasFields self.now }

@@ -2,7 +2,7 @@
 
 use chip_core::{Bits, Numbers};
 
-/// What stands behind the type of each message. `HEAD_FIELDS` has the widths of the fields.
+/// What stands after the type of each message. `HEAD_FIELDS` has the widths of the fields.
 ///
 /// TIA/EIA-95-B, 7.7.3.2.1.
 #[derive(Clone, Copy, PartialEq, Eq, Debug)]
@@ -43,7 +43,7 @@ pub struct InTrafficFields {
     pub ttdrop: u8,
     /// NGHBR_MAX_AGE: how long a pilot stays a neighbor.
     pub age: u8,
-    /// The bits behind the fields.
+    /// The bits after the fields.
     pub rest: Bits,
 }
 
@@ -56,7 +56,7 @@ pub struct UpdateFields {
     pub inc: u8,
     /// NGHBR_PN of each neighbor, 9 bits: the offset of its pilot code, in units of 64 chips.
     pub pns: Numbers,
-    /// The bits behind the last neighbor, at most 7.
+    /// The bits after the last neighbor, at most 7.
     pub rest: Bits,
 }
 
@@ -98,6 +98,6 @@ pub struct DirectionFields {
     pub combs: Numbers,
     /// CODE_CHAN of each record, 8 bits: the Walsh row of the traffic channel.
     pub rows: Numbers,
-    /// The bits behind the last record, at most 7.
+    /// The bits after the last record, at most 7.
     pub rest: Bits,
 }

@@ -14,7 +14,7 @@ use crate::fields::{DirectionFields, Search};
 use message_layout::{BitSlice, Contents, FieldValues};
 use std::marker::Model;
 
-/// What an Extended Handoff Direction Message says behind its head: fields that fit, and a record
+/// What an Extended Handoff Direction Message says after its head: fields that fit, and a record
 /// or more. Contracts see the fields.
 ///
 /// TIA/EIA-95-B, 7.7.3.3.2.17.
@@ -76,7 +76,7 @@ impl HandoffDirection {
         }
     }
 
-    /// What stands behind the head, as its layout has it.
+    /// What stands after the head, as its layout has it.
     pub(crate) fn contents(&self) -> Contents
         ensures value { result ≡ direction_contents self.now }
         ensures spelled { IsHandoffDirection self.now }
@@ -109,7 +109,7 @@ fn is_set(bits: &BitSlice<'_>, from: u16, place: u16) -> bool
     place < bits.len() - from && bits.get(from + place)
 }
 
-/// Where HARD_INCLUDED stands: behind the search parameters where SEARCH_INCLUDED is set.
+/// Where HARD_INCLUDED stands: after the search parameters where SEARCH_INCLUDED is set.
 #[tactic(auto, unfolding(crate::specs::Handoff::hard_place))]
 fn hard_at(bits: &BitSlice<'_>, from: u16) -> u16
     requires { from ≤ length bits.now }

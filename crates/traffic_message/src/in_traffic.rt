@@ -12,7 +12,7 @@ use chip_core::{Bits, Numbers};
 use message_layout::{Contents, FieldValues, fields_of_values, values_of_fields};
 use std::marker::Model;
 
-/// What an In-Traffic System Parameters Message says behind its head: fields that fit. Contracts
+/// What an In-Traffic System Parameters Message says after its head: fields that fit. Contracts
 /// see the fields.
 ///
 /// TIA/EIA-95-B, 7.7.3.3.2.7.
@@ -61,7 +61,7 @@ impl InTraffic {
         InTraffic { fields }
     }
 
-    /// What stands behind the head, as its layout has it.
+    /// What stands after the head, as its layout has it.
     pub(crate) fn contents(&self) -> Contents
         ensures value { result ≡ in_traffic_contents self.now }
         ensures spelled { IsInTraffic self.now }

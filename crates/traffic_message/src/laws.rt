@@ -37,7 +37,7 @@ pub fn type_and_length_admit()
         (admits body ≡ true) ↔ HasMessage body }
 {}
 
-/// The parts of a frame are all of its bits behind the mode bits, in order.
+/// The parts of a frame of 9,600 bits a second are all of its bits after the mode bits, in order.
 pub fn parts_are_the_frame()
     ensures mixed { (bits : List Bool) → get_or bits 0 false ≡ true →
         joined (split_9600 bits) ≡ drop 4 bits }

@@ -1,4 +1,4 @@
-//! The layouts of the type with the head, and of what stands behind them.
+//! The layouts of the type with the head, and of what stands after them.
 
 ghost use Rattle.std.specs.Prelude.{◌≡◌, ◌≤◌, drop, length};
 ghost use Rattle.message_layout.specs.Shapes.{shape};
@@ -10,7 +10,7 @@ use message_layout::{
     ALL_BITS, BitSlice, Group, Layout, NO_GROUP, NO_OCTETS, NO_RECORDS, Octets, Presence, Records,
 };
 
-/// How what stands behind a head is laid out.
+/// How what stands after a head is laid out.
 #[derive(Clone, Copy)]
 pub(crate) enum Form {
     /// As an In-Traffic System Parameters Message.
@@ -23,7 +23,7 @@ pub(crate) enum Form {
     Plain,
 }
 
-/// The form of what stands behind a head, by the type where nothing is encrypted.
+/// The form of what stands after a head, by the type where nothing is encrypted.
 pub(crate) fn form_of(kind: u8, encryption: u8, bits: &BitSlice<'_>, from: u16) -> Form
     requires { from ≤ length bits.now }
     ensures { result ≡ form_at kind encryption (drop from bits.now) }
@@ -52,7 +52,7 @@ pub(crate) fn layout_of(form: Form) -> Layout
     }
 }
 
-/// The message type, the head, and all bits behind them.
+/// The message type, the head, and all bits after them.
 pub(crate) const HEAD: Layout = Layout {
     fixed: &[
         ("type", 8),
@@ -67,7 +67,7 @@ pub(crate) const HEAD: Layout = Layout {
     most: None,
 };
 
-/// The In-Traffic System Parameters Message: its fields, and all bits behind them.
+/// The In-Traffic System Parameters Message: its fields, and all bits after them.
 const IN_TRAFFIC: Layout = Layout {
     fixed: &IN_TRAFFIC_FIELDS,
     group: NO_GROUP,
@@ -88,8 +88,8 @@ const NEIGHBOR_UPDATE: Layout = Layout {
     most: Some(7),
 };
 
-/// The Extended Handoff Direction Message: the search parameters behind SEARCH_INCLUDED, the
-/// additional fields behind HARD_INCLUDED, which is 0, and ADD_LENGTH, and of each record PILOT_PN,
+/// The Extended Handoff Direction Message: the search parameters after SEARCH_INCLUDED, the
+/// additional fields after HARD_INCLUDED, which is 0, and ADD_LENGTH, and of each record PILOT_PN,
 /// PWR_COMB_IND and CODE_CHAN.
 const HANDOFF_DIRECTION: Layout = Layout {
     fixed: &TIME_FIELDS,

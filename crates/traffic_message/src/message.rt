@@ -41,7 +41,7 @@ impl Model for TrafficMessage {
 }
 
 impl TrafficMessage {
-    /// What stands behind the type.
+    /// What stands after the type.
     pub fn head(&self) -> Head
         ensures value { result ≡ self.now.head }
         ensures spelled { IsTrafficMessage self.now }
@@ -49,7 +49,7 @@ impl TrafficMessage {
         self.head
     }
 
-    /// What the message says behind its head.
+    /// What the message says after its head.
     pub fn body(&self) -> TrafficBody
         ensures value { result ≡ self.now.body }
         ensures spelled { IsTrafficMessage self.now }
@@ -161,7 +161,7 @@ impl Head {
         ]
     }
 
-    /// The head behind this type, as their layout has both.
+    /// The head after this type, as their layout has both.
     fn contents(&self, kind: u8) -> Contents
         ensures { result ≡ head_contents kind self.now }
     {

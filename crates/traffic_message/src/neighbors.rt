@@ -10,7 +10,7 @@ use chip_core::Numbers;
 use message_layout::Contents;
 use std::marker::Model;
 
-/// What a Neighbor List Update Message says behind its head: fields that fit, and a neighbor or
+/// What a Neighbor List Update Message says after its head: fields that fit, and a neighbor or
 /// more. Contracts see the fields.
 ///
 /// TIA/EIA-95-B, 7.7.3.3.2.8.
@@ -64,7 +64,7 @@ impl NeighborUpdate {
         }
     }
 
-    /// What stands behind the head, as its layout has it.
+    /// What stands after the head, as its layout has it.
     pub(crate) fn contents(&self) -> Contents
         ensures value { result ≡ update_contents self.now }
         ensures spelled { IsNeighborUpdate self.now }

@@ -6,13 +6,13 @@ ghost use Rattle.traffic_message.specs.Widths.{time_names};
 
 use message_layout::{field_rows, name_in};
 
-/// The names of the fields that stand behind the type of each message, in the order in which they
+/// The names of the fields that stand after the type of each message, in the order in which they
 /// are sent, each with its number of bits: ACK_SEQ, MSG_SEQ, ACK_REQ and ENCRYPTION.
 ///
 /// TIA/EIA-95-B, 7.7.3.2.1. Whatever spells, reads or prints a message goes by these tables.
 pub const HEAD_FIELDS: [(&str, u8); 4] = [("ack", 3), ("seq", 3), ("req", 1), ("enc", 2)];
 
-/// Hands a macro the fields of the In-Traffic System Parameters Message behind the head, in the
+/// Hands a macro the fields of the In-Traffic System Parameters Message after the head, in the
 /// order in which they are sent: of each its place, its name and its number of bits.
 macro_rules! in_traffic_fields {
     ($made:ident $(, $($with:tt)+)?) => {
@@ -26,7 +26,7 @@ macro_rules! in_traffic_fields {
 
 pub(crate) use in_traffic_fields;
 
-/// The names of the fields of the In-Traffic System Parameters Message behind the head, each with
+/// The names of the fields of the In-Traffic System Parameters Message after the head, each with
 /// its number of bits.
 ///
 /// TIA/EIA-95-B, 7.7.3.3.2.7.
@@ -38,7 +38,7 @@ pub const IN_TRAFFIC_FIELDS: [(&str, u8); 10] = in_traffic_fields!(field_rows);
 /// TIA/EIA-95-B, 7.7.3.3.2.8.
 pub const UPDATE_FIELDS: [(&str, u8); 1] = [("inc", 4)];
 
-/// The names of the first fields of the Extended Handoff Direction Message behind the head, each
+/// The names of the first fields of the Extended Handoff Direction Message after the head, each
 /// with its number of bits: USE_TIME, ACTION_TIME and HDM_SEQ.
 ///
 /// TIA/EIA-95-B, 7.7.3.3.2.17.

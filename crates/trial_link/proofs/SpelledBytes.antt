@@ -235,7 +235,7 @@ octets_long (suc count) bits = ap suc (octets_long count (drop 8 bits))
 abbrev pub octet_digits : List Bool → List ℕ
 octet_digits bits = encode_lower (octets (octet_count bits) (padded bits))
 
--- what stands behind the colon, and how long it is
+-- what stands after the colon, and how long it is
 pub octet_digits_within : (bits : List Bool) → are_within 48 102 (octet_digits bits) ≡ true
 octet_digits_within bits =
     encoded_within (octets (octet_count bits) (padded bits))

@@ -1,4 +1,4 @@
--- Fields read back: a key, and behind it a value that ends at a space or with the text.
+-- Fields read back: a key, and after it a value that ends at a space or with the text.
 use Rattle.trial_link.proofs.Common.{◌≡◌, ℕ, ◌==◌, true, List, [], ◌∷◌, ◌++◌, length, refl, sym, ap, ◌∙◌, arith, take, drop, Option, nat_eq}
 use Rattle.trial_link.proofs.Common.{append-nil, pointwise, drop-append_seam, take-append_seam, and_from, cond-true, eq-eqb, field, keyed}
 use Rattle.trial_link.proofs.Common.{past, value_of, begins_with, length_before}
@@ -33,7 +33,7 @@ pub fenced_by_end : (value : List ℕ) → are_within 33 126 value ≡ true → 
 fenced_by_end value are =
     omega (arith, before_low_mark 32 33 126 value [] (omega arith) are, before-none 32)
 
--- the value of a field, and what is behind it
+-- the value of a field, and what is after it
 pub field-front : {A : Type 0} (key value rest : List ℕ) (read : List ℕ → Option A) →
     IsFenced value rest → field key read (key ++ (value ++ rest)) ≡ read value
 unfolding field

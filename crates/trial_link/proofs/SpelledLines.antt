@@ -38,7 +38,7 @@ pub digits_word : (bits : List Bool) → are_within 33 126 (digits_of bits) ≡ 
 digits_word bits =
     within-wider 48 102 33 126 (digits_of bits) (omega arith) (omega arith) (digits_of_within bits)
 
--- a key, a value and what is behind it, in one line
+-- a key, a value and what is after it, in one line
 keyed_within : (key value rest : List ℕ) → are_within 32 126 key ≡ true →
     are_within 33 126 value ≡ true → are_within 32 126 rest ≡ true →
     are_within 32 126 (key ++ (value ++ rest)) ≡ true

@@ -41,7 +41,7 @@ unfolding hex_from
 from_digit n d digits below =
     ap (option_and_then (λ (v : ℕ). hex_from (16 * n + v) digits)) (digit_back d below)
 
--- bytes behind a number, the highest first
+-- bytes after a number, the highest first
 abbrev bytes_behind : ℕ → List ℕ → ℕ
 bytes_behind n [] = n
 bytes_behind n (byte ∷ bytes) = bytes_behind (256 * n + byte) bytes

@@ -22,9 +22,9 @@ line_text text =
     omega (arith, length-append text (10 ∷ [])) in
     ap (λ (n : ℕ). take n (ended text)) long ∙ take-append_seam text (10 ∷ [])
 
--- ---- lines behind one another
+-- ---- lines after one another
 
--- from a draft and a text on, the lines state what those behind the text state from the next draft
+-- from a draft and a text on, the lines state what those after the text state from the next draft
 -- on
 pub record Leads (draft : Draft) (text : List ℕ) (next : Draft) : Type 0 where
   pub on : (n : ℕ) (behind : List ℕ) →
@@ -47,7 +47,7 @@ one_leads draft next text statement are is behind_it =
       );
     }
 
--- lines behind lines
+-- lines after lines
 pub both_lead : (draft middle next : Draft) (first second : List ℕ) → Leads draft first middle →
     Leads middle second next → Leads draft (first ++ second) next
 both_lead draft middle next first second one two =

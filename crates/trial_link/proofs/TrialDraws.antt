@@ -62,7 +62,7 @@ lines_more state n =
 
 -- ---- the whole script
 
--- text behind text, part by part
+-- text after text, part by part
 pub text_more : (before text next part more all : List ℕ) → text ≡ before ++ part →
     next ≡ text ++ more → all ≡ part ++ more → next ≡ before ++ all
 text_more before text next part more all text_is next_is all_is =

@@ -96,7 +96,7 @@ followed_stated number = record {
   gain = omega arith;
 }
 
--- ---- the drafts behind the lines before the traffic channels
+-- ---- the drafts after the lines before the traffic channels
 
 abbrev link_line : List ℕ
 link_line = codes "link re=1 im=0 start=0 samples=2457600"
@@ -216,7 +216,7 @@ head_leads cell is =
     (both_lead (draft_at (with_pilot cell) Sync) (draft_at (with_paging cell) (FirstPage R9600))
     last sync_text page (sync_leads cell) (page_leads cell)))
 
--- ---- and behind each of these
+-- ---- and after each of these
 
 other_are : AreToldFrames (other_frame ∷ [])
 unfolding other_frame binary

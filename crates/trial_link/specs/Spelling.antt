@@ -21,7 +21,7 @@ value_text forms.Signed n = decimal n
 value_text forms.State n = state_digits n
 value_text forms.SerialNumber n = serial_digits n
 
--- each key, and behind it its value
+-- each key, and after it its value
 abbrev pub fields_text : List StatementRow → List ℕ → List ℕ
 fields_text [] values = []
 fields_text (row ∷ rows) [] = []

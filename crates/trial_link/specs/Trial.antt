@@ -20,15 +20,15 @@ use Rattle.trial_link.specs.Spelling.{cell_text, frame_text, page_text, traffic_
 
 -- ---- draws
 
--- the generator's state behind a draw: a linear congruence of 64 bits
+-- the generator's state after a draw: a linear congruence of 64 bits
 abbrev pub behind_draw : ℕ → ℕ
 behind_draw state = (6364136223846793005 * state + 1442695040888963407) % 2 ^ 64
 
--- what a draw from a state gives: the upper 32 bits of the state behind it
+-- what a draw from a state gives: the upper 32 bits of the state after it
 abbrev pub drawn : ℕ → ℕ
 drawn state = behind_draw state / 2 ^ 32
 
--- the state behind so many draws
+-- the state after so many draws
 unfoldable pub behind_draws : ℕ → ℕ → ℕ
 behind_draws state zero = state
 behind_draws state (suc n) = behind_draw (behind_draws state n)
@@ -47,7 +47,7 @@ rate_numbered k =
 abbrev pub rate_drawn : ℕ → Rate
 rate_drawn state = rate_numbered (drawn state % 4)
 
--- how many draws stand behind that of its rate
+-- how many draws stand after that of its rate
 abbrev pub bits_of_frame : ℕ → ℕ
 bits_of_frame state = information_of (rate_drawn state)
 
@@ -59,11 +59,11 @@ frame_drawn state = record {
   power_bits = bits_drawn (behind_draws (behind_draw state) (bits_of_frame state)) 16;
 }
 
--- the state behind it
+-- the state after it
 abbrev pub behind_frame : ℕ → ℕ
 behind_frame state = behind_draws (behind_draws (behind_draw state) (bits_of_frame state)) 16
 
--- the state behind so many frames
+-- the state after so many frames
 unfoldable pub behind_frames : ℕ → ℕ → ℕ
 behind_frames state zero = state
 behind_frames state (suc n) = behind_frame (behind_frames state n)

@@ -26,7 +26,7 @@ fn append_value(text: &mut Text, form: FieldForm, value: u64)
     }
 }
 
-/// Adds a field: its key, and behind it a value, whose form has no sign.
+/// Adds a field: its key, and after it a value, whose form has no sign.
 fn append_field(text: &mut Text, field: StatementField, value: u64)
     requires ascii { IsAscii field.key.now }
     requires form { IsOfForm field.form value }

@@ -20,7 +20,7 @@ unfolding slot_behind
 kept_behind_none kept = refl
 
 module _ (form : TunedText) (check : CheckForm) (m : Mark) where
-  -- the text of frames, and of those behind them
+  -- the text of frames, and of those after them
   pub texts_joined : (kept xs ys : List SoftFrame) →
       frames_text form check m kept (xs ++ ys)
       ≡ frames_text form check m kept xs ++ frames_text form check m (slot_behind kept xs) ys

@@ -1,4 +1,4 @@
--- The frames of a channel behind the mark, as they are given one by one.
+-- The frames of a channel after the mark, as they are given one by one.
 use Rattle.tuned_listener.proofs.Common.{◌≡◌, ℕ, ◌+◌, ◌*◌, ◌<◌, ◌≤◌, true, false, List, [], ◌∷◌, ◌++◌, map, filter, length, refl, sym, ap}
 use Rattle.tuned_listener.proofs.Common.{◌∙◌, arith, ℤ, Option, length-append, map-append, places, Sample, after, frame_chips, scrambling}
 use Rattle.tuned_listener.proofs.Common.{channel_stream, has_power_control, mask_of, state_at, IsAt, IsDueAt, clock_from, first_frame}

@@ -1,4 +1,4 @@
--- What is written of a sleeping handset's slots hangs on the samples of these alone.
+-- What is written of a sleeping handset's slots depends on the samples of these alone.
 use Rattle.tuned_listener.proofs.Common.{◌≡◌, ℕ, ◌+◌, ◌-◌, ◌*◌, ◌<◌, ◌≤◌, true, List, [], ◌∷◌, length, refl, sym, ap, ◌∙◌, subst, arith}
 use Rattle.tuned_listener.proofs.Common.{inl, inr, ℤ, pos, ◌-ℤ◌, Option, Some, None, take, drop, filter, length-take-le, int_le}
 use Rattle.tuned_listener.proofs.Common.{unsigned_abs, and_parts, cases_lt, ints, drop-drop, drop-take, take-append-drop, take-take}
@@ -27,7 +27,7 @@ parts_agree {A} one other place off count rest same =
         ∙ take-take count (count + rest) (drop off (drop place xs)) (omega arith)
         ∙ ap (take count) (drop-drop off place xs)
 
--- a finger reads the slot's frames as far behind one another as the reference path does
+-- a finger reads the slot's frames as far after one another as the reference path does
 place_on : (u n : ℕ) (d : ℤ) → int_le d (pos 127) ≡ true → 127 ≤ u →
     unsigned_abs (pos u -ℤ d) + n ≡ unsigned_abs (pos (u + n) -ℤ d)
 place_on u n d near late = grind (arith, ints)
@@ -92,7 +92,7 @@ module _ (t : Tuning) (near : AreNear (sync_stream t).fingers) (m : Mark) (one o
           sym (mark_stays t (low_of t) (timed_of t near) one m.sample (length one) found few is)
           ∙ marked
 
-  -- and hangs on these alone
+  -- and depends on these alone
   set_by_first : (samples : List Sample) → m.sample ≤ length samples →
       mark t samples m.sample ≡ mark t (take m.sample samples) m.sample
   set_by_first samples few =

@@ -12,7 +12,7 @@ slot_begun : (slot : List SoftFrame) (frame : SoftFrame) → frame.number % 4 �
     slot_more slot frame ≡ frame ∷ []
 slot_begun slot frame is = rw (eq-eqb (frame.number % 4) 0 is) refl
 
--- another one goes behind those before it
+-- another one goes after those before it
 slot_goes_on : (slot : List SoftFrame) (frame : SoftFrame) → (frame.number % 4 == 0) ≡ false →
     frame.number % 4 ≡ length slot → slot_more slot frame ≡ slot ++ frame ∷ []
 slot_goes_on slot frame other is =

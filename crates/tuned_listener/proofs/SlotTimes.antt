@@ -82,7 +82,7 @@ module _ (key cycle : ℕ) (check : CheckForm) (m : Mark) where
       let here : d.number / 4 ≡ slot = omega (arith, is) in
       rw here refl
 
-  -- the text of a slot, whatever was kept, and of what lies behind it
+  -- the text of a slot, whatever was kept, and of what lies after it
   text_of_four : (kept : List SoftFrame) (a b c d : SoftFrame) (frames : List SoftFrame) (slot : ℕ) →
       a.number ≡ 4 * slot → b.number ≡ 4 * slot + 1 → c.number ≡ 4 * slot + 2 →
       d.number ≡ 4 * slot + 3 →
@@ -236,10 +236,10 @@ module _ (p : ℕ → Bool) (down : (j k : ℕ) → j < k → p k ≡ true → p
             )
       ]
 
--- ---- a paging channel's frames behind a mark
+-- ---- a paging channel's frames after a mark
 module _ (t : Tuning) (near : AreNear (sync_stream t).fingers) (samples : List Sample) (m : Mark)
     (marked : mark t samples (length samples) ≡ Some m) where
-  -- the mark lies far behind all that a finger may read too early
+  -- the mark lies far after all that a finger may read too early
   pub mark_is_late : 32768 ≤ m.sample
   mark_is_late =
       let (k, set) = mark_set t samples (length samples) m marked in
@@ -423,7 +423,7 @@ unfolding tuned_text
 needs_mark key cycle t number samples unmarked =
     ap (text_behind (Slots key cycle) t (Paging number) samples) unmarked
 
--- both in one: what is written are the lines behind the mark, where one is set
+-- both in one: what is written are the lines after the mark, where one is set
 pub written_of_slots : (key cycle : ℕ) (t : Tuning) (number : ℕ) (samples : List Sample) →
     AreNear (sync_stream t).fingers →
     tuned_text (Slots key cycle) t (Paging number) samples

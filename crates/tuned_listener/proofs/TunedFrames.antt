@@ -1,4 +1,4 @@
--- The text of the frames behind a mark, as it is written frame by frame.
+-- The text of the frames after a mark, as it is written frame by frame.
 use Rattle.tuned_listener.proofs.Common.{◌≡◌, ℕ, zero, suc, ◌+◌, ◌≤◌, Bool, true, false, List, [], ◌∷◌, ◌++◌, map, filter, length, take}
 use Rattle.tuned_listener.proofs.Common.{drop, refl, sym, ap, ◌∙◌, subst, arith, inl, inr, nat_le, Option, None, Some, append_assoc}
 use Rattle.tuned_listener.proofs.Common.{take-add, length-append, StartsWith, Appends, range_with_len, option_to_list, Appends-nil}
@@ -106,7 +106,7 @@ module _ (t : Tuning) (channel : Channel) (m : Mark) {low : ℕ}
 
 -- ---- writing
 
--- the samples of a step behind those taken before
+-- the samples of a step after those taken before
 pub step_joined : (heard samples next : List Sample) (taken n : ℕ) → next ≡ drop taken samples →
     (heard ++ take taken samples) ++ take n next ≡ heard ++ take (taken + n) samples
 step_joined heard samples next taken n left =
@@ -114,11 +114,11 @@ step_joined heard samples next taken n left =
     ∙ append_assoc heard (take taken samples) (take n (drop taken samples))
     ∙ ap (λ (xs : List Sample). heard ++ xs) (sym (take-add taken n samples))
 
--- what a writer keeps of a slot behind these samples
+-- what a writer keeps of a slot after these samples
 abbrev kept_of : Tuning → Channel → Mark → List Sample → List SoftFrame
 kept_of t channel m heard = slot_behind [] (soft_frames t channel m heard)
 
--- the text of the frame that is shown behind those
+-- the text of the frame that is shown after those
 abbrev shown_text : TunedText → Tuning → Channel → Mark → List Sample → Option SoftFrame → List ℕ
 shown_text form t channel m heard shown =
     frames_text form t.check30 m (kept_of t channel m heard) (option_to_list shown)
@@ -209,7 +209,7 @@ module _ (t : Tuning) (channel : Channel) (m : Mark) (form : TunedText) where
           (option_to_list step.frame))
           ∙ ap (frames_text form t.check30 m []) (sym frames_then)
 
-      -- what is kept of a slot behind it
+      -- what is kept of a slot after it
       step_kept : kept_with t channel m so_many step.frame
           ≡ kept_of t channel m (heard ++ take (taken + step.taken) samples)
       step_kept =

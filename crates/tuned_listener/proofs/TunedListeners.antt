@@ -51,14 +51,14 @@ module _ (t : Tuning) (channel : Channel) (heard : List Sample) where
   ahead_alone None None is from = absurd from
   ahead_alone None (Some b) is from = absurd (cc)
 
--- ---- the frames behind the mark
+-- ---- the frames after the mark
 
 module _ (t : Tuning) (channel : Channel) (heard : List Sample) where
   -- there are none before the mark
   pub frames_unmarked : mark t heard (length heard) ≡ None → behind_mark t channel heard ≡ []
   frames_unmarked none = ap (frames_from t channel heard) none
 
-  -- and behind it those from there on
+  -- and after it those from there on
   pub frames_marked : (m : Mark) → mark t heard (length heard) ≡ Some m →
       behind_mark t channel heard ≡ soft_frames t channel m heard
   frames_marked m is = ap (frames_from t channel heard) is
@@ -90,7 +90,7 @@ module _ (t : Tuning) (channel : Channel) (form : TunedText) (l : TunedListener)
     listens = from;
   }
 
-  -- what the writer keeps doesn't change where the frames behind the mark are the same
+  -- what the writer keeps doesn't change where the frames after the mark are the same
   pub holds_on : (heard' : List Sample) → behind_mark t channel heard' ≡ behind_mark t channel heard →
       HoldsFrames l.writer t.check30 (slot_behind [] (behind_mark t channel heard'))
   holds_on heard' same =
@@ -196,7 +196,7 @@ ready_writer (writers.Listed decoder k) is = (
 )
 ready_writer (writers.Slots slots) is = ready_slots slots is
 
--- ---- behind the mark
+-- ---- after the mark
 
 module _ (t : Tuning) (channel : Channel) (form : TunedText) (l : TunedListener)
     (heard samples : List Sample) (old new : Option (List ℕ))
@@ -300,7 +300,7 @@ tells_nothing t channel form l l' heard samples old is none empty phase near sam
           from);
     }
 
--- ---- samples ahead of the mark, and those behind it
+-- ---- samples ahead of the mark, and those after it
 
 module _ (t : Tuning) (channel : Channel) (form : TunedText) (heard samples next : List Sample)
     (taken : ℕ) (old new : Option (List ℕ)) (left : next ≡ drop taken samples)

@@ -59,7 +59,7 @@ unmarked_all t mobile heard given stands unset all =
 
 module _ (before after : Mobile) (next : List Sample) (step : Step)
     (does : Steps before after next step) where
-  -- events among which none sets a mark still have none behind the step
+  -- events among which none sets a mark still have none after the step
   abbrev pub StaysUnset : Type 0
   StaysUnset = (t : Tuning) (heard : List Sample) (given : List Event) →
       list_any sets_mark given ≡ false →

@@ -11,7 +11,7 @@ module _ (form : TunedText) (t : Tuning) (channel : Channel) (heard : List Sampl
   unfolding tuned_text
   text_unmarked none = ap (text_behind form t channel heard) none
 
-  -- and behind it that of the frames from there on
+  -- and after it that of the frames from there on
   pub text_marked : (m : Mark) → mark t heard (length heard) ≡ Some m →
       tuned_text form t channel heard ≡ text_from form t channel m heard
   unfolding tuned_text

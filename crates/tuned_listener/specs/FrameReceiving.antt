@@ -17,7 +17,7 @@ pub record IsSoundChannelReceiver (r : ChannelReceiver) : Type 0 where
   pub given : r.frames.clock.have ≡ r.frames.clock.next
   pub few : length r.frames.fingers ≤ 3
 
--- The receiver of this channel behind this mark has given the frames that end within so many
+-- The receiver of this channel after this mark has given the frames that end within so many
 -- samples of a file.
 pub record HasGiven (t : Tuning) (channel : Channel) (m : Mark) (r : ChannelReceiver) (taken : ℕ)
     : Type 0 where

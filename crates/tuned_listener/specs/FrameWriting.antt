@@ -45,7 +45,7 @@ HoldsFrames (writers.RateSetTwo decoder) check slot = Unit {0}
 HoldsFrames (writers.Listed decoder k) check slot = Unit {0}
 HoldsFrames (writers.Slots slots) check slot = (slots.check ≡ check) × HoldsSlot slots slot
 
--- A receiver has taken these samples behind those, a sink got the text of the frames that end
+-- A receiver has taken these samples after those, a sink got the text of the frames that end
 -- within them, and the writer keeps what they leave of a slot.
 pub record WritesFrames (t : Tuning) (channel : Channel) (m : Mark) (form : TunedText)
     (tuner : Tuner) (writer : FrameWriter) (before heard : List Sample) (old new : Option (List ℕ))

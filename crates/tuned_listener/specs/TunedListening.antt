@@ -18,7 +18,7 @@ use Rattle.tuned_listener.specs.declared.tuned.Behind.{Behind}
 use Rattle.tuned_listener.specs.declared.tuned.TunedListener.{TunedListener}
 use Rattle.event_tap.specs.declared.tuned_text.TunedText.{TunedText}
 
--- a receiver has taken these samples, which set the mark that it is behind
+-- a receiver has taken these samples, which set the mark that it is after
 pub record ListensBehind (t : Tuning) (channel : Channel) (b : Behind) (heard : List Sample)
     : Type 0 where
   pub marked : mark t heard (length heard) ≡ Some b.mark
@@ -53,7 +53,7 @@ room_of None None = 0
 abbrev pub tuned_room : TunedListener → ℕ
 tuned_room l = room_of l.ahead l.behind
 
--- It has taken these samples behind those, and a sink got the text of the frames that end within
+-- It has taken these samples after those, and a sink got the text of the frames that end within
 -- them.
 pub record TellsTuned (t : Tuning) (channel : Channel) (form : TunedText) (l : TunedListener)
     (before heard : List Sample) (old new : Option (List ℕ)) : Type 0 where

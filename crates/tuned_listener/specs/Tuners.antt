@@ -14,7 +14,7 @@ use Rattle.heard_events.specs.declared.soft_frame.SoftFrame.{SoftFrame}
 use Rattle.tuned_listener.specs.declared.tuner.Tuner.{Tuner}
 use Rattle.tuned_listener.specs.declared.tuner.TunerStep.{TunerStep}
 
--- It receives this channel behind this mark, has taken these samples of a file, and given the
+-- It receives this channel after this mark, has taken these samples of a file, and given the
 -- frames that end within them.
 pub record IsTunedTo (t : Tuning) (channel : Channel) (m : Mark) (r : Tuner)
     (heard : List Sample) : Type 0 where

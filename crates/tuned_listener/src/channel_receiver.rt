@@ -1,4 +1,4 @@
-//! The frames of a channel behind the mark, as the reference base station's paths receive them.
+//! The frames of a channel after the mark, as the reference base station's paths receive them.
 
 ghost use Rattle.std.specs.Prelude.{◌≡◌, ◌<◌, ◌*◌, ◌^◌, ℕ};
 ghost use Rattle.heard_events.specs.Channels.{IsLawful, mask_of, state_at};
@@ -15,7 +15,7 @@ use reception::{FrameReceiver, Scrambling, reference_fingers};
 use short_code::Codes;
 use symbol_path::power_places;
 
-/// The scrambling of a channel, whose frame 0 begins at the mark or at its offset behind it.
+/// The scrambling of a channel, whose frame 0 begins at the mark or at its offset after it.
 fn scrambling_of(channel: &Channel, mark: &Mark) -> Scrambling
     requires lawful { IsLawful channel.now }
     requires mark { IsSoundMark mark.now }
@@ -29,7 +29,7 @@ fn scrambling_of(channel: &Channel, mark: &Mark) -> Scrambling
     }
 }
 
-/// The receiver of a channel's frames behind the mark, on the paths of the reference base station.
+/// The receiver of a channel's frames after the mark, on the paths of the reference base station.
 #[derive(Drop)]
 pub(crate) struct ChannelReceiver {
     frames: FrameReceiver,
@@ -128,7 +128,7 @@ impl ChannelReceiver {
         }
     }
 
-    /// Gives the frame whose last sample has just come, and goes on to the frame behind it.
+    /// Gives the frame whose last sample has just come, and goes on to the frame after it.
     pub(crate) fn take_frame(&mut self, ring: &SampleRing, codes: &Codes) -> SoftFrame
         requires sound { IsSoundChannelReceiver self.old }
         requires room { ring.now.room ≡ 65536 }

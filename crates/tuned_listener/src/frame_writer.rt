@@ -126,7 +126,7 @@ impl FrameWriter {
         }
     }
 
-    /// Writes what is made of the next frame behind a mark.
+    /// Writes what is made of the next frame after a mark.
     fn write<K: Sink>(&mut self, mark: &Mark, frame: &SoftFrame, sink: &mut K) -> Result<(), Failed>
         requires ready { IsReady self.old }
         requires mark { IsSoundMark mark.now }
@@ -153,7 +153,7 @@ impl FrameWriter {
     }
 }
 
-/// Gives samples to the receiver of a channel's frames behind a mark, and writes what is made of
+/// Gives samples to the receiver of a channel's frames after a mark, and writes what is made of
 /// each frame that ends within them.
 pub(crate) fn hear_frames<K: Sink>(
     tuner: &mut Tuner,

@@ -11,7 +11,7 @@ pub fn slots_are_written_by_their_times()
     ensures mark { NeedsMark }
 {}
 
-/// What is written of a sleeping handset doesn't hang on what it sleeps through: it is the same for
+/// What is written of a sleeping handset doesn't depend on what it sleeps through: it is the same for
 /// two files of one tuning and one length that agree before the mark and, path by path, in the
 /// samples of the slots that it hears.
 pub fn sleep_hides_the_rest()

@@ -58,7 +58,7 @@ fn goes_on(place: u8, kept: u8) -> bool
     place == 0 || place == kept
 }
 
-/// The system time of the slot of a frame behind a mark, in units of 80 ms.
+/// The system time of the slot of a frame after a mark, in units of 80 ms.
 fn slot_time(mark: &Mark, number: u64) -> u64
     requires { IsSoundMark mark.now }
     ensures { result ≡ mark.now.time + number / 4 }
@@ -255,7 +255,7 @@ impl SlotWriter {
         write_lines(frame.end, time, &bits, rate, *check, sink)
     }
 
-    /// Hears the next frame behind a mark, and writes the lines of the slot that it ends, where it
+    /// Hears the next frame after a mark, and writes the lines of the slot that it ends, where it
     /// ends one that is monitored.
     ///
     /// [`Failed`] comes only where the sink's count of faults rose, and the sink got then a

@@ -1,4 +1,4 @@
-//! Who hears the frames of one channel: a handset up to the step that sets the mark, and behind it
+//! Who hears the frames of one channel: a handset up to the step that sets the mark, and after it
 //! a receiver of these frames alone.
 
 ghost use Rattle.tuned_listener.specs.SoundListener.{IsSoundListener};
@@ -14,7 +14,7 @@ use mobile_core::{HeardRing, Mobile};
 use pilot_search::Near;
 use std::alloc::Global;
 
-/// The receiver of a channel's frames, and the mark that it is behind.
+/// The receiver of a channel's frames, and the mark that it is after.
 #[derive(Drop)]
 struct Behind {
     mark: Mark,
@@ -24,7 +24,7 @@ struct Behind {
 /// The listener of one channel of the reference base station, which writes what is made of its
 /// frames.
 ///
-/// Up to the step that sets the mark a handset hears the samples, and behind it a receiver of the
+/// Up to the step that sets the mark a handset hears the samples, and after it a receiver of the
 /// channel's frames, in place of the handset.
 #[derive(Drop)]
 pub struct TunedListener {

@@ -47,11 +47,11 @@ impl Tuner {
     ghost use Rattle.heard_events.specs.Tuning.{Tuning};
     ghost use Rattle.rake_finger.specs.Held.{HoldsLast};
 
-    /// The receiver of a channel behind a mark, for a base station at a phase and near it, in a
+    /// The receiver of a channel after a mark, for a base station at a phase and near it, in a
     /// file of so many samples.
     ///
     /// The ring, with room for 65,536 samples, has taken the first samples of the file, up to the
-    /// mark at most; the receiver takes those behind them. It allocates nothing.
+    /// mark at most; the receiver takes those after them. It allocates nothing.
     pub fn open(
         count: u64,
         ring: SampleRing,

@@ -84,7 +84,7 @@ pub record IsGreatest (xs : List ℤ) (top : ℤ) : Type 0 where
   pub least : (bound : ℤ) → ((t : ℕ) → t < length xs → get_or xs t (pos 0) ≤ℤ bound) → top ≤ℤ bound
 
 -- what a step needs: no metric is above the greatest, and what it lacks of that is no more than
--- numbers of 64 bits leave room for behind these two soft values
+-- numbers of 64 bits leave room for after these two soft values
 pub record CanStep (column : List ℤ) (top first second : ℤ) : Type 0 where
   pub whole : length column ≡ 256
   pub pair : unsigned_abs first + unsigned_abs second ≤ 2 ^ 62

@@ -20,7 +20,7 @@ pub enum Ends {
 pub struct Codeword {
     /// The eight start bits; bit 0 is the newest of them.
     pub start: u8,
-    /// The bits behind them, the oldest first.
+    /// The bits after them, the oldest first.
     pub bits: Bits,
 }
 

@@ -8,7 +8,7 @@ ghost use Rattle.viterbi.specs.Survivors.{end_count};
 
 use crate::codeword::Ends;
 
-/// Whether the next bit, behind so many, may come only from states with oldest bit 0: no codeword
+/// Whether the next bit, after so many, may come only from states with oldest bit 0: no codeword
 /// from zeros leads into another.
 pub fn is_forced(ends: Ends, bit: usize) -> bool
     ensures { result ≡ forced_at ends bit }

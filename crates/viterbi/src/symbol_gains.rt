@@ -1,6 +1,6 @@
 //! What a bit adds to the score of a codeword, by the state into which it leads.
 //!
-//! A bit has two symbols. Which they are hangs on the state, and of each eight states from a
+//! A bit has two symbols. Which they are depends on the state, and of each eight states from a
 //! multiple of 8 on they are of one of four kinds.
 
 ghost use Rattle.std.specs.Prelude.{◌≡◌, ◌<◌, ◌≤◌, ◌+◌, ◌^◌, ℕ, get_or, pos, unsigned_abs};

@@ -52,7 +52,7 @@ next_before : (bits_of : ℕ → List Bool) (k : ℕ) →
 unfolding bits_before
 next_before bits_of k = refl
 
--- behind the frames of a span the encoder is where the next frame begins
+-- after the frames of a span the encoder is where the next frame begins
 state_behind : (bits_of : ℕ → List Bool) (n first frames : ℕ) → 8 ≤ n →
     ((j : ℕ) → length (bits_of j) ≡ n) →
     state_after (bits_before bits_of first) (span_codeword bits_of first frames).bits ≡
@@ -104,7 +104,7 @@ length-continued bits_of n k each =
     ap length (continued_is bits_of k) ∙ length-code_symbols (bits_before bits_of k) (bits_of k) ∙
     ap (λ (m : ℕ). 2 * m) (each k)
 
--- so the symbols of the codeword, as they are sent, are the frames' one behind the other
+-- so the symbols of the codeword, as they are sent, are the frames' one after the other
 pub sent_as_one : (c : Channel) (bits_of : ℕ → List Bool) (first frames : ℕ) → 8 ≤ c.bits →
     ((j : ℕ) → length (bits_of j) ≡ c.bits) →
     sent_symbols (sending c frames) (span_codeword bits_of first frames) ≡
@@ -155,7 +155,7 @@ sent_same kind repeats n one other fills long long' same =
     ∙ ap (λ (xs : List Bool). get_or xs (place (shape_of kind) (c * repeats)) false) same
     ∙ sent_back kind repeats c other some low)
 
--- a list is its pieces one behind the other
+-- a list is its pieces one after the other
 pieces_of : (xs : List Bool) (size n : ℕ) →
     take (size * n) xs ≡ flat_map (λ k. take size (drop (size * k) xs)) (places n)
 pieces_of xs size zero =

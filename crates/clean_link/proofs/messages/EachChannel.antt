@@ -26,7 +26,7 @@ use Rattle.clean_link.proofs.traffic.Frames.{clean_traffic, each_heard, frame_th
 use Rattle.clean_link.proofs.traffic.Frames.{same_places, messages_heard, noisy_none_directed, none_directed}
 use Rattle.heard_events.specs.declared.event.Event.TheVariants.{Traffic as OnTraffic}
 
--- ---- frames behind a true mark
+-- ---- frames after a true mark
 
 module _ {width : Width} {plan : CellPlan} {p : TrafficPlan} {t : Tuning} {traffic : Traffic}
     {m : Mark} {superframes : ℕ} (is : HearsTraffic width plan p t traffic m superframes)
@@ -90,7 +90,7 @@ module _ {width : Width} {plan : CellPlan} {t : Tuning} {all_samples : List Samp
   last = mark t all_samples t.count
 
   -- What is heard of it comes back where the mark of all samples tells it: nothing where none is
-  -- set, and else what is true of what is heard behind that mark.
+  -- set, and else what is true of what is heard after that mark.
   each_behind : (Are : Option ℕ → List Event → Type 0) (heard : ℕ → Traffic → Mark → List Event) →
       ((n : ℕ) → n ≤ t.count →
       if_followed (heard n) t.traffic (mark t all_samples n)
@@ -321,7 +321,7 @@ UndirectedWhereSent width plan t samples = (p : TrafficPlan) (traffic : Traffic)
 module _ {width : Width} {plan : CellPlan} {t : Tuning} {samples : List Sample}
     (is : ShowsSync width plan samples) (tuned : IsOnPath plan t)
     (undirected : UndirectedWhereSent width plan t samples) where
-  -- the messages behind the mark of all samples
+  -- the messages after the mark of all samples
   behind_last : (followed : Option Traffic) (last : Option Mark) → t.traffic ≡ followed → mark t samples t.count ≡ last →
       FollowsSent plan followed → All IsNotDirected (signaling_sent plan followed) → (n : ℕ) →
       n ≤ plan.link.samples →

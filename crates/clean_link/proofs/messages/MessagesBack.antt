@@ -118,7 +118,7 @@ with_sync_is plan channel sync rated told rated_is told_is =
     (told_by_first plan sync.message (whole_sendings plan sync.message)) else []) rated_is
     ∙ ap (λ (o : Option ℕ). if rated then pages_behind_mark plan channel o else []) told_is
 
--- Behind a true mark that tells the rate, what is heard of the followed channel is its whole pages.
+-- After a true mark that tells the rate, what is heard of the followed channel is its whole pages.
 abbrev pub PagesShown : CellPlan → Tuning → List Sample → Type 0
 PagesShown plan t samples = (sync : SyncPlan) (m : Mark) (superframes : ℕ) →
     plan.sync ≡ Some sync → m.prat ≡ sync.message.prat → m.prat < 2 →
@@ -163,7 +163,7 @@ module _ {width : Width} {plan : CellPlan} {t : Tuning} {samples : List Sample}
         either true = refl
         either false = refl
 
-    -- behind the mark that is set
+    -- after the mark that is set
     marked : (m : Mark) → mark t samples t.count ≡ Some m →
         map known_event
         (pages_within t t.paging (Some m) samples plan.link.samples)
@@ -295,7 +295,7 @@ module _ (width : Width) (plan : CellPlan) (t : Tuning) (is : IsReceivable width
   count = plan.link.samples
 
   -- what is known at n samples of a traffic channel's messages and of the pilot sets, of the
-  -- channel's frames too, and of all behind the sync channel
+  -- channel's frames too, and of all after the sync channel
   abbrev messages_known : ℕ → List Event
   messages_known n = message_events_at t samples n ++ sets_events_at t samples n
 

@@ -259,7 +259,7 @@ module _ (t : Tuning) (channel : ℕ) (m : Mark) (samples : List Sample) (own : 
       map-flat_map (known_page n) (λ k. pages_from t channel m samples k 0)
       (known_now t.count (paging_stream t channel m) n (paging_bound n))
 
-  -- behind a mark with PRAT 0 or 1 a channel is heard
+  -- after a mark with PRAT 0 or 1 a channel is heard
   behind_is : (n : ℕ) → m.prat < 2 →
       pages_behind t channel (Some m) samples n ≡ pages_at t channel m samples n
   behind_is n few = let e = lt-ltb m.prat 2 few in rw e refl
@@ -325,7 +325,7 @@ run_begun size from run false large begun =
     let begins = (from + size - 1) / size * size in
     omega (arith, mul-div-le begins size)
 
--- the pages behind so many body bits of a cycle
+-- the pages after so many body bits of a cycle
 pub pages_placed : (size : ℕ) (form : CheckForm) (from run count : ℕ) (pages : List Page) →
     0 < size → run * size ≤ from → AreHeard size count pages →
     All IsPlaced (placed size form from run pages)
@@ -413,7 +413,7 @@ pub record HearsPages (width : Width) (plan : CellPlan) (sync : SyncPlan) (t : T
   pub low : m.prat < 2
   pub marked : IsTrueMark plan m superframes
 
--- how many frames behind the mark lie in the file
+-- how many frames after the mark lie in the file
 abbrev pub frames_behind : CellPlan → ℕ → ℕ
 frames_behind plan superframes = end_chip plan / 24576 - 4 * superframes
 

@@ -241,7 +241,7 @@ frame_at size pieces k are some =
     second_place : (h k i : ℕ) → 2 * h * k + (h + i) ≡ h * suc (2 * k) + i
     second_place h k i = omega arith
 
--- half-frame j behind frame `first`
+-- half-frame j after frame `first`
 abbrev pub heard_piece : List Piece → ℕ → ℕ → Piece
 heard_piece pieces first j = get_or pieces ((2 * first + j) % length pieces) no_piece
 
@@ -494,7 +494,7 @@ cycle_some rate form (page ∷ pages) are =
 
 -- ---- the two tests
 
--- a run behind a mark at the beginning of a frame
+-- a run after a mark at the beginning of a frame
 begun_same : (first half : ℕ) → nat_le (2 * first) half ≡ nat_le (24576 * first) (12288 * half)
 begun_same first half =
     elim (cases_lt half (2 * first)) [
@@ -538,7 +538,7 @@ filter_same f g (p ∷ ps) same =
       | inr n ↦ let own : f p ≡ false = here ∙ n in rw (own, n) rest
     ]
 
--- ---- a mark behind the last whole frame
+-- ---- a mark after the last whole frame
 
 -- a page ends in the half-frame in which its run begins, or later
 abbrev pub EndLater : List Placed → Type 0

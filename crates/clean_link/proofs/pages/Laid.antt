@@ -48,7 +48,7 @@ pub length-page : (form : CheckForm) (page : Page) →
     length (page_capsule form page) ≡ 38 + length page.body
 length-page form page = omega (arith, length-capsule M30 form page.body)
 
--- the half-frame behind a run
+-- the half-frame after a run
 next_half_frame : (size o count : ℕ) → 0 < size →
     (size * o + count + size - 1) / size ≡ o + width size count
 next_half_frame size o count large =
@@ -111,7 +111,7 @@ pub placed-begins : (size : ℕ) (form : CheckForm) (at run o : ℕ) (page : Pag
     } ∷ placed size form (size * o + length (page_capsule form page)) o pages
 placed-begins size form at run o page pages f e g = rw (f, g, e) refl
 
--- a page that begins a run behind one that began in half-frame `o`
+-- a page that begins a run after one that began in half-frame `o`
 placed_next : (size : ℕ) (form : CheckForm) (at run o count : ℕ) (page : Page)
     (pages : List Page) → 0 < size → page.follows ≡ false → at ≡ size * o + count →
     placed size form at run (page ∷ pages)
@@ -176,7 +176,7 @@ pages_placed size form (page ∷ pages) run o at large e =
 
 -- ---- the half-frames of one more run
 
--- padding, behind whole half-frames
+-- padding, after whole half-frames
 padded_behind : (size n : ℕ) (front bits : List Bool) → length front ≡ size * n →
     laying.padded size (front ++ bits) ≡ front ++ laying.padded size bits
 unfolding laying.fill
@@ -229,7 +229,7 @@ stream_of : (f : ℕ → Piece) (ks : List ℕ) → flat_map (λ k. bits_of (f k
 stream_of f [] = refl
 stream_of f (k ∷ ks) = ap (λ (l : List Bool). bits_of (f k) ++ l) (stream_of f ks)
 
--- a run's half-frames stand behind those before it
+-- a run's half-frames stand after those before it
 run_laid : (size n : ℕ) (starts : List ℕ) (front : List Bool) (cs : List (List Bool)) →
     laying.HaveBegun size (size * n) starts → length front ≡ size * n →
     flat_map (laying.half_frame size (starts ++ n ∷ []) (front ++ run_bits size cs))
@@ -301,7 +301,7 @@ last_run_laid size starts n front cs large begun long =
     ∙ framed_whole size (n + w) (starts ++ n ∷ []) all large count
     ∙ run_laid size n starts front cs begun long
 
--- The half-frames of pages behind the runs before, of which the last is under way.
+-- The half-frames of pages after the runs before, of which the last is under way.
 pub runs_laid : (size : ℕ) (form : CheckForm) (pages run : List Page) (starts : List ℕ) (n : ℕ)
     (front : List Bool) → 0 < size → 0 < length (spelled (page_capsule form) run) →
     laying.HaveBegun size (size * n) starts → length front ≡ size * n →
@@ -399,7 +399,7 @@ fill_within : (size o count : ℕ) → fill size (size * o + count) ≡ fill siz
 unfolding fill
 fill_within size o count = ap (λ (k : ℕ). (size - k) % size) (mul-add-mod_self_left size o count)
 
--- a page that begins a run behind one that began in half-frame `o`
+-- a page that begins a run after one that began in half-frame `o`
 next_begins : (size o count at bits : ℕ) → 0 < size → at ≡ size * o + count →
     laid_behind size at false bits ≡ size * (o + width size count) + bits
 next_begins size o count at bits large e =

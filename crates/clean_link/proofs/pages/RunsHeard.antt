@@ -15,7 +15,7 @@ use Rattle.paging_message.proofs.Scans.{none_starts-map, NoneStarts, scan, scan-
 abbrev pub spelled : (Page → List Bool) → List Page → List Bool
 spelled spell run = joined (map spell run) 0
 
--- the pages of a run behind so many body bits, where the run began in this half-frame
+-- the pages of a run after so many body bits, where the run began in this half-frame
 abbrev pub placed_run : ℕ → (Page → List Bool) → ℕ → ℕ → List Page → List Placed
 placed_run size spell run at [] = []
 placed_run size spell run at (page ∷ pages) =
@@ -317,7 +317,7 @@ missed size cs k n some =
     none_starts-map (λ i. run_piece size cs (k + i)) n
     (λ i. later_begins_none size cs (k + i) (omega (arith, some)))
 
--- the rest of a run that was missed, and the runs behind it
+-- the rest of a run that was missed, and the runs after it
 behind_missed : (size : ℕ) (spell : Page → List Bool) (runs : List (List Page))
     (cs : List (List Bool)) (o k r n low : ℕ) → 0 < size → AreRuns size spell runs → 0 < k →
     low ≤ o + r →

@@ -47,7 +47,7 @@ frames_stream size own f (suc n) are =
     ∙ sym (ap stream (two_more f n) ∙ stream-next (front ++ a ∷ []) b
     ∙ ap (λ (l : List Bool). l ++ bits_of b) (stream-next front a))
 
--- what a frame behind others ends
+-- what a frame after others ends
 frame_ends : (size : ℕ) (own : ℕ → List Bool) (f : ℕ → Piece) (n : ℕ) → 0 < size →
     AreFrames size own f →
     frame_capsules size own n

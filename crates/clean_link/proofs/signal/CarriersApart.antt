@@ -58,7 +58,7 @@ traffic_aligned plan t last = record {
 
 -- ---- lists of channels
 
--- channels behind others, none of which has the row of one of those
+-- channels after others, none of which has the row of one of those
 own_rows-append : (cs ds : List Carrier) → HaveOwnRows cs → HaveOwnRows ds →
     All (λ (c : Carrier). All (λ (d : Carrier). d.row ≢ c.row) ds) cs → HaveOwnRows (cs ++ ds)
 own_rows-append [] ds own others apart = others

@@ -149,7 +149,7 @@ block row b (c ∷ cs) low are =
     (block row b cs low (All-tail IsAligned c cs are))
     ∙ sym (distrib (pos 64) (row_level row (64 * b) c) (level_at row cs (64 * b)))
 
--- ---- blocks one behind the other, in each of which a row finds the same
+-- ---- blocks one after the other, in each of which a row finds the same
 
 blocks_sum : (row m : ℕ) (f : ℕ → ℤ) (c : ℤ) →
     ((j : ℕ) → j < m → sum_below 64 (λ k. sign (walsh row k) *ℤ f (64 * j + k)) ≡ pos 64 *ℤ c) →

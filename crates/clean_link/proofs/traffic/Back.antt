@@ -42,10 +42,10 @@ on_row : (width : Width) (plan : CellPlan) (p : TrafficPlan) (row : ℕ)
 on_row width plan p row told is has on =
     row_at told plan.traffic p row has.0 is.lawful.traffic.apart has.1 has.2 on
 
--- ---- behind the mark
+-- ---- after the mark
 
 -- What is heard of a traffic channel at each number of samples comes back: the mark of all samples
--- tells it, and behind it, where it is true, it is what a channel tells that is sent, each of whose
+-- tells it, and after it, where it is true, it is what a channel tells that is sent, each of whose
 -- received frames is distinct.
 record ComesBack (width : Width) (plan : CellPlan) (t : Tuning) (samples : List Sample)
     (heard : ℕ → Traffic → Mark → List Event) (told : TrafficPlan → ℕ → List Event) : Type 0 where
@@ -74,7 +74,7 @@ pub record IsHeardBehind (width : Width) (plan : CellPlan) (t : Tuning) (traffic
   pub one : SendsSetOne p
   pub distinct : AreDistinct plan p (plan.link.start + m.sample)
 
--- what the channel on a row tells behind a local chip
+-- what the channel on a row tells after a local chip
 abbrev pub told_behind : CellPlan → (TrafficPlan → ℕ → List Event) → ℕ → ℕ → List Event
 told_behind plan told row chip = told_on (λ (p : TrafficPlan). told p chip) plan.traffic row
 

@@ -153,7 +153,7 @@ places_are mask v low =
 
 -- ---- the long code
 
--- the states a group before each of the four frames behind the mark
+-- the states a group before each of the four frames after the mark
 first_state : after (before 1 686592) 688128 ≡ after 1 1536
 first_state = on_again 1 686592 1536
 

@@ -112,7 +112,7 @@ module _ {width : Width} {plan : CellPlan} {p : TrafficPlan} {t : Tuning} {traff
   abbrev received : ℕ → Bool
   received = is_received plan p mark_chip
 
-  -- the channel's frames that are received are those that the file holds behind the mark
+  -- the channel's frames that are received are those that the file holds after the mark
   pub received_is : (k : ℕ) → received (4 * superframes + k) ≡ inside k
   received_is k =
       let frame = 4 * superframes + k in
@@ -151,7 +151,7 @@ module _ {width : Width} {plan : CellPlan} {p : TrafficPlan} {t : Tuning} {traff
       let begun = leb-true mark_chip (frame_chip p i) both.0 in
       omega (arith, low, begun, place, latest))
 
-  -- so one that is received is so many frames behind the mark, in the file
+  -- so one that is received is so many frames after the mark, in the file
   pub inside_at : (frame : ℕ) → received frame ≡ true →
       (4 * superframes + (frame - 4 * superframes) ≡ frame)
       × (inside (frame - 4 * superframes) ≡ true)
@@ -163,7 +163,7 @@ module _ {width : Width} {plan : CellPlan} {p : TrafficPlan} {t : Tuning} {traff
             (here, sym (received_is (frame - 4 * superframes)) ∙ ap received here ∙ kept)
       ]
 
-  -- and a late one ends behind the file
+  -- and a late one ends after the file
   past_end : (i : ℕ) → end_chip plan / 24576 + 1 ≤ i → received i ≡ false
   past_end i high =
       false_from_ne_true (received i)
@@ -179,7 +179,7 @@ module _ {width : Width} {plan : CellPlan} {p : TrafficPlan} {t : Tuning} {traff
       let count = is.tuned.count in
       past_end i (omega (arith, high, place, count))
 
-  -- what the received ones among the first frames give, by their numbers behind the mark
+  -- what the received ones among the first frames give, by their numbers after the mark
   pub by_marks_numbers : {X : Type 0} (g : ℕ → List X) (bound : ℕ) →
       flat_map g (filter received (places (4 * superframes + bound)))
       ≡ flat_map (λ k. g (4 * superframes + k)) (filter inside (places bound))

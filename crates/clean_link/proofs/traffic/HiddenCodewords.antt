@@ -196,7 +196,7 @@ sum_ends a b long long' ends ends' =
 
 -- ---- hidden bits
 
--- bits behind eight others, from bit j on, whose kept symbols are 0
+-- bits after eight others, from bit j on, whose kept symbols are 0
 pub record AreHidden (lost : List ℕ) (j : ℕ) (eight bits : List Bool) : Type 0 where
   pub first : (i : ℕ) → i < length bits → is_kept lost (2 * (j + i)) ≡ true →
       symbol g0 (eight ++ bits) i ≡ false
@@ -301,7 +301,7 @@ apart_ends lost (suc n) j eight (bit ∷ bits) long size apart are =
     ∙ apart_ends lost n (j + 1) (state_after eight (bit ∷ [])) bits (next_long eight bit long)
     (omega (arith, size)) rest (hidden_next lost j eight bit bits long are)
 
--- so hidden bits behind zeros that end in zeros are zeros
+-- so hidden bits after zeros that end in zeros are zeros
 pub hidden_none : (lost : List ℕ) (j : ℕ) (bits : List Bool) → j + length bits ≡ 192 →
     ((i : ℕ) → i < 192 → is_seen lost i ≡ true) →
     AreHidden lost j (replicate 8 false) bits →

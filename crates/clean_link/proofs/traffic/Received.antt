@@ -117,7 +117,7 @@ set_two_only_best plan p frame f soft size received distinct =
     noisy_set_two_only_best plan p frame f soft size
     (by_signs plan p frame (codeword_symbols2 f) f.power_bits soft received) distinct
 
--- ---- behind a true mark
+-- ---- after a true mark
 
 module _ {width : Width} {plan : CellPlan} {p : TrafficPlan} {t : Tuning} {traffic : Traffic}
     {m : Mark} {superframes : ℕ} (is : HearsTraffic width plan p t traffic m superframes) where

@@ -16,7 +16,7 @@ use Rattle.rate_set_two.specs.TrafficFrames as frames_two
 
 -- ---- codewords that give what is shown
 
--- bits behind eight others, from bit j on, that give what is shown of their code symbols
+-- bits after eight others, from bit j on, that give what is shown of their code symbols
 pub record AreGiving (shown : ℕ → List Bool) (j : ℕ) (eight bits : List Bool) : Type 0 where
   pub first : (i : ℕ) → i < length bits →
       list_all (beq (symbol g0 (eight ++ bits) i)) (shown (2 * (j + i))) ≡ true
@@ -207,7 +207,7 @@ agreeing_give known xs r s n all bits size copies agree =
 
 -- ---- codewords that end in zeros
 
--- the state behind such a codeword, of eight bits or more
+-- the state after such a codeword, of eight bits or more
 ended_zeros : (bits : List Bool) → 8 ≤ length bits →
     drop (length bits - 8) bits ≡ replicate 8 false →
     list_any (λ bit. bit) (state_after (replicate 8 false) bits) ≡ false

@@ -432,7 +432,7 @@ module _ (t : Tuning) (traffic : Traffic) (m : Mark) (samples : List Sample) (n 
       (λ i low below. told_undirected j i (omega (arith, below)) most))
       st
 
-  -- so what is kept behind each moment is steady
+  -- so what is kept after each moment is steady
   kept_steady : (j : ℕ) → (0 < j → moment_place m j < n) → (i : ℕ) →
       IsSteady m traffic.row (kept_to t traffic m samples j i)
   unfolding kept_to

@@ -7,7 +7,7 @@ pub append_items-requires-clause-fit : goal.append_items-requires-clause-fit
 append_items-requires-clause-fit c =
     small_freqs c.fields-fields.result c.fields-fields.ensures.spelled
 
--- behind the list there is room for the rest and the end of the line
+-- after the list there is room for the rest and the end of the line
 with_rest : (c : After-append_items) → length c.append_items.new.text + 309 ≤ 1024
 with_rest c =
     omega (

@@ -3,7 +3,7 @@ use Rattle.event_tap.proofs.PagingTexts.{most_neighbors}
 use Rattle.event_tap.proofs.paging.append_neighbors.Goals.{After-append_items}
 use Rattle.event_tap.proofs.paging.append_neighbors.Goals as goal
 
--- behind the list there is room for the rest and the end of the line
+-- after the list there is room for the rest and the end of the line
 with_rest : (c : After-append_items) → length c.append_items.new.text + 309 ≤ 1024
 with_rest c =
     omega (

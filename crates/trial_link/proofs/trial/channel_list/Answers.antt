@@ -2,13 +2,13 @@ use Rattle.trial_link.proofs.Common.{◌≡◌, ◌+◌, ◌++◌, ℕ, Bool, Li
 use Rattle.trial_link.proofs.trial.channel_list.Goals.{After-append_number, After-append_number-2, After-append_number-3}
 use Rattle.trial_link.proofs.trial.channel_list.Goals as goal
 
--- how many bits there are behind a number
+-- how many bits there are after a number
 number_long : (old new : List Bool) (long n v : ℕ) → length old ≡ long → new ≡ old ++ binary n v →
     length new ≡ long + n
 number_long old new long n v before is =
     omega (arith, before, ap length is, length-append old (binary n v), length-binary n v)
 
--- behind the type, the pilot and the sequence number
+-- after the type, the pilot and the sequence number
 type_long : (c : After-append_number) → length c.append_number.new.self ≡ 8
 type_long c =
     number_long c.empty-body.result c.append_number.new.self 0 8 4 (ap length c.empty-body.ensures)

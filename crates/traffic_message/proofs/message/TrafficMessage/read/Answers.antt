@@ -4,7 +4,7 @@ use Rattle.traffic_message.proofs.Bodies.{AreParts, are_parts, is_body_parts, me
 use Rattle.traffic_message.proofs.message.TrafficMessage.read.Goals as goal
 use Rattle.traffic_message.proofs.message.TrafficMessage.read.Goals.{After-head_from-head}
 
--- what is known behind the head
+-- what is known after the head
 tested : (c : After-head_from-head) → is_body c.args.body.now ≡ true
 tested c = sym c.fills_capsule.ensures ∙ c.if-not-fills_capsule.false
 

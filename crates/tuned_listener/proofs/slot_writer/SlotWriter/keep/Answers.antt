@@ -3,7 +3,7 @@ use Rattle.tuned_listener.proofs.SlotFrames.{holds_put, ready_put}
 use Rattle.tuned_listener.proofs.slot_writer.SlotWriter.keep.Goals.{After-copy_from_slice}
 use Rattle.tuned_listener.proofs.slot_writer.SlotWriter.keep.Goals as goal
 
--- the frame's soft values have their room, at the first place or behind those that are kept
+-- the frame's soft values have their room, at the first place or after those that are kept
 placed : (c : After-copy_from_slice) → let w = c.args.self.now in
     (length c.copy_from_slice.new.self ≡ 384) × (384 * c.from-from.result ≤ length w.softs)
     × ((c.from-from.result ≡ 0) ⊎ (c.from-from.result ≡ w.kept))
