@@ -5,6 +5,7 @@
 | `walsh` | despreads the 64 Walsh rows of a cell's chips, and spreads them again |
 | `pulse` | the pulse after its matched filter: its sides, and its slope |
 | `code_domain` | powers, phases and times of the rows, and the quality of the waveform, piece by piece |
+| `row_correlation` | what a row's chips have in common with those some chips later |
 | `over_paths` | the part of all power that a cell has over all its paths |
 | `branches` | the offset and the imbalance of a radio's two branches |
 | `measuring`, `telling` | an analysis of a file or a recording; the same as lines, as JSON and as a picture |

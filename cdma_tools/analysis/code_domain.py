@@ -82,6 +82,7 @@ class CodeDomain:
     time_left: float  # chips by which the pilot comes later than the chips were taken
     carrier_left: float  # Hz
     peak_db: float  # the greatest power of a chip over the mean
+    in_rows: float  # the power of the rows in use over that of all chips
 
     @property
     def used(self) -> list[Row]:
@@ -220,7 +221,7 @@ def domain_of(sums: list[Sums], has_times: bool, is_pulsed: bool, kept: float) -
     )
     return CodeDomain(
         rows, by_frames(squares, total), float(shares[used].sum()), float(shares[PILOT_ROW]), blocks * ROWS, times[0],
-        carrier_of(sums), decibels(max(piece.peak for piece in sums) / mean),
+        carrier_of(sums), decibels(max(piece.peak for piece in sums) / mean), float(level[used].sum()) / (kept * mean),
     )  # fmt: skip
 
 

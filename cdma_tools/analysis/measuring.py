@@ -9,7 +9,7 @@ import numpy
 
 from cdma_tools.analysis.branches import Branches, branches_of
 from cdma_tools.analysis.code_domain import PIECE, Chips, CodeDomain, Row, is_pulsed, measured
-from cdma_tools.analysis.over_paths import emptied, part_over_paths, pilot_power
+from cdma_tools.analysis.over_paths import emptied, part_over_paths, pilot_response
 from cdma_tools.analysis.walsh import PILOT_ROW, SYNC_ROW
 from cdma_tools.errors import Refused
 from cdma_tools.program import written_of
@@ -147,10 +147,10 @@ def analysis_of_recording(
             lost = write_held(held, options, file, lambda part: tell(STEPS[0] + reached * part, "chips")).lost
         recorded = recording.conjugate() if held.is_conjugate else recording
         branches = branches_of(recorded)
-        pilot = pilot_power(held)
+        pilot = pilot_response(held)
     phase, kept = held.pieces[0].first % PERIOD, 1 - emptied(held.front)
     domain = domain_of_file(chips, phase, lambda part: tell(STEPS[1] + (1 - STEPS[1]) * part, "rows"), kept)
-    has_paths = pilot is not None and (len(held.ways) > 1 or pilot.is_spread(domain.rho_pilot))
+    has_paths = pilot is not None and (len(held.ways) > 1 or pilot.is_spread(domain))
     over_paths = part_over_paths(domain, pilot) if pilot is not None and has_paths else None
     return Analysis(domain, kinds_of(domain.used, program, chips), timing_of(held, domain, lost), branches, over_paths)
 

@@ -4,13 +4,19 @@ The pilot's amplitude h(t) at delays t, in sums of 512 chips, is the response of
 matched filter. Two sums that follow each other have nothing of their noise in common, so the mean of h h^H between them
 holds the paths alone. Two powers of the pilot come of it:
 
-- In the chips it is the sum of 2 |h(k)|^2 over whole delays k, with the sides of the pulse and of all paths.
+- In the chips it is the sum of 2 h(k) conj h(k') rho(k - k') over whole delays k and k', with the sides of the pulse
+  and of all paths; rho(m) is what a row's chips have in common with those m chips later (`row_correlation`).
 - As it arrives it is 2 h^H K h, where K is the inverse of the matrix R(t - t') of the matched pulse: the power of those
   copies of the pulse, half a chip apart, that together have the response h. Paths that lie close to each other raise or
   lower it, as their phases are, and it needs no delays of paths.
 
 A cell's rows come over the same paths, so its power is the pilot's times the sum of all rows' powers over the pilot's,
 which the code domain tells (`code_domain`). Symbols aren't decided, so none follow the noise.
+
+What a row shows at a delay holds what its chips have in common with themselves at the other paths' delays too: it is
+A h, A being the matrix of the row's own conj rho(t - t'). So A of the pilot is taken off its sums, and each row's power
+is divided by what A makes of it at delay 0. In the chips, the terms with k or k' of 0 are what the rows show there, as
+they are measured; so of rho alone those of the other delays are left, and what symbols happen to have in common too.
 """
 
 import functools
@@ -22,6 +28,9 @@ from numpy.typing import NDArray
 
 from cdma_tools.analysis.code_domain import CodeDomain
 from cdma_tools.analysis.pulse import matched_at_halves
+from cdma_tools.analysis.row_correlation import between, row_correlations
+from cdma_tools.analysis.walsh import PILOT_ROW
+from cdma_tools.radio.air import ratio_of
 from cdma_tools.radio.fitting import Fit
 from cdma_tools.radio.front import Front
 from cdma_tools.radio.locking import Held
@@ -37,18 +46,40 @@ MOST_SEGMENTS = 375
 LEAST_SPECTRUM = 0.01
 # By how much more of the pilot has to arrive than the strongest path's, beside so many standard deviations of noise,
 # where only one path was found: paths within a chip have one peak.
-LEAST_MORE, LEAST_SIGMA = 0.01, 3.0
+LEAST_MORE, LEAST_SIGMA = 0.003, 3.0
 
 
-class PilotPower(NamedTuple):
-    """The pilot's power over all paths, as parts of all power in the chips."""
+class PilotResponse(NamedTuple):
+    """The pilot's response over all paths, as amplitudes against the root of all power in the chips."""
 
-    in_chips: float
-    arriving: float
+    delays: NDArray[numpy.int64]  # half chips
+    products: NDArray[numpy.complex128]  # the mean of h(t) conj h(t')
     spread: float  # the standard deviation of `arriving` by noise
 
-    def is_spread(self, alone: float) -> bool:
-        """Whether more arrives than the strongest path's part of all power."""
+    @property
+    def arriving(self) -> float:
+        """The pilot's power as it arrives."""
+        return 2 * float(numpy.sum(arriving_form(len(self.delays)) * self.products.real))
+
+    def gains(self, correlations: NDArray[numpy.complex128]) -> NDArray[numpy.float64]:
+        """The power that rows show at delay 0, by their correlations (rows, chips), against what the path there has."""
+        here = int(numpy.flatnonzero(self.delays == 0)[0])
+        turned = numpy.array([between(row, self.delays)[here].conj() for row in correlations])
+        shown = numpy.sum((turned @ self.products) * turned.conj(), axis=1).real
+        return shown / float(self.products[here, here].real)
+
+    def beside(self, correlation: NDArray[numpy.complex128]) -> float:
+        """The power in the chips of what comes at other whole delays than 0.
+
+        Of what is sent the products with itself at whole chips are told, against the power of the pilot.
+        """
+        other = (self.delays % 2 == 0) & (self.delays != 0)
+        held = self.products[numpy.ix_(other, other)] * between(correlation, self.delays[other])
+        return 2 * float(numpy.sum(held.real))
+
+    def is_spread(self, domain: CodeDomain) -> bool:
+        """Whether more of the pilot arrives than the part of all power that its row shows."""
+        alone = domain.in_rows * domain.rho_pilot / domain.rho
         return self.arriving > (1 + LEAST_MORE) * alone + LEAST_SIGMA * self.spread
 
 
@@ -80,8 +111,8 @@ def middles_of(held: Held) -> list[tuple[Fit, float]]:
     return [middles[place] for place in chosen]
 
 
-def pilot_power(held: Held) -> PilotPower | None:
-    """The pilot's power over all paths of a lock; none where it holds no whole segment."""
+def pilot_response(held: Held) -> PilotResponse | None:
+    """The pilot's response over all paths of a lock; none where it holds no whole segment."""
     delays = delays_of(held.ways)
     products = numpy.zeros((len(delays), len(delays)), dtype=complex)
     total, pairs = 0.0, 0
@@ -93,14 +124,18 @@ def pilot_power(held: Held) -> PilotPower | None:
         total += power * (response.shape[1] - 1)
     if not total:
         return None
-    whole = delays % 2 == 0
-    in_chips = 2 * float(numpy.trace(products[numpy.ix_(whole, whole)]).real)
-    arriving = 2 * float(numpy.sum(arriving_form(len(delays)) * products.real))
-    # The bin that the front empties takes its part of all power, and twice that of what correlates with the pilot.
-    kept = 1 - emptied(held.front)
     # Noise of power 1 is one of 1 / (2 SUM) in an amplitude; there are as many amplitudes as whole delays.
-    spread = math.sqrt(2 * numpy.count_nonzero(whole) / pairs) / (2 * SUM)
-    return PilotPower(in_chips / (total * kept), arriving / (total * kept), spread)
+    spread = math.sqrt(2 * numpy.count_nonzero(delays % 2 == 0) / pairs) / (2 * SUM)
+    # The bin that the front empties takes its part of all power, and twice that of what correlates with the pilot.
+    kept = total * (1 - emptied(held.front))
+    return PilotResponse(delays, without_own(products, delays) / kept, spread)
+
+
+def without_own(products: NDArray[numpy.complex128], delays: NDArray[numpy.int64]) -> NDArray[numpy.complex128]:
+    """The mean of h h^H, where products are that of (A h) (A h)^H."""
+    inverse = numpy.linalg.inv(between(row_correlations(2 * WIDTH)[PILOT_ROW], delays).conj())
+    cleared: NDArray[numpy.complex128] = inverse @ products @ inverse.conj().T
+    return cleared
 
 
 def emptied(front: Front) -> float:
@@ -110,8 +145,12 @@ def emptied(front: Front) -> float:
     return float(power[at].sum() / power.sum())
 
 
-def part_over_paths(domain: CodeDomain, pilot: PilotPower) -> float:
+def part_over_paths(domain: CodeDomain, pilot: PilotResponse) -> float:
     """The cell's part of all power: 1 - left / all, where all is what is left in the chips with what arrives of it."""
-    rows = domain.rho / domain.rho_pilot
-    left = 1 - rows * pilot.in_chips
-    return rows * pilot.arriving / (rows * pilot.arriving + left)
+    used = domain.used  # the pilot's row first
+    correlations = row_correlations(2 * WIDTH)[[row.row for row in used]]
+    powers = numpy.array([ratio_of(row.db) for row in used]) / pilot.gains(correlations)
+    powers /= powers[0]
+    left = 1 - domain.in_rows - pilot.beside(powers @ correlations)
+    arriving = float(powers.sum()) * pilot.arriving
+    return arriving / (arriving + left)

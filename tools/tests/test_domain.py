@@ -2,16 +2,17 @@
 
 import json
 import os
+import re
 import time
 import unittest
 
-from tools.tests.helping import needs, run_tool
+from tools.tests.helping import NO_PROGRAM, PROGRAM, example, needs, run_program, run_tool
 
 needs("numpy", "scipy")
 
 import numpy  # noqa: E402
 
-from cdma_tools.analysis import code_domain, pulse, walsh  # noqa: E402
+from cdma_tools.analysis import code_domain, over_paths, pulse, row_correlation, walsh  # noqa: E402
 from cdma_tools.analysis.measuring import domain_of_file  # noqa: E402
 from cdma_tools.radio.air import HALF_PULSE  # noqa: E402
 from tools.tests.radio_helping import (  # noqa: E402
@@ -103,6 +104,39 @@ class Pulses(unittest.TestCase):
         self.assertLess(float(numpy.abs(pulse.slopes_of(wave) - wanted).max()), 1e-4)
 
 
+class Correlations(unittest.TestCase):
+    """What chips have in common with those some chips later, by its definition, and what it does over two paths."""
+
+    def test_they_are_sums_over_a_period_within_symbols(self) -> None:
+        found, chip = row_correlation.row_correlations(16), numpy.arange(PERIOD)
+        for row, symbol in ((0, PERIOD), (1, 64), (10, 64), (32, 256), (63, 64)):
+            signs = numpy.array([1 - 2 * (bin(row & place).count("1") % 2) for place in range(64)])
+            sent = code() * signs[chip % 64]
+            for late in (0, 1, 3, 10, 16):
+                other = (chip + late) % PERIOD
+                is_same = chip // symbol == other // symbol
+                wanted = numpy.sum(sent * sent[other].conj() * (is_same if row else 1)) / (2 * PERIOD)
+                self.assertLess(abs(found[row, late] - wanted), 1e-6, (row, late))
+
+    def test_the_power_of_chips_over_two_paths(self) -> None:
+        """Without noise nothing is left, though by the paths' powers alone a thousandth and more would be."""
+        delays, errors = 2 * numpy.arange(-16, 17), []
+        for seed, late, gain in ((3, 2, 0.5j), (3, 2, -0.5j), (2, 3, -0.5)):
+            sent = whole_cell(700_000, seed)
+            chips = sent.copy()
+            chips[late:] += gain * sent[:-late]
+            domain = code_domain.measured([code_domain.Chips(PHASE, chips.astype(numpy.complex64))], is_pulsed=False)
+            assert domain is not None
+            response = numpy.where(delays == 0, 1, numpy.where(delays == 2 * late, gain, 0))
+            amplitude = GAINS[0] / numpy.sqrt(numpy.mean(numpy.abs(chips) ** 2))
+            pilot = over_paths.PilotResponse(delays, amplitude**2 * numpy.outer(response, response.conj()), 0.0)
+            powers = numpy.array([(GAINS.get(row.row, 0) / GAINS[0]) ** 2 for row in domain.used])
+            rows = row_correlation.row_correlations(32)[[row.row for row in domain.used]]
+            self.assertAlmostEqual(domain.in_rows + pilot.beside(powers @ rows), 1, delta=6e-4)
+            errors.append(abs(2 * float(powers.sum()) * amplitude**2 * (1 + abs(gain) ** 2) - 1))
+        self.assertGreater(max(errors), 2e-3)
+
+
 class Domains(unittest.TestCase):
     def domain(self, chips: numpy.ndarray, phase: int = PHASE, **more: bool) -> code_domain.CodeDomain:
         """The code domain of chips that come in pieces of odd lengths."""
@@ -120,6 +154,8 @@ class Domains(unittest.TestCase):
             self.assertAlmostEqual(row.db, decibels(GAINS[row.row] ** 2 / ALL), delta=0.02)
             self.assertAlmostEqual(row.degrees, 0, delta=0.01)
         self.assertAlmostEqual(domain.rho, 1, delta=1e-4)
+        # A chip's level is a sum of the four amplitudes with signs, so each power comes in any long run.
+        self.assertAlmostEqual(domain.peak_db, decibels(sum(GAINS.values()) ** 2 / ALL), delta=0.02)
         self.assertEqual(domain.frames.shape, (domain.chips // 24_576, 64))
         self.assertLess(float(numpy.abs(domain.frames.sum(axis=1) - 1).max()), 1e-3)
 
@@ -215,11 +251,12 @@ class Recorded(Recordings):
     def test_several_paths(self) -> None:
         # Pairs a quarter of a turn apart have the sum of both powers; three within 3.3 chips add to each other's.
         close, near = ((0, 0, 0), (0.5, -3, 90)), ((0, 0, 0), (1, -3, 90))
-        three = ((0, 0, 0), (1.5, -2, 90), (3.25, -4, 200))
-        cases, seconds = [(close, 10), (near, 10), (three, 0), (three, 20)], 0.6
+        three, turned = ((0, 0, 0), (1.5, -2, 90), (3.25, -4, 200)), ((0, 0, 0), (2.5, -3, -90))
+        added = ((0, 0, 0), (0.5, -3, 0))  # one peak, wider than the pulse
+        cases, seconds = [(close, 10), (near, 10), (three, 0), (three, 20), (turned, 20), (added, 10)], 0.6
         if os.environ.get("EVERY_LEVEL"):
             pair, late = ((0, 0, 0), (2.75, -2, 90)), ((0, 0, 0), (1.25, -1, 120), (3.25, -2, 240))
-            every = (close, near, three, pair, late)
+            every = (close, added, near, three, turned, pair, late)
             cases = [(paths, level) for paths in every for level in (20, 10, 0, -3, -6)]
             seconds = 1.0
         for paths, level in cases:
@@ -302,6 +339,16 @@ class Recorded(Recordings):
                 self.assertIn(why, said)
                 self.assertNotIn("Traceback", said)
                 self.assertEqual(set(os.listdir(self.folder)), before)
+
+    @unittest.skipUnless(PROGRAM, NO_PROGRAM)
+    def test_a_paging_channel_that_the_program_hears(self) -> None:
+        path = self.at("paging.is95")
+        with open(path, "wb") as file:
+            file.write(run_program("make", data=example("second_of_paging.script"))[1])
+        for program, kinds in ((PROGRAM, ["pilot", "paging", "sync"]), ("/bin/true", ["pilot", "other", "sync"])):
+            status, wrote, said = run_main("domain", path, "--program", program)
+            self.assertEqual((status, said), (0, ""))
+            self.assertEqual(re.findall(r"kind=(\S+)", wrote), kinds)
 
     def test_the_command(self) -> None:
         status, wrote, _ = run_tool("domain", self.cell, "--json", "-")
