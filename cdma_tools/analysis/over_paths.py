@@ -15,8 +15,8 @@ which the code domain tells (`code_domain`). Symbols aren't decided, so none fol
 
 What a row shows at a delay holds what its chips have in common with themselves at the other paths' delays too: it is
 A h, A being the matrix of the row's own conj rho(t - t'). So A of the pilot is taken off its sums, and each row's power
-is divided by what A makes of it at delay 0. In the chips, the terms with k or k' of 0 are what the rows show there, as
-they are measured; so of rho alone those of the other delays are left, and what symbols happen to have in common too.
+is divided by what A makes of it at delay 0. In the chips, the terms with k or k' of 0 are what the rows show
+there as they are measured, with what symbols have in common by chance; the others are computed.
 """
 
 import functools
@@ -71,7 +71,7 @@ class PilotResponse(NamedTuple):
     def beside(self, correlation: NDArray[numpy.complex128]) -> float:
         """The power in the chips of what comes at other whole delays than 0.
 
-        Of what is sent the products with itself at whole chips are told, against the power of the pilot.
+        `correlation` is what is sent against itself some chips later, times its power over the pilot's.
         """
         other = (self.delays % 2 == 0) & (self.delays != 0)
         held = self.products[numpy.ix_(other, other)] * between(correlation, self.delays[other])
