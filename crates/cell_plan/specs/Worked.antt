@@ -6,7 +6,7 @@ use Rattle.long_code.specs.LongCode.{after}
 use Rattle.short_code.specs.ShortCode.{chips_to}
 use Rattle.quality_bits.specs.Capsules.{capsule}
 use Rattle.quality_bits.specs.Quality.{check_bits}
-use Rattle.symbol_path.specs.SentOrder.{sent}
+use Rattle.symbol_path.specs.SentOrder.{sent_by}
 use Rattle.sync_message.specs.SyncMessage.{spelling, sync_body, sync_capsule}
 use Rattle.walsh.specs.Walsh.{walsh}
 use Rattle.cell_plan.specs.declared.plan.CellPlan.{CellPlan}
@@ -32,5 +32,5 @@ pilot_alone = refl
 with_sync : sample_of (cell (Some (some_sync 1))) 0 ≡ record { i = negsuc 209; q = pos 210 }
 unfolding cell sample_of carriers sent_chip chips_to walsh binary sync_symbols
     continued_symbols sync_frame_bits message_of after sync_capsule sync_body spelling capsule
-    check_bits places sent
+    check_bits places sent_by
 with_sync = refl
