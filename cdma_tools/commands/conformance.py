@@ -23,6 +23,13 @@ nor what stands before and after.
 
     conformance/run --standard --maker cdma_replay ./receiver
 
+A receiver may tell the steps of a frame, in lines that stand before those of the frame or of the message that ends in
+it (docs/FORMATS.md, "Steps of a frame"): the symbols as it hears them, the scrambling bits, soft values, the codeword,
+the quality indicator. With --explain such lines are taken, and where something differs it is said which step of the
+first frame that differs isn't that of tools/explain. Soft values are compared by their signs, where these are sure.
+
+    conformance/run --explain --only traffic_9600 --maker cdma_replay ./receiver
+
 A receiver that doesn't end within --minutes, is ended by a signal, writes without end (64 MiB more than is wanted)
 or writes bytes that aren't text has failed that case, which says so; all that it has begun is ended, and the rest of
 the cases go on.
@@ -39,7 +46,7 @@ from collections.abc import Sequence
 
 from cdma_tools.arguments import Parser
 from cdma_tools.conformance import standard
-from cdma_tools.conformance.cases import Case, differences, names_of_cases, shown, tried
+from cdma_tools.conformance.cases import Case, Compared, differences, names_of_cases, shown, tried
 from cdma_tools.conformance.options import add_options, checked
 from cdma_tools.conformance.rules import table_rows
 from cdma_tools.errors import Refused
@@ -54,6 +61,11 @@ def parser() -> Parser:
     add_options(words, "samples", "the inputs")
     words.add_argument(
         "--standard", action="store_true", help="ask only for what the standard fixes, and compare no more than that"
+    )
+    words.add_argument(
+        "--explain",
+        action="store_true",
+        help="take lines of steps too, and say which step of the first frame that differs is another (by the model)",
     )
     words.add_argument("--rules", action="store_true", help="write the table of rules that cases rest on, and run none")
     add_result_options(words)
@@ -70,12 +82,21 @@ def listed(names: Sequence[str]) -> None:
         print(f"    rests on {', '.join(case.rules)}")
 
 
+def compared_by(options: argparse.Namespace) -> Compared:
+    """What compares an answer with a case."""
+    plain = standard.differences if options.standard else differences
+    if not options.explain:
+        return lambda case, answer, words, data: plain(case, answer)
+    from cdma_tools.conformance.explained import compared_with_steps
+
+    return lambda case, answer, words, data: compared_with_steps(plain, case, answer, words, data)
+
+
 def result_of(case: Case, options: argparse.Namespace) -> tuple[Result, str]:
     """What comes of a case, and what a reader is told of it."""
     began = time.monotonic()
-    compared = standard.differences if options.standard else differences
     maker = options.maker or options.program
-    found = tried(case, options.program, maker, options.keep, options.minutes, compared)
+    found = tried(case, options.program, maker, options.keep, options.minutes, compared_by(options))
     text = "".join(shown(case, words, said) for words, said in found)
     is_one = len(case.runs) == 1
     lines = [line if is_one else f"{shlex.join(words)}: {line}" for words, said in found for line in said]

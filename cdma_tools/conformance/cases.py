@@ -436,13 +436,17 @@ def differences(case: Case, answer: Answer) -> list[str]:
     return said
 
 
+Compared = Callable[[Case, Answer, Sequence[str], bytes], list[str]]
+"""What compares an answer with a case: it is told the run's words and input too, and tells what differs, in lines."""
+
+
 def tried(
     case: Case,
     program: str,
     maker: str,
     keep: str | None,
     minutes: int,
-    compared: Callable[[Case, Answer], list[str]] = differences,
+    compared: Compared,
 ) -> list[tuple[list[str], list[str]]]:
     """The arguments of each run that differs in a case, and what differs, by what compares its answer with the case."""
     data = input_of(case, lambda: samples_of(case, maker, minutes))
@@ -455,7 +459,7 @@ def tried(
     found = []
     for words in case.runs:
         answer = asked(case, program, words, data, minutes, is_group=True)
-        said = [answer] if isinstance(answer, str) else compared(case, answer)
+        said = [answer] if isinstance(answer, str) else compared(case, answer, words, data)
         if said:
             found.append((words, said))
     return found
