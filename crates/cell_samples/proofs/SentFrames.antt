@@ -21,7 +21,8 @@ pub symbols_are : (source : FrameSource) (k : ℕ) (code symbols : List Bool) �
     (sent (shape_of (continued.kind_of source)) (continued.repeats_in source) code) →
     symbols ≡ continued.continued_frames source k
 unfolding sync_symbols cycle_symbols
-symbols_are (Sync sendings) k code symbols is placed = placed ∙ ap (sent _ 2) is
+symbols_are (Sync sendings) k code symbols is placed =
+    placed ∙ ap (sent (shape_of (continued.kind_of (Sync sendings))) 2) is
 symbols_are (Paging cycle) k code symbols is placed =
     placed
     ∙ ap (λ (c : List Bool).
