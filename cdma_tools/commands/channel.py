@@ -106,10 +106,6 @@ def parser() -> argparse.ArgumentParser:
     words = Parser("channel", __doc__)
     words.add_argument("files", nargs="+", metavar="FILE[:DB[:CHIPS]]", help="cells, the first one the wanted")
     words.add_argument("recording", metavar="RECORDING", help="raw samples, - for standard output, or a .sigmf-meta")
-    words.add_argument("--type", choices=TYPES, default="ci16_le", help="how the samples are kept, else ci16_le")
-    words.add_argument(
-        "--rate", type=rate_of, default=rate_of("2400000"), metavar="N", help="samples a second, else 2,400,000"
-    )
     words.add_argument(
         "--seconds",
         type=number_above(0, MOST_SECONDS),
@@ -120,21 +116,31 @@ def parser() -> argparse.ArgumentParser:
         "--seed", type=count_of, default=1, metavar="N", help="of noise, fading and the carrier's phase, else 1"
     )
     words.add_argument("--ideal", metavar="FILE", help="write the ideal receiver's sample file of the link too")
-    link = words.add_argument_group("the link")
-    link.add_argument(
-        "--paths", type=paths_of, default=[Path()], metavar="P,P,..",
-        help="DELAY[:DB[:DEGREES[:HZ]]] each: chips, level, phase, and the Doppler of a path that fades, else one path",
-    )  # fmt: skip
-    noise = link.add_mutually_exclusive_group()
+    noise = words.add_argument_group("the noise").add_mutually_exclusive_group()
     noise.add_argument(
         "--ec-io", type=number_within(-100, 0), metavar="DB", help="the first cell's pilot over all power"
     )
     noise.add_argument(
         "--eb-nt", type=eb_nt_of, metavar="DB:ROW:RATE", help="a row's bit over the density of what disturbs it"
     )
+    add_link_options(words)
+    return words
+
+
+def add_link_options(words: argparse.ArgumentParser) -> None:
+    """Adds the options of the link and of the radio, all but the noise."""
+    link = words.add_argument_group("the link")
+    link.add_argument(
+        "--paths", type=paths_of, default=[Path()], metavar="P,P,..",
+        help="DELAY[:DB[:DEGREES[:HZ]]] each: chips, level, phase, and the Doppler of a path that fades, else one path",
+    )  # fmt: skip
     link.add_argument("--equaliser", action="store_true", help="with the base station's phase equaliser")
     link.add_argument("--delay", type=DELAY, default=0.0, metavar="CHIPS", help="of the first sample, any fraction")
     radio = words.add_argument_group("the radio")
+    radio.add_argument("--type", choices=TYPES, default="ci16_le", help="how the samples are kept, else ci16_le")
+    radio.add_argument(
+        "--rate", type=rate_of, default=rate_of("2400000"), metavar="N", help="samples a second, else 2,400,000"
+    )
     for name, unit, reader, what in (
         ("carrier", "HZ", hertz_of, "by which the carrier lies above the middle"),
         ("drift", "HZ", number_within(-1e6, 1e6), "by which it rises in a second"),
@@ -156,7 +162,6 @@ def parser() -> argparse.ArgumentParser:
     radio.add_argument(
         "--lose", type=loss_of, action="append", metavar="AT:COUNT", help="from sample AT on so many are lost"
     )
-    return words
 
 
 def radio_of(options: argparse.Namespace) -> Radio:

@@ -25,6 +25,15 @@ formulas.
         --words follow --words "list --k 4" --out lists
     tools/curve examples/frames_9600.script --from 1 --to 3 --step 0.5 --frames 5000 --receiver ./my_receiver
 
+With --channel the samples go over a link and into a radio, whose recording is locked to as tools/import_capture --lock
+does it: so a receiver is measured from its antenna on, with the lock as its synchronisation. OPTIONS are those of
+tools/channel for the link and the radio: --paths with Rayleigh fading, --carrier, --clock, --delay, --type, --rate and
+so on. Each file is a recording with fading and noise of its own. What meets chips for which the lock heard no pilot,
+or is in a file that it refuses, is counted apart, as unlocked, and is an error too. Each DB is that of the mean power.
+
+    tools/curve examples/frames_9600.script --from 3 --to 9 --step 2 --frames 3000 \\
+        --channel "--paths 0:0:0:81.4 --carrier 300 --clock 3 --delay 0.3" --out kmh100
+
 --limits FILE names a CSV of the frame error rates that are allowed: its first line is point_db,share or
 point_db,channel,share, and each further one has the Eb/Nt of a point from --from to --to, a channel as curve.csv names
 it (else each channel of frames), and the greatest share of frames in error. Each receiver passes a limit where the 95 %
@@ -43,17 +52,28 @@ counted is kept, 2 wrong arguments.
 import argparse
 import io
 import os
+import shlex
 import signal
 import sys
 from decimal import Decimal
-from typing import Sequence
+from typing import NoReturn, Sequence
 
-import numpy
-
-from cdma_tools.arguments import INTERRUPTED, Parser, Within, called, number_above, whole_within, wrong
+from cdma_tools.arguments import (
+    INTERRUPTED,
+    Parser,
+    PartParser,
+    Within,
+    called,
+    joined,
+    number_above,
+    whole_within,
+    wrong,
+)
 from cdma_tools.cluster import connected
+from cdma_tools.commands.channel import add_link_options, radio_of
 from cdma_tools.curves import report
-from cdma_tools.curves.batch import Curve, Prepared, Setup, prepared
+from cdma_tools.curves.antenna import Antenna
+from cdma_tools.curves.batch import Curve, Prepared, Setup, check_lock, prepared, versions_of
 from cdma_tools.curves.cluster import hand_out
 from cdma_tools.curves.counting import Counts
 from cdma_tools.curves.levels import Channel, channels_of
@@ -66,6 +86,7 @@ from cdma_tools.errors import Refused, said
 from cdma_tools.plots import plain, title_of
 from cdma_tools.program import add_program_option, find_program
 from cdma_tools.progress import bar
+from cdma_tools.radio.air import CHIP_RATE
 from cdma_tools.reading import MEGABYTE, read_within
 from cdma_tools.results import Result, Results, add_result_options, check_place
 from cdma_tools.scripts import chosen_channel, read_script
@@ -101,6 +122,28 @@ def is_factor(factor: complex) -> bool:
     return factor != 0 and abs(factor.real) <= MOST_FACTOR and abs(factor.imag) <= MOST_FACTOR
 
 
+class LinkOptions(PartParser):
+    """The options of a link that stand within one argument; a fault is one of that argument."""
+
+    def error(self, message: str) -> NoReturn:
+        """Raises the fault, which is told of the argument."""
+        raise argparse.ArgumentTypeError(message)
+
+
+def antenna_of(text: str) -> Antenna:
+    """A link and a radio by the options of tools/channel."""
+    words = LinkOptions(prog="channel", add_help=False)
+    add_link_options(words)
+    try:
+        given = shlex.split(text)
+    except ValueError as why:
+        raise wrong(f"no options, {why}", text) from None
+    options = words.parse_args(joined(given))
+    if options.rate < CHIP_RATE:
+        raise wrong(f"a lock needs {CHIP_RATE:,} samples a second or more", text)
+    return Antenna(shlex.join(given), tuple(options.paths), radio_of(options))
+
+
 def parser() -> argparse.ArgumentParser:
     """The command line."""
     words = Parser("curve", __doc__)
@@ -131,6 +174,12 @@ def parser() -> argparse.ArgumentParser:
         default=[],
         metavar="D:F",
         help="another path, D chips later, F times the script's own; may be given again",
+    )
+    words.add_argument(
+        "--channel",
+        type=antenna_of,
+        metavar="OPTIONS",
+        help="send the samples over a link of tools/channel, record them with its radio, and lock to the recording",
     )
     words.add_argument(
         "--other", action="append", default=[], metavar="SCRIPT", help="another cell on the air; may be given again"
@@ -177,9 +226,10 @@ def text_of(path: str) -> str:
         raise Refused(f"{path}: no script: it isn't ASCII text") from None
 
 
-def label_of(program: str, words: str) -> str:
+def label_of(program: str, words: str, antenna: Antenna | None) -> str:
     """A receiver's name in tables and pictures."""
-    return f"{os.path.basename(program)} {words}"
+    over = f" over {antenna.text or 'one path'}" if antenna else ""
+    return f"{os.path.basename(program)} {words}{over}"
 
 
 def check_labels(curves: Sequence[Curve]) -> None:
@@ -199,7 +249,7 @@ def setup_of(options: argparse.Namespace) -> Setup:
     maker = find_program(options.program)
     programs = [maker] if options.receiver is None else [os.path.abspath(options.receiver), maker]
     curves = [
-        Curve(program, digest(program), words_of(given, traffic), label_of(program, given))
+        Curve(program, digest(program), words_of(given, traffic), label_of(program, given, options.channel))
         for given in options.words or [COMMANDS[traffic.frames[0].kind][0]]
         for program in programs
     ]
@@ -216,7 +266,8 @@ def setup_of(options: argparse.Namespace) -> Setup:
         curves=tuple(curves),
         seed=options.seed,
         minutes=options.minutes,
-        numpy_version=numpy.__version__,
+        numpy_version=versions_of(options.channel),
+        antenna=options.channel,
     )
 
 
@@ -225,7 +276,8 @@ def levels_of(options: argparse.Namespace, ready: Prepared, channel: Channel) ->
     levels = {
         point: ready.air.sigma(channel, point / 1_000) for point in points_of(options.begin, options.end, options.step)
     }
-    check_room(ready.greatest, max(levels.values()))
+    if options.channel is None:
+        check_room(ready.greatest, max(levels.values()))
     return levels
 
 
@@ -275,7 +327,7 @@ def told(options: argparse.Namespace, cases: Sequence[Result], rows: Sequence[re
     """Writes the table and the results; the exit status."""
     results = Results("curve", options, len(cases))
     if results.is_text:
-        report.print_table(rows, sys.stdout)
+        report.print_table(rows, sys.stdout, options.channel is not None)
     for case in cases:
         results.take(case, f"{case.name}: {case.said[0] if case.said else 'met'}\n" if options.limits else "")
     return 1 if results.end("") else 0
@@ -296,6 +348,8 @@ def run(options: argparse.Namespace) -> int:
     frames = min(len(wanted.frames) for wanted in ready.wanted)
     store = opened(folder, setup)
     try:
+        if setup.antenna:
+            check_lock(setup, setup.antenna, ready)
         rule = Rule(options.frames, options.errors)
         ledger = Ledger(list(levels), rule, -(-options.frames // frames), store.done(len(setup.curves)))
         measure(options, setup, ledger, levels, store)
@@ -311,7 +365,10 @@ def run(options: argparse.Namespace) -> int:
 
 def main(arguments: list[str] | None = None) -> int:
     """Runs the tool, and answers its exit status."""
-    options = parser().parse_args(arguments)
+    words = parser()
+    options = words.parse_args(arguments)
+    if options.channel and options.path:
+        words.error("--path can't be given with --channel, whose --paths has all paths")
     try:
         return run(options)
     except KeyboardInterrupt:

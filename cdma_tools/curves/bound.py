@@ -8,16 +8,20 @@ word may be that of zeros.
 
 import dataclasses
 import functools
+import math
 
 import numpy
 from numpy.typing import NDArray
-from scipy.special import ndtr
+from scipy.special import betainc, ndtr
 from scipy.stats import binom
 
 GENERATORS = (0o753, 0o561)
 MEMORY = 8
 STATES = 1 << MEMORY
 SYMBOLS = 384
+LEFT = numpy.arange(SYMBOLS + 1)
+# Powers of a fade over which a mean is taken.
+FADES = 2_000
 SYMBOL_RATE = 19_200
 # Of the 24 symbols of a group 2 carry the power control bit (7.1.3.1.7).
 KEPT = 22 / 24
@@ -119,15 +123,46 @@ def symbol_ratio(rate: int, ratio: float) -> float:
     return ratio * rate / SYMBOL_RATE / KEPT
 
 
+@functools.cache
+def weights_left(rate: int) -> NDArray[numpy.float64]:
+    """How many words of a frame of a rate have 0 to 384 symbols left, in the mean.
+
+    Each sent symbol is taken to be lost to a power control bit with the chance of 1 in 12, one by one: so of a word's
+    w symbols k are left with the binomial chance.
+    """
+    words = frame_weights(rate)
+    weights = numpy.flatnonzero(words)
+    return numpy.asarray(words[weights] @ binom.pmf(LEFT[None, :], weights[:, None], KEPT))
+
+
 def frame_bound(rate: int, ratio: float) -> float:
     """The union bound on the share of frames that err at an Eb/Nt (a ratio), where the pilot is known; at most 1.
 
-    Each sent symbol is taken to be lost to a power control bit with the chance of 1 in 12, one by one: so of a word's
-    w symbols k are left with the binomial chance, and such a word is taken with the chance Q(sqrt(2 k Es/Nt)).
+    A word with k symbols left is taken with the chance Q(sqrt(2 k Es/Nt)).
     """
-    words = frame_weights(rate)
-    left = numpy.arange(SYMBOLS + 1)
-    taken = ndtr(-numpy.sqrt(2 * left * symbol_ratio(rate, ratio)))
-    weights = numpy.flatnonzero(words)
-    chances = binom.pmf(left[None, :], weights[:, None], KEPT) @ taken
-    return float(min(1.0, words[weights] @ chances))
+    taken = ndtr(-numpy.sqrt(2 * LEFT * symbol_ratio(rate, ratio)))
+    return float(min(1.0, weights_left(rate) @ taken))
+
+
+def combined_bound(rate: int, ratio: float) -> float:
+    """The union bound of ideal maximum-ratio combining, where each symbol has a Rayleigh fade of its own; at most 1.
+
+    A word with k symbols left is then taken with the chance of an error of k branches of equal mean (J. G. Proakis,
+    Digital Communications, 4th edition, 14.4-15): p^k times the sum over j below k of C(k - 1 + j, j) (1 - p)^j, which
+    is the incomplete beta function I_p(k, k), with p = (1 - sqrt(g / (1 + g))) / 2 and g the mean Es/Nt.
+    """
+    mean = symbol_ratio(rate, ratio)
+    one = (1 - math.sqrt(mean / (1 + mean))) / 2
+    taken = numpy.concatenate([[0.5], betainc(LEFT[1:], LEFT[1:], one)])
+    return float(min(1.0, weights_left(rate) @ taken))
+
+
+def slow_bound(rate: int, ratio: float) -> float:
+    """The mean of the union bound, at most 1 each, over the powers of a Rayleigh fade that lasts for a whole frame.
+
+    The powers are those in the middle of FADES parts of equal chance (limited before it is averaged: E. Malkamäki and
+    H. Leib, IEEE Transactions on Information Theory 45(5), 1999).
+    """
+    powers = -numpy.log((numpy.arange(FADES) + 0.5) / FADES)
+    taken = ndtr(-numpy.sqrt(2 * LEFT[None, :] * symbol_ratio(rate, ratio) * powers[:, None]))
+    return float(numpy.minimum(1.0, taken @ weights_left(rate)).mean())

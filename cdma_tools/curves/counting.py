@@ -7,7 +7,7 @@ them before any noise is added.
 
 import dataclasses
 import re
-from typing import Iterable, Iterator, Mapping
+from typing import Collection, Iterable, Iterator, Mapping
 
 from cdma_tools.errors import Refused
 from cdma_tools.heard_run import FRAME, GROUP
@@ -20,7 +20,10 @@ NEAR = GROUP // 2
 # Fingers lie up to 32 chips before and after the best phase: of a frame that ends so near to the file's end it may
 # be that a finger has no samples.
 EDGE = 64
-OUTCOMES = ("lost", "marked_bad", "bad_but_right", "other_rate", "wrong_but_good")
+UNLOCKED = "unlocked"
+OUTCOMES = ("lost", "marked_bad", "bad_but_right", "other_rate", "wrong_but_good", UNLOCKED)
+# Chips before a message's place in which its last frame lies: one of the sync channel.
+LAST_FRAME = 32_768
 MESSAGE = re.compile(r"(sync|paging) at=(\d+) (.+)")
 
 
@@ -45,6 +48,7 @@ class Count:
     bad_but_right: int = 0
     other_rate: int = 0
     wrong_but_good: int = 0
+    unlocked: int = 0
 
     def errors(self) -> int:
         """All that weren't heard as sent."""
@@ -58,6 +62,8 @@ class Count:
 
 Counts = dict[str, Count]
 Messages = dict[tuple[str, str], list[int]]
+# From the first of so many samples to the one after the last.
+Span = tuple[int, int]
 
 
 @dataclasses.dataclass(frozen=True)
@@ -123,8 +129,18 @@ def outcome_of(sent: Frame, line: Heard) -> str | None:
     return None if is_right else "wrong_but_good"
 
 
-def count_frames(sent: Mapping[int, Frame], lines: Iterable[Heard], counts: Counts) -> None:
-    """Counts frames by kind and rate as sent: of several lines at one frame the first is the frame's."""
+def meets(first: int, end: int, spans: Iterable[Span]) -> bool:
+    """Whether samples first to end - 1 meet one of some spans."""
+    return any(begin < end and first < behind for begin, behind in spans)
+
+
+def count_frames(
+    sent: Mapping[int, Frame], lines: Iterable[Heard], counts: Counts, unheard: Collection[Span] = ()
+) -> None:
+    """Counts frames by kind and rate as sent: of several lines at one frame the first is the frame's.
+
+    Of the frames that meet a span in which the lock heard no pilot, those that err are the lock's.
+    """
     ends = sorted(sent)
     taken: dict[int, Heard] = {}
     for line in lines:
@@ -135,12 +151,17 @@ def count_frames(sent: Mapping[int, Frame], lines: Iterable[Heard], counts: Coun
         count = counts.setdefault(f"{frame.kind} {frame.rate}", Count())
         count.sent += 1
         outcome = outcome_of(frame, taken[end]) if end in taken else "lost"
+        if outcome and meets(end - FRAME, end, unheard):
+            outcome = UNLOCKED
         if outcome:
             setattr(count, outcome, getattr(count, outcome) + 1)
 
 
-def count_messages(sent: Messages, found: Messages, counts: Counts) -> None:
-    """Counts messages by kind: one is lost where none of its text is known near its place."""
+def count_messages(sent: Messages, found: Messages, counts: Counts, unheard: Collection[Span] = ()) -> None:
+    """Counts messages by kind: one is lost where none of its text is known near its place.
+
+    Where its last frame meets a span in which the lock heard no pilot, the loss is the lock's.
+    """
     for (kind, text), places in sent.items():
         left = list(found.get((kind, text), ()))
         count = counts.setdefault(kind, Count())
@@ -149,13 +170,33 @@ def count_messages(sent: Messages, found: Messages, counts: Counts) -> None:
             near = [at for at in left if abs(at - place) <= NEAR]
             if near:
                 left.remove(near[0])
+            elif meets(place - LAST_FRAME, place, unheard):
+                count.unlocked += 1
             else:
                 count.lost += 1
 
 
-def counted(wanted: Expected, lines: list[str], name: str) -> Counts:
+def counted(wanted: Expected, lines: list[str], name: str, unheard: Collection[Span] = ()) -> Counts:
     """What became of all that a file has to be heard, by channel: `frame 9600`, `frame2 14400`, `sync`, `paging`."""
     counts: Counts = {}
-    count_frames(wanted.frames, frames_in(lines, name), counts)
-    count_messages(wanted.messages, messages_in(lines), counts)
+    count_frames(wanted.frames, frames_in(lines, name), counts, unheard)
+    count_messages(wanted.messages, messages_in(lines), counts, unheard)
     return counts
+
+
+def all_unlocked(wanted: Expected) -> Counts:
+    """What becomes of a file without a lock: all that was to be heard is the lock's loss."""
+    counts: Counts = {}
+    for frame in wanted.frames.values():
+        counts.setdefault(f"{frame.kind} {frame.rate}", Count()).sent += 1
+    for (kind, _), places in wanted.messages.items():
+        counts.setdefault(kind, Count()).sent += len(places)
+    for count in counts.values():
+        count.unlocked = count.sent
+    return counts
+
+
+def moved(wanted: Expected, earlier: int) -> Expected:
+    """What is to be heard, so many samples earlier."""
+    messages = {key: [place - earlier for place in places] for key, places in wanted.messages.items()}
+    return Expected({end - earlier: frame for end, frame in wanted.frames.items()}, messages)

@@ -6,7 +6,9 @@ branch. A sample is a chip, so the noise's power a chip is its spectral density.
 """
 
 import dataclasses
+import enum
 import math
+from collections.abc import Sequence
 
 from scipy.optimize import brentq
 
@@ -27,6 +29,14 @@ ROUNDING = 2 / 12
 LEAST_SIGMA, GREATEST_SIGMA = 1e-3, 1e6
 
 
+class AirKind(enum.Enum):
+    """What the paths do: none fades, the one path has Rayleigh fading, or several paths or some of them fade."""
+
+    WHITE = "white"
+    RAYLEIGH = "rayleigh"
+    FADING = "fading"
+
+
 @dataclasses.dataclass(frozen=True)
 class Channel:
     """A channel whose Eb/Nt is told: its name in tables, gain, bits a second, and its share that carries these bits."""
@@ -39,11 +49,15 @@ class Channel:
 
 @dataclasses.dataclass(frozen=True)
 class Air:
-    """What a receiver gets beside noise: each path's |h|², the sum of the cell's squared gains, and other cells."""
+    """What a receiver gets beside noise: each path's |h|², the sum of the cell's squared gains, and other cells.
+
+    Of a path that fades |h|² is the mean.
+    """
 
     paths: tuple[float, ...]
     squares: float
     others: float = 0.0
+    kind: AirKind = AirKind.WHITE
 
     def ratio(self, channel: Channel, sigma: float) -> float:
         """Eb/Nt, summed over the paths; on each the cell's channels are orthogonal, and its other paths are noise."""
@@ -73,6 +87,13 @@ def air_of(script: Script, paths: tuple[complex, ...], others: float) -> Air:
     link = abs(script.link) ** 2
     squares = float(sum(gain * gain for gain in script.gains.values()))
     return Air((link, *(link * abs(factor) ** 2 for factor in paths)), squares, others)
+
+
+def air_over(script: Script, gains: Sequence[float], others: float, kind: AirKind) -> Air:
+    """The air of a script's cell, and of other cells, that come over paths of these mean power gains."""
+    squares = float(sum(gain * gain for gain in script.gains.values()))
+    link = abs(script.link) ** 2
+    return Air(tuple(link * gain for gain in gains), squares, others * sum(gains), kind)
 
 
 def frame_channel(kind: str, rate: int, gain: int) -> Channel:

@@ -16,10 +16,19 @@ BLOCK = 1 << 20
 MARGIN = 4
 
 
+def sequence(seed: int, point: int, batch: int) -> numpy.random.SeedSequence:
+    """What the noise of a file hangs on: the seed's sequence, spawned by point and batch."""
+    return numpy.random.SeedSequence(entropy=seed, spawn_key=(point % (1 << 32), batch))
+
+
 def generator(seed: int, point: int, batch: int) -> numpy.random.Generator:
     """The generator of a file's noise: PCG64, spawned from the seed by point and batch."""
-    sequence = numpy.random.SeedSequence(entropy=seed, spawn_key=(point % (1 << 32), batch))
-    return numpy.random.Generator(numpy.random.PCG64(sequence))
+    return numpy.random.Generator(numpy.random.PCG64(sequence(seed, point, batch)))
+
+
+def link_seed(seed: int, point: int, batch: int) -> int:
+    """The seed of a file's recording: the first 64 bits of the state of its sequence."""
+    return int(sequence(seed, point, batch).generate_state(1, numpy.uint64)[0])
 
 
 def check_room(greatest: int, sigma: float) -> None:

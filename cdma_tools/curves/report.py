@@ -3,11 +3,11 @@
 import csv
 import dataclasses
 import io
-from typing import Any, Iterable, Mapping, Sequence, TextIO
+from typing import Any, Callable, Iterable, Mapping, Sequence, TextIO
 
-from cdma_tools.curves.bound import FORMS, frame_bound
-from cdma_tools.curves.counting import OUTCOMES, Count
-from cdma_tools.curves.levels import Air, Channel
+from cdma_tools.curves.bound import FORMS, combined_bound, frame_bound, slow_bound
+from cdma_tools.curves.counting import OUTCOMES, UNLOCKED, Count
+from cdma_tools.curves.levels import Air, AirKind, Channel
 from cdma_tools.curves.plan import is_frames
 from cdma_tools.errors import Refused
 from cdma_tools.plots import plain, plotting, save
@@ -27,7 +27,8 @@ MOST_BYTES = 16 * MEGABYTE  # of a CSV that is read: some 100,000 rows
 class Row:
     """One channel of one receiver at one point: its Eb/Nt and the point's in dB, the counts, and the interval.
 
-    `bound` is the union bound on the share of errors, for frames alone.
+    `bound` is the union bound on the share of errors, for frames alone: where the path fades, that of ideal
+    maximum-ratio combining. `air` says what the paths do, by the values of `AirKind`.
     """
 
     receiver: str
@@ -43,13 +44,20 @@ class Row:
     bad_but_right: int
     other_rate: int
     wrong_but_good: int
+    unlocked: int
     share: float
     low: float
     high: float
     bound: float | None
+    air: str
 
 
 FIELDS = tuple(field.name for field in dataclasses.fields(Row))
+# What a CSV has that was written before there were locks, and what the columns are that it lacks.
+OLD_FIELDS = tuple(name for name in FIELDS if name not in (UNLOCKED, "air"))
+OF_OLD: dict[str, Any] = {UNLOCKED: 0, "air": AirKind.WHITE.value}
+# The bound of each kind of air.
+BOUNDS = {AirKind.WHITE: frame_bound, AirKind.RAYLEIGH: combined_bound}
 
 
 def interval(errors: int, sent: int) -> tuple[float, float]:
@@ -65,6 +73,7 @@ def row_of(receiver: str, channel: Channel, count: Count, point: int, sigma: flo
     errors = count.errors()
     low, high = interval(errors, count.sent)
     ratio = air.ratio(channel, sigma)
+    bound = BOUNDS.get(air.kind) if is_frames(channel.name) else None
     return Row(
         receiver=receiver,
         channel=channel.name,
@@ -78,19 +87,22 @@ def row_of(receiver: str, channel: Channel, count: Count, point: int, sigma: flo
         share=float(f"{errors / count.sent:.6g}"),
         low=float(f"{low:.6g}"),
         high=float(f"{high:.6g}"),
-        bound=float(f"{frame_bound(channel.rate, ratio):.6g}") if is_frames(channel.name) else None,
+        bound=float(f"{bound(channel.rate, ratio):.6g}") if bound else None,
+        air=air.kind.value,
     )
 
 
-def print_table(rows: Iterable[Row], out: TextIO) -> None:
-    """Writes rows as a table."""
+def print_table(rows: Iterable[Row], out: TextIO, has_lock: bool = False) -> None:
+    """Writes rows as a table; where there is a lock, with its losses."""
+    outcomes = OUTCOMES if has_lock else [outcome for outcome in OUTCOMES if outcome != UNLOCKED]
     print(
         f"{'Eb/Nt dB':>8} {'sigma':>8} {'receiver':<28} {'channel':<13} {'sent':>7} {'errors':>6}"
-        f" {'share':>9} {'95 % interval':>21} {'bound':>9}  lost/bad/bad but right/other rate/good but wrong",
+        f" {'share':>9} {'95 % interval':>21} {'bound':>9}  lost/bad/bad but right/other rate/good but wrong"
+        + ("/without a lock" if has_lock else ""),
         file=out,
     )
     for row in rows:
-        ends = "/".join(str(getattr(row, outcome)) for outcome in OUTCOMES)
+        ends = "/".join(str(getattr(row, outcome)) for outcome in outcomes)
         bound = "" if row.bound is None else f"{row.bound:.3g}"
         print(
             f"{row.ebnt_db:>8.2f} {row.sigma:>8.1f} {row.receiver:<28} {row.channel:<13} {row.sent:>7} {row.errors:>6}"
@@ -111,17 +123,17 @@ def write_csv(path: str, rows: Sequence[Row]) -> None:
 
 def read_csv(path: str) -> list[Row]:
     """The rows of a CSV that this tool wrote; refuses another file, and one above MOST_BYTES."""
-    kinds: dict[str, Any] = {"receiver": str, "channel": str}
+    kinds: dict[str, Any] = {"receiver": str, "channel": str, "air": lambda text: AirKind(text).value}
     kinds |= {name: int for name in ("seed", *COMPARED)}
     try:
         table = csv.DictReader(io.StringIO(read_within(path, MOST_BYTES).decode("ascii"), newline=""))
-        if tuple(table.fieldnames or ()) != FIELDS:
+        if tuple(table.fieldnames or ()) not in (FIELDS, OLD_FIELDS):
             raise Refused(f"{path}: no CSV of this tool: its first line isn't {','.join(FIELDS)}")
         read: list[dict[str, Any]] = [
             {name: None if value == "" else kinds.get(name, float)(value) for name, value in fields.items()}
             for fields in table
         ]
-        return [Row(**values) for values in read]
+        return [Row(**{**OF_OLD, **values}) for values in read]
     except (ValueError, TypeError, AttributeError, csv.Error) as why:
         raise Refused(f"{path}: no CSV of this tool: {why}") from None
 
@@ -186,23 +198,37 @@ def draw_line(axes: Any, line: Sequence[Row], name: str, color: str, marker: str
         )
 
 
-def draw_bounds(axes: Any, channels: Mapping[str, str], begin: float, end: float) -> None:
-    """The union bound of each channel, a dashed line in its color, where it is below 1."""
+Bound = Callable[[int, float], float]
+# What is drawn beside curves in each kind of air: the name, the form of the line, and the share at a rate and a ratio.
+DRAWN: dict[AirKind, list[tuple[str, str, Bound]]] = {
+    AirKind.WHITE: [("union bound", "--", frame_bound)],
+    AirKind.RAYLEIGH: [
+        ("ideal maximum-ratio combining, a fade for each symbol", "--", combined_bound),
+        ("ideal, one fade for a frame", ":", slow_bound),
+    ],
+    AirKind.FADING: [],
+}
+
+
+def draw_bounds(axes: Any, channels: Mapping[tuple[str, AirKind], str], begin: float, end: float) -> None:
+    """The bounds of each channel, broken lines in its color, where they are below 1."""
     steps = 120
-    for channel, color in channels.items():
+    places = [begin + (end - begin) * step / steps for step in range(steps + 1)]
+    for (channel, kind), color in channels.items():
         rate = int(channel.split()[1])
-        places = [begin + (end - begin) * step / steps for step in range(steps + 1)]
-        bounds = [(place, frame_bound(rate, 10 ** (place / 10))) for place in places]
-        drawn = [(place, bound) for place, bound in bounds if LEAST_SHARE < bound < 1]
-        name = "union bound" if len(channels) == 1 else f"union bound, {rate}"
-        axes.plot([place for place, _ in drawn], [bound for _, bound in drawn], "--", lw=1.1, color=color, label=name)
+        for name, form, bound in DRAWN[kind]:
+            bounds = [(place, bound(rate, 10 ** (place / 10))) for place in places]
+            drawn = [(place, share) for place, share in bounds if LEAST_SHARE < share < 1]
+            label = name if len({one for one, _ in channels}) == 1 else f"{name}, {rate}"
+            axes.plot([at for at, _ in drawn], [share for _, share in drawn], form, lw=1.1, color=color, label=label)
 
 
-def bound_colors(lines: Lines) -> dict[str, str]:
-    """The color of each channel's bound: that of its curve where a channel has one, and black where it has several."""
-    colors: dict[str, str] = {}
-    for number, (_, channel) in enumerate(lines):
-        colors[channel] = "black" if channel in colors else COLORS[number % len(COLORS)]
+def bound_colors(lines: Lines) -> dict[tuple[str, AirKind], str]:
+    """The color of the bounds of each channel in each kind of air: that of its curve where there is one, else black."""
+    colors: dict[tuple[str, AirKind], str] = {}
+    for number, ((_, channel), line) in enumerate(lines.items()):
+        place = channel, AirKind(line[0].air)
+        colors[place] = "black" if place in colors else COLORS[number % len(COLORS)]
     return colors
 
 
@@ -210,12 +236,12 @@ def draw_axes(axes: Any, lines: Lines, title: str) -> None:
     """Curves and bounds, the scales and the legend."""
     colors = bound_colors(lines)
     for number, ((receiver, channel), line) in enumerate(lines.items()):
-        name = f"{receiver}, {channel.split()[1]}" if len(colors) > 1 else receiver
+        name = f"{receiver}, {channel.split()[1]}" if len({one for one, _ in colors}) > 1 else receiver
         draw_line(axes, line, name, COLORS[number % len(COLORS)], MARKERS[number % len(MARKERS)])
     places = [row.ebnt_db for line in lines.values() for row in line]
     margin = max(0.1, 0.04 * (max(places) - min(places)))
     axes.set_xlim(min(places) - margin, max(places) + margin)
-    known = {channel: color for channel, color in colors.items() if int(channel.split()[1]) in FORMS}
+    known = {place: color for place, color in colors.items() if int(place[0].split()[1]) in FORMS}
     draw_bounds(axes, known, *axes.get_xlim())
     axes.set_yscale("log")
     least = min([row.low for line in lines.values() for row in line if row.errors], default=0.01)

@@ -22,7 +22,7 @@ from cdma_tools.curves.counting import OUTCOMES, Count, Counts
 from cdma_tools.curves.plan import Done
 from cdma_tools.errors import Refused
 
-FORM = "1"
+FORM = "2"
 TABLES = f"""
 create table if not exists setup (name text primary key, value text not null);
 create table if not exists batches (point integer, batch integer, primary key (point, batch));
@@ -50,6 +50,7 @@ def identity(setup: Setup) -> dict[str, str]:
         "receivers": json.dumps([[curve.checksum, curve.words] for curve in setup.curves]),
         "seed": str(setup.seed),
         "numpy": setup.numpy_version,
+        **({"channel": setup.antenna.text} if setup.antenna else {}),
     }
 
 

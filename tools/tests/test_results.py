@@ -24,7 +24,7 @@ from cdma_tools.results import Result, Results, Verdict, add_result_options
 from tools.tests.helping import is_gone, temporary_folder
 
 ROW = Row(
-    "rx follow", "frame 9600", 2.0, 2.001, 300.0, 1, 1_000, 20, 20, 0, 0, 0, 0, 0.02, 0.013, 0.0307, 0.01
+    "rx follow", "frame 9600", 2.0, 2.001, 300.0, 1, 1_000, 20, 20, 0, 0, 0, 0, 0, 0.02, 0.013, 0.0307, 0.01, "white"
 )  # fmt: skip
 HOSTILE = "a <case> & \x1b[31m # \\ \x00"
 
