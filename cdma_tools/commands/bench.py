@@ -8,6 +8,14 @@ messages of each kind, read and written, as tests of message_tests do it. Build 
 
     tools/bench
     tools/bench ./cdma_replay
+    tools/bench --peers
+
+With --peers other work is timed: ours and that of libraries that Debian has, in turns and on the same numbers. The
+best codeword of 192 bits by libfec and IT++; all phases of 2,048 samples by FFTW, in single and double precision; two
+seconds of a recording through the pulse by GNU Radio's resampler, beside the front of tools/import_capture --lock. Small
+programs are built around them in a temporary folder, which needs gcc and g++ and the packages libfec-dev, libitpp-dev,
+libfftw3-dev and gnuradio; of what isn't there it is said. The times are those of a processor, the least of many runs,
+and each result is held against ours. Each line says what a library has not.
 
 Exit status: 0 all was timed, 1 something couldn't be, 2 wrong arguments.
 """
@@ -23,7 +31,7 @@ from typing import IO
 from cdma_tools.arguments import Parser
 from cdma_tools.errors import Refused
 from cdma_tools.places import EXAMPLES, TOP
-from cdma_tools.program import add_program_option, find_program
+from cdma_tools.program import add_program_option, find_program, written_of
 from cdma_tools.sample_header import header
 
 TESTS = os.path.join(TOP, "crates", "receiver_tests", "out", "receiver_tests_tests")
@@ -273,13 +281,58 @@ def print_runs(program: str) -> None:
             print_row(program, name, words.split(), os.path.join(folder, file), count)
 
 
+def run_processor_seconds(program: str, words: list[str], path: str, wanted: int = 0) -> float:
+    """Processor seconds of one run over a file, whatever else runs on the machine; it has to end with a status."""
+    with open(path, "rb") as source:
+        child = subprocess.Popen(
+            [program, *words], stdin=source, stdout=subprocess.DEVNULL, stderr=subprocess.DEVNULL, env=NO_ENVIRONMENT
+        )
+        _, status, used = os.wait4(child.pid, 0)
+    child.returncode = os.waitstatus_to_exitcode(status)
+    if child.returncode != wanted:
+        raise Refused(f"{program} {' '.join(words)} ended with {child.returncode}")
+    return used.ru_utime + used.ru_stime
+
+
+def decoder_seconds() -> float:
+    """Processor seconds of one decoding of 192 bits by the program's decoder, less a run's start."""
+    test, times = DECODINGS[1][3]
+    whole = test_processor_seconds(TESTS, f"{DECODER}::timing::{test}")
+    return (whole - test_processor_seconds(TESTS, SHORT_TEST)) / times
+
+
+def print_libraries(program: str) -> None:
+    """The tables of ours beside the libraries'."""
+    from cdma_tools.peers.measuring import print_peers
+
+    with tempfile.TemporaryDirectory() as folder:
+        path = os.path.join(folder, "short.is95")
+        write_noise(path, 2_048)
+        words = ["find", "--workers", "1"]
+        with open(path, "rb") as source:
+            found = re.match(rb"pilot phase=(\d+) ", written_of(program, words, source))
+        if not found:
+            raise Refused(f"{program} find found no phase")
+
+        def search() -> float:
+            """The search by one worker, less the start of a run that does nothing and ends with status 2."""
+            return run_processor_seconds(program, words, path) - run_processor_seconds(program, [], path, 2)
+
+        print_peers(decoder_seconds if os.access(TESTS, os.X_OK) else None, search, path, found[1].decode())
+
+
 def main(arguments: list[str] | None = None) -> int:
     """Runs the tool, and answers its exit status."""
     parser = Parser("bench", __doc__)
     parser.add_argument("timed", metavar="PROGRAM", nargs="?", help="the program, else that of --program")
+    parser.add_argument("--peers", action="store_true", help="time our work beside that of Debian's libraries")
     add_program_option(parser)
     options = parser.parse_args(arguments)
-    print_runs(find_program(options.timed or options.program))
+    program = find_program(options.timed or options.program)
+    if options.peers:
+        print_libraries(program)
+        return 0
+    print_runs(program)
     if os.access(TESTS, os.X_OK):
         print_sweeps()
         print_decoders()
