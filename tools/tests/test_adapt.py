@@ -104,10 +104,11 @@ class CommandLines(unittest.TestCase):
         here.send(b"x")
         there.close()  # which fails the next read of the other end
         with here:
-            ran = subprocess.run([ADAPT, "--command", "cat {input}"], stdin=here, capture_output=True, timeout=SECONDS)
+            words = [ADAPT, "--command", "cat {input}"]
+            ran = subprocess.run(words, stdin=here.fileno(), capture_output=True, timeout=SECONDS)
         self.assertEqual((ran.returncode, ran.stderr), (4, b"read fault\n"))
-        for words in ((), ("--command", "a", "--connect", "b:1"), ("--connect", "b"), ("--connect", "b:65536")):
-            self.assertEqual(adapted(*words)[0], 2)
+        for wrong in ((), ("--command", "a", "--connect", "b:1"), ("--connect", "b"), ("--connect", "b:65536")):
+            self.assertEqual(adapted(*wrong)[0], 2)
 
 
 class Ports(unittest.TestCase):

@@ -10,7 +10,7 @@ from cdma_tools.repository.crate_list import NoList, chains, crates_below, longe
 from tools.tests.helping import ROOT
 
 MOST_COLUMNS = 100
-BELOW = {
+BELOW: dict[str, list[str]] = {
     "core": [],
     "codes": ["core"],
     "cell": ["core", "codes"],

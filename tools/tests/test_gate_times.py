@@ -121,13 +121,14 @@ class GateTimes(unittest.TestCase):
 
     def test_bad_input(self) -> None:
         good = "00:00:01 rt: core proved"
-        for lines, why in (
+        bad: tuple[tuple[list[str], str], ...] = (
             ([good, "rt: left proved"], "line 2 has no time before it"),
             (["Nov 99 00:00:01 rt: core proved"], "month Nov, day 99 is no day"),
             (["2026-13-01T00:00:01 rt: core proved"], "month 13, day 1 is no day"),
             (["00:00:01 nothing"], "the log names no crate"),
             ([], "the log names no crate"),
-        ):
+        )
+        for lines, why in bad:
             with self.subTest(why):
                 status, wrote, faults = self.told(lines)
                 self.assertEqual((status, wrote), (2, ""))

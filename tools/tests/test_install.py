@@ -9,26 +9,28 @@ STANDS_FOR = b"#!/bin/sh\necho bad words >&2\nexit 2\n"
 
 
 class Installs(unittest.TestCase):
-    def setUp(self):
+    def setUp(self) -> None:
         folder = temporary_folder(self.addCleanup)
         self.prefix = os.path.join(folder, "usr")
         self.program = os.path.join(folder, "program")
         self.keep(STANDS_FOR)
 
-    def keep(self, data, mode=0o700):
+    def keep(self, data: bytes, mode: int = 0o700) -> None:
+        """Writes the program's stand-in."""
         with open(self.program, "wb") as file:
             file.write(data)
         os.chmod(self.program, mode)
 
-    def read(self, *path):
+    def read(self, *path: str) -> bytes:
+        """The bytes of a file."""
         with open(os.path.join(*path), "rb") as file:
             return file.read()
 
-    def files(self):
+    def files(self) -> list[str]:
         """All files below the prefix."""
         return sorted(os.path.join(path, name) for path, _, names in os.walk(self.prefix) for name in names)
 
-    def test_all_is_in_place_and_taken_away_again(self):
+    def test_all_is_in_place_and_taken_away_again(self) -> None:
         for _ in range(2):
             status, wrote, said = run_tool("install", "--program", self.program, self.prefix)
             self.assertEqual((status, said), (0, ""))
@@ -45,7 +47,7 @@ class Installs(unittest.TestCase):
         self.assertEqual((status, said, self.files()), (0, "", [other]))
         self.refused_as("nothing is installed there", "--remove", self.prefix)
 
-    def test_a_list_that_leads_elsewhere_takes_nothing_away(self):
+    def test_a_list_that_leads_elsewhere_takes_nothing_away(self) -> None:
         kept = os.path.join(os.path.dirname(self.prefix), "kept")
         for place in ("../kept", kept):
             with open(kept, "w") as file:
@@ -56,20 +58,21 @@ class Installs(unittest.TestCase):
             self.refused_as("no list of files below the prefix", "--remove", self.prefix)
             self.assertTrue(os.path.exists(kept))
 
-    def refused_as(self, why, *words):
+    def refused_as(self, why: str, *words: str) -> None:
         """A run that ends with status 1 and one line."""
         status, wrote, said = run_tool("install", *words)
         self.assertEqual((status, wrote, said.count("\n")), (1, b"", 1))
         self.assertIn(why, said)
 
-    def refused(self, why, *words, status=1):
+    def refused(self, why: str, *words: str, status: int = 1) -> None:
+        """A run that ends with a status and says why, and installs nothing."""
         ended, wrote, said = run_tool("install", *words)
         self.assertEqual((ended, wrote), (status, b""), said)
         self.assertRegex(said, why)
         self.assertNotIn("Traceback", said)
         self.assertFalse(os.path.exists(os.path.join(self.prefix, "bin", "cdma_replay")))
 
-    def test_refusals(self):
+    def test_refusals(self) -> None:
         words = ["--program", self.program, self.prefix]
         self.keep(b"#!/bin/sh\necho bad words >&2\nexit 3\n")
         self.refused("without arguments it ended with 3", *words)
@@ -82,7 +85,7 @@ class Installs(unittest.TestCase):
         self.keep(STANDS_FOR)
         self.refused("Not a directory|File exists", "--program", self.program, self.program)
 
-    def test_words(self):
+    def test_words(self) -> None:
         self.refused("required: PREFIX", status=2)
         self.refused("PREFIX is empty", "", status=2)
 

@@ -31,6 +31,9 @@ def blocks(lines: list[str]) -> list[tuple[str, list[str]]]:
 
 
 class Lesson(unittest.TestCase):
+    text: str
+    folder: str
+
     @classmethod
     def setUpClass(cls) -> None:
         with open(PAGE, encoding="utf-8") as file:

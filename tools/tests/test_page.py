@@ -13,20 +13,23 @@ from tools.tests.helping import ROOT
 PAGE = os.path.join(ROOT, "docs", "cdma_replay.1")
 
 
-def text_of(path):
+def text_of(path: str) -> str:
+    """The text of a document."""
     with open(path, encoding="ascii" if path == PAGE else "utf-8") as file:
         return file.read()
 
 
 class Page(unittest.TestCase):
     @unittest.skipUnless(shutil.which("mandoc"), "no mandoc: install the package mandoc")
-    def test_lint_is_silent(self):
+    def test_lint_is_silent(self) -> None:
         ran = subprocess.run(["mandoc", "-T", "lint", PAGE], capture_output=True, timeout=60)
         self.assertEqual((ran.returncode, ran.stdout, ran.stderr), (0, b"", b""))
 
-    def test_each_word_stands_in_it(self):
+    def test_each_word_stands_in_it(self) -> None:
         formats, page = text_of(os.path.join(ROOT, "docs", "FORMATS.md")), text_of(PAGE)
-        usage = re.search(r"## Command line and exit status\n(.*?)\n\n[^ \n]", formats, re.S)[1]
+        found = re.search(r"## Command line and exit status\n(.*?)\n\n[^ \n]", formats, re.S)
+        assert found
+        usage = found[1]
         commands = re.findall(r"cdma_replay (\w+)", usage)
         self.assertEqual(len(commands), 8)
         for command in commands:
@@ -37,7 +40,7 @@ class Page(unittest.TestCase):
         statuses = re.findall(r"\n\| (\d) \|", formats[formats.index("| Status |") :])
         self.assertEqual(re.findall(r"\n\.It (\d)\n", page), statuses)
 
-    def test_each_line_has_its_fields(self):
+    def test_each_line_has_its_fields(self) -> None:
         """Each kind of line stands in it with its fields, in their order, each by its name in the standard or what it is."""
         page = text_of(PAGE)
         part = page[page.index(".Ss Lines that are written\n") : page.index(".Sh EXIT STATUS\n")]
@@ -49,7 +52,7 @@ class Page(unittest.TestCase):
             wanted[f"{shape.line} {shape.word or ''}".strip()] = f"{fields}."
         self.assertEqual(told, wanted)
 
-    def test_what_it_names_is_installed(self):
+    def test_what_it_names_is_installed(self) -> None:
         """No path of a checkout's tools stands in it, which a reader of an installed page hasn't."""
         page = text_of(PAGE)
         for path in re.findall(r"\.Pa (\S+)", page):

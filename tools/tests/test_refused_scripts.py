@@ -458,7 +458,7 @@ LONG_LINK = {"LINK": "link re=0 im=-3 start=0 samples=33554433"}
 NO_PILOT = {"PILOT": "pilot gain=0"}
 NO_SYNC = {"SYNC": "sync gain=0 prev=3 min=1 sid=1 nid=2 lp=13 ltm=0 daylt=0 prat=0 rest=3:00"}
 MOST = {"PILOT": "pilot gain=65535"}
-FAULTY_PLANS = [
+FAULTY_PLANS: list[tuple[str, dict[str, str], str, int]] = [
     ("too loud 4260100", LOUD_LINK, "", 16),
     ("too long 33554433", LONG_LINK, "", 16),
     ("too loud 390", {}, "", 8),
@@ -621,6 +621,7 @@ def zero_page(octets: int) -> str:
 class RefusedScripts(unittest.TestCase):
     def made(self, script: str, bits: int) -> tuple[int, str]:
         """How a run that can write nothing ends: its status and its line on standard error."""
+        assert PROGRAM is not None
         with open("/dev/full", "wb") as full:
             words = [PROGRAM, "make", "--bits", str(bits)]
             ran = subprocess.run(words, input=script.encode(), stdout=full, stderr=subprocess.PIPE, timeout=60)

@@ -172,6 +172,7 @@ class RefusedWords(unittest.TestCase):
                 self.expect_words(line.split(" "), status, error)
 
     def expect_words(self, words: list[str], status: int, error: str) -> None:
+        assert PROGRAM is not None
         ran = subprocess.run([PROGRAM, *words], stdin=subprocess.DEVNULL, capture_output=True, timeout=60)
         self.assertEqual((ran.returncode, ran.stderr.decode()), (status, error))
         if status:
