@@ -44,10 +44,10 @@ def untyped(node: Function) -> list[str]:
 
 
 class Code(unittest.TestCase):
-    """What is asked of every module of the package."""
+    """What is asked of every module of the package; functions of the tests have types too."""
 
     def test_each_function_has_types(self) -> None:
-        for place, module in modules("cdma_tools"):
+        for place, module in [*modules("cdma_tools"), *modules("tools/tests")]:
             for node in ast.walk(module):
                 if isinstance(node, (ast.FunctionDef, ast.AsyncFunctionDef)):
                     with self.subTest(f"{place}:{node.lineno} {node.name}"):

@@ -13,6 +13,7 @@ import sqlite3
 import subprocess
 import unittest
 import xml.etree.ElementTree
+from typing import Any
 
 from tools.tests.cluster_helping import started, started_scheduler, started_worker, wait_for
 from tools.tests.helping import EXAMPLES, NO_PROGRAM, PROGRAM, PYTHON, ROOT, TOOLS, example, needs, temporary_folder
@@ -36,23 +37,25 @@ ENDS = ("lost", "marked_bad", "bad_but_right", "other_rate", "wrong_but_good")
 
 
 class Curves(unittest.TestCase):
-    whole: list = []
+    whole: list[dict[str, str]] = []
 
-    def setUp(self):
+    def setUp(self) -> None:
         self.folder = temporary_folder(self.addCleanup)
         text = re.sub(r"samples=\d+", f"samples={SAMPLES}", example("frames_9600.script").decode())
         self.script = self.keep("it.script", text)
         self.fake = self.program("fake")
 
-    def at(self, name):
+    def at(self, name: str) -> str:
+        """The path of a file in the test's folder."""
         return os.path.join(self.folder, name)
 
-    def keep(self, name, text):
+    def keep(self, name: str, text: str) -> str:
+        """Writes a file into the test's folder, and answers its path."""
         with open(self.at(name), "w", encoding="ascii") as file:
             file.write(text)
         return self.at(name)
 
-    def program(self, name, fault=""):
+    def program(self, name: str, fault: str = "") -> str:
         """A stand-in for the program, with a fault."""
         path = self.keep(
             name,
@@ -61,7 +64,7 @@ class Curves(unittest.TestCase):
         os.chmod(path, 0o755)
         return path
 
-    def words(self, *more, frames=FRAMES, maker=None, out="out"):
+    def words(self, *more: str, frames: int = FRAMES, maker: str | None = None, out: str = "out") -> list[str]:
         """A run's command: two points of the script in a folder of its own, over the stand-in."""
         maker = maker or self.fake
         return [
@@ -70,19 +73,19 @@ class Curves(unittest.TestCase):
             *(() if {"--workers", "--scheduler"} & set(more) else ("--workers", "1")), *more,
         ]  # fmt: skip
 
-    def rows_of_one_worker(self):
+    def rows_of_one_worker(self) -> list[dict[str, str]]:
         """The rows of a whole run by one worker, which is made once."""
         if not Curves.whole:
             self.assertEqual(self.ran(self.words(out="whole"))[0::2], (0, []))
             Curves.whole = self.rows("whole")
         return Curves.whole
 
-    def ran(self, words, **more):
+    def ran(self, words: list[str], **more: Any) -> tuple[int, list[str], list[str]]:
         """A run: its status, and its lines on both outputs."""
         ended = subprocess.run(words, capture_output=True, text=True, timeout=SECONDS, cwd=self.folder, **more)
         return ended.returncode, ended.stdout.splitlines(), ended.stderr.splitlines()
 
-    def refused(self, said, words, status=1, **more):
+    def refused(self, said: str, words: list[str], status: int = 1, **more: Any) -> None:
         """A run that ends with a status, and with one line that says why."""
         code, _, lines = self.ran(words, **more)
         self.assertEqual(code, status, lines)
@@ -90,42 +93,44 @@ class Curves(unittest.TestCase):
         if status == 1:
             self.assertEqual(len(lines), 1, lines)
 
-    def rows(self, out="out"):
+    def rows(self, out: str = "out") -> list[dict[str, str]]:
+        """The rows of a run's table."""
         with open(os.path.join(self.at(out), "curve.csv"), newline="", encoding="ascii") as file:
             return list(csv.DictReader(file))
 
-    def batches(self, out="out"):
+    def batches(self, out: str = "out") -> int:
         """How many batches are kept."""
         path = os.path.join(self.at(out), "counts.sqlite")
         if not os.path.exists(path):
             return 0
         base = sqlite3.connect(path)
         try:
-            return base.execute("select count(*) from batches").fetchone()[0]
+            return int(base.execute("select count(*) from batches").fetchone()[0])
         except sqlite3.OperationalError:
             return 0
         finally:
             base.close()
 
-    def begun(self, words):
+    def begun(self, words: list[str]) -> subprocess.Popen[str]:
         """A run that has counted a batch; what it says is read later. It hears an interrupt though the tests themselves
         run by a shell that has it ignored."""
 
-        def heard():
+        def heard() -> None:
             signal.signal(signal.SIGINT, signal.SIG_DFL)
 
         child = subprocess.Popen(words, stdout=subprocess.DEVNULL, stderr=subprocess.PIPE, text=True, preexec_fn=heard)
+        assert child.stderr
         self.addCleanup(child.stderr.close)
         wait_for(lambda: self.batches() >= 1, child)
         return child
 
-    def start(self, words):
+    def start(self, words: list[str]) -> subprocess.Popen[bytes]:
         """A process of its own, which ends with the test."""
         return started(words, self.addCleanup)
 
 
 class Counts(Curves):
-    def test_one_worker_and_three_count_the_same(self):
+    def test_one_worker_and_three_count_the_same(self) -> None:
         code, table, lines = self.ran(self.words("--workers", "3"))
         self.assertEqual((code, lines), (0, []))
         self.assertEqual(len(table), 5)
@@ -134,7 +139,7 @@ class Counts(Curves):
         with open(os.path.join(self.at("out"), "curve.png"), "rb") as file:
             self.assertEqual(file.read(8), b"\x89PNG\r\n\x1a\n")
 
-    def test_each_frame_has_the_end_that_its_noise_gives_it(self):
+    def test_each_frame_has_the_end_that_its_noise_gives_it(self) -> None:
         frames = [row for row in self.rows_of_one_worker() if row["channel"] == "frame 9600"]
         script = read_script(example("frames_9600.script").decode(), "it")
         channel = levels.channels_of(script, script.traffic[0])["frame 9600"]
@@ -147,7 +152,7 @@ class Counts(Curves):
             self.assertEqual((int(row["sent"]), len(kinds)), (FRAMES, FRAMES))
             self.assertAlmostEqual(float(row["share"]), int(row["errors"]) / FRAMES, places=5)
 
-    def kinds(self, point, sigma, batch):
+    def kinds(self, point: int, sigma: float, batch: int) -> list[int]:
         """By the noise itself: how the stand-in tells each frame of a batch."""
         level = numpy.full(2 * SAMPLES, fake_receiver.LEVEL, dtype=numpy.int16)
         made = noise.noisy(level, sigma, noise.generator(1_995, point, batch)).astype(int) - fake_receiver.LEVEL
@@ -155,12 +160,12 @@ class Counts(Curves):
         sums = made[: SAMPLES // fake_receiver.FRAME * chips].reshape(-1, chips).sum(axis=1)
         return [int(total) % fake_receiver.KINDS for total in sums[fake_receiver.MARK :]]
 
-    def test_another_seed_counts_otherwise(self):
+    def test_another_seed_counts_otherwise(self) -> None:
         self.assertEqual(self.ran(self.words("--seed", "2"))[0], 0)
         ends = [[[row[end] for end in ENDS] for row in rows] for rows in (self.rows(), self.rows_of_one_worker())]
         self.assertNotEqual(*ends)
 
-    def test_errors_end_a_point_behind_the_file_that_has_them(self):
+    def test_errors_end_a_point_behind_the_file_that_has_them(self) -> None:
         code, _, lines = self.ran(self.words("--errors", "1", frames=600))
         self.assertEqual((code, lines), (0, []))
         for row in self.rows():
@@ -169,7 +174,7 @@ class Counts(Curves):
                 self.assertLess(int(row["sent"]), 600)
                 self.assertEqual(int(row["sent"]) % FRAMES_A_FILE, 0)
 
-    def test_a_finished_run_is_told_again_and_a_longer_one_goes_on(self):
+    def test_a_finished_run_is_told_again_and_a_longer_one_goes_on(self) -> None:
         self.assertEqual(self.ran(self.words(frames=12))[0], 0)
         rows = self.rows()
         kept = os.path.join(self.at("out"), "curve.csv")
@@ -181,7 +186,7 @@ class Counts(Curves):
         self.assertRegex(lines[0], r"frame 9600 at 1 dB, seed 1995: kept sent=12 .*counted sent=36 ")
         self.refused("has counts of another run .seed differ", self.words("--seed", "2"))
 
-    def test_limits(self):
+    def test_limits(self) -> None:
         """A limit at the interval's upper end is met, and so is 1; one that is next to nothing is broken."""
         whole = self.rows_of_one_worker()
         errors = [int(row["errors"]) for row in whole if row["channel"] == "frame 9600"]
@@ -203,7 +208,7 @@ class Counts(Curves):
         self.refused("3 dB is no point", self.words("--limits", self.keep("far.csv", "point_db,share\n3,1\n")))
         self.refused("no channel 'x'", self.words("--limits", self.keep("x.csv", "point_db,channel,share\n1,x,1\n")))
 
-    def test_another_receiver_stands_beside_ours(self):
+    def test_another_receiver_stands_beside_ours(self) -> None:
         other = self.program("other")
         with open(other, "a", encoding="ascii") as file:
             file.write("# another program\n")
@@ -214,7 +219,7 @@ class Counts(Curves):
 
 
 class Broken(Curves):
-    def test_a_killed_run_goes_on_where_it_was(self):
+    def test_a_killed_run_goes_on_where_it_was(self) -> None:
         slow = self.program("fake", "slow")
         child = self.start(self.words("--workers", "2", maker=slow))
         wait_for(lambda: self.batches() >= 3, child)
@@ -224,7 +229,7 @@ class Broken(Curves):
         self.assertEqual(self.ran(self.words(maker=slow))[0::2], (0, []))
         self.assertEqual((self.rows(), self.batches()), (self.rows_of_one_worker(), BATCHES))
 
-    def test_an_interrupted_run_says_so(self):
+    def test_an_interrupted_run_says_so(self) -> None:
         slow = self.program("fake", "slow")
         words = self.words(frames=600, maker=slow)
         child = self.begun(words)
@@ -233,12 +238,12 @@ class Broken(Curves):
         self.assertEqual(said, "curve: broken off; the same command goes on from what was counted\n")
         self.assertEqual(child.returncode, 130)
 
-    def test_a_disk_that_is_full_keeps_what_was_counted(self):
+    def test_a_disk_that_is_full_keeps_what_was_counted(self) -> None:
         """A limit on the size of files stands for the disk: SQLite's log has 24 pages, 11 of them without a batch, and
         takes four for each."""
         limit = 24 * 4_096
 
-        def limited():
+        def limited() -> None:
             signal.signal(signal.SIGXFSZ, signal.SIG_IGN)
             resource.setrlimit(resource.RLIMIT_FSIZE, (limit, limit))
 
@@ -249,15 +254,15 @@ class Broken(Curves):
 
 
 class Cluster(Curves):
-    def scheduler(self):
+    def scheduler(self) -> tuple[subprocess.Popen[bytes], str]:
         """A scheduler of its own on this machine, and its address."""
         return started_scheduler(self.folder, self.addCleanup)
 
-    def worker(self, address):
+    def worker(self, address: str) -> subprocess.Popen[bytes]:
         """A worker of its own on this machine."""
         return started_worker(address, self.folder, self.addCleanup)
 
-    def test_a_worker_that_dies_loses_nothing_and_counts_nothing_twice(self):
+    def test_a_worker_that_dies_loses_nothing_and_counts_nothing_twice(self) -> None:
         slow = self.program("fake", "slow")
         _, address = self.scheduler()
         first, second = self.worker(address), self.worker(address)
@@ -268,11 +273,11 @@ class Cluster(Curves):
         self.assertIsNone(second.poll())
         self.assertEqual((self.rows(), self.batches()), (self.rows_of_one_worker(), BATCHES))
 
-    def test_a_scheduler_that_is_not_there(self):
+    def test_a_scheduler_that_is_not_there(self) -> None:
         self.refused("no scheduler at tcp://127.0.0.1:9", self.words("--scheduler", "tcp://127.0.0.1:9"))
         self.refused("no scheduler at nonsense", self.words("--scheduler", "nonsense"))
 
-    def test_a_scheduler_that_dies(self):
+    def test_a_scheduler_that_dies(self) -> None:
         slow = self.program("fake", "slow")
         scheduler, address = self.scheduler()
         self.worker(address)
@@ -285,7 +290,7 @@ class Cluster(Curves):
 
 
 class Faults(Curves):
-    def test_receivers_that_fail(self):
+    def test_receivers_that_fail(self) -> None:
         for fault, said in (
             ("status 5", "curve: .*/bad follow --esn 0000abcd --row 10 --offset 0 ended with 5"),
             ("silent", "ended with 0 and wrote no lines"),
@@ -295,17 +300,17 @@ class Faults(Curves):
                 bad = self.program("bad", fault)
                 self.refused(said, self.words("--receiver", bad, out=fault.split()[0]))
 
-    def test_a_receiver_that_does_not_end(self):
+    def test_a_receiver_that_does_not_end(self) -> None:
         bad = self.program("bad", "hang")
         self.refused("no end within 3 seconds", self.words("--receiver", bad, "--minutes", "0.05"))
 
-    def test_a_receiver_that_hears_no_sync_message_loses_all(self):
+    def test_a_receiver_that_hears_no_sync_message_loses_all(self) -> None:
         bad = self.program("bad", "status 1")
         self.assertEqual(self.ran(self.words("--receiver", bad, frames=6))[0], 0)
         lost = [row for row in self.rows() if row["receiver"] == "bad follow"]
         self.assertEqual([(row["lost"], row["share"]) for row in lost if row["sent"] == "6"], 2 * [("6", "1.0")])
 
-    def test_what_is_kept_when_a_receiver_fails_in_mid_run(self):
+    def test_what_is_kept_when_a_receiver_fails_in_mid_run(self) -> None:
         flag = self.at("flag")
         bad = self.keep("bad", f"#!/bin/sh\n[ -e '{flag}' ] && exit 5\nexec '{self.fake}' \"$@\"\n")
         os.chmod(bad, 0o755)
@@ -316,22 +321,22 @@ class Faults(Curves):
         self.assertEqual(child.wait(timeout=SECONDS), 1)
         self.assertGreaterEqual(self.batches(), 2)
 
-    def test_programs_that_are_not_there(self):
+    def test_programs_that_are_not_there(self) -> None:
         self.refused("no program at .*/missing", self.words(maker=self.at("missing")))
         self.refused("no program at .*/it.script", self.words("--receiver", self.script))
 
-    def test_scripts_that_name_no_channel(self):
+    def test_scripts_that_name_no_channel(self) -> None:
         self.script = os.path.join(EXAMPLES, "second_of_sync.script")
         self.refused("second_of_sync.script: no traffic channel", self.words())
         self.script = self.at("missing.script")
         self.refused("missing.script: No such file", self.words())
 
-    def test_levels_that_samples_cannot_hold(self):
+    def test_levels_that_samples_cannot_hold(self) -> None:
         with open(self.script, encoding="ascii") as file:
             self.script = self.keep("loud.script", file.read().replace("gain=34", "gain=3000"))
         self.refused("leaves the range of samples", self.words())
 
-    def test_wrong_words(self):
+    def test_wrong_words(self) -> None:
         for more in (
             ("--frames", "0"), ("--seed", "-1"), ("--path", "0:1"), ("--path", "7"), ("--minutes", "0"),
             ("--from", "nan"), ("--unknown",),
@@ -344,36 +349,40 @@ class Faults(Curves):
 
 @unittest.skipUnless(PROGRAM, NO_PROGRAM)
 class OfTheProgram(Curves):
-    def measured(self, script, *more, begin, end="", frames=700, out="out"):
+    def measured(
+        self, script: str, *more: str, begin: float, end: float | None = None, frames: int = 700, out: str = "out"
+    ) -> list[dict[str, str]]:
+        """The rows of a run of the program over an example."""
+        assert PROGRAM is not None
         words = [
             PYTHON, "-B", os.path.join(TOOLS, "curve"), os.path.join(EXAMPLES, script), "--from", str(begin),
-            "--to", str(end or begin), "--step", "1", "--frames", str(frames), "--errors", "1000",
+            "--to", str(begin if end is None else end), "--step", "1", "--frames", str(frames), "--errors", "1000",
             "--maker", PROGRAM, "--out", self.at(out), *more,
         ]  # fmt: skip
         code, _, lines = self.ran(words)
         self.assertEqual((code, lines), (0, []))
         return self.rows(out)
 
-    def test_a_list_saves_frames_of_the_same_noise(self):
+    def test_a_list_saves_frames_of_the_same_noise(self) -> None:
         rows = self.measured("frames_9600.script", "--words", "follow", "--words", "list --k 4", begin=2)
         found = {row["receiver"].split(" ", 1)[1]: int(row["errors"]) for row in rows if row["channel"] == "frame 9600"}
         self.assertLess(found["list --k 4"], found["follow"])
         self.assertGreater(found["list --k 4"], 0)
 
-    def test_frames_of_rate_set_2_and_few_lost_where_noise_is_weak(self):
+    def test_frames_of_rate_set_2_and_few_lost_where_noise_is_weak(self) -> None:
         """Where power control bits replace symbols beside dropped ones few are left to tell two words apart, so the
         bound falls slowly: at 9 dB it is 3 in 10,000, and of some hundred frames one may be lost."""
         row, = self.measured("frames_14400.script", begin=9, frames=300)
         self.assertEqual(row["channel"], "frame2 14400")
         self.assertLessEqual(int(row["errors"]), 2)
 
-    def test_messages_are_lost_in_strong_noise(self):
+    def test_messages_are_lost_in_strong_noise(self) -> None:
         rows = {row["channel"]: row for row in self.measured("frames_1200.script", begin=-10, frames=300)}
         self.assertGreater(int(rows["paging"]["errors"]), 0)
         self.assertGreater(int(rows["sync"]["sent"]), 0)
         self.assertEqual(rows["paging"]["errors"], rows["paging"]["lost"])
 
-    def test_a_second_finger_hears_the_second_path(self):
+    def test_a_second_finger_hears_the_second_path(self) -> None:
         rows = self.measured(
             "frames_9600.script", "--path", "7:1j", "--words", "follow", "--words", "follow --fingers 2", begin=5
         )

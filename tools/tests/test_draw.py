@@ -36,7 +36,7 @@ DRAW = loaded("draw")
 
 
 class Reading(unittest.TestCase):
-    def test_the_codes(self):
+    def test_the_codes(self) -> None:
         in_phase, quadrature = DRAW.codes()
         self.assertEqual([(1 - sign) // 2 for sign in in_phase[:16]], [int(bit) for bit in "1010100100111010"])
         self.assertEqual([(1 - sign) // 2 for sign in quadrature[:16]], [int(bit) for bit in "1001111010111010"])
@@ -44,25 +44,25 @@ class Reading(unittest.TestCase):
             self.assertEqual((len(code), int(code.sum())), (32_768, 0))
             self.assertTrue((code[-15:] == 1).all())
 
-    def test_the_best_phase_of_the_example(self):
+    def test_the_best_phase_of_the_example(self) -> None:
         samples, signs = DRAW.read_samples(example("pilot_in_noise.is95"), 2_048), DRAW.codes()
         best = DRAW.best_phase(samples, signs, DRAW.energies(samples, signs))
         self.assertEqual(best, (21_272_219_170, -12_345))
 
-    def test_zeros_have_phase_0(self):
+    def test_zeros_have_phase_0(self) -> None:
         samples, signs = DRAW.read_samples(sample_file([(0, 0)] * 64), 64), DRAW.codes()
         self.assertEqual(DRAW.best_phase(samples, signs, DRAW.energies(samples, signs)), (0, 0))
 
-    def test_a_tie_goes_to_the_least_phase(self):
+    def test_a_tie_goes_to_the_least_phase(self) -> None:
         samples = DRAW.read_samples(sample_file([(1, 0), (1, 0)] + [(0, 0)] * 62, version=2), 64)
         signs = DRAW.codes()
         self.assertEqual(DRAW.best_phase(samples, signs, DRAW.energies(samples, signs)), (8, -5))
 
-    def test_strengths(self):
+    def test_strengths(self) -> None:
         found = DRAW.strengths_of(["survey pn=5 delta=-3 energy=12", "survey pn=0 delta=0 energy=7"])
         self.assertEqual(found, [(5, -3, 12), (0, 0, 7)])
 
-    def test_a_run(self):
+    def test_a_run(self) -> None:
         run = DRAW.run_of(FOLLOWED.splitlines())
         self.assertEqual(run.lanes, {"sync": [(2, 294_848)], "paging channels": [(4, 737_280)], "traffic handoff": [(6, 737_280)]})
         self.assertEqual([frame[:4] for frame in run.frames], [(3, 712_704, 9_600, True), (5, 737_280, 2_400, False)])
@@ -76,25 +76,27 @@ class Reading(unittest.TestCase):
 
 
 class Pictures(unittest.TestCase):
-    def setUp(self):
+    def setUp(self) -> None:
         self.folder = temporary_folder(self.addCleanup)
 
-    def at(self, name):
+    def at(self, name: str) -> str:
+        """The path of a file in the test's folder."""
         return os.path.join(self.folder, name)
 
-    def drawn(self, kind, name, *words, data=b""):
+    def drawn(self, kind: str, name: str, *words: str, data: bytes = b"") -> bytes:
+        """The picture that a run writes."""
         status, wrote, said = run_tool("draw", kind, self.at(name), *words, data=data)
         self.assertEqual((status, wrote, said), (0, b"", ""))
         with open(self.at(name), "rb") as file:
             return file.read()
 
-    def test_a_survey(self):
+    def test_a_survey(self) -> None:
         lines = b"".join(b"survey pn=%d delta=%d energy=%d\n" % (pilot, pilot % 5 - 2, 1000 - pilot) for pilot in range(512))
         self.assertEqual(self.drawn("survey", "a.png", data=lines)[:8], b"\x89PNG\r\n\x1a\n")
         text = self.drawn("survey", "a.svg", "--top", "12", "--log", data=lines)
         self.assertIn(b"12 pilots by their strength", text)
 
-    def test_a_run(self):
+    def test_a_run(self) -> None:
         first = self.drawn("follow", "a.svg", data=FOLLOWED.encode())
         for name in (b"sync", b"paging channels", b"traffic handoff", b"frames 9600", b"power steps", b"pilot 511"):
             self.assertIn(name, first)
@@ -106,21 +108,22 @@ class Pictures(unittest.TestCase):
             file.writelines(line + "\n" for line in FOLLOWED.splitlines() if line.startswith("sets"))
         self.assertIn(b"named", self.drawn("follow", "c.svg", path, "--title", "named"))
 
-    def test_a_correlation(self):
+    def test_a_correlation(self) -> None:
         path = os.path.join(EXAMPLES, "pilot_in_noise.is95")
         text = self.drawn("correlation", "a.svg", path)
         self.assertIn(b"phase 12345, energy 21272219170, over 2,048 samples", text)
         text = self.drawn("correlation", "b.svg", path, "--span", "64", "--phase", "5", "--width", "9")
         self.assertIn(b"chips from phase 5", text)
 
-    def refused(self, why, *words, data=b"", status=1):
+    def refused(self, why: str, *words: str, data: bytes = b"", status: int = 1) -> None:
+        """A run that ends with a status and says why, and writes nothing."""
         ended, wrote, said = run_tool("draw", *words, data=data)
         self.assertEqual((ended, wrote), (status, b""), said)
         self.assertRegex(said, why)
         self.assertNotIn("Traceback", said)
         self.assertEqual(os.listdir(self.folder), [])
 
-    def test_refusals(self):
+    def test_refusals(self) -> None:
         out = self.at("a.png")
         short = sample_file([(1, 2)] * 64)
         self.refused("standard input: no line of survey", "survey", out)
@@ -137,7 +140,7 @@ class Pictures(unittest.TestCase):
         self.refused("No such file", "follow", out, self.at("none.txt"))
         self.refused("No such file", "follow", self.at("none/a.png"), data=FOLLOWED.encode())
 
-    def test_words(self):
+    def test_words(self) -> None:
         self.refused("required: KIND", status=2)
         self.refused("ends neither with .png nor with .svg", "follow", self.at("a.pdf"), status=2)
         self.refused("not 64 to 32,768: '63'", "correlation", self.at("a.png"), "--span", "63", status=2)
@@ -145,7 +148,7 @@ class Pictures(unittest.TestCase):
         self.refused("invalid choice", "find", self.at("a.png"), status=2)
 
     @unittest.skipUnless(PROGRAM, NO_PROGRAM)
-    def test_what_the_program_writes(self):
+    def test_what_the_program_writes(self) -> None:
         _, lines = run_program("survey", "--base", "12345", data=example("pilot_in_noise.is95"))
         self.assertEqual(self.drawn("survey", "a.png", data=lines)[:4], b"\x89PNG")
         _, made = run_program("make", data=example("second_of_paging.script"))

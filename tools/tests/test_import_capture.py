@@ -5,6 +5,7 @@ import json
 import os
 import struct
 import unittest
+from collections.abc import Iterable, Sequence
 
 from tools.tests.helping import (
     NO_PROGRAM,
@@ -22,18 +23,22 @@ from tools.tests.helping import (
 needs("numpy", "scipy")
 
 import numpy  # noqa: E402
+from numpy.typing import NDArray  # noqa: E402
 from scipy.signal import resample_poly  # noqa: E402
 
+Sample = tuple[int, int]
+Taken = tuple[int, int, list[Sample]]
 CHIP_RATE = 1_228_800
 SIXTEEN = [(0, 1), (-1, 255), (256, -256), (32_767, -32_768), (1_234, -4_321)]
 EIGHT = [(0, 1), (-1, 127), (-128, 64), (-64, 2), (99, -99)]
 
 
-def parts_of(samples):
+def parts_of(samples: Iterable[Sample]) -> list[int]:
+    """Both parts of each sample in a row."""
     return [part for sample in samples for part in sample]
 
 
-def recorded(samples, kind):
+def recorded(samples: Iterable[Sample], kind: str) -> bytes:
     """The bytes of a recording of whole samples."""
     parts = parts_of(samples)
     if kind == "cu8":
@@ -43,19 +48,21 @@ def recorded(samples, kind):
 
 
 class Imports(unittest.TestCase):
-    def setUp(self):
+    def setUp(self) -> None:
         self.folder = temporary_folder(self.addCleanup)
         self.out = self.at("out.is95")
 
-    def at(self, name):
+    def at(self, name: str) -> str:
+        """The path of a file in the test's folder."""
         return os.path.join(self.folder, name)
 
-    def keep(self, name, data):
+    def keep(self, name: str, data: bytes) -> str:
+        """Writes a file into the test's folder, and answers its path."""
         with open(self.at(name), "wb") as file:
             file.write(data)
         return self.at(name)
 
-    def taken(self, data, kind, *words, rate=CHIP_RATE):
+    def taken(self, data: bytes, kind: str, *words: object, rate: int | float | str = CHIP_RATE) -> Taken:
         """The version, the flags and the samples of the file that a recording gives."""
         path = self.keep("in.raw", data)
         status, wrote, said = run_tool("import_capture", "--type", kind, "--rate", rate, *words, path, self.out)
@@ -64,7 +71,7 @@ class Imports(unittest.TestCase):
         self.said = said
         return read_file(self.out)
 
-    def refused(self, why, *words, status=1):
+    def refused(self, why: str, *words: object, status: int = 1) -> None:
         """A run that ends with words of why, and writes nothing."""
         ended, wrote, said = run_tool("import_capture", *words)
         self.assertEqual((ended, wrote), (status, b""), said)
@@ -75,12 +82,12 @@ class Imports(unittest.TestCase):
 
 
 class WholeSamples(Imports):
-    def test_sixteen_bits_as_they_are(self):
+    def test_sixteen_bits_as_they_are(self) -> None:
         for kind in ("ci16_le", "ci16_be"):
             self.assertEqual(self.taken(recorded(SIXTEEN, kind), kind), (1, 0, SIXTEEN))
             self.assertEqual(self.said, "5 chips, scale 1, greatest part 32768 of 32767\n")
 
-    def test_the_bytes_of_a_file(self):
+    def test_the_bytes_of_a_file(self) -> None:
         self.taken(bytes([0xD2, 0x04, 0x1F, 0xEF]), "ci16_le")
         with open(self.out, "rb") as file:
             self.assertEqual(file.read(), b"IS95" + bytes([0, 1, 0, 0, 0, 0, 0, 0, 0, 0, 0, 1, 0x04, 0xD2, 0xEF, 0x1F]))
@@ -88,56 +95,56 @@ class WholeSamples(Imports):
         with open(self.out, "rb") as file:
             self.assertEqual(file.read(), b"IS95" + bytes([0, 2, 0, 1, 0, 0, 0, 0, 0, 0, 0, 1, 5, 0xFB]))
 
-    def test_eight_bits_in_both_versions(self):
+    def test_eight_bits_in_both_versions(self) -> None:
         for kind in ("ci8", "cu8"):
             for version in (1, 2):
                 self.assertEqual(self.taken(recorded(EIGHT, kind), kind, "--version", version), (version, 0, EIGHT))
 
-    def test_unsigned_zero_is_128(self):
+    def test_unsigned_zero_is_128(self) -> None:
         self.assertEqual(self.taken(bytes([128, 127, 0, 255]), "cu8")[2], [(0, -1), (-128, 127)])
 
-    def test_flags(self):
+    def test_flags(self) -> None:
         data = recorded(EIGHT, "ci8")
         self.assertEqual(self.taken(data, "ci8", "--complement-30")[1], 1)
         self.assertEqual(self.taken(data, "ci8", "--complement-16")[1], 2)
         self.assertEqual(self.taken(data, "ci8", "--complement-16", "--complement-30")[1], 3)
 
-    def test_scale_rounds_to_the_nearest_even(self):
+    def test_scale_rounds_to_the_nearest_even(self) -> None:
         taken = self.taken(recorded([(1, 3), (-1, -3), (5, 2)], "ci16_le"), "ci16_le", "--scale", "0.5")
         self.assertEqual(taken[2], [(0, 2), (0, -2), (2, 1)])
 
-    def test_fit(self):
+    def test_fit(self) -> None:
         taken = self.taken(recorded([(1_000, -500), (0, 250)], "ci16_le"), "ci16_le", "--scale", "fit", "--version", 2)
         self.assertEqual(taken[2], [(127, -64), (0, 32)])
         taken = self.taken(recorded([(-10, 5)], "ci8"), "ci8", "--scale", "fit")
         self.assertEqual(taken[2], [(-32_767, 16_384)])
         self.assertEqual(self.taken(recorded([(0, 0)], "ci8"), "ci8", "--scale", "fit")[2], [(0, 0)])
 
-    def test_skip_and_count(self):
+    def test_skip_and_count(self) -> None:
         data = recorded(SIXTEEN, "ci16_le")
         self.assertEqual(self.taken(data, "ci16_le", "--skip", 1, "--count", 3)[2], SIXTEEN[1:4])
         self.assertEqual(self.taken(data, "ci16_le", "--skip", 4, "--count", 9)[2], SIXTEEN[4:])
 
-    def test_standard_output(self):
+    def test_standard_output(self) -> None:
         path = self.keep("in.raw", recorded(SIXTEEN, "ci16_be"))
         status, wrote, _ = run_tool("import_capture", "--type", "ci16_be", "--rate", CHIP_RATE, path, "-")
         self.assertEqual((status, taken_apart(wrote)), (0, (1, 0, SIXTEEN)))
 
 
 class Multiples(Imports):
-    def setUp(self):
+    def setUp(self) -> None:
         super().setUp()
         self.samples = [(k * k - 40, 3 * k - 20) for k in range(17)]
         self.data = recorded(self.samples, "ci16_le")
 
-    def test_one_in_so_many(self):
+    def test_one_in_so_many(self) -> None:
         for multiple in (2, 3, 4):
             for offset in range(multiple):
                 taken = self.taken(self.data, "ci16_le", "--offset", offset, rate=multiple * CHIP_RATE)
                 self.assertEqual(taken[2], self.samples[offset::multiple])
         self.assertEqual(self.taken(self.data, "ci16_le", rate=4 * CHIP_RATE)[2], self.samples[::4])
 
-    def test_sums(self):
+    def test_sums(self) -> None:
         for multiple in (2, 4):
             for offset in range(multiple):
                 taken = self.taken(self.data, "ci16_le", "--sum", "--offset", offset, rate=multiple * CHIP_RATE)
@@ -148,55 +155,56 @@ class Multiples(Imports):
                 ]
                 self.assertEqual(taken[2], sums)
 
-    def test_a_sum_that_does_not_fit(self):
+    def test_a_sum_that_does_not_fit(self) -> None:
         path = self.keep("in.raw", recorded([(30_000, 0), (2_767, 1), (30_000, 0), (2_768, -1)], "ci16_le"))
         words = ["--type", "ci16_le", "--rate", 2 * CHIP_RATE, "--sum", path, self.out]
         self.refused(r"chip 1 would be \(32768, -1\), and version 1 holds -32768 to 32767", *words)
 
-    def test_count_with_a_multiple(self):
+    def test_count_with_a_multiple(self) -> None:
         taken = self.taken(self.data, "ci16_le", "--offset", 1, "--count", 2, "--skip", 1, rate=3 * CHIP_RATE)
         self.assertEqual(taken[2], [self.samples[2], self.samples[5]])
 
 
 class FloatingPoint(Imports):
-    def test_default_scale(self):
+    def test_default_scale(self) -> None:
         data = struct.pack("<6f", 0.5, -0.25, 0.125, 0.0, -0.5, 0.25)
         self.assertEqual(self.taken(data, "cf32_le")[2], [(32_767, -16_384), (8_192, 0), (-32_767, 16_384)])
         self.assertEqual(self.taken(data, "cf32_le", "--version", 2)[2], [(127, -64), (32, 0), (-127, 64)])
 
-    def test_scale(self):
+    def test_scale(self) -> None:
         data = struct.pack("<4f", 1.0, -2.0, 0.24, 0.26)
         self.assertEqual(self.taken(data, "cf32_le", "--scale", "10")[2], [(10, -20), (2, 3)])
 
-    def test_zeros(self):
+    def test_zeros(self) -> None:
         self.assertEqual(self.taken(bytes(16), "cf32_le")[2], [(0, 0), (0, 0)])
 
-    def test_a_scale_that_is_too_great(self):
+    def test_a_scale_that_is_too_great(self) -> None:
         path = self.keep("in.raw", struct.pack("<4f", 0.0, 0.0, 0.5, -4.0))
         words = ["--type", "cf32_le", "--rate", CHIP_RATE, "--scale", "10000", path, self.out]
         self.refused(r"chip 1 would be \(5000, -40000\).*at most 8191.75, or --scale fit", *words)
 
-    def test_what_is_not_finite(self):
+    def test_what_is_not_finite(self) -> None:
         for value in (float("nan"), float("inf"), -float("inf")):
             path = self.keep("in.raw", struct.pack("<4f", 0.0, 0.0, 1.0, value))
             self.refused("sample 1 isn't finite", "--type", "cf32_le", "--rate", CHIP_RATE, path, self.out)
 
 
 class OtherRates(Imports):
-    def test_resampled_as_scipy_does(self):
+    def test_resampled_as_scipy_does(self) -> None:
         draw = numpy.random.default_rng(95)
         parts = draw.integers(-2_000, 2_000, 2 * 2_000)
         for rate, up, down in ((2_048_000, 3, 5), (2_000_000, 384, 625), ("1843200", 2, 3)):
             taken = self.taken(parts.astype("<i2").tobytes(), "ci16_le", rate=rate)
             self.check_resampled(taken, parts, up, down)
 
-    def check_resampled(self, taken, parts, up, down):
+    def check_resampled(self, taken: Taken, parts: NDArray[numpy.int64], up: int, down: int) -> None:
+        """The samples are those that scipy makes of the parts, at the scale that fits."""
         both = [resample_poly(parts[k::2].astype(float), up, down) for k in (0, 1)]
         scale = 32_767 / max(abs(branch).max() for branch in both)
         wanted = [numpy.rint(scale * branch).astype(int).tolist() for branch in both]
         self.assertEqual(taken[2], list(zip(*wanted)))
 
-    def test_the_first_chips_do_not_hang_on_the_rest(self):
+    def test_the_first_chips_do_not_hang_on_the_rest(self) -> None:
         draw = numpy.random.default_rng(96)
         data = draw.integers(-2_000, 2_000, 2 * 4_000).astype("<i2").tobytes()
         whole = self.taken(data, "ci16_le", "--scale", "2", rate=2_048_000)[2]
@@ -205,32 +213,35 @@ class OtherRates(Imports):
 
 
 class Turned(Imports):
-    def test_a_quarter_of_the_rate(self):
+    def test_a_quarter_of_the_rate(self) -> None:
         data = recorded([(100, 0)] * 5, "ci16_le")
         taken = self.taken(data, "ci16_le", "--shift", CHIP_RATE // 4, "--scale", "1")
         self.assertEqual(taken[2], [(100, 0), (0, -100), (-100, 0), (0, 100), (100, 0)])
         taken = self.taken(data, "ci16_le", f"--shift={-CHIP_RATE // 4}", "--scale", "1")
         self.assertEqual(taken[2], [(100, 0), (0, 100), (-100, 0), (0, -100), (100, 0)])
 
-    def test_a_carrier_is_brought_to_zero(self):
+    def test_a_carrier_is_brought_to_zero(self) -> None:
         at = numpy.arange(4_000)
         wave = 0.5 * numpy.exp(2j * numpy.pi * 12_345.0 / (2 * CHIP_RATE) * at)
         data = numpy.stack([wave.real, wave.imag], axis=1).astype("<f4").tobytes()
         taken = self.taken(data, "cf32_le", "--shift", "12345", "--scale", "2000", rate=2 * CHIP_RATE)
         self.assertEqual(set(taken[2]), {(1_000, 0)})
 
-    def test_no_turn_leaves_whole_samples(self):
+    def test_no_turn_leaves_whole_samples(self) -> None:
         self.assertEqual(self.taken(recorded(SIXTEEN, "ci16_le"), "ci16_le", "--shift", "0")[2], SIXTEEN)
 
 
 class SigMF(Imports):
-    def meta(self, fields, captures=(), name="radio"):
+    def meta(
+        self, fields: dict[str, object], captures: Sequence[dict[str, object]] = (), name: str = "radio"
+    ) -> str:
+        """Writes the metadata of a recording, and answers their path."""
         path = self.at(name + ".sigmf-meta")
         with open(path, "w") as file:
             json.dump({"global": fields, "captures": list(captures), "annotations": []}, file)
         return path
 
-    def test_each_type(self):
+    def test_each_type(self) -> None:
         for kind, samples in (("ci16_le", SIXTEEN), ("ci16_be", SIXTEEN), ("ci8", EIGHT), ("cu8", EIGHT)):
             data = recorded(samples, kind)
             self.keep("radio.sigmf-data", data)
@@ -240,14 +251,14 @@ class SigMF(Imports):
             self.assertEqual(status, 0, said)
             self.assertEqual(read_file(self.out), (1, 0, samples))
 
-    def test_a_dataset_by_name_and_a_rate_by_option(self):
+    def test_a_dataset_by_name_and_a_rate_by_option(self) -> None:
         self.keep("kept.bin", recorded(EIGHT, "ci8"))
         path = self.meta({"core:datatype": "ci8", "core:dataset": "kept.bin"})
         status, _, said = run_tool("import_capture", "--rate", 2 * CHIP_RATE, path, self.out)
         self.assertEqual(status, 0, said)
         self.assertEqual(read_file(self.out)[2], EIGHT[::2])
 
-    def test_what_is_refused(self):
+    def test_what_is_refused(self) -> None:
         self.keep("radio.sigmf-data", recorded(EIGHT, "ci8"))
         good = {"core:datatype": "ci8", "core:sample_rate": CHIP_RATE}
         for why, fields, captures in (
@@ -277,7 +288,7 @@ class SigMF(Imports):
 
 
 class Refusals(Imports):
-    def test_recordings(self):
+    def test_recordings(self) -> None:
         path = self.keep("in.raw", recorded(SIXTEEN, "ci16_le"))
         chip_rate = ["--type", "ci16_le", "--rate", CHIP_RATE]
         for why, words in (
@@ -298,14 +309,14 @@ class Refusals(Imports):
             with self.subTest(why):
                 self.refused(why, *words, self.out)
 
-    def test_too_many_chips(self):
+    def test_too_many_chips(self) -> None:
         path = self.at("long.raw")
         with open(path, "wb") as file:
             file.truncate(2 * 33_554_433)
         words = ["--type", "ci8", "--rate", CHIP_RATE, path, self.out]
         self.refused("33554433 chips, and a file of version 1 holds at most 33554432: give --count", *words)
 
-    def test_words(self):
+    def test_words(self) -> None:
         path = self.keep("in.raw", recorded(SIXTEEN, "ci16_le"))
         for why, words in (
             ("--type and --rate needed", [path]),
@@ -324,12 +335,12 @@ class Refusals(Imports):
                 self.refused(why, *words, self.out, status=2)
         self.refused("is a folder", "--type", "ci8", "--rate", CHIP_RATE, path, self.folder, status=2)
 
-    def test_no_place_to_write(self):
+    def test_no_place_to_write(self) -> None:
         path = self.keep("in.raw", recorded(SIXTEEN, "ci16_le"))
         words = ["--type", "ci16_le", "--rate", CHIP_RATE, path, self.at("none/out.is95")]
         self.refused("No such file", *words)
 
-    def test_an_older_file_stays_where_nothing_is_written(self):
+    def test_an_older_file_stays_where_nothing_is_written(self) -> None:
         old = self.keep("old.is95", b"old")
         path = self.keep("in.raw", recorded(SIXTEEN, "ci16_le"))
         status, _, _ = run_tool("import_capture", "--type", "cf32_le", "--rate", CHIP_RATE, path, old)
@@ -338,18 +349,18 @@ class Refusals(Imports):
             self.assertEqual(file.read(), b"old")
 
 
-def turned_into(samples, kind):
+def turned_into(samples: list[Sample], kind: str) -> bytes:
     """The samples of 16 bits as a recording of a type, with so much of them as it holds."""
     if kind in ("ci8", "cu8"):
         most = max(abs(part) for sample in samples for part in sample)
-        samples = [tuple(round(part * 127 / most) for part in sample) for sample in samples]
+        samples = [(round(first * 127 / most), round(second * 127 / most)) for first, second in samples]
     if kind == "cf32_le":
         return struct.pack(f"<{2 * len(samples)}f", *(part / 32_768 for part in parts_of(samples)))
     return recorded(samples, kind)
 
 
 class OfTheExample(Imports):
-    def test_whole_samples_give_the_example_back(self):
+    def test_whole_samples_give_the_example_back(self) -> None:
         samples = taken_apart(example("pilot_in_noise.is95"))[2]
         for kind in ("ci16_le", "ci16_be"):
             self.taken(recorded(samples, kind), kind)
@@ -360,7 +371,7 @@ class OfTheExample(Imports):
             self.assertEqual(file.read(), example("pilot_in_noise.is95"))
 
     @unittest.skipUnless(PROGRAM, NO_PROGRAM)
-    def test_the_pilot_of_each_type_is_found(self):
+    def test_the_pilot_of_each_type_is_found(self) -> None:
         samples = taken_apart(example("pilot_in_noise.is95"))[2]
         for kind in ("ci16_le", "ci16_be", "ci8", "cu8", "cf32_le"):
             for words in ([], ["--version", "2", "--scale", "fit"]):
@@ -373,7 +384,7 @@ class OfTheExample(Imports):
                     self.assertEqual(wrote, b"pilot phase=12345 energy=21272219170\n")
 
     @unittest.skipUnless(PROGRAM, NO_PROGRAM)
-    def test_each_type_is_followed(self):
+    def test_each_type_is_followed(self) -> None:
         status, made = run_program("make", data=example("second_of_paging.script"))
         self.assertEqual(status, 0)
         status, wanted = run_program("follow", data=made)
@@ -387,7 +398,7 @@ class OfTheExample(Imports):
             self.assertEqual(wrote.split(b"\n")[1:], wanted.split(b"\n")[1:])
 
     @unittest.skipUnless(PROGRAM, NO_PROGRAM)
-    def test_other_rates_are_followed(self):
+    def test_other_rates_are_followed(self) -> None:
         _, made = run_program("make", data=example("second_of_paging.script"))
         _, wanted = run_program("follow", data=made)
         parts = numpy.frombuffer(made[16:], dtype=">i2").reshape(-1, 2).astype(float)
@@ -406,7 +417,7 @@ class OfTheExample(Imports):
 
 
 class OfTheHelpers(unittest.TestCase):
-    def test_a_sample_file_is_taken_apart(self):
+    def test_a_sample_file_is_taken_apart(self) -> None:
         for version, samples in ((1, SIXTEEN), (2, EIGHT)):
             self.assertEqual(taken_apart(sample_file(samples, version, 2)), (version, 2, samples))
 
