@@ -14,7 +14,7 @@ fn flag_of(worker: u8) -> u64 {
 
 /// Waits until a word is 1, or so many turns are spent.
 fn wait_for(word: &AtomicU64) {
-    for _ in 0..1_000_000_000u32 {
+    for _ in 0..10_000_000_000u64 {
         if word.load(Ordering::SeqCst) == 1 {
             break;
         }

@@ -191,8 +191,7 @@ pub ready_writer : (writer : FrameWriter) → ∥ IsReady writer ∥₁ → IsRe
 ready_writer (writers.RateSetTwo decoder) is = there_le 288 decoder is (λ x. x)
 ready_writer (writers.Listed decoder k) is = (
   there_le 192 decoder is (λ x. x.0),
-  there_le 1 k is (λ x. x.1),
-  there_le k 16 is (λ x. x.2),
+  (there_le 1 k is (λ x. x.1.0), there_le k 16 is (λ x. x.1.1)),
 )
 ready_writer (writers.Slots slots) is = ready_slots slots is
 
