@@ -4,6 +4,7 @@ import math
 import os
 import re
 import unittest
+import warnings
 
 from tools.tests.helping import EXAMPLES, NO_PROGRAM, PROGRAM, PYTHON, TOOLS, needs, temporary_folder
 
@@ -267,7 +268,8 @@ class Runs(unittest.TestCase):
         """A run within this process over a radio whose locks end so, one after the other."""
         words = ("--from", 6, "--to", 6, "--step", 1, "--frames", 9, "--workers", 1, "--channel", "")
         words += ("--out", self.at("out"))
-        with mock.patch.object(antenna, "lock", side_effect=locks):
+        with mock.patch.object(antenna, "lock", side_effect=locks), warnings.catch_warnings():
+            warnings.simplefilter("ignore")  # of Debian's tornado, which a test's process shows and a tool's doesn't
             return run_main("curve", self.short_script(1_000_000), "--maker", PROGRAM, *words)
 
     @unittest.skipUnless(PROGRAM, NO_PROGRAM)
