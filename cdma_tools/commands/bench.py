@@ -294,11 +294,11 @@ def run_processor_seconds(program: str, words: list[str], path: str, wanted: int
     return used.ru_utime + used.ru_stime
 
 
-def decoder_seconds() -> float:
+def one_decoding_seconds() -> float:
     """Processor seconds of one decoding of 192 bits by the program's decoder, less a run's start."""
-    test, times = DECODINGS[1][3]
-    whole = test_processor_seconds(TESTS, f"{DECODER}::timing::{test}")
-    return (whole - test_processor_seconds(TESTS, SHORT_TEST)) / times
+    _, _, test, times = DECODINGS[1]
+    start = test_processor_seconds(TESTS, f"{DECODER}::{SHORT_TEST}")
+    return (test_processor_seconds(TESTS, f"{DECODER}::{test}") - start) / times
 
 
 def print_libraries(program: str) -> None:
@@ -318,7 +318,7 @@ def print_libraries(program: str) -> None:
             """The search by one worker, less the start of a run that does nothing and ends with status 2."""
             return run_processor_seconds(program, words, path) - run_processor_seconds(program, [], path, 2)
 
-        print_peers(decoder_seconds if os.access(TESTS, os.X_OK) else None, search, path, found[1].decode())
+        print_peers(one_decoding_seconds if os.access(TESTS, os.X_OK) else None, search, path, found[1].decode())
 
 
 def main(arguments: list[str] | None = None) -> int:

@@ -577,7 +577,7 @@ class BacklogTest(unittest.TestCase):
 
     def test_what_finds_no_room_is_counted(self) -> None:
         """Samples that tell their own numbers: those that come and those that are told to be missing are all."""
-        backlog, draws, place = Backlog(1 << 14), random.Random(1), 0
+        backlog, draws = Backlog(1 << 14), random.Random(1)
         server = Server([b""])
         reader = ServerReader(server_of(server.address, RATE, 2, None), backlog)
         self.addCleanup(reader.connection.close)
