@@ -81,7 +81,7 @@ def print_decoders(folder: str, ours: Timed | None, rounds: int) -> None:
     if ours:
         works = {"ours": ours, **works}
     else:
-        print(f"{'ours':<{WIDTH}} not measured: the tests of reference_decoders aren't built")
+        print(f"{'ours':<{WIDTH}} not measured: the tests of receiver_tests aren't built")
     lacks = {library.name: library.lacks for library in DECODERS}
     for name, seconds in in_turns(works, rounds).items():
         row(name, 1e3 * seconds, 1e9 * seconds / (STATES * BITS), lacks.get(name, ""))
