@@ -351,7 +351,9 @@ def run(options: argparse.Namespace) -> int:
         if setup.antenna:
             check_lock(setup, setup.antenna, ready)
         rule = Rule(options.frames, options.errors)
-        ledger = Ledger(list(levels), rule, -(-options.frames // frames), store.done(len(setup.curves)))
+        # A lock may begin after the first frames of a recording, so that a file has fewer of them.
+        most = -(-options.frames * (2 if setup.antenna else 1) // frames)
+        ledger = Ledger(list(levels), rule, most, store.done(len(setup.curves)))
         measure(options, setup, ledger, levels, store)
     finally:
         store.close()
