@@ -18,9 +18,11 @@ from unittest import mock  # noqa: E402
 import numpy  # noqa: E402
 from scipy import integrate, special, stats  # noqa: E402
 
+from cdma_tools.commands import curve  # noqa: E402
 from cdma_tools.curves import antenna, bound, counting, levels, report  # noqa: E402
 from cdma_tools.curves.batch import fingers_of  # noqa: E402
 from cdma_tools.curves.counting import Count, Heard  # noqa: E402
+from cdma_tools.curves.plan import Done, Ledger, Rule  # noqa: E402
 from cdma_tools.errors import Refused  # noqa: E402
 from cdma_tools.radio.channel import Path, Radio  # noqa: E402
 from cdma_tools.radio.locking import Locked  # noqa: E402
@@ -31,6 +33,11 @@ CHIPS = 500_000
 RATE = Fraction(2_400_000)
 FRAME = 24_576
 SENT = Frame("frame", 9_600, "8:aa")
+# A lock whose pilot is heard throughout.
+FOUND = Locked(
+    0.0, 0.0, 0.0, 0, -9.0, [], False, False, 0, 900_000, 1.0, [], 0,
+    begin=0.0, end=0.7, seconds=0.8, is_part=False,
+)  # fmt: skip
 
 
 class Locks(unittest.TestCase):
@@ -264,13 +271,13 @@ class Runs(unittest.TestCase):
         self.assertLessEqual(int(row["errors"]), 2)
         self.assertTrue(os.path.getsize(os.path.join(self.at("out"), "curve.png")) > 1_000)
 
-    def in_process(self, locks: list[Locked | Refused]) -> tuple[int, str, str]:
-        """A run within this process over a radio whose locks end so, one after the other."""
+    def in_process(self, locks: list[Locked | Refused], *more: object) -> tuple[int, str, str]:
+        """A run within this process over a radio whose locks end so, one after the other, with more arguments."""
         words = ("--from", 6, "--to", 6, "--step", 1, "--frames", 9, "--workers", 1, "--channel", "")
         words += ("--out", self.at("out"))
         with mock.patch.object(antenna, "lock", side_effect=locks), warnings.catch_warnings():
             warnings.simplefilter("ignore")  # of Debian's tornado, which a test's process shows and a tool's doesn't
-            return run_main("curve", self.short_script(1_000_000), "--maker", PROGRAM, *words)
+            return run_main("curve", self.short_script(1_000_000), "--maker", PROGRAM, *words, *more)
 
     @unittest.skipUnless(PROGRAM, NO_PROGRAM)
     def test_a_link_on_which_there_is_no_lock_is_refused(self) -> None:
@@ -280,11 +287,7 @@ class Runs(unittest.TestCase):
 
     @unittest.skipUnless(PROGRAM, NO_PROGRAM)
     def test_what_is_in_a_file_without_a_lock_is_the_locks_loss(self) -> None:
-        found = Locked(
-            0.0, 0.0, 0.0, 0, -9.0, [], False, False, 0, 900_000, 1.0, [], 0,
-            begin=0.0, end=0.7, seconds=0.8, is_part=False,
-        )  # fmt: skip
-        status, table, said = self.in_process([found, *[Refused("no pilot stands out") for _ in range(9)]])
+        status, table, said = self.in_process([FOUND, *[Refused("no pilot stands out") for _ in range(9)]])
         self.assertEqual((status, said), (0, ""))
         row, = self.rows().values()
         self.assertEqual((row["unlocked"], row["errors"], row["lost"]), (row["sent"], row["sent"], "0"))
@@ -292,6 +295,23 @@ class Runs(unittest.TestCase):
         self.assertEqual(row["receiver"], "cdma_replay follow over one path")
         ends = [line.split()[-1] for line in table.splitlines()[1:]]
         self.assertTrue(all(end.startswith("0/0/0/0/0/") and not end.endswith("/0") for end in ends), table)
+
+    @unittest.skipUnless(PROGRAM, NO_PROGRAM)
+    def test_files_may_have_fewer_frames_than_the_script(self) -> None:
+        """A lock may begin after a file's first frames: so twice as many files may be counted as the script would need."""
+        most: list[int] = []
+
+        def ledger(points: list[int], rule: Rule, files: int, done: Done) -> Ledger:
+            """The ledger, whose greatest number of files is kept."""
+            most.append(files)
+            return Ledger(points, rule, files, done)
+
+        locks: list[Locked | Refused] = [FOUND, *[Refused("no pilot stands out") for _ in range(99)]]
+        with mock.patch.object(curve, "Ledger", ledger):
+            status, _, said = self.in_process(locks, "--frames", 1_000, "--errors", 1)
+        self.assertEqual((status, said), (0, ""))
+        row, = self.rows().values()
+        self.assertEqual(most, [-(-2_000 // int(row["sent"]))])
 
 
 if __name__ == "__main__":
