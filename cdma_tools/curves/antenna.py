@@ -19,7 +19,7 @@ from cdma_tools.radio.air import CHIP_RATE, PERIOD
 from cdma_tools.radio.channel import Cell, Link, Path, Radio, record
 from cdma_tools.radio.locking import START_PART, START_SECONDS, Locked, Options, lock
 
-# Seconds behind the last place at which a lock begins by its own choice: a later beginning is a pilot that was lost.
+# Seconds after the last place at which a lock begins by its own choice: a later beginning is a pilot that was lost.
 LATE = 0.02
 # Samples at the end of a recording that a lock doesn't write: its filter's length.
 LOCK_EDGE = 32

@@ -17,7 +17,7 @@ MARGIN = 4
 
 
 def sequence(seed: int, point: int, batch: int) -> numpy.random.SeedSequence:
-    """What the noise of a file hangs on: the seed's sequence, spawned by point and batch."""
+    """What the noise of a file depends on: the seed's sequence, spawned by point and batch."""
     return numpy.random.SeedSequence(entropy=seed, spawn_key=(point % (1 << 32), batch))
 
 
