@@ -19,7 +19,8 @@ use Rattle.cdma_io.specs.declared.file_fault.FileFault.TheVariants.{Magic, Versi
 use Rattle.cdma_io.specs.declared.header.Header.{Header}
 use Rattle.chip_core.specs.declared.width.Width.{Width}
 use Rattle.chip_core.specs.declared.width.Width.TheVariants.{Sixteen, Eight}
-use Rattle.cdma_io.specs.SampleFile.{IsLawfulHeader, Opens, Reading, flags_of, form_flag, form_of, header_due, header_spelling, is_version}
+use Rattle.cdma_io.specs.SampleFile.{IsLawfulHeader, Opens, Reading, flags_of, form_flag, check_form_of, header_due, header_spelling}
+use Rattle.cdma_io.specs.SampleFile.{is_version}
 use Rattle.cdma_io.specs.SampleFile.{magic, most_samples, opening, width_in, width_of}
 use Rattle.cdma_io.proofs.ByteNumbers.{AreBytes, AreBytes-drop, big_bytes-front}
 
@@ -31,21 +32,21 @@ then_ok true x e y h = (refl, h)
 then_ok false x e y h = absurd (cc)
 
 -- a form gives its flag, and the flag the form
-flag_of_form : (n : ℕ) → form_flag (form_of (eqb (n % 2) 1)) ≡ n % 2
+flag_of_form : (n : ℕ) → form_flag (check_form_of (eqb (n % 2) 1)) ≡ n % 2
 flag_of_form n = elim (eqb_tells (n % 2) 1) [
-  | inl set ↦ ap (λ (b : Bool). form_flag (form_of b)) set.0 ∙ sym set.1
+  | inl set ↦ ap (λ (b : Bool). form_flag (check_form_of b)) set.0 ∙ sym set.1
   | inr clear ↦
       let none : n % 2 ≡ 0 = omega (arith, clear.1) in
-      ap (λ (b : Bool). form_flag (form_of b)) clear.0 ∙ sym none
+      ap (λ (b : Bool). form_flag (check_form_of b)) clear.0 ∙ sym none
 ]
 
-form30_read : (a b : CheckForm) → form_of (eqb ((form_flag a + 2 * form_flag b) % 2) 1) ≡ a
+form30_read : (a b : CheckForm) → check_form_of (eqb ((form_flag a + 2 * form_flag b) % 2) 1) ≡ a
 form30_read Plain Plain = refl
 form30_read Plain Complemented = refl
 form30_read Complemented Plain = refl
 form30_read Complemented Complemented = refl
 
-form16_read : (a b : CheckForm) → form_of (eqb ((form_flag a + 2 * form_flag b) / 2 % 2) 1) ≡ b
+form16_read : (a b : CheckForm) → check_form_of (eqb ((form_flag a + 2 * form_flag b) / 2 % 2) 1) ≡ b
 form16_read Plain Plain = refl
 form16_read Plain Complemented = refl
 form16_read Complemented Plain = refl
@@ -90,7 +91,7 @@ header_due-lawful header lawful =
     λ a b. Ok (record { version = header.version; check30 = a; check16 = b; count = header.count })
     in
     cond-true _ _ _ version ∙ cond-true _ _ _ flags ∙ cond-true _ _ _ count
-    ∙ ap (λ (a : CheckForm). make a (form_of (eqb (flags_of header / 2 % 2) 1)))
+    ∙ ap (λ (a : CheckForm). make a (check_form_of (eqb (flags_of header / 2 % 2) 1)))
     (form30_read header.check30 header.check16)
     ∙ ap (make header.check30) (form16_read header.check30 header.check16)
 
@@ -110,8 +111,8 @@ header_due-ok version flags count header h =
     let few : flags < 4 = ltb-true flags 4 b.0 in
     let made : Header = record {
       version = version;
-      check30 = form_of (eqb (flags % 2) 1);
-      check16 = form_of (eqb (flags / 2 % 2) 1);
+      check30 = check_form_of (eqb (flags % 2) 1);
+      check16 = check_form_of (eqb (flags / 2 % 2) 1);
       count = count;
     } in
     let same : made ≡ header = cc in
@@ -262,8 +263,8 @@ due_header : (version flags count : ℕ) → is_version version ≡ true → fla
     count ≤ most_samples (width_in version) →
     header_due version flags count ≡ Ok (record {
       version = version;
-      check30 = form_of (eqb (flags % 2) 1);
-      check16 = form_of (eqb (flags / 2 % 2) 1);
+      check30 = check_form_of (eqb (flags % 2) 1);
+      check16 = check_form_of (eqb (flags / 2 % 2) 1);
       count = count;
     })
 due_header version flags count known few fits =
@@ -337,7 +338,7 @@ parsed_count bytes version flags count p limit limit_is many =
 pub parsed_header : (bytes : List ℕ) (version flags count : ℕ) (check30 check16 : CheckForm) →
     AreParsed bytes version flags count →
     (limit : ℕ) → limit ≡ most_samples (width_in version) → count ≤ limit →
-    check30 ≡ form_of (eqb (flags % 2) 1) → check16 ≡ form_of (eqb (flags / 2 % 2) 1) →
+    check30 ≡ check_form_of (eqb (flags % 2) 1) → check16 ≡ check_form_of (eqb (flags / 2 % 2) 1) →
     Ok (record { version = version; check30 = check30; check16 = check16; count = count }) ≡
     opening bytes
 parsed_header bytes version flags count check30 check16 p limit limit_is fits first second =
@@ -346,7 +347,7 @@ parsed_header bytes version flags count check30 check16 p limit limit_is fits fi
     sym (
     opening-due bytes version flags count p.long p.begins p.version_is p.flags_are p.count_is
     ∙ due_header version flags count p.known p.few (omega (arith, limit_is, fits))
-    ∙ ap (λ (a : CheckForm). make a (form_of (eqb (flags / 2 % 2) 1))) (sym first)
+    ∙ ap (λ (a : CheckForm). make a (check_form_of (eqb (flags / 2 % 2) 1))) (sym first)
     ∙ ap (make check30) (sym second)
     )
 

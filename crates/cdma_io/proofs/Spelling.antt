@@ -17,12 +17,12 @@ use Rattle.byteorder.specs.Numbers.{big_from-lt, big_number-reads_back, length-b
 use Rattle.chip_core.specs.declared.sample.Sample.{Sample}
 use Rattle.chip_core.specs.declared.width.Width.{Width}
 use Rattle.chip_core.specs.declared.width.Width.TheVariants.{Sixteen, Eight}
-use Rattle.cdma_io.specs.SampleFile.{HasBits, bits_of, part_len, part_spelling, sample_len, sample_spelling}
+use Rattle.cdma_io.specs.SampleFile.{HasBits, integer_width_of, part_len, part_spelling, sample_len, sample_spelling}
 use Rattle.cdma_io.proofs.ByteNumbers.{AreBytes, AreBytes-take, AreBytes-drop, big_bytes-number, big_number-take}
 
 -- the part in the first bytes of a list
 abbrev pub part_in : Width → List ℕ → ℤ
-part_in width bytes = cast_signed (bits_of width) (big_number (part_len width) bytes)
+part_in width bytes = cast_signed (integer_width_of width) (big_number (part_len width) bytes)
 
 -- the sample in the first bytes of a list
 abbrev pub sample_in : Width → List ℕ → Sample
@@ -38,7 +38,7 @@ sample_len-some Sixteen = omega arith
 sample_len-some Eight = omega arith
 
 -- a part has as many values as its bytes
-part_values : (width : Width) → 2 ^ bits (bits_of width) ≡ 256 ^ part_len width
+part_values : (width : Width) → 2 ^ bits (integer_width_of width) ≡ 256 ^ part_len width
 part_values Sixteen = refl
 part_values Eight = refl
 
@@ -54,26 +54,26 @@ part_bytes : (width : Width) (bytes : List ℕ) → length bytes ≡ part_len wi
 part_bytes width bytes long small =
     let below : big_number (part_len width) bytes < 256 ^ part_len width =
     big_from-lt 0 (part_len width) bytes small in
-    let fits : big_number (part_len width) bytes < 2 ^ bits (bits_of width) =
+    let fits : big_number (part_len width) bytes < 2 ^ bits (integer_width_of width) =
     omega (arith, below, part_values width) in
     ap (big_bytes (part_len width))
-    (of_z-to_z (bits_of width) (big_number (part_len width) bytes) fits) ∙
+    (of_z-to_z (integer_width_of width) (big_number (part_len width) bytes) fits) ∙
     big_bytes-number (part_len width) bytes long small
 
 -- a part in two's complement fits its bytes
-part_below : (width : Width) (part : ℤ) → FitsSigned (bits_of width) part →
-    cast_unsigned (bits_of width) part < 256 ^ part_len width
+part_below : (width : Width) (part : ℤ) → FitsSigned (integer_width_of width) part →
+    cast_unsigned (integer_width_of width) part < 256 ^ part_len width
 part_below Sixteen part fits = omega (arith, Fits-of_z fits)
 part_below Eight part fits = omega (arith, Fits-of_z fits)
 
 -- the bytes of a part give it back
-part_in-spelling : (width : Width) (part : ℤ) (rest : List ℕ) → FitsSigned (bits_of width) part →
+part_in-spelling : (width : Width) (part : ℤ) (rest : List ℕ) → FitsSigned (integer_width_of width) part →
     part_in width (part_spelling width part ++ rest) ≡ part
 part_in-spelling width part rest fits =
-    ap (cast_signed (bits_of width))
-    (big_number-reads_back (part_len width) (cast_unsigned (bits_of width) part) rest
+    ap (cast_signed (integer_width_of width))
+    (big_number-reads_back (part_len width) (cast_unsigned (integer_width_of width) part) rest
     (part_below width part fits))
-    ∙ to_z-of_z (bits_of width) part fits
+    ∙ to_z-of_z (integer_width_of width) part fits
 
 -- the bytes of a sample are those of the sample in them
 pub sample_bytes : (width : Width) (bytes : List ℕ) → length bytes ≡ sample_len width →
@@ -85,7 +85,7 @@ sample_bytes width bytes long small =
     let back = drop n bytes in
     let both : length bytes ≡ n + n = long ∙ two_parts width in
     let room : n ≤ length bytes = omega (arith, both) in
-    let pattern : ℕ → List ℕ = λ k. part_spelling width (cast_signed (bits_of width) k) in
+    let pattern : ℕ → List ℕ = λ k. part_spelling width (cast_signed (integer_width_of width) k) in
     let first : pattern (big_number n front) ≡ front =
     part_bytes width front (length-take-le n bytes room) (AreBytes-take n bytes small) in
     let second : pattern (big_number n back) ≡ back =
@@ -170,7 +170,7 @@ sample_in-spelling width sample rest small =
     let parted : sample_spelling width sample ++ rest ≡ first ++ (second ++ rest) =
     append_assoc first second rest in
     let long : length first ≡ n =
-    length-bytes_high_first n (cast_unsigned (bits_of width) sample.i) in
+    length-bytes_high_first n (cast_unsigned (integer_width_of width) sample.i) in
     let i_read : part_in width (sample_spelling width sample ++ rest) ≡ sample.i =
     ap (part_in width) parted ∙ part_in-spelling width sample.i (second ++ rest) small.in_phase in
     let q_read : part_in width (drop n (sample_spelling width sample ++ rest)) ≡ sample.q =

@@ -55,9 +55,9 @@ header_spelling header =
     magic ++ big_bytes 2 header.version ++ big_bytes 2 (flags_of header) ++ big_bytes 8 header.count
 
 -- the width of a part as a number of bits
-abbrev pub bits_of : Width → integers.Width
-bits_of Sixteen = w16
-bits_of Eight = w8
+abbrev pub integer_width_of : Width → integers.Width
+integer_width_of Sixteen = w16
+integer_width_of Eight = w8
 
 -- how many bytes a part has
 abbrev pub part_len : Width → ℕ
@@ -71,7 +71,7 @@ sample_len Eight = 2
 
 -- the bytes of a part, in two's complement
 abbrev pub part_spelling : Width → ℤ → List ℕ
-part_spelling width part = big_bytes (part_len width) (cast_unsigned (bits_of width) part)
+part_spelling width part = big_bytes (part_len width) (cast_unsigned (integer_width_of width) part)
 
 -- the bytes of a sample: i, then q
 unfoldable pub sample_spelling : Width → Sample → List ℕ
@@ -79,8 +79,8 @@ sample_spelling width sample = part_spelling width sample.i ++ part_spelling wid
 
 -- each part fits the width
 pub record HasBits (width : Width) (sample : Sample) : Type 0 where
-  pub in_phase : FitsSigned (bits_of width) sample.i
-  pub quadrature : FitsSigned (bits_of width) sample.q
+  pub in_phase : FitsSigned (integer_width_of width) sample.i
+  pub quadrature : FitsSigned (integer_width_of width) sample.q
 
 -- a header of version 1 or 2, which counts no more samples than its version has
 pub record IsLawfulHeader (header : Header) : Type 0 where
@@ -99,8 +99,8 @@ pub record IsSampleFile (bytes : List ℕ) (header : Header) (samples : List Sam
 -- ---- what opening a file answers
 
 -- complemented where the flag is set
-abbrev pub form_of : Bool → CheckForm
-form_of flag = if flag then Complemented else Plain
+abbrev pub check_form_of : Bool → CheckForm
+check_form_of flag = if flag then Complemented else Plain
 
 -- what is due where a test passes, and the fault where it fails
 abbrev pub due_if : Bool → FileFault → Result Header FileFault → Result Header FileFault
@@ -114,8 +114,8 @@ header_due version flags count =
     (due_if (nat_le count (most_samples (width_in version))) Count
     (Ok (record {
       version = version;
-      check30 = form_of (flags % 2 == 1);
-      check16 = form_of (flags / 2 % 2 == 1);
+      check30 = check_form_of (flags % 2 == 1);
+      check16 = check_form_of (flags / 2 % 2 == 1);
       count = count;
     }))))
 
@@ -169,12 +169,12 @@ RunsOn ReadFault end old = ⊤
 RunsOn _ end old = ⊥
 
 -- the place in the file of what a fault is about
-abbrev pub place_of : FileFault → Option ℕ
-place_of Magic = Some 0
-place_of Version = Some 4
-place_of Flags = Some 6
-place_of Count = Some 8
-place_of (Short place) = Some place
-place_of (Extra place) = Some place
-place_of ReadFault = None
-place_of (TooFew count) = Some 8
+abbrev pub fault_place : FileFault → Option ℕ
+fault_place Magic = Some 0
+fault_place Version = Some 4
+fault_place Flags = Some 6
+fault_place Count = Some 8
+fault_place (Short place) = Some place
+fault_place (Extra place) = Some place
+fault_place ReadFault = None
+fault_place (TooFew count) = Some 8

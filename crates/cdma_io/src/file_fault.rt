@@ -1,7 +1,7 @@
 //! What may be wrong with a sample file.
 
 ghost use Rattle.std.specs.Prelude.{◌≡◌};
-ghost use Rattle.cdma_io.specs.SampleFile.{place_of};
+ghost use Rattle.cdma_io.specs.SampleFile.{fault_place};
 
 use crate::source::Failed;
 use thiserror::Error;
@@ -51,7 +51,7 @@ impl FileFault {
     /// The place in the file of what the fault is about, in bytes from its start; `None` for a read
     /// that failed.
     pub fn place(&self) -> Option<u64>
-        ensures { result ≡ place_of self.now }
+        ensures { result ≡ fault_place self.now }
     {
         match *self {
             FileFault::Magic => Some(0),

@@ -1,7 +1,7 @@
 //! The header of a sample file.
 
 ghost use Rattle.std.specs.Prelude.{◌≡◌, ◌≢◌, ◌≤◌, length, Err, IfOk};
-ghost use Rattle.cdma_io.specs.SampleFile.{IsLawfulHeader, flags_of, form_flag, form_of};
+ghost use Rattle.cdma_io.specs.SampleFile.{IsLawfulHeader, flags_of, form_flag, check_form_of};
 ghost use Rattle.cdma_io.specs.SampleFile.{header_spelling, opening, width_of};
 
 use crate::file_fault::FileFault;
@@ -100,7 +100,7 @@ pub fn parse_header(bytes: &[u8]) -> Result<Header, FileFault>
 
 /// Complemented where the flag is set.
 fn check_form(flag: bool) -> CheckForm
-    ensures { result ≡ form_of flag }
+    ensures { result ≡ check_form_of flag }
 {
     if flag {
         CheckForm::Complemented

@@ -5,7 +5,7 @@ use Rattle.cdma_replay.proofs.Common.{ConsumesAtMost, ConsumesFewer, FileFault, 
 use Rattle.cdma_replay.proofs.Common.{HasBits, IsLawfulHeader, Opens, Reading, header_spelling, opening, sample_len, sample_spelling}
 use Rattle.cdma_replay.proofs.Common.{width_of, All-append, opening-spelled, length-header_spelling, length-samples, sample_len-mono}
 use Rattle.cdma_replay.proofs.Common.{KeptTap, front_begins, HasWritten, HearsFirst, IsLong, IsUnopened, TakesFew, WritesAll, WritesFirst}
-use Rattle.cdma_replay.proofs.Common.{Listening, Listens, Tells, listening, Listener, file_status, Reception}
+use Rattle.cdma_replay.proofs.Common.{Listening, Listens, ListenerTells, listening, Listener, file_status, Reception}
 use Rattle.cdma_replay.proofs.Hearings.{more_behind}
 use Rattle.cdma_replay.proofs.Lines.{HasBegun, writes_whole}
 
@@ -117,7 +117,7 @@ pub has_written : {taps : List KeptTap} {r : Reception} {header : Header} {sampl
     (number : ℕ → Type 0) →
     HasBegun taps r header samples one kept (Some bytes) (Some more) old between →
     ((l : Listening) (heard : List Sample) → Listens l one kept heard →
-    Tells l other behind heard (heard ++ samples) between later) →
+    ListenerTells l other behind heard (heard ++ samples) between later) →
     (heard : HearsFirst (listening taps r.purpose header samples) (width_of header) counted most
     samples (Some more) left later new) →
     number (length (samples ++ heard.samples)) → length (samples ++ heard.samples) ≤ header.count →
@@ -170,7 +170,7 @@ pub writes_first : {taps : List KeptTap} {r : Reception} {header : Header} {samp
     IsLawfulHeader header → count + r.span ≡ header.count →
     HasBegun taps r header samples one kept rest mid old between →
     ((l : Listening) (heard : List Sample) → Listens l one kept heard →
-    Tells l other behind heard (heard ++ samples) between later) →
+    ListenerTells l other behind heard (heard ++ samples) between later) →
     ((l : Listening) (heard : List Sample) → Listens l other behind heard →
     HearsFirst l (width_of header) (λ k. k ≤ count) (sample_len (width_of header) * 4096) heard mid left
     later new) →
@@ -237,7 +237,7 @@ pub writes_all : {taps : List KeptTap} {r : Reception} {header : Header} {sample
     IsLawfulHeader header → count + r.span ≡ header.count →
     HasBegun taps r header samples one kept rest mid old between →
     ((l : Listening) (heard : List Sample) → Listens l one kept heard →
-    Tells l other behind heard (heard ++ samples) between later) →
+    ListenerTells l other behind heard (heard ++ samples) between later) →
     ((l : Listening) (heard : List Sample) → Listens l other behind heard →
     HearsFirst l (width_of header) (λ k. k ≡ count) most heard mid left later new) →
     WritesAll taps r rest old new

@@ -52,7 +52,7 @@ pub use Rattle.heard_events.proofs.EventsGrown.{events_sooner, heard_none}
 pub use Rattle.heard_events.proofs.Growth.{timed_of}
 pub use Rattle.heard_events.specs.Events.{events, events_at}
 unfoldable pub use Rattle.heard_events.specs.Events.{heard_within}
-pub use Rattle.heard_events.specs.Given.{listed}
+pub use Rattle.heard_events.specs.Given.{event_list}
 pub use Rattle.rake_finger.specs.Near.{AreNear}
 pub use Rattle.heard_events.specs.Near.{low_of}
 pub use Rattle.mobile_core.specs.Standing.{IsStep, StandsFor, Steps, events_left, has_room, steps_left}
@@ -86,7 +86,8 @@ pub use Rattle.owed_replies.specs.Find.{IsEnd, IsFault, IsFaultIn, IsOfFiles, Is
 pub use Rattle.owed_replies.specs.Find.{WritesText, ended}
 pub use Rattle.owed_replies.specs.Hearing.{AreNearTo, AreReady, ByFrames, ByTaps, HearsPart, Listening, Nobody, TellsMore, TellsPart}
 pub use Rattle.owed_replies.specs.Hearing.{end_when, first_text, is_told, listening, tuning_for, waiting}
-pub use Rattle.cdma_replay.specs.Listeners.{BeginsBehind, GivesAll, HasRoom, HasRoomFor, HasTold, HearsRest, IsFresh, Listens, Tells}
+pub use Rattle.cdma_replay.specs.Listeners.{BeginsBehind, GivesAll, HasRoom, HasRoomFor, HasTold, HearsRest, IsFreshListener, Listens}
+pub use Rattle.cdma_replay.specs.Listeners.{ListenerTells}
 unfoldable pub use Rattle.owed_replies.specs.Hearing.{best_pilot, file_end_of, file_text, told}
 pub use Rattle.owed_replies.specs.Make.{WritesNoMoreMade, piece_bytes}
 unfoldable pub use Rattle.owed_replies.specs.Make.{made_file}

@@ -2,7 +2,8 @@
 use Rattle.cdma_replay.proofs.Common.{◌≡◌, ℕ, ◌+◌, ◌-◌, ◌≤◌, ◌++◌, [], List, length, take, sym, subst, arith, append_assoc, append-nil}
 use Rattle.cdma_replay.proofs.Common.{length-append, length-take-le, All, Option, flat_map-append, flat_map, Consumes, Keeps, Consumes-kept}
 use Rattle.cdma_replay.proofs.Common.{Consumes-nil, Consumes-trans, All-append, Width, ConsumesAtMost, HasBits, sample_spelling, Sample}
-use Rattle.cdma_replay.proofs.Common.{KeptTap, HearsFirst, PassesSamples, HearsPart, HearsRest, Listening, Listens, Tells, TellsPart}
+use Rattle.cdma_replay.proofs.Common.{KeptTap, HearsFirst, PassesSamples, HearsPart, HearsRest, Listening, Listens, ListenerTells}
+use Rattle.cdma_replay.proofs.Common.{TellsPart}
 use Rattle.cdma_replay.proofs.Common.{Listener}
 use Rattle.cdma_replay.proofs.Hearings.{all_part, more_behind, more_none, part_behind}
 
@@ -13,7 +14,7 @@ pub record Hears (width : Width) (count : ℕ) (one other : Listener)
     (kept behind : List KeptTap) (rest left old new : Option (List ℕ)) : Type 0 where
   pub passed : PassesSamples width count rest left
   pub tells : (l : Listening) (heard : List Sample) → Listens l one kept heard →
-      Tells l other behind heard (heard ++ passed.samples) old new
+      ListenerTells l other behind heard (heard ++ passed.samples) old new
 
 pub hears_nothing : {width : Width} {listener : Listener} {kept : List KeptTap}
     {rest old : Option (List ℕ)} (n : ℕ) →
@@ -49,7 +50,7 @@ pub hears_more : {width same : Width} {first one other : Listener}
     n ≤ length out → All (HasBits same) (take n out) →
     Consumes mid left (flat_map (sample_spelling same) (take n out)) →
     ((l : Listening) (heard : List Sample) → Listens l one kept heard →
-    Tells l other behind heard (heard ++ take n out) between new) →
+    ListenerTells l other behind heard (heard ++ take n out) between new) →
     Hears width (all - later) first other begun behind rest left old new
 hears_more {width} {same} {first} {one} {other} {begun} {kept} {behind} {rest} {mid} {left} {old}
     {between} {new} all now n later out is fewer h low fits room range consumed tells = record {
@@ -77,7 +78,7 @@ hears_more {width} {same} {first} {one} {other} {begun} {kept} {behind} {rest} {
           let samples = h.passed.samples in
           let before = h.tells l heard is in
           let next = tells l (heard ++ samples) before.listens in
-          subst (λ (xs : List Sample). Tells l other behind heard xs old new)
+          subst (λ (xs : List Sample). ListenerTells l other behind heard xs old new)
           (append_assoc heard samples (take n out))
           (record { more = more_behind before.more next.more; listens = next.listens });
     }

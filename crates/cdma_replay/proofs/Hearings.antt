@@ -3,7 +3,8 @@ use Rattle.cdma_replay.proofs.Common.{◌≡◌, ℕ, zero, suc, ◌+◌, ◌-�
 use Rattle.cdma_replay.proofs.Common.{arith, append_assoc, append-nil, length-append, true, ℤ, pos, replicate, Option, None, Some, Result}
 use Rattle.cdma_replay.proofs.Common.{Ok, Err, OnOk, length-replicate, take_all, take_at, take_rest, flat_map-append, flat_map}
 use Rattle.cdma_replay.proofs.Common.{range_with_len, StartsWith, Appends, Appends-nil, Appends-trans, places, places-more}
-use Rattle.cdma_replay.proofs.Common.{flat_map_ext_places, Sample, AppendsPrefix, events, events_at, heard_within, listed, ForSome, Traffic}
+use Rattle.cdma_replay.proofs.Common.{flat_map_ext_places, Sample, AppendsPrefix, events, events_at, heard_within, event_list, ForSome}
+use Rattle.cdma_replay.proofs.Common.{Traffic}
 use Rattle.cdma_replay.proofs.Common.{IsLawfulTraffic, IsSoundAssignment, AreNear, low_of, IsStep, StandsFor, Steps, events_left, has_room}
 use Rattle.cdma_replay.proofs.Common.{IsTimed, Tuning, sync_stream, tuning_by, Channel, Event, Pilot, Mobile, Step, KeptTap}
 use Rattle.cdma_replay.proofs.Common.{heard_text, run_taps, run_text, taps_behind, run_taps-append, run_taps-more, run_text-append}
@@ -11,7 +12,8 @@ use Rattle.cdma_replay.proofs.Common.{run_text-more, run_text-none, begins_more,
 use Rattle.cdma_replay.proofs.Common.{ListensTuned, TellsTuned, TellsTunedPart, tuned_room, stands_near, text_of_nothing, TunedListener}
 use Rattle.cdma_replay.proofs.Common.{TunedText, HandsetOptions, events_sooner, timed_of, Header, IsBestIn, near_deltas, Near, Best}
 use Rattle.cdma_replay.proofs.Common.{best_energy-only, best_phase-only, Settings, AreNearTo, AreReady, BeginsBehind, ByFrames, ByTaps}
-use Rattle.cdma_replay.proofs.Common.{HasRoom, HasRoomFor, HasTold, IsFresh, Listening, Listens, Nobody, GivesAll, Tells, TellsMore}
+use Rattle.cdma_replay.proofs.Common.{HasRoom, HasRoomFor, HasTold, IsFreshListener, Listening, Listens, Nobody, GivesAll, ListenerTells}
+use Rattle.cdma_replay.proofs.Common.{TellsMore}
 use Rattle.cdma_replay.proofs.Common.{TellsPart, is_told, told, tuning_for, Listener, heard_none}
 use Rattle.std.proofs.Common.{Box, Global}
 use Rattle.std.proofs.lemmas.List.{take-append-drop}
@@ -69,12 +71,12 @@ pub step_stands : {one other : Mobile} {step : Step} (t : Tuning) (heard samples
     Steps one other (take (length samples - taken) (drop taken samples)) step →
     (before : List Event) → StandsFor t one (heard ++ take taken samples) before →
     StandsFor t other ((heard ++ take taken samples) ++ take step.taken (drop taken samples))
-    (before ++ listed found)
+    (before ++ event_list found)
 step_stands {one} {other} {step} t heard samples taken found is steps before stands =
     subst (λ (e : Option Event). StandsFor t other
-    ((heard ++ take taken samples) ++ take step.taken (drop taken samples)) (before ++ listed e)) is
+    ((heard ++ take taken samples) ++ take step.taken (drop taken samples)) (before ++ event_list e)) is
     (subst (λ (xs : List Sample). StandsFor t other
-    ((heard ++ take taken samples) ++ take step.taken xs) (before ++ listed step.event))
+    ((heard ++ take taken samples) ++ take step.taken xs) (before ++ event_list step.event))
     (take_rest samples taken) (steps.stands t (heard ++ take taken samples) before stands))
 
 -- the next event was given, and its text written
@@ -269,8 +271,8 @@ module _ (t : Tuning) (one other : Mobile) (step : Step) (event : Event)
     (stands : StandsFor t one [] []) where
   stands_behind : StandsFor t other [] (event ∷ [])
   stands_behind =
-      subst (λ (e : Option Event). StandsFor t other [] (listed e)) gave
-      (subst (λ (xs : List Sample). StandsFor t other xs (listed step.event)) (nil_taken step.taken)
+      subst (λ (e : Option Event). StandsFor t other [] (event_list e)) gave
+      (subst (λ (xs : List Sample). StandsFor t other xs (event_list step.event)) (nil_taken step.taken)
       (does.steps.stands t [] [] stands))
 
   event_is : event ≡ Pilot t.phase t.energy
@@ -359,7 +361,7 @@ all_part {l} {before} {heard} more = record {
 
 pub hears_nobody : (l : Listening) (kept : List KeptTap) (heard samples : List Sample)
     (old : Option (List ℕ)) → Listens l by.Nobody kept heard →
-    Tells l by.Nobody kept heard (heard ++ samples) old old
+    ListenerTells l by.Nobody kept heard (heard ++ samples) old old
 unfolding told
 hears_nobody Nobody kept heard samples old listens = record {
   more = record { text = []; written = Appends-nil old; all = refl };
@@ -391,7 +393,7 @@ on_tuned P l tuned kept heard listens holds = absurd listens
 pub tuned_tells : {t : Tuning} {channel : Channel} {text : TunedText}
     {tuned : Box TunedListener Global} {kept : List KeptTap} {before heard : List Sample}
     {old new : Option (List ℕ)} → TellsTuned t channel text tuned.value before heard old new →
-    Tells (ByFrames t channel text) (by.Tuned tuned) kept before heard old new
+    ListenerTells (ByFrames t channel text) (by.Tuned tuned) kept before heard old new
 unfolding told
 tuned_tells tells = record {
   more = record { text = tells.text; written = tells.written; all = tells.all };
@@ -408,7 +410,7 @@ tuned_part part = record { text = part.text; written = part.written; begins = pa
 
 -- what holds where a handset has taken nothing
 pub on_fresh : (P : Listening → Type 0) (l : Listening) (mobile : Box Mobile Global)
-    (kept : List KeptTap) → IsFresh l (by.Handset mobile) kept →
+    (kept : List KeptTap) → IsFreshListener l (by.Handset mobile) kept →
     ((t : Tuning) → StandsFor t mobile.value [] [] → P (ByTaps t kept)) → P l
 on_fresh P (ByTaps t taps) mobile kept fresh holds =
     subst (λ (ks : List KeptTap). P (ByTaps t ks)) fresh.1 (holds t fresh.0)
@@ -416,13 +418,13 @@ on_fresh P l mobile kept fresh holds = absurd fresh
 
 -- the others tell nothing
 pub nobody_begins : (l : Listening) (kept : List KeptTap) (old : Option (List ℕ)) →
-    IsFresh l by.Nobody kept → BeginsBehind [] l by.Nobody kept old old
+    IsFreshListener l by.Nobody kept → BeginsBehind [] l by.Nobody kept old old
 unfolding told
 nobody_begins Nobody kept old fresh = record { written = Appends-nil old; listens = tt }
 nobody_begins l kept old fresh = absurd fresh
 
 pub tuned_begins : (l : Listening) (tuned : Box TunedListener Global) (kept : List KeptTap)
-    (old : Option (List ℕ)) → IsFresh l (by.Tuned tuned) kept →
+    (old : Option (List ℕ)) → IsFreshListener l (by.Tuned tuned) kept →
     BeginsBehind [] l (by.Tuned tuned) kept old old
 unfolding told
 tuned_begins (ByFrames t channel text) tuned kept old fresh = record {

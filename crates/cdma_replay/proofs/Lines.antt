@@ -6,7 +6,8 @@ use Rattle.cdma_replay.proofs.Common.{Consumes-nil, Consumes-trans, Sample, Head
 use Rattle.cdma_replay.proofs.Common.{sample_spelling, width_of, IsBestIn, best_phase, best_phase-only, best_energy-only, Pilot, event_line}
 use Rattle.cdma_replay.proofs.Common.{KeptTap, Rank, begins_more, prefix_of, taken_begins, HandsetOptions, Listener, Shown, Followed, Found}
 use Rattle.cdma_replay.proofs.Common.{Ranks, Purpose, Find, Follow, Survey, Reception, Status, TakesSpan, WritesNoMore, WritesText}
-use Rattle.cdma_replay.proofs.Common.{BeginsBehind, HearsPart, HearsRest, IsFresh, Listening, Listens, Nobody, Tells, TellsMore, TellsPart}
+use Rattle.cdma_replay.proofs.Common.{BeginsBehind, HearsPart, HearsRest, IsFreshListener, Listening, Listens, Nobody, ListenerTells}
+use Rattle.cdma_replay.proofs.Common.{TellsMore, TellsPart}
 use Rattle.cdma_replay.proofs.Common.{best_pilot, end_when, file_end_of, file_text, first_text, is_told, listening, told, IsBest, Shows}
 use Rattle.cdma_replay.proofs.Common.{listening_in, shown_text, Best, ranking, ranks_text, survey_text}
 use Rattle.cdma_replay.proofs.Hearings.{more_behind, part_behind}
@@ -52,7 +53,7 @@ ranks_show base width top is = record {
 
 -- nothing is told beyond what was found where nobody hears the file
 pub alone_begins : (text : List ℕ) (listener : Listener) (kept : List KeptTap)
-    (old new : Option (List ℕ)) → Appends old new text → IsFresh Nobody listener kept →
+    (old new : Option (List ℕ)) → Appends old new text → IsFreshListener Nobody listener kept →
     BeginsBehind text Nobody listener kept old new
 unfolding told
 alone_begins text by.Nobody kept old new written fresh = record {
@@ -70,9 +71,9 @@ alone_part text samples old new part =
 -- where nothing is told of what is shown, who hears the file begins
 pub silent_ok : {T E : Type 0} (ran : Result T E) (shown : Shown) (one behind : Listener)
     (taps kept : List KeptTap) (old new : Option (List ℕ)) → shown_text shown ≡ [] →
-    OnOk ran ((l : Listening) → IsFresh l one taps → BeginsBehind [] l behind kept old new) →
+    OnOk ran ((l : Listening) → IsFreshListener l one taps → BeginsBehind [] l behind kept old new) →
     OnOk ran ((header : Header) (first : List Sample) →
-    IsFresh (listening_in taps shown header first) one taps →
+    IsFreshListener (listening_in taps shown header first) one taps →
     BeginsBehind (shown_text shown) (listening_in taps shown header first) behind kept old new)
 silent_ok ran shown one behind taps kept old new none =
     on_ok ran _ _
@@ -82,10 +83,10 @@ silent_ok ran shown one behind taps kept old new none =
 
 pub silent_err : {T E : Type 0} (ran : Result T E) (shown : Shown) (one : Listener)
     (taps : List KeptTap) (old new : Option (List ℕ)) → shown_text shown ≡ [] →
-    OnErr ran ((l : Listening) (samples : List Sample) → IsFresh l one taps →
+    OnErr ran ((l : Listening) (samples : List Sample) → IsFreshListener l one taps →
     AppendsPrefix old new (told l samples)) →
     OnErr ran ((header : Header) (first samples : List Sample) →
-    IsFresh (listening_in taps shown header first) one taps →
+    IsFreshListener (listening_in taps shown header first) one taps →
     AppendsPrefix old new (shown_text shown ++ told (listening_in taps shown header first) samples))
 silent_err ran shown one taps old new none =
     on_err ran _ _
@@ -181,10 +182,10 @@ pub writes_first_text : {taps : List KeptTap} {r : Reception} {header same : Hea
     {samples : List Sample} {count left : ℕ} {rest mid old new : Option (List ℕ)} (shown : Shown)
     (listener : Listener) → count ≡ r.span → TakesSpan count header samples left rest mid →
     Shows r.purpose samples shown → same ≡ header →
-    ((taps : List KeptTap) → IsFresh (listening_in taps shown same samples) listener taps) →
+    ((taps : List KeptTap) → IsFreshListener (listening_in taps shown same samples) listener taps) →
     ((header : Header) (first samples : List Sample) →
     let l = listening_in taps shown header first in
-    IsFresh l listener taps → AppendsPrefix old new (shown_text shown ++ told l samples)) →
+    IsFreshListener l listener taps → AppendsPrefix old new (shown_text shown ++ told l samples)) →
     WritesNoMore taps r rest mid old new
 writes_first_text {taps} {r} {header} {same} {samples} {count} {left} {rest} {mid} {old} {new} shown
     listener alike t shows is fresh part =
@@ -221,10 +222,10 @@ pub has_begun : (taps : List KeptTap) (r : Reception) {header same : Header}
     {samples : List Sample} {count left : ℕ} (shown : Shown) (one : Listener) {other : Listener}
     {kept : List KeptTap} {rest mid old new : Option (List ℕ)} → count ≡ r.span →
     TakesSpan count header samples left rest mid → Shows r.purpose samples shown → same ≡ header →
-    ((taps : List KeptTap) → IsFresh (listening_in taps shown same samples) one taps) →
+    ((taps : List KeptTap) → IsFreshListener (listening_in taps shown same samples) one taps) →
     ((header : Header) (first : List Sample) →
     let l = listening_in taps shown header first in
-    IsFresh l one taps → BeginsBehind (shown_text shown) l other kept old new) →
+    IsFreshListener l one taps → BeginsBehind (shown_text shown) l other kept old new) →
     HasBegun taps r header samples other kept rest mid old new
 has_begun taps r {header} {same} {samples} {count} {left} shown one {other} {kept} {rest} {mid} {old}
     {new} alike t shows is fresh begins =
@@ -290,7 +291,7 @@ pub writes_rest_part : {taps : List KeptTap} {r : Reception} {header : Header}
     {rest mid left old between later new : Option (List ℕ)} → count + r.span ≡ header.count →
     HasBegun taps r header samples one kept rest mid old between →
     ((l : Listening) (heard : List Sample) → Listens l one kept heard →
-    Tells l other behind heard (heard ++ samples) between later) →
+    ListenerTells l other behind heard (heard ++ samples) between later) →
     ((l : Listening) (heard : List Sample) → Listens l other behind heard →
     HearsPart l (width_of header) count heard mid left later new) →
     WritesNoMore taps r rest left old new
@@ -325,7 +326,7 @@ pub writes_text : {taps : List KeptTap} {r : Reception} {status : Status} {heade
     IsLawfulHeader header → left + r.span ≡ header.count → All (HasBits (width_of header)) samples →
     HasBegun taps r header samples one kept rest mid old between →
     ((l : Listening) (heard : List Sample) → Listens l one kept heard →
-    Tells l other behind heard (heard ++ samples) between later) →
+    ListenerTells l other behind heard (heard ++ samples) between later) →
     ((l : Listening) (heard : List Sample) → Listens l other behind heard →
     HearsRest l (width_of header) left last end_taps heard mid end later new) →
     IsAtEnd end →

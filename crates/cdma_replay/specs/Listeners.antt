@@ -17,12 +17,13 @@ use Rattle.cdma_replay.specs.declared.listener.Listener.TheVariants as by
 use Rattle.owed_replies.specs.Hearing.{ByFrames, ByTaps, Listening, Nobody, TellsMore, told}
 
 -- it has taken no sample and told nothing, and these taps are to hear it
-abbrev pub IsFresh : Listening → Listener → List KeptTap → Type 0
-IsFresh Nobody by.Nobody kept = Unit {0}
-IsFresh (ByTaps t taps) (by.Handset mobile) kept = StandsFor t mobile.value [] [] × (kept ≡ taps)
-IsFresh (ByFrames t channel text) (by.Tuned tuned) kept =
+abbrev pub IsFreshListener : Listening → Listener → List KeptTap → Type 0
+IsFreshListener Nobody by.Nobody kept = Unit {0}
+IsFreshListener (ByTaps t taps) (by.Handset mobile) kept = StandsFor t mobile.value [] []
+    × (kept ≡ taps)
+IsFreshListener (ByFrames t channel text) (by.Tuned tuned) kept =
     ListensTuned t channel text tuned.value []
-IsFresh l listener kept = ⊥
+IsFreshListener l listener kept = ⊥
 
 -- a handset has taken these samples and given all that is heard in them, and these taps are kept
 -- after that
@@ -58,7 +59,7 @@ pub record BeginsBehind (text : List ℕ) (l : Listening) (listener : Listener)
   pub listens : Listens l listener kept []
 
 -- a listener has taken these samples, and a sink got what is told of them beyond those before
-pub record Tells (l : Listening) (listener : Listener) (kept : List KeptTap)
+pub record ListenerTells (l : Listening) (listener : Listener) (kept : List KeptTap)
     (before heard : List Sample) (old new : Option (List ℕ)) : Type 0 where
   pub more : TellsMore l before heard old new
   pub listens : Listens l listener kept heard
@@ -79,4 +80,4 @@ pub record HearsRest (l : Listening) (width : Width) (count : ℕ) (listener : L
   pub counted : length samples ≡ count
   pub in_range : All (HasBits width) samples
   pub consumed : Consumes rest left (flat_map (sample_spelling width) samples)
-  pub tells : Tells l listener kept heard (heard ++ samples) old new
+  pub tells : ListenerTells l listener kept heard (heard ++ samples) old new

@@ -33,9 +33,10 @@ impl Listener {
     ghost use Rattle.chip_core.specs.declared.sample.Sample.{Sample as TheSample};
     ghost use Rattle.cdma_io.specs.Outside.{AppendsPrefix, HasCause};
     ghost use Rattle.event_tap.specs.Taps.{IsKept, KeptTap};
-    ghost use Rattle.cdma_replay.specs.Listeners.{BeginsBehind, HasRoom, HasRoomFor, IsFresh};
+    ghost use Rattle.cdma_replay.specs.Listeners.{BeginsBehind, HasRoom, HasRoomFor};
+    ghost use Rattle.cdma_replay.specs.Listeners.{IsFreshListener};
     ghost use Rattle.owed_replies.specs.Hearing.{Listening, TellsPart, is_told};
-    ghost use Rattle.cdma_replay.specs.Listeners.{Listens, Tells};
+    ghost use Rattle.cdma_replay.specs.Listeners.{Listens, ListenerTells};
     ghost use Rattle.owed_replies.specs.Hearing.{told};
 
     /// Tells what is told before any sample is taken: the taps hear the pilot of a handset.
@@ -46,11 +47,11 @@ impl Listener {
         requires { All IsKept (T.kept taps.old) }
         ensures room { (left : ℕ) → HasRoom self.old left → HasRoom self.new left }
         ensures kept { All IsKept (T.kept taps.new) }
-        ensures ok { OnOk result ((l : Listening) → IsFresh l self.old (T.kept taps.old) →
+        ensures ok { OnOk result ((l : Listening) → IsFreshListener l self.old (T.kept taps.old) →
             BeginsBehind [] l self.new (T.kept taps.new)
             (K.written sink.old) (K.written sink.new)) }
         ensures err { OnErr result ((l : Listening) (samples : List TheSample) →
-            IsFresh l self.old (T.kept taps.old) →
+            IsFreshListener l self.old (T.kept taps.old) →
             AppendsPrefix (K.written sink.old) (K.written sink.new) (told l samples)) }
         ensures cause { HasCause (K.faults sink.old) (K.faults sink.new) result }
     {
@@ -79,7 +80,7 @@ impl Listener {
         ensures kept { All IsKept (T.kept taps.new) }
         ensures ok { OnOk result ((l : Listening) (heard : List TheSample) →
             Listens l self.old (T.kept taps.old) heard →
-            Tells l self.new (T.kept taps.new) heard (heard ++ samples.now)
+            ListenerTells l self.new (T.kept taps.new) heard (heard ++ samples.now)
             (K.written sink.old) (K.written sink.new)) }
         ensures err { OnErr result ((l : Listening) (heard : List TheSample) →
             Listens l self.old (T.kept taps.old) heard →

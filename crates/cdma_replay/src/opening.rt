@@ -10,7 +10,7 @@ ghost use Rattle.event_tap.specs.Taps.{IsKept, KeptTap};
 ghost use Rattle.tuned_listener.specs.TunedListening.{ListensTuned, tuned_room};
 ghost use Rattle.event_tap.specs.TunedTexts.{IsLawfulTuned};
 ghost use Rattle.owed_replies.specs.Hearing.{AreNearTo, AreReady};
-ghost use Rattle.cdma_replay.specs.Listeners.{BeginsBehind, HasRoom, IsFresh};
+ghost use Rattle.cdma_replay.specs.Listeners.{BeginsBehind, HasRoom, IsFreshListener};
 ghost use Rattle.owed_replies.specs.Hearing.{told, tuning_for, waiting};
 ghost use Rattle.cdma_replay.specs.Openings.{IsBest, IsFollowable, IsTellable};
 ghost use Rattle.owed_replies.specs.Tasks.{IsLawfulPurpose};
@@ -157,7 +157,7 @@ pub fn listener_for(
     requires header { IsLawfulHeader header }
     requires shown { IsFollowable first.now shown.now }
     ensures fresh { IfOk result (λ listener. (taps : List KeptTap) →
-        IsFresh (listening_in taps shown.now header first.now) listener taps) }
+        IsFreshListener (listening_in taps shown.now header first.now) listener taps) }
     ensures room { IfOk result (λ listener. HasRoom listener header.count) }
 {
     match shown {
@@ -206,12 +206,12 @@ pub fn tell_first<T: KeepsTaps, K: Sink>(
     ensures kept { All IsKept (T.kept taps.new) }
     ensures ok { OnOk result ((header : TheHeader) (first : List TheSample) →
         let l = listening_in (T.kept taps.old) shown.now header first in
-        IsFresh l listener.old (T.kept taps.old) →
+        IsFreshListener l listener.old (T.kept taps.old) →
         BeginsBehind (shown_text shown.now) l listener.new (T.kept taps.new)
         (K.written sink.old) (K.written sink.new)) }
     ensures err { OnErr result ((header : TheHeader) (first samples : List TheSample) →
         let l = listening_in (T.kept taps.old) shown.now header first in
-        IsFresh l listener.old (T.kept taps.old) →
+        IsFreshListener l listener.old (T.kept taps.old) →
         AppendsPrefix (K.written sink.old) (K.written sink.new)
         (shown_text shown.now ++ told l samples)) }
     ensures cause { HasCause (K.faults sink.old) (K.faults sink.new) result }

@@ -4,7 +4,8 @@ use Rattle.cell_plan.proofs.Common.{arith, ℤ, pos, ◌+ℤ◌, ◌*ℤ◌, uns
 use Rattle.cell_plan.proofs.Common.{length-append, map, get_or, FitsSigned, le-ltb, ints, unsigned_abs-mul, fits_signed_from_abs}
 use Rattle.cell_plan.proofs.Common.{length-map, w8, w16, mul-le-mul_left, binary, sign, parity, zip_with, origin, plus, times, Pair, Sample}
 use Rattle.cell_plan.proofs.Common.{split, diff-times, diff-same, distrib_right, code_point, walsh, CellPlan, PagingPlan, SyncPlan}
-use Rattle.cell_plan.proofs.Common.{TrafficPlan, bits_of, HasBits, Width, Sixteen, Eight, most_part, loudness, gain_sum, paging_gains}
+use Rattle.cell_plan.proofs.Common.{TrafficPlan, integer_width_of, HasBits, Width, Sixteen, Eight, most_part, loudness, gain_sum}
+use Rattle.cell_plan.proofs.Common.{paging_gains}
 use Rattle.cell_plan.proofs.Common.{sync_gain, traffic_gains, Carrier, amplitude, amplitudes, level, level_of, scaled, sent_chip}
 use Rattle.cell_plan.proofs.Common.{sync_carriers, paging_carrier, pilot_carrier, carriers, sample_of, symbol_of, traffic_carrier}
 use Rattle.cell_plan.proofs.MachineInts.{more_most}
@@ -194,7 +195,7 @@ few_channels plan few few_traffic =
 -- SAMPLES
 
 pub part_fits : (width : Width) (part : ℤ) → unsigned_abs part ≤ most_part width →
-    FitsSigned (bits_of width) part
+    FitsSigned (integer_width_of width) part
 part_fits Sixteen part most = fits_signed_from_abs w16 part (omega (arith, most))
 part_fits Eight part most = fits_signed_from_abs w8 part (omega (arith, most))
 

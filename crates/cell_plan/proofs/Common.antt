@@ -14,7 +14,7 @@ pub use Rattle.std.specs.Bool.{beq}
 pub use Rattle.std.specs.Int.{w16, w64, w8}
 pub use Rattle.std.specs.List.{flat_map, slice_get}
 pub use Rattle.std.specs.Prelude.{All, MatchOption, not, option_to_list}
-pub use Rattle.cdma_io.specs.SampleFile.{HasBits, bits_of}
+pub use Rattle.cdma_io.specs.SampleFile.{HasBits, integer_width_of}
 pub use Rattle.chip_core.proofs.BitLists.{taken_more, zip_push}
 pub use Rattle.chip_core.proofs.FieldLists.{length-binary}
 pub use Rattle.chip_core.proofs.Places.{get_or-map-places, length-map-places, map-places-all, map-places-more, places-none}
@@ -61,7 +61,7 @@ pub use Rattle.cell_plan.specs.Signal.{Carrier, amplitude, amplitudes, level, le
 pub use Rattle.cell_plan.specs.Signal.{sync_carriers, traffic_carrier}
 unfoldable pub use Rattle.cell_plan.specs.Signal.{carriers, sample_of, samples_of, sent_chip}
 pub use Rattle.cell_plan.specs.Stated.{AreHeard, IsCarried, IsStatedPaging}
-pub use Rattle.cell_plan.specs.TrafficFrames.{cycled}
+pub use Rattle.cell_plan.specs.TrafficFrames.{frames_in_turn}
 unfoldable pub use Rattle.cell_plan.specs.TrafficFrames.{traffic_symbols}
 pub use Rattle.cell_plan.specs.declared.plan.CellIdentity.{CellIdentity}
 pub use Rattle.cell_plan.specs.declared.plan.CellPlan.{CellPlan}

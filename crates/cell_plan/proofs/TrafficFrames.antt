@@ -1,7 +1,7 @@
 -- The frames of traffic channels.
 use Rattle.cell_plan.proofs.Common.{◌≡◌, ℕ, zero, suc, ◌*◌, ◌%◌, ◌<◌, ◌≤◌, Bool, false, List, [], ◌∷◌, ◌++◌, length, take, drop, get_or}
 use Rattle.cell_plan.proofs.Common.{replicate, refl, sym, ap, ◌∙◌, arith, flat_map, append-nil, binary, code_symbols, length-code_symbols}
-use Rattle.cell_plan.proofs.Common.{quality_indicator, repeats_of, quality_of, traffic_codeword, Rate, cycled}
+use Rattle.cell_plan.proofs.Common.{quality_indicator, repeats_of, quality_of, traffic_codeword, Rate, frames_in_turn}
 
 -- the tail, and the state before a frame
 zeros : binary 8 0 ≡ replicate 8 false
@@ -37,7 +37,7 @@ flat_map-one f (x ∷ xs) (suc i) d within = flat_map-one f xs i d (omega (arith
 -- what is made of the entry that stands at its place in a cycle
 pub made_of : {F : Type 0} (made : F → List Bool) (frames : List F) (k : ℕ) (f d : F)
     (symbols : List Bool) → 1 ≤ length frames → f ≡ get_or frames (k % length frames) d →
-    symbols ≡ made f → symbols ≡ flat_map made (cycled frames k)
+    symbols ≡ made f → symbols ≡ flat_map made (frames_in_turn frames k)
 made_of made frames k f d symbols some found is =
     let within : k % length frames < length frames = omega (arith, some) in
     is ∙ ap made found ∙ sym (flat_map-one made frames (k % length frames) d within)

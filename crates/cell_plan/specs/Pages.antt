@@ -13,9 +13,9 @@ use Rattle.cell_plan.specs.declared.plan.SyncPlan.{SyncPlan}
 
 -- the rate of a cell's paging channels: 4800 where its sync message has PRAT 1, and else 9600
 -- (7.7.1.3)
-abbrev pub paging_rate : Option SyncPlan → Rate
-paging_rate None = R9600
-paging_rate (Some sync) = if sync.message.prat == 1 then R4800 else R9600
+abbrev pub sent_paging_rate : Option SyncPlan → Rate
+sent_paging_rate None = R9600
+sent_paging_rate (Some sync) = if sync.message.prat == 1 then R4800 else R9600
 
 -- a page's capsule, and whether it follows the one before at once
 abbrev pub put_of : CheckForm → Page → Put

@@ -8,7 +8,7 @@ use Rattle.chip_core.specs.declared.width.Width.TheVariants.{Sixteen, Eight}
 use Rattle.sync_message.specs.SyncMessage.{IsSyncMessage}
 use Rattle.quality_bits.specs.declared.rate.Rate.{Rate}
 use Rattle.paging_message.specs.HalfFrames.{half_frame_body}
-use Rattle.cell_plan.specs.Pages.{paging_rate, AreSendable}
+use Rattle.cell_plan.specs.Pages.{sent_paging_rate, AreSendable}
 use Rattle.cell_plan.specs.declared.plan.PagingPlan.{PagingPlan}
 use Rattle.cell_plan.specs.declared.plan.TrafficPlan.{TrafficPlan}
 use Rattle.cell_plan.specs.declared.plan.CellPlan.{CellPlan}
@@ -100,7 +100,7 @@ pub record IsLawfulPlan (width : Width) (plan : CellPlan) : Type 0 where
   pub pilot : 0 < plan.pilot.gain
   pub sync : IsSyncPlan plan.sync
   pub few : length plan.paging ≤ 7
-  pub paging : All (IsPagingPlan (paging_rate plan.sync)) plan.paging
+  pub paging : All (IsPagingPlan (sent_paging_rate plan.sync)) plan.paging
   pub apart : HaveOwnNumbers plan.paging
   pub traffic : AreLawfulBeside plan.paging plan.traffic
   pub loud : loudness plan ≤ most_part width

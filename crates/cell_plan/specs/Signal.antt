@@ -15,7 +15,7 @@ use Rattle.long_code.specs.LongCode.{paging_mask, traffic_mask}
 use Rattle.cell_plan.specs.declared.plan.PagingPlan.{PagingPlan}
 use Rattle.cell_plan.specs.declared.plan.TrafficPlan.{TrafficPlan}
 use Rattle.cell_plan.specs.PageCycles.{cycle_symbols, Cycle}
-use Rattle.cell_plan.specs.Pages.{page_cycle, paging_rate}
+use Rattle.cell_plan.specs.Pages.{page_cycle, sent_paging_rate}
 use Rattle.cell_plan.specs.Sendings.{sync_symbols}
 use Rattle.cell_plan.specs.TrafficFrames.{traffic_frame_symbols, FrameCycle}
 
@@ -111,8 +111,8 @@ cycle_of plan p =
     record {
       cell = plan.cell;
       mask = paging_mask p.number plan.cell.pn;
-      rate = paging_rate plan.sync;
-      bits = page_cycle (paging_rate plan.sync) plan.cell.check30 p.pages;
+      rate = sent_paging_rate plan.sync;
+      bits = page_cycle (sent_paging_rate plan.sync) plan.cell.check30 p.pages;
     }
 
 -- paging frames begin at local chip 0, and a channel's row is its number (7.1.3.4)

@@ -9,7 +9,7 @@ use Rattle.quality_bits.specs.declared.rate.Rate.{Rate}
 use Rattle.paging_message.specs.Admitted.{HasMessage}
 use Rattle.paging_message.specs.HalfFrames.{bits_left, capsules_in, half_frame_body}
 use Rattle.quality_bits.specs.declared.kind.Kind.TheVariants.{M30}
-use Rattle.cell_plan.specs.Pages.{laid_behind, page_cycle, paging_rate, AreSendable}
+use Rattle.cell_plan.specs.Pages.{laid_behind, page_cycle, sent_paging_rate, AreSendable}
 use Rattle.cell_plan.specs.declared.plan.CellPlan.{CellPlan}
 use Rattle.cell_plan.specs.declared.plan.Page.{Page}
 use Rattle.cell_plan.specs.declared.plan.PagingPlan.{PagingPlan}
@@ -73,7 +73,7 @@ pub record IsStatedPlan (plan : CellPlan) : Type 0 where
   pub cell : IsStatedCell plan.cell
   pub link : IsStatedLink plan.link
   pub sync : IsStatedSync plan.sync
-  pub paging : All (IsStatedPaging (paging_rate plan.sync)) plan.paging
+  pub paging : All (IsStatedPaging (sent_paging_rate plan.sync)) plan.paging
   pub traffic : All IsStatedTraffic plan.traffic
 
 -- what was stated is within its bounds, and the link isn't 0
@@ -85,4 +85,4 @@ pub record HasSaid (plan : CellPlan) : Type 0 where
 pub record IsReceivable (width : Width) (plan : CellPlan) : Type 0 where
   pub lawful : IsLawfulPlan width plan
   pub link : 0 < norm plan.link.factor
-  pub pages : All (IsStatedPaging (paging_rate plan.sync)) plan.paging
+  pub pages : All (IsStatedPaging (sent_paging_rate plan.sync)) plan.paging

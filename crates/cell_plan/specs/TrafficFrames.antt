@@ -24,7 +24,7 @@ abbrev pub IsTrafficFrame : TrafficFrame → Type 0
 IsTrafficFrame f = length f.information ≡ information_of f.rate
 
 abbrev pub IsTrafficFrame2 : TrafficFrame2 → Type 0
-IsTrafficFrame2 f = length f.information ≡ second.information_of f.rate
+IsTrafficFrame2 f = length f.information ≡ second.information_of2 f.rate
 
 -- the 384 symbols of a frame as they are sent, where these are those before scrambling: the power
 -- control bits stand in place of symbols that are scrambled
@@ -83,25 +83,27 @@ pub record FrameCycle : Type 0 where
   pub frames : FrameList
 
 -- the one frame of a list that is sent as frame k
-abbrev pub cycled : {F : Type 0} → List F → ℕ → List F
-cycled frames k = take 1 (drop (k % length frames) frames)
+abbrev pub frames_in_turn : {F : Type 0} → List F → ℕ → List F
+frames_in_turn frames k = take 1 (drop (k % length frames) frames)
 
 -- that of a channel of rate set 1
 abbrev pub cycled_frame : FrameCycle → ℕ → List TrafficFrame
-cycled_frame c k = cycled (set_one c.frames) k
+cycled_frame c k = frames_in_turn (set_one c.frames) k
 
 -- the long code's state at the first chip of frame k
-abbrev pub frame_state : FrameCycle → ℕ → ℕ
-frame_state c k = after c.cell.lc (data_frame_chips * k + frame_offset_chips * c.offset)
+abbrev pub sent_frame_state : FrameCycle → ℕ → ℕ
+sent_frame_state c k = after c.cell.lc (data_frame_chips * k + frame_offset_chips * c.offset)
 
 -- the symbols of frame k, which begins at this state
 abbrev pub symbols_from : ℕ → ℕ → ℕ → FrameList → List Bool
-symbols_from state mask k (SetOne frames) = flat_map (traffic_symbols state mask) (cycled frames k)
-symbols_from state mask k (SetTwo frames) = flat_map (traffic_symbols2 state mask) (cycled frames k)
+symbols_from state mask k (SetOne frames) = flat_map (traffic_symbols state mask)
+    (frames_in_turn frames k)
+symbols_from state mask k (SetTwo frames) = flat_map (traffic_symbols2 state mask)
+    (frames_in_turn frames k)
 
 -- the 384 symbols of frame k as they are sent
 unfoldable pub traffic_frame_symbols : FrameCycle → ℕ → List Bool
-traffic_frame_symbols c k = symbols_from (frame_state c k) c.mask k c.frames
+traffic_frame_symbols c k = symbols_from (sent_frame_state c k) c.mask k c.frames
 
 -- frames that can be sent: FRAME_OFFSET is 0 to 15 (7.1.3.5.1)
 pub record IsFrameCycle (c : FrameCycle) : Type 0 where

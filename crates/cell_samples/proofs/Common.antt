@@ -60,9 +60,9 @@ pub use Rattle.walsh.specs.Walsh.{IsWithin, in_phase, quadrature, transform, wal
 unfoldable pub use Rattle.walsh.specs.Walsh.{walsh}
 pub use borrow.Rule.Slice.PartMut.{put_mid}
 pub use lib.Seq.{take-add}
-pub use Rattle.cell_samples.specs.Blocks.{AreChips, AreFirstLevels, AreLevels, AreQuiet, AreSums, AreTurned, BlockState, IsKeptBlock}
+pub use Rattle.cell_samples.specs.Blocks.{AreChips, AreFirstLevels, AreLevels, AreQuiet, AreBlockSums, AreTurned, BlockState, IsKeptBlock}
 pub use Rattle.cell_samples.specs.Blocks.{IsLevel, IsQuiet, IsTurned, chip_at, no_sample}
 pub use Rattle.cell_samples.specs.Channels.{ChannelState, carrier_of}
-pub use Rattle.cell_samples.specs.Continued.{frame_bits_of, frame_size, kind_of, repeats_in, scrambled_by}
+pub use Rattle.cell_samples.specs.Continued.{frame_bits_of, frame_size, symbol_kind_of, repeats_in, scrambled_by}
 pub use Rattle.cell_samples.specs.declared.frame_source.FrameSource.{FrameSource}
 pub use Rattle.cell_samples.specs.declared.frame_source.FrameSource.TheVariants.{Paging, Sync}

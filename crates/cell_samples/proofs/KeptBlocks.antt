@@ -4,7 +4,7 @@ use Rattle.cell_samples.proofs.Common.{refl, sym, ap, ◌∙◌, arith, ℤ, pos
 use Rattle.cell_samples.proofs.Common.{get_or-set_same, get_or-set_other, get_or-take, get_or-drop, subst, SFits, eqb, eqb-true, of_z, to_z}
 use Rattle.cell_samples.proofs.Common.{w64, and_parts, ints, to_z-of_z, get_or-replicate, length-map, set-get_or, All-replicate, All-set}
 use Rattle.cell_samples.proofs.Common.{sign, of_sample, origin, Pair, Sample, IsWithin, walsh, scaled_none, Carrier, amplitudes, level}
-use Rattle.cell_samples.proofs.Common.{scaled, AreChips, AreFirstLevels, AreLevels, AreQuiet, AreSums, AreTurned, IsKeptBlock, IsLevel}
+use Rattle.cell_samples.proofs.Common.{scaled, AreChips, AreFirstLevels, AreLevels, AreQuiet, AreBlockSums, AreTurned, IsKeptBlock, IsLevel}
 use Rattle.cell_samples.proofs.Common.{IsQuiet, IsTurned, chip_at, no_sample, ChannelState, carrier_of}
 use Rattle.std.specs.List.{All}
 
@@ -104,19 +104,19 @@ chips_stand cs factor old new chips is before =
 
 -- the sums of the channels as they came back
 pub same_sums : (items back : List ChannelState) (factor : Pair) (levels : List ℤ)
-    (sums : List Pair) → back ≡ items → AreSums (map carrier_of back) factor levels sums →
-    AreSums (map carrier_of items) factor levels sums
+    (sums : List Pair) → back ≡ items → AreBlockSums (map carrier_of back) factor levels sums →
+    AreBlockSums (map carrier_of items) factor levels sums
 same_sums items back factor levels sums are before =
-    subst (λ (xs : List ChannelState). AreSums (map carrier_of xs) factor levels sums) are before
+    subst (λ (xs : List ChannelState). AreBlockSums (map carrier_of xs) factor levels sums) are before
 
 pub sum_quiet : (cs : List Carrier) (factor : Pair) (levels : List ℤ) (sums : List Pair)
-    (first k : ℕ) → first % 64 ≡ 0 → AreLevels first cs levels → AreSums cs factor levels sums →
+    (first k : ℕ) → first % 64 ≡ 0 → AreLevels first cs levels → AreBlockSums cs factor levels sums →
     AreQuiet cs factor → k < 64 → IsQuiet (get_or sums k origin)
 sum_quiet cs factor levels sums first k whole are made quiet low =
     subst IsQuiet (sym (made first whole are k low)) (quiet (first + k))
 
 pub chips_made : (cs : List Carrier) (factor : Pair) (levels : List ℤ) (sums : List Pair)
-    (chips : List Sample) → AreSums cs factor levels sums →
+    (chips : List Sample) → AreBlockSums cs factor levels sums →
     ((k : ℕ) → k < 64 → of_sample (get_or chips k no_sample) ≡ get_or sums k origin) →
     AreChips cs factor levels chips
 chips_made cs factor levels sums chips made narrowed first whole are k low =

@@ -18,11 +18,11 @@ pub symbols_are : (source : FrameSource) (k : ℕ) (code symbols : List Bool) �
     code ≡ continued_symbols (continued.frame_bits_of source) k →
     symbols
     ≡ continued.scrambled_by source k
-    (sent (shape_of (continued.kind_of source)) (continued.repeats_in source) code) →
+    (sent (shape_of (continued.symbol_kind_of source)) (continued.repeats_in source) code) →
     symbols ≡ continued.continued_frames source k
 unfolding sync_symbols cycle_symbols
 symbols_are (Sync sendings) k code symbols is placed =
-    placed ∙ ap (sent (shape_of (continued.kind_of (Sync sendings))) 2) is
+    placed ∙ ap (sent (shape_of (continued.symbol_kind_of (Sync sendings))) 2) is
 symbols_are (Paging cycle) k code symbols is placed =
     placed
     ∙ ap (λ (c : List Bool).

@@ -32,8 +32,8 @@ abbrev pub AreLevels : ℕ → List Carrier → List ℤ → Type 0
 AreLevels first cs levels = AreFirstLevels first cs (length cs) levels
 
 -- the sums over any block in which the carriers have these levels, each times the factor
-abbrev pub AreSums : List Carrier → Pair → List ℤ → List Pair → Type 0
-AreSums cs factor levels sums = (first : ℕ) → first % 64 ≡ 0 → AreLevels first cs levels →
+abbrev pub AreBlockSums : List Carrier → Pair → List ℤ → List Pair → Type 0
+AreBlockSums cs factor levels sums = (first : ℕ) → first % 64 ≡ 0 → AreLevels first cs levels →
     (k : ℕ) → k < 64 → get_or sums k origin ≡ scaled (amplitudes (first + k) cs) factor
 
 -- and as samples

@@ -15,10 +15,10 @@ form_of (Continued source) = continued_form source
 form_of (Traffic cycle) = paging_form
 
 -- the symbols of each frame
-abbrev pub symbols_of : SymbolSource → ℕ → List Bool
-symbols_of Pilot = λ k. false ∷ []
-symbols_of (Continued source) = continued_frames source
-symbols_of (Traffic cycle) = traffic_frame_symbols cycle
+abbrev pub source_symbols : SymbolSource → ℕ → List Bool
+source_symbols Pilot = λ k. false ∷ []
+source_symbols (Continued source) = continued_frames source
+source_symbols (Traffic cycle) = traffic_frame_symbols cycle
 
 -- a channel: its gain, its Walsh row, the local chip of its first frame, and its symbols' source
 pub record ChannelState : Type 0 where
@@ -34,12 +34,12 @@ carrier_of c = record {
   row = c.row;
   first = c.first;
   form = form_of c.source;
-  symbols = symbols_of c.source;
+  symbols = source_symbols c.source;
 }
 
 -- A channel that keeps a frame's symbols. Its frames begin where periods of the Walsh rows do.
 pub record IsOpen (c : ChannelState) (kept : ℕ) (symbols : List Bool) : Type 0 where
   pub low : c.row < 64
   pub whole : c.first % 64 ≡ 0
-  pub sent : symbols ≡ symbols_of c.source kept
+  pub sent : symbols ≡ source_symbols c.source kept
   pub count : length symbols ≡ symbol_count (form_of c.source)

@@ -25,9 +25,9 @@ abbrev pub continued_form : FrameSource → ChannelForm
 continued_form (Sync sent) = sync_form
 continued_form (Paging cycle) = paging_form
 
-abbrev pub kind_of : FrameSource → kinds.Kind
-kind_of (Sync sent) = kinds.TheVariants.Sync
-kind_of (Paging cycle) = kinds.TheVariants.Data
+abbrev pub symbol_kind_of : FrameSource → kinds.Kind
+symbol_kind_of (Sync sent) = kinds.TheVariants.Sync
+symbol_kind_of (Paging cycle) = kinds.TheVariants.Data
 
 abbrev pub repeats_in : FrameSource → ℕ
 repeats_in (Sync sent) = 2

@@ -6,7 +6,7 @@ use Rattle.cell_plan.specs.declared.plan.CellIdentity.{CellIdentity}
 use Rattle.cell_plan.specs.Sendings.{message_of, superframes_a_sending}
 use Rattle.cell_plan.specs.Transmitter.{IsSendable}
 
-pub record IsKept (cell : CellIdentity) (m : SyncFields) (superframes kept : ℕ)
+pub record IsKeptCapsule (cell : CellIdentity) (m : SyncFields) (superframes kept : ℕ)
     (capsule : List Bool) : Type 0 where
   pub sendable : IsSendable cell m
   pub needed : superframes ≡ superframes_a_sending cell m

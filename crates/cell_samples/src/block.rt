@@ -4,7 +4,7 @@ ghost use Rattle.std.specs.Prelude.{◌≡◌, ◌<◌, ◌≤◌, ◌+◌, ◌%
 ghost use Rattle.std.specs.Prelude.{◌*ℤ◌, unsigned_abs, All, pos, true};
 ghost use Rattle.chip_core.specs.Complex.{of_sample, origin, plus};
 ghost use Rattle.walsh.specs.Walsh.{IsWithin};
-ghost use Rattle.cell_samples.specs.Blocks.{AreChips, AreLevels, AreQuiet, AreSums, AreTurned};
+ghost use Rattle.cell_samples.specs.Blocks.{AreChips, AreLevels, AreQuiet, AreBlockSums, AreTurned};
 ghost use Rattle.cell_samples.specs.Blocks.{IsLevel, IsQuiet, IsTurned, chip_at, no_sample};
 ghost use Rattle.cell_samples.specs.Channels.{carrier_of};
 ghost use Rattle.cell_plan.specs.Signal.{scaled};
@@ -107,7 +107,7 @@ fn sums_of(channels: &[Channel], factor: Pair, levels: &Levels) -> BlockSums
     requires few { length channels.now ≤ 128 }
     requires factor { IsWithin 32768 factor }
     requires small { All IsLevel levels.now }
-    ensures { AreSums (map carrier_of channels.now) factor levels.now result }
+    ensures { AreBlockSums (map carrier_of channels.now) factor levels.now result }
 {
     let mut sums = [Pair { i: 0, q: 0 }; BLOCK];
     for (n, channel) in channels.iter().enumerate() {

@@ -5,7 +5,7 @@ ghost use Rattle.std.specs.Prelude.{unsigned_abs};
 ghost use Rattle.chip_core.specs.Bits.{sign};
 ghost use Rattle.cell_plan.specs.Signal.{level};
 ghost use Rattle.cell_samples.specs.Continued.{symbol_count};
-ghost use Rattle.cell_samples.specs.Channels.{carrier_of, form_of, symbols_of};
+ghost use Rattle.cell_samples.specs.Channels.{carrier_of, form_of, source_symbols};
 
 use crate::symbol_source::SymbolSource;
 use chip_core::Bits;
@@ -82,7 +82,7 @@ impl Channel {
     fn symbol(&mut self, frame: u64, place: u16) -> bool
         requires frame { frame * (form_of self.old.source).frame_chips < 2 ^ 34 }
         requires place { place < symbol_count (form_of self.old.source) }
-        ensures value { result ≡ get_or (symbols_of self.old.source frame) place false }
+        ensures value { result ≡ get_or (source_symbols self.old.source frame) place false }
         ensures same { self.new ≡ self.old }
     {
         if frame != self.kept {

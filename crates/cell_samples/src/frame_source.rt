@@ -2,7 +2,8 @@
 
 ghost use Rattle.std.specs.Prelude.{◌≡◌, ◌*◌, ◌<◌, ◌^◌, length};
 ghost use Rattle.symbol_path.specs.SentOrder.{shape_of, size};
-ghost use Rattle.cell_samples.specs.Continued.{frame_bits_of, frame_size, continued_form, kind_of};
+ghost use Rattle.cell_samples.specs.Continued.{frame_bits_of, frame_size, continued_form};
+ghost use Rattle.cell_samples.specs.Continued.{symbol_kind_of};
 ghost use Rattle.cell_samples.specs.Continued.{repeats_in, scrambled_by};
 
 use crate::page_cycle::PageCycle;
@@ -46,7 +47,7 @@ impl FrameSource {
 
     /// The interleaver of its frames (7.1.3.1.5).
     pub fn kind(&self) -> Kind
-        ensures { result ≡ kind_of self.now }
+        ensures { result ≡ symbol_kind_of self.now }
     {
         match self {
             FrameSource::Sync(_) => Kind::Sync,
@@ -67,9 +68,9 @@ impl FrameSource {
     /// The symbols of a frame, scrambled where the channel is (7.1.3.1.6).
     pub fn scrambled(&self, frame: u64, symbols: Bits) -> Bits
         requires frame { frame < 2 ^ 20 }
-        requires symbols { length symbols ≡ size (shape_of (kind_of self.now)) }
+        requires symbols { length symbols ≡ size (shape_of (symbol_kind_of self.now)) }
         ensures value { result ≡ scrambled_by self.now frame symbols }
-        ensures count { length result ≡ size (shape_of (kind_of self.now)) }
+        ensures count { length result ≡ size (shape_of (symbol_kind_of self.now)) }
     {
         match self {
             FrameSource::Sync(_) => symbols,

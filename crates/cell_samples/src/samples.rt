@@ -7,7 +7,7 @@ ghost use Rattle.cdma_io.specs.SampleFile.{HasBits, IsLawfulHeader};
 ghost use Rattle.cell_samples.specs.Channels.{carrier_of};
 ghost use Rattle.long_code.specs.LongCode.{IsState};
 ghost use Rattle.paging_message.specs.HalfFrames.{IsPagingRate};
-ghost use Rattle.cell_plan.specs.Pages.{paging_rate};
+ghost use Rattle.cell_plan.specs.Pages.{sent_paging_rate};
 ghost use Rattle.cell_plan.specs.Plan.{IsLawfulPlan, IsPagingPlan, IsTrafficPlan};
 ghost use Rattle.cell_plan.specs.Signal.{carriers, paging_carrier, samples_of, traffic_carrier};
 ghost use Rattle.cell_plan.specs.Transmitter.{IsSendableSync, header_of, phase_at, version_of};
@@ -84,7 +84,7 @@ fn phase_for(plan: &CellPlan, chip: u64) -> u16
 
 /// The rate of the paging channels, which the sync channel's message tells (TIA/EIA-95-B, 7.7.1.3).
 fn paging_rate(sync: Option<SyncPlan>) -> Rate
-    ensures value { result ≡ paging_rate sync }
+    ensures value { result ≡ sent_paging_rate sync }
     ensures paging { IsPagingRate result }
 {
     match sync {
@@ -97,7 +97,7 @@ fn paging_rate(sync: Option<SyncPlan>) -> Rate
 fn paging_channel(plan: &CellPlan, paging: &PagingPlan) -> Channel
     requires pn { plan.now.cell.pn < 512 }
     requires lc { IsState plan.now.cell.lc }
-    requires paging { IsPagingPlan (paging_rate plan.now.sync) paging.now }
+    requires paging { IsPagingPlan (sent_paging_rate plan.now.sync) paging.now }
     ensures { carrier_of result ≡ paging_carrier plan.now paging.now }
 {
     let mask = paging_mask(paging.number, plan.cell.pn);
@@ -120,7 +120,7 @@ fn with_paging(
 ) -> Result<Vec<Channel>, OutOfMemory>
     requires pn { plan.now.cell.pn < 512 }
     requires lc { IsState plan.now.cell.lc }
-    requires paging { All (IsPagingPlan (paging_rate plan.now.sync)) paging.now }
+    requires paging { All (IsPagingPlan (sent_paging_rate plan.now.sync)) paging.now }
     ensures { IfOk result (λ all. map carrier_of all.items ≡
         map carrier_of channels.items ++ map (paging_carrier plan.now) paging.now) }
 {
@@ -175,7 +175,7 @@ fn channels_for(alloc: Global, plan: &CellPlan) -> Result<Vec<Channel>, OutOfMem
     requires sync { IsSendableSync plan.now plan.now.sync }
     requires pn { plan.now.cell.pn < 512 }
     requires lc { IsState plan.now.cell.lc }
-    requires paging { All (IsPagingPlan (paging_rate plan.now.sync)) plan.now.paging }
+    requires paging { All (IsPagingPlan (sent_paging_rate plan.now.sync)) plan.now.paging }
     requires traffic { All IsTrafficPlan plan.now.traffic }
     ensures { IfOk result (λ channels. map carrier_of channels.items ≡ carriers plan.now) }
 {

@@ -33,11 +33,11 @@ impl Model for Sendings {
 
     ghost Value = { Sent };
 
-    ghost use Rattle.cell_samples.specs.Kept.{IsKept};
+    ghost use Rattle.cell_samples.specs.Kept.{IsKeptCapsule};
 
     ghost view = { λ s. record { cell = s.cell; message = s.message } };
 
-    ghost invariant = { λ s. IsKept s.cell s.message s.superframes s.kept s.capsule };
+    ghost invariant = { λ s. IsKeptCapsule s.cell s.message s.superframes s.kept s.capsule };
 }
 
 /// How many superframes a capsule takes.

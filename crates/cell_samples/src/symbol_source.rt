@@ -2,7 +2,7 @@
 
 ghost use Rattle.std.specs.Prelude.{◌≡◌, ◌<◌, ◌*◌, ◌^◌, false, [], ◌∷◌, length};
 ghost use Rattle.cell_samples.specs.Continued.{symbol_count};
-ghost use Rattle.cell_samples.specs.Channels.{form_of, symbols_of};
+ghost use Rattle.cell_samples.specs.Channels.{form_of, source_symbols};
 
 use crate::continued::ContinuedEncoder;
 use crate::traffic_cycle::TrafficCycle;
@@ -44,7 +44,7 @@ impl SymbolSource {
     /// The symbols of a frame that begins within the first 2^34 chips.
     pub fn symbols(&mut self, frame: u64) -> Bits
         requires { frame * (form_of self.old).frame_chips < 2 ^ 34 }
-        ensures value { result ≡ symbols_of self.old frame }
+        ensures value { result ≡ source_symbols self.old frame }
         ensures count { length result ≡ symbol_count (form_of self.old) }
         ensures same { self.new ≡ self.old }
     {

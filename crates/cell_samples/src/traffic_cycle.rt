@@ -3,7 +3,8 @@
 ghost use Rattle.std.specs.Prelude.{◌≡◌, ◌+◌, ◌*◌, ◌<◌, ◌≤◌, ◌^◌, length, All};
 ghost use Rattle.std.specs.List.{flat_map};
 ghost use Rattle.long_code.specs.LongCode.{IsState};
-ghost use Rattle.cell_plan.specs.TrafficFrames.{frame_state, traffic_frame_symbols, cycled};
+ghost use Rattle.cell_plan.specs.TrafficFrames.{sent_frame_state, traffic_frame_symbols};
+ghost use Rattle.cell_plan.specs.TrafficFrames.{frames_in_turn};
 ghost use Rattle.cell_plan.specs.TrafficFrames.{frame_count, traffic_symbols, traffic_symbols2};
 ghost use Rattle.cell_plan.specs.TrafficFrames.{AreTrafficFrames, IsTrafficFrame, IsTrafficFrame2};
 
@@ -44,7 +45,7 @@ fn symbols_of_one(frames: &[TrafficFrame], frame: u64, state: &State, mask: u64)
     requires some { 1 ≤ length frames.now }
     requires frames { All IsTrafficFrame frames.now }
     ensures value { result ≡
-        flat_map (traffic_symbols state.now mask) (cycled frames.now frame) }
+        flat_map (traffic_symbols state.now mask) (frames_in_turn frames.now frame) }
     ensures count { length result ≡ 384 }
 {
     let place = (frame % frames.len() as u64) as usize;
@@ -57,7 +58,7 @@ fn symbols_of_two(frames: &[TrafficFrame2], frame: u64, state: &State, mask: u64
     requires some { 1 ≤ length frames.now }
     requires frames { All IsTrafficFrame2 frames.now }
     ensures value { result ≡
-        flat_map (traffic_symbols2 state.now mask) (cycled frames.now frame) }
+        flat_map (traffic_symbols2 state.now mask) (frames_in_turn frames.now frame) }
     ensures count { length result ≡ 384 }
 {
     let place = (frame % frames.len() as u64) as usize;
@@ -98,7 +99,7 @@ impl TrafficCycle {
     /// The long code's state at a frame's first chip.
     fn state_at(&self, frame: u64) -> State
         requires { frame < 2 ^ 20 }
-        ensures { result ≡ frame_state self.now frame }
+        ensures { result ≡ sent_frame_state self.now frame }
     {
         let mut state = State::new(self.cell.lc).unwrap();
         state.jump(self.first_chip(frame));

@@ -28,7 +28,7 @@ pub use Rattle.std.specs.Str.{all_ascii_digits}
 pub use Rattle.cdma_io.specs.SampleFile.{most_samples}
 pub use Rattle.cell_plan.proofs.CarriedPages.{channel_carried, heard_messages}
 pub use Rattle.cell_plan.proofs.MachineInts.{read64}
-pub use Rattle.cell_plan.specs.Pages.{AreSendable, half_frame_bits, laid_behind, paging_rate}
+pub use Rattle.cell_plan.specs.Pages.{AreSendable, half_frame_bits, laid_behind, sent_paging_rate}
 pub use Rattle.cell_plan.specs.Plan.{AreLawfulBeside, HaveOwnNumbers, HaveOwnTrafficRows, IsFreeOf, IsLawfulPlan, IsPagingPlan, IsSyncPlan}
 pub use Rattle.cell_plan.specs.Plan.{IsTrafficPlan, loudness, most_part, paging_gains, sync_gain, traffic_gains}
 pub use Rattle.cell_plan.specs.Stated.{AreHeard, HasMessages, HasSaid, IsCarried, IsReceivable, IsStatedCell, IsStatedLink, IsStatedPaging}
@@ -81,28 +81,29 @@ pub use Rattle.cell_script.specs.Script.{ChannelLine, channel, channel_lines, fi
 pub use Rattle.cell_script.specs.Script.{named, onto_first, paging_lines, plan_fault, repeated, repeated_behind, silent, sync_gain_fault}
 pub use Rattle.cell_script.specs.Script.{traffic_lines, unless, walsh_fault}
 unfoldable pub use Rattle.cell_script.specs.Script.{draft_after, is_line, lines, plan_named, stated, stated_plan}
-pub use Rattle.cell_script.specs.ScriptDrafts.{Draft, draft_at, empty_draft, empty_plan, on_last, opened, opened_traffic, plan_at}
+pub use Rattle.cell_script.specs.ScriptDrafts.{Draft, draft_at, empty_draft, empty_plan, on_last, opened_paging, opened_traffic, plan_at}
 pub use Rattle.cell_script.specs.ScriptDrafts.{with_frame, with_frame2, with_page, with_statement}
 unfoldable pub use Rattle.cell_script.specs.ScriptDrafts.{with_line, with_next}
-pub use Rattle.cell_script.specs.Rows.{AreUpTo, NumberRow, key_of, local_rows, mosts, network_rows, ranged, row, sync_row}
+pub use Rattle.cell_script.specs.Rows.{AreUpTo, NumberRow, key_of, local_rows, mosts, network_rows, ranged, number_row, sync_row}
 unfoldable pub use Rattle.cell_script.specs.Rows.{numbers_in, past_numbers}
 pub use Rattle.cell_script.specs.ScriptFields.{at_end, past_at, unsigned_at, unsigned_of, value_of, ◌>>=◌}
-unfoldable pub use Rattle.cell_script.specs.ScriptFields.{field, past}
+unfoldable pub use Rattle.cell_script.specs.ScriptFields.{script_field, past}
 pub use Rattle.cell_script.specs.ScriptJudged.{HasJudged, HasSeen, IsInOrder, IsJudged, gains_of, judged_fault}
 pub use Rattle.cell_script.specs.ScriptLines.{cell_line, frame2_key, frame2_rate, frame_by, frame_key, frame_rate, has_lawful_rest, is_link}
-pub use Rattle.cell_script.specs.ScriptLines.{lawful_frame, lawful_message, lawful_page, link_line, page_key, page_with, paging_line}
-pub use Rattle.cell_script.specs.ScriptLines.{gain_row, sync_fields, traffic_line, traffic_rows}
-unfoldable pub use Rattle.cell_script.specs.ScriptLines.{cell_in, frame2_in, frame_in, freq_in, link_in, page_in, paging_in, pilot_in}
+pub use Rattle.cell_script.specs.ScriptLines.{lawful_frame, lawful_message, lawful_page, link_line, page_key, page_with, stated_paging_line}
+pub use Rattle.cell_script.specs.ScriptLines.{gain_row, sync_fields, stated_traffic_line, traffic_rows}
+unfoldable pub use Rattle.cell_script.specs.ScriptLines.{cell_in, frame2_in, traffic_frame_in, freq_in, link_in, stated_page_in, paging_in}
+unfoldable pub use Rattle.cell_script.specs.ScriptLines.{pilot_in}
 unfoldable pub use Rattle.cell_script.specs.ScriptLines.{statement_in, sync_behind, sync_in, traffic_in}
-pub use Rattle.cell_script.specs.ScriptPlans.{IsLawful}
+pub use Rattle.cell_script.specs.ScriptPlans.{IsLawfulStatement}
 unfoldable pub use Rattle.cell_script.specs.ScriptSplitting.{first_stated}
 pub use Rattle.cell_script.specs.ScriptStages.{after_cell, after_frame, after_frame2, after_link, after_page, after_paging, after_pilot}
 pub use Rattle.cell_script.specs.ScriptStages.{after_sync, after_traffic, behind_sync, count_behind, is_complete, is_cycle, may_follow}
 pub use Rattle.cell_script.specs.ScriptStages.{next_stage}
-unfoldable pub use Rattle.cell_script.specs.ScriptStages.{pages_behind}
-pub use Rattle.cell_script.specs.ScriptValues.{all_clear, as_state, begins_with, behind, binary_digit, hex_digit, is_plain, negative}
+unfoldable pub use Rattle.cell_script.specs.ScriptStages.{page_stage}
+pub use Rattle.cell_script.specs.ScriptValues.{all_clear, as_state, begins_with, text_after, binary_digit, hex_digit, is_plain, negative}
 pub use Rattle.cell_script.specs.ScriptValues.{number_in, positive, serial_number_in, signed_behind, up_to}
-unfoldable pub use Rattle.cell_script.specs.ScriptValues.{bits_in, power_bits_in, digits_behind, hex_bits, hex_from, length_before}
+unfoldable pub use Rattle.cell_script.specs.ScriptValues.{bits_in_text, power_bits_in, digits_behind, hex_bits, hex_from, length_before}
 unfoldable pub use Rattle.cell_script.specs.ScriptValues.{number_up_to, signed_in, state_in}
 pub use Rattle.cell_script.specs.declared.judge.ChannelRows.{ChannelRows}
 pub use Rattle.cell_script.specs.declared.judge.Judge.{Judge}

@@ -3,19 +3,21 @@ use Rattle.cell_script.proofs.Common.{◌≡◌, ℕ, zero, suc, ◌+◌, ◌-�
 use Rattle.cell_script.proofs.Common.{refl, sym, ap, subst, ◌∙◌, arith, Option, None, Some, Result, Ok, Err, option_or, nat_lt, ◌==◌, ok_or}
 use Rattle.cell_script.proofs.Common.{option_map, option_and_then, All, and_parts, cond-true, cond-false, eqb-true, leb-true, ltb-false}
 use Rattle.cell_script.proofs.Common.{All-nil, All-push, cond_some, same_Some, norm, most_samples, Width, FillsCapsule, M30, Rate, R9600}
-use Rattle.cell_script.proofs.Common.{R4800, HasMessage, bits_left, half_frame_body, half_frame_bits, laid_behind, paging_rate, AreSendable}
+use Rattle.cell_script.proofs.Common.{R4800, HasMessage, bits_left, half_frame_body, half_frame_bits, laid_behind, sent_paging_rate}
+use Rattle.cell_script.proofs.Common.{AreSendable}
 use Rattle.cell_script.proofs.Common.{CellPlan, Page, PagingPlan, CellIdentity, LinkPlan, PilotPlan, SyncPlan, Stage, Cell, Link, Pilot}
 use Rattle.cell_script.proofs.Common.{Sync, Paging, FirstPage, Pages, Traffic, FirstFrame, Frames, Frames2, TrafficPlan, FrameList}
 use Rattle.cell_script.proofs.Common.{TrafficFrame, TrafficFrame2, PagingLine, TrafficLine, Statement, ScriptFault, Gain, TooBig, Walsh}
 use Rattle.cell_script.proofs.Common.{loudness, most_part, IsLawfulPlan, IsSyncPlan, draft_after, gain_fault, is_line, lines, long_fault}
 use Rattle.cell_script.proofs.Common.{channel_lines, loud_fault, named, plan_fault, plan_named, traffic_lines, repeated, silent, stated}
-use Rattle.cell_script.proofs.Common.{stated_plan, sync_gain_fault, unless, walsh_fault, draft_at, Draft, empty_draft, empty_plan, opened}
+use Rattle.cell_script.proofs.Common.{stated_plan, sync_gain_fault, unless, walsh_fault, draft_at, Draft, empty_draft, empty_plan}
+use Rattle.cell_script.proofs.Common.{opened_paging}
 use Rattle.cell_script.proofs.Common.{on_last, opened_traffic, plan_at, with_line, with_next, with_page, with_statement, with_one, with_two}
 use Rattle.cell_script.proofs.Common.{frame_count, set_one, set_two, AreTrafficFrames, IsTrafficFrame, IsTrafficFrame2, IsInOrder}
 use Rattle.cell_script.proofs.Common.{statement_in, AreHeard, HasSaid, IsStatedCell, IsStatedLink, IsStatedPaging, IsStatedPlan}
-use Rattle.cell_script.proofs.Common.{IsStatedSync, IsStatedTraffic, IsLawful, after_cell, after_frame, after_link, after_page}
+use Rattle.cell_script.proofs.Common.{IsStatedSync, IsStatedTraffic, IsLawfulStatement, after_cell, after_frame, after_link, after_page}
 use Rattle.cell_script.proofs.Common.{after_paging, after_pilot, after_sync, after_traffic, after_frame2, behind_sync, count_behind}
-use Rattle.cell_script.proofs.Common.{is_cycle, may_follow, next_stage, pages_behind}
+use Rattle.cell_script.proofs.Common.{is_cycle, may_follow, next_stage, page_stage}
 use Rattle.std.proofs.lemmas.List.{length-append}
 use Rattle.cell_script.proofs.ScriptBounds.{line_bounds, passed}
 use Rattle.cell_script.proofs.ScriptPages.{with_page-last}
@@ -67,7 +69,7 @@ heard-append size count (p ∷ pages) page are is room = (
 
 -- the last channel is under way: its pages have so many body bits
 pub record IsOpen (rate : Rate) (count : ℕ) (plan : CellPlan) : Type 0 where
-  pub rate_is : paging_rate plan.sync ≡ rate
+  pub rate_is : sent_paging_rate plan.sync ≡ rate
   pub before : List PagingPlan
   pub last : PagingPlan
   pub channels : plan.paging ≡ before ++ last ∷ []
@@ -83,7 +85,7 @@ HasPages rate count plan = (o : IsOpen rate count plan) × (1 ≤ length o.last.
 
 -- the last traffic channel is under way
 pub record IsOpenTraffic (plan : CellPlan) : Type 0 where
-  pub paging : All (IsStatedPaging (paging_rate plan.sync)) plan.paging
+  pub paging : All (IsStatedPaging (sent_paging_rate plan.sync)) plan.paging
   pub before : List TrafficPlan
   pub last : TrafficPlan
   pub channels : plan.traffic ≡ before ++ last ∷ []
@@ -99,7 +101,7 @@ abbrev pub IsBare : CellPlan → Type 0
 IsBare plan = (plan.paging ≡ []) × (plan.traffic ≡ [])
 
 abbrev pub HasChannels : Stage → CellPlan → Type 0
-HasChannels (Paging rate) plan = IsBare plan × (paging_rate plan.sync ≡ rate)
+HasChannels (Paging rate) plan = IsBare plan × (sent_paging_rate plan.sync ≡ rate)
 HasChannels (FirstPage rate) plan = IsOpen rate 0 plan
 HasChannels (Pages rate count) plan = HasPages rate count plan
 HasChannels FirstFrame plan = IsOpenTraffic plan
@@ -166,17 +168,17 @@ channels_sync stage next plan sync has e = absurd (cc e)
 -- ---- one paging channel more
 
 abbrev with_channel : CellPlan → PagingLine → CellPlan
-with_channel plan line = record plan { paging = plan.paging ++ opened line ∷ [] }
+with_channel plan line = record plan { paging = plan.paging ++ opened_paging line ∷ [] }
 
 -- a channel is opened after others
 opened_behind : (rate : Rate) (plan : CellPlan) (line : PagingLine) →
-    (1 ≤ line.number) × (line.number ≤ 7) → paging_rate plan.sync ≡ rate →
+    (1 ≤ line.number) × (line.number ≤ 7) → sent_paging_rate plan.sync ≡ rate →
     plan.traffic ≡ [] → All (IsStatedPaging rate) plan.paging →
     IsOpen rate 0 (with_channel plan line)
 opened_behind rate plan line number rate_is bare are = record {
   rate_is = rate_is;
   before = plan.paging;
-  last = opened line;
+  last = opened_paging line;
   channels = refl;
   bare = bare;
   stated = are;
@@ -261,8 +263,8 @@ follow_room rate count false test same = absurd (cc same)
 
 page_taken : (rate : Rate) (count : ℕ) (next : Stage) (plan : CellPlan) (page : Page) →
     FillsCapsule M30 page.body × HasMessage page.body → IsOpen rate count plan →
-    pages_behind rate count page ≡ Some next → HasChannels next (with_more plan page)
-unfolding pages_behind
+    page_stage rate count page ≡ Some next → HasChannels next (with_more plan page)
+unfolding page_stage
 page_taken rate count next plan page is o e =
     let behind = count_behind rate count page in
     let told = cond_some _ (Pages rate behind) next e in
@@ -291,7 +293,7 @@ IsRowed line = (line.row ≤ 63) × (line.offset ≤ 15)
 
 -- a traffic channel is opened after others
 traffic_behind : (plan : CellPlan) (line : TrafficLine) → IsRowed line →
-    All (IsStatedPaging (paging_rate plan.sync)) plan.paging → All IsStatedTraffic plan.traffic →
+    All (IsStatedPaging (sent_paging_rate plan.sync)) plan.paging → All IsStatedTraffic plan.traffic →
     IsOpenTraffic (with_traffic plan line)
 traffic_behind plan line bounds paging are = record {
   paging = paging;
@@ -316,13 +318,13 @@ traffic_closed plan has =
     (All-push IsStatedTraffic o.before o.last o.stated last)
 
 -- the paging channels before the first traffic channel
-at_rate : (rate : Rate) (plan : CellPlan) → paging_rate plan.sync ≡ rate →
+at_rate : (rate : Rate) (plan : CellPlan) → sent_paging_rate plan.sync ≡ rate →
     All (IsStatedPaging rate) plan.paging →
-    All (IsStatedPaging (paging_rate plan.sync)) plan.paging
+    All (IsStatedPaging (sent_paging_rate plan.sync)) plan.paging
 at_rate rate plan is are = subst (λ (r : Rate). All (IsStatedPaging r) plan.paging) (sym is) are
 
 paging_closed : (rate : Rate) (count : ℕ) (plan : CellPlan) → HasPages rate count plan →
-    All (IsStatedPaging (paging_rate plan.sync)) plan.paging
+    All (IsStatedPaging (sent_paging_rate plan.sync)) plan.paging
 paging_closed rate count plan has =
     at_rate rate plan has.0.rate_is (closed rate count plan has)
 
@@ -331,7 +333,7 @@ channels_traffic : (stage next : Stage) (plan : CellPlan) (line : TrafficLine) �
     HasChannels next (with_traffic plan line)
 channels_traffic (Paging rate) next plan line bounds has e =
     next_has FirstFrame next (with_traffic plan line) e
-    (traffic_behind plan line bounds (no_channels (paging_rate plan.sync) plan has.0.0)
+    (traffic_behind plan line bounds (no_channels (sent_paging_rate plan.sync) plan has.0.0)
     (no_traffic plan has.0.1))
 channels_traffic (Pages rate count) next plan line bounds has e =
     next_has FirstFrame next (with_traffic plan line) e
@@ -339,7 +341,7 @@ channels_traffic (Pages rate count) next plan line bounds has e =
     (no_traffic plan has.0.bare))
 channels_traffic Traffic next plan line bounds has e =
     next_has FirstFrame next (with_traffic plan line) e
-    (traffic_behind plan line bounds (no_channels (paging_rate plan.sync) plan has.0)
+    (traffic_behind plan line bounds (no_channels (sent_paging_rate plan.sync) plan has.0)
     (no_traffic plan has.1))
 channels_traffic Frames next plan line bounds has e =
     next_has FirstFrame next (with_traffic plan line) e
@@ -423,7 +425,7 @@ pub record IsAt (stage : Stage) (plan : CellPlan) : Type 0 where
   pub parts : HasParts plan
   pub channels : HasChannels stage plan
 
-parts_with : (plan : CellPlan) (statement : Statement) → IsLawful statement → HasParts plan →
+parts_with : (plan : CellPlan) (statement : Statement) → IsLawfulStatement statement → HasParts plan →
     HasParts (with_statement plan statement)
 parts_with plan (statements.Cell cell) is parts =
     record { cell = is; link = parts.link; sync = parts.sync; linked = parts.linked }
@@ -435,7 +437,7 @@ parts_with plan statement is parts =
     record { cell = parts.cell; link = parts.link; sync = parts.sync; linked = parts.linked }
 
 channels_with : (stage next : Stage) (plan : CellPlan) (statement : Statement) →
-    IsLawful statement → HasChannels stage plan → next_stage stage statement ≡ Some next →
+    IsLawfulStatement statement → HasChannels stage plan → next_stage stage statement ≡ Some next →
     HasChannels next (with_statement plan statement)
 channels_with stage next plan (statements.Cell cell) is = channels_cell stage next plan cell
 channels_with stage next plan (statements.Link link) is = channels_link stage next plan link
@@ -450,7 +452,7 @@ channels_with stage next plan (statements.Frame2 frame) is =
     channels_frame2 stage next plan frame is
 
 -- a statement adds what is within its bounds to a plan that is
-pub added : (stage next : Stage) (plan : CellPlan) (statement : Statement) → IsLawful statement →
+pub added : (stage next : Stage) (plan : CellPlan) (statement : Statement) → IsLawfulStatement statement →
     IsAt stage plan → next_stage stage statement ≡ Some next →
     IsAt next (with_statement plan statement)
 added stage next plan statement is before e = record {
@@ -478,7 +480,7 @@ abbrev Said : Draft → Type 0
 Said draft = IsAt draft.stage draft.plan
 
 next_said : (draft next : Draft) (statement : Statement) (stage : Option Stage) →
-    next_stage draft.stage statement ≡ stage → IsLawful statement → Said draft →
+    next_stage draft.stage statement ≡ stage → IsLawfulStatement statement → Said draft →
     option_map (draft_at (with_statement draft.plan statement)) stage ≡ Some next → Said next
 next_said draft next statement None after is said e = absurd (cc e)
 next_said draft next statement (Some stage) after is said e =
@@ -506,7 +508,7 @@ draft_said draft next line said e =
 -- ---- the plan that lines state
 
 whole : (plan : CellPlan) → HasParts plan →
-    All (IsStatedPaging (paging_rate plan.sync)) plan.paging → All IsStatedTraffic plan.traffic →
+    All (IsStatedPaging (sent_paging_rate plan.sync)) plan.paging → All IsStatedTraffic plan.traffic →
     HasSaid plan
 whole plan parts are traffic = record {
   lawful = record {
@@ -521,7 +523,7 @@ whole plan parts are traffic = record {
 
 whole_bare : (plan : CellPlan) → HasParts plan → IsBare plan → HasSaid plan
 whole_bare plan parts bare =
-    whole plan parts (no_channels (paging_rate plan.sync) plan bare.0) (no_traffic plan bare.1)
+    whole plan parts (no_channels (sent_paging_rate plan.sync) plan bare.0) (no_traffic plan bare.1)
 
 plan_said : (stage : Stage) (n : ℕ) (said plan : CellPlan) → IsAt stage said →
     ok_or (plan_at (draft_at said stage)) n ≡ Ok plan → HasSaid plan
@@ -611,7 +613,7 @@ lawful : (width : Width) (plan : CellPlan) → IsStatedPlan plan → plan_fault 
 lawful width plan said e =
     let ls = channel_lines plan in
     let more = traffic_lines plan.traffic in
-    let rate = paging_rate plan.sync in
+    let rate = sent_paging_rate plan.sync in
     let rows = neither (walsh_fault (repeated ls))
     (option_or (gain_fault plan.pilot plan.sync (silent ls))
     (option_or (loud_fault width (loudness plan)) (long_fault width plan.link.samples))) e in

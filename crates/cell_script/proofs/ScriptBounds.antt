@@ -4,12 +4,17 @@ use Rattle.cell_script.proofs.Common.{refl, sym, subst, ◌∙◌, arith, ℤ, u
 use Rattle.cell_script.proofs.Common.{◌==◌, option_and_then, option_map, FitsSigned, w16, and_parts, cond-false, cond-true, eqb-false}
 use Rattle.cell_script.proofs.Common.{eqb-true, leb-true, ltb-true, ints, cond_some, same_Some, norm, FieldsFit, IsState, fixed_fields}
 use Rattle.cell_script.proofs.Common.{IsSyncMessage, SyncFields, admitted, SyncPlan, CellIdentity, LinkPlan, NumberRow, AreUpTo, at_end}
-use Rattle.cell_script.proofs.Common.{field, numbers_in, past, value_of, cell_in, cell_line, freq_in, has_lawful_rest, is_link, link_in}
-use Rattle.cell_script.proofs.Common.{link_line, sync_behind, sync_fields, sync_in, frame_in, frame_key, frame_rate, frame2_in, frame_by}
-use Rattle.cell_script.proofs.Common.{frame2_key, frame2_rate, lawful_frame, traffic_in, traffic_line, lawful_message, lawful_page, page_in}
-use Rattle.cell_script.proofs.Common.{page_key, page_with, paging_in, paging_line, pilot_in, statement_in, Page, PagingLine, TrafficLine}
+use Rattle.cell_script.proofs.Common.{script_field, numbers_in, past, value_of, cell_in, cell_line, freq_in, has_lawful_rest, is_link}
+use Rattle.cell_script.proofs.Common.{link_in}
+use Rattle.cell_script.proofs.Common.{link_line, sync_behind, sync_fields, sync_in, traffic_frame_in, frame_key, frame_rate, frame2_in}
+use Rattle.cell_script.proofs.Common.{frame_by}
+use Rattle.cell_script.proofs.Common.{frame2_key, frame2_rate, lawful_frame, traffic_in, stated_traffic_line, lawful_message, lawful_page}
+use Rattle.cell_script.proofs.Common.{stated_page_in}
+use Rattle.cell_script.proofs.Common.{page_key, page_with, paging_in, stated_paging_line, pilot_in, statement_in, Page, PagingLine}
+use Rattle.cell_script.proofs.Common.{TrafficLine}
 use Rattle.cell_script.proofs.Common.{TrafficFrame, TrafficFrame2, IsTrafficFrame, IsTrafficFrame2, information_of, Statement, HasMessage}
-use Rattle.cell_script.proofs.Common.{is_body, FillsCapsule, M30, IsLawful, IsStatedCell, IsStatedLink, as_state, begins_with, bits_in}
+use Rattle.cell_script.proofs.Common.{is_body, FillsCapsule, M30, IsLawfulStatement, IsStatedCell, IsStatedLink, as_state, begins_with}
+use Rattle.cell_script.proofs.Common.{bits_in_text}
 use Rattle.cell_script.proofs.Common.{hex_from, number_in, power_bits_in, number_up_to, serial_number_in, signed_in, state_in, up_to}
 use Rattle.cell_script.proofs.Common.{gain_row, local_rows, network_rows, unsigned_of}
 use Rattle.cell_script.proofs.ScriptMessages.{is_tail}
@@ -52,8 +57,8 @@ ended (byte ∷ bytes) value x e = absurd (cc e)
 
 -- the value of a field is read from its text
 field_read : {A : Type 0} (key : List ℕ) (read : List ℕ → Option A) (text : List ℕ) (x : A) →
-    field key read text ≡ Some x → read (value_of key text) ≡ Some x
-unfolding field
+    script_field key read text ≡ Some x → read (value_of key text) ≡ Some x
+unfolding script_field
 field_read key read text x e = passed (begins_with text key) (read (value_of key text)) x e
 
 number_most : (most : ℕ) (text : List ℕ) (n : ℕ) → number_up_to most text ≡ Some n → n ≤ most
@@ -64,7 +69,7 @@ number_most most text n e =
     omega (arith, leb-true told.0 most test.0, test.1)
 
 number_field : (key : List ℕ) (most : ℕ) (text : List ℕ) (n : ℕ) →
-    field key (number_up_to most) text ≡ Some n → n ≤ most
+    script_field key (number_up_to most) text ≡ Some n → n ≤ most
 number_field key most text n e =
     number_most most (value_of key text) n (field_read key (number_up_to most) text n e)
 
@@ -80,7 +85,7 @@ pub numbers_up_to : (fields : List NumberRow) (text numbers : List ℕ) →
 unfolding numbers_in
 numbers_up_to [] text = λ numbers e k inside. absurd (omega (arith, inside))
 numbers_up_to (f ∷ fields) text =
-    both_steps (field f.key (number_up_to f.most) _) _ λ n n_is.
+    both_steps (script_field f.key (number_up_to f.most) _) _ λ n n_is.
     both_steps (numbers_in fields _) _ λ ns ns_is numbers e.
     subst (AreUpTo (f ∷ fields)) (same_Some (n ∷ ns) numbers e)
     (first_up_to f fields n ns (number_field f.key f.most text n n_is)
@@ -89,7 +94,7 @@ numbers_up_to (f ∷ fields) text =
 signed_most : (z : ℤ) → FitsSigned w16 z → unsigned_abs z ≤ 32768
 signed_most z fits = omega (arith, ints, fits.sfits)
 
-signed_field : (key text : List ℕ) (z : ℤ) → field key signed_in text ≡ Some z →
+signed_field : (key text : List ℕ) (z : ℤ) → script_field key signed_in text ≡ Some z →
     unsigned_abs z ≤ 32768
 signed_field key text z e =
     signed_most z
@@ -111,7 +116,7 @@ state_read text state e =
     (passed (length text == 11) (option_and_then as_state (hex_from 0 text)) state e) in
     state_some told.0 state (told.0 == 0) refl told.2
 
-state_field : (key text : List ℕ) (state : ℕ) → field key state_in text ≡ Some state → IsState state
+state_field : (key text : List ℕ) (state : ℕ) → script_field key state_in text ≡ Some state → IsState state
 state_field key text state e =
     state_read (value_of key text) state (field_read key state_in text state e)
 
@@ -126,10 +131,10 @@ pub cell_bounds : (text : List ℕ) (cell : CellIdentity) → cell_in text ≡ S
     IsStatedCell cell
 unfolding cell_in
 cell_bounds text =
-    both_steps (field (codes "cell pn=") (number_up_to 511) _) _ λ pn pn_is.
-    both_steps (field (codes " time=") (number_up_to 34359738368) _) _ λ time time_is.
-    both_steps (field (codes " lc=") state_in _) _ λ lc lc_is.
-    both_steps (field (codes " checks=") (number_up_to 3) _) _ λ checks checks_is cell e.
+    both_steps (script_field (codes "cell pn=") (number_up_to 511) _) _ λ pn pn_is.
+    both_steps (script_field (codes " time=") (number_up_to 34359738368) _) _ λ time time_is.
+    both_steps (script_field (codes " lc=") state_in _) _ λ lc lc_is.
+    both_steps (script_field (codes " checks=") (number_up_to 3) _) _ λ checks checks_is cell e.
     subst IsStatedCell (ended _ (cell_line pn time lc checks) cell e)
     (cell_fields pn time lc checks (number_field _ 511 _ pn pn_is)
     (number_field _ 34359738368 _ time time_is) (state_field _ _ lc lc_is))
@@ -162,10 +167,10 @@ pub link_bounds : (text : List ℕ) (link : LinkPlan) → link_in text ≡ Some 
     IsStatedLink link × (0 < norm link.factor)
 unfolding link_in
 link_bounds text =
-    both_steps (field (codes "link re=") signed_in _) _ λ re re_is.
-    both_steps (field (codes " im=") signed_in _) _ λ im im_is.
-    both_steps (field (codes " start=") (number_up_to 4294967295) _) _ λ start start_is.
-    both_steps (field (codes " samples=") (number_up_to 18446744073709551615) _) _
+    both_steps (script_field (codes "link re=") signed_in _) _ λ re re_is.
+    both_steps (script_field (codes " im=") signed_in _) _ λ im im_is.
+    both_steps (script_field (codes " start=") (number_up_to 4294967295) _) _ λ start start_is.
+    both_steps (script_field (codes " samples=") (number_up_to 18446744073709551615) _) _
     λ samples samples_is.
     both_steps (link_line re im start samples) _ λ line line_is link e.
     subst LinkBounds (ended _ line link e)
@@ -247,7 +252,7 @@ unfolding sync_behind
 behind_bounds gain network local text sync up small =
     both_steps (freq_in _) _
     (λ freq freq_is.
-    both_steps (field (codes " rest=") bits_in _) _ λ rest rest_is.
+    both_steps (script_field (codes " rest=") bits_in_text _) _ λ rest rest_is.
     both_steps (lawful_message (sync_fields network local freq rest)) _ λ message message_is sync e.
     subst SyncBounds (ended _ (record { gain = gain; message = message }) sync e)
     (message_bounds (sync_fields network local freq rest) message
@@ -258,7 +263,7 @@ pub sync_bounds : (text : List ℕ) (sync : SyncPlan) → sync_in text ≡ Some 
     IsSyncMessage sync.message
 unfolding sync_in
 sync_bounds text =
-    both_steps (field gain_row.key (unsigned_of gain_row.form) _) _ λ gain gain_is.
+    both_steps (script_field gain_row.key (unsigned_of gain_row.form) _) _ λ gain gain_is.
     both_steps (numbers_in network_rows _) _ λ network network_is.
     both_steps (numbers_in local_rows _) _ λ local local_is sync e.
     behind_bounds gain network local _ sync (numbers_up_to network_rows _ network network_is)
@@ -273,7 +278,7 @@ abbrev given : ℕ → ℕ → PagingLine
 given number gain = record { number = number; gain = gain }
 
 paging_some : (number gain : ℕ) (line : PagingLine) (none : Bool) → (number == 0) ≡ none →
-    number ≤ 7 → paging_line number gain ≡ Some line → PagingBounds line
+    number ≤ 7 → stated_paging_line number gain ≡ Some line → PagingBounds line
 paging_some number gain line true e small is =
     absurd (cc (cond-true (number == 0) None (Some (given number gain)) e, is))
 paging_some number gain line false e small is =
@@ -287,9 +292,9 @@ pub paging_bounds : (text : List ℕ) (line : PagingLine) → paging_in text ≡
     (1 ≤ line.number) × (line.number ≤ 7)
 unfolding paging_in
 paging_bounds text =
-    both_steps (field (codes "paging channel=") (number_up_to 7) _) _ λ number number_is.
-    both_steps (field (codes " gain=") (number_up_to 65535) _) _ λ gain gain_is.
-    both_steps (paging_line number gain) _ λ line line_is all e.
+    both_steps (script_field (codes "paging channel=") (number_up_to 7) _) _ λ number number_is.
+    both_steps (script_field (codes " gain=") (number_up_to 65535) _) _ λ gain gain_is.
+    both_steps (stated_paging_line number gain) _ λ line line_is all e.
     subst PagingBounds (ended _ line all e)
     (paging_some number gain line (number == 0) refl (number_field _ 7 _ number number_is) line_is)
 
@@ -305,13 +310,13 @@ page_some follows body page e =
 page_with_bounds : (follows : Bool) (text : List ℕ) (page : Page) →
     page_with follows text ≡ Some page → PageBounds page
 page_with_bounds follows text =
-    both_steps (field (page_key follows) bits_in _) _ λ body body_is.
+    both_steps (script_field (page_key follows) bits_in_text _) _ λ body body_is.
     both_steps (lawful_page follows body) _ λ page page_is all e.
     subst PageBounds (ended _ page all e) (page_some follows body page page_is)
 
-pub page_bounds : (text : List ℕ) (page : Page) → page_in text ≡ Some page →
+pub page_bounds : (text : List ℕ) (page : Page) → stated_page_in text ≡ Some page →
     FillsCapsule M30 page.body × HasMessage page.body
-unfolding page_in
+unfolding stated_page_in
 page_bounds text = page_with_bounds (begins_with text (codes "page next ")) text
 
 -- ---- traffic channels and frames
@@ -323,11 +328,11 @@ pub traffic_bounds : (text : List ℕ) (line : TrafficLine) → traffic_in text 
     (line.row ≤ 63) × (line.offset ≤ 15)
 unfolding traffic_in
 traffic_bounds text =
-    both_steps (field (codes "traffic row=") (number_up_to 63) _) _ λ row row_is.
-    both_steps (field (codes " esn=") serial_number_in _) _ λ esn esn_is.
-    both_steps (field (codes " offset=") (number_up_to 15) _) _ λ offset offset_is.
-    both_steps (field (codes " gain=") (number_up_to 65535) _) _ λ gain gain_is line e.
-    subst TrafficBounds (ended _ (traffic_line row esn offset gain) line e)
+    both_steps (script_field (codes "traffic row=") (number_up_to 63) _) _ λ row row_is.
+    both_steps (script_field (codes " esn=") serial_number_in _) _ λ esn esn_is.
+    both_steps (script_field (codes " offset=") (number_up_to 15) _) _ λ offset offset_is.
+    both_steps (script_field (codes " gain=") (number_up_to 65535) _) _ λ gain gain_is line e.
+    subst TrafficBounds (ended _ (stated_traffic_line row esn offset gain) line e)
     (number_field _ 63 _ row row_is, number_field _ 15 _ offset offset_is)
 
 -- what is true of what is made of as many information bits as there are to be
@@ -336,16 +341,16 @@ frame_by_bounds : {A : Type 0} (P : A → Type 0) (key : List ℕ) (size : ℕ)
     ((information power_bits : List Bool) → length information ≡ size → P (made information power_bits)) →
     (text : List ℕ) (frame : A) → frame_by key size made text ≡ Some frame → P frame
 frame_by_bounds P key size made each text =
-    both_steps (field key bits_in _) _ λ information information_is.
-    both_steps (field (codes " ") power_bits_in _) _ λ power_bits power_bits_is.
+    both_steps (script_field key bits_in_text _) _ λ information information_is.
+    both_steps (script_field (codes " ") power_bits_in _) _ λ power_bits power_bits_is.
     both_steps (lawful_frame size information (made information power_bits)) _ λ frame frame_is all e.
     let told = cond_some (length information == size) (made information power_bits) frame frame_is in
     subst P (ended _ frame all e)
     (subst P told.1 (each information power_bits (eqb-true (length information) size told.0)))
 
-pub frame_bounds : (text : List ℕ) (frame : TrafficFrame) → frame_in text ≡ Some frame →
+pub frame_bounds : (text : List ℕ) (frame : TrafficFrame) → traffic_frame_in text ≡ Some frame →
     IsTrafficFrame frame
-unfolding frame_in
+unfolding traffic_frame_in
 frame_bounds text =
     both_steps (frame_rate text) _ λ rate rate_is.
     frame_by_bounds IsTrafficFrame (frame_key rate) (information_of rate)
@@ -358,7 +363,7 @@ pub frame2_bounds : (text : List ℕ) (frame : TrafficFrame2) → frame2_in text
 unfolding frame2_in
 frame2_bounds text =
     both_steps (frame2_rate text) _ λ rate rate_is.
-    frame_by_bounds IsTrafficFrame2 (frame2_key rate) (second.information_of rate)
+    frame_by_bounds IsTrafficFrame2 (frame2_key rate) (second.information_of2 rate)
     (λ information power_bits.
     record { rate = rate; information = information; power_bits = power_bits })
     (λ information power_bits long. long) text
@@ -367,19 +372,19 @@ frame2_bounds text =
 
 step_told : {A : Type 0} (f : A → Statement) (read : Option A) (test : Bool)
     (other : Option Statement) (statement : Statement) →
-    ((x : A) → read ≡ Some x → IsLawful (f x)) → (other ≡ Some statement → IsLawful statement) →
-    cond test (option_map f read) other ≡ Some statement → IsLawful statement
+    ((x : A) → read ≡ Some x → IsLawfulStatement (f x)) → (other ≡ Some statement → IsLawfulStatement statement) →
+    cond test (option_map f read) other ≡ Some statement → IsLawfulStatement statement
 step_told f (Some x) true other statement here rest e =
-    subst IsLawful (same_Some (f x) statement e) (here x refl)
+    subst IsLawfulStatement (same_Some (f x) statement e) (here x refl)
 step_told f None true other statement here rest e = absurd (cc e)
 step_told f read false other statement here rest e = rest e
 
-no_line : (statement : Statement) → None ≡ Some statement → IsLawful statement
+no_line : (statement : Statement) → None ≡ Some statement → IsLawfulStatement statement
 no_line statement e = absurd (cc e)
 
 -- what a line states is within its bounds
 pub line_bounds : (text : List ℕ) (statement : Statement) → statement_in text ≡ Some statement →
-    IsLawful statement
+    IsLawfulStatement statement
 unfolding statement_in
 line_bounds text statement =
     step_told statements.Cell (cell_in text) _ _ statement (cell_bounds text)
@@ -387,8 +392,8 @@ line_bounds text statement =
     (step_told statements.Pilot (pilot_in text) _ _ statement (λ pilot is. tt)
     (step_told statements.Sync (sync_in text) _ _ statement (sync_bounds text)
     (step_told statements.Paging (paging_in text) _ _ statement (paging_bounds text)
-    (step_told statements.Page (page_in text) _ _ statement (page_bounds text)
+    (step_told statements.Page (stated_page_in text) _ _ statement (page_bounds text)
     (step_told statements.Traffic (traffic_in text) _ _ statement (traffic_bounds text)
-    (step_told statements.Frame (frame_in text) _ _ statement (frame_bounds text)
+    (step_told statements.Frame (traffic_frame_in text) _ _ statement (frame_bounds text)
     (step_told statements.Frame2 (frame2_in text) _ None statement (frame2_bounds text)
     (no_line statement)))))))))

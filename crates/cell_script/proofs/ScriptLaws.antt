@@ -4,9 +4,12 @@ use Rattle.cell_script.proofs.Common.{◌≡◌, ◌≢◌, ℕ, zero, suc, ◌+
 use Rattle.cell_script.proofs.Common.{take, refl, sym, ap, ◌∙◌, arith, append_assoc, Option, None, Some, Result, Ok, Err, IsOk, option_or}
 use Rattle.cell_script.proofs.Common.{codes, nat_lt, ok_or, option_map, ◌↔◌, take_at, length-take-le, binary, digits_from, decode_pairs}
 use Rattle.cell_script.proofs.Common.{admits, bits_left, fill, is_body, Rate, R9600, CellPlan, SyncPlan, Stage, Cell, Link, Pilot}
-use Rattle.cell_script.proofs.Common.{FirstPage, FirstFrame, ScriptFault, Line, Walsh, Gain, TooLoud, TooLong, TooBig, bits_in, hex_bits}
-use Rattle.cell_script.proofs.Common.{hex_from, length_before, power_bits_in, digits_behind, number_up_to, signed_in, state_in, field, past}
-use Rattle.cell_script.proofs.Common.{cell_in, frame_in, link_in, page_in, pilot_in, statement_in, pages_behind, Draft, empty_draft}
+use Rattle.cell_script.proofs.Common.{FirstPage, FirstFrame, ScriptFault, Line, Walsh, Gain, TooLoud, TooLong, TooBig, bits_in_text}
+use Rattle.cell_script.proofs.Common.{hex_bits}
+use Rattle.cell_script.proofs.Common.{hex_from, length_before, power_bits_in, digits_behind, number_up_to, signed_in, state_in}
+use Rattle.cell_script.proofs.Common.{script_field, past}
+use Rattle.cell_script.proofs.Common.{cell_in, traffic_frame_in, link_in, stated_page_in, pilot_in, statement_in, page_stage, Draft}
+use Rattle.cell_script.proofs.Common.{empty_draft}
 use Rattle.cell_script.proofs.Common.{plan_at, with_line, with_next, draft_after, is_line, lines, named, plan_fault, plan_named, stated}
 use Rattle.cell_script.proofs.Common.{stated_plan, sync_gain_fault, unless, Width, cond-true, cond-false, le-ltb, ltb-false}
 use Rattle.cell_script.proofs.ScriptSplits.{lines-append, draft_after-other, stated-fault, stated-next, stated-none}
@@ -41,23 +44,23 @@ completion other = []
 
 first_page_completed : (rate : Rate) (plan : CellPlan) (n : ℕ) →
     IsOk (stated (record { stage = FirstPage rate; plan = plan }) n (lines page_text))
-unfolding stated draft_after lines is_line with_line with_next statement_in page_in field past
-    length_before number_up_to digits_from bits_in hex_bits decode_pairs binary is_body admits
-    pages_behind bits_left fill
+unfolding stated draft_after lines is_line with_line with_next statement_in stated_page_in script_field past
+    length_before number_up_to digits_from bits_in_text hex_bits decode_pairs binary is_body admits
+    page_stage bits_left fill
 first_page_completed R9600 plan n = refl
 first_page_completed rate plan n = refl
 
 first_frame_completed : (plan : CellPlan) (n : ℕ) →
     IsOk (stated (record { stage = FirstFrame; plan = plan }) n (lines frame_text))
-unfolding stated draft_after lines is_line with_line with_next statement_in frame_in field past
-    length_before number_up_to digits_from bits_in hex_bits decode_pairs binary power_bits_in
+unfolding stated draft_after lines is_line with_line with_next statement_in traffic_frame_in script_field past
+    length_before number_up_to digits_from bits_in_text hex_bits decode_pairs binary power_bits_in
     digits_behind
 first_frame_completed plan n = refl
 
 completed_at : (stage : Stage) (plan : CellPlan) (n : ℕ) →
     IsOk (stated (record { stage = stage; plan = plan }) n (lines (completion stage)))
 unfolding stated draft_after lines is_line with_line with_next statement_in cell_in link_in
-    pilot_in field past length_before number_up_to digits_from signed_in state_in hex_from
+    pilot_in script_field past length_before number_up_to digits_from signed_in state_in hex_from
 completed_at (FirstPage rate) plan n = first_page_completed rate plan n
 completed_at FirstFrame plan n = first_frame_completed plan n
 completed_at stage plan n = refl

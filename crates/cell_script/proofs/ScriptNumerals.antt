@@ -5,7 +5,7 @@ use Rattle.cell_script.proofs.Common.{FitsSigned, codes, nat_le, nat_lt, option_
 use Rattle.cell_script.proofs.Common.{all_ascii_digits, cond-true, cond-false, eq-eqb, eqb-true, false≢true, le-leb, leb-true, ltb-true}
 use Rattle.cell_script.proofs.Common.{ltb-false, not-true, and_parts, eqb-suc-zero, IsNumeralModel, numerals_by_fold, decimal-digits_value}
 use Rattle.cell_script.proofs.Common.{digits_decimal, digits_value-decimal, decimal_nonempty, first_decimal, length-decimal-le, digits_from}
-use Rattle.cell_script.proofs.Common.{behind, is_plain, negative, number_in, number_up_to, positive, signed_behind, signed_in, up_to}
+use Rattle.cell_script.proofs.Common.{text_after, is_plain, negative, number_in, number_up_to, positive, signed_behind, signed_in, up_to}
 
 -- the value of digits after a number
 abbrev pub read_on : ℕ → List ℕ → ℕ
@@ -150,13 +150,13 @@ signed_in-minus : (digits : List ℕ) →
 unfolding signed_in
 signed_in-minus digits = refl
 
-signed_in-other : (text : List ℕ) → behind (codes "-") text ≡ None →
+signed_in-other : (text : List ℕ) → text_after (codes "-") text ≡ None →
     signed_in text ≡ option_and_then positive (number_up_to 32767 text)
 unfolding signed_in
 signed_in-other text none = ap (signed_behind text) none
 
 behind-other : (byte : ℕ) (bytes : List ℕ) → (byte == 45) ≡ false →
-    behind (codes "-") (byte ∷ bytes) ≡ None
+    text_after (codes "-") (byte ∷ bytes) ≡ None
 behind-other byte bytes other = rw other refl
 
 abbrev Spells : List ℕ → ℤ → Type 0
@@ -202,13 +202,13 @@ signed_spelled [] z some =
 signed_spelled (byte ∷ bytes) z some = signed_told byte bytes z (byte == 45) refl some
 
 no_minus_byte : (byte : ℕ) (bytes : List ℕ) (minus : Bool) → (byte == 45) ≡ minus →
-    all_ascii_digits (byte ∷ bytes) ≡ true → behind (codes "-") (byte ∷ bytes) ≡ None
+    all_ascii_digits (byte ∷ bytes) ≡ true → text_after (codes "-") (byte ∷ bytes) ≡ None
 no_minus_byte byte bytes true minus are =
     let is : byte ≡ 45 = eqb-true byte 45 minus in
     absurd (false≢true (ap (λ (b : ℕ). all_ascii_digits (b ∷ bytes)) (sym is) ∙ are))
 no_minus_byte byte bytes false other are = behind-other byte bytes other
 
-no_minus : (text : List ℕ) → all_ascii_digits text ≡ true → behind (codes "-") text ≡ None
+no_minus : (text : List ℕ) → all_ascii_digits text ≡ true → text_after (codes "-") text ≡ None
 no_minus [] are = refl
 no_minus (byte ∷ bytes) are = no_minus_byte byte bytes (byte == 45) refl are
 

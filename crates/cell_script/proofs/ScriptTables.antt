@@ -1,5 +1,6 @@
 -- The fields of a traffic channel's line.
-use Rattle.cell_script.proofs.Common.{◌≡◌, ℕ, List, [], refl, sym, Some, past_at, traffic_in, traffic_line, traffic_rows, unsigned_at}
+use Rattle.cell_script.proofs.Common.{◌≡◌, ℕ, List, [], refl, sym, Some, past_at, traffic_in, stated_traffic_line, traffic_rows}
+use Rattle.cell_script.proofs.Common.{unsigned_at}
 
 -- they were read one after another, and nothing is left after them
 pub traffic_read : (text0 text1 text2 text3 text4 : List ℕ) (row esn offset gain : ℕ) →
@@ -8,7 +9,7 @@ pub traffic_read : (text0 text1 text2 text3 text4 : List ℕ) (row esn offset ga
     unsigned_at traffic_rows 2 text2 ≡ Some offset → text3 ≡ past_at traffic_rows 2 text2 →
     unsigned_at traffic_rows 3 text3 ≡ Some gain → text4 ≡ past_at traffic_rows 3 text3 →
     text4 ≡ [] →
-    traffic_in text0 ≡ Some (traffic_line row esn offset gain)
+    traffic_in text0 ≡ Some (stated_traffic_line row esn offset gain)
 unfolding traffic_in
 traffic_read text0 text1 text2 text3 text4 row esn offset gain first past_first second past_second
     third past_third fourth past_fourth ended =

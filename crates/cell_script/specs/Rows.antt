@@ -2,7 +2,7 @@
 use Rattle.std.specs.Prelude.{ℕ, List, [], ◌∷◌, length, map, get_or, ◌<◌, ◌≤◌, ◌^◌, ◌-◌, ◌++◌}
 use Rattle.std.specs.Prelude.{codes, Option, None, Some}
 use Rattle.sync_message.specs.Rows.{sync_names, sync_widths}
-use Rattle.cell_script.specs.ScriptFields.{◌>>=◌, field, past}
+use Rattle.cell_script.specs.ScriptFields.{◌>>=◌, script_field, past}
 use Rattle.cell_script.specs.ScriptValues.{number_up_to}
 
 -- a field that holds a number: its key, and the greatest number
@@ -10,8 +10,8 @@ pub record NumberRow : Type 0 where
   pub key : List ℕ
   pub most : ℕ
 
-abbrev pub row : List ℕ → ℕ → NumberRow
-row key most = record { key = key; most = most }
+abbrev pub number_row : List ℕ → ℕ → NumberRow
+number_row key most = record { key = key; most = most }
 
 -- what stands before the value of a field of this name
 abbrev pub key_of : List ℕ → List ℕ
@@ -19,7 +19,7 @@ key_of name = codes " " ++ name ++ codes "="
 
 -- a field of a message by its name, with the range of its width
 abbrev pub ranged : List ℕ → ℕ → NumberRow
-ranged name width = row (key_of name) (2 ^ width - 1)
+ranged name width = number_row (key_of name) (2 ^ width - 1)
 
 -- field i of the sync message's table
 abbrev pub sync_row : ℕ → NumberRow
@@ -37,7 +37,7 @@ local_rows = map sync_row (7 ∷ 8 ∷ 9 ∷ 10 ∷ [])
 unfoldable pub numbers_in : List NumberRow → List ℕ → Option (List ℕ)
 numbers_in [] text = Some []
 numbers_in (f ∷ fields) text = do
-  number ← field f.key (number_up_to f.most) text
+  number ← script_field f.key (number_up_to f.most) text
   numbers ← numbers_in fields (past f.key text)
   Some (number ∷ numbers)
 

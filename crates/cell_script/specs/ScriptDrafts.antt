@@ -32,8 +32,8 @@ empty_plan = record {
 }
 
 -- a channel without pages
-abbrev pub opened : PagingLine → PagingPlan
-opened line = record { number = line.number; gain = line.gain; pages = [] }
+abbrev pub opened_paging : PagingLine → PagingPlan
+opened_paging line = record { number = line.number; gain = line.gain; pages = [] }
 
 -- one page more for the last of the channels
 abbrev pub with_page : List PagingPlan → Page → List PagingPlan
@@ -71,7 +71,7 @@ with_statement plan (statements.Link link) = record plan { link = link }
 with_statement plan (statements.Pilot pilot) = record plan { pilot = pilot }
 with_statement plan (statements.Sync sync) = record plan { sync = Some sync }
 with_statement plan (statements.Paging line) =
-    record plan { paging = plan.paging ++ opened line ∷ [] }
+    record plan { paging = plan.paging ++ opened_paging line ∷ [] }
 with_statement plan (statements.Page page) = record plan { paging = with_page plan.paging page }
 with_statement plan (statements.Traffic line) =
     record plan { traffic = plan.traffic ++ opened_traffic line ∷ [] }

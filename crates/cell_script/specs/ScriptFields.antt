@@ -18,8 +18,8 @@ unfoldable pub past : List ℕ → List ℕ → List ℕ
 past key text = drop (length_before 32 (keyed key text)) (keyed key text)
 
 -- the value of the field with which a text begins, read by a reader of values
-unfoldable pub field : {A : Type 0} → List ℕ → (List ℕ → Option A) → List ℕ → Option A
-field key read text = if begins_with text key then read (value_of key text) else None
+unfoldable pub script_field : {A : Type 0} → List ℕ → (List ℕ → Option A) → List ℕ → Option A
+script_field key read text = if begins_with text key then read (value_of key text) else None
 
 infixl 10 ◌>>=◌
 abbrev pub ◌>>=◌ : {A B : Type 0} → Option A → (A → Option B) → Option B
@@ -68,10 +68,10 @@ row_at rows i = get_or rows i (formed [] forms.State)
 
 -- its value at the beginning of a text, and the text after it
 abbrev pub unsigned_at : List StatementRow → ℕ → List ℕ → Option ℕ
-unsigned_at rows i text = field (row_at rows i).key (unsigned_of (row_at rows i).form) text
+unsigned_at rows i text = script_field (row_at rows i).key (unsigned_of (row_at rows i).form) text
 
 abbrev pub signed_at : List StatementRow → ℕ → List ℕ → Option ℤ
-signed_at rows i text = field (row_at rows i).key (signed_of (row_at rows i).form) text
+signed_at rows i text = script_field (row_at rows i).key (signed_of (row_at rows i).form) text
 
 abbrev pub past_at : List StatementRow → ℕ → List ℕ → List ℕ
 past_at rows i text = past (row_at rows i).key text

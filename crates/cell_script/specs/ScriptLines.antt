@@ -20,9 +20,9 @@ use Rattle.cell_script.specs.declared.statements.Statement.TheVariants as statem
 use Rattle.cell_script.specs.declared.tables.FieldForm.TheVariants as forms
 use Rattle.cell_script.specs.Rows.{NumberRow, local_rows, network_rows, numbers_in, past_numbers}
 use Rattle.cell_script.specs.Rows.{ranged}
-use Rattle.cell_script.specs.ScriptFields.{◌>>=◌, at_end, field, past, StatementRow, formed}
+use Rattle.cell_script.specs.ScriptFields.{◌>>=◌, at_end, script_field, past, StatementRow, formed}
 use Rattle.cell_script.specs.ScriptFields.{past_at, signed_at, unsigned_at, unsigned_of}
-use Rattle.cell_script.specs.ScriptValues.{begins_with, bits_in, power_bits_in, number_up_to}
+use Rattle.cell_script.specs.ScriptValues.{begins_with, bits_in_text, power_bits_in, number_up_to}
 use Rattle.cell_plan.specs.declared.traffic_frame.TrafficFrame.{TrafficFrame}
 use Rattle.cell_plan.specs.declared.traffic_frame2.TrafficFrame2.{TrafficFrame2}
 use Rattle.symbol_path.specs.RatesTwo as second
@@ -116,7 +116,7 @@ freq_number = ranged freq_row.name freq_row.width
 unfoldable pub freq_in : List ℕ → Option (Option ℕ)
 freq_in text =
     if begins_with text freq_number.key
-    then option_map Some (field freq_number.key (number_up_to freq_number.most) text)
+    then option_map Some (script_field freq_number.key (number_up_to freq_number.most) text)
     else Some None
 
 unfoldable pub past_freq : List ℕ → List ℕ
@@ -158,7 +158,7 @@ sync_behind gain network local text0 =
     let text2 = past (codes " rest=") text1 in
     do
       freq ← freq_in text0
-      rest ← field (codes " rest=") bits_in text1
+      rest ← script_field (codes " rest=") bits_in_text text1
       message ← lawful_message (sync_fields network local freq rest)
       at_end text2 (record { gain = gain; message = message })
 
@@ -167,14 +167,14 @@ sync_in text0 =
     let text1 = past gain_row.key text0 in
     let text2 = past_numbers network_rows text1 in
     do
-      gain ← field gain_row.key (unsigned_of gain_row.form) text0
+      gain ← script_field gain_row.key (unsigned_of gain_row.form) text0
       network ← numbers_in network_rows text1
       local ← numbers_in local_rows text2
       sync_behind gain network local (past_numbers local_rows text2)
 
 -- `paging channel=C gain=G`: C isn't 0
-abbrev pub paging_line : ℕ → ℕ → Option PagingLine
-paging_line number gain = if number == 0 then None else Some (record {
+abbrev pub stated_paging_line : ℕ → ℕ → Option PagingLine
+stated_paging_line number gain = if number == 0 then None else Some (record {
   number = number;
   gain = gain;
 })
@@ -191,7 +191,7 @@ paging_in text0 =
     do
       number ← unsigned_at paging_rows 0 text0
       gain ← unsigned_at paging_rows 1 text1
-      line ← paging_line number gain
+      line ← stated_paging_line number gain
       at_end text2 line
 
 -- `page half BITS` or `page next BITS`: the bits are the body of a paging message
@@ -206,16 +206,16 @@ lawful_page follows body =
 
 abbrev pub page_with : Bool → List ℕ → Option Page
 page_with follows text = do
-  body ← field (page_key follows) bits_in text
+  body ← script_field (page_key follows) bits_in_text text
   page ← lawful_page follows body
   at_end (past (page_key follows) text) page
 
-unfoldable pub page_in : List ℕ → Option Page
-page_in text = page_with (begins_with text (codes "page next ")) text
+unfoldable pub stated_page_in : List ℕ → Option Page
+stated_page_in text = page_with (begins_with text (codes "page next ")) text
 
 -- `traffic row=R esn=H offset=O gain=G`
-abbrev pub traffic_line : ℕ → ℕ → ℕ → ℕ → TrafficLine
-traffic_line row esn offset gain =
+abbrev pub stated_traffic_line : ℕ → ℕ → ℕ → ℕ → TrafficLine
+stated_traffic_line row esn offset gain =
     record { row = row; esn = esn; offset = offset; gain = gain }
 
 abbrev pub traffic_rows : List StatementRow
@@ -229,7 +229,7 @@ traffic_rows =
 unfoldable pub traffic_in : List ℕ → Option TrafficLine
 traffic_in =
     four_in unsigned_at traffic_rows
-    (λ row esn offset gain. Some (traffic_line row esn offset gain))
+    (λ row esn offset gain. Some (stated_traffic_line row esn offset gain))
 
 -- `frame RATE BITS COMMANDS`: as many bits as a frame of the rate has
 
@@ -259,8 +259,8 @@ frame_by key size made text0 =
     let text1 = past key text0 in
     let text2 = past (codes " ") text1 in
     do
-      information ← field key bits_in text0
-      power_bits ← field (codes " ") power_bits_in text1
+      information ← script_field key bits_in_text text0
+      power_bits ← script_field (codes " ") power_bits_in text1
       frame ← lawful_frame size information (made information power_bits)
       at_end text2 frame
 
@@ -269,8 +269,8 @@ frame_with rate = frame_by (frame_key rate) (information_of rate)
     (λ information power_bits.
     record { rate = rate; information = information; power_bits = power_bits })
 
-unfoldable pub frame_in : List ℕ → Option TrafficFrame
-frame_in text = do
+unfoldable pub traffic_frame_in : List ℕ → Option TrafficFrame
+traffic_frame_in text = do
   rate ← frame_rate text
   frame_with rate text
 
@@ -287,7 +287,7 @@ abbrev pub frame2_rate : List ℕ → Option Rate2
 frame2_rate = rate_by frame2_key (R14400 ∷ R7200 ∷ R3600 ∷ R1800 ∷ [])
 
 abbrev pub frame2_with : Rate2 → List ℕ → Option TrafficFrame2
-frame2_with rate = frame_by (frame2_key rate) (second.information_of rate)
+frame2_with rate = frame_by (frame2_key rate) (second.information_of2 rate)
     (λ information power_bits.
     record { rate = rate; information = information; power_bits = power_bits })
 
@@ -306,10 +306,11 @@ statement_in text =
     else (if begins_with text (codes "pilot ") then option_map statements.Pilot (pilot_in text)
     else (if begins_with text (codes "sync ") then option_map statements.Sync (sync_in text)
     else (if begins_with text (codes "paging ") then option_map statements.Paging (paging_in text)
-    else (if begins_with text (codes "page ") then option_map statements.Page (page_in text)
+    else (if begins_with text (codes "page ") then option_map statements.Page (stated_page_in text)
     else (if begins_with text (codes "traffic ")
     then option_map statements.Traffic (traffic_in text)
-    else (if begins_with text (codes "frame ") then option_map statements.Frame (frame_in text)
+    else (if begins_with text (codes "frame ") then option_map
+    statements.Frame (traffic_frame_in text)
     else (if begins_with text (codes "frame2 ")
     then option_map statements.Frame2 (frame2_in text)
     else None))))))))

@@ -23,13 +23,13 @@ HasRow (statements.Frame frame) = Unit {0}
 HasRow (statements.Frame2 frame) = Unit {0}
 
 -- what a statement says is within its bounds
-abbrev pub IsLawful : Statement → Type 0
-IsLawful (statements.Cell cell) = IsStatedCell cell
-IsLawful (statements.Link link) = IsStatedLink link × (0 < norm link.factor)
-IsLawful (statements.Pilot pilot) = Unit {0}
-IsLawful (statements.Sync sync) = IsSyncMessage sync.message
-IsLawful (statements.Paging line) = (1 ≤ line.number) × (line.number ≤ 7)
-IsLawful (statements.Page page) = FillsCapsule M30 page.body × HasMessage page.body
-IsLawful (statements.Traffic line) = (line.row ≤ 63) × (line.offset ≤ 15)
-IsLawful (statements.Frame frame) = IsTrafficFrame frame
-IsLawful (statements.Frame2 frame) = IsTrafficFrame2 frame
+abbrev pub IsLawfulStatement : Statement → Type 0
+IsLawfulStatement (statements.Cell cell) = IsStatedCell cell
+IsLawfulStatement (statements.Link link) = IsStatedLink link × (0 < norm link.factor)
+IsLawfulStatement (statements.Pilot pilot) = Unit {0}
+IsLawfulStatement (statements.Sync sync) = IsSyncMessage sync.message
+IsLawfulStatement (statements.Paging line) = (1 ≤ line.number) × (line.number ≤ 7)
+IsLawfulStatement (statements.Page page) = FillsCapsule M30 page.body × HasMessage page.body
+IsLawfulStatement (statements.Traffic line) = (line.row ≤ 63) × (line.offset ≤ 15)
+IsLawfulStatement (statements.Frame frame) = IsTrafficFrame frame
+IsLawfulStatement (statements.Frame2 frame) = IsTrafficFrame2 frame

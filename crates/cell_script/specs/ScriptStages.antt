@@ -31,8 +31,8 @@ may_follow rate count follows =
 abbrev pub is_cycle : Rate → ℕ → Bool
 is_cycle rate count = nat_le (half_frame_bits (half_frame_body rate) count) 8192
 
-unfoldable pub pages_behind : Rate → ℕ → Page → Option Stage
-pages_behind rate count page =
+unfoldable pub page_stage : Rate → ℕ → Page → Option Stage
+page_stage rate count page =
     if may_follow rate count page.follows && is_cycle rate (count_behind rate count page)
     then Some (Pages rate (count_behind rate count page)) else None
 
@@ -67,8 +67,8 @@ after_paging (Pages rate count) = Some (FirstPage rate)
 after_paging _ = None
 
 abbrev pub after_page : Stage → Page → Option Stage
-after_page (FirstPage rate) page = pages_behind rate 0 page
-after_page (Pages rate count) page = pages_behind rate count page
+after_page (FirstPage rate) page = page_stage rate 0 page
+after_page (Pages rate count) page = page_stage rate count page
 after_page _ page = None
 
 abbrev pub after_traffic : Stage → Option Stage

@@ -21,8 +21,8 @@ abbrev pub begins_with : List ℕ → List ℕ → Bool
 begins_with text front = pointwise nat_eq (take (length front) text) front
 
 -- what stands after a text's front; None where it doesn't begin with it
-abbrev pub behind : List ℕ → List ℕ → Option (List ℕ)
-behind front text = if begins_with text front then Some (drop (length front) text) else None
+abbrev pub text_after : List ℕ → List ℕ → Option (List ℕ)
+text_after front text = if begins_with text front then Some (drop (length front) text) else None
 
 -- ---- decimal numbers
 
@@ -55,7 +55,7 @@ signed_behind text None = option_and_then positive (number_up_to 32767 text)
 signed_behind text (Some digits) = option_and_then negative (number_up_to 32768 digits)
 
 unfoldable pub signed_in : List ℕ → Option ℤ
-signed_in text = signed_behind text (behind (codes "-") text)
+signed_in text = signed_behind text (text_after (codes "-") text)
 
 -- ---- states of the long code
 
@@ -106,11 +106,11 @@ unfoldable pub hex_bits : List ℕ → Option (List Bool)
 hex_bits digits = if nat_lt 296 (length digits) then None else octets_in (decode_of digits)
 
 -- the bits of a text `N:HEX`
-unfoldable pub bits_in : List ℕ → Option (List Bool)
-bits_in text =
+unfoldable pub bits_in_text : List ℕ → Option (List Bool)
+bits_in_text text =
     option_and_then
     (λ count. option_and_then (λ digits. option_and_then (unpadded count) (hex_bits digits))
-    (behind (codes ":") (drop (length_before 58 text) text)))
+    (text_after (codes ":") (drop (length_before 58 text) text)))
     (number_up_to 1184 (take (length_before 58 text) text))
 
 -- ---- power control bits

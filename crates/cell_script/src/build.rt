@@ -1,7 +1,8 @@
 //! The plan that the statements of a script make.
 
 ghost use Rattle.std.specs.Prelude.{◌≡◌, OnOk};
-ghost use Rattle.cell_script.specs.ScriptDrafts.{empty_plan, opened, opened_traffic, with_frame};
+ghost use Rattle.cell_script.specs.ScriptDrafts.{empty_plan, opened_paging, opened_traffic};
+ghost use Rattle.cell_script.specs.ScriptDrafts.{with_frame};
 ghost use Rattle.cell_script.specs.ScriptDrafts.{with_frame2, with_page, with_statement};
 
 use crate::statements::{PagingLine, Statement, TrafficLine};
@@ -39,7 +40,7 @@ pub(crate) fn empty_plan(alloc: Global) -> CellPlan
 
 /// A channel without pages.
 fn opened(alloc: Global, line: &PagingLine) -> PagingPlan
-    ensures { result ≡ opened line.now }
+    ensures { result ≡ opened_paging line.now }
 {
     PagingPlan {
         number: line.number,

@@ -3,10 +3,12 @@
 ghost use Rattle.std.specs.Prelude.{◌≡◌, ◌<◌, ◌≤◌, ℕ, Bool, List, true, false, length, IfSome};
 ghost use Rattle.std.specs.Prelude.{OnSome, MatchOption, IsTrue, ◌↔◌, unsigned_abs, [], None, Some};
 ghost use Rattle.std.specs.Prelude.{drop, take, ◌^◌, ◌-◌};
-ghost use Rattle.cell_script.specs.ScriptValues.{begins_with, bits_in, length_before, number_up_to};
+ghost use Rattle.cell_script.specs.ScriptValues.{begins_with, bits_in_text, length_before};
+ghost use Rattle.cell_script.specs.ScriptValues.{number_up_to};
 ghost use Rattle.cell_script.specs.ScriptValues.{power_bits_in};
 ghost use Rattle.cell_script.specs.Rows.{key_of};
-ghost use Rattle.cell_script.specs.ScriptFields.{IsOfForm, field, past, signed_of, unsigned_of};
+ghost use Rattle.cell_script.specs.ScriptFields.{IsOfForm, script_field, past, signed_of};
+ghost use Rattle.cell_script.specs.ScriptFields.{unsigned_of};
 ghost use Rattle.cell_script.specs.ScriptFields.{value_of};
 
 use crate::tables::{FieldForm, StatementField};
@@ -77,10 +79,10 @@ impl<'a> Fields<'a> {
     }
 
     /// The number of this field of a message, of at most as many bits as it has there.
-    #[tactic(auto, unfolding(crate::specs::ScriptFields::field, crate::specs::ScriptFields::past))]
+    #[tactic(auto, unfolding(crate::specs::ScriptFields::script_field, crate::specs::ScriptFields::past))]
     pub(crate) fn number(&mut self, row: FieldRow) -> Option<u64>
         requires { row.1 ≤ 63 }
-        ensures value { result ≡ field (key_of row.entry.0.now)
+        ensures value { result ≡ script_field (key_of row.entry.0.now)
             (number_up_to (2 ^ row.entry.1 - 1)) self.old }
         ensures range { IfSome result (λ n. n < 2 ^ row.entry.1) }
         ensures rest { OnSome result (self.new ≡ past (key_of row.entry.0.now) self.old) }
@@ -90,9 +92,9 @@ impl<'a> Fields<'a> {
     }
 
     /// The value of a field whose form has no sign; `None` for one whose form has.
-    #[tactic(auto, unfolding(crate::specs::ScriptFields::field))]
+    #[tactic(auto, unfolding(crate::specs::ScriptFields::script_field))]
     pub(crate) fn unsigned(&mut self, row: StatementField) -> Option<u64>
-        ensures value { result ≡ field row.key.now (unsigned_of row.form) self.old }
+        ensures value { result ≡ script_field row.key.now (unsigned_of row.form) self.old }
         ensures range { IfSome result (IsOfForm row.form) }
         ensures rest { OnSome result (self.new ≡ past row.key.now self.old) }
     {
@@ -100,9 +102,9 @@ impl<'a> Fields<'a> {
     }
 
     /// The value of a field whose form has a sign; `None` for one whose form has none.
-    #[tactic(auto, unfolding(crate::specs::ScriptFields::field))]
+    #[tactic(auto, unfolding(crate::specs::ScriptFields::script_field))]
     pub(crate) fn signed(&mut self, row: StatementField) -> Option<i64>
-        ensures value { result ≡ field row.key.now (signed_of row.form) self.old }
+        ensures value { result ≡ script_field row.key.now (signed_of row.form) self.old }
         ensures range { IfSome result (λ n. unsigned_abs n ≤ 32768) }
         ensures rest { OnSome result (self.new ≡ past row.key.now self.old) }
     {
@@ -110,18 +112,18 @@ impl<'a> Fields<'a> {
     }
 
     /// A list of bits.
-    #[tactic(auto, unfolding(crate::specs::ScriptFields::field))]
+    #[tactic(auto, unfolding(crate::specs::ScriptFields::script_field))]
     pub(crate) fn bits(&mut self, key: &[u8]) -> Option<Bits>
-        ensures value { result ≡ field key.now bits_in self.old }
+        ensures value { result ≡ script_field key.now bits_in_text self.old }
         ensures rest { OnSome result (self.new ≡ past key.now self.old) }
     {
         bits_in(self.value(key)?)
     }
 
     /// The power control bits of a frame.
-    #[tactic(auto, unfolding(crate::specs::ScriptFields::field))]
+    #[tactic(auto, unfolding(crate::specs::ScriptFields::script_field))]
     pub(crate) fn power_bits(&mut self, key: &[u8]) -> Option<PowerBits>
-        ensures value { result ≡ field key.now power_bits_in self.old }
+        ensures value { result ≡ script_field key.now power_bits_in self.old }
         ensures rest { OnSome result (self.new ≡ past key.now self.old) }
     {
         power_bits_in(self.value(key)?)

@@ -7,7 +7,7 @@ ghost use Rattle.std.specs.Int.{w16};
 ghost use Rattle.chip_core.specs.declared.width.Width.{Width as TheWidth};
 ghost use Rattle.chip_core.specs.Complex.{norm};
 ghost use Rattle.chip_core.specs.declared.check_form.CheckForm.{CheckForm as TheForm};
-ghost use Rattle.cell_plan.specs.Pages.{paging_rate};
+ghost use Rattle.cell_plan.specs.Pages.{sent_paging_rate};
 ghost use Rattle.cell_plan.specs.Plan.{IsLawfulPlan};
 ghost use Rattle.cell_script.specs.Script.{lines, plan_named, stated_plan};
 ghost use Rattle.cell_plan.specs.Stated.{HasMessages, IsCarried, IsReceivable};
@@ -66,5 +66,5 @@ pub fn named_pages_are_carried()
         plan_named width script ≡ Ok plan → All HasMessages plan.paging }
     ensures carried { (width : TheWidth) (script : List ℕ) (plan : CellPlan) (form : TheForm) →
         plan_named width script ≡ Ok plan →
-        All (IsCarried (paging_rate plan.sync) form) plan.paging }
+        All (IsCarried (sent_paging_rate plan.sync) form) plan.paging }
 {}

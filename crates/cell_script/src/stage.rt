@@ -4,7 +4,7 @@ ghost use Rattle.std.specs.Prelude.{◌≡◌, ◌<◌, ◌≤◌, true};
 ghost use Rattle.paging_message.specs.HalfFrames.{bits_left, half_frame_body};
 ghost use Rattle.paging_message.specs.Laying.{fill};
 ghost use Rattle.cell_script.specs.ScriptStages.{behind_sync, count_behind, is_complete, is_cycle};
-ghost use Rattle.cell_script.specs.ScriptStages.{may_follow, next_stage, pages_behind};
+ghost use Rattle.cell_script.specs.ScriptStages.{may_follow, next_stage, page_stage};
 
 use crate::statements::Statement;
 use cell_plan::{Page, SyncPlan};
@@ -114,9 +114,9 @@ fn is_cycle(rate: Rate, count: u32) -> bool
 }
 
 /// The stage after a page that stands after so many body bits of its cycle.
-#[tactic(auto, unfolding(crate::specs::ScriptStages::pages_behind))]
+#[tactic(auto, unfolding(crate::specs::ScriptStages::page_stage))]
 fn pages_behind(rate: Rate, count: u16, page: &Page) -> Option<Stage>
-    ensures { result ≡ pages_behind rate count page.now }
+    ensures { result ≡ page_stage rate count page.now }
 {
     if !may_follow(rate, count, page.follows) {
         return None;

@@ -1,10 +1,12 @@
 //! The statements of a script, each on a line.
 
 ghost use Rattle.std.specs.Prelude.{◌≡◌, ◌≤◌, ◌<◌, ◌^◌, IfSome, IsAscii, OnSome, length};
-ghost use Rattle.cell_script.specs.ScriptLines.{cell_in, check_form, freq_in, link_in, page_in};
+ghost use Rattle.cell_script.specs.ScriptLines.{cell_in, check_form, freq_in, link_in};
+ghost use Rattle.cell_script.specs.ScriptLines.{stated_page_in};
 ghost use Rattle.cell_script.specs.ScriptLines.{page_key, page_with, paging_in, past_freq};
 ghost use Rattle.cell_script.specs.ScriptLines.{pilot_in, sync_behind, sync_fields, statement_in};
-ghost use Rattle.cell_script.specs.ScriptLines.{sync_in, lawful_message, frame_in, frame_key};
+ghost use Rattle.cell_script.specs.ScriptLines.{sync_in, lawful_message, traffic_frame_in};
+ghost use Rattle.cell_script.specs.ScriptLines.{frame_key};
 ghost use Rattle.cell_script.specs.ScriptLines.{frame_rate, frame_with, frame2_in, frame2_key};
 ghost use Rattle.cell_script.specs.ScriptLines.{frame2_rate, frame2_with, traffic_in};
 ghost use Rattle.cell_script.specs.Rows.{AreUpTo, local_rows, network_rows, numbers_in};
@@ -313,9 +315,9 @@ fn paging_in(text: &[u8]) -> Option<PagingLine>
 }
 
 /// What a `page` line says: where its capsule begins, and the body of a message.
-#[tactic(auto, unfolding(crate::specs::ScriptLines::page_in))]
+#[tactic(auto, unfolding(crate::specs::ScriptLines::stated_page_in))]
 fn page_in(text: &[u8]) -> Option<Page>
-    ensures { result ≡ page_in text.now }
+    ensures { result ≡ stated_page_in text.now }
 {
     page_with(begins_with(text, b"page next "), Fields::new(text))
 }
@@ -375,9 +377,9 @@ fn traffic_in(text: &[u8]) -> Option<TrafficLine>
 
 /// What a `frame` line says: a rate, as many information bits as a frame of it has, and sixteen
 /// power control bits.
-#[tactic(auto, unfolding(crate::specs::ScriptLines::frame_in))]
+#[tactic(auto, unfolding(crate::specs::ScriptLines::traffic_frame_in))]
 fn frame_in(text: &[u8]) -> Option<TrafficFrame>
-    ensures { result ≡ frame_in text.now }
+    ensures { result ≡ traffic_frame_in text.now }
 {
     frame_with(frame_rate(text)?, Fields::new(text))
 }

@@ -5,8 +5,8 @@ ghost use Rattle.std.specs.Prelude.{codes, Some, None, IfSome, unsigned_abs, fla
 ghost use Rattle.std.specs.Char.{is_ascii_digit};
 ghost use Rattle.chip_core.specs.Bits.{binary};
 ghost use Rattle.long_code.specs.LongCode.{IsState};
-ghost use Rattle.cell_script.specs.ScriptValues.{all_clear, begins_with, behind, binary_digit};
-ghost use Rattle.cell_script.specs.ScriptValues.{bits_in, power_bits_in, serial_number_in};
+ghost use Rattle.cell_script.specs.ScriptValues.{all_clear, begins_with, text_after, binary_digit};
+ghost use Rattle.cell_script.specs.ScriptValues.{bits_in_text, power_bits_in, serial_number_in};
 ghost use Rattle.cell_script.specs.ScriptValues.{hex_bits, hex_digit, hex_from, is_plain};
 ghost use Rattle.cell_script.specs.ScriptValues.{length_before, negative, number_in, number_up_to};
 ghost use Rattle.cell_script.specs.ScriptValues.{signed_in, state_in, unpadded};
@@ -184,9 +184,9 @@ pub(crate) fn power_bits_in(text: &[u8]) -> Option<PowerBits>
 
 /// The bits of a text `N:HEX`: N of them, at most 1,184, in two hex digits of either case for each
 /// octet of them, padded at the end with zero bits.
-#[tactic(auto, unfolding(crate::specs::ScriptValues::bits_in))]
+#[tactic(auto, unfolding(crate::specs::ScriptValues::bits_in_text))]
 pub(crate) fn bits_in(text: &[u8]) -> Option<Bits>
-    ensures { result ≡ bits_in text.now }
+    ensures { result ≡ bits_in_text text.now }
 {
     let colon = length_before(text, b':');
     let count = number_up_to(&text[..colon], 1184)?;

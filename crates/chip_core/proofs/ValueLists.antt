@@ -3,7 +3,7 @@ use Rattle.std.proofs.Common.{◌≡◌, ℕ, zero, suc, ◌+◌, ◌*◌, ◌^�
 use Rattle.std.proofs.Common.{sym, ap, subst, ◌∙◌, arith, append_assoc, length-append}
 use Rattle.std.proofs.lemmas.List.{append-nil, drop-drop, drop_at, length-drop, length-take-le, take_at}
 use Rattle.chip_core.specs.Bits.{number, binary}
-use Rattle.chip_core.specs.Fields.{field, spelled, in_widths, total, AreWidths, FieldsFit}
+use Rattle.chip_core.specs.Fields.{field, spelled, in_widths, total_width, AreWidths, FieldsFit}
 use Rattle.chip_core.specs.Readings.{number_at, values_at, column_at}
 use Rattle.chip_core.specs.declared.field.Field.{Field}
 use Rattle.chip_core.proofs.Digits.{number-binary, number_lt}
@@ -33,23 +33,23 @@ behind_front w n rest = drop_at (binary w n) rest w (length-binary w n)
 
 -- MANY FIELDS
 pub length-in_widths : (ws vs : List ℕ) → length ws ≡ length vs →
-    length (spelled (in_widths ws vs)) ≡ total ws
+    length (spelled (in_widths ws vs)) ≡ total_width ws
 length-in_widths [] [] h = refl
 length-in_widths [] (x ∷ vs) h = absurd (omega (arith, h))
 length-in_widths (x ∷ ws) [] h = absurd (omega (arith, h))
 length-in_widths (x ∷ ws) (y ∷ vs) h =
-    let more : length (spelled (in_widths ws vs)) ≡ total ws =
+    let more : length (spelled (in_widths ws vs)) ≡ total_width ws =
     length-in_widths ws vs (omega (arith, h)) in
     omega (arith, length-append (binary x y) (spelled (in_widths ws vs)), length-binary x y, more)
 
 pub total_room : (ws : List ℕ) (i : ℕ) → i < length ws →
-    total (take i ws) + get_or ws i 0 ≤ total ws
+    total_width (take i ws) + get_or ws i 0 ≤ total_width ws
 total_room [] i h = absurd (omega (arith, h))
 total_room (w ∷ ws) zero h = omega arith
 total_room (w ∷ ws) (suc i) h = omega (arith, total_room ws i (omega (arith, h)))
 
 pub total_more : (ws : List ℕ) (i : ℕ) → i < length ws →
-    total (take (i + 1) ws) ≡ total (take i ws) + get_or ws i 0
+    total_width (take (i + 1) ws) ≡ total_width (take i ws) + get_or ws i 0
 total_more [] i h = absurd (omega (arith, h))
 total_more (w ∷ ws) zero h = omega arith
 total_more (w ∷ ws) (suc i) h =
@@ -89,9 +89,9 @@ values_again (w ∷ ws) (v ∷ vs) rest h fit =
     rw (first, later) refl
 
 -- what is read is spelled so
-pub values_there : (ws : List ℕ) (bits : List Bool) → total ws ≤ length bits →
+pub values_there : (ws : List ℕ) (bits : List Bool) → total_width ws ≤ length bits →
     (length (values_at ws bits) ≡ length ws) × FieldsFit (in_widths ws (values_at ws bits))
-    × (bits ≡ spelled (in_widths ws (values_at ws bits)) ++ drop (total ws) bits)
+    × (bits ≡ spelled (in_widths ws (values_at ws bits)) ++ drop (total_width ws) bits)
 values_there [] bits room = (refl, tt, refl)
 values_there (w ∷ ws) bits room =
     let one = front w bits (omega (arith, room)) in
@@ -99,12 +99,12 @@ values_there (w ∷ ws) bits room =
     let values = values_at ws (drop w bits) in
     let later = spelled (in_widths ws values) in
     let n = number (take w bits) in
-    let behind : drop w bits ≡ later ++ drop (w + total ws) bits =
-    more.2 ∙ ap (λ (r : List Bool). later ++ r) (dropped (total ws) w bits) in (
+    let behind : drop w bits ≡ later ++ drop (w + total_width ws) bits =
+    more.2 ∙ ap (λ (r : List Bool). later ++ r) (dropped (total_width ws) w bits) in (
       ap suc more.0,
       (one.0, more.1),
       one.1 ∙ ap (λ (r : List Bool). binary w n ++ r) behind
-          ∙ sym (append_assoc (binary w n) later (drop (w + total ws) bits)),
+          ∙ sym (append_assoc (binary w n) later (drop (w + total_width ws) bits)),
     )
 
 -- LOOPS
@@ -136,7 +136,7 @@ write_push w v fs first before after is next =
 
 -- the loop over values to be written has room for one more
 pub write_room : (ws vs : List ℕ) (i : ℕ) → length ws ≡ length vs → i < length ws →
-    length (spelled (in_widths (take i ws) (take i vs))) + get_or ws i 0 ≤ total ws
+    length (spelled (in_widths (take i ws) (take i vs))) + get_or ws i 0 ≤ total_width ws
 write_room ws vs i h within =
     let a : length (take i ws) ≡ length (take i vs) = length-take-le i ws (omega (arith, within))
     ∙ sym (length-take-le i vs (omega (arith, within, h))) in
@@ -155,13 +155,13 @@ written_more ws vs i before after first a b is next =
 -- one more value is read
 pub values_more : (ws : List ℕ) (i : ℕ) (bits : List Bool) → i < length ws →
     values_at (take (i + 1) ws) bits
-    ≡ values_at (take i ws) bits ++ number_at (total (take i ws)) (get_or ws i 0) bits ∷ []
+    ≡ values_at (take i ws) bits ++ number_at (total_width (take i ws)) (get_or ws i 0) bits ∷ []
 values_more [] i bits h = absurd (omega (arith, h))
 values_more (w ∷ ws) zero bits h = refl
 values_more (w ∷ ws) (suc i) bits h =
     let e : suc i + 1 ≡ suc (i + 1) = omega arith in
-    let place : drop (total (take i ws)) (drop w bits) ≡ drop (w + total (take i ws)) bits =
-    dropped (total (take i ws)) w bits in
+    let place : drop (total_width (take i ws)) (drop w bits) ≡ drop (w + total_width (take i ws)) bits =
+    dropped (total_width (take i ws)) w bits in
     let v = get_or ws i 0 in
     rw e (ap (λ (vs : List ℕ). number_at 0 w bits ∷ vs)
     (values_more ws i (drop w bits) (omega (arith, h))

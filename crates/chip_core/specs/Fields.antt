@@ -28,9 +28,9 @@ in_widths (width ∷ widths) [] = []
 in_widths (width ∷ widths) (value ∷ values) = field width value ∷ in_widths widths values
 
 -- how many bits fields of these widths have
-abbrev pub total : List ℕ → ℕ
-total [] = 0
-total (width ∷ widths) = width + total widths
+abbrev pub total_width : List ℕ → ℕ
+total_width [] = 0
+total_width (width ∷ widths) = width + total_width widths
 
 -- each is 1 to 64
 abbrev pub AreWidths : List ℕ → Type 0

@@ -2,7 +2,7 @@
 -- it holds.
 use Rattle.std.proofs.Common.{◌≡◌, ℕ, List, length, take, sym, arith}
 use Rattle.std.proofs.lemmas.List.{length-take}
-use Rattle.chip_core.specs.Listed.{listed, IsListed}
+use Rattle.chip_core.specs.Listed.{filled_list, IsListed}
 use Rattle.chip_core.specs.declared.numbers.Numbers.TheInside.{Inside}
 
 pub length-held : (places : List ℕ) (count : ℕ) → IsListed places count →
@@ -10,7 +10,8 @@ pub length-held : (places : List ℕ) (count : ℕ) → IsListed places count �
 length-held places count h = omega (arith, length-take count places, h.long, h.room)
 
 pub listed-held : (a : Inside) → IsListed a.places a.count →
-    record { places = listed (take a.count a.places); count = length (take a.count a.places) } ≡ a
+    record { places = filled_list (take a.count a.places); count = length (take a.count a.places) }
+    ≡ a
 listed-held a h =
-    let places : listed (take a.count a.places) ≡ a.places = sym h.clear in
+    let places : filled_list (take a.count a.places) ≡ a.places = sym h.clear in
     rw (places, length-held a.places a.count h)

@@ -22,14 +22,14 @@ impl Model for Numbers {
 
     ghost Value = { List ℕ };
 
-    ghost use Rattle.chip_core.specs.Listed.{listed, IsListed};
+    ghost use Rattle.chip_core.specs.Listed.{filled_list, IsListed};
     ghost use Rattle.chip_core.specs.Listing.{listed-held};
 
     ghost view = { λ n. take n.count n.places };
 
     ghost invariant = { λ n. IsListed n.places n.count };
 
-    ghost inverse = { λ l. record { places = listed l; count = length l } };
+    ghost inverse = { λ l. record { places = filled_list l; count = length l } };
 
     ghost inverse_ok = { λ n h. listed-held n h };
 }

@@ -39,7 +39,7 @@ pub use Rattle.cell_plan.proofs.SentMessages.{length-sending, length-sync, refil
 pub use Rattle.cell_plan.proofs.SyncFrames.{length-sync_frame_bits}
 pub use Rattle.cell_plan.specs.PageCycles.{Cycle, cycle_frame_bits, frame_scrambling, paging_frame_size}
 unfoldable pub use Rattle.cell_plan.specs.PageCycles.{cycle_symbols, cycled}
-pub use Rattle.cell_plan.specs.Pages.{AreSendable, laid_behind, laid_pages, paging_rate, put_of}
+pub use Rattle.cell_plan.specs.Pages.{AreSendable, laid_behind, laid_pages, sent_paging_rate, put_of}
 unfoldable pub use Rattle.cell_plan.specs.Pages.{page_cycle}
 pub use Rattle.cell_plan.specs.Plan.{AreLawfulBeside, HaveOwnNumbers, HaveOwnTrafficRows, IsFreeOf, IsLawfulPlan, IsPagingPlan, IsSyncPlan}
 pub use Rattle.cell_plan.specs.Plan.{IsTrafficPlan, loudness}
@@ -125,11 +125,11 @@ pub use Rattle.heard_events.specs.Moments.{changed, frames_at, legs_at, legs_by,
 pub use Rattle.heard_events.specs.Moments.{moments_before}
 unfoldable pub use Rattle.heard_events.specs.Moments.{heard_from, kept_to, passed, sets_at, told_by}
 pub use Rattle.heard_events.specs.Noted.{all_noted, body_noted, in_traffic_thresholds, noted, noted_with, page_noted, system_thresholds}
-pub use Rattle.heard_events.specs.PagingEvents.{page_event, page_in, pages_behind, with_page}
+pub use Rattle.heard_events.specs.PagingEvents.{page_event, page_in, pages_behind, as_spelled_page}
 unfoldable pub use Rattle.heard_events.specs.PagingEvents.{bits_up_to, page_at, pages_at, pages_from}
 pub use Rattle.heard_events.specs.PagingStreams.{paging_bound, paging_stream}
 pub use Rattle.heard_events.specs.Signaling.{capsule_with, message_events, message_heard, signal_in, signal_of}
-unfoldable pub use Rattle.heard_events.specs.Signaling.{message_at, messages_by, signal_at, signals_before}
+unfoldable pub use Rattle.heard_events.specs.Signaling.{signaling_message_at, messages_by, signal_at, signals_before}
 pub use Rattle.heard_events.specs.SoftFrames.{raw_at, soft_frame, soft_frames}
 unfoldable pub use Rattle.heard_events.specs.SoftFrames.{frames_within}
 pub use Rattle.heard_events.specs.Streams.{Stream}
@@ -245,24 +245,25 @@ pub use Rattle.clean_link.specs.CleanLaws.{PagingCodewordsAreTheOnlyBest, SentCo
 pub use Rattle.clean_link.specs.CleanLaws.{NoisyIsMarkedWhereHeard, NoisyPagingFramesComeBack, NoisySendingsComeBack, WholeSendingsComeBack}
 pub use Rattle.clean_link.specs.CleanLaws.{AreZeroWithoutSync, MarksAreTrue, PagingFramesComeBack, PagingHaveSentSigns, UnmarkedWithoutSync}
 pub use Rattle.clean_link.specs.CleanLaws.{IsMarkedWhereHeard, MarksTellTheRate, NoisyMarksAreTrue, NoisyPagesComeBack, SilentPagingIsZero}
-pub use Rattle.clean_link.specs.CleanLaws.{FramesAreZeros, FramesComeBack, HaveSentSigns, HearsSync, ShowsSync, ordered_symbols}
-pub use Rattle.clean_link.specs.CleanLink.{IsNoDirection, IsNotDirected, IsOnPath, IsTrueMark, IsTunedTo, events_of_channel}
+pub use Rattle.clean_link.specs.CleanLaws.{FramesAreZeros, FramesComeBack, HaveSentSigns, HearsSentSync, ShowsSync, ordered_symbols}
+pub use Rattle.clean_link.specs.CleanLink.{IsNoDirection, IsNotDirected, IsOnPath, IsTrueMark, IsTunedToPlan, events_of_channel}
 pub use Rattle.clean_link.specs.CleanLink.{first_sync_frame, heard_behind, is_whole, sending_begins, sending_ends, sending_event}
 pub use Rattle.clean_link.specs.CleanLink.{soft_strength, tuning_to, whole_sendings}
 unfoldable pub use Rattle.clean_link.specs.CleanLink.{sync_sent}
 pub use Rattle.clean_link.specs.DistinctFrames.{AFullRateFrameIsDistinct, AreDistinctBySharing, AreDistinctBySharing2}
 pub use Rattle.clean_link.specs.DistinctFrames.{FullRateFramesAreDistinct, ZerosAreShared, full_rate_symbols, gives, is_hidden, is_kept}
 pub use Rattle.clean_link.specs.DistinctFrames.{is_known2, is_seen, lost_symbols, lost_symbols2, replaced_places, sharing, sharing2}
-pub use Rattle.clean_link.specs.DistinctFrames.{shown_of, shows_full_rate, some_information, tells_all_bits}
+pub use Rattle.clean_link.specs.DistinctFrames.{symbols_known_of, shows_full_rate, some_information, tells_all_bits}
 unfoldable pub use Rattle.clean_link.specs.DistinctFrames.{codewords_giving, stays_apart}
-pub use Rattle.clean_link.specs.DistinctPlan.{HasMark, HasSetOne, HasSetTwo, bits_of, bits_of2, channel_on, distinct_plan, first_channel}
+pub use Rattle.clean_link.specs.DistinctPlan.{HasMark, HasSetOne, HasSetTwo, distinct_bits_of, bits_of2, channel_on, distinct_plan}
+pub use Rattle.clean_link.specs.DistinctPlan.{first_channel}
 pub use Rattle.clean_link.specs.DistinctPlan.{frame2_at, frame_at, on_row, second_channel, told_message}
 pub use Rattle.clean_link.specs.HeardEach.{AreEventsOf, AreFramesBehind, AreMessagesBehind, EachChannelComesBack, FollowsOne, IsEventOf}
 pub use Rattle.clean_link.specs.HeardEach.{NoEventIsDirectedByNoise, NoisyEachChannelComesBack, is_frame, is_message, is_page, is_sync}
 pub use Rattle.clean_link.specs.HeardFrames.{codeword_symbols, frames_of_channel, messages_of_channel, sent_frame_event, signals_received}
 pub use Rattle.clean_link.specs.HeardFrames.{IsDistinctFrame, SendsSymbols, ShowPowerBits, message_told, received_frames, sent_power_bits}
 pub use Rattle.clean_link.specs.HeardFrames.{AreDistinct, IsAssigned, SendsSetOne, SendsSetTwo, is_received, replaced_of, signal_sent}
-pub use Rattle.clean_link.specs.HeardFrames.{IsOnePilot, ShowFrame, frame_chip, frame_ends, frame_told, signals_in, told_on}
+pub use Rattle.clean_link.specs.HeardFrames.{IsOnePilot, ShowFrame, frame_chip, frame_ends, frame_told, signals_in, told_on_row}
 unfoldable pub use Rattle.clean_link.specs.HeardFrames.{frames_sent, messages_sent, sent_bits}
 pub use Rattle.clean_link.specs.HeardPages.{AreWholePages, KnownPage, PageSendingsComeBack, PagesComeBack, Placed, ReadPage}
 pub use Rattle.clean_link.specs.HeardPages.{WholePagesComeBack, capsules_with_frames, cycle_half_frames, end_chip, frame_capsules}
@@ -280,9 +281,11 @@ pub use Rattle.clean_link.specs.SentEvents.{FollowsSent, NoEventIsDirected, Whol
 pub use Rattle.clean_link.specs.SentEvents.{pages_behind_mark, pages_with_sync, told_by_first, told_followed, told_with_sync}
 unfoldable pub use Rattle.clean_link.specs.SentEvents.{frame_events_at, message_events_at, paging_events_at, paging_sent, sent_events}
 unfoldable pub use Rattle.clean_link.specs.SentEvents.{sets_events_at, sets_heard, signaling_sent, traffic_sent}
-pub use Rattle.clean_link.specs.Signals.{HaveOwnRows, IsOnlyBest, IsWholeChannel, path_finger, reference_finger, span_codeword, span_softs}
-pub use Rattle.clean_link.specs.Signals.{AreApart, AreReadBy, IsAligned, IsFrameAt, IsFrameOf, IsHeardBy, level_at, row_level, scrambled}
-pub use Rattle.clean_link.specs.TrafficLaws.{ArePowered, EachFrameIsHeard, HavePowerSigns, HeardAreTheOnlyBest, HearsTraffic, IsHeardAs}
+pub use Rattle.clean_link.specs.Signals.{HaveOwnRows, IsOnlyBest, IsWholeChannel, path_finger, reference_finger, span_codeword}
+pub use Rattle.clean_link.specs.Signals.{span_frame_softs}
+pub use Rattle.clean_link.specs.Signals.{CarriersAreApart, AreReadBy, IsAligned, IsFrameAt, IsFrameOf, IsHeardBy, level_at, row_level}
+pub use Rattle.clean_link.specs.Signals.{scrambled_with}
+pub use Rattle.clean_link.specs.TrafficLaws.{ArePowered, EachFrameIsHeard, HavePowerSigns, HeardAreTheOnlyBest, HearsSentTraffic, IsHeardAs}
 pub use Rattle.clean_link.specs.TrafficLaws.{IsOnlyBestFrame, IsOnlyBestFrame2, IsUndirected, NoisyEachFrameIsHeard, NoisyFrame}
 pub use Rattle.clean_link.specs.TrafficLaws.{NoisyFramesAreTheOnlyBest, NoisyPowerBitsComeBack, NoisySentFramesComeBack}
 pub use Rattle.clean_link.specs.TrafficLaws.{NoisySentMessagesComeBack, NoisyTrafficFramesComeBack, NoisyTrafficHasSentSigns}

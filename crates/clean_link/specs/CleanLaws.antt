@@ -7,7 +7,7 @@ use Rattle.clean_link.specs.Common.{places, signed, Width, made_samples, sync_fr
 use Rattle.clean_link.specs.Common.{sync_symbols, CellPlan, SyncPlan, mark, frame_own_bits}
 use Rattle.clean_link.specs.Common.{frame_softs, is_in_file, span_first, span_frames}
 use Rattle.clean_link.specs.Common.{sync_events_at, Tuning, sync_stream, Mark, IsReceivable, Sample}
-use Rattle.clean_link.specs.Common.{cycle_frame_bits, paging_rate, cycle_of, IsStatedPaging}
+use Rattle.clean_link.specs.Common.{cycle_frame_bits, sent_paging_rate, cycle_of, IsStatedPaging}
 use Rattle.clean_link.specs.Common.{PagingPlan, paging_stream, Data, data_shape, sent, repeats_of}
 use Rattle.clean_link.specs.Common.{Cycle, IsFreeOf, continued_symbols}
 use Rattle.rake_finger.specs.declared.form.Form.TheVariants.{Sync}
@@ -102,7 +102,7 @@ pub record ShowsSync (width : Width) (plan : CellPlan) (samples : List Sample) :
 
 -- A file's samples are near, within e, to those of a cell that can be received and sends a sync
 -- channel, and the sync channel bears noise of that size.
-pub record HearsSync (width : Width) (plan : CellPlan) (sync : SyncPlan) (e : ℕ)
+pub record HearsSentSync (width : Width) (plan : CellPlan) (sync : SyncPlan) (e : ℕ)
     (samples : List Sample) : Type 0 where
   pub receivable : IsReceivable width plan
   pub sends : plan.sync ≡ Some sync
@@ -113,7 +113,8 @@ pub record HearsSync (width : Width) (plan : CellPlan) (sync : SyncPlan) (e : �
 -- each with its message, in order, and nothing else.
 abbrev pub NoisySendingsComeBack : Type 0
 NoisySendingsComeBack = (width : Width) (plan : CellPlan) (sync : SyncPlan) (e : ℕ)
-    (samples : List Sample) (t : Tuning) → HearsSync width plan sync e samples → IsOnPath plan t →
+    (samples : List Sample) (t : Tuning) → HearsSentSync width plan sync e samples →
+    IsOnPath plan t →
     flat_map (sync_events_at t samples) (places (plan.link.samples + 1)) ≡ sync_sent plan
 
 -- A mark has the system time and the long code's state that the cell has at its sample, and the
@@ -121,13 +122,14 @@ NoisySendingsComeBack = (width : Width) (plan : CellPlan) (sync : SyncPlan) (e :
 abbrev pub NoisyMarksAreTrue : Type 0
 NoisyMarksAreTrue = (width : Width) (plan : CellPlan) (sync : SyncPlan) (e : ℕ)
     (samples : List Sample) (t : Tuning) (n : ℕ) (m : Mark) →
-    HearsSync width plan sync e samples → IsOnPath plan t → mark t samples n ≡ Some m →
+    HearsSentSync width plan sync e samples → IsOnPath plan t → mark t samples n ≡ Some m →
     ((superframes : ℕ) × IsTrueMark plan m superframes) × (m.prat ≡ sync.message.prat)
 
 -- There is a mark in the file just where a transmission is whole.
 abbrev pub NoisyIsMarkedWhereHeard : Type 0
 NoisyIsMarkedWhereHeard = (width : Width) (plan : CellPlan) (sync : SyncPlan) (e : ℕ)
-    (samples : List Sample) (t : Tuning) → HearsSync width plan sync e samples → IsOnPath plan t →
+    (samples : List Sample) (t : Tuning) → HearsSentSync width plan sync e samples →
+    IsOnPath plan t →
     is_some (mark t samples plan.link.samples) ≡ nat_lt 0 (length (sync_sent plan))
 
 -- ---- a paging channel that bears the noise, after a true mark
@@ -147,7 +149,8 @@ NoisyPagingFramesComeBack = (width : Width) (plan : CellPlan) (sync : SyncPlan) 
 abbrev pub NoisyPagesComeBack : Type 0
 NoisyPagesComeBack = (width : Width) (plan : CellPlan) (sync : SyncPlan) (p : PagingPlan)
     (t : Tuning) (m : Mark) (superframes e : ℕ) (samples : List Sample) →
-    IsReceivable width plan → Contains plan.paging p → IsStatedPaging (paging_rate plan.sync) p →
+    IsReceivable width plan → Contains plan.paging p →
+    IsStatedPaging (sent_paging_rate plan.sync) p →
     IsOnPath plan t → plan.sync ≡ Some sync → m.prat ≡ sync.message.prat → m.prat < 2 →
     IsTrueMark plan m superframes → IsNear e samples (made_samples plan) → Bears plan p.gain e →
     pages_within t p.number (Some m) samples plan.link.samples ≡

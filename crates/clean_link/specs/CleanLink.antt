@@ -48,7 +48,7 @@ pub record IsOnPath (plan : CellPlan) (t : Tuning) : Type 0 where
   pub alone : t.deltas ≡ pos 0 ∷ []
 
 -- one that follows one of the paging channels, whose row is no traffic channel's
-pub record IsTunedTo (plan : CellPlan) (t : Tuning) : Type 0 where
+pub record IsTunedToPlan (plan : CellPlan) (t : Tuning) : Type 0 where
   pub path : IsOnPath plan t
   pub first_channel : 1 ≤ t.paging
   pub last_channel : t.paging ≤ 7

@@ -2,7 +2,7 @@
 -- one place.
 pub use Rattle.cdma_io.specs.declared.header.Header.{Header}
 pub use Rattle.cell_plan.specs.PageCycles.{Cycle, cycle_frame_bits, cycled, paging_frame_size}
-pub use Rattle.cell_plan.specs.Pages.{AreSendable, paging_rate}
+pub use Rattle.cell_plan.specs.Pages.{AreSendable, sent_paging_rate}
 unfoldable pub use Rattle.cell_plan.specs.Pages.{page_cycle}
 pub use Rattle.cell_plan.specs.Plan.{IsFreeOf, gain_sum, loudness}
 pub use Rattle.cell_plan.specs.Sampled.{made_samples}
@@ -12,7 +12,7 @@ pub use Rattle.cell_plan.specs.Signal.{Carrier, carriers, cycle_of, frames_of, l
 pub use Rattle.cell_plan.specs.SomeMessage.{some_message, some_sync}
 pub use Rattle.cell_plan.specs.Stated.{AreHeard, IsReceivable, IsStatedPaging}
 pub use Rattle.cell_plan.specs.TrafficFrames.{FrameCycle, IsTrafficFrame, IsTrafficFrame2}
-pub use Rattle.cell_plan.specs.TrafficFrames.{cycled_frame, frame_state, sent_with, set_one}
+pub use Rattle.cell_plan.specs.TrafficFrames.{cycled_frame, sent_frame_state, sent_with, set_one}
 pub use Rattle.cell_plan.specs.TrafficFrames.{set_two, traffic_frame_symbols}
 pub use Rattle.cell_plan.specs.Transmitter.{phase_at}
 pub use Rattle.cell_plan.specs.declared.frame_list.FrameList.{FrameList}
@@ -50,7 +50,7 @@ pub use Rattle.heard_events.specs.FramesAlone.{traffic_channel}
 pub use Rattle.heard_events.specs.Given.{at_of}
 pub use Rattle.heard_events.specs.Marks.{mark}
 pub use Rattle.heard_events.specs.Moments.{frames_at, legs_at, messages_at, sets_at}
-pub use Rattle.heard_events.specs.PagingEvents.{page_event, pages_behind, with_page}
+pub use Rattle.heard_events.specs.PagingEvents.{page_event, pages_behind, as_spelled_page}
 pub use Rattle.heard_events.specs.PagingStreams.{paging_stream}
 pub use Rattle.heard_events.specs.Signaling.{capsule_with, message_events, signal_in}
 pub use Rattle.heard_events.specs.SoftFrames.{raw_at, soft_frame, soft_frames}
@@ -88,7 +88,7 @@ pub use Rattle.rake_finger.specs.Streams.{frame_softs, is_in_file, span_first, s
 pub use Rattle.rake_finger.specs.declared.finger.Finger.{Finger}
 pub use Rattle.rake_finger.specs.declared.form.Form.{Form}
 pub use Rattle.rake_finger.specs.declared.form.Form.TheVariants.{Data}
-pub use Rattle.rate_set_two.specs.Laws.{good_frame}
+pub use Rattle.rate_set_two.specs.Laws.{good_frame2}
 pub use Rattle.rate_set_two.specs.TrafficFrames.{decoded2}
 pub use Rattle.rate_set_two.specs.declared.traffic.Decoded2.{Decoded2}
 pub use Rattle.symbol_path.specs.FramesTwo.{codeword_bits}
@@ -102,9 +102,10 @@ pub use Rattle.symbol_path.specs.declared.rate_two.Rate2.TheVariants.{R14400, R1
 unfoldable pub use Rattle.sync_message.specs.SyncMessage.{sync_body, sync_capsule}
 pub use Rattle.sync_message.specs.declared.fields.SyncFields.{SyncFields}
 pub use Rattle.traffic_message.specs.Messages.{Message}
-unfoldable pub use Rattle.traffic_message.specs.Messages.{message_body, traffic_capsule}
+unfoldable pub use Rattle.traffic_message.specs.Messages.{traffic_message_body, traffic_capsule}
 unfoldable pub use Rattle.traffic_message.specs.Multiplex.{split, split_9600}
-unfoldable pub use Rattle.traffic_message.specs.Reading.{body_reading, head_at, head_of, is_body}
+unfoldable pub use Rattle.traffic_message.specs.Reading.{traffic_body_reading, head_at, head_of}
+unfoldable pub use Rattle.traffic_message.specs.Reading.{is_traffic_body}
 unfoldable pub use Rattle.traffic_message.specs.Reading.{part_reading, traffic_reading}
 pub use Rattle.traffic_message.specs.declared.body.TrafficBody.{TrafficBody}
 pub use Rattle.traffic_message.specs.declared.body.TrafficBody.TheVariants.{Other}

@@ -87,15 +87,15 @@ codewords_giving shown (suc n) j eight =
 
 -- What a frame's repeated symbols, so many of each of its code symbols, show of the code symbols of
 -- a codeword that repeats each of its own another number of times
-abbrev pub shown_of : (ℕ → Bool) → List Bool → ℕ → ℕ → ℕ → List Bool
-shown_of known symbols repeats others c =
+abbrev pub symbols_known_of : (ℕ → Bool) → List Bool → ℕ → ℕ → ℕ → List Bool
+symbols_known_of known symbols repeats others c =
     map (λ k. get_or symbols (k / repeats) false)
     (filter known (range_with_len (others * c) others))
 
 -- so the codewords of n bits that share all that is known of a frame's code symbols
 abbrev pub codewords_sharing : (ℕ → Bool) → List Bool → ℕ → ℕ → ℕ → List (List Bool)
 codewords_sharing known symbols repeats others n =
-    codewords_giving (shown_of known symbols repeats others) n 0 (replicate 8 false)
+    codewords_giving (symbols_known_of known symbols repeats others) n 0 (replicate 8 false)
 
 -- Of the codewords of each rate that share a frame's symbols, only its own does.
 pub record SharesNone {R : Type 0} (sharing : R → List (List Bool)) (rate : R) (bits : List Bool) :
@@ -131,13 +131,13 @@ is_known2 lost k = not (is_dropped k) && is_kept lost k
 abbrev pub sharing2 : List ℕ → Rate2 → List Bool → Rate2 → List (List Bool)
 sharing2 lost rate bits r =
     codewords_sharing (is_known2 lost) (code_symbols (replicate 8 false) bits)
-    (rates_two.repeats_of rate) (rates_two.repeats_of r) (rates_two.frame_bits r)
+    (rates_two.repeats_of2 rate) (rates_two.repeats_of2 r) (rates_two.frame_bits2 r)
 
 abbrev pub AreDistinctBySharing2 : Type 0
 AreDistinctBySharing2 = (replaced : List ℕ) (rate : Rate2) (information : List Bool) →
     SharesNone (sharing2 (lost_symbols2 replaced) rate (codeword_bits rate information)) rate
     (codeword_bits rate information) →
-    laws_two.IsUnshared replaced rate (frames_two.frame_codeword rate information)
+    laws_two.IsUnshared2 replaced rate (frames_two.frame_codeword2 rate information)
 
 -- ---- worked frames
 
@@ -156,8 +156,8 @@ some_information =
     binary 64 0x6eb96f6d68690b65 ++ binary 64 0xaa73026f6b41c7ad ++ binary 44 0x3f68aa22065
 
 -- a frame that tells a handset to lower its power
-abbrev pub frame_with : Rate → List Bool → TrafficFrame
-frame_with rate information = record {
+abbrev pub distinct_frame_with : Rate → List Bool → TrafficFrame
+distinct_frame_with rate information = record {
   rate = rate;
   information = information;
   power_bits = replicate 16 true;
@@ -165,11 +165,12 @@ frame_with rate information = record {
 
 -- at 9,600 bits a second that frame is distinct
 abbrev pub AFullRateFrameIsDistinct : Type 0
-AFullRateFrameIsDistinct = IsDistinctFrame replaced_places (frame_with R9600 some_information)
+AFullRateFrameIsDistinct = IsDistinctFrame replaced_places
+    (distinct_frame_with R9600 some_information)
 
 -- Frames of zeros at 2,400 and at 1,200 bits a second aren't, whatever is replaced: they have no
 -- quality bits, and all their symbols are 0.
 abbrev pub ZerosAreShared : Type 0
 ZerosAreShared = (replaced : List ℕ) →
-    (IsDistinctFrame replaced (frame_with R2400 (replicate 40 false)) → ⊥)
-    × (IsDistinctFrame replaced (frame_with R1200 (replicate 16 false)) → ⊥)
+    (IsDistinctFrame replaced (distinct_frame_with R2400 (replicate 40 false)) → ⊥)
+    × (IsDistinctFrame replaced (distinct_frame_with R1200 (replicate 16 false)) → ⊥)

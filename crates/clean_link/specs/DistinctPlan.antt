@@ -7,7 +7,7 @@ use Rattle.clean_link.specs.Common.{R1200, Rate2, R14400, R7200, R3600, R1800, S
 use Rattle.clean_link.specs.Common.{frames_of, some_message, some_sync, cycled_frame, FrameList}
 use Rattle.clean_link.specs.Common.{SetOne, SetTwo, CellPlan, TrafficPlan, TrafficFrame}
 use Rattle.clean_link.specs.Common.{TrafficFrame2, Traffic, IsReceivable}
-use Rattle.clean_link.specs.DistinctFrames.{frame_with}
+use Rattle.clean_link.specs.DistinctFrames.{distinct_frame_with}
 use Rattle.clean_link.specs.HeardFrames.{is_received, received_frames, replaced_of, IsAssigned}
 use Rattle.clean_link.specs.HeardFrames.{SendsSetTwo}
 use Rattle.clean_link.specs.ReceivedFrames.{cycled_frame2, IsDistinctFrame2}
@@ -20,12 +20,12 @@ abbrev pub told_message : SyncFields
 told_message = some_message 1
 
 -- information bits of each rate; those at 9,600 bits a second are primary traffic alone
-abbrev pub bits_of : Rate → List Bool
-bits_of R9600 =
+abbrev pub distinct_bits_of : Rate → List Bool
+distinct_bits_of R9600 =
     binary 64 0x66ead69800f6c1c5 ++ binary 64 0xa65d1b54066a284c ++ binary 44 0x6547829256
-bits_of R4800 = binary 64 0x6f0dbecf19b63b60 ++ binary 16 0xdc17
-bits_of R2400 = binary 40 0x6afb64b799
-bits_of R1200 = binary 16 0x6060
+distinct_bits_of R4800 = binary 64 0x6f0dbecf19b63b60 ++ binary 16 0xdc17
+distinct_bits_of R2400 = binary 40 0x6afb64b799
+distinct_bits_of R1200 = binary 16 0x6060
 
 abbrev pub bits_of2 : Rate2 → List Bool
 bits_of2 R14400 =
@@ -37,7 +37,7 @@ bits_of2 R1800 = binary 22 0xa13a0
 
 -- frames of them that tell a handset to lower its power
 abbrev pub frame_at : Rate → TrafficFrame
-frame_at rate = frame_with rate (bits_of rate)
+frame_at rate = distinct_frame_with rate (distinct_bits_of rate)
 
 abbrev pub frame2_at : Rate2 → TrafficFrame2
 frame2_at rate =

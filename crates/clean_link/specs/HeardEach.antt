@@ -15,7 +15,7 @@ use Rattle.clean_link.specs.HeardFrames.{sent_power_bits, sent_frame_event, AreD
 use Rattle.clean_link.specs.HeardFrames.{IsDistinctFrame, SendsSetOne, messages_of_channel}
 use Rattle.clean_link.specs.SentEvents.{paging_sent, told_with_sync, FollowsSent, signaling_sent}
 use Rattle.clean_link.specs.BoundedNoise.{Bears}
-use Rattle.clean_link.specs.CleanLaws.{HearsSync}
+use Rattle.clean_link.specs.CleanLaws.{HearsSentSync}
 
 -- ---- events of a kind
 
@@ -132,7 +132,8 @@ pub record HearsBearing (plan : CellPlan) (e paging : ℕ) (followed : Option Tr
 -- noise and no handoff is directed.
 abbrev pub NoisyEachChannelComesBack : Type 0
 NoisyEachChannelComesBack = (width : Width) (plan : CellPlan) (sync : SyncPlan) (e : ℕ)
-    (samples : List Sample) (t : Tuning) → HearsSync width plan sync e samples → IsOnPath plan t →
+    (samples : List Sample) (t : Tuning) → HearsSentSync width plan sync e samples →
+    IsOnPath plan t →
     All IsNotDirected (events t samples) →
     HearsBearing plan e t.paging t.traffic (events t samples)
 
@@ -141,7 +142,8 @@ NoisyEachChannelComesBack = (width : Width) (plan : CellPlan) (sync : SyncPlan) 
 -- directed where no channel is followed.
 abbrev pub NoEventIsDirectedByNoise : Type 0
 NoEventIsDirectedByNoise = (width : Width) (plan : CellPlan) (sync : SyncPlan) (e : ℕ)
-    (samples : List Sample) (t : Tuning) → HearsSync width plan sync e samples → IsOnPath plan t →
+    (samples : List Sample) (t : Tuning) → HearsSentSync width plan sync e samples →
+    IsOnPath plan t →
     FollowsSent plan t.traffic →
     ((p : TrafficPlan) (traffic : Traffic) → t.traffic ≡ Some traffic → Contains plan.traffic p →
     IsAssigned p traffic → Bears plan p.gain e) →

@@ -8,7 +8,7 @@ use Rattle.std.specs.Option.{option_to_list}
 use Rattle.clean_link.specs.Common.{data_frame_chips, frame_offset_chips}
 use Rattle.clean_link.specs.Common.{places, sign, traffic_mask, power_places, frame_codeword}
 use Rattle.clean_link.specs.Common.{IsUnshared, ShowSymbols, frame_symbols, is_replaced, frames_of}
-use Rattle.clean_link.specs.Common.{cycled_frame, frame_state, sent_with, set_one, set_two}
+use Rattle.clean_link.specs.Common.{cycled_frame, sent_frame_state, sent_with, set_one, set_two}
 use Rattle.clean_link.specs.Common.{traffic_frame_symbols, CellPlan, TrafficPlan, TrafficFrame}
 use Rattle.clean_link.specs.Common.{Finger, Event, Frame, Leg, Traffic, split, capsule_with}
 use Rattle.clean_link.specs.Common.{message_events, signal_in}
@@ -67,7 +67,8 @@ pub record SendsSymbols (plan : CellPlan) (p : TrafficPlan) (frame : ℕ)
     (symbols power_bits : List Bool) : Type 0 where
   pub all : length symbols ≡ 384
   pub given : traffic_frame_symbols (frames_of plan p) frame
-      ≡ sent_with (frame_state (frames_of plan p) frame) (traffic_mask p.esn) power_bits symbols
+      ≡ sent_with (sent_frame_state (frames_of plan p) frame) (traffic_mask p.esn) power_bits
+      symbols
 
 -- Soft values of a frame that show what it sends: descrambled by its scrambling they are, at the
 -- places that no power control bit replaces, one positive number times the signs of its symbols.
@@ -81,7 +82,8 @@ pub record ShowFrame (replaced : List ℕ) (strength : ℕ) (symbols : List Bool
 
 -- the places in frame `frame` of the symbols that power control bits replace
 abbrev pub replaced_of : CellPlan → TrafficPlan → ℕ → List ℕ
-replaced_of plan p frame = power_places (frame_state (frames_of plan p) frame) (traffic_mask p.esn)
+replaced_of plan p frame = power_places (sent_frame_state (frames_of plan p) frame)
+    (traffic_mask p.esn)
 
 -- the local chip at which frame `frame` begins
 abbrev pub frame_chip : TrafficPlan → ℕ → ℕ
@@ -123,14 +125,14 @@ frames_of_channel plan p mark_chip =
     flat_map (frame_told plan p) (received_frames plan p mark_chip)
 
 -- what is told of the first channel on a row
-abbrev pub told_on : (TrafficPlan → List Event) → List TrafficPlan → ℕ → List Event
-told_on told [] row = []
-told_on told (p ∷ traffic) row = if p.row == row then told p else told_on told traffic row
+abbrev pub told_on_row : (TrafficPlan → List Event) → List TrafficPlan → ℕ → List Event
+told_on_row told [] row = []
+told_on_row told (p ∷ traffic) row = if p.row == row then told p else told_on_row told traffic row
 
 -- the frames of the cell's traffic channel on a row, where the mark is at this local chip
 unfoldable pub frames_sent : CellPlan → ℕ → ℕ → List Event
 frames_sent plan row mark_chip =
-    told_on (λ (p : TrafficPlan). frames_of_channel plan p mark_chip) plan.traffic row
+    told_on_row (λ (p : TrafficPlan). frames_of_channel plan p mark_chip) plan.traffic row
 
 -- ---- the messages that the signaling spells (TIA/EIA-95-B, 7.1.3.5.11 and 7.7.3)
 
@@ -168,4 +170,4 @@ messages_of_channel plan p mark_chip =
 -- those of the cell's traffic channel on a row
 unfoldable pub messages_sent : CellPlan → ℕ → ℕ → List Event
 messages_sent plan row mark_chip =
-    told_on (λ (p : TrafficPlan). messages_of_channel plan p mark_chip) plan.traffic row
+    told_on_row (λ (p : TrafficPlan). messages_of_channel plan p mark_chip) plan.traffic row

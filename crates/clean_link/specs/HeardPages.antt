@@ -7,9 +7,11 @@ use Rattle.std.specs.List.{flat_map}
 use Rattle.std.specs.Option.{option_to_list}
 use Rattle.clean_link.specs.Common.{data_frame_chips}
 use Rattle.clean_link.specs.Common.{places, Sample, Width, capsule, M30, half_frame_body}
-use Rattle.clean_link.specs.Common.{message_at, number_at, PagingMessage, paging_rate, IsFreeOf}
+use Rattle.clean_link.specs.Common.{message_at, number_at, PagingMessage, sent_paging_rate}
+use Rattle.clean_link.specs.Common.{IsFreeOf}
 use Rattle.clean_link.specs.Common.{made_samples, IsStatedPaging, IsReceivable, CellPlan}
-use Rattle.clean_link.specs.Common.{PagingPlan, SyncPlan, pages_behind, with_page, Tuning, Mark}
+use Rattle.clean_link.specs.Common.{PagingPlan, SyncPlan, pages_behind, as_spelled_page, Tuning}
+use Rattle.clean_link.specs.Common.{Mark}
 use Rattle.clean_link.specs.Common.{CheckForm, Rate, half_frame_capsule_ending, page_cycle}
 use Rattle.clean_link.specs.Common.{AreSendable, AreHeard, Page, cycled, paging_frame_size}
 use Rattle.clean_link.specs.CleanLink.{heard_behind, IsOnPath, IsTrueMark}
@@ -132,7 +134,7 @@ type_within {A} given = A
 
 -- a page as a handset reads it: a capsule, and the message that it spells
 abbrev pub ReadPage : Type 0
-ReadPage = type_within (with_page [] None)
+ReadPage = type_within (as_spelled_page [] None)
 
 -- that page, known at so many samples
 abbrev pub known_page : ℕ → ReadPage → KnownPage
@@ -165,7 +167,7 @@ page_told plan half_frames p = record {
 -- where the pages of a channel lie in its cycle
 abbrev pub placed_pages : CellPlan → PagingPlan → List Placed
 placed_pages plan p =
-    placed (half_frame_body (paging_rate plan.sync)) plan.cell.check30 0 0 p.pages
+    placed (half_frame_body (sent_paging_rate plan.sync)) plan.cell.check30 0 0 p.pages
 
 -- the local chip after the file's last one
 abbrev pub end_chip : CellPlan → ℕ
@@ -174,7 +176,7 @@ end_chip plan = plan.link.start + plan.link.samples
 -- the pages that round r of the cycle sends whole, where the mark is at this local chip
 abbrev pub round_sent : CellPlan → PagingPlan → ℕ → ℕ → List KnownPage
 round_sent plan p mark_chip r =
-    let before = cycle_half_frames (paging_rate plan.sync) plan.cell.check30 p.pages * r in
+    let before = cycle_half_frames (sent_paging_rate plan.sync) plan.cell.check30 p.pages * r in
     map (page_told plan before)
     (filter (is_whole_page mark_chip (end_chip plan) before) (placed_pages plan p))
 
@@ -201,7 +203,7 @@ pages_sent plan channel mark_chip = pages_numbered plan plan.paging channel mark
 abbrev pub PagesComeBack : Type 0
 PagesComeBack = (width : Width) (plan : CellPlan) (sync : SyncPlan) (t : Tuning) (channel : ℕ)
     (m : Mark) (superframes : ℕ) →
-    IsReceivable width plan → All (IsStatedPaging (paging_rate plan.sync)) plan.paging →
+    IsReceivable width plan → All (IsStatedPaging (sent_paging_rate plan.sync)) plan.paging →
     IsOnPath plan t → 1 ≤ channel → channel ≤ 7 → IsFreeOf plan.traffic channel →
     plan.sync ≡ Some sync → m.prat ≡ sync.message.prat → m.prat < 2 →
     IsTrueMark plan m superframes →

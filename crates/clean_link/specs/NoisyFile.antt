@@ -22,20 +22,20 @@ abbrev pub sync_with : ℕ → SyncPlan
 sync_with gain = record { gain = gain; message = some_message 1 }
 
 -- a list of one CDMA channel, which fills a half-frame
-abbrev pub channels : PagingMessage
-channels = Channels (record { pn = 511; seq = 0; freqs = 283 ∷ []; rest = [] })
+abbrev pub channel_list_message : PagingMessage
+channel_list_message = Channels (record { pn = 511; seq = 0; freqs = 283 ∷ []; rest = [] })
 
-abbrev pub paging_channel : PagingPlan
-paging_channel = record {
+abbrev pub noisy_paging_plan : PagingPlan
+noisy_paging_plan = record {
   number = 1;
   gain = 60;
-  pages = record { follows = false; body = message_body channels } ∷ [];
+  pages = record { follows = false; body = message_body channel_list_message } ∷ [];
 }
 
 -- A pilot of the gain 100 and a paging channel of the gain 60 beside this sync channel, over a link
 -- of -3 j: 30 paging frames, and 21 whole sync frames.
 abbrev pub cell_beside : Option SyncPlan → CellPlan
-cell_beside sync = cell_with 0 737280 Plain sync (paging_channel ∷ []) []
+cell_beside sync = cell_with 0 737280 Plain sync (noisy_paging_plan ∷ []) []
 
 -- A sync channel of the gain 30 makes 90 of each I and Q, and its margin is 54.
 abbrev pub cell : CellPlan
@@ -64,11 +64,11 @@ file = file_with 18
 -- ---- what comes back
 
 -- the message of a transmission, and its event at so many samples
-abbrev pub told : ℕ → SyncFields
-told sending = message_of cell.cell (some_message 1) sending
+abbrev pub told_sync : ℕ → SyncFields
+told_sync sending = message_of cell.cell (some_message 1) sending
 
 abbrev pub sync_event : ℕ → ℕ → Event
-sync_event at sending = Sync at (sync_capsule Plain (told sending)) (told sending)
+sync_event at sending = Sync at (sync_capsule Plain (told_sync sending)) (told_sync sending)
 
 -- what a handset tells with one finger on the cell's path, which follows no traffic channel
 abbrev pub heard : ℕ → List Event
@@ -93,4 +93,5 @@ pub record ComesBackAtItsMargin : Type 0 where
   pub sync : (energy : ℕ) → filter is_sync (heard energy) ≡
       sync_event 294848 0 ∷ sync_event 589760 1 ∷ []
   pub pages : (energy : ℕ) → filter is_page (heard energy) ≡
-      replicate 4 (Paging 737280 (capsule M30 Plain (message_body channels)) channels)
+      replicate 4 (Paging 737280 (capsule M30 Plain (message_body channel_list_message))
+      channel_list_message)

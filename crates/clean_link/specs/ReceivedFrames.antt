@@ -2,11 +2,11 @@
 -- the reference base station alone (TIA/EIA-95-B, 7.1.3.5).
 use Rattle.std.specs.Prelude.{ℕ, ◌*◌, ◌≡◌, true, Bool, List, map, ℤ, pos, Some}
 use Rattle.clean_link.specs.Common.{superframe_chips}
-use Rattle.clean_link.specs.Common.{kept_count, Data, good_frame, decoded2, Decoded2, set_two}
+use Rattle.clean_link.specs.Common.{kept_count, Data, good_frame2, decoded2, Decoded2, set_two}
 use Rattle.clean_link.specs.Common.{FrameCycle, CellPlan, TrafficPlan, TrafficFrame2, SoftFrame}
-use Rattle.rate_set_two.specs.Laws.{IsUnshared}
-use Rattle.rate_set_two.specs.TrafficFrames.{frame_symbols, frame_codeword}
-use Rattle.cell_plan.specs.TrafficFrames.{cycled}
+use Rattle.rate_set_two.specs.Laws.{IsUnshared2}
+use Rattle.rate_set_two.specs.TrafficFrames.{frame_symbols2, frame_codeword2}
+use Rattle.cell_plan.specs.TrafficFrames.{frames_in_turn}
 use Rattle.clean_link.specs.CleanLink.{soft_strength}
 use Rattle.clean_link.specs.HeardFrames.{frame_ends, is_received, received_frames, replaced_of}
 use Rattle.clean_link.specs.HeardFrames.{sent_bits, ShowFrame}
@@ -35,20 +35,20 @@ IsReceivedAs plan p frame symbols power_bits soft = IsReceived plan p frame powe
 
 -- the one that is sent as frame k
 abbrev pub cycled_frame2 : FrameCycle → ℕ → List TrafficFrame2
-cycled_frame2 c k = cycled (set_two c.frames) k
+cycled_frame2 c k = frames_in_turn (set_two c.frames) k
 
 -- the 384 symbols of a frame before scrambling, in the order in which they are sent
 abbrev pub codeword_symbols2 : TrafficFrame2 → List Bool
-codeword_symbols2 f = frame_symbols f.rate (frame_codeword f.rate f.information)
+codeword_symbols2 f = frame_symbols2 f.rate (frame_codeword2 f.rate f.information)
 
 -- A frame whose symbols at the places that no power control bit replaces are those of no other
 -- codeword, at none of the four rates, whether that codeword's quality bits are right or not.
 abbrev pub IsDistinctFrame2 : List ℕ → TrafficFrame2 → Type 0
-IsDistinctFrame2 replaced f = IsUnshared replaced f.rate (frame_codeword f.rate f.information)
+IsDistinctFrame2 replaced f = IsUnshared2 replaced f.rate (frame_codeword2 f.rate f.information)
 
 -- what is decoded of a frame that comes back, which is sent as frame `frame`
 abbrev pub sent_decoded2 : CellPlan → TrafficPlan → ℕ → TrafficFrame2 → Decoded2
-sent_decoded2 plan p frame f = good_frame f.rate f.information
+sent_decoded2 plan p frame f = good_frame2 f.rate f.information
     (pos (soft_strength plan Data p.gain * kept_count (replaced_of plan p frame)))
 
 -- What is received of frame `frame`, which is this one: where it is distinct, its rate and its

@@ -5,7 +5,7 @@ use Rattle.std.specs.Prelude.{ℤ}
 use Rattle.std.specs.List.{Contains}
 use Rattle.clean_link.specs.Common.{IsTrafficFrame2, TrafficFrame2, frame_codeword, traffic_channel}
 use Rattle.clean_link.specs.Common.{IsTrafficFrame, TrafficFrame, Width, cycled_frame, made_samples}
-use Rattle.clean_link.specs.Common.{IsReceivable, TrafficPlan, good_frame, soft_frame, soft_frames}
+use Rattle.clean_link.specs.Common.{IsReceivable, TrafficPlan, good_frame2, soft_frame, soft_frames}
 use Rattle.clean_link.specs.Common.{CellPlan, Decoded2, SoftFrame, SyncPlan, decoded2, frames_of}
 use Rattle.clean_link.specs.Common.{Data, Mark, Sample, Traffic, Tuning, mark, raw_at}
 use Rattle.clean_link.specs.CleanLink.{IsOnPath, soft_strength}
@@ -15,10 +15,10 @@ use Rattle.clean_link.specs.HeardFrames.{IsDistinctFrame}
 use Rattle.clean_link.specs.ReceivedFrames.{IsDistinctFrame2, codeword_symbols2, cycled_frame2}
 use Rattle.clean_link.specs.ReceivedFrames.{AreReceived, IsReceived, IsReceivedAs, IsSentFrame2}
 use Rattle.clean_link.specs.TrafficLaws.{HavePowerSigns, IsOnlyBestFrame, IsOnlyBestFrame2}
-use Rattle.clean_link.specs.TrafficLaws.{HearsTraffic, HoldsOfBearing, NoisyFrame}
+use Rattle.clean_link.specs.TrafficLaws.{HearsSentTraffic, HoldsOfBearing, NoisyFrame}
 use Rattle.rate_set_two.specs.TrafficFrames as second
 use Rattle.clean_link.specs.BoundedNoise.{Bears}
-use Rattle.clean_link.specs.CleanLaws.{HearsSync}
+use Rattle.clean_link.specs.CleanLaws.{HearsSentSync}
 
 -- ---- what is sent
 
@@ -41,7 +41,7 @@ SetTwoSends = (plan : CellPlan) (p : TrafficPlan) (frame : ℕ) (f : TrafficFram
 abbrev pub EachFrameIsReceived : Type 0
 EachFrameIsReceived = (width : Width) (plan : CellPlan) (p : TrafficPlan) (t : Tuning)
     (traffic : Traffic) (m : Mark) (superframes : ℕ) (samples : List Sample) →
-    HearsTraffic width plan p t traffic m superframes → length samples ≡ plan.link.samples →
+    HearsSentTraffic width plan p t traffic m superframes → length samples ≡ plan.link.samples →
     soft_frames t (traffic_channel traffic) m samples ≡
     map (λ frame. soft_frame t (traffic_channel traffic) m samples (frame - 4 * superframes))
     (received_frames plan p (plan.link.start + m.sample))
@@ -50,7 +50,7 @@ EachFrameIsReceived = (width : Width) (plan : CellPlan) (p : TrafficPlan) (t : T
 abbrev pub FramesShowSymbols : Type 0
 FramesShowSymbols = (width : Width) (plan : CellPlan) (p : TrafficPlan) (t : Tuning)
     (traffic : Traffic) (m : Mark) (superframes frame : ℕ) (symbols power_bits : List Bool) →
-    HearsTraffic width plan p t traffic m superframes →
+    HearsSentTraffic width plan p t traffic m superframes →
     is_received plan p (plan.link.start + m.sample) frame ≡ true →
     SendsSymbols plan p frame symbols power_bits →
     IsReceivedAs plan p frame symbols power_bits
@@ -60,7 +60,7 @@ FramesShowSymbols = (width : Width) (plan : CellPlan) (p : TrafficPlan) (t : Tun
 abbrev pub FramesShowPowerBits : Type 0
 FramesShowPowerBits = (width : Width) (plan : CellPlan) (p : TrafficPlan) (t : Tuning)
     (traffic : Traffic) (m : Mark) (superframes frame : ℕ) (symbols power_bits : List Bool) →
-    HearsTraffic width plan p t traffic m superframes →
+    HearsSentTraffic width plan p t traffic m superframes →
     is_received plan p (plan.link.start + m.sample) frame ≡ true →
     SendsSymbols plan p frame symbols power_bits →
     ShowPowerBits (replaced_of plan p frame) (soft_strength plan Data p.gain) power_bits
@@ -140,13 +140,13 @@ NoisySetTwoAreTheOnlyBest = (plan : CellPlan) (p : TrafficPlan) (frame : ℕ) (f
     IsReceivedBySigns plan p frame (codeword_symbols2 f) f.power_bits soft →
     IsDistinctFrame2 (replaced_of plan p frame) f →
     IsOnlyBestFrame2 (replaced_of plan p frame) soft.descrambled f.rate
-    (second.frame_codeword f.rate f.information)
+    (second.frame_codeword2 f.rate f.information)
 
 -- What is decoded of a frame that comes back: its rate and its information bits, as a good frame,
 -- with any score.
 pub record IsDecodedAs2 (f : TrafficFrame2) (decoded : Decoded2) : Type 0 where
   pub score : ℤ
-  pub same : decoded ≡ good_frame f.rate f.information score
+  pub same : decoded ≡ good_frame2 f.rate f.information score
 
 -- What is received of frame `frame`, which is this one: where it is distinct, it is decoded so.
 pub record IsSentFrame2BySigns (plan : CellPlan) (p : TrafficPlan) (frame : ℕ)
@@ -169,7 +169,7 @@ NoisySetTwoFramesComeBack = (plan : CellPlan) (p : TrafficPlan) (frame : ℕ) (f
 abbrev pub HoldsBehindMark : (CellPlan → TrafficPlan → List SoftFrame → Type 0) → Type 0
 HoldsBehindMark P = (width : Width) (plan : CellPlan) (sync : SyncPlan) (p : TrafficPlan) (e : ℕ)
     (samples : List Sample) (t : Tuning) (traffic : Traffic) (m : Mark) →
-    HearsSync width plan sync e samples → Bears plan p.gain e → IsOnPath plan t →
+    HearsSentSync width plan sync e samples → Bears plan p.gain e → IsOnPath plan t →
     Contains plan.traffic p → IsAssigned p traffic → mark t samples (length samples) ≡ Some m →
     P plan p (soft_frames t (traffic_channel traffic) m samples)
 

@@ -8,7 +8,7 @@ use Rattle.clean_link.specs.Common.{phase_at, CellPlan, SyncPlan, TrafficPlan, e
 use Rattle.clean_link.specs.Common.{Tuning, Event, Paging, Pilot, Traffic, IsReceivable, Sample}
 use Rattle.clean_link.specs.Common.{mark, frames_at, messages_at, sets_at, page_event, pages_behind}
 use Rattle.clean_link.specs.Common.{if_followed}
-use Rattle.clean_link.specs.CleanLink.{sync_sent, IsNotDirected, IsOnPath, IsTunedTo, tuning_to}
+use Rattle.clean_link.specs.CleanLink.{sync_sent, IsNotDirected, IsOnPath, IsTunedToPlan, tuning_to}
 use Rattle.clean_link.specs.CleanLink.{whole_sendings}
 use Rattle.clean_link.specs.HeardFrames.{frames_sent, AreDistinct, IsAssigned, SendsSetOne}
 use Rattle.clean_link.specs.HeardPages.{KnownPage, pages_sent}
@@ -149,6 +149,6 @@ NoEventIsDirected = (width : Width) (plan : CellPlan) (t : Tuning) →
 -- Where no handoff is directed, a handset hears just these, in this order.
 abbrev pub WholeMessagesComeBack : Type 0
 WholeMessagesComeBack = (width : Width) (plan : CellPlan) (t : Tuning) →
-    IsReceivable width plan → IsTunedTo plan t → FollowsSent plan t.traffic →
+    IsReceivable width plan → IsTunedToPlan plan t → FollowsSent plan t.traffic →
     All IsNotDirected (events t (made_samples plan)) →
     events t (made_samples plan) ≡ sent_events plan t.energy t.paging t.traffic

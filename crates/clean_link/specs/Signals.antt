@@ -34,7 +34,7 @@ level_at row (c ∷ cs) chip = row_level row chip c +ℤ level_at row cs chip
 
 -- Channels that a handset can tell apart. Row 0 is the pilot's, which has this gain from local chip
 -- 0 on.
-pub record AreApart (gain : ℕ) (cs : List Carrier) : Type 0 where
+pub record CarriersAreApart (gain : ℕ) (cs : List Carrier) : Type 0 where
   pub aligned : All IsAligned cs
   pub own_rows : HaveOwnRows cs
   pub pilot : (chip : ℕ) → level_at 0 cs chip ≡ pos gain
@@ -75,9 +75,9 @@ pub record IsHeardBy (plan : CellPlan) (c : Carrier) (s : Stream) (base : ℕ) :
 
 -- symbols as they are sent under a frame's scrambling bits, where there are any (TIA/EIA-95-B,
 -- 7.1.3.1.6)
-abbrev pub scrambled : List Bool → List Bool → List Bool
-scrambled [] symbols = symbols
-scrambled (b ∷ bits) symbols = zip_with xor symbols (b ∷ bits)
+abbrev pub scrambled_with : List Bool → List Bool → List Bool
+scrambled_with [] symbols = symbols
+scrambled_with (b ∷ bits) symbols = zip_with xor symbols (b ∷ bits)
 
 -- Frames of so many symbols, which the code symbols of eight bits or more fill, each of them sent
 -- equally often.
@@ -97,7 +97,7 @@ pub record AreReadBy (c : Carrier) (s : Stream) (bits_of : ℕ → List Bool) (b
   pub scrambles : (k : ℕ) → Scrambles (s.scrambling k) (soft.symbols s.form)
   pub sent : (k : ℕ) →
       c.symbols (base + k) ≡
-      scrambled (s.scrambling k)
+      scrambled_with (s.scrambling k)
       (sent s.channel.shape s.channel.repeats (continued_symbols bits_of (base + k)))
 
 -- The codeword of so many frames of a source: the encoder's eight bits before the first of them,
@@ -109,15 +109,15 @@ span_codeword bits_of first frames = record {
 }
 
 -- the soft values of the span by which frame k is decoded
-abbrev pub span_softs : ℕ → List Sample → Stream → ℕ → List ℤ
-span_softs count samples s k =
+abbrev pub span_frame_softs : ℕ → List Sample → Stream → ℕ → List ℤ
+span_frame_softs count samples s k =
     flat_map (λ j. frame_softs samples s (span_first count s k + j))
     (places (span_frames count s k))
 
 -- how well a codeword agrees with them
 abbrev pub span_score : ℕ → List Sample → Stream → ℕ → Codeword → ℤ
 span_score count samples s k w =
-    score (span_softs count samples s k) (sending s.channel (span_frames count s k)) w
+    score (span_frame_softs count samples s k) (sending s.channel (span_frames count s k)) w
 
 -- A codeword of the span's length, with its eight start bits, such that every other one has a
 -- lesser score.

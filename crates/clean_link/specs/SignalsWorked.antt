@@ -4,8 +4,9 @@ use Rattle.std.specs.Prelude.{replicate}
 use Rattle.clean_link.specs.Common.{binary, places, Complemented, fields_at, group_at, number_part}
 use Rattle.clean_link.specs.Common.{octets_at, part_at, presence_at, reading, records_at, capsule}
 use Rattle.clean_link.specs.Common.{front_capsule, is_stated, capsule_ending, check_bits, R1200}
-use Rattle.clean_link.specs.Common.{R9600, Message, message_body, traffic_capsule, split}
-use Rattle.clean_link.specs.Common.{split_9600, body_reading, head_at, head_of, is_body}
+use Rattle.clean_link.specs.Common.{R9600, Message, traffic_message_body, traffic_capsule, split}
+use Rattle.clean_link.specs.Common.{split_9600, traffic_body_reading, head_at, head_of}
+use Rattle.clean_link.specs.Common.{is_traffic_body}
 use Rattle.clean_link.specs.Common.{part_reading, spelling, traffic_reading, Other, CellPlan}
 use Rattle.clean_link.specs.Common.{TrafficFrame}
 use Rattle.heard_events.specs.declared.event.Event.TheVariants.{Traffic}
@@ -50,23 +51,23 @@ cell samples = cell_of_frames 0 samples Complemented frames
 -- After superframe 8 the message begins in frame 33 and ends in frame 35, at that frame's end.
 in_two_frames : messages_sent (cell 887808) 9 786432 ≡ Traffic 887808 spelled message ∷ []
 unfolding cell frames slow signaling spelled message messages_sent split split_9600 capsule_ending
-    front_capsule is_stated traffic_reading traffic_capsule message_body spelling body_reading
-    is_body head_at head_of part_reading reading fields_at group_at presence_at octets_at
-    number_part part_at records_at capsule check_bits binary places
+    front_capsule is_stated traffic_reading traffic_capsule traffic_message_body spelling
+    traffic_body_reading is_traffic_body head_at head_of part_reading reading fields_at group_at
+    presence_at octets_at number_part part_at records_at capsule check_bits binary places
 in_two_frames = refl
 
 -- one sample less, and its last frame isn't in the file
 cut_short : messages_sent (cell 887807) 9 786432 ≡ []
 unfolding cell frames slow signaling spelled message messages_sent split split_9600 capsule_ending
-    front_capsule is_stated traffic_reading traffic_capsule message_body spelling body_reading
-    is_body head_at head_of part_reading reading fields_at group_at presence_at octets_at
-    number_part part_at records_at capsule check_bits binary places
+    front_capsule is_stated traffic_reading traffic_capsule traffic_message_body spelling
+    traffic_body_reading is_traffic_body head_at head_of part_reading reading fields_at group_at
+    presence_at octets_at number_part part_at records_at capsule check_bits binary places
 cut_short = refl
 
 -- a mark after the beginning of its first frame
 begun_before : messages_sent (cell 887808) 9 814081 ≡ []
 unfolding cell frames slow signaling spelled message messages_sent split split_9600 capsule_ending
-    front_capsule is_stated traffic_reading traffic_capsule message_body spelling body_reading
-    is_body head_at head_of part_reading reading fields_at group_at presence_at octets_at
-    number_part part_at records_at capsule check_bits binary places
+    front_capsule is_stated traffic_reading traffic_capsule traffic_message_body spelling
+    traffic_body_reading is_traffic_body head_at head_of part_reading reading fields_at group_at
+    presence_at octets_at number_part part_at records_at capsule check_bits binary places
 begun_before = refl

@@ -23,7 +23,7 @@ use Rattle.clean_link.specs.ReceivedFrames.{codeword_symbols2, IsDistinctFrame2,
 use Rattle.clean_link.specs.BoundedNoise.{Bears, IsNear}
 
 -- A handset after a true mark, which was assigned a traffic channel that the cell sends.
-pub record HearsTraffic (width : Width) (plan : CellPlan) (p : TrafficPlan) (t : Tuning)
+pub record HearsSentTraffic (width : Width) (plan : CellPlan) (p : TrafficPlan) (t : Tuning)
     (traffic : Traffic) (m : Mark) (superframes : ℕ) : Type 0 where
   pub receivable : IsReceivable width plan
   pub sent : Contains plan.traffic p
@@ -60,7 +60,7 @@ abbrev pub HoldsOfCleanFrames : (CellPlan → TrafficPlan → Tuning → Traffic
     (ℕ → List Leg) → ℕ → TrafficFrame → Type 0) → Type 0
 HoldsOfCleanFrames P = (width : Width) (plan : CellPlan) (p : TrafficPlan) (t : Tuning)
     (traffic : Traffic) (m : Mark) (legs : ℕ → List Leg) (superframes k : ℕ) (f : TrafficFrame) →
-    HearsTraffic width plan p t traffic m superframes →
+    HearsSentTraffic width plan p t traffic m superframes →
     IsHeardAs plan p t traffic m legs superframes k f → P plan p t traffic m legs k f
 
 -- At the places that no power control bit replaces, the soft values of a frame, turned by its
@@ -106,7 +106,7 @@ SixteenPowerBitsAreSent =
 abbrev pub EachFrameIsHeard : Type 0
 EachFrameIsHeard = (width : Width) (plan : CellPlan) (p : TrafficPlan) (t : Tuning)
     (traffic : Traffic) (m : Mark) (superframes : ℕ) (legs : ℕ → List Leg) →
-    HearsTraffic width plan p t traffic m superframes →
+    HearsSentTraffic width plan p t traffic m superframes →
     IsUndirected t traffic m (made_samples plan) plan.link.samples →
     ((k : ℕ) → IsOnePilot traffic (legs k)) →
     flat_map (frames_at t traffic m (made_samples plan)) (places (plan.link.samples + 1)) ≡
@@ -119,7 +119,7 @@ EachFrameIsHeard = (width : Width) (plan : CellPlan) (p : TrafficPlan) (t : Tuni
 abbrev pub HoldsOfDistinct : (CellPlan → TrafficPlan → Tuning → Traffic → Mark → Type 0) → Type 0
 HoldsOfDistinct P = (width : Width) (plan : CellPlan) (p : TrafficPlan) (t : Tuning)
     (traffic : Traffic) (m : Mark) (superframes : ℕ) →
-    HearsTraffic width plan p t traffic m superframes → SendsSetOne p →
+    HearsSentTraffic width plan p t traffic m superframes → SendsSetOne p →
     IsUndirected t traffic m (made_samples plan) plan.link.samples →
     AreDistinct plan p (plan.link.start + m.sample) → P plan p t traffic m
 
@@ -140,7 +140,7 @@ SentMessagesComeBack = HoldsOfDistinct (λ plan p t traffic m.
 abbrev pub NoneIsDirected : Type 0
 NoneIsDirected = (width : Width) (plan : CellPlan) (p : TrafficPlan) (t : Tuning)
     (traffic : Traffic) (m : Mark) (superframes : ℕ) →
-    HearsTraffic width plan p t traffic m superframes → SendsSetOne p →
+    HearsSentTraffic width plan p t traffic m superframes → SendsSetOne p →
     AreDistinct plan p (plan.link.start + m.sample) →
     All IsNotDirected (messages_of_channel plan p (plan.link.start + m.sample)) →
     IsUndirected t traffic m (made_samples plan) plan.link.samples
@@ -192,7 +192,7 @@ abbrev pub IsOnlyBestFrame : List ℕ → List ℤ → Rate → Codeword → Typ
 IsOnlyBestFrame = IsOnlyBestIn format_of
 
 abbrev pub IsOnlyBestFrame2 : List ℕ → List ℤ → Rate2 → Codeword → Type 0
-IsOnlyBestFrame2 = IsOnlyBestIn second.format_of
+IsOnlyBestFrame2 = IsOnlyBestIn second.format_of2
 
 -- So it is of the codeword of a distinct frame that a handset hears after a true mark,
 abbrev pub HeardAreTheOnlyBest : Type 0
@@ -220,7 +220,7 @@ SetTwoAreTheOnlyBest = (plan : CellPlan) (p : TrafficPlan) (frame : ℕ) (f : Tr
     IsReceivedAs plan p frame (codeword_symbols2 f) f.power_bits soft →
     IsDistinctFrame2 (replaced_of plan p frame) f →
     IsOnlyBestFrame2 (replaced_of plan p frame) soft.descrambled f.rate
-    (second.frame_codeword f.rate f.information)
+    (second.frame_codeword2 f.rate f.information)
 
 -- ---- a channel that bears noise
 
@@ -250,7 +250,7 @@ abbrev pub HoldsOfHeardFrames : (Tuning → Traffic → Mark → (ℕ → List L
 HoldsOfHeardFrames P = (width : Width) (plan : CellPlan) (p : TrafficPlan) (t : Tuning)
     (traffic : Traffic) (m : Mark) (legs : ℕ → List Leg) (superframes k e : ℕ) (f : TrafficFrame)
     (samples : List Sample) →
-    HearsTraffic width plan p t traffic m superframes →
+    HearsSentTraffic width plan p t traffic m superframes →
     IsHeardAs plan p t traffic m legs superframes k f → IsNear e samples (made_samples plan) →
     Bears plan p.gain e → P t traffic m legs k f samples
 
@@ -291,7 +291,7 @@ abbrev pub HoldsOfBearing : (CellPlan → TrafficPlan → Tuning → Traffic →
     List Sample → Type 0) → Type 0
 HoldsOfBearing P = (width : Width) (plan : CellPlan) (p : TrafficPlan) (t : Tuning)
     (traffic : Traffic) (m : Mark) (superframes e : ℕ) (samples : List Sample) →
-    HearsTraffic width plan p t traffic m superframes → IsNear e samples (made_samples plan) →
+    HearsSentTraffic width plan p t traffic m superframes → IsNear e samples (made_samples plan) →
     Bears plan p.gain e → P plan p t traffic m superframes samples
 
 -- There is one event for each frame that begins at the mark or later and lies in the file. It comes

@@ -2,7 +2,7 @@
 use Rattle.command_line.proofs.Common.{◌≡◌, ◌≤◌, ◌↔◌, List, [], ◌∷◌, true, false, refl, sym, ap, ap₂, ◌∙◌, arith, rules, Result, Ok, Err}
 use Rattle.command_line.proofs.Common.{IfOk, ok_or, length, map, string_bytes, String, Global, Option, None, Some, is_some, option_and_then}
 use Rattle.command_line.proofs.Common.{Job, WordFault, Bad, CommandEntry, Given, OptionEntry, Text, given_behind, job_behind, job_by}
-use Rattle.command_line.proofs.Common.{job_in, job_named, job_with, number_by, numbers_by, text_in, text_of}
+use Rattle.command_line.proofs.Common.{job_in, job_named, job_with, number_by, numbers_by, text_in, option_text}
 use Rattle.command_line.proofs.ArgTexts.{texts_given}
 
 pub given_of : (o : Option Given) → is_some o ≡ true → (given : Given) × (o ≡ Some given)
@@ -25,12 +25,12 @@ numbers_same (entry ∷ entries) one other same =
 pub job_found : (entry : CommandEntry) (args : List Text) (found : Text → Option Text) →
     AreLawful entry args →
     ((given : Given) → given_behind entry.options (Some []) args ≡ Some given →
-    (name : Text) → found name ≡ text_of name given) → job_with entry found ≡ job_by entry args
+    (name : Text) → found name ≡ option_text name given) → job_with entry found ≡ job_by entry args
 unfolding job_by
 job_found entry args found lawful finds =
     let g = given_of (given_behind entry.options (Some []) args) lawful in
-    ap entry.job (numbers_same entry.options found (λ name. text_of name g.0) (finds g.0 g.1))
-    ∙ sym (ap (option_and_then (λ given. job_with entry (λ name. text_of name given))) g.1)
+    ap entry.job (numbers_same entry.options found (λ name. option_text name g.0) (finds g.0 g.1))
+    ∙ sym (ap (option_and_then (λ given. job_with entry (λ name. option_text name given))) g.1)
 
 pub job_read : (entry : CommandEntry) (args : List Text) → AreLawful entry args →
     job_with entry (λ name. text_in name args) ≡ job_by entry args
@@ -44,7 +44,7 @@ unfolding job_by
 job_none entry args e = go (given_behind entry.options (Some []) args) e
   where
     go : (g : Option Given) → is_some g ≡ false →
-        option_and_then (λ given. job_with entry (λ name. text_of name given)) g ≡ None
+        option_and_then (λ given. job_with entry (λ name. option_text name given)) g ≡ None
     go None none = refl
     go (Some given) none = search rules
 

@@ -6,8 +6,10 @@ use Rattle.command_line.proofs.Common.{String, Global, string_bytes, Result, Ok,
 use Rattle.command_line.proofs.Common.{length-map, take-map, take_all, AllPass, list_any, is_ascii_digit, from_be_bytes, w32, option_map_or}
 use Rattle.command_line.proofs.Common.{result_ok, bytes_eq, digits_from, decode_sized, is_hex_digit, FromHexError, IsOk-decode_sized}
 use Rattle.command_line.proofs.Common.{long_of, long_of_rest, short_of, short_of_rest, strip_byte, OptionRule, ValueForm, Between}
-use Rattle.command_line.proofs.Common.{EightDigits, Given, OptionEntry, Text, added, admits, given_behind, has_name, is_allowed, is_joined}
-use Rattle.command_line.proofs.Common.{is_named_in, joined, names, number_in, part_by, part_of, parted, eight_digits_in, spelled_in}
+use Rattle.command_line.proofs.Common.{EightDigits, Given, OptionEntry, Text, added, form_admits, given_behind, has_name, is_allowed}
+use Rattle.command_line.proofs.Common.{is_joined}
+use Rattle.command_line.proofs.Common.{is_named_in, option_joined, names, argument_number_in, part_by, part_of, parted, eight_digits_in}
+use Rattle.command_line.proofs.Common.{value_spelled_in}
 use Rattle.command_line.proofs.Common.{text_in, value_in}
 
 -- ---- an item of a list after the first k of them
@@ -67,7 +69,7 @@ no_dash : (digit : ℕ) → is_ascii_digit digit ≡ true → nat_eq digit 45 �
 no_dash digit e = search (rules, arith)
 
 first_digit : (digit : ℕ) (text : Text) (number : ℕ) →
-    number_in (digit ∷ text) ≡ Some number → is_ascii_digit digit ≡ true
+    argument_number_in (digit ∷ text) ≡ Some number → is_ascii_digit digit ≡ true
 unfolding digits_from
 first_digit digit text number e =
     go (nat_le 1 (length (digit ∷ text))) (nat_le (length (digit ∷ text)) 20)
@@ -82,7 +84,7 @@ first_digit digit text number e =
     go true false c is found = search rules
     go false b c is found = search rules
 
-number_plain : (text : Text) (number : ℕ) → number_in text ≡ Some number → IsPlain text
+number_plain : (text : Text) (number : ℕ) → argument_number_in text ≡ Some number → IsPlain text
 number_plain [] number e = search rules
 number_plain (digit ∷ text) number e =
     plain_from digit text (no_dash digit (first_digit digit text number e))
@@ -114,7 +116,7 @@ eight_plain text number e = go (decode_sized text 4) refl e
         digits text both.0 both.1
     go (Err fault) is found = search rules
 
-spelled_plain : (form : ValueForm) (text : Text) (number : ℕ) → spelled_in form text ≡ Some number →
+spelled_plain : (form : ValueForm) (text : Text) (number : ℕ) → value_spelled_in form text ≡ Some number →
     IsPlain text
 spelled_plain EightDigits text number e = eight_plain text number e
 spelled_plain form text number e = number_plain text number e
@@ -122,10 +124,10 @@ spelled_plain form text number e = number_plain text number e
 -- a value of an option is no flag
 value_plain-form : (form : ValueForm) (text : Text) → is_some (value_in form text) ≡ true → IsPlain text
 unfolding value_in
-value_plain-form form text e = go (spelled_in form text) refl e
+value_plain-form form text e = go (value_spelled_in form text) refl e
   where
-    go : (o : Option ℕ) → spelled_in form text ≡ o →
-        is_some (option_and_then (λ n. if admits form n then Some n else None) o) ≡ true →
+    go : (o : Option ℕ) → value_spelled_in form text ≡ o →
+        is_some (option_and_then (λ n. if form_admits form n then Some n else None) o) ≡ true →
         IsPlain text
     go None is test = search rules
     go (Some number) is test = spelled_plain form text number is
@@ -192,10 +194,10 @@ behind_one : (entries : List OptionEntry) (given : Given) (arg name text : Text)
     ≡ given_behind entries (added entries name text given) args
 unfolding given_behind
 behind_one entries given arg name text [] is =
-    ap (λ (p : Option (Text × Option Text)). joined entries p given) is
+    ap (λ (p : Option (Text × Option Text)). option_joined entries p given) is
 behind_one entries given arg name text (next ∷ args) is =
     ap (λ (p : Option (Text × Option Text)). if is_joined p
-    then given_behind entries (joined entries p given) (next ∷ args)
+    then given_behind entries (option_joined entries p given) (next ∷ args)
     else given_behind entries (parted entries p next given) args) is
 
 behind_two : (entries : List OptionEntry) (given : Given) (arg name text : Text) (args : List Text) →
@@ -205,7 +207,7 @@ behind_two : (entries : List OptionEntry) (given : Given) (arg name text : Text)
 unfolding given_behind
 behind_two entries given arg name text args is =
     ap (λ (p : Option (Text × Option Text)). if is_joined p
-    then given_behind entries (joined entries p given) (text ∷ args)
+    then given_behind entries (option_joined entries p given) (text ∷ args)
     else given_behind entries (parted entries p text given) args) is
 
 abbrev Steps : List OptionEntry → Given → List Text → Part → Type 0
@@ -237,14 +239,14 @@ part_missing entries given (arg ∷ args) inside e = go (long_of arg) args refl 
   where
     go : (p : Option (Text × Option Text)) (args : List Text) → long_of arg ≡ p →
         part_by p args ≡ None → given_behind entries (Some given) (arg ∷ args) ≡ None
-    go None [] is none = ap (λ (p : Option (Text × Option Text)). joined entries p given) is
+    go None [] is none = ap (λ (p : Option (Text × Option Text)). option_joined entries p given) is
     go None (text ∷ ws) is none =
         ap (λ (p : Option (Text × Option Text)). if is_joined p
-        then given_behind entries (joined entries p given) (text ∷ ws)
+        then given_behind entries (option_joined entries p given) (text ∷ ws)
         else given_behind entries (parted entries p text given) ws) is ∙ none_stays entries ws
     go (Some (name, Some text)) ws is none = search rules
     go (Some (name, None)) [] is none =
-        ap (λ (p : Option (Text × Option Text)). joined entries p given) is
+        ap (λ (p : Option (Text × Option Text)). option_joined entries p given) is
     go (Some (name, None)) (text ∷ ws) is none = search rules
 
 -- ---- names before a place

@@ -1,7 +1,8 @@
 -- Lemmas on the texts of options, as the arguments after a command give them.
 use Rattle.command_line.proofs.Common.{◌≡◌, ◌++◌, ◌∙◌, Bool, true, false, if◌then◌else◌, List, [], ◌∷◌, refl, sym, ap, rules, find}
 use Rattle.command_line.proofs.Common.{option_map, option_and_then, Option, None, Some, option_map_or, bytes_eq, long_of, Given}
-use Rattle.command_line.proofs.Common.{OptionEntry, Text, added, given_behind, is_joined, joined, part_by, parted, text_in, text_of}
+use Rattle.command_line.proofs.Common.{OptionEntry, Text, added, given_behind, is_joined, option_joined, part_by, parted, text_in}
+use Rattle.command_line.proofs.Common.{option_text}
 use Rattle.command_line.proofs.ArgTests.{IsPlain, none_stays}
 use Rattle.command_line.proofs.ArgWalks.{is_added}
 
@@ -26,8 +27,8 @@ first_text-if (Some first) false text other = refl
 -- ---- one option more
 
 text_of-more : (name : Text) (given : Given) (p : Text × Text) →
-    text_of name (given ++ p ∷ []) ≡
-    first_text (text_of name given) (if bytes_eq p.0 name then Some p.1 else None)
+    option_text name (given ++ p ∷ []) ≡
+    first_text (option_text name given) (if bytes_eq p.0 name then Some p.1 else None)
 text_of-more name [] p = go (bytes_eq p.0 name)
   where
     go : (b : Bool) → option_map (λ (r : Text × Text). r.1) (if b then Some p else None) ≡
@@ -36,8 +37,8 @@ text_of-more name [] p = go (bytes_eq p.0 name)
     go false = refl
 text_of-more name (q ∷ given) p = go (bytes_eq q.0 name) (text_of-more name given p)
   where
-    go : (b : Bool) → text_of name (given ++ p ∷ []) ≡
-        first_text (text_of name given) (if bytes_eq p.0 name then Some p.1 else None) →
+    go : (b : Bool) → option_text name (given ++ p ∷ []) ≡
+        first_text (option_text name given) (if bytes_eq p.0 name then Some p.1 else None) →
         option_map (λ (r : Text × Text). r.1)
         (if b then Some q else find (λ r. bytes_eq r.0 name) (given ++ p ∷ [])) ≡
         first_text (option_map (λ (r : Text × Text). r.1)
@@ -48,10 +49,10 @@ text_of-more name (q ∷ given) p = go (bytes_eq q.0 name) (text_of-more name gi
 
 text_of-added : (entries : List OptionEntry) (option text : Text) (before after : Given)
     (name : Text) → added entries option text before ≡ Some after →
-    text_of name after ≡
-    first_text (text_of name before) (if bytes_eq option name then Some text else None)
+    option_text name after ≡
+    first_text (option_text name before) (if bytes_eq option name then Some text else None)
 text_of-added entries option text before after name e =
-    ap (text_of name) (sym (is_added entries option text before after e).after_is)
+    ap (option_text name) (sym (is_added entries option text before after e).after_is)
     ∙ text_of-more name before (option, text)
 
 -- ---- all arguments
@@ -59,7 +60,7 @@ text_of-added entries option text before after name e =
 -- the texts of the arguments stand after those that were given before
 abbrev Adds : Text → Given → List Text → Given → Type 0
 Adds name before args given =
-    first_text (text_of name before) (text_in name args) ≡ text_of name given
+    first_text (option_text name before) (text_in name args) ≡ option_text name given
 
 -- an option and its text, and the arguments after them
 adds_one : (entries : List OptionEntry) (name option text : Text) (before onward given : Given)
@@ -67,8 +68,8 @@ adds_one : (entries : List OptionEntry) (name option text : Text) (before onward
     text_in name args ≡ (if bytes_eq option name then Some text else text_in name rest) →
     Adds name onward rest given → Adds name before args given
 adds_one entries name option text before onward given args rest is first more =
-    ap (first_text (text_of name before)) first
-    ∙ first_text-if (text_of name before) (bytes_eq option name) text (text_in name rest)
+    ap (first_text (option_text name before)) first
+    ∙ first_text-if (option_text name before) (bytes_eq option name) text (text_in name rest)
     ∙ ap (λ (o : Option Text). first_text o (text_in name rest))
     (sym (text_of-added entries option text before onward name is))
     ∙ more
@@ -111,16 +112,16 @@ args_add : (entries : List OptionEntry) (name : Text) (args : List Text) (before
 unfolding given_behind
 args_add entries name [] before given e =
     let same : before ≡ given = search rules in
-    first_text-none (text_of name before) ∙ ap (text_of name) same
+    first_text-none (option_text name before) ∙ ap (option_text name) same
 args_add entries name (arg ∷ []) before given e = go (long_of arg) refl e
   where
-    go : (p : Option (Text × Option Text)) → long_of arg ≡ p → joined entries p before ≡ Some given →
+    go : (p : Option (Text × Option Text)) → long_of arg ≡ p → option_joined entries p before ≡ Some given →
         Adds name before (arg ∷ []) given
     go None long is = search rules
     go (Some (option, None)) long is = search rules
     go (Some (option, Some text)) long is =
         adds_joined entries name arg option text [] before given given long is
-        (first_text-none (text_of name given))
+        (first_text-none (option_text name given))
 args_add entries name (arg ∷ text ∷ args) before given e =
     go (long_of arg) refl e (λ onward. args_add entries name (text ∷ args) onward given)
     (λ onward. args_add entries name args onward given)
@@ -148,7 +149,7 @@ args_add entries name (arg ∷ text ∷ args) before given e =
         (more onward rest)
 
     go : (p : Option (Text × Option Text)) → long_of arg ≡ p →
-        (if is_joined p then given_behind entries (option_and_then (joined entries p) (Some before))
+        (if is_joined p then given_behind entries (option_and_then (option_joined entries p) (Some before))
         (text ∷ args) else given_behind entries
         (option_and_then (parted entries p text) (Some before)) args) ≡ Some given →
         ((mid : Given) → given_behind entries (Some mid) (text ∷ args) ≡ Some given →
@@ -164,5 +165,5 @@ args_add entries name (arg ∷ text ∷ args) before given e =
 
 -- the text of an option stands after the first argument that names it
 pub texts_given : (entries : List OptionEntry) (args : List Text) (given : Given) (name : Text) →
-    given_behind entries (Some []) args ≡ Some given → text_in name args ≡ text_of name given
+    given_behind entries (Some []) args ≡ Some given → text_in name args ≡ option_text name given
 texts_given entries args given name is = args_add entries name args [] given is

@@ -10,7 +10,7 @@ use Rattle.command_line.proofs.Common.{rows_of, first_of, bundle_passes, settle_
 use Rattle.command_line.proofs.Common.{flag_word_passes, long_passes, use_passes, step_passes, default_passes, is_valid, is_given}
 use Rattle.command_line.proofs.Common.{level_passes, built_takes, entered_passes, takes, Shape, new_rule, new_app, is_simple, built}
 use Rattle.command_line.proofs.Common.{matches_of, names_of, entered, Set, CommandLine, Given, OptionEntry, Text, added, given_behind}
-use Rattle.command_line.proofs.Common.{has_name, is_allowed, is_joined, joined, parted, text_of, value_in}
+use Rattle.command_line.proofs.Common.{has_name, is_allowed, is_joined, option_joined, parted, option_text, value_in}
 use Rattle.clap.specs.Walk.{row_of}
 use Rattle.clap.specs.Simple.{App}
 use Rattle.command_line.proofs.ArgTests.{IsPlain, none_stays, value_plain}
@@ -435,7 +435,7 @@ args_lead command rows [] h before given held e =
     (h, record { passes = λ rest. refl; walked = refl }, subst (IsHeld (names_in rows) h) same held)
 args_lead command rows (arg ∷ []) h before given held e = go (long_of arg) refl e
   where
-    go : (p : Option (Text × Option Text)) → long_of arg ≡ p → joined rows p before ≡ Some given →
+    go : (p : Option (Text × Option Text)) → long_of arg ≡ p → option_joined rows p before ≡ Some given →
         Leads command (names_in rows) h (arg ∷ []) given
     go None long is = search rules
     go (Some (name, None)) long is = search rules
@@ -474,7 +474,7 @@ args_lead command rows (arg ∷ text ∷ args) h before given held e =
         (λ mid held2. more onward mid held2 rest)
 
     go : (p : Option (Text × Option Text)) → long_of arg ≡ p →
-        (if is_joined p then given_behind rows (option_and_then (joined rows p) (Some before))
+        (if is_joined p then given_behind rows (option_and_then (option_joined rows p) (Some before))
         (text ∷ args) else given_behind rows
         (option_and_then (parted rows p text) (Some before)) args) ≡ Some given →
         ((onward : Given) (mid : Held) → IsHeld (names_in rows) mid onward →
@@ -617,11 +617,11 @@ first_in (e ∷ es) id = go (bytes_eq e.0.now id) (first_in es id)
     go true more = now_of e.1.vals.items
     go false more = more
 
-text_in : (given : Given) (name : Text) → first_of name (found_rows given) ≡ text_of name given
+text_in : (given : Given) (name : Text) → first_of name (found_rows given) ≡ option_text name given
 text_in [] name = refl
 text_in (p ∷ given) name = go (bytes_eq p.0 name) (text_in given name)
   where
-    go : (b : Bool) → first_of name (found_rows given) ≡ text_of name given →
+    go : (b : Bool) → first_of name (found_rows given) ≡ option_text name given →
         option_and_then (λ r. slice_get r.values 0)
         (if b then Some (row p) else find (λ r. bytes_eq r.id name) (found_rows given))
         ≡ option_map (λ q. q.1) (if b then Some p else find (λ q. bytes_eq q.0 name) given)
@@ -630,6 +630,6 @@ text_in (p ∷ given) name = go (bytes_eq p.0 name) (text_in given name)
 
 -- a getter of a matched command gives the text that the arguments give
 pub value_is : (f : Found) (given : Given) (name : Text) → rows_of f ≡ found_rows given →
-    first_value f name ≡ text_of name given
+    first_value f name ≡ option_text name given
 value_is f given name same = first_in f.entries.items name ∙ ap (first_of name) same
     ∙ text_in given name

@@ -141,15 +141,15 @@ abbrev pub has_none : List (Option ℕ) → Bool
 has_none numbers = list_all (λ number. not (is_some number)) numbers
 
 -- a traffic channel beside a paging channel, which has a row of its own
-abbrev pub beside : ℕ → Traffic → Option Traffic
-beside paging channel = if nat_eq channel.row paging then None else Some channel
+abbrev pub on_another_row : ℕ → Traffic → Option Traffic
+on_another_row paging channel = if nat_eq channel.row paging then None else Some channel
 
 -- the traffic channel of these numbers beside a paging channel: where none of them is there, none
 -- is followed
 abbrev pub traffic_with : ℕ → List (Option ℕ) → Option (Option Traffic)
 traffic_with paging numbers =
     if has_none numbers then Some None
-    else option_map Some (option_and_then (beside paging) (channel_with numbers))
+    else option_map Some (option_and_then (on_another_row paging) (channel_with numbers))
 
 -- how many pilots, messages, frames and raw capsules are told
 abbrev pub limits_with : List (Option ℕ) → Option (List ℕ)
@@ -194,11 +194,11 @@ survey_with (Some span ∷ Some workers ∷ Some base ∷ Some width ∷ Some to
 survey_with _ = None
 
 -- the width of parts of so many bits
-abbrev pub width_of : ℕ → Width
-width_of bits = if nat_eq bits 8 then Eight else Sixteen
+abbrev pub width_of_bits : ℕ → Width
+width_of_bits bits = if nat_eq bits 8 then Eight else Sixteen
 
 abbrev pub make_with : List (Option ℕ) → Option Job
-make_with (Some bits ∷ []) = Some (Make (width_of bits))
+make_with (Some bits ∷ []) = Some (Make (width_of_bits bits))
 make_with _ = None
 
 abbrev pub trial_with : List (Option ℕ) → Option Job
@@ -285,8 +285,8 @@ commands =
 -- ---- values
 
 -- the number that 1 to 20 decimal digits spell, leading zeros among them
-abbrev pub number_in : Text → Option ℕ
-number_in text =
+abbrev pub argument_number_in : Text → Option ℕ
+argument_number_in text =
     if nat_le 1 (length text) then (if nat_le (length text) 20 then digits_from 0 text else None)
     else None
 
@@ -296,15 +296,15 @@ eight_digits_in text =
     option_map (λ octets. from_be_bytes w32 octets) (result_ok (decode_sized text 4))
 
 -- the number that a text spells as values of this form are spelled
-abbrev pub spelled_in : ValueForm → Text → Option ℕ
-spelled_in EightDigits text = eight_digits_in text
-spelled_in form text = number_in text
+abbrev pub value_spelled_in : ValueForm → Text → Option ℕ
+value_spelled_in EightDigits text = eight_digits_in text
+value_spelled_in form text = argument_number_in text
 
 -- the numbers that values of this form may have, as a test and as a fact
-abbrev pub admits : ValueForm → ℕ → Bool
-admits (Between least most) number = nat_le least number && nat_le number most
-admits (Either one other) number = nat_eq number one || nat_eq number other
-admits EightDigits number = nat_le number 4294967295
+abbrev pub form_admits : ValueForm → ℕ → Bool
+form_admits (Between least most) number = nat_le least number && nat_le number most
+form_admits (Either one other) number = nat_eq number one || nat_eq number other
+form_admits EightDigits number = nat_le number 4294967295
 
 abbrev pub IsAdmitted : ValueForm → ℕ → Type 0
 IsAdmitted (Between least most) number = (least ≤ number) × (number ≤ most)
@@ -314,8 +314,8 @@ IsAdmitted EightDigits number = number ≤ 4294967295
 -- the number of a text that is a value of this form
 unfoldable pub value_in : ValueForm → Text → Option ℕ
 value_in form text =
-    option_and_then (λ number. if admits form number then Some number else None)
-    (spelled_in form text)
+    option_and_then (λ number. if form_admits form number then Some number else None)
+    (value_spelled_in form text)
 
 -- whether there is an option of this name, which has this value
 abbrev pub is_allowed : List OptionEntry → Text → Text → Bool
@@ -339,9 +339,9 @@ added entries name text given =
     then Some (given ++ (name, text) ∷ []) else None
 
 -- an argument `--name=VALUE`, and an argument `--name` with the argument after it
-abbrev pub joined : List OptionEntry → Option (Text × Option Text) → Given → Option Given
-joined entries (Some (name, Some text)) given = added entries name text given
-joined entries _ given = None
+abbrev pub option_joined : List OptionEntry → Option (Text × Option Text) → Given → Option Given
+option_joined entries (Some (name, Some text)) given = added entries name text given
+option_joined entries _ given = None
 
 abbrev pub parted : List OptionEntry → Option (Text × Option Text) → Text → Given → Option Given
 parted entries (Some (name, None)) text given = added entries name text given
@@ -355,15 +355,16 @@ is_joined _ = false
 -- table
 unfoldable pub given_behind : List OptionEntry → Option Given → List Text → Option Given
 given_behind entries given [] = given
-given_behind entries given (arg ∷ []) = option_and_then (joined entries (long_of arg)) given
+given_behind entries given (arg ∷ []) = option_and_then (option_joined entries (long_of arg)) given
 given_behind entries given (arg ∷ text ∷ args) =
     if is_joined (long_of arg)
-    then given_behind entries (option_and_then (joined entries (long_of arg)) given) (text ∷ args)
+    then given_behind entries (option_and_then (option_joined entries (long_of arg)) given)
+    (text ∷ args)
     else given_behind entries (option_and_then (parted entries (long_of arg) text) given) args
 
 -- the text of an option
-abbrev pub text_of : Text → Given → Option Text
-text_of name given = option_map (λ p. p.1) (find (λ p. bytes_eq p.0 name) given)
+abbrev pub option_text : Text → Given → Option Text
+option_text name given = option_map (λ p. p.1) (find (λ p. bytes_eq p.0 name) given)
 
 -- ---- from arguments to jobs
 
@@ -383,7 +384,7 @@ job_with entry texts = entry.job (numbers_by entry.options texts)
 -- the job of a command with the arguments after it
 unfoldable pub job_by : CommandEntry → List Text → Option Job
 job_by entry args =
-    option_and_then (λ given. job_with entry (λ name. text_of name given))
+    option_and_then (λ given. job_with entry (λ name. option_text name given))
     (given_behind entry.options (Some []) args)
 
 -- the job of a command's name with the arguments after it
@@ -457,8 +458,8 @@ abbrev pub IsPaging : ℕ → Type 0
 IsPaging paging = (1 ≤ paging) × (paging ≤ 7)
 
 -- the index of a slot cycle
-abbrev pub IsCycle : ℕ → Type 0
-IsCycle cycle = cycle ≤ 7
+abbrev pub IsSlotCycleIndex : ℕ → Type 0
+IsSlotCycleIndex cycle = cycle ≤ 7
 
 -- the base, the width and the number of ranks of a survey
 abbrev pub IsBase : ℕ → Type 0
@@ -502,7 +503,7 @@ IsLawfulJob (jobs.List span workers fingers offset esn row k) =
     × IsLawfulChannel (record { esn = esn; row = row; offset = offset }) × IsListLength k
 IsLawfulJob (Idle span workers fingers paging key cycle) =
     IsSpan span × IsWorkers workers × IsFingers fingers × IsPaging paging × (key < 2 ^ 32)
-    × IsCycle cycle
+    × IsSlotCycleIndex cycle
 IsLawfulJob (Survey span workers base width top) =
     IsSpan span × IsWorkers workers × IsBase base × IsWidth width × IsTop top
 IsLawfulJob (Make width) = Unit {0}

@@ -6,7 +6,7 @@ ghost use Rattle.command_line.specs.Args.{IsLawfulJob, command_entry, commands, 
 ghost use Rattle.command_line.specs.Args.{follow_entry, idle_entry, job_with, limit_entries};
 ghost use Rattle.command_line.specs.Args.{limits_with, list_entry, make_entry, numbers_by};
 ghost use Rattle.command_line.specs.Args.{rate2_entry, entry_of, survey_entry, trial_entry};
-ghost use Rattle.command_line.specs.Args.{width_of};
+ghost use Rattle.command_line.specs.Args.{width_of_bits};
 
 use crate::grammar::{
     BASE, BITS, CYCLE, FINGERS, FRAMES, KEY, LIST_LENGTH, MESSAGES, NUMBER, OFFSET, OptionRule,
@@ -296,7 +296,7 @@ fn trial_with<T: Texts>(texts: &T) -> Option<Job>
 
 /// The width of parts of so many bits.
 fn width_of(bits: u128) -> Width
-    ensures { result ≡ width_of bits }
+    ensures { result ≡ width_of_bits bits }
 {
     if bits == 8 {
         Width::Eight

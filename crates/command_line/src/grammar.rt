@@ -1,8 +1,9 @@
 //! The options of the commands, as data.
 
 ghost use Rattle.std.specs.Prelude.{◌≡◌, IfSome};
-ghost use Rattle.command_line.specs.Args.{IsAdmitted, admits, eight_digits_in, number_in};
-ghost use Rattle.command_line.specs.Args.{spelled_in, value_in};
+ghost use Rattle.command_line.specs.Args.{IsAdmitted, form_admits, eight_digits_in};
+ghost use Rattle.command_line.specs.Args.{argument_number_in};
+ghost use Rattle.command_line.specs.Args.{value_spelled_in, value_in};
 
 use chip_core::digits_in;
 use hex::FromHex;
@@ -44,7 +45,7 @@ impl ValueForm {
 
     /// The number that the text spells, as values of this form are spelled.
     fn spelled_in(self, text: &str) -> Option<u128>
-        ensures { result ≡ spelled_in self text.now }
+        ensures { result ≡ value_spelled_in self text.now }
     {
         match self {
             ValueForm::Between { .. } | ValueForm::Either { .. } => number_in(text),
@@ -54,7 +55,7 @@ impl ValueForm {
 
     /// Whether the number is admitted.
     fn admits(self, number: u128) -> bool
-        ensures { result ≡ admits self number }
+        ensures { result ≡ form_admits self number }
     {
         match self {
             ValueForm::Between { least, most } => least <= number && number <= most,
@@ -161,7 +162,7 @@ pub const NUMBER: OptionRule = numbered!("number", 0, 18446744073709551615, None
 
 /// The number that 1 to 20 decimal digits spell, leading zeros among them.
 fn number_in(text: &str) -> Option<u128>
-    ensures { result ≡ number_in text.now }
+    ensures { result ≡ argument_number_in text.now }
 {
     if text.is_empty() || text.len() > 20 {
         return None;

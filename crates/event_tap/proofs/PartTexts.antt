@@ -15,7 +15,7 @@ use Rattle.hex.specs.Hex.{encode_lower, lower_digits}
 use Rattle.hex.proofs.HexLemmas.{length-encode_with}
 use Rattle.chip_core.specs.Fields.{field, FieldsFit, in_widths}
 use Rattle.chip_core.proofs.ValueLists.{fit_value}
-use Rattle.line_text.specs.Texts.{bit_text, named, octet_count, octets, padded}
+use Rattle.line_text.specs.Texts.{bit_text, spaced_key, octet_count, packed_octets, padded}
 use Rattle.line_text.proofs.Digits.{all_below}
 use Rattle.event_tap.specs.Parts.{are_short, commas, comma_before, named_values}
 
@@ -70,38 +70,38 @@ named_values-more : (names : List (List ℕ)) (values : List ℕ) (i : ℕ) → 
     i < length values →
     named_values (take (i + 1) names) (take (i + 1) values) ≡
     named_values (take i names) (take i values)
-    ++ (named (get_or names i []) ++ decimal (get_or values i 0))
+    ++ (spaced_key (get_or names i []) ++ decimal (get_or values i 0))
 unfolding named_values
 named_values-more [] values i a b = absurd (omega (arith, a))
 named_values-more (name ∷ names) [] i a b = absurd (omega (arith, b))
 named_values-more (name ∷ names) (value ∷ values) zero a b =
-    append-nil (named name ++ decimal value)
+    append-nil (spaced_key name ++ decimal value)
 named_values-more (name ∷ names) (value ∷ values) (suc i) a b =
     let more : suc i + 1 ≡ suc (i + 1) = omega arith in
-    let field = named name ++ decimal value in
+    let field = spaced_key name ++ decimal value in
     rw more
     (ap (λ (text : List ℕ). field ++ text)
     (named_values-more names values i (omega (arith, a)) (omega (arith, b)))
     ∙ sym (append_assoc field (named_values (take i names) (take i values))
-    (named (get_or names i []) ++ decimal (get_or values i 0))))
+    (spaced_key (get_or names i []) ++ decimal (get_or values i 0))))
 
 -- a name and a value after those before them
 pub value_behind : (before text next name : List ℕ) (names : List (List ℕ)) (values : List ℕ)
     (i : ℕ) → i < length names → i < length values →
     text ≡ before ++ named_values (take i names) (take i values) → name ≡ get_or names i [] →
-    next ≡ text ++ (named name ++ decimal (get_or values i 0)) →
+    next ≡ text ++ (spaced_key name ++ decimal (get_or values i 0)) →
     next ≡ before ++ named_values (take (i + 1) names) (take (i + 1) values)
 value_behind before text next name names values i a b is same behind =
     let so_far = named_values (take i names) (take i values) in
     let value = decimal (get_or values i 0) in
-    let field = named (get_or names i []) ++ value in
+    let field = spaced_key (get_or names i []) ++ value in
     behind
-    ∙ ap (λ (n : List ℕ). text ++ (named n ++ value)) same
+    ∙ ap (λ (n : List ℕ). text ++ (spaced_key n ++ value)) same
     ∙ ap (λ (xs : List ℕ). xs ++ field) is
     ∙ append_assoc before so_far field
     ∙ ap (λ (xs : List ℕ). before ++ xs) (sym (named_values-more names values i a b))
 
-pub length-named : (name : List ℕ) → length (named name) ≡ length name + 2
+pub length-named : (name : List ℕ) → length (spaced_key name) ≡ length name + 2
 length-named name = omega (arith, length-append (codes " " ++ name) (codes "="))
 
 -- names and values of a table of short ones
@@ -149,8 +149,8 @@ value_short names widths values i short fit within behind =
 
 -- THE TEXT OF FEW BITS
 
-length-octets : (count : ℕ) (bits : List Bool) → length (octets count bits) ≡ count
-unfolding octets
+length-octets : (count : ℕ) (bits : List Bool) → length (packed_octets count bits) ≡ count
+unfolding packed_octets
 length-octets zero bits = refl
 length-octets (suc count) bits = ap suc (length-octets count (drop 8 bits))
 
@@ -158,7 +158,7 @@ length-octets (suc count) bits = ap suc (length-octets count (drop 8 bits))
 length-few_bits : (bits : List Bool) → length bits ≤ 56 → length (bit_text bits) ≤ 17
 unfolding bit_text
 length-few_bits bits few =
-    let inside = octets (octet_count bits) (padded bits) in
+    let inside = packed_octets (octet_count bits) (padded bits) in
     omega (
       arith,
       few,

@@ -5,8 +5,9 @@ use Rattle.std.proofs.Common.{ap, ◌∙◌, subst, arith, rules, append_assoc, 
 use Rattle.std.proofs.lemmas.List.Elements.{All-append, All-cons, All-nil, All-head, All-tail}
 use Rattle.heard_events.specs.declared.event.Event.{Event}
 use Rattle.heard_events.specs.declared.event.Event.TheVariants.{Pilot}
-use Rattle.event_tap.specs.EventLines.{event_line, text_of}
-use Rattle.event_tap.specs.Taps.{IsKept, KeptTap, form_line, form_lines, heard_text, joined, kept_by, kept_with, left_behind, line_text}
+use Rattle.event_tap.specs.EventLines.{event_line, events_text}
+use Rattle.event_tap.specs.Taps.{IsKept, KeptTap, form_line, form_lines, heard_text, joined_lines, kept_by, kept_with, left_behind}
+use Rattle.event_tap.specs.Taps.{line_text}
 use Rattle.event_tap.specs.Taps.{line_list, run_taps, run_text, tap_behind, taps_behind}
 
 -- EVENTS THAT FOLLOW ONE ANOTHER
@@ -114,9 +115,9 @@ run_taps-kept taps (event ∷ events) kept =
 
 single_step : (form left : ℕ) (line : Option (List ℕ)) (events : List Event)
     (lines : List (List ℕ)) →
-    ((n : ℕ) → run_text (kept_with form n) events ≡ joined (take n lines)) →
+    ((n : ℕ) → run_text (kept_with form n) events ≡ joined_lines (take n lines)) →
     (line_text line ++ []) ++ run_text (kept_with form (left_behind line (suc left)) ++ []) events
-    ≡ joined (take (suc left) (line_list line ++ lines))
+    ≡ joined_lines (take (suc left) (line_list line ++ lines))
 single_step form left None events lines below =
     ap (λ (taps : List KeptTap). run_text taps events) (append-nil (kept_with form (suc left)))
     ∙ below (suc left)
@@ -130,7 +131,7 @@ single_step form left (Some line) events lines below =
 
 -- a tap hears just the first events of its form's kinds, as many as its limit says
 pub run_text-single : (form limit : ℕ) (events : List Event) →
-    run_text (kept_with form limit) events ≡ joined (take limit (form_lines form events))
+    run_text (kept_with form limit) events ≡ joined_lines (take limit (form_lines form events))
 unfolding run_text form_lines
 run_text-single form zero [] = refl
 run_text-single form (suc limit) [] = refl
@@ -179,8 +180,8 @@ plain_behind pilots messages frames event one two three =
 -- they write the lines of fewer events than their limits, each once
 pub plain_text : (pilots messages frames : ℕ) (events : List Event) →
     length events < pilots → length events < messages → length events < frames →
-    run_text (plain_taps pilots messages frames) events ≡ text_of events
-unfolding run_text text_of
+    run_text (plain_taps pilots messages frames) events ≡ events_text events
+unfolding run_text events_text
 plain_text pilots messages frames [] few_pilots few_messages few_frames = refl
 plain_text pilots messages frames (event ∷ events) few_pilots few_messages few_frames =
     let first : length events < left_behind (form_line 0 event) pilots =
@@ -204,7 +205,7 @@ plain_text pilots messages frames (event ∷ events) few_pilots few_messages few
 pub plain_text-forms : (pilots messages frames : ℕ) (events : List Event) →
     length events < pilots → length events < messages → length events < frames →
     run_text (kept_by (pilots ∷ messages ∷ frames ∷ 0 ∷ []) (0 ∷ 1 ∷ 2 ∷ 3 ∷ [])) events ≡
-    text_of events
+    events_text events
 plain_text-forms pilots messages frames events few_pilots few_messages few_frames =
     ap (λ (taps : List KeptTap).
     run_text (taps ++ (kept_with 1 messages ++ (kept_with 2 frames ++ []))) events)

@@ -10,7 +10,8 @@ use Rattle.std.specs.List.{remove}
 use Rattle.std.specs.Io.KnownBytes.{Appends}
 use Rattle.cdma_io.specs.Outside.{AppendsPrefix}
 use Rattle.heard_events.specs.declared.event.Event.{Event}
-use Rattle.event_tap.specs.Taps.{KeptTap, IsKept, heard_at, heard_text, kept_by, tap_behind, kept_with, left_behind, line_text, form_line}
+use Rattle.event_tap.specs.Taps.{KeptTap, IsKept, kept_or_done, heard_text, kept_by, tap_behind, kept_with, left_behind, line_text}
+use Rattle.event_tap.specs.Taps.{form_line}
 use Rattle.event_tap.specs.Taps.{taps_behind}
 use Rattle.event_tap.specs.declared.tap.Heard.{Heard}
 use Rattle.event_tap.specs.declared.tap.Heard.TheVariants.{Keep, Done}
@@ -69,13 +70,13 @@ pub record HasHeard {T : Type 0} (shape left : T → ℕ) (event : Event) (t y :
   pub line_is : text ≡ line_text (form_line (shape t) event)
   pub form_is : shape y ≡ shape t
   pub left_is : left y ≡ left_behind (form_line (shape t) event) (left t)
-  pub answer_is : answer ≡ heard_at (left y)
+  pub answer_is : answer ≡ kept_or_done (left y)
 
 -- the same of what a call says of it
 pub has_heard : {T : Type 0} (shape left : T → ℕ) (event : Event) (t y : T) (out text : List ℕ)
     (answer : Heard) → text ≡ out → out ≡ line_text (form_line (shape t) event) →
     shape y ≡ shape t → left y ≡ left_behind (form_line (shape t) event) (left t) →
-    answer ≡ heard_at (left y) → HasHeard shape left event t y text answer
+    answer ≡ kept_or_done (left y) → HasHeard shape left event t y text answer
 has_heard shape left event t y out text answer shown line_is form_is left_is answer_is = record {
   line_is = shown ∙ line_is;
   form_is = form_is;
@@ -84,18 +85,18 @@ has_heard shape left event t y out text answer shown line_is form_is left_is ans
 }
 
 -- a tap with no event left isn't kept, and one with events left is
-kept_when : (form left : ℕ) → heard_at left ≡ Keep → kept_with form left ≡ record {
+kept_when : (form left : ℕ) → kept_or_done left ≡ Keep → kept_with form left ≡ record {
   form = form;
   left = left;
 } ∷ []
 kept_when form zero e = search rules
 kept_when form (suc left) e = search rules
 
-left_when : (left : ℕ) → heard_at left ≡ Keep → 1 ≤ left
+left_when : (left : ℕ) → kept_or_done left ≡ Keep → 1 ≤ left
 left_when zero e = search rules
 left_when (suc left) e = omega arith
 
-none_when : (form left : ℕ) → heard_at left ≡ Done → kept_with form left ≡ []
+none_when : (form left : ℕ) → kept_or_done left ≡ Done → kept_with form left ≡ []
 none_when form zero e = search rules
 none_when form (suc left) e = search rules
 
@@ -186,7 +187,7 @@ module _ {T : Type 0} where
       IsHearing shape left event before after all (slice_set now place y) (place + 1)
   hearing_kept shape left event before mid after all now place t y line answer i h within is kept
       more =
-      let stays : heard_at (left y) ≡ Keep = sym h.answer_is ∙ kept in
+      let stays : kept_or_done (left y) ≡ Keep = sym h.answer_is ∙ kept in
       let rest : drop (place + 1) (slice_set now place y) ≡ drop (place + 1) now =
       drop-set-lt (place + 1) now place y (omega arith) in
       let front : map (seen shape left) (take (place + 1) (slice_set now place y)) ≡
@@ -229,7 +230,7 @@ module _ {T : Type 0} where
       IsHearing shape left event before after all (remove (slice_set now place y) place) place
   hearing_done shape left event before mid after all now place t y line answer i h within is done
       more =
-      let gone : heard_at (left y) ≡ Done = sym h.answer_is ∙ done in
+      let gone : kept_or_done (left y) ≡ Done = sym h.answer_is ∙ done in
       let rest = remove_set now place y in
       let parts : IsHearing shape left event before after all
       (take place now ++ drop (place + 1) now) place =

@@ -20,5 +20,5 @@ event_line (Traffic place capsule message) = traffic_line place message
 event_line (Sets place time active candidate report) = sets_line place time active candidate report
 
 -- the lines of events, in order
-unfoldable pub text_of : List Event → List ℕ
-text_of events = flat_map event_line events
+unfoldable pub events_text : List Event → List ℕ
+events_text events = flat_map event_line events

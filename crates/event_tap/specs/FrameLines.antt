@@ -13,7 +13,7 @@ bits_in_a_second rate = 9600 / repeats_of rate
 
 -- the same for a rate of rate set 2
 abbrev pub bits_in_a_second2 : Rate2 → ℕ
-bits_in_a_second2 rate = 14400 / set_two.repeats_of rate
+bits_in_a_second2 rate = 14400 / set_two.repeats_of2 rate
 
 -- ` rate=R good=B bits=BITS commands=CCCCCCCCCCCCCCCC` and LF, the end of a frame's line
 abbrev pub received_text : ℕ → Bool → List Bool → List Bool → List ℕ

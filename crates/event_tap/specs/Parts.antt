@@ -3,7 +3,7 @@
 use Rattle.std.specs.Prelude.{ℕ, zero, suc, ◌^◌, ◌&&◌, Bool, List, [], ◌∷◌, ◌++◌, length, codes}
 use Rattle.std.specs.Prelude.{decimal, nat_lt}
 use Rattle.std.specs.List.{flat_map, list_all}
-use Rattle.line_text.specs.Texts.{bit_text, named}
+use Rattle.line_text.specs.Texts.{bit_text, spaced_key}
 
 -- items, joined by commas
 unfoldable pub commas : List (List ℕ) → List ℕ
@@ -24,7 +24,7 @@ unfoldable pub named_values : List (List ℕ) → List ℕ → List ℕ
 named_values [] values = []
 named_values (name ∷ names) [] = []
 named_values (name ∷ names) (value ∷ values) =
-    (named name ++ decimal value) ++ named_values names values
+    (spaced_key name ++ decimal value) ++ named_values names values
 
 -- whether each name is of at most seven ASCII bytes, and fields of these widths have values of at
 -- most seven digits

@@ -68,8 +68,8 @@ left_behind None left = left
 left_behind (Some line) left = left - 1
 
 -- what a tap answers that has so many events left
-abbrev pub heard_at : ℕ → Heard
-heard_at left = if nat_eq left 0 then Done else Keep
+abbrev pub kept_or_done : ℕ → Heard
+kept_or_done left = if nat_eq left 0 then Done else Keep
 
 -- a tap of this form, where it has events left
 abbrev pub kept_with : ℕ → ℕ → List KeptTap
@@ -109,8 +109,8 @@ form_lines form [] = []
 form_lines form (event ∷ events) = line_list (form_line form event) ++ form_lines form events
 
 -- the lines, one after the other
-abbrev pub joined : List (List ℕ) → List ℕ
-joined lines = flat_map (λ line. line) lines
+abbrev pub joined_lines : List (List ℕ) → List ℕ
+joined_lines lines = flat_map (λ line. line) lines
 
 -- the taps that limits, one for each form, keep of taps of these forms
 abbrev pub kept_by : List ℕ → List ℕ → List KeptTap

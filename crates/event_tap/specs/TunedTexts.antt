@@ -50,17 +50,18 @@ listed_text k place descrambled (Some power) =
     decoded_line place (listed k power.replaced descrambled) power.power_bits
 
 -- what is written of a frame, where these are the frames of its slot up to it
-abbrev pub frame_text : TunedText → CheckForm → Mark → List SoftFrame → SoftFrame → List ℕ
-frame_text RateSetTwo check m slot frame = rate2_text frame.end frame.descrambled frame.power
-frame_text (Listed k) check m slot frame = listed_text k frame.end frame.descrambled frame.power
-frame_text (Slots key cycle) check m slot frame = slot_text key cycle check m slot frame
+abbrev pub tuned_frame_text : TunedText → CheckForm → Mark → List SoftFrame → SoftFrame → List ℕ
+tuned_frame_text RateSetTwo check m slot frame = rate2_text frame.end frame.descrambled frame.power
+tuned_frame_text (Listed k) check m slot frame = listed_text k frame.end frame.descrambled
+    frame.power
+tuned_frame_text (Slots key cycle) check m slot frame = slot_text key cycle check m slot frame
 
 -- what is written of frames in order, where these of a slot are kept from those before
 unfoldable pub frames_text : TunedText → CheckForm → Mark → List SoftFrame → List SoftFrame → List ℕ
 frames_text form check m kept [] = []
 frames_text form check m kept (frame ∷ frames) =
     let slot = slot_more kept frame in
-    frame_text form check m slot frame ++ frames_text form check m slot frames
+    tuned_frame_text form check m slot frame ++ frames_text form check m slot frames
 
 -- the text of the frames after a mark
 abbrev pub text_from : TunedText → Tuning → Channel → Mark → List Sample → List ℕ

@@ -8,7 +8,7 @@ use Rattle.traffic_message.specs.InTraffic.{in_traffic_of}
 use Rattle.traffic_message.specs.declared.body.TrafficBody.TheVariants.{Handoff, Neighbors, Other}
 use Rattle.traffic_message.specs.declared.body.TrafficBody.TheVariants.{System}
 use Rattle.traffic_message.specs.declared.fields.Head.{Head}
-use Rattle.line_text.specs.Texts.{bit_text, octets, padded}
+use Rattle.line_text.specs.Texts.{bit_text, packed_octets, padded}
 use Rattle.event_tap.specs.Parts.{commas, named_values}
 use Rattle.event_tap.specs.TrafficLines.{handoff_text, kind_text, record_texts, start_text}
 use Rattle.event_tap.specs.TrafficLines.{system_text, traffic_line, update_text}
@@ -19,8 +19,8 @@ head = record { ack_seq = 2; msg_seq = 3; ack_req = true; encryption = 0 }
 
 one : traffic_line 983040 (record { head = head; body = Other 1 (binary 7 0) }) ≡
     codes "traffic at=983040 ack=2 seq=3 req=1 enc=0 other type=1 bits=7:00\n"
-unfolding traffic_line start_text kind_text named_values head bit_text padded octets encode_with
-    binary digits
+unfolding traffic_line start_text kind_text named_values head bit_text padded packed_octets
+    encode_with binary digits
 one = refl
 
 one_record : traffic_line 0 (record {
@@ -40,7 +40,7 @@ one_record : traffic_line 0 (record {
     codes "traffic at=0 ack=2 seq=3 req=0 enc=3 handoff use=1 action=49 hdm=0"
     ++ codes " extra=0: records=511/20/0 rest=7:00\n"
 unfolding traffic_line start_text handoff_text record_texts commas named_values head bit_text
-    padded octets encode_with binary digits
+    padded packed_octets encode_with binary digits
 one_record = refl
 
 two_records : traffic_line 1 (record {
@@ -60,7 +60,7 @@ two_records : traffic_line 1 (record {
     codes "traffic at=1 ack=2 seq=3 req=1 enc=0 handoff use=0 action=63 hdm=3"
     ++ codes " wina=1 tadd=2 tdrop=3 tcomp=4 ttdrop=5 extra=8:5a records=511/20/0,0/255/1 rest=0:\n"
 unfolding traffic_line start_text handoff_text record_texts commas named_values search_of head
-    bit_text padded octets encode_with binary digits
+    bit_text padded packed_octets encode_with binary digits
 two_records = refl
 
 two_neighbors : traffic_line 9 (record {
@@ -68,7 +68,7 @@ two_neighbors : traffic_line 9 (record {
   body = Neighbors (record { inc = 4; pns = 12 ∷ 508 ∷ []; rest = binary 2 1 });
 }) ≡
     codes "traffic at=9 ack=2 seq=3 req=1 enc=0 neighbors inc=4 pilots=12,508 rest=2:40\n"
-unfolding traffic_line start_text update_text commas named_values head bit_text padded octets
+unfolding traffic_line start_text update_text commas named_values head bit_text padded packed_octets
     encode_with binary digits
 two_neighbors = refl
 
@@ -80,9 +80,9 @@ places_of_fields : traffic_line 1 (record {
     codes "traffic at=1 ack=2 seq=3 req=1 enc=0 system sid=0 nid=1 wina=2 winn=3 winr=4"
     ++ codes " tadd=5 tdrop=6 tcomp=7 ttdrop=8 age=9 rest=4:50\n"
 unfolding traffic_line start_text system_text in_traffic_of named_values head bit_text padded
-    octets encode_with binary digits
+    packed_octets encode_with binary digits
 places_of_fields = refl
 
 raw_message : raw_traffic_line 983040 (binary 12 0x05a) ≡ codes "raw at=983040 traffic 12:05a0\n"
-unfolding bit_text padded octets encode_with binary digits
+unfolding bit_text padded packed_octets encode_with binary digits
 raw_message = refl

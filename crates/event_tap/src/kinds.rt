@@ -2,7 +2,7 @@
 
 ghost use Rattle.std.specs.Prelude.{◌≡◌, ◌≤◌, ◌%◌, Some, None, if◌then◌else◌};
 ghost use Rattle.event_tap.specs.EventLines.{event_line};
-ghost use Rattle.event_tap.specs.Taps.{form_line, heard_at, left_behind, line_text, plain_form};
+ghost use Rattle.event_tap.specs.Taps.{form_line, kept_or_done, left_behind, line_text, plain_form};
 ghost use Rattle.event_tap.specs.Taps.{raw_of};
 
 use crate::line::line_into;
@@ -119,7 +119,7 @@ fn hear_raw(left: u32, event: &Event, out: &mut Text) -> u32
 
 /// What a tap answers that has so many events left.
 fn heard_of(left: u32) -> Heard
-    ensures { result ≡ heard_at left }
+    ensures { result ≡ kept_or_done left }
 {
     if left == 0 { Heard::Done } else { Heard::Keep }
 }

@@ -1,15 +1,17 @@
 //! Laws of the definitions: each function does nothing, and its contract is the law.
 
 ghost use Rattle.std.specs.Prelude.{◌≡◌, ◌≤◌, ◌<◌, ◌++◌, ◌∷◌, [], ℕ, List, length, take};
-ghost use Rattle.event_tap.specs.EventLines.{text_of};
-ghost use Rattle.event_tap.specs.Taps.{KeptTap, form_lines, joined, kept_by, kept_with, run_taps};
+ghost use Rattle.event_tap.specs.EventLines.{events_text};
+ghost use Rattle.event_tap.specs.Taps.{KeptTap, form_lines, joined_lines, kept_by, kept_with};
+ghost use Rattle.event_tap.specs.Taps.{run_taps};
 ghost use Rattle.event_tap.specs.Taps.{run_text};
 ghost use Rattle.heard_events.specs.declared.event.Event.{Event as TheEvent};
 
 /// A tap hears just the first events of its form's kinds, as many as its limit says.
 pub fn taps_hear_the_first_events()
     ensures { (form limit : ℕ) (events : List TheEvent) →
-        run_text (kept_with form limit) events ≡ joined (take limit (form_lines form events)) }
+        run_text (kept_with form limit) events
+        ≡ joined_lines (take limit (form_lines form events)) }
 {}
 
 /// The text of events is that of the first of them, and then that of the others by the taps that
@@ -33,5 +35,5 @@ pub fn plain_taps_write_each_line_once()
     ensures { (pilots messages frames : ℕ) (events : List TheEvent) →
         length events < pilots → length events < messages → length events < frames →
         run_text (kept_by (pilots ∷ messages ∷ frames ∷ 0 ∷ []) (0 ∷ 1 ∷ 2 ∷ 3 ∷ [])) events ≡
-        text_of events }
+        events_text events }
 {}

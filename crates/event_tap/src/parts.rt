@@ -4,7 +4,7 @@ ghost use Rattle.std.specs.Prelude.{◌≡◌, ◌<◌, ◌≤◌, ◌+◌, ◌*
 ghost use Rattle.std.specs.Prelude.{decimal, IsAscii};
 ghost use Rattle.chip_core.specs.Fields.{FieldsFit, in_widths};
 ghost use Rattle.event_tap.specs.Parts.{are_short, capsule_line, named_values, rest_text};
-ghost use Rattle.line_text.specs.Texts.{bit_text, named};
+ghost use Rattle.line_text.specs.Texts.{bit_text, spaced_key};
 
 use chip_core::Bits;
 use line_text::Text;
@@ -32,7 +32,7 @@ fn append_value(text: &mut Text, name: &str, value: u64)
     requires short { length name.now ≤ 7 }
     requires few { value < 10 ^ 7 }
     requires room { length text.old + 29 ≤ 1024 }
-    ensures value { text.new ≡ text.old ++ (named name.now ++ decimal value) }
+    ensures value { text.new ≡ text.old ++ (spaced_key name.now ++ decimal value) }
     ensures len { length text.new ≤ length text.old + 16 }
 {
     text.append_name(name.as_bytes());

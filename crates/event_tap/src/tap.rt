@@ -1,7 +1,7 @@
 //! Taps: what makes text of events.
 
 ghost use Rattle.std.specs.Prelude.{ℕ, ◌≡◌, ◌≤◌};
-ghost use Rattle.event_tap.specs.Taps.{form_line, heard_at, left_behind, line_text};
+ghost use Rattle.event_tap.specs.Taps.{form_line, kept_or_done, left_behind, line_text};
 
 use heard_events::Event;
 use line_text::Text;
@@ -45,5 +45,5 @@ pub trait Tap: Drop {
         ensures form { shape self.new ≡ shape self.old }
         ensures left { left self.new ≡
             left_behind (form_line (shape self.old) event.now) (left self.old) }
-        ensures heard { result ≡ heard_at (left self.new) };
+        ensures heard { result ≡ kept_or_done (left self.new) };
 }

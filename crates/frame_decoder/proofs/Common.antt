@@ -1,7 +1,8 @@
 -- What the proofs of this crate cite of what lies below, and of its own definitions, passed on from one place.
 pub use Rattle.std.proofs.Common.{All, Bool, FitsSigned, List, [], add-one, ap, append-nil, append_assoc, arith, below_more, cond, drop}
 pub use Rattle.std.proofs.Common.{false, filter, get_or, inl, inr, length, length-append, length-drop, length-take-le, map, nat_eq, not}
-pub use Rattle.std.proofs.Common.{negsuc, pos, refl, replicate, reverse, rules, set, subst, suc, sum_by, sym, take, take_all, true, unsigned_abs}
+pub use Rattle.std.proofs.Common.{negsuc, pos, refl, replicate, reverse, rules, set, subst, suc, sum_by, sym, take, take_all, true}
+pub use Rattle.std.proofs.Common.{unsigned_abs}
 pub use Rattle.std.proofs.Common.{zero, ℕ, ℤ, ⊎_elim, ◌&&◌, ◌*◌, ◌++◌, ◌+ℤ◌, ◌+◌, ◌-◌, ◌<◌, ◌^◌, ◌||◌, ◌∙◌, ◌∷◌, ◌≡◌, ◌≢◌, ◌≤ℤ◌, ◌≤◌, ◌⊎◌}
 pub use Rattle.std.proofs.Math.Bool.{beq}
 pub use Rattle.std.proofs.Math.Nat.{mul-le-mul, mul-le-mul_right}
@@ -52,21 +53,21 @@ pub use Rattle.symbol_path.specs.declared.kinds.Kind.{Kind}
 pub use Rattle.symbol_path.specs.declared.kinds.Kind.TheVariants.{Data}
 pub use Rattle.viterbi.proofs.Sent.{zero_codeword_best, zeros_score}
 pub use Rattle.viterbi.proofs.Unique.{allowed_at, by_definition, codeword_at_allowed}
-pub use Rattle.viterbi.specs.Best.{IsAllowed, IsBestCodeword, spelled}
+pub use Rattle.viterbi.specs.Best.{IsAllowed, IsBestCodeword, spelled_codeword}
 pub use Rattle.viterbi.specs.Codewords.{Codeword, correlation, score_of, codeword_at, codeword_count}
 unfoldable pub use Rattle.viterbi.specs.Codewords.{best_codeword}
 pub use Rattle.viterbi.specs.declared.codeword.Ends.TheVariants.{Free, Zero}
 pub use borrow.Rule.Slice.PartMut.{put_mid}
 pub use Rattle.frame_decoder.specs.Laws.{AgreeElsewhere, IsNothingGood, IsOneFrame, IsSentFrameDecoded, ShowSymbols, kept_count}
 pub use Rattle.frame_decoder.specs.Formats.{IsFormat, better, bits_in, candidate_in, candidate_of, frame_in, good_or, is_right, not_good}
-pub use Rattle.frame_decoder.specs.Formats.{place_in, preferred, repeated_in, rising, format_of, score_in, shown_of}
+pub use Rattle.frame_decoder.specs.Formats.{place_in, preferred, repeated_in, rising_choice, format_of, score_in, shown_of}
 pub use Rattle.frame_decoder.specs.Formats.{gathered_in, symbols_in}
 unfoldable pub use Rattle.frame_decoder.specs.Formats.{frame_of, codeword_in}
 pub use Rattle.frame_decoder.specs.Spans.{Channel, channel_of, gathered_span, own_bits, score, sending, sent_frames}
 pub use Rattle.frame_decoder.specs.Replaced.{is_replaced}
 unfoldable pub use Rattle.frame_decoder.specs.Replaced.{unreplaced}
 pub use Rattle.frame_decoder.specs.TrafficFrames.{as_decoded, frame_bits, group_sum, is_up, lower_formats, lower_rates, power_bit}
-pub use Rattle.frame_decoder.specs.TrafficFrames.{subchannels}
+pub use Rattle.frame_decoder.specs.TrafficFrames.{summed_subchannels}
 unfoldable pub use Rattle.frame_decoder.specs.TrafficFrames.{decoded}
 pub use Rattle.frame_decoder.specs.declared.formats.FrameFormat.{FrameFormat}
 pub use Rattle.frame_decoder.specs.declared.formats.DecodedFrame.{DecodedFrame}

@@ -2,7 +2,7 @@
 use Rattle.frame_decoder.proofs.Common.{◌≡◌, ℕ, ◌+◌, ◌<◌, ◌≤◌, drop, ◌⊎◌, inl, ⊎_elim, Bool, true, false, List, [], ◌∷◌, ◌++◌, length, map}
 use Rattle.frame_decoder.proofs.Common.{take, get_or, refl, sym, ap, ◌∙◌, arith, ℤ, pos, ◌<ℤ◌, if◌then◌else◌, int_lt, cond, All, Option}
 use Rattle.frame_decoder.proofs.Common.{None, Some, find, option_map, ints, at_drop_more, drop_all, All-head, All-tail, Codeword}
-use Rattle.frame_decoder.proofs.Common.{FrameFormat, DecodedFrame, better, preferred, rising, not_good, good_or, frame_in, is_right}
+use Rattle.frame_decoder.proofs.Common.{FrameFormat, DecodedFrame, better, preferred, rising_choice, not_good, good_or, frame_in, is_right}
 use Rattle.frame_decoder.proofs.Common.{score_in, codeword_in, candidate_of, candidate_in, shown_of, frame_of, unreplaced}
 use Rattle.frame_decoder.proofs.ShownSymbols.{lt_true, le_false}
 
@@ -65,7 +65,7 @@ passes d (Some x) h = ap Some (gives_way d x h)
 
 kept_rising : {R : Type 0} (d : DecodedFrame R) (f : R → Option (DecodedFrame R)) (rates : List R)
     (best : Option (DecodedFrame R)) → ((r : R) → IsBelow d (f r)) → best ≡ Some d →
-    rising best (map f rates) ≡ Some d
+    rising_choice best (map f rates) ≡ Some d
 kept_rising d f [] best each is = is
 kept_rising {R} d f (r ∷ rates) best each is =
     kept_rising d f rates (preferred (f r) best) each
@@ -74,7 +74,7 @@ kept_rising {R} d f (r ∷ rates) best each is =
 taken_rising : {R : Type 0} (d : DecodedFrame R) (f : R → Option (DecodedFrame R)) (before : List R)
     (rate : R) (after : List R) (best : Option (DecodedFrame R)) → ((r : R) → IsBelow d (f r)) →
     f rate ≡ Some d → IsBelow d best →
-    rising best (map f (before ++ rate ∷ after)) ≡ Some d
+    rising_choice best (map f (before ++ rate ∷ after)) ≡ Some d
 taken_rising {R} d f [] rate after best each is low =
     kept_rising d f after (preferred (f rate) best) each
     (ap (λ (c : Option (DecodedFrame R)). preferred c best) is ∙ takes d best low)
@@ -85,8 +85,8 @@ taken_rising d f (r ∷ before) rate after best each is low =
 -- the formats of a set's rates, the highest after the others
 pub rising_rates : {R : Type 0} (f : FrameFormat R → Option (DecodedFrame R)) (format_of : R → FrameFormat R)
     (lower : List R) (highest : R) (best : Option (DecodedFrame R)) →
-    rising best (map (λ r. f (format_of r)) (lower ++ highest ∷ []))
-    ≡ preferred (f (format_of highest)) (rising best (map f (map format_of lower)))
+    rising_choice best (map (λ r. f (format_of r)) (lower ++ highest ∷ []))
+    ≡ preferred (f (format_of highest)) (rising_choice best (map f (map format_of lower)))
 rising_rates f format_of [] highest best = refl
 rising_rates f format_of (r ∷ lower) highest best =
     rising_rates f format_of lower highest (preferred (f (format_of r)) best)
@@ -100,9 +100,9 @@ pub record IsAmong {R : Type 0} (rate : R) (rates : List R) : Type 0 where
 -- so the frame is chosen, whose rate is one of the set's
 pub chosen_is : {R : Type 0} (d : DecodedFrame R) (f : R → Option (DecodedFrame R)) (rate : R)
     (rates : List R) → IsAmong rate rates → ((r : R) → IsBelow d (f r)) → f rate ≡ Some d →
-    rising None (map f rates) ≡ Some d
+    rising_choice None (map f rates) ≡ Some d
 chosen_is {R} d f rate rates among each is =
-    ap (λ (rs : List R). rising None (map f rs)) (sym among.parted)
+    ap (λ (rs : List R). rising_choice None (map f rs)) (sym among.parted)
     ∙ taken_rising d f among.before rate among.after None each is tt
 
 -- ---- a format's candidate among some codewords
@@ -148,33 +148,33 @@ candidate_is {R} softs format bits score found b s is =
 pub rising_more : {R : Type 0} (f : FrameFormat R → Option (DecodedFrame R)) (formats : List (FrameFormat R)) (k : ℕ)
     (format : FrameFormat R) (all best next found : Option (DecodedFrame R)) → k < length formats →
     format ≡ get_or formats k format → found ≡ f format → next ≡ preferred found best →
-    all ≡ rising best (map f (drop k formats)) → all ≡ rising next (map f (drop (k + 1) formats))
+    all ≡ rising_choice best (map f (drop k formats)) → all ≡ rising_choice next (map f (drop (k + 1) formats))
 rising_more {R} f formats k format all best next found within at is chosen had =
     let rest : List (Option (DecodedFrame R)) = map f (drop (k + 1) formats) in
     had
-    ∙ at_drop_more (λ (rs : List (FrameFormat R)). rising best (map f rs)) formats k format within
-    ∙ ap (λ (r : FrameFormat R). rising (preferred (f r) best) rest) (sym at)
-    ∙ ap (λ (c : Option (DecodedFrame R)). rising (preferred c best) rest) (sym is)
-    ∙ ap (λ (c : Option (DecodedFrame R)). rising c rest) (sym chosen)
+    ∙ at_drop_more (λ (rs : List (FrameFormat R)). rising_choice best (map f rs)) formats k format within
+    ∙ ap (λ (r : FrameFormat R). rising_choice (preferred (f r) best) rest) (sym at)
+    ∙ ap (λ (c : Option (DecodedFrame R)). rising_choice (preferred c best) rest) (sym is)
+    ∙ ap (λ (c : Option (DecodedFrame R)). rising_choice c rest) (sym chosen)
 
 pub rising_end : {R : Type 0} (f : FrameFormat R → Option (DecodedFrame R)) (formats : List (FrameFormat R)) (k : ℕ)
     (all best : Option (DecodedFrame R)) → length formats ≤ k →
-    all ≡ rising best (map f (drop k formats)) → best ≡ all
+    all ≡ rising_choice best (map f (drop k formats)) → best ≡ all
 rising_end {R} f formats k all best past had =
-    sym (had ∙ ap (λ (rs : List (FrameFormat R)). rising best (map f rs)) (drop_all k formats past))
+    sym (had ∙ ap (λ (rs : List (FrameFormat R)). rising_choice best (map f rs)) (drop_all k formats past))
 
 -- the code's frame is the definition's
 pub frame_is : {R : Type 0} (highest : FrameFormat R) (lower : List (FrameFormat R)) (replaced : List ℕ)
     (softs kept : List ℤ) (bits : List Bool) (score : ℤ) (best found chosen : Option (DecodedFrame R))
     (out : DecodedFrame R) → kept ≡ unreplaced replaced softs →
-    best ≡ rising None (map (candidate_in kept) lower) → bits ≡ (codeword_in kept highest).bits →
+    best ≡ rising_choice None (map (candidate_in kept) lower) → bits ≡ (codeword_in kept highest).bits →
     score ≡ score_in kept highest (codeword_in kept highest) → found ≡ candidate_in kept highest →
     chosen ≡ preferred found best → out ≡ good_or highest bits score chosen →
     out ≡ frame_of highest lower replaced softs
 unfolding frame_of
 frame_is {R} highest lower replaced softs kept bits score best found chosen out k l b s f c o =
     let codeword = codeword_in kept highest in
-    let below : Option (DecodedFrame R) = rising None (map (candidate_in kept) lower) in
+    let below : Option (DecodedFrame R) = rising_choice None (map (candidate_in kept) lower) in
     let all : Option (DecodedFrame R) = preferred (candidate_in kept highest) below in
     o
     ∙ ap (good_or highest bits score)
@@ -200,7 +200,7 @@ silent_format {R} softs format w e =
 pub rising_silent : {R : Type 0} (softs : List ℤ) (codewords : FrameFormat R → Codeword) (formats : List (FrameFormat R))
     (best : Option (DecodedFrame R)) → ((format : FrameFormat R) → score_in softs format (codewords format) ≡ pos 0) →
     IsOf IsSilent best →
-    IsOf IsSilent (rising best (map (λ format. candidate_of softs format (codewords format ∷ [])) formats))
+    IsOf IsSilent (rising_choice best (map (λ format. candidate_of softs format (codewords format ∷ [])) formats))
 rising_silent softs codewords [] best each low = low
 rising_silent softs codewords (format ∷ formats) best each low =
     let c = candidate_of softs format (codewords format ∷ []) in
@@ -220,11 +220,11 @@ pub silent_shown : {R : Type 0} (softs : List ℤ) (codewords : FrameFormat R �
     let codeword = codewords highest in
     good_or highest codeword.bits (score_in softs highest codeword)
     (preferred (candidate_of softs highest (codeword ∷ []))
-    (rising None (map (λ format. candidate_of softs format (codewords format ∷ [])) formats)))
+    (rising_choice None (map (λ format. candidate_of softs format (codewords format ∷ [])) formats)))
     ≡ not_good highest codeword.bits (pos 0)
 silent_shown softs codewords highest formats each =
     let codeword = codewords highest in
-    let lower = rising None (map (λ format. candidate_of softs format (codewords format ∷ [])) formats) in
+    let lower = rising_choice None (map (λ format. candidate_of softs format (codewords format ∷ [])) formats) in
     silent_or highest codeword.bits (score_in softs highest codeword)
     (preferred (candidate_of softs highest (codeword ∷ [])) lower) (each highest)
     (preferred_of IsSilent (candidate_of softs highest (codeword ∷ [])) lower

@@ -1,7 +1,7 @@
 -- A decoded frame has as many information bits as its rate has.
 use Rattle.frame_decoder.proofs.Common.{◌≡◌, ℕ, Bool, List, [], ◌∷◌, length, map, take, ◌∙◌, arith, ℤ, length-take-le, Option, None, Some}
 use Rattle.frame_decoder.proofs.Common.{Codeword, FrameFormat, DecodedFrame, bits_in, codeword_in, score_in, is_right, frame_in}
-use Rattle.frame_decoder.proofs.Common.{candidate_in, preferred, rising, not_good, good_or, frame_of, unreplaced}
+use Rattle.frame_decoder.proofs.Common.{candidate_in, preferred, rising_choice, not_good, good_or, frame_of, unreplaced}
 use Rattle.frame_decoder.proofs.FormatChoice.{IsOf, either_of, preferred_of, found_of}
 use Rattle.frame_decoder.proofs.FormatCodewords.{length-codeword_in}
 
@@ -23,7 +23,7 @@ candidate_long {R} told softs format is =
 
 rising_long : {R : Type 0} (told : R → ℕ) (format_of : R → FrameFormat R) (softs : List ℤ) (rates : List R)
     (best : Option (DecodedFrame R)) → ((r : R) → (format_of r).information ≡ told (format_of r).rate) →
-    IsOf (IsLong told) best → IsOf (IsLong told) (rising best (map (candidate_in softs) (map format_of rates)))
+    IsOf (IsLong told) best → IsOf (IsLong told) (rising_choice best (map (candidate_in softs) (map format_of rates)))
 rising_long told format_of softs [] best each low = low
 rising_long told format_of softs (r ∷ rates) best each low =
     let c = candidate_in softs (format_of r) in
@@ -48,7 +48,7 @@ frame_long told format_of highest lower replaced softs each =
     let kept = unreplaced replaced softs in
     let format = format_of highest in
     let w = codeword_in kept format in
-    let best = rising None (map (candidate_in kept) (map format_of lower)) in
+    let best = rising_choice None (map (candidate_in kept) (map format_of lower)) in
     or_long told format w.bits (score_in kept format w) (preferred (candidate_in kept format) best) (each highest)
     (length-codeword_in kept format)
     (preferred_of (IsLong told) (candidate_in kept format) best

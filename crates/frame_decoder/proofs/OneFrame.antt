@@ -2,7 +2,7 @@
 use Rattle.frame_decoder.proofs.Common.{◌≡◌, ℕ, ◌*◌, Bool, List, ◌++◌, length, take, drop, ap, ◌∙◌, arith, take_all, code_symbols}
 use Rattle.frame_decoder.proofs.Common.{length-code_symbols, sent, Codeword, correlation, best_codeword, Free, Channel, sending}
 use Rattle.frame_decoder.proofs.Common.{sent_frames, score, IsOneFrame}
-use Rattle.frame_decoder.specs.Laws.{frame_score}
+use Rattle.frame_decoder.specs.Laws.{channel_frame_score}
 use Rattle.frame_decoder.proofs.Parts.{frames-none, frames-more}
 use Rattle.frame_decoder.proofs.BestCodewords.{length-best_codeword, best_codeword-same}
 
@@ -20,15 +20,15 @@ pub one_frame : IsOneFrame
 one_frame c softs =
     let none : c.bits * 0 ≡ 0 = omega arith in
     let one : c.bits * 1 ≡ c.bits = omega arith in
-    let best = best_codeword (frame_score c softs) Free c.bits in
+    let best = best_codeword (channel_frame_score c softs) Free c.bits in
     let span : ℕ → Codeword = λ n. best_codeword (score softs (sending c 1)) Free n in
     let twice : (w : Codeword) → length w.bits ≡ c.bits →
     length (code_symbols w.start w.bits) ≡ 2 * c.bits = λ w long.
     length-code_symbols w.start w.bits ∙ ap (λ (k : ℕ). 2 * k) long in
     let same : span c.bits ≡ best =
-    best_codeword-same (score softs (sending c 1)) (frame_score c softs) c.bits
+    best_codeword-same (score softs (sending c 1)) (channel_frame_score c softs) c.bits
     (λ w long. ap (correlation softs) (sent_one c (code_symbols w.start w.bits) (twice w long))) in
-    let long = length-best_codeword (frame_score c softs) c.bits in
+    let long = length-best_codeword (channel_frame_score c softs) c.bits in
     ap (λ (n : ℕ). take c.bits (drop n (span (c.bits * 1)).bits)) none
     ∙ ap (λ (n : ℕ). take c.bits (span n).bits) one
     ∙ ap (λ (w : Codeword). take c.bits w.bits) same

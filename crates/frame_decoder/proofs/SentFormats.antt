@@ -5,7 +5,7 @@ use Rattle.frame_decoder.proofs.Common.{int_lt, All, get_or, None, Some, option_
 use Rattle.frame_decoder.proofs.Common.{take_at, drop_at, length-replicate, All-cons, All-nil, code_symbols, quality_indicator}
 use Rattle.frame_decoder.proofs.Common.{quality_length, length-quality_indicator, Codeword, score_of, IsAllowed, Zero, by_definition}
 use Rattle.frame_decoder.proofs.Common.{zero_codeword_best, FrameFormat, DecodedFrame, unreplaced}
-use Rattle.frame_decoder.proofs.Common.{bits_in, symbols_in, score_in, codeword_in, is_right, frame_in, candidate_of, rising}
+use Rattle.frame_decoder.proofs.Common.{bits_in, symbols_in, score_in, codeword_in, is_right, frame_in, candidate_of, rising_choice}
 use Rattle.frame_decoder.proofs.Common.{not_good, good_or, candidate_in, frame_of, shown_of, Option}
 use Rattle.frame_decoder.proofs.Common.{◌<ℤ◌, zeros_score}
 use Rattle.frame_decoder.proofs.SignedScores.{agree_left, own_some, shown_keep, shown_score}
@@ -134,7 +134,7 @@ pub signs_chosen : {R : Type 0} (format_of : R → FrameFormat R) (rates : List 
     length information ≡ (format_of rate).information →
     KeepSigns replaced (symbols_in (format_of rate) w) softs →
     IsUnsharedIn format_of replaced rate w →
-    rising None (map (λ r. candidate_of kept (format_of r) (codewords kept r)) rates)
+    rising_choice None (map (λ r. candidate_of kept (format_of r) (codewords kept r)) rates)
     ≡ Some (good_frame rate information (score_in kept (format_of rate) w))
 signs_chosen {R} format_of rates replaced rate information softs codewords named among known few long long'
     keeps unshared =

@@ -111,10 +111,10 @@ preferred (Some higher) None = Some higher
 preferred (Some higher) (Some lower) = Some (better higher lower)
 
 -- the best of these candidates, from the lowest rate up, and one of lower rates
-abbrev pub rising : {R : Type 0} →
+abbrev pub rising_choice : {R : Type 0} →
     Option (DecodedFrame R) → List (Option (DecodedFrame R)) → Option (DecodedFrame R)
-rising lower [] = lower
-rising lower (candidate ∷ higher) = rising (preferred candidate lower) higher
+rising_choice lower [] = lower
+rising_choice lower (candidate ∷ higher) = rising_choice (preferred candidate lower) higher
 
 -- a frame that isn't good: the information bits of a codeword of the highest rate
 abbrev pub not_good : {R : Type 0} → FrameFormat R → List Bool → ℤ → DecodedFrame R
@@ -138,7 +138,7 @@ abbrev pub shown_of : {R : Type 0} → FrameFormat R → List (FrameFormat R) �
 shown_of highest lower kept =
     let codeword = codeword_in kept highest in
     good_or highest codeword.bits (score_in kept highest codeword)
-    (preferred (candidate_in kept highest) (rising None (map (candidate_in kept) lower)))
+    (preferred (candidate_in kept highest) (rising_choice None (map (candidate_in kept) lower)))
 
 -- what is decoded of a frame's soft values, of which those at these places belong to power control
 -- bits

@@ -18,14 +18,15 @@ use Rattle.frame_decoder.specs.TrafficFrames.{is_replaced, as_decoded, decoded}
 
 -- ---- a span of one frame
 -- how well a codeword agrees with the soft values of one frame
-abbrev pub frame_score : Channel → List ℤ → Codeword → ℤ
-frame_score c softs w = correlation softs (sent c.shape c.repeats (code_symbols w.start w.bits))
+abbrev pub channel_frame_score : Channel → List ℤ → Codeword → ℤ
+channel_frame_score c softs w = correlation softs
+    (sent c.shape c.repeats (code_symbols w.start w.bits))
 
 -- the own bits of a span of one frame are the frame's best codeword
 abbrev pub IsOneFrame : Type 0
 IsOneFrame =
     (c : Channel) (softs : List ℤ) →
-    own_bits c 1 0 softs ≡ (best_codeword (frame_score c softs) Free c.bits).bits
+    own_bits c 1 0 softs ≡ (best_codeword (channel_frame_score c softs) Free c.bits).bits
 
 -- ---- sent frames of traffic channels, whatever their rate set
 -- a frame's codeword: its information, its quality indicator and eight tail bits, after eight

@@ -55,8 +55,8 @@ abbrev pub group_sums : List ℕ → List ℤ → List ℤ
 group_sums replaced softs = map (group_sum replaced softs) (places 16)
 
 -- the sums of each subchannel that is heard
-abbrev pub subchannels : PowerSofts → List (List ℤ)
-subchannels p = take p.count p.sums
+abbrev pub summed_subchannels : PowerSofts → List (List ℤ)
+summed_subchannels p = take p.count p.sums
 
 -- whether a group's power control bit is heard as 0, by a sum above 0, on each subchannel
 abbrev pub is_up : ℕ → List (List ℤ) → Bool

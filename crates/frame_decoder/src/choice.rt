@@ -3,7 +3,7 @@
 ghost use Rattle.std.specs.Prelude.{◌≡◌, ◌≤◌, ◌^◌, if◌then◌else◌, All, None, Some, length, map};
 ghost use Rattle.std.specs.Prelude.{sum_by, unsigned_abs};
 ghost use Rattle.frame_decoder.specs.Formats.{IsFormat, better, bits_in, candidate_in, preferred};
-ghost use Rattle.frame_decoder.specs.Formats.{rising, frame_in, frame_of, good_or, is_right};
+ghost use Rattle.frame_decoder.specs.Formats.{rising_choice, frame_in, frame_of, good_or, is_right};
 
 use crate::formats::{DecodedFrame, FrameFormat, ScoredCodeword};
 use crate::frame_softs::FrameSofts;
@@ -90,7 +90,7 @@ fn best_candidate<R: Copy>(
     requires formats { All (λ format. IsFormat format) formats.now }
     requires room { All (λ format. bits_in format ≤ decoder.old) formats.now }
     requires bound { sum_by unsigned_abs softs.now ≤ 2 ^ 62 }
-    ensures value { result ≡ rising None (map (candidate_in softs.now) formats.now) }
+    ensures value { result ≡ rising_choice None (map (candidate_in softs.now) formats.now) }
     ensures kept { decoder.new ≡ decoder.old }
 {
     let mut best = None;

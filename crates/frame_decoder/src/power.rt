@@ -4,7 +4,8 @@ ghost use Rattle.std.specs.Prelude.{◌≡◌, ◌<◌, ◌≤◌, ◌+◌, ◌*
 ghost use Rattle.std.specs.Prelude.{unsigned_abs, All, get_or, pos, int_lt};
 ghost use Rattle.std.specs.List.Sorted.{IsStrictlyIncreasing};
 ghost use Rattle.chip_core.specs.Bits.{places};
-ghost use Rattle.frame_decoder.specs.TrafficFrames.{group_sums, subchannels, is_up, power_bit};
+ghost use Rattle.frame_decoder.specs.TrafficFrames.{group_sums, summed_subchannels, is_up};
+ghost use Rattle.frame_decoder.specs.TrafficFrames.{power_bit};
 
 use crate::frame_softs::FrameSofts;
 use chip_core::PowerBits;
@@ -30,7 +31,7 @@ pub struct PowerSofts {
 impl PowerSofts {
     /// What is heard on no subchannel.
     pub fn empty() -> PowerSofts
-        ensures value { subchannels result ≡ [] }
+        ensures value { summed_subchannels result ≡ [] }
         ensures count { result.count ≡ 0 }
     {
         PowerSofts {
@@ -47,8 +48,8 @@ impl PowerSofts {
         requires below { All (λ place. place < 384) replaced.now }
         requires rising { IsStrictlyIncreasing replaced.now }
         requires bound { sum_by unsigned_abs softs.now ≤ 2 ^ 62 }
-        ensures value { subchannels self.new ≡
-            subchannels self.old ++ group_sums replaced.now softs.now ∷ [] }
+        ensures value { summed_subchannels self.new ≡
+            summed_subchannels self.old ++ group_sums replaced.now softs.now ∷ [] }
         ensures count { self.new.count ≡ self.old.count + 1 }
     {
         self.sums[usize::from(self.count)] = group_sums(softs, replaced);
@@ -99,7 +100,7 @@ fn is_up(heard: &[GroupSums], group: usize) -> bool
 /// TIA/EIA-95-B, 7.1.3.1.7: a 0 raises the power and a 1 lowers it.
 pub fn commands(softs: &PowerSofts) -> PowerBits
     requires { softs.now.count ≤ 6 }
-    ensures { result ≡ map (power_bit (subchannels softs.now)) (places 16) }
+    ensures { result ≡ map (power_bit (summed_subchannels softs.now)) (places 16) }
 {
     let heard = &softs.sums[..usize::from(softs.count)];
     let mut bits = [false; 16];

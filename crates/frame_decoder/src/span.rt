@@ -4,7 +4,7 @@ ghost use Rattle.std.specs.Prelude.{◌≡◌, ◌<◌, ◌≤◌, ◌*◌, ◌/
 ghost use Rattle.std.specs.Prelude.{unsigned_abs};
 ghost use Rattle.symbol_path.specs.SentOrder.{shape_of, size};
 ghost use Rattle.quality_bits.specs.TrafficCodewords.{repeats_of};
-ghost use Rattle.viterbi.specs.Best.{AreDecodable, IsBestCodeword, spelled};
+ghost use Rattle.viterbi.specs.Best.{AreDecodable, IsBestCodeword, spelled_codeword};
 ghost use Rattle.viterbi.specs.declared.codeword.Ends.TheVariants.{Free};
 ghost use Rattle.frame_decoder.specs.Spans.{sync_channel, paging_channel, channel_of, channel_for};
 ghost use Rattle.frame_decoder.specs.Spans.{gathered_span, own_bits};
@@ -44,7 +44,7 @@ fn gather_span(span_format: SpanFormat, frames: u8, softs: &[i64], out: &mut [i6
 /// symbols.
 fn best_codeword(decoder: &mut Decoder, softs: &[i64]) -> Codeword
     requires { AreDecodable decoder.old softs.now }
-    ensures best { IsBestCodeword softs.now Free (spelled result) }
+    ensures best { IsBestCodeword softs.now Free (spelled_codeword result) }
     ensures kept { decoder.new ≡ decoder.old }
 {
     let mut codeword = Codeword {

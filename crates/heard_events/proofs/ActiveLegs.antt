@@ -1,7 +1,8 @@
 -- The active pilots of sets in order, as a traffic channel is heard from them.
 use Rattle.heard_events.proofs.Common.{◌≡◌, ℕ, zero, suc, ◌+◌, ◌*◌, ◌<◌, ◌≤◌, ◌==◌, true, List, [], ◌∷◌, length, map, refl, sym, ap, arith}
 use Rattle.heard_events.proofs.Common.{Some, slice_get, nat_lt, nat_le, ℤ, pos, get_or, All, cond, slice_set, Option, None, unsigned_abs}
-use Rattle.heard_events.proofs.Common.{nat_eq, if◌then◌else◌, le-leb, lt-ltb, All-set, IsOrderly, IsStanding, times, pilots_of_actives}
+use Rattle.heard_events.proofs.Common.{nat_eq, if◌then◌else◌, le-leb, lt-ltb, All-set, IsOrderly, IsStanding, times_listed}
+use Rattle.heard_events.proofs.Common.{pilots_of_actives}
 use Rattle.heard_events.proofs.Common.{handed_off, Standing, began_in, deltas_with, due_at, due_for, shown, shown_active, Active, Accepted}
 use Rattle.heard_events.proofs.Common.{ActivePilot, PilotSets, Strength, is_close, legs_close, legs_rows, places_in, leg_of, legs_of, Mark}
 use Rattle.heard_events.proofs.Common.{◌∙◌, Leg}
@@ -36,7 +37,7 @@ one_place p q = grind arith
 
 places_are : (m : Mark) (deltas : List ℤ) (actives : List ActivePilot) →
     places_in (map (leg_of m deltas) (map shown_active actives))
-    ≡ length (map shown_active actives) + 2 * times m.pilot (pilots_of_actives actives)
+    ≡ length (map shown_active actives) + 2 * times_listed m.pilot (pilots_of_actives actives)
 places_are m deltas [] = omega arith
 places_are m deltas (a ∷ actives) =
     let one = one_place a.pilot m.pilot in

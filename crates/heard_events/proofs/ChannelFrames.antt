@@ -3,7 +3,7 @@ use Rattle.heard_events.proofs.Common.{◌≡◌, ℕ, ◌+◌, ◌*◌, ◌≤�
 use Rattle.heard_events.proofs.Common.{offset_of, paging_bound, frames_within, soft_frame, frame_start, is_in_file, known_at, IsTimed}
 use Rattle.heard_events.proofs.Common.{stream_end, Tuning, Channel, Paging, Mark, AgreeIn}
 use Rattle.heard_events.specs.Channels.{start_of}
-use Rattle.heard_events.specs.SoftFrames.{frame_of}
+use Rattle.heard_events.specs.SoftFrames.{soft_frame_of}
 use Rattle.heard_events.specs.declared.channel.Channel.TheVariants.{Traffic}
 use Rattle.rake_finger.proofs.Sooner.{all_fit, softs_sooner, softs_same}
 use Rattle.heard_events.proofs.Arrivals.{AreOrdered, frames_in, frames_ordered, by_parts, is_by}
@@ -40,7 +40,7 @@ module _ (t : Tuning) (channel : Channel) (m : Mark) where
   frame_sooner xs ys k inside ends =
       let s = channel_stream t channel m in
       let u : ℕ = frame_start s k in
-      ap (frame_of t channel m k)
+      ap (soft_frame_of t channel m k)
       (softs_sooner xs ys s.fingers s.form u
       (all_fit t.count (length xs) s.fingers s.form u inside ends))
 
@@ -64,4 +64,4 @@ pub frame_same : (t : Tuning) (channel : Channel) (m : Mark) (one other : List S
     soft_frame t channel m one k ≡ soft_frame t channel m other k
 frame_same t channel m one other k same =
     let s = channel_stream t channel m in
-    ap (frame_of t channel m k) (softs_same one other s.fingers s.form (frame_start s k) same)
+    ap (soft_frame_of t channel m k) (softs_same one other s.fingers s.form (frame_start s k) same)

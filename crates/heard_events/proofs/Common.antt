@@ -34,7 +34,7 @@ pub use Rattle.frame_decoder.proofs.InformationBits.{frame_long}
 pub use Rattle.pilot_sets.specs.Standing.{Standing, new_standing, began_in, deltas_with, due_at, due_for, shown, shown_active, change_at}
 pub use Rattle.pilot_sets.specs.Standing.{stepped}
 pub use Rattle.pilot_sets.specs.declared.change.SetChange.{SetChange}
-pub use Rattle.pilot_sets.specs.Orderly.{IsOrderly, IsStanding, times}
+pub use Rattle.pilot_sets.specs.Orderly.{IsOrderly, IsStanding, times_listed}
 pub use Rattle.pilot_sets.specs.PilotSets.{pilots_of_actives}
 pub use Rattle.pilot_sets.specs.Handoffs.{handed_off}
 pub use Rattle.pilot_sets.specs.declared.lists.Active.{Active}
@@ -88,10 +88,10 @@ unfoldable pub use Rattle.heard_events.specs.Moments.{changed, heard_from, kept_
 pub use Rattle.heard_events.specs.Near.{IsTuned, low_of}
 pub use Rattle.heard_events.specs.Noted.{all_noted, noted}
 pub use Rattle.heard_events.specs.PagingEvents.{page_event, pages_behind}
-unfoldable pub use Rattle.heard_events.specs.PagingEvents.{bits_before, bits_up_to, page_at, pages_at, pages_from}
+unfoldable pub use Rattle.heard_events.specs.PagingEvents.{paging_bits_before, bits_up_to, page_at, pages_at, pages_from}
 pub use Rattle.heard_events.specs.PagingStreams.{paging_bound, paging_stream}
 pub use Rattle.heard_events.specs.Signaling.{message_events, message_heard, signal_of}
-unfoldable pub use Rattle.heard_events.specs.Signaling.{message_at, messages_by, signal_at, signals_before}
+unfoldable pub use Rattle.heard_events.specs.Signaling.{signaling_message_at, messages_by, signal_at, signals_before}
 pub use Rattle.heard_events.specs.SoftFrames.{soft_frame, raw_at}
 unfoldable pub use Rattle.heard_events.specs.SoftFrames.{frames_within}
 pub use Rattle.heard_events.specs.SpelledMessages.{SpelledMessage, SpelledPage, SpelledSignal}
@@ -110,5 +110,5 @@ pub use Rattle.heard_events.specs.declared.event.Event.{Event}
 pub use Rattle.heard_events.specs.declared.event.Event.TheVariants.{Pilot}
 pub use Rattle.heard_events.specs.declared.leg.Leg.{Leg}
 pub use Rattle.heard_events.specs.declared.mark.Mark.{Mark}
-pub use Rattle.heard_events.specs.Close.{legs_close, legs_rows, places_for, places_in, paths_close, fingers_in}
+pub use Rattle.heard_events.specs.Close.{legs_close, legs_rows, finger_places, places_in, paths_close, fingers_in}
 pub use Rattle.heard_events.specs.LegSofts.{sums_on}

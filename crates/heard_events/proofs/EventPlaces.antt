@@ -3,7 +3,7 @@ use Rattle.heard_events.proofs.Common.{◌≡◌, ℕ, ◌+◌, ◌==◌, ◌||�
 use Rattle.heard_events.proofs.Common.{Some, inl, inr, take, All, All-append, All-cons, All-map, All-nil, flat_map, cases_Bool, eqb-true}
 use Rattle.heard_events.proofs.Common.{Sample, Standing, SetChange, events_at, at_of, mark, changed, frames_at, messages_at, heard_from}
 use Rattle.heard_events.proofs.Common.{kept_to, legs_at, moment_events, moment_place, moments_before, passed, sets_at, page_event}
-use Rattle.heard_events.proofs.Common.{pages_behind, message_at, message_events, message_heard, messages_by, known_now, events_of}
+use Rattle.heard_events.proofs.Common.{pages_behind, signaling_message_at, message_events, message_heard, messages_by, known_now, events_of}
 use Rattle.heard_events.proofs.Common.{heard_at, sync_events_at, frames_by, if_followed, frames_now, Tuning, sync_bound, sync_stream}
 use Rattle.heard_events.proofs.Common.{Event, Leg, Mark, Traffic, SpelledMessage, SpelledSignal, Channel, Paging, channels}
 use Rattle.heard_events.proofs.Common.{followed_behind, told_behind, told_on}
@@ -71,7 +71,7 @@ module _ (t : Tuning) (samples : List Sample) (n : ℕ) where
       let legs = legs_at t traffic m samples n in
       all_each (IsAt n) (message_heard t traffic m legs (take n samples) n)
       (frames_now t traffic m legs n)
-      (λ k. signal_here n (message_at t traffic m legs (take n samples) k))
+      (λ k. signal_here n (signaling_message_at t traffic m legs (take n samples) k))
 
   moment_here : (traffic : Traffic) (m : Mark) → AreAt n (sets_at t traffic m samples n)
   unfolding sets_at

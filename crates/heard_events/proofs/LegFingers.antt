@@ -1,7 +1,8 @@
 -- The fingers of active pilots, gone over one by one.
 use Rattle.heard_events.proofs.Common.{◌≡◌, ℕ, ◌≤◌, Bool, true, List, [], ◌∷◌, length, take, ◌∙◌, refl, arith, nat_lt, ℤ, inl, inr}
 use Rattle.heard_events.proofs.Common.{length-append, length-take, and_from, cases_Bool, list_all, Finger, all_close, is_close, legs_close}
-use Rattle.heard_events.proofs.Common.{legs_rows, paths_close, places_for, places_in, all_fingers, leg_fingers, have_rows, fingers_of, Leg}
+use Rattle.heard_events.proofs.Common.{legs_rows, paths_close, finger_places, places_in, all_fingers, leg_fingers, have_rows, fingers_of}
+use Rattle.heard_events.proofs.Common.{Leg}
 use Rattle.std.proofs.lemmas.Bool.{cond_both}
 use Rattle.std.proofs.lemmas.List.{length-map}
 use Rattle.std.proofs.lemmas.List.Folds.{list_all-map}
@@ -12,7 +13,7 @@ use Rattle.heard_events.proofs.LegLists.{flat_passes}
 -- HOW MANY
 -- a pilot has room for its fingers, and has one where the reference has a path
 leg_bounds : (phase : ℕ) (deltas : List ℤ) (leg : Leg) →
-    (length deltas ≤ 3 → length (leg_fingers phase deltas leg) ≤ places_for leg)
+    (length deltas ≤ 3 → length (leg_fingers phase deltas leg) ≤ finger_places leg)
     × (1 ≤ length deltas → 1 ≤ length (leg_fingers phase deltas leg))
 leg_bounds phase deltas leg =
     let long = length-map deltas (finger_of leg.finger.row phase) in

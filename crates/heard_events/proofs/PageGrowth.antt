@@ -2,7 +2,8 @@
 use Rattle.heard_events.proofs.Common.{◌≡◌, ℕ, suc, ◌+◌, ◌-◌, ◌<◌, ◌≤◌, ◌==◌, Bool, true, false, List, [], ◌++◌, length, refl, sym, ap, ◌∙◌}
 use Rattle.heard_events.proofs.Common.{arith, if◌then◌else◌, flat_map, range_with_len, option_to_list, eq-eqb, ne_eqb, Sample, page_at}
 use Rattle.heard_events.proofs.Common.{pages_from, pages_left, paging_bound, paging_stream, frame_own_bits, IsTimed, Tuning, Mark}
-use Rattle.heard_events.proofs.Common.{SpelledPage, bits_up_to, pages_at, flat_map_ext_range, bits_before, Stream, is_in_file, nat_le}
+use Rattle.heard_events.proofs.Common.{SpelledPage, bits_up_to, pages_at, flat_map_ext_range, paging_bits_before, Stream, is_in_file}
+use Rattle.heard_events.proofs.Common.{nat_le}
 use Rattle.heard_events.proofs.Common.{and_parts, leb-true, places, flat_map_ext_filter}
 use Rattle.heard_events.proofs.Arrivals.{AreKnown, AreLater, Arrivals, NoneNow, frames_in, left, next_left, none_now, Stays, StaysWithin}
 use Rattle.heard_events.proofs.Arrivals.{stays_at, stays_now, AreOrdered, frames_ordered, own_bits_sooner, none_inside, StaysBefore}
@@ -20,21 +21,21 @@ page_frames t channel m = frames_in t.count (paging_stream t channel m) paging_b
 -- with those of one frame more
 pub bits_before_more : (count : ℕ) (xs : List Sample) (s : Stream) (k : ℕ) →
     is_in_file count s k ≡ true →
-    bits_before count xs s (k + 1) ≡ bits_before count xs s k ++ frame_own_bits count xs s k
-unfolding bits_before
+    paging_bits_before count xs s (k + 1) ≡ paging_bits_before count xs s k ++ frame_own_bits count xs s k
+unfolding paging_bits_before
 bits_before_more count xs s k inside =
     given_more (is_in_file count s) (frame_own_bits count xs s) k inside
 
 pub bits_before_none : (count : ℕ) (xs : List Sample) (s : Stream) (low k : ℕ) →
-    IsTimed count s low → k ≤ low → bits_before count xs s k ≡ []
-unfolding bits_before
+    IsTimed count s low → k ≤ low → paging_bits_before count xs s k ≡ []
+unfolding paging_bits_before
 bits_before_none count xs s low k timed h =
     ap (flat_map (frame_own_bits count xs s)) (none_inside s timed k h)
 
 -- they stay where more samples follow
 pub bits_before_sooner : {count low : ℕ} (s : Stream) → s.waits ≡ true → IsTimed count s low →
-    StaysBefore (frames_in count s paging_bound) (λ xs. bits_before count xs s)
-unfolding bits_before
+    StaysBefore (frames_in count s paging_bound) (λ xs. paging_bits_before count xs s)
+unfolding paging_bits_before
 bits_before_sooner {count} s waits timed =
     stays_before (frames_in count s paging_bound) (λ xs. frame_own_bits count xs s)
     (own_bits_sooner s waits timed)
@@ -111,7 +112,7 @@ module _ (t : Tuning) (channel : ℕ) (m : Mark) where
     page_sooner i xs ys k inside known =
         let s = paging_stream t channel m in
         let own = own_bits_sooner s refl timed xs ys k inside known in
-        let before = stays_at frames ordered (λ xs. bits_before t.count xs s)
+        let before = stays_at frames ordered (λ xs. paging_bits_before t.count xs s)
         (bits_before_sooner s refl timed) xs ys k inside known in
         rw (before, own) refl
 

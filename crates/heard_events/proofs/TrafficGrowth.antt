@@ -5,7 +5,8 @@ use Rattle.heard_events.proofs.Common.{all_noted, page_event, pages_behind, mess
 use Rattle.heard_events.proofs.Common.{frame_known, has_frame, Tuning, Event, Leg, Mark, Traffic, flat_map-places-more, flat_map_ext_places}
 use Rattle.heard_events.proofs.Common.{sym, ends_now, frames_bound, message_events, message_heard, map_ext_filter_places, ℤ, power_bit}
 use Rattle.heard_events.proofs.Common.{decoded, group_sums, Data, all_fingers, on_subchannel, subchannels, unscrambled, power_bits_at}
-use Rattle.heard_events.proofs.Common.{decoded_at, subchannel_sums, replaced_in, stream_of, traffic_start, option_to_list, message_at}
+use Rattle.heard_events.proofs.Common.{decoded_at, subchannel_sums, replaced_in, stream_of, traffic_start, option_to_list}
+use Rattle.heard_events.proofs.Common.{signaling_message_at}
 use Rattle.heard_events.proofs.Common.{signal_at, signal_of, signals_before, Decoded}
 use Rattle.heard_events.specs.TrafficEvents.{frame_heard}
 use Rattle.heard_events.proofs.Arrivals.{Arrivals, NoneNow, next_left, none_left, none_now, now_parts, StaysWithin, stays_now, given_more}
@@ -102,8 +103,8 @@ module _ (t : Tuning) (traffic : Traffic) (m : Mark) (legs : ℕ → List Leg) w
       ap (λ (d : Decoded). option_to_list (signal_of d)) (decoded_sooner xs ys k inside known))
 
   pub message_sooner : AreCloseAll t legs →
-      Stays (frames_of t traffic m legs) (message_at t traffic m legs)
-  unfolding message_at signal_at
+      Stays (frames_of t traffic m legs) (signaling_message_at t traffic m legs)
+  unfolding signaling_message_at signal_at
   message_sooner close xs ys k inside known =
       let before = stays_at frames (frames_follow close) (signals_before t traffic m legs)
       signals_sooner xs ys k inside known in

@@ -13,12 +13,12 @@ fingers_in None = []
 fingers_in (Some fingers) = fingers
 
 -- for how many fingers active pilots may want room: three for the reference's, one for another
-abbrev pub places_for : Leg → ℕ
-places_for leg = if leg.reference then 3 else 1
+abbrev pub finger_places : Leg → ℕ
+finger_places leg = if leg.reference then 3 else 1
 
 abbrev pub places_in : List Leg → ℕ
 places_in [] = 0
-places_in (leg ∷ legs) = places_for leg + places_in legs
+places_in (leg ∷ legs) = finger_places leg + places_in legs
 
 -- each pilot's finger is close, and has a Walsh row
 abbrev pub legs_close : List Leg → Bool

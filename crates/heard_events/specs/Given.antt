@@ -5,9 +5,9 @@ use Rattle.heard_events.specs.declared.event.Event.TheVariants.{Pilot, Sync, Pag
 use Rattle.heard_events.specs.declared.event.Event.TheVariants.{Sets}
 
 -- one or none, as a list
-abbrev pub listed : Option Event → List Event
-listed None = []
-listed (Some event) = event ∷ []
+abbrev pub event_list : Option Event → List Event
+event_list None = []
+event_list (Some event) = event ∷ []
 
 -- how many samples had been taken at an event's end; the pilot is found before any is given to the
 -- handset

@@ -8,7 +8,7 @@ use Rattle.chip_core.specs.declared.sample.Sample.{Sample}
 use Rattle.pilot_sets.specs.PilotSets.{candidate_pilots, pilots}
 use Rattle.pilot_sets.specs.Standing.{Standing, change_at, due_at, new_standing, shown, stepped}
 use Rattle.pilot_sets.specs.Standing.{window_number}
-use Rattle.pilot_sets.specs.Tables.{window_chips}
+use Rattle.pilot_sets.specs.Tables.{search_window_chips}
 use Rattle.pilot_sets.specs.declared.change.SetChange.{SetChange}
 use Rattle.pilot_sets.specs.declared.strengths.Strength.{Strength}
 use Rattle.rake_finger.specs.Strengths as measured
@@ -35,7 +35,8 @@ moment_place m j = m.sample + superframe_chips * j
 -- how strong a pilot is in the 512 samples before a place, in the window that the sets have for it
 abbrev pub strength_at : Mark → List Sample → ℕ → Standing → ℕ → measured.Strength
 strength_at m samples place s p =
-    strength_before samples (pilot_phase m p (pos 0)) (window_chips (window_number s.sets p)) place
+    strength_before samples (pilot_phase m p (pos 0)) (search_window_chips (window_number s.sets p))
+    place
 
 abbrev pub pilot_strength : Mark → List Sample → ℕ → Standing → ℕ → Strength
 pilot_strength m samples place s p = record {

@@ -16,11 +16,11 @@ use Rattle.heard_events.specs.Tuning.{Tuning}
 use Rattle.heard_events.specs.declared.event.Event.{Event}
 use Rattle.heard_events.specs.declared.event.Event.TheVariants.{Paging}
 use Rattle.heard_events.specs.declared.mark.Mark.{Mark}
-use Rattle.heard_events.specs.SpelledMessages.{SpelledPage, spelled, spelled_in}
+use Rattle.heard_events.specs.SpelledMessages.{SpelledPage, as_spelled, spelled_in}
 
 -- a capsule, and the message that it spells
-abbrev pub with_page : List Bool → Option PagingMessage → Option SpelledPage
-with_page = spelled
+abbrev pub as_spelled_page : List Bool → Option PagingMessage → Option SpelledPage
+as_spelled_page = as_spelled
 
 -- a capsule with a fault gives none
 abbrev pub page_in : CheckForm → Option (List Bool) → Option SpelledPage
@@ -28,14 +28,14 @@ page_in form = spelled_in (paging_reading form)
 
 -- The bits of the frames in the file before frame `next`, which all follow one another: a mark lies
 -- so far after the file's first sample that frame 0 is in the file where a later one is.
-unfoldable pub bits_before : ℕ → List Sample → Stream → ℕ → List Bool
-bits_before count samples s next =
+unfoldable pub paging_bits_before : ℕ → List Sample → Stream → ℕ → List Bool
+paging_bits_before count samples s next =
     flat_map (frame_own_bits count samples s) (filter (is_in_file count s) (places next))
 
 -- the bits up to bit i of frame k, with that bit
 unfoldable pub bits_up_to : ℕ → List Sample → Stream → ℕ → ℕ → List Bool
 bits_up_to count samples s k i =
-    bits_before count samples s k ++ take (i + 1) (frame_own_bits count samples s k)
+    paging_bits_before count samples s k ++ take (i + 1) (frame_own_bits count samples s k)
 
 -- what bit i of frame k of a paging channel completes
 unfoldable pub page_at : Tuning → ℕ → Mark → List Sample → ℕ → ℕ → Option SpelledPage

@@ -47,9 +47,9 @@ capsule_with before None = None
 capsule_with before (Some signal) = capsule_ending (map piece (before ++ signal ∷ []))
 
 -- the message that frame k completes
-unfoldable pub message_at : Tuning → Traffic → Mark → (ℕ → List Leg) → List Sample → ℕ →
+unfoldable pub signaling_message_at : Tuning → Traffic → Mark → (ℕ → List Leg) → List Sample → ℕ →
     Option SpelledSignal
-message_at t traffic m legs samples k =
+signaling_message_at t traffic m legs samples k =
     signal_in t.check16
     (capsule_with (signals_before t traffic m legs samples k)
     (signal_at t traffic m legs samples k))
@@ -62,7 +62,7 @@ message_events n (Some heard) = events.Traffic n heard.capsule heard.message ∷
 abbrev pub message_heard : Tuning → Traffic → Mark → (ℕ → List Leg) → List Sample → ℕ → ℕ →
     List Event
 message_heard t traffic m legs samples n k =
-    message_events n (message_at t traffic m legs samples k)
+    message_events n (signaling_message_at t traffic m legs samples k)
 
 -- those of the frames that end when just n samples have been taken
 unfoldable pub messages_by : Tuning → Traffic → Mark → (ℕ → List Leg) → List Sample → ℕ →

@@ -31,8 +31,8 @@ raw_at t channel m samples k =
     softs samples s.fingers s.form (frame_start s k)
 
 -- what is received of frame k, by these soft values
-abbrev pub frame_of : Tuning → Channel → Mark → ℕ → List ℤ → SoftFrame
-frame_of t channel m k raw =
+abbrev pub soft_frame_of : Tuning → Channel → Mark → ℕ → List ℤ → SoftFrame
+soft_frame_of t channel m k raw =
     let s = channel_stream t channel m in
     record {
       number = k;
@@ -42,7 +42,7 @@ frame_of t channel m k raw =
     }
 
 abbrev pub soft_frame : Tuning → Channel → Mark → List Sample → ℕ → SoftFrame
-soft_frame t channel m samples k = frame_of t channel m k (raw_at t channel m samples k)
+soft_frame t channel m samples k = soft_frame_of t channel m k (raw_at t channel m samples k)
 
 -- the frames in the file that end within the first n samples, in order
 unfoldable pub frames_within : Tuning → Channel → Mark → List Sample → ℕ → List SoftFrame

@@ -16,12 +16,12 @@ abbrev pub SpelledSignal : Type 0
 SpelledSignal = Spelled Message
 
 -- a capsule, and the message that it spells
-abbrev pub spelled : {M : Type 0} → List Bool → Option M → Option (Spelled M)
-spelled capsule None = None
-spelled capsule (Some message) = Some (record { capsule = capsule; message = message })
+abbrev pub as_spelled : {M : Type 0} → List Bool → Option M → Option (Spelled M)
+as_spelled capsule None = None
+as_spelled capsule (Some message) = Some (record { capsule = capsule; message = message })
 
 -- what is read of a capsule; one with a fault gives none
 abbrev pub spelled_in : {M : Type 0} → (List Bool → Option M) → Option (List Bool) →
     Option (Spelled M)
 spelled_in reading None = None
-spelled_in reading (Some capsule) = spelled capsule (reading capsule)
+spelled_in reading (Some capsule) = as_spelled capsule (reading capsule)

@@ -7,7 +7,7 @@ use Rattle.rake_finger.specs.Streams.{span_first, span_frames, span_softs}
 
 -- frames of a channel, which are decoded as it is sent
 abbrev pub Stream : Type 0
-Stream = streams.Stream Channel
+Stream = streams.StreamOf Channel
 
 -- frame k's own bits of its span's best codeword
 unfoldable pub frame_own_bits : ℕ → List Sample → Stream → ℕ → List Bool

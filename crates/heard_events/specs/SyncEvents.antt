@@ -12,7 +12,7 @@ use Rattle.heard_events.specs.Streams.{frame_own_bits}
 use Rattle.heard_events.specs.Tuning.{Tuning, sync_stream, sync_bound}
 use Rattle.heard_events.specs.declared.event.Event.{Event}
 use Rattle.heard_events.specs.declared.event.Event.TheVariants.{Sync}
-use Rattle.heard_events.specs.SpelledMessages.{SpelledMessage, spelled, spelled_in}
+use Rattle.heard_events.specs.SpelledMessages.{SpelledMessage, as_spelled, spelled_in}
 
 -- the frames in the file before frame `next`
 unfoldable pub frames_before : Tuning → List Sample → ℕ → List (List Bool)
@@ -26,7 +26,7 @@ sync_capsule_at t samples k = capsule_ending (map piece (frames_before t samples
 
 -- a capsule, and the message that it spells
 abbrev pub with_message : List Bool → Option SyncFields → Option SpelledMessage
-with_message = spelled
+with_message = as_spelled
 
 abbrev pub heard_in : CheckForm → Option (List Bool) → Option SpelledMessage
 heard_in form = spelled_in (sync_reading form)

@@ -3,7 +3,7 @@
 ghost use Rattle.std.specs.Prelude.{◌≡◌, ◌<◌, ◌≤◌, ◌+◌, ◌++◌, ◌∷◌, [], true, length, take};
 ghost use Rattle.rake_finger.specs.Near.{all_close, have_rows, is_close};
 ghost use Rattle.heard_events.specs.Close.{fingers_in, legs_close, legs_rows};
-ghost use Rattle.heard_events.specs.Close.{places_for, places_in};
+ghost use Rattle.heard_events.specs.Close.{finger_places, places_in};
 ghost use Rattle.heard_events.specs.Legs.{all_fingers, leg_fingers};
 
 use crate::leg::Leg;
@@ -31,7 +31,7 @@ fn with_finger(fingers: Option<Fingers>, finger: Finger) -> Option<Fingers>
 /// A list with the fingers of one active pilot more, where the reference base station is at a phase
 /// and near it.
 fn with_leg(fingers: Option<Fingers>, leg: &Leg, phase: Phase, near: &Near) -> Option<Fingers>
-    requires few { length (fingers_in fingers) + places_for leg.now ≤ 8 }
+    requires few { length (fingers_in fingers) + finger_places leg.now ≤ 8 }
     requires most { near.now.count ≤ 3 }
     ensures value { fingers_in result ≡ fingers_in fingers
         ++ leg_fingers phase (take near.now.count near.now.deltas) leg.now }

@@ -4,14 +4,14 @@ ghost use Rattle.std.specs.Prelude.{◌≡◌, ◌≤◌, [], ◌∷◌, ◌++�
 ghost use Rattle.std.specs.Prelude.{length, map, IfSome};
 ghost use Rattle.std.specs.List.{list_any};
 ghost use Rattle.std.specs.Option.{option_to_list};
-ghost use Rattle.heard_events.specs.Given.{at_of, listed};
+ghost use Rattle.heard_events.specs.Given.{at_of, event_list};
 ghost use Rattle.heard_events.specs.declared.event.Event.{Event as TheEvent};
 ghost use Rattle.heard_events.specs.Marks.{sets_mark};
 ghost use Rattle.heard_events.specs.PagingEvents.{page_event, page_in};
 ghost use Rattle.heard_events.specs.Signaling.{capsule_with, message_events, signal_in, signal_of};
 ghost use Rattle.heard_events.specs.SyncEvents.{events_of, heard_in};
 ghost use Rattle.heard_events.specs.TrafficEvents.{frame_event};
-ghost use Rattle.quality_bits.specs.Pieces.{StandsFor};
+ghost use Rattle.quality_bits.specs.Pieces.{CapsuleStandsFor};
 ghost use Rattle.quality_bits.specs.TrafficCodewords.{information_of};
 
 use crate::event::Event;
@@ -80,9 +80,9 @@ pub fn hear_signal(
     check: CheckForm,
 ) -> Option<Spelled<TrafficMessage>>
     requires { length frame.now.bits ≡ information_of frame.now.rate }
-    ensures framed { (signals : List (List Bool)) → StandsFor framer.old signals →
-        StandsFor framer.new (signals ++ option_to_list (signal_of frame.now)) }
-    ensures message { (signals : List (List Bool)) → StandsFor framer.old signals →
+    ensures framed { (signals : List (List Bool)) → CapsuleStandsFor framer.old signals →
+        CapsuleStandsFor framer.new (signals ++ option_to_list (signal_of frame.now)) }
+    ensures message { (signals : List (List Bool)) → CapsuleStandsFor framer.old signals →
         result ≡ signal_in check (capsule_with signals (signal_of frame.now)) }
 {
     let signal = signal_of(frame)?;
@@ -115,9 +115,9 @@ pub fn event_of(told: &Spelled<SyncMessage>, at: u64) -> Event
 /// The event of a message of the paging channel, where there is one, when so many samples have been
 /// taken.
 pub fn event_of_page(page: Option<Spelled<PagingMessage>>, at: u64) -> Option<Event>
-    ensures value { listed result ≡ map (page_event at) (option_to_list page) }
+    ensures value { event_list result ≡ map (page_event at) (option_to_list page) }
     ensures ends { IfSome result (λ event. at_of event ≡ at) }
-    ensures unset { list_any sets_mark (listed result) ≡ false }
+    ensures unset { list_any sets_mark (event_list result) ≡ false }
 {
     let page = page?;
     Some(Event::Paging {

@@ -5,7 +5,7 @@ ghost use Rattle.std.specs.Prelude.{map, sum_by, unsigned_abs};
 ghost use Rattle.std.specs.List.{All};
 ghost use Rattle.std.specs.List.Sorted.{IsStrictlyIncreasing};
 ghost use Rattle.chip_core.specs.declared.sample.Sample.{Sample};
-ghost use Rattle.frame_decoder.specs.TrafficFrames.{subchannels};
+ghost use Rattle.frame_decoder.specs.TrafficFrames.{summed_subchannels};
 ghost use Rattle.heard_events.specs.Legs.{all_fingers, has_subchannel, on_subchannel};
 ghost use Rattle.heard_events.specs.Legs.{subchannels as subchannels_of};
 ghost use Rattle.heard_events.specs.LegSofts.{IsHeldFrom, sums_on};
@@ -95,7 +95,7 @@ pub fn power_softs(
     requires small { sum_by unsigned_abs all.now ≤ 3 * 2 ^ 60 }
     requires below { All (λ place. place < 384) replaced.now }
     requires rising { IsStrictlyIncreasing replaced.now }
-    ensures value { (heard : List Sample) → HoldsLast ring.now heard → subchannels result
+    ensures value { (heard : List Sample) → HoldsLast ring.now heard → summed_subchannels result
         ≡ map
         (sums_on heard phase (take near.now.count near.now.deltas) legs.now start replaced.now)
         (subchannels_of legs.now) }

@@ -32,7 +32,7 @@ impl SetsKeeper {
     ghost use Rattle.std.specs.List.{list_any};
     ghost use Rattle.chip_core.specs.declared.sample.Sample.{Sample};
     ghost use Rattle.heard_events.specs.Close.{legs_close, legs_rows, places_in};
-    ghost use Rattle.heard_events.specs.Given.{at_of, listed};
+    ghost use Rattle.heard_events.specs.Given.{at_of, event_list};
     ghost use Rattle.heard_events.specs.Legs.{leg_of, legs_of};
     ghost use Rattle.heard_events.specs.Marks.{sets_mark};
     ghost use Rattle.heard_events.specs.Moments.{moment_events, moment_place, passed, sets_events};
@@ -172,10 +172,10 @@ impl SetsKeeper {
         } }
         ensures passes { (heard : List Sample) → HoldsLast ring.now heard →
             (self.new.sets ≡ passed self.old.mark heard (self.old.passed + 1) self.old.sets)
-            × (listed result
+            × (event_list result
             ≡ sets_events self.old.mark heard (self.old.passed + 1) self.old.sets) }
         ensures ends { IfSome result (λ event. at_of event ≡ ring.now.taken) }
-        ensures unset { list_any sets_mark (listed result) ≡ false }
+        ensures unset { list_any sets_mark (event_list result) ≡ false }
         ensures sound { IsSoundKeeper self.new }
     {
         let place = ring.taken();
@@ -192,10 +192,10 @@ impl SetsKeeper {
     fn sets_event(&self, at: u64, time: u64, change: SetChange) -> Option<Event>
         requires at { at ≡ moment_place self.now.mark self.now.passed }
         requires time { time ≡ self.now.mark.time + self.now.passed }
-        ensures value { listed result
+        ensures value { event_list result
             ≡ moment_events self.now.mark self.now.passed change self.now.sets }
         ensures ends { IfSome result (λ event. at_of event ≡ at) }
-        ensures unset { list_any sets_mark (listed result) ≡ false }
+        ensures unset { list_any sets_mark (event_list result) ≡ false }
     {
         if !change.changed && !change.report {
             return None;

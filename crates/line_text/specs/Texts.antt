@@ -16,14 +16,15 @@ unfoldable pub padded : List Bool → List Bool
 padded bits = bits ++ replicate (8 * octet_count bits - length bits) false
 
 -- the first so many octets, each the number that its bits spell
-unfoldable pub octets : ℕ → List Bool → List ℕ
-octets zero bits = []
-octets (suc count) bits = number (take 8 bits) ∷ octets count (drop 8 bits)
+unfoldable pub packed_octets : ℕ → List Bool → List ℕ
+packed_octets zero bits = []
+packed_octets (suc count) bits = number (take 8 bits) ∷ packed_octets count (drop 8 bits)
 
 -- `N:HEX`: how many bits, and two lower case digits for each octet of the padded bits
 unfoldable pub bit_text : List Bool → List ℕ
 bit_text bits =
-    decimal (length bits) ++ codes ":" ++ encode_lower (octets (octet_count bits) (padded bits))
+    decimal (length bits) ++ codes ":" ++ encode_lower
+    (packed_octets (octet_count bits) (padded bits))
 
 -- the last eleven of the sixteen lower case hex digits of 64 bits: all that a state of 42 bits
 -- needs
@@ -43,5 +44,5 @@ unfoldable pub digits_of : List Bool → List ℕ
 digits_of bits = flat_map digit_of bits
 
 -- what stands before the value of a field
-abbrev pub named : List ℕ → List ℕ
-named name = codes " " ++ name ++ codes "="
+abbrev pub spaced_key : List ℕ → List ℕ
+spaced_key name = codes " " ++ name ++ codes "="

@@ -1,16 +1,17 @@
 -- What scores and columns of choices stand for: the codewords into a state, one after another.
 use Rattle.list_viterbi.proofs.Common.{◌≡◌, ℕ, zero, suc, ◌+◌, ◌*◌, ◌/◌, ◌%◌, ◌<◌, ◌≤◌, Bool, List, [], ◌∷◌, ◌++◌, length, get_or, map}
 use Rattle.list_viterbi.proofs.Common.{refl, sym, ap, subst, ◌∙◌, arith, ℤ, ◌+ℤ◌, nat_le, All, All-nil, All-cons, All-head, All-tail}
-use Rattle.list_viterbi.proofs.Common.{binary, low_bits, gain_by, code_of, code_gains, Entry, score_in, extended_by, list_from, list_into}
+use Rattle.list_viterbi.proofs.Common.{binary, low_bits, gain_by, lane_code_of, code_gains, Entry, entry_score, entry_extended_by}
+use Rattle.list_viterbi.proofs.Common.{list_from, list_into}
 use Rattle.list_viterbi.proofs.Common.{Pick, pick_score, picks_from, picks_by, picks_into, pointer_of, HasChoices, HasPicks, back_of}
-use Rattle.list_viterbi.proofs.Common.{state_before, place_before, origin, path}
+use Rattle.list_viterbi.proofs.Common.{list_state_before, place_before, list_origin, list_path}
 use Rattle.list_viterbi.proofs.Pairs.{Pairs, merge_pairs, merge_most}
 
 -- a place in a state's list leads back to the entry's codeword
 abbrev pub Traces : List (List ℕ) → ℕ → ℕ → ℕ → Entry → Type 0
 Traces columns n t place e =
-    (path columns n t place ≡ e.word.bits)
-    × (binary 8 e.word.start ≡ low_bits 8 (origin columns n t place))
+    (list_path columns n t place ≡ e.word.bits)
+    × (binary 8 e.word.start ≡ low_bits 8 (list_origin columns n t place))
 
 -- scores and the places from one on lead back to entries
 abbrev pub Agrees : List (List ℕ) → ℕ → ℕ → ℕ → List ℤ → List Entry → Type 0
@@ -41,24 +42,24 @@ same_back n columns columns' t place h =
     ap (λ (r : List ℕ). pointer_of (get_or r t 0) (place % 16)) (h n (omega arith))
 
 same_path : (n : ℕ) (columns columns' : List (List ℕ)) (t place : ℕ) → Same n columns columns' →
-    path columns' n t place ≡ path columns n t place
-unfolding path
+    list_path columns' n t place ≡ list_path columns n t place
+unfolding list_path
 same_path zero columns columns' t place h = refl
 same_path (suc n) columns columns' t place h =
-    ap (λ (b : ℕ). path columns' n (2 * (t % 128) + b % 2) (b / 2) ++ nat_le 128 t ∷ [])
+    ap (λ (b : ℕ). list_path columns' n (2 * (t % 128) + b % 2) (b / 2) ++ nat_le 128 t ∷ [])
     (same_back n columns columns' t place h)
     ∙ ap (λ (r : List Bool). r ++ nat_le 128 t ∷ [])
-    (same_path n columns columns' (state_before columns n t place) (place_before columns n t place)
+    (same_path n columns columns' (list_state_before columns n t place) (place_before columns n t place)
     (λ j b. h j (omega (arith, b))))
 
 same_origin : (n : ℕ) (columns columns' : List (List ℕ)) (t place : ℕ) → Same n columns columns' →
-    origin columns' n t place ≡ origin columns n t place
-unfolding origin
+    list_origin columns' n t place ≡ list_origin columns n t place
+unfolding list_origin
 same_origin zero columns columns' t place h = refl
 same_origin (suc n) columns columns' t place h =
-    ap (λ (b : ℕ). origin columns' n (2 * (t % 128) + b % 2) (b / 2))
+    ap (λ (b : ℕ). list_origin columns' n (2 * (t % 128) + b % 2) (b / 2))
     (same_back n columns columns' t place h)
-    ∙ same_origin n columns columns' (state_before columns n t place) (place_before columns n t place)
+    ∙ same_origin n columns columns' (list_state_before columns n t place) (place_before columns n t place)
     (λ j b. h j (omega (arith, b)))
 
 pub same_agrees : (n : ℕ) (columns columns' : List (List ℕ)) (t place : ℕ) (ss : List ℤ)
@@ -83,8 +84,8 @@ same_agrees n columns columns' t place (s ∷ ss) (e ∷ es) same h = (
 abbrev PickTraces : List (List ℕ) → ℕ → ℕ → Pick → Entry → Type 0
 PickTraces columns n t p e =
     (p.score ≡ e.score)
-    × ((path columns n (2 * (t % 128) + p.back % 2) (p.back / 2) ++ nat_le 128 t ∷ [] ≡ e.word.bits)
-    × (binary 8 e.word.start ≡ low_bits 8 (origin columns n (2 * (t % 128) + p.back % 2)
+    × ((list_path columns n (2 * (t % 128) + p.back % 2) (p.back / 2) ++ nat_le 128 t ∷ [] ≡ e.word.bits)
+    × (binary 8 e.word.start ≡ low_bits 8 (list_origin columns n (2 * (t % 128) + p.back % 2)
     (p.back / 2))))
 
 oldest_of : (place oldest : ℕ) → oldest < 2 → (2 * place + oldest) % 2 ≡ oldest
@@ -96,7 +97,7 @@ place_of place oldest two = omega (arith, two)
 picks_pairs : (columns : List (List ℕ)) (n t oldest : ℕ) (gain : ℤ) (place : ℕ) (ss : List ℤ)
     (es : List Entry) → oldest < 2 → Agrees columns n (2 * (t % 128) + oldest) place ss es →
     Pairs (PickTraces columns n t) (picks_from oldest gain place ss)
-    (map (extended_by (nat_le 128 t) gain) es)
+    (map (entry_extended_by (nat_le 128 t) gain) es)
 picks_pairs columns n t oldest gain place [] [] two h = tt
 picks_pairs columns n t oldest gain place [] (e ∷ es) two h = absurd h
 picks_pairs columns n t oldest gain place (s ∷ ss) [] two h = absurd h
@@ -119,7 +120,7 @@ unfolding picks_by list_into list_from
 into_pairs columns n k t first second scores column below each =
     let gains = code_gains first second t below in
     rw (gains.0, gains.1)
-    (merge_pairs (PickTraces columns n t) pick_score score_in (λ p e h. h.0) k _ _ _ _
+    (merge_pairs (PickTraces columns n t) pick_score entry_score (λ p e h. h.0) k _ _ _ _
     (picks_pairs columns n t 0 _ 0 (get_or scores (2 * (t % 128) + 0) [])
     (get_or column (2 * (t % 128) + 0) []) (omega arith)
     (each (2 * (t % 128) + 0) (omega arith)))
@@ -131,7 +132,7 @@ pairs_agree : (columns : List (List ℕ)) (n t place : ℕ) (ps : List Pick) (es
     place + length ps ≤ 16 → HasChoices (get_or (get_or columns n []) t 0) place ps →
     Pairs (PickTraces columns n t) ps es →
     Agrees columns (suc n) t place (map pick_score ps) es
-unfolding path origin
+unfolding list_path list_origin
 pairs_agree columns n t place [] [] few chosen h = tt
 pairs_agree columns n t place [] (e ∷ es) few chosen h = absurd h
 pairs_agree columns n t place (p ∷ ps) [] few chosen h = absurd h
@@ -154,7 +155,7 @@ pub step_agrees : (columns : List (List ℕ)) (n k t : ℕ) (first second : ℤ)
     Agrees columns (suc n) t 0 next (list_into column first second k t)
 step_agrees columns n k t first second scores column next below few each h =
     let ps = picks_into scores first second k t in
-    let most = picks_most scores (gain_by first second (code_of t)) k t in
+    let most = picks_most scores (gain_by first second (lane_code_of t)) k t in
     subst (λ (ss : List ℤ). Agrees columns (suc n) t 0 ss (list_into column first second k t)) (sym h.0)
     (pairs_agree columns n t 0 ps (list_into column first second k t) (omega (arith, most, few)) h.1
     (into_pairs columns n k t first second scores column below each))

@@ -52,7 +52,7 @@ pub use Rattle.viterbi.proofs.Steps.{seven_bits, state_parts, to_state, zero_fir
 pub use Rattle.viterbi.proofs.Tracing.{less_none}
 pub use Rattle.viterbi.proofs.Unique.{allowed_at, rank-codeword_at, step_of, codeword_at_allowed}
 pub use Rattle.viterbi.specs.Best.{HasStart, IsAllowed}
-pub use Rattle.viterbi.specs.Lanes.{Fit, code_of}
+pub use Rattle.viterbi.specs.Lanes.{Fit, lane_code_of}
 unfoldable pub use Rattle.viterbi.specs.Lanes.{gain_by, patterns, lane_codes}
 pub use Rattle.viterbi.specs.Columns.{taken_of}
 pub use Rattle.viterbi.specs.States.{low_bits}
@@ -70,12 +70,13 @@ pub use Rattle.list_viterbi.specs.Heads.{made_heads, odd_after, odd_after_two, o
 pub use Rattle.list_viterbi.specs.Heads.{taken_scores, taken_weights, two_from}
 unfoldable pub use Rattle.list_viterbi.specs.Heads.{four_choices, four_scores, column_of}
 pub use Rattle.list_viterbi.specs.Laws.{HaveBestFirst, HaveFirstPassing, NamesOneList}
-pub use Rattle.list_viterbi.specs.Merging.{HasRoom, Start, extended_by, score_in, second_is_next}
+pub use Rattle.list_viterbi.specs.Merging.{EntryHasRoom, EntriesStart, entry_extended_by, entry_score, second_is_next}
 unfoldable pub use Rattle.list_viterbi.specs.Merging.{first_lists, list_from, list_into, merge}
-pub use Rattle.list_viterbi.specs.Picks.{HasChoices, HasPicks, LeavesRoom, Pick, pick_score, picks_from, picks_into, pointer_of}
+pub use Rattle.list_viterbi.specs.Picks.{HasChoices, HasPicks, LeavesScoreRoom, Pick, pick_score, picks_from, picks_into, pointer_of}
 unfoldable pub use Rattle.list_viterbi.specs.Picks.{ones_below, picks_by}
-pub use Rattle.list_viterbi.specs.Columns.{back_of, entry_at, find_score, finds_from, place_before, start_scores, starts_at, state_before}
-unfoldable pub use Rattle.list_viterbi.specs.Columns.{first_finds, origin, path}
+pub use Rattle.list_viterbi.specs.Columns.{back_of, entry_at, find_score, finds_from, place_before, start_scores, starts_at}
+pub use Rattle.list_viterbi.specs.Columns.{list_state_before}
+unfoldable pub use Rattle.list_viterbi.specs.Columns.{first_finds, list_origin, list_path}
 pub use Rattle.list_viterbi.specs.Turns.{choose, even_left, greater_head, odd_first, odd_left}
 unfoldable pub use Rattle.list_viterbi.specs.Turns.{turned_choices, turned_scores}
 pub use Rattle.list_viterbi.specs.declared.finds.Find.{Find}

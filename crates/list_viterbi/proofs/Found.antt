@@ -2,7 +2,8 @@
 use Rattle.list_viterbi.proofs.Common.{◌≡◌, ℕ, zero, suc, ◌+◌, ◌/◌, ◌<◌, ◌≤◌, List, [], ◌∷◌, ◌++◌, length, get_or, map, take, refl, sym, ap}
 use Rattle.list_viterbi.proofs.Common.{subst, ◌∙◌, arith, ℤ, Some, slice_get, take_more, length-take, length-take-le, get_or_from_slice_get}
 use Rattle.list_viterbi.proofs.Common.{Codeword, score_of, IsAllowed, end_count, Ends, binary-turned, codewords_same, end_count_le, Entry}
-use Rattle.list_viterbi.proofs.Common.{Find, codeword_of, score_in, first_lists, origin, find_score, finds_from, first_finds, entry_at}
+use Rattle.list_viterbi.proofs.Common.{Find, codeword_of, entry_score, first_lists, list_origin, find_score, finds_from, first_finds}
+use Rattle.list_viterbi.proofs.Common.{entry_at}
 use Rattle.list_viterbi.proofs.Firsts.{Firsts}
 use Rattle.list_viterbi.proofs.Merges.{Lists, Scored}
 use Rattle.list_viterbi.proofs.Pairs.{Pairs, merge_pairs}
@@ -29,7 +30,7 @@ ends_pairs : (columns : List (List ℕ)) (n k count : ℕ) (scores : List (List 
 unfolding first_finds first_lists
 ends_pairs columns n k zero scores column most each = tt
 ends_pairs columns n k (suc count) scores column most each =
-    merge_pairs (FindTraces columns n) find_score score_in (λ f e h. h.0) k _ _ _ _
+    merge_pairs (FindTraces columns n) find_score entry_score (λ f e h. h.0) k _ _ _ _
     (ends_pairs columns n k count scores column (omega (arith, most)) each)
     (finds_pairs columns n count 0 (get_or scores count []) (get_or column count [])
     (each count (omega (arith, most))))
@@ -47,7 +48,7 @@ traced_pairs columns n (f ∷ fs) [] long h = absurd h
 traced_pairs columns n (f ∷ fs) (e ∷ es) long h = (
   (
     rw long
-        (codewords_same _ (codeword_of e) (binary-turned (origin columns n f.state f.rank) ∙ sym h.0.1.1)
+        (codewords_same _ (codeword_of e) (binary-turned (list_origin columns n f.state f.rank) ∙ sym h.0.1.1)
         h.0.1.0),
     h.0.0,
   ),

@@ -2,11 +2,11 @@
 use Rattle.list_viterbi.proofs.Common.{◌≡◌, ℕ, zero, suc, ◌+◌, ◌-◌, ◌*◌, ◌/◌, ◌%◌, ◌<◌, Bool, true, false, List, get_or, refl, sym, ap}
 use Rattle.list_viterbi.proofs.Common.{subst, ◌∙◌, ⊎_elim, arith, ℤ, pos, ◌-ℤ◌, nat_eq, list_all, range_with_len, ints, cases_eq, cases_lt}
 use Rattle.list_viterbi.proofs.Common.{nat_tests, list_all_at, get_or-range_with_len, length-range_with_len, lane_codes, patterns, gain_by}
-use Rattle.list_viterbi.proofs.Common.{code_of, HasPicks, picks_by, picks_into, four_of, column_of, PairPicked}
+use Rattle.list_viterbi.proofs.Common.{lane_code_of, HasPicks, picks_by, picks_into, four_of, column_of, PairPicked}
 
 -- two states' places in the table of gains
 pub code_two : (block l : ℕ) → l < 2 →
-    code_of (2 * block + l)
+    lane_code_of (2 * block + l)
     ≡ get_or lane_codes (8 * get_or patterns (block / 4) 0 + (2 * (block % 4) + l)) 0
 code_two block l b =
     let column : (2 * block + l) / 8 ≡ block / 4 = omega (arith, b) in
@@ -15,7 +15,7 @@ code_two block l b =
 
 -- both symbols of a state 128 on are turned
 abbrev is_turned : ℕ → Bool
-is_turned t = nat_eq (code_of (128 + t) + code_of t) 3
+is_turned t = nat_eq (lane_code_of (128 + t) + lane_code_of t) 3
 
 all_turned : list_all is_turned (range_with_len 0 128) ≡ true
 unfolding patterns lane_codes
@@ -24,9 +24,9 @@ all_turned = refl
 no_both : {A : Type 0} → true ≡ false → A
 no_both e = absurd (grind (arith, e))
 
-turned_code : (t : ℕ) → t < 128 → code_of (128 + t) + code_of t ≡ 3
+turned_code : (t : ℕ) → t < 128 → lane_code_of (128 + t) + lane_code_of t ≡ 3
 turned_code t b = by_test (is_turned t) refl where
-  by_test : (r : Bool) → is_turned t ≡ r → code_of (128 + t) + code_of t ≡ 3
+  by_test : (r : Bool) → is_turned t ≡ r → lane_code_of (128 + t) + lane_code_of t ≡ 3
   by_test true e = grind (arith, nat_tests, e)
   by_test false e =
       let place : get_or (range_with_len 0 128) t 0 ≡ t =
@@ -46,13 +46,13 @@ turned_gain f s (suc (suc (suc (suc c)))) d e = absurd (omega (arith, e))
 
 -- so that the bit takes off as much as it adds for the state 128 before
 pub upper_gain : (f s : ℤ) (t : ℕ) → t < 128 →
-    gain_by f s (code_of (128 + t)) ≡ pos 0 -ℤ gain_by f s (code_of t)
-upper_gain f s t b = turned_gain f s (code_of t) (code_of (128 + t)) (turned_code t b)
+    gain_by f s (lane_code_of (128 + t)) ≡ pos 0 -ℤ gain_by f s (lane_code_of t)
+upper_gain f s t b = turned_gain f s (lane_code_of t) (lane_code_of (128 + t)) (turned_code t b)
 
 -- one pair of blocks more
 pub pair_more : (ranks gain next new : List ℤ) (choices chosen : List ℕ) (f s : ℤ) (block : ℕ) →
     block < 64 →
-    ((l : ℕ) → l < 2 → get_or gain l (pos 0) ≡ gain_by f s (code_of (2 * block + l))) →
+    ((l : ℕ) → l < 2 → get_or gain l (pos 0) ≡ gain_by f s (lane_code_of (2 * block + l))) →
     ((t : ℕ) → t < 256 → t / 2 % 64 < block →
     HasPicks (four_of next t) (get_or choices t 0) (picks_into (column_of ranks) f s 4 t)) →
     PairPicked ranks gain block next new choices chosen →
@@ -72,10 +72,10 @@ pair_more ranks gain next new choices chosen f s block few gains before pair t b
     let is : 128 + 2 * block + l ≡ t = omega (arith, same, high, b) in
     let two : l < 2 = omega arith in
     let place : 128 + (2 * block + l) ≡ 128 + 2 * block + l = omega arith in
-    let gain_is : pos 0 -ℤ get_or gain l (pos 0) ≡ gain_by f s (code_of (128 + 2 * block + l)) =
+    let gain_is : pos 0 -ℤ get_or gain l (pos 0) ≡ gain_by f s (lane_code_of (128 + 2 * block + l)) =
     ap (λ (z : ℤ). pos 0 -ℤ z) (gains l two)
     ∙ sym (upper_gain f s (2 * block + l) (omega (arith, few, two)))
-    ∙ ap (λ (u : ℕ). gain_by f s (code_of u)) place in
+    ∙ ap (λ (u : ℕ). gain_by f s (lane_code_of u)) place in
     subst (λ (u : ℕ). HasPicks (four_of new u) (get_or chosen u 0)
     (picks_into (column_of ranks) f s 4 u)) is
     (subst (λ (g : ℤ). HasPicks (four_of new (128 + 2 * block + l))

@@ -1,7 +1,7 @@
 -- What the calls for four states make together.
 use Rattle.list_viterbi.proofs.Common.{◌≡◌, ℕ, ◌+◌, ◌*◌, ◌/◌, ◌%◌, ◌^◌, ◌<◌, ◌≤◌, List, [], ◌∷◌, length, get_or, sym, ap, subst, ◌∙◌, arith}
 use Rattle.list_viterbi.proofs.Common.{ℤ, pos, unsigned_abs, FitsSigned, to_z, of_z, w64, fits_signed_from_abs, SFits, gain_by}
-use Rattle.list_viterbi.proofs.Common.{code_of, lane_codes, patterns, kept, passed, pattern_small, gain_fits, Heads, HeadsFit, MadeFit}
+use Rattle.list_viterbi.proofs.Common.{lane_code_of, lane_codes, patterns, kept, passed, pattern_small, gain_fits, Heads, HeadsFit, MadeFit}
 use Rattle.list_viterbi.proofs.Common.{made_fit, made_heads, two_from, heads_from}
 use Rattle.list_viterbi.proofs.StateCodes.{gain_by_size, gain_passed}
 use Rattle.list_viterbi.proofs.LaneBlocks.{two_fit, lower_even, lower_odd, upper_even, upper_odd}
@@ -91,7 +91,7 @@ pub two_gains : (gains lanes : List ℤ) (f s : ℤ) (block : ℕ) → SFits w64
     ≡ gain_by (to_z w64 (of_z w64 f)) (to_z w64 (of_z w64 s)) (get_or lane_codes j 0)) →
     ((l : ℕ) → l < 2 → get_or lanes l (pos 0)
     ≡ get_or gains (8 * get_or patterns (block / 4) 0 + (2 * (block % 4) + l)) (pos 0)) →
-    (l : ℕ) → l < 2 → get_or lanes l (pos 0) ≡ gain_by f s (code_of (2 * block + l))
+    (l : ℕ) → l < 2 → get_or lanes l (pos 0) ≡ gain_by f s (lane_code_of (2 * block + l))
 two_gains gains lanes f s block p q few made read l b =
     let small = pattern_small (block / 4) (omega (arith, few)) in
     let place = 8 * get_or patterns (block / 4) 0 + (2 * (block % 4) + l) in
@@ -100,20 +100,20 @@ two_gains gains lanes f s block p q few made read l b =
 
 pub gains_kept : (lanes : List ℤ) (f s : ℤ) (block : ℕ) → length lanes ≡ 2 →
     unsigned_abs f + unsigned_abs s ≤ 2 ^ 62 →
-    ((l : ℕ) → l < 2 → get_or lanes l (pos 0) ≡ gain_by f s (code_of (2 * block + l))) →
+    ((l : ℕ) → l < 2 → get_or lanes l (pos 0) ≡ gain_by f s (lane_code_of (2 * block + l))) →
     passed lanes ≡ lanes
 gains_kept lanes f s block two pair are =
     two_kept lanes two
-    (λ l b. subst (FitsSigned w64) (sym (are l b)) (gain_fits f s (code_of (2 * block + l)) pair))
+    (λ l b. subst (FitsSigned w64) (sym (are l b)) (gain_fits f s (lane_code_of (2 * block + l)) pair))
 
 pub gains_room : (ranks lanes : List ℤ) (f s : ℤ) (block : ℕ) →
     ((t : ℕ) → t < 1024 →
     unsigned_abs (get_or ranks t (pos 0)) + (unsigned_abs f + unsigned_abs s) ≤ 2 ^ 62) →
-    ((l : ℕ) → l < 2 → get_or lanes l (pos 0) ≡ gain_by f s (code_of (2 * block + l))) →
+    ((l : ℕ) → l < 2 → get_or lanes l (pos 0) ≡ gain_by f s (lane_code_of (2 * block + l))) →
     LeaveRoom ranks lanes
 gains_room ranks lanes f s block room are l t b c =
     let most = room t c in
     let size : unsigned_abs (get_or lanes l (pos 0)) ≤ unsigned_abs f + unsigned_abs s =
     subst (λ (z : ℤ). unsigned_abs z ≤ unsigned_abs f + unsigned_abs s) (sym (are l b))
-    (gain_by_size f s (code_of (2 * block + l))) in
+    (gain_by_size f s (lane_code_of (2 * block + l))) in
     omega (arith, most, size)

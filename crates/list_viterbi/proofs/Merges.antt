@@ -2,7 +2,7 @@
 use Rattle.list_viterbi.proofs.Common.{◌≡◌, ℕ, zero, suc, ◌<◌, ◌≤◌, Bool, true, false, List, [], ◌∷◌, ◌++◌, length, map, refl, sym, ap}
 use Rattle.list_viterbi.proofs.Common.{subst, ◌∙◌, arith, ℤ, ◌+ℤ◌, ◌<ℤ◌, ◌≤ℤ◌, ◌⊎◌, ⊎_elim, inl, inr, int_lt, if◌then◌else◌, tested}
 use Rattle.list_viterbi.proofs.Common.{untested, Codeword, rank, score_of, IsBetter, pushed, Either, IsPushed, leads_both, rank_of-pushed}
-use Rattle.list_viterbi.proofs.Common.{stays_first, Entry, codeword_of, score_in, extended_by, merge}
+use Rattle.list_viterbi.proofs.Common.{stays_first, Entry, codeword_of, entry_score, entry_extended_by, merge}
 use Rattle.list_viterbi.proofs.Firsts.{After, IsHead, Firsts, same_firsts, better_trans, not_self}
 
 -- each entry has its codeword's score
@@ -106,7 +106,7 @@ takes softs One Two k x y left right false e order p p_score q q_score l r =
 pub merge_lists : (softs : List ℤ) (One Two : Codeword → Type 0) (k m n : ℕ) (xs ys : List Entry) →
     k ≤ m → k ≤ n → ComeBefore One Two →
     Lists softs One m xs → Lists softs Two n ys →
-    Lists softs (Either One Two) k (merge score_in k xs ys)
+    Lists softs (Either One Two) k (merge entry_score k xs ys)
 unfolding merge
 merge_lists softs One Two zero m n xs ys km kn order p q = (tt, tt)
 merge_lists softs One Two (suc k) zero n xs ys km kn order p q = absurd (omega (arith, km))
@@ -114,15 +114,15 @@ merge_lists softs One Two (suc k) (suc m) zero xs ys km kn order p q = absurd (o
 merge_lists softs One Two (suc k) (suc m) (suc n) [] [] km kn order p q =
     (λ w e. ⊎_elim (p.0 w) (q.0 w) e, tt)
 merge_lists softs One Two (suc k) (suc m) (suc n) [] (y ∷ ys) km kn order p q =
-    takes_second softs One Two k y (merge score_in k [] ys) q.0.0 q.1.0 (λ v o. absurd (p.0 v o))
+    takes_second softs One Two k y (merge entry_score k [] ys) q.0.0 q.1.0 (λ v o. absurd (p.0 v o))
     (merge_lists softs One (After (score_of softs) (codeword_of y) Two) k (suc m) n [] ys
     (omega (arith, km)) (omega (arith, kn)) (λ w v o t. order w v o t.0) p (q.0.1, q.1.1))
 merge_lists softs One Two (suc k) (suc m) (suc n) (x ∷ xs) [] km kn order p q =
-    takes_first softs One Two k x (merge score_in k xs []) p.0.0 p.1.0 (λ v t. absurd (q.0 v t))
+    takes_first softs One Two k x (merge entry_score k xs []) p.0.0 p.1.0 (λ v t. absurd (q.0 v t))
     (merge_lists softs (After (score_of softs) (codeword_of x) One) Two k m (suc n) xs []
     (omega (arith, km)) (omega (arith, kn)) (λ w v o t. order w v o.0 t) (p.0.1, p.1.1) q)
 merge_lists softs One Two (suc k) (suc m) (suc n) (x ∷ xs) (y ∷ ys) km kn order p q =
-    takes softs One Two k x y (merge score_in k xs (y ∷ ys)) (merge score_in k (x ∷ xs) ys)
+    takes softs One Two k x y (merge entry_score k xs (y ∷ ys)) (merge entry_score k (x ∷ xs) ys)
     (int_lt x.score y.score) refl order p.0.0 p.1.0 q.0.0 q.1.0
     (merge_lists softs (After (score_of softs) (codeword_of x) One) Two k m (suc n) xs (y ∷ ys)
     (omega (arith, km)) (omega (arith, kn)) (λ w v o t. order w v o.0 t) (p.0.1, p.1.1) q)
@@ -144,7 +144,7 @@ pub extended_lists : (softs : List ℤ) (Kind : Codeword → Type 0) (bit : Bool
     (es : List Entry) →
     ((w : Codeword) → Kind w → score_of softs (pushed w bit) ≡ score_of softs w +ℤ gain) →
     ((w : Codeword) → Kind w → length (w.start ++ w.bits) ≡ long) →
-    Lists softs Kind k es → Lists softs (IsPushed Kind bit) k (map (extended_by bit gain) es)
+    Lists softs Kind k es → Lists softs (IsPushed Kind bit) k (map (entry_extended_by bit gain) es)
 extended_lists softs Kind bit gain long zero [] gains longs h = (tt, tt)
 extended_lists softs Kind bit gain long (suc k) [] gains longs h = (λ w p. h.0 p.before p.kind, tt)
 extended_lists softs Kind bit gain long zero (e ∷ es) gains longs h = absurd h.0
@@ -169,7 +169,7 @@ extended_lists softs Kind bit gain long (suc k) (e ∷ es) gains longs h =
         },
         same_firsts score (IsPushed (After score a Kind) bit)
             (After score (pushed a bit) (IsPushed Kind bit)) k
-            (map codeword_of (map (extended_by bit gain) es))
+            (map codeword_of (map (entry_extended_by bit gain) es))
             (λ v p. (
               record { before = p.before; kind = p.kind.0; is = p.is },
               subst (IsBetter score (pushed a bit)) (sym p.is) (later p.before p.kind.0 p.kind.1),

@@ -1,7 +1,7 @@
 -- What the program's steps make, in the codewords of the picks.
 use Rattle.list_viterbi.proofs.Common.{◌≡◌, ℕ, ◌+◌, ◌*◌, ◌%◌, ◌^◌, ◌<◌, ◌≤◌, List, [], length, get_or, ap, set, subst, sym, ◌∙◌, arith, ℤ}
 use Rattle.list_viterbi.proofs.Common.{pos, ◌-ℤ◌, unsigned_abs, ⊎_elim, All, ints, cases_eq, get_or_read, get_or-set_same, get_or-set_other}
-use Rattle.list_viterbi.proofs.Common.{merge, pick_score, picks_from, picks_by, picks_into, HasPicks, LeavesRoom}
+use Rattle.list_viterbi.proofs.Common.{merge, pick_score, picks_from, picks_by, picks_into, HasPicks, LeavesScoreRoom}
 
 -- a list of the column
 pub item_at : (column : List (List ℤ)) (t oldest place : ℕ) (item : List ℤ) →
@@ -13,14 +13,14 @@ item_at column t oldest place item is within read =
 -- there is room in a list of the column
 pub item_room : (column : List (List ℤ)) (gain : ℤ) (place : ℕ) (item : List ℤ) →
     length column ≡ 256 → place < 256 →
-    ((t : ℕ) → t < 256 → All (LeavesRoom gain) (get_or column t [])) →
-    item ≡ get_or column place item → All (LeavesRoom gain) item
+    ((t : ℕ) → t < 256 → All (LeavesScoreRoom gain) (get_or column t [])) →
+    item ≡ get_or column place item → All (LeavesScoreRoom gain) item
 item_room column gain place item whole below room read =
-    subst (All (LeavesRoom gain))
+    subst (All (LeavesScoreRoom gain))
     (sym (get_or_read column place item (omega (arith, whole, below)) read [])) (room place below)
 
 pub turned_room : (gain turned : ℤ) (ss : List ℤ) → turned ≡ pos 0 -ℤ gain →
-    All (LeavesRoom gain) ss → All (LeavesRoom turned) ss
+    All (LeavesScoreRoom gain) ss → All (LeavesScoreRoom turned) ss
 turned_room gain turned ss is room = λ i d b.
     let here = room i d b in
     let same : unsigned_abs turned ≡ unsigned_abs gain = omega (arith, ints, is) in
@@ -49,7 +49,7 @@ by_made column gain turned k t place even odd scores choices is within read read
 pub gain_room : (f s gain : ℤ) (ss : List ℤ) →
     unsigned_abs gain ≤ unsigned_abs f + unsigned_abs s →
     All (λ x. unsigned_abs x + (unsigned_abs f + unsigned_abs s) ≤ 2 ^ 62) ss →
-    All (LeavesRoom gain) ss
+    All (LeavesScoreRoom gain) ss
 gain_room f s gain ss size room = λ i d b. let here = room i d b in omega (arith, here, size)
 
 -- one state more

@@ -3,7 +3,7 @@
 use Rattle.list_viterbi.proofs.Common.{◌≡◌, ℕ, zero, suc, ◌+◌, ◌*◌, ◌^◌, ◌<◌, ◌≤◌, Bool, List, [], ◌∷◌, length, map, get_or, ap, subst, sym}
 use Rattle.list_viterbi.proofs.Common.{arith, ℤ, pos, unsigned_abs, All, sum_by, All-nil, All-cons, Codeword, score_of, IsAllowed, low_bits}
 use Rattle.list_viterbi.proofs.Common.{end_count, Ends, pair_size, score_size, Into, end_count_le, Entry, AreFirst, HaveScores, codeword_of}
-use Rattle.list_viterbi.proofs.Common.{HasRoom, first_lists, ◌∙◌, min, length-map, codeword_count}
+use Rattle.list_viterbi.proofs.Common.{EntryHasRoom, first_lists, ◌∙◌, min, length-map, codeword_count}
 use Rattle.list_viterbi.proofs.Firsts.{After, are_first}
 use Rattle.list_viterbi.proofs.Merges.{Lists}
 use Rattle.list_viterbi.proofs.Places.{how_many}
@@ -22,7 +22,7 @@ each_of softs Kind (suc k) P (e ∷ es) f h =
 has_room : (softs : List ℤ) (ends : Ends) (n : ℕ) (state : List Bool) (e : Entry) →
     2 * n + 2 ≤ length softs → sum_by unsigned_abs softs ≤ 2 ^ 62 → n ≤ 576 →
     Into ends n state (codeword_of e) → e.score ≡ score_of softs (codeword_of e) →
-    HasRoom (get_or softs (2 * n) (pos 0)) (get_or softs (2 * n + 1) (pos 0)) e
+    EntryHasRoom (get_or softs (2 * n) (pos 0)) (get_or softs (2 * n + 1) (pos 0)) e
 has_room softs ends n state e room bound few is scored =
     let size = score_size softs (codeword_of e) n is.bits_long in
     let same : unsigned_abs e.score ≡ unsigned_abs (score_of softs (codeword_of e)) =
@@ -34,11 +34,11 @@ pub rooms : (softs : List ℤ) (ends : Ends) (k n : ℕ) (column : List (List En
     2 * n + 2 ≤ length softs → sum_by unsigned_abs softs ≤ 2 ^ 62 → n ≤ 576 →
     Listed softs ends k n column →
     (t : ℕ) → t < 256 →
-    All (HasRoom (get_or softs (2 * n) (pos 0)) (get_or softs (2 * n + 1) (pos 0)))
+    All (EntryHasRoom (get_or softs (2 * n) (pos 0)) (get_or softs (2 * n + 1) (pos 0)))
     (get_or column t [])
 rooms softs ends k n column room bound few listed t h =
     each_of softs (Into ends n (low_bits 8 t)) k
-    (HasRoom (get_or softs (2 * n) (pos 0)) (get_or softs (2 * n + 1) (pos 0))) (get_or column t [])
+    (EntryHasRoom (get_or softs (2 * n) (pos 0)) (get_or softs (2 * n + 1) (pos 0))) (get_or column t [])
     (λ e is scored. has_room softs ends n (low_bits 8 t) e room bound few is scored) (listed t h)
 
 -- what the lists of the last states give

@@ -3,7 +3,8 @@ use Rattle.list_viterbi.proofs.Common.{◌≡◌, ℕ, suc, ◌+◌, ◌*◌, �
 use Rattle.list_viterbi.proofs.Common.{take, refl, sym, subst, ◌∙◌, arith, ℤ, pos, unsigned_abs, nat_eq, if◌then◌else◌, All}
 use Rattle.list_viterbi.proofs.Common.{reverse_bits_onto, range_with_len, sum_by, get_or-set_same, get_or-set_other, get_or-take}
 use Rattle.list_viterbi.proofs.Common.{get_or-map-range_with_len, low_bits, HasStart, Ends, Zero, Free, binary-turned, Into, zero_start}
-use Rattle.list_viterbi.proofs.Common.{Entry, list_into, Start, picks_into, HasPicks, starts_at, start_scores, origin, path}
+use Rattle.list_viterbi.proofs.Common.{Entry, list_into, EntriesStart, picks_into, HasPicks, starts_at, start_scores, list_origin}
+use Rattle.list_viterbi.proofs.Common.{list_path}
 use Rattle.list_viterbi.proofs.Merges.{Lists}
 use Rattle.list_viterbi.proofs.Steps.{Listed, listed_start, list_into_lists}
 use Rattle.list_viterbi.proofs.Rooms.{rooms}
@@ -35,9 +36,9 @@ may_not Zero t below is h = let yes : nat_eq t 0 ≡ true = (zero_start t below)
       no_both e = grind (arith, e)
 may_not Free t below is h = grind (arith, is)
 
-list_starts : (ends : Ends) (t : ℕ) → t < 256 → Start ends t (start_list ends t)
+list_starts : (ends : Ends) (t : ℕ) → t < 256 → EntriesStart ends t (start_list ends t)
 list_starts ends t below = by_test (starts_at ends t) refl where
-  by_test : (b : Bool) → starts_at ends t ≡ b → Start ends t (if b then begun t ∷ [] else [])
+  by_test : (b : Bool) → starts_at ends t ≡ b → EntriesStart ends t (if b then begun t ∷ [] else [])
   by_test true is = (
     may_start ends t below is,
     record { start = binary-turned t; none = refl; nothing = refl },
@@ -46,7 +47,7 @@ list_starts ends t below = by_test (starts_at ends t) refl where
 
 start_agrees : (columns : List (List ℕ)) (ends : Ends) (t : ℕ) →
     Agrees columns 0 t 0 (start_scores ends t) (start_list ends t)
-unfolding path origin
+unfolding list_path list_origin
 start_agrees columns ends t = by_test (starts_at ends t) where
   by_test : (b : Bool) →
       Agrees columns 0 t 0 (if b then pos 0 ∷ [] else []) (if b then begun t ∷ [] else [])
@@ -60,7 +61,7 @@ pub stands_first : (softs : List ℤ) (ends : Ends) (k : ℕ) (scores : List (Li
 stands_first softs ends k scores columns some starts = record {
   column = map (start_list ends) (range_with_len 0 256);
   listed = listed_start softs ends k (map (start_list ends) (range_with_len 0 256)) some
-      (λ t b. subst (Start ends t) (sym (reads t b)) (list_starts ends t b));
+      (λ t b. subst (EntriesStart ends t) (sym (reads t b)) (list_starts ends t b));
   agree = λ t b. rw (reads t b, starts t b) (start_agrees columns ends t);
 } where
   reads : (t : ℕ) → t < 256 → get_or (map (start_list ends) (range_with_len 0 256)) t []

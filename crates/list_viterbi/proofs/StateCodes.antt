@@ -1,9 +1,9 @@
 -- What a bit adds, by a state's code.
 use Rattle.list_viterbi.proofs.Common.{◌≡◌, ℕ, ◌+◌, ◌*◌, ◌/◌, ◌%◌, ◌<◌, ◌≤◌, Bool, true, false, get_or, arith, sym, subst, ℤ, ◌+ℤ◌, ◌*ℤ◌}
-use Rattle.list_viterbi.proofs.Common.{unsigned_abs, to_z, of_z, w64, ints, to_z-of_z, SFits, bit_of, sign, patterns, code_of, gain_by}
+use Rattle.list_viterbi.proofs.Common.{unsigned_abs, to_z, of_z, w64, ints, to_z-of_z, SFits, bit_of, sign, patterns, lane_code_of, gain_by}
 use Rattle.list_viterbi.proofs.Common.{pattern_small, lane_small}
 
-pub code_small : (t : ℕ) → t < 256 → code_of t < 4
+pub code_small : (t : ℕ) → t < 256 → lane_code_of t < 4
 code_small t b =
     let few = pattern_small (t / 8) (omega (arith, b)) in
     lane_small (8 * get_or patterns (t / 8) 0 + t % 8) (omega (arith, few))

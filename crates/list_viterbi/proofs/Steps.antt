@@ -5,7 +5,7 @@ use Rattle.list_viterbi.proofs.Common.{state_after-none, Codeword, score_of, IsB
 use Rattle.list_viterbi.proofs.Common.{Ends, codewords_same, From, Into, before_below, first_soft, from_states, joined_long, newest_bit}
 use Rattle.list_viterbi.proofs.Common.{pushed_score, second_soft, seven_bits, state_parts, to_state, zero_first, IntoBelow, allowed_into}
 use Rattle.list_viterbi.proofs.Common.{below_first, below_or_last, into_allowed, more_below, no_bits, score-none, Entry, codeword_of}
-use Rattle.list_viterbi.proofs.Common.{list_from, list_into, first_lists, Start}
+use Rattle.list_viterbi.proofs.Common.{list_from, list_into, first_lists, EntriesStart}
 use Rattle.viterbi.proofs.Steps.{state_before}
 use Rattle.list_viterbi.proofs.Firsts.{After, not_self}
 use Rattle.list_viterbi.proofs.Merges.{Lists, same_lists, merge_lists, extended_lists}
@@ -44,7 +44,7 @@ list_into_lists softs ends k n column room listed t below =
     (from_list softs ends k n column room listed t below true)))
 
 -- BEFORE THE FIRST BIT
-pub start_lists : (softs : List ℤ) (ends : Ends) (k t : ℕ) (es : List Entry) → Start ends t es →
+pub start_lists : (softs : List ℤ) (ends : Ends) (k t : ℕ) (es : List Entry) → EntriesStart ends t es →
     Lists softs (Into ends 0 (low_bits 8 t)) (suc k) es
 start_lists softs ends k t [] h =
     (λ w is. h (subst (HasStart ends) (no_bits ends (low_bits 8 t) w is).0 is.begins), tt)
@@ -78,7 +78,7 @@ start_lists softs ends k t (e ∷ []) h =
       )
 
 pub listed_start : (softs : List ℤ) (ends : Ends) (k : ℕ) (column : List (List Entry)) → 0 < k →
-    ((t : ℕ) → t < 256 → Start ends t (get_or column t [])) → Listed softs ends k 0 column
+    ((t : ℕ) → t < 256 → EntriesStart ends t (get_or column t [])) → Listed softs ends k 0 column
 listed_start softs ends zero column some each t h = absurd (omega (arith, some))
 listed_start softs ends (suc k) column some each t h =
     start_lists softs ends k t (get_or column t []) (each t h)

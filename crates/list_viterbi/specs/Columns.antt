@@ -23,24 +23,25 @@ abbrev pub back_of : List (List ℕ) → ℕ → ℕ → ℕ → ℕ
 back_of columns n t place = pointer_of (get_or (get_or columns n []) t 0) (place % 16)
 
 -- the state before
-abbrev pub state_before : List (List ℕ) → ℕ → ℕ → ℕ → ℕ
-state_before columns n t place = 2 * (t % 128) + back_of columns n t place % 2
+abbrev pub list_state_before : List (List ℕ) → ℕ → ℕ → ℕ → ℕ
+list_state_before columns n t place = 2 * (t % 128) + back_of columns n t place % 2
 
 -- the place in its list
 abbrev pub place_before : List (List ℕ) → ℕ → ℕ → ℕ → ℕ
 place_before columns n t place = back_of columns n t place / 2
 
 -- the state before the first of n bits
-unfoldable pub origin : List (List ℕ) → ℕ → ℕ → ℕ → ℕ
-origin columns zero t place = t
-origin columns (suc n) t place =
-    origin columns n (state_before columns n t place) (place_before columns n t place)
+unfoldable pub list_origin : List (List ℕ) → ℕ → ℕ → ℕ → ℕ
+list_origin columns zero t place = t
+list_origin columns (suc n) t place =
+    list_origin columns n (list_state_before columns n t place) (place_before columns n t place)
 
 -- the n bits that lead to a place in a state's list
-unfoldable pub path : List (List ℕ) → ℕ → ℕ → ℕ → List Bool
-path columns zero t place = []
-path columns (suc n) t place =
-    path columns n (state_before columns n t place) (place_before columns n t place) ++ nat_le 128 t
+unfoldable pub list_path : List (List ℕ) → ℕ → ℕ → ℕ → List Bool
+list_path columns zero t place = []
+list_path columns (suc n) t place =
+    list_path columns n (list_state_before columns n t place) (place_before columns n t place)
+    ++ nat_le 128 t
     ∷ []
 
 abbrev pub find_score : Find → ℤ
@@ -62,8 +63,8 @@ first_finds column k (suc n) =
 abbrev pub entry_at : List (List ℕ) → Find → Entry
 entry_at columns f = record {
   word = record {
-    start = reverse_bits_onto 8 (origin columns (length columns) f.state f.rank) 0;
-    bits = path columns (length columns) f.state f.rank;
+    start = reverse_bits_onto 8 (list_origin columns (length columns) f.state f.rank) 0;
+    bits = list_path columns (length columns) f.state f.rank;
   };
   score = f.score;
 }

@@ -3,7 +3,7 @@ use Rattle.std.specs.Prelude.{ℕ, ◌≡◌, ◌≢◌, ◌≤◌, ◌/◌, Boo
 use Rattle.std.specs.Prelude.{All, AllPairs, Contains}
 use Rattle.chip_core.specs.Sums.{first_places}
 use Rattle.viterbi.specs.Codewords.{Codeword, score_of, IsBetter, codeword_at, codeword_count}
-use Rattle.viterbi.specs.Best.{IsAllowed, spelled}
+use Rattle.viterbi.specs.Best.{IsAllowed, spelled_codeword}
 use Rattle.viterbi.specs.declared.codeword.Ends.{Ends}
 use Rattle.list_viterbi.specs.declared.codewords.Entry.{Entry}
 
@@ -33,7 +33,7 @@ pub record IsFirstPassing (score : Codeword → ℤ) (Kind : Codeword → Type 0
 
 -- the codeword of an entry
 abbrev pub codeword_of : Entry → Codeword
-codeword_of e = spelled e.word
+codeword_of e = spelled_codeword e.word
 
 -- each entry has its codeword's score
 abbrev pub HaveScores : List ℤ → List Entry → Type 0

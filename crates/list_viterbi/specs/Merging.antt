@@ -10,12 +10,12 @@ use Rattle.viterbi.specs.declared.codeword.Ends.{Ends}
 use Rattle.list_viterbi.specs.declared.codewords.Entry.{Entry}
 
 -- an entry's score
-abbrev pub score_in : Entry → ℤ
-score_in e = e.score
+abbrev pub entry_score : Entry → ℤ
+entry_score e = e.score
 
 -- one bit more
-abbrev pub extended_by : Bool → ℤ → Entry → Entry
-extended_by bit gain e = record {
+abbrev pub entry_extended_by : Bool → ℤ → Entry → Entry
+entry_extended_by bit gain e = record {
   word = record { start = e.word.start; bits = e.word.bits ++ bit ∷ [] };
   score = e.score +ℤ gain;
 }
@@ -41,33 +41,35 @@ merge score (suc k) (x ∷ xs) (y ∷ ys) =
 -- from the state before with this oldest bit, 0 or 1
 unfoldable pub list_from : List (List Entry) → ℤ → ℤ → ℕ → ℕ → List Entry
 list_from column first second state oldest =
-    map (extended_by (nat_le 128 state) (gain_of first second (low_bits 9 (2 * state + oldest))))
+    map (entry_extended_by (nat_le 128 state)
+    (gain_of first second (low_bits 9 (2 * state + oldest))))
     (get_or column (2 * (state % 128) + oldest) [])
 
 -- the first k of both
 unfoldable pub list_into : List (List Entry) → ℤ → ℤ → ℕ → ℕ → List Entry
 list_into column first second k state =
-    merge score_in k (list_from column first second state 0) (list_from column first second state 1)
+    merge entry_score k (list_from column first second state 0)
+    (list_from column first second state 1)
 
 -- one bit more can be added
-abbrev pub HasRoom : ℤ → ℤ → Entry → Type 0
-HasRoom first second e =
+abbrev pub EntryHasRoom : ℤ → ℤ → Entry → Type 0
+EntryHasRoom first second e =
     (unsigned_abs e.score + (unsigned_abs first + unsigned_abs second) ≤ 2 ^ 62) ×
     (length e.word.bits < 1184)
 
 -- the codeword of no bits into a state
-pub record IsStart (state : ℕ) (e : Entry) : Type 0 where
+pub record IsStartEntry (state : ℕ) (e : Entry) : Type 0 where
   pub start : binary 8 e.word.start ≡ low_bits 8 state
   pub none : e.word.bits ≡ []
   pub nothing : e.score ≡ pos 0
 
 -- that codeword alone, or none where a codeword may not start from the state
-abbrev pub Start : Ends → ℕ → List Entry → Type 0
-Start ends state [] = ¬ (HasStart ends (low_bits 8 state))
-Start ends state (e ∷ []) = HasStart ends (low_bits 8 state) × IsStart state e
-Start ends state (e ∷ f ∷ es) = ⊥
+abbrev pub EntriesStart : Ends → ℕ → List Entry → Type 0
+EntriesStart ends state [] = ¬ (HasStart ends (low_bits 8 state))
+EntriesStart ends state (e ∷ []) = HasStart ends (low_bits 8 state) × IsStartEntry state e
+EntriesStart ends state (e ∷ f ∷ es) = ⊥
 
 -- the first k of the lists of the first so many states
 unfoldable pub first_lists : List (List Entry) → ℕ → ℕ → List Entry
 first_lists column k zero = []
-first_lists column k (suc n) = merge score_in k (first_lists column k n) (get_or column n [])
+first_lists column k (suc n) = merge entry_score k (first_lists column k n) (get_or column n [])

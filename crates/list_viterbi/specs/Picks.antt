@@ -2,7 +2,7 @@
 use Rattle.std.specs.Prelude.{ℕ, zero, suc, ◌+◌, ◌-◌, ◌*◌, ◌%◌, ◌^◌, ◌≤◌, ◌≡◌, List, [], ◌∷◌}
 use Rattle.std.specs.Prelude.{get_or, map, ℤ, pos, ◌+ℤ◌, ◌-ℤ◌, unsigned_abs, if◌then◌else◌}
 use Rattle.chip_core.specs.Bits.{bit_of, digit}
-use Rattle.viterbi.specs.Lanes.{gain_by, code_of}
+use Rattle.viterbi.specs.Lanes.{gain_by, lane_code_of}
 use Rattle.list_viterbi.specs.Merging.{merge}
 
 -- a codeword's score, and its pointer: twice its place in the list of the state before plus that
@@ -29,7 +29,7 @@ picks_by column gain k t =
 
 -- and by its two soft values
 abbrev pub picks_into : List (List ℤ) → ℤ → ℤ → ℕ → ℕ → List Pick
-picks_into column first second k t = picks_by column (gain_by first second (code_of t)) k t
+picks_into column first second k t = picks_by column (gain_by first second (lane_code_of t)) k t
 
 -- Choices are a number, bit r of which is the oldest bit of the state that codeword r comes from.
 
@@ -57,5 +57,5 @@ abbrev pub HasPicks : List ℤ → ℕ → List Pick → Type 0
 HasPicks scores choices picks = (scores ≡ map pick_score picks) × HasChoices choices 0 picks
 
 -- the gain can be added
-abbrev pub LeavesRoom : ℤ → ℤ → Type 0
-LeavesRoom gain s = unsigned_abs s + unsigned_abs gain ≤ 2 ^ 62
+abbrev pub LeavesScoreRoom : ℤ → ℤ → Type 0
+LeavesScoreRoom gain s = unsigned_abs s + unsigned_abs gain ≤ 2 ^ 62

@@ -1,7 +1,7 @@
 //! Codewords with their scores, in order.
 
 ghost use Rattle.std.specs.Prelude.{[], pos};
-ghost use Rattle.list_viterbi.specs.Merging.{score_in};
+ghost use Rattle.list_viterbi.specs.Merging.{entry_score};
 
 use crate::ranked::{Ranked, Scored};
 use chip_core::Bits;
@@ -19,7 +19,7 @@ pub struct Entry {
 impl Scored for Entry {
     ghost nothing = { record { word = record { start = 0; bits = [] }; score = pos 0 } };
 
-    ghost score = { score_in };
+    ghost score = { entry_score };
 
     fn nothing() -> Entry {
         let word = Codeword {

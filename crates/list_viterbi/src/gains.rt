@@ -3,7 +3,7 @@
 ghost use Rattle.std.specs.Prelude.{◌≡◌, ◌<◌, ◌+◌, ◌*◌, ◌/◌, ◌%◌, ℕ, length, get_or, pos};
 ghost use Rattle.std.specs.Prelude.{FitsSigned};
 ghost use Rattle.std.specs.Int.{w64};
-ghost use Rattle.viterbi.specs.Lanes.{code_of, patterns};
+ghost use Rattle.viterbi.specs.Lanes.{lane_code_of, patterns};
 
 use std::simd::prelude::*;
 use viterbi::symbol_gains::pattern_of;
@@ -16,7 +16,7 @@ const CODES: [u8; 32] = [
 
 /// A state's code.
 fn code_of(state: u8) -> usize
-    ensures value { result ≡ code_of state }
+    ensures value { result ≡ lane_code_of state }
     ensures small { result < 4 }
 {
     let pattern = pattern_of((state / 8) as usize);
@@ -25,7 +25,7 @@ fn code_of(state: u8) -> usize
 
 /// What a bit adds to the score of a codeword into a state, where the oldest bit is 0.
 pub fn gain_at(gains: &[i64; 4], state: u8) -> i64
-    ensures { result ≡ get_or gains.now (code_of state) (pos 0) }
+    ensures { result ≡ get_or gains.now (lane_code_of state) (pos 0) }
 {
     gains[code_of(state)]
 }

@@ -6,7 +6,7 @@ ghost use Rattle.chip_core.specs.Bits.{digit};
 ghost use Rattle.viterbi.specs.Columns.{taken_of};
 ghost use Rattle.list_viterbi.specs.Merging.{second_is_next, merge};
 ghost use Rattle.list_viterbi.specs.Picks.{pick_score, picks_from, picks_by, picks_into, HasPicks};
-ghost use Rattle.list_viterbi.specs.Picks.{LeavesRoom};
+ghost use Rattle.list_viterbi.specs.Picks.{LeavesScoreRoom};
 
 use crate::gains::gain_at;
 use crate::scores::Scores;
@@ -20,7 +20,7 @@ pub type Choices = [u32; 256];
 /// A codeword's score with what a bit adds to it.
 fn sum_at(scores: &Scores, i: u8, gain: i64) -> i64
     requires place { i < length scores.now }
-    requires room { All (LeavesRoom gain) scores.now }
+    requires room { All (LeavesScoreRoom gain) scores.now }
     ensures value { result ≡ get_or scores.now i (pos 0) +ℤ gain }
     ensures below { i < 16 }
 {
@@ -33,8 +33,8 @@ fn sum_at(scores: &Scores, i: u8, gain: i64) -> i64
 fn takes_odd(even: &Scores, i: u8, even_gain: i64, odd: &Scores, j: u8, odd_gain: i64) -> bool
     requires even_place { i ≤ length even.now }
     requires odd_place { j ≤ length odd.now }
-    requires even_room { All (LeavesRoom even_gain) even.now }
-    requires odd_room { All (LeavesRoom odd_gain) odd.now }
+    requires even_room { All (LeavesScoreRoom even_gain) even.now }
+    requires odd_room { All (LeavesScoreRoom odd_gain) odd.now }
     ensures { result ≡ second_is_next pick_score (drop i (picks_from 0 even_gain 0 even.now))
         (drop j (picks_from 1 odd_gain 0 odd.now)) }
 {
@@ -59,8 +59,8 @@ fn picked(
     scores: &mut Scores,
 ) -> u32
     requires few { k ≤ 16 }
-    requires even_room { All (LeavesRoom even_gain) even.now }
-    requires odd_room { All (LeavesRoom odd_gain) odd.now }
+    requires even_room { All (LeavesScoreRoom even_gain) even.now }
+    requires odd_room { All (LeavesScoreRoom odd_gain) odd.now }
     ensures { HasPicks scores.new result (merge pick_score k (picks_from 0 even_gain 0 even.now)
         (picks_from 1 odd_gain 0 odd.now)) }
 {
@@ -116,8 +116,8 @@ fn picked_of_full(
     requires few { k ≤ 16 }
     requires even_full { k ≤ length even.now }
     requires odd_full { k ≤ length odd.now }
-    requires even_room { All (LeavesRoom even_gain) even.now }
-    requires odd_room { All (LeavesRoom odd_gain) odd.now }
+    requires even_room { All (LeavesScoreRoom even_gain) even.now }
+    requires odd_room { All (LeavesScoreRoom odd_gain) odd.now }
     ensures { HasPicks scores.new result (merge pick_score k (picks_from 0 even_gain 0 even.now)
         (picks_from 1 odd_gain 0 odd.now)) }
 {
@@ -143,7 +143,7 @@ fn picked_into(column: &[Scores], state: u8, gain: i64, k: u8, scores: &mut Scor
     requires whole { length column.now ≡ 256 }
     requires few { k ≤ 16 }
     requires small { unsigned_abs gain ≤ 2 ^ 62 }
-    requires room { (t : ℕ) → t < 256 → All (LeavesRoom gain) (get_or column.now t []) }
+    requires room { (t : ℕ) → t < 256 → All (LeavesScoreRoom gain) (get_or column.now t []) }
     ensures { HasPicks scores.new result (picks_by column.now gain k state) }
 {
     let before = 2 * (state % 128) as usize;

@@ -3,7 +3,7 @@
 ghost use Rattle.std.specs.Prelude.{◌≡◌, ◌<◌, ◌≤◌, ◌%◌, length, get_or, map};
 ghost use Rattle.chip_core.specs.Bits.{bit_of};
 ghost use Rattle.list_viterbi.specs.Picks.{ones_below, pointer_of};
-ghost use Rattle.list_viterbi.specs.Columns.{path, origin, entry_at};
+ghost use Rattle.list_viterbi.specs.Columns.{list_path, list_origin, entry_at};
 
 use crate::codewords::{Codewords, Entry};
 use crate::finds::{Find, Finds};
@@ -50,8 +50,8 @@ fn pointer_at(choices: &Choices, state: u8, place: u8) -> u8
 /// is the state before them.
 fn trace_back(columns: &[Choices], end: u8, place: u8, bits: &mut [bool]) -> u8
     requires { length bits.old ≡ length columns.now }
-    ensures start { result ≡ origin columns.now (length columns.now) end place }
-    ensures bits { bits.new ≡ path columns.now (length columns.now) end place }
+    ensures start { result ≡ list_origin columns.now (length columns.now) end place }
+    ensures bits { bits.new ≡ list_path columns.now (length columns.now) end place }
 {
     let mut state = end;
     let mut rank = place;

@@ -6,7 +6,7 @@ use Rattle.quality_bits.specs.declared.rate.Rate.TheVariants.{R9600, R4800, R240
 use Rattle.viterbi.specs.Codewords.{Codeword}
 use Rattle.frame_decoder.specs.declared.formats.FrameFormat.{FrameFormat}
 use Rattle.frame_decoder.specs.declared.formats.DecodedFrame.{DecodedFrame}
-use Rattle.frame_decoder.specs.Formats.{format_of, score_in, codeword_in, candidate_of, candidate_in, preferred, rising, good_or}
+use Rattle.frame_decoder.specs.Formats.{format_of, score_in, codeword_in, candidate_of, candidate_in, preferred, rising_choice, good_or}
 use Rattle.frame_decoder.specs.Formats.{frame_of}
 use Rattle.frame_decoder.specs.TrafficFrames.{as_decoded, lower_rates, lower_formats, decoded, unreplaced}
 use Rattle.list_viterbi.specs.First.{codeword_of}
@@ -66,7 +66,7 @@ decoded_by k replaced softs kept format entries first eighth quarter half full l
     o ∙ best_score kept format entries first scores top ∙ ap (score_in kept format) same in
     let found : full ≡ candidate_of kept format (codewords_in k kept format) =
     e ∙ candidate_is k kept format entries codewords scores in
-    let best : all ≡ rising None (map choice (lower_rates ++ R9600 ∷ [])) =
+    let best : all ≡ rising_choice None (map choice (lower_rates ++ R9600 ∷ [])) =
     rw (n, m, l, a ∙ none_lower (choice R1200), b, d, found, at) refl in
     let shown : f ≡ listed_in k kept =
     g ∙ ap (λ (w : Codeword). good_or format w.bits own all) same ∙ rw (own_is, best, at) refl in

@@ -11,11 +11,11 @@ use Rattle.frame_decoder.proofs.FormatCodewords.{length-symbols_in}
 use Rattle.frame_decoder.proofs.SentFrames.{among}
 use Rattle.frame_decoder.proofs.SentFormats.{AreCodewords, signs_chosen}
 use Rattle.frame_decoder.proofs.SignedScores.{shown_keep, shown_score}
-use Rattle.listed_frame.specs.ListedFrames.{count_of, listed_codewords, listed}
+use Rattle.listed_frame.specs.ListedFrames.{listed_count_of, listed_codewords, listed}
 use Rattle.listed_frame.specs.Laws.{IsListedBySigns, IsSentFrameListed}
 use Rattle.listed_frame.proofs.FirstCodewords.{codewords_allowed, best_first}
 
-some_listed : (k : ℕ) (rate : Rate) → 0 < k → 0 < count_of k rate
+some_listed : (k : ℕ) (rate : Rate) → 0 < k → 0 < listed_count_of k rate
 some_listed k R9600 some = some
 some_listed k R4800 some = some
 some_listed k R2400 some = omega arith
@@ -23,8 +23,8 @@ some_listed k R1200 some = omega arith
 
 are_codewords : (k : ℕ) → 0 < k → (kept : List ℤ) → AreCodewords format_of kept (listed_codewords k kept)
 are_codewords k some kept = record {
-  allowed = λ r. codewords_allowed (count_of k r) kept (format_of r);
-  first = λ r. best_first (count_of k r) kept (format_of r) (some_listed k r some);
+  allowed = λ r. codewords_allowed (listed_count_of k r) kept (format_of r);
+  first = λ r. best_first (listed_count_of k r) kept (format_of r) (some_listed k r some);
 }
 
 pub signs_frame_listed : IsListedBySigns

@@ -9,7 +9,7 @@ use Rattle.frame_decoder.specs.declared.formats.FrameFormat.{FrameFormat}
 use Rattle.frame_decoder.specs.declared.formats.DecodedFrame.{DecodedFrame}
 use Rattle.frame_decoder.specs.declared.traffic.Decoded.{Decoded}
 use Rattle.frame_decoder.specs.Formats.{format_of, bits_in, score_in, codeword_in, candidate_of}
-use Rattle.frame_decoder.specs.Formats.{rising, good_or}
+use Rattle.frame_decoder.specs.Formats.{rising_choice, good_or}
 use Rattle.frame_decoder.specs.TrafficFrames.{as_decoded, lower_rates, unreplaced}
 use Rattle.list_viterbi.specs.First.{first_codewords}
 
@@ -19,14 +19,14 @@ codewords_in k softs format = first_codewords k (score_in softs format) Zero (bi
 
 -- how many codewords of a rate are listed: so many where its frames have a quality indicator, and
 -- else the best alone
-abbrev pub count_of : ℕ → Rate → ℕ
-count_of k R9600 = k
-count_of k R4800 = k
-count_of k R2400 = 1
-count_of k R1200 = 1
+abbrev pub listed_count_of : ℕ → Rate → ℕ
+listed_count_of k R9600 = k
+listed_count_of k R4800 = k
+listed_count_of k R2400 = 1
+listed_count_of k R1200 = 1
 
 abbrev pub listed_codewords : ℕ → List ℤ → Rate → List Codeword
-listed_codewords k softs rate = codewords_in (count_of k rate) softs (format_of rate)
+listed_codewords k softs rate = codewords_in (listed_count_of k rate) softs (format_of rate)
 
 -- a rate's candidate: the first of them whose quality indicator is right, if any
 abbrev pub listed_choice : ℕ → List ℤ → Rate → Option (DecodedFrame Rate)
@@ -37,7 +37,7 @@ abbrev pub listed_in : ℕ → List ℤ → DecodedFrame Rate
 listed_in k kept =
     let codeword = codeword_in kept (format_of R9600) in
     good_or (format_of R9600) codeword.bits (score_in kept (format_of R9600) codeword)
-    (rising None (map (listed_choice k kept) (lower_rates ++ R9600 ∷ [])))
+    (rising_choice None (map (listed_choice k kept) (lower_rates ++ R9600 ∷ [])))
 
 -- what is decoded of a frame's soft values, of which those at these places belong to power control
 -- bits, with the first k codewords of each rate that has a quality indicator

@@ -3,7 +3,7 @@ use Rattle.message_layout.proofs.Common.{◌≡◌, ℕ, zero, suc, ◌+◌, ◌
 use Rattle.message_layout.proofs.Common.{refl, sym, ap, subst, ◌∙◌, arith, append_assoc, length-append, nat_lt, slice_get, inl, inr, Some}
 use Rattle.message_layout.proofs.Common.{cases_Bool, lt-ltb, ltb-true, append-nil, drop_at, get_or-take, length-drop, length-map}
 use Rattle.message_layout.proofs.Common.{length-take-le, nil_from_length, get_or_from_slice_get, mul-le-mul_right, suc-mul, number, field}
-use Rattle.message_layout.proofs.Common.{spelled, in_widths, total, FieldsFit, number_at, values_at, column_at, Field, spelled-append}
+use Rattle.message_layout.proofs.Common.{spelled, in_widths, total_width, FieldsFit, number_at, values_at, column_at, Field, spelled-append}
 use Rattle.message_layout.proofs.Common.{dropped, length-column, length-in_widths, total_room, values_again, values_there, head, tail}
 use Rattle.message_layout.proofs.Common.{record_at, record_fields, height, share, shares, column_in, columns_in}
 
@@ -52,12 +52,12 @@ widths-take (w ∷ ws) (v ∷ vs) = ap (λ (fs : List Field). field w v ∷ fs) 
 
 -- a number stands at its place among the values
 pub in_row : (ws : List ℕ) (j : ℕ) (bits : List Bool) → j < length ws →
-    number_at (total (take j ws)) (get_or ws j 0) bits ≡ get_or (values_at ws bits) j 0
+    number_at (total_width (take j ws)) (get_or ws j 0) bits ≡ get_or (values_at ws bits) j 0
 in_row [] j bits h = absurd (omega (arith, h))
 in_row (w ∷ ws) zero bits h = refl
 in_row (w ∷ ws) (suc j) bits h =
-    let there : drop (w + total (take j ws)) bits ≡ drop (total (take j ws)) (drop w bits) =
-    sym (dropped (total (take j ws)) w bits) in
+    let there : drop (w + total_width (take j ws)) bits ≡ drop (total_width (take j ws)) (drop w bits) =
+    sym (dropped (total_width (take j ws)) w bits) in
     ap (λ (r : List Bool). number (take (get_or ws j 0) r)) there
     ∙ in_row ws j (drop w bits) (omega (arith, h))
 
@@ -88,7 +88,7 @@ three_long ws n columns long = sym (length-map columns length) ∙ ap length lon
 
 -- READ
 column_tail : (ws : List ℕ) (n j : ℕ) (bits : List Bool) →
-    tail (column_in ws (suc n) j bits) ≡ column_in ws n j (drop (total ws) bits)
+    tail (column_in ws (suc n) j bits) ≡ column_in ws n j (drop (total_width ws) bits)
 column_tail ws n j bits =
     elim (cases_Bool (nat_lt j (length ws))) [
       | inl t ↦ rw t refl
@@ -96,7 +96,7 @@ column_tail ws n j bits =
     ]
 
 columns_tail : (ws : List ℕ) (n : ℕ) (bits : List Bool) →
-    map tail (columns_in ws (suc n) bits) ≡ columns_in ws n (drop (total ws) bits)
+    map tail (columns_in ws (suc n) bits) ≡ columns_in ws n (drop (total_width ws) bits)
 columns_tail ws n bits =
     three _ _ _ _ _ _ (column_tail ws n 0 bits) (column_tail ws n 1 bits) (column_tail ws n 2 bits)
 
@@ -110,20 +110,20 @@ columns_head (a ∷ b ∷ []) n bits h =
 columns_head (a ∷ b ∷ c ∷ []) n bits h =
     let ws = a ∷ b ∷ c ∷ [] in
     ap (λ (v : ℕ). field a (number_at 0 a bits) ∷ field b v
-    ∷ field c (number_at (total (take 2 ws)) c bits) ∷ []) (in_row ws 1 bits (omega arith))
+    ∷ field c (number_at (total_width (take 2 ws)) c bits) ∷ []) (in_row ws 1 bits (omega arith))
     ∙ ap (λ (v : ℕ). field a (number_at 0 a bits) ∷ field b (get_or (values_at ws bits) 1 0)
     ∷ field c v ∷ []) (in_row ws 2 bits (omega arith))
 columns_head (a ∷ b ∷ c ∷ d ∷ ws) n bits h = absurd (omega (arith, h))
 
 -- what is read is spelled so
 pub records_there : (ws : List ℕ) (n : ℕ) (bits : List Bool) → length ws ≤ 3 →
-    n * total ws ≤ length bits →
+    n * total_width ws ≤ length bits →
     FieldsFit (record_fields ws n (columns_in ws n bits))
-    × (bits ≡ spelled (record_fields ws n (columns_in ws n bits)) ++ drop (n * total ws) bits)
+    × (bits ≡ spelled (record_fields ws n (columns_in ws n bits)) ++ drop (n * total_width ws) bits)
 records_there ws zero bits few room =
-    let none : 0 ≡ 0 * total ws = omega arith in (tt, ap (λ (k : ℕ). drop k bits) none)
+    let none : 0 ≡ 0 * total_width ws = omega arith in (tt, ap (λ (k : ℕ). drop k bits) none)
 records_there ws (suc n) bits few room =
-    let size = total ws in
+    let size = total_width ws in
     let next : suc n * size ≡ n * size + size = suc-mul n size in
     let all = columns_in ws (suc n) bits in
     let row = in_widths ws (values_at ws bits) in
@@ -150,7 +150,7 @@ pub column_long : (ws : List ℕ) (n j : ℕ) (bits : List Bool) →
     length (column_in ws n j bits) ≡ share ws n j
 column_long ws n j bits =
     elim (cases_Bool (nat_lt j (length ws))) [
-      | inl t ↦ rw t (length-column (total ws) (total (take j ws)) (get_or ws j 0) n bits)
+      | inl t ↦ rw t (length-column (total_width ws) (total_width (take j ws)) (get_or ws j 0) n bits)
       | inr f ↦ rw f refl
     ]
 
@@ -176,12 +176,12 @@ more_columns : (ws : List ℕ) (columns : List (List ℕ)) → length ws ≤ len
 more_columns ws columns room = omega (arith, room, length-map columns tail)
 
 pub length-records : (ws : List ℕ) (n : ℕ) (columns : List (List ℕ)) →
-    length ws ≤ length columns → length (spelled (record_fields ws n columns)) ≡ n * total ws
-length-records ws zero columns room = let none : 0 ≡ 0 * total ws = omega arith in none
+    length ws ≤ length columns → length (spelled (record_fields ws n columns)) ≡ n * total_width ws
+length-records ws zero columns room = let none : 0 ≡ 0 * total_width ws = omega arith in none
 length-records ws (suc n) columns room =
     let row = in_widths ws (map head columns) in
     let others = record_fields ws n (map tail columns) in
-    let one : length (spelled row) ≡ total ws =
+    let one : length (spelled row) ≡ total_width ws =
     ap (λ (fs : List Field). length (spelled fs)) (widths-take ws (map head columns))
     ∙ length-in_widths ws (sent ws columns) (length-sent ws columns room) in
     let both : length (spelled (row ++ others)) ≡ length (spelled row) + length (spelled others) =
@@ -191,7 +191,7 @@ length-records ws (suc n) columns room =
       both,
       one,
       length-records ws n (map tail columns) (more_columns ws columns room),
-      suc-mul n (total ws),
+      suc-mul n (total_width ws),
     )
 
 whole : (column : List ℕ) (n : ℕ) → length column ≡ suc n → head column ∷ tail column ≡ column
@@ -203,7 +203,7 @@ column_again : (ws : List ℕ) (n : ℕ) (columns : List (List ℕ)) (bits rest 
     length ws ≤ length columns → j < length ws →
     ((i : ℕ) → i < length ws → length (get_or columns i []) ≡ n) →
     FieldsFit (record_fields ws n columns) → bits ≡ spelled (record_fields ws n columns) ++ rest →
-    column_at (total ws) (total (take j ws)) (get_or ws j 0) n bits ≡ get_or columns j []
+    column_at (total_width ws) (total_width (take j ws)) (get_or ws j 0) n bits ≡ get_or columns j []
 column_again ws zero columns bits rest j room within long fit is =
     sym (nil_from_length (get_or columns j []) (long j within))
 column_again ws (suc n) columns bits rest j room within long fit is =
@@ -221,15 +221,15 @@ column_again ws (suc n) columns bits rest j room within long fit is =
     let all : length ws ≡ length vs = length-sent ws columns room in
     let values : values_at ws bits ≡ vs =
     ap (values_at ws) parts ∙ values_again ws vs behind all fits in
-    let first : number_at (total (take j ws)) (get_or ws j 0) bits ≡ head (get_or columns j []) =
+    let first : number_at (total_width (take j ws)) (get_or ws j 0) bits ≡ head (get_or columns j []) =
     in_row ws j bits within ∙ ap (λ (us : List ℕ). get_or us j 0) values
     ∙ get_or-take (length ws) heads j 0 within ∙ get-heads columns j in
-    let left : drop (total ws) bits ≡ behind =
-    ap (drop (total ws)) parts
-    ∙ drop_at (spelled (in_widths ws vs)) behind (total ws) (length-in_widths ws vs all) in
-    let later : column_at (total ws) (total (take j ws)) (get_or ws j 0) n (drop (total ws) bits)
+    let left : drop (total_width ws) bits ≡ behind =
+    ap (drop (total_width ws)) parts
+    ∙ drop_at (spelled (in_widths ws vs)) behind (total_width ws) (length-in_widths ws vs all) in
+    let later : column_at (total_width ws) (total_width (take j ws)) (get_or ws j 0) n (drop (total_width ws) bits)
     ≡ tail (get_or columns j []) =
-    column_again ws n (map tail columns) (drop (total ws) bits) rest j
+    column_again ws n (map tail columns) (drop (total_width ws) bits) rest j
     (more_columns ws columns room) within
     (λ i h. ap length (get-tails columns i)
     ∙ (let e : length (tail (get_or columns i [])) ≡ n =
@@ -326,7 +326,7 @@ record_room ws n i columns room h =
     ap (λ (fs : List Field). length (spelled fs)) (record_more ws i columns)
     ∙ ap length (spelled-append (record_fields ws i columns) row)
     ∙ length-append (spelled (record_fields ws i columns)) (spelled row) in
-    let most : (i + 1) * total ws ≤ n * total ws = mul-le-mul_right (total ws) (omega (arith, h)) in
+    let most : (i + 1) * total_width ws ≤ n * total_width ws = mul-le-mul_right (total_width ws) (omega (arith, h)) in
     omega (
       arith,
       next,
@@ -369,7 +369,7 @@ pub number_room : (ws vs : List ℕ) (j : ℕ) → length ws ≤ length vs → j
 number_room ws vs j room h =
     let even : length (take j ws) ≡ length (take j vs) =
     length-take-le j ws (omega (arith, h)) ∙ sym (length-take-le j vs (omega (arith, h, room))) in
-    let all : length (spelled (in_widths ws vs)) ≡ total ws =
+    let all : length (spelled (in_widths ws vs)) ≡ total_width ws =
     ap (λ (fs : List Field). length (spelled fs)) (widths-take ws vs)
     ∙ length-in_widths ws (take (length ws) vs) (sym (length-take-le (length ws) vs room)) in
     omega (arith, length-in_widths (take j ws) (take j vs) even, all, total_room ws j h)

@@ -17,7 +17,7 @@ pub use Rattle.chip_core.proofs.ValueLists.{number_front, taken_more, total_more
 pub use Rattle.chip_core.proofs.ValueLists.{width_within, write_room, written_more}
 unfoldable pub use Rattle.chip_core.specs.Bits.{binary}
 pub use Rattle.chip_core.specs.Bits.{number}
-pub use Rattle.chip_core.specs.Fields.{AreWidths, FieldsFit, field, in_widths, spelled, total}
+pub use Rattle.chip_core.specs.Fields.{AreWidths, FieldsFit, field, in_widths, spelled, total_width}
 pub use Rattle.chip_core.specs.Readings.{column_at, number_at, values_at}
 pub use Rattle.chip_core.specs.declared.field.Field.{Field}
 pub use Rattle.message_layout.specs.Contents.{column_in, columns_in, count_in, head, height, record_at, record_fields, share, shares, tail}
@@ -25,7 +25,7 @@ pub use Rattle.message_layout.specs.Plain.{plain_contents, plain_shape}
 pub use Rattle.message_layout.specs.Reading.{is_rest, mapped, present_at, records_from, rest_at, ◌>>=◌}
 unfoldable pub use Rattle.message_layout.specs.Reading.{fields_at, group_at, number_part, octets_at, part_at, presence_at, reading}
 unfoldable pub use Rattle.message_layout.specs.Reading.{records_at}
-pub use Rattle.message_layout.specs.Shapes.{AreNarrow, Shape, are_widths, ends, is_told, shape}
+pub use Rattle.message_layout.specs.Shapes.{AreNarrow, MessageShape, are_widths, ends, group_is_told, shape}
 unfoldable pub use Rattle.message_layout.specs.Shapes.{is_lawful}
 pub use Rattle.message_layout.specs.Spelling.{HaveValues, IsGroup, IsOf, IsRest, behind_group, group_fields, octet_bits, records_of}
 unfoldable pub use Rattle.message_layout.specs.Spelling.{spelling}

@@ -1,7 +1,8 @@
 -- What it says of a layout that it is lawful.
 use Rattle.message_layout.proofs.Common.{◌≡◌, ℕ, ◌+◌, ◌*◌, ◌/◌, ◌<◌, ◌≤◌, ◌&&◌, Bool, true, List, [], ◌∷◌, length, sym, ap, ◌∙◌, arith}
 use Rattle.message_layout.proofs.Common.{nat_le, Option, None, Some, and_parts, leb-true, ltb-true, div-mul-add, le-div, div-mul-le_self}
-use Rattle.message_layout.proofs.Common.{total, AreWidths, count_in, share, are_widths, ends, is_lawful, is_told, AreNarrow, Shape, IsRest}
+use Rattle.message_layout.proofs.Common.{total_width, AreWidths, count_in, share, are_widths, ends, is_lawful, group_is_told, AreNarrow}
+use Rattle.message_layout.proofs.Common.{MessageShape, IsRest}
 
 widths_from : (most : ℕ) (ws : List ℕ) → most ≤ 64 → are_widths most ws ≡ true → AreWidths ws
 widths_from most [] small h = tt
@@ -21,12 +22,12 @@ narrow_from (w ∷ ws) h =
     let two = and_parts (nat_le w 32) (are_widths 32 ws) one.1 in
     (leb-true w 32 two.0, narrow_from ws two.1)
 
-pub record Parts (s : Shape) : Type 0 where
+pub record Parts (s : MessageShape) : Type 0 where
   pub fixed : AreWidths s.fixed
   pub fixed_room : length s.fixed ≤ 48
   pub group : AreWidths s.group
   pub group_room : length s.group ≤ 48
-  pub told : is_told s.presence s.group ≡ true
+  pub told : group_is_told s.presence s.group ≡ true
   pub zeros : s.zeros ≤ 64
   pub count : s.count ≤ 8
   pub records : AreWidths s.records
@@ -34,7 +35,7 @@ pub record Parts (s : Shape) : Type 0 where
   pub few : length s.records ≤ 3
   pub last : ends s.records s.most ≡ true
 
-pub lawful : (s : Shape) → is_lawful s ≡ true → Parts s
+pub lawful : (s : MessageShape) → is_lawful s ≡ true → Parts s
 unfolding is_lawful
 lawful s h =
     let j = ends s.records s.most in
@@ -42,7 +43,7 @@ lawful s h =
     let g = are_widths 32 s.records && i in
     let f = nat_le s.count 8 && g in
     let e = nat_le s.zeros 64 && f in
-    let d = is_told s.presence s.group && e in
+    let d = group_is_told s.presence s.group && e in
     let c = nat_le (length s.group) 48 && d in
     let b = are_widths 64 s.group && c in
     let a = nat_le (length s.fixed) 48 && b in
@@ -50,7 +51,7 @@ lawful s h =
     let p1 = and_parts (nat_le (length s.fixed) 48) b p0.1 in
     let p2 = and_parts (are_widths 64 s.group) c p1.1 in
     let p3 = and_parts (nat_le (length s.group) 48) d p2.1 in
-    let p4 = and_parts (is_told s.presence s.group) e p3.1 in
+    let p4 = and_parts (group_is_told s.presence s.group) e p3.1 in
     let p5 = and_parts (nat_le s.zeros 64) f p4.1 in
     let p6 = and_parts (nat_le s.count 8) g p5.1 in
     let p7 = and_parts (are_widths 32 s.records) i p6.1 in
@@ -71,25 +72,25 @@ lawful s h =
 
 -- as many records as fit leave a rest that is shorter than one
 pub counted : (ws : List ℕ) (n : ℕ) (most : Option ℕ) (rest : List Bool) (all : ℕ) →
-    ends ws most ≡ true → IsRest most rest → n ≡ share ws n 0 → all ≡ n * total ws + length rest →
+    ends ws most ≡ true → IsRest most rest → n ≡ share ws n 0 → all ≡ n * total_width ws + length rest →
     count_in ws all ≡ n
 counted [] n most rest all last short none is = sym none
 counted (w ∷ ws) n None rest all last short none is = absurd (cc)
 counted (w ∷ ws) n (Some most) rest all last short none is =
-    let size = total (w ∷ ws) in
+    let size = total_width (w ∷ ws) in
     ap (λ (k : ℕ). k / size) is
     ∙ div-mul-add n size (length rest) (omega (arith, short, ltb-true most size last))
 
-pub count_room : (ws : List ℕ) (all : ℕ) → count_in ws all * total ws ≤ all
+pub count_room : (ws : List ℕ) (all : ℕ) → count_in ws all * total_width ws ≤ all
 count_room [] all = omega arith
-count_room (w ∷ ws) all = div-mul-le_self all (total (w ∷ ws))
+count_room (w ∷ ws) all = div-mul-le_self all (total_width (w ∷ ws))
 
 -- fewer bits hold no more records
 pub count_below : (ws : List ℕ) (few all : ℕ) → AreWidths ws → few ≤ all →
     count_in ws few ≤ count_in ws all
 count_below [] few all are h = omega arith
 count_below (w ∷ ws) few all are h =
-    let size = total (w ∷ ws) in
+    let size = total_width (w ∷ ws) in
     let some : 0 < size = omega (arith, are.0) in
     let most : few / size * size ≤ all = omega (arith, div-mul-le_self few size, h) in
     le-div (few / size) all size some most

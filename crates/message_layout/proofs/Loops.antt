@@ -2,7 +2,8 @@
 use Rattle.message_layout.proofs.Common.{◌≡◌, ℕ, zero, suc, ◌+◌, ◌*◌, ◌<◌, ◌≤◌, Bool, List, [], ◌∷◌, ◌++◌, length, get_or, map, take, drop}
 use Rattle.message_layout.proofs.Common.{refl, sym, ap, ◌∙◌, arith, inl, inr, Some, None, cases_lt, le-leb, leb-true, lt-leb, nat_le}
 use Rattle.message_layout.proofs.Common.{length-drop, length-take-le, take_all, number_part, mul-le-mul_right, column_in, length-map}
-use Rattle.message_layout.proofs.Common.{suc-mul, number, total, AreWidths, number_at, values_at, column_at, column_more, dropped, subst}
+use Rattle.message_layout.proofs.Common.{suc-mul, number, total_width, AreWidths, number_at, values_at, column_at, column_more, dropped}
+use Rattle.message_layout.proofs.Common.{subst}
 use Rattle.message_layout.proofs.Common.{true, false, ◌^◌, field, in_widths, FieldsFit, taken_more, length-column, total_more, total_room}
 use Rattle.message_layout.proofs.Common.{lt-ltb, values_more, width_within, count_in, fields_at}
 use Rattle.message_layout.proofs.Columns.{fit_append}
@@ -42,8 +43,8 @@ number_short w bits e =
 pub record FieldsRead (ws : List ℕ) (i : ℕ) (bits : List Bool) (values : List ℕ)
     (reader : List Bool) : Type 0 where
   pub read : values ≡ values_at (take i ws) bits
-  pub left : reader ≡ drop (total (take i ws)) bits
-  pub room : total (take i ws) ≤ length bits
+  pub left : reader ≡ drop (total_width (take i ws)) bits
+  pub room : total_width (take i ws) ≤ length bits
 
 pub length-values : (ws : List ℕ) (bits : List Bool) → length (values_at ws bits) ≡ length ws
 length-values [] bits = refl
@@ -54,7 +55,7 @@ pub fields_more : (ws : List ℕ) (i : ℕ) (bits reader after : List Bool) (val
     w ≤ length reader → n ≡ number (take w reader) → after ≡ drop w reader →
     next ≡ values ++ n ∷ [] → FieldsRead ws (i + 1) bits next after
 fields_more ws i bits reader after values next w n h so_far width room value behind push =
-    let place = total (take i ws) in
+    let place = total_width (take i ws) in
     let more = total_more ws i h in
     let there : n ≡ number_at place (get_or ws i 0) bits =
     value ∙ ap (λ (r : List Bool). number (take w r)) so_far.left
@@ -65,7 +66,7 @@ fields_more ws i bits reader after values next w n h so_far width room value beh
           ∙ sym (values_more ws i bits h);
       left = behind ∙ ap (drop w) so_far.left ∙ dropped w place bits
           ∙ ap (λ (k : ℕ). drop k bits)
-          (let e : place + w ≡ total (take (i + 1) ws) = omega (arith, more, width) in e);
+          (let e : place + w ≡ total_width (take (i + 1) ws) = omega (arith, more, width) in e);
       room = omega (
         arith,
         more,
@@ -83,18 +84,18 @@ pub fields_end : (ws : List ℕ) (i : ℕ) (bits reader : List Bool) (values : L
 unfolding fields_at
 fields_end ws i bits reader values h so_far =
     let all : take i ws ≡ ws = take_all i ws h in
-    let room : total ws ≤ length bits = rw all at so_far.room in
+    let room : total_width ws ≤ length bits = rw all at so_far.room in
     let read : values ≡ values_at ws bits = rw all at so_far.read in
-    let left : reader ≡ drop (total ws) bits = rw all at so_far.left in
-    rw (le-leb (total ws) (length bits) room, read, left) refl
+    let left : reader ≡ drop (total_width ws) bits = rw all at so_far.left in
+    rw (le-leb (total_width ws) (length bits) room, read, left) refl
 
 pub fields_stop : (ws : List ℕ) (i : ℕ) (bits reader : List Bool) (values : List ℕ) (w : ℕ) →
     i < length ws → FieldsRead ws i bits values reader → w ≡ get_or ws i 0 →
     length reader < w → None ≡ fields_at ws bits
 unfolding fields_at
 fields_stop ws i bits reader values w h so_far width short =
-    let place = total (take i ws) in
-    let long : length bits < total ws =
+    let place = total_width (take i ws) in
+    let long : length bits < total_width ws =
     omega (
       arith,
       total_room ws i h,
@@ -104,7 +105,7 @@ fields_stop ws i bits reader values w h so_far width short =
       ap length so_far.left,
       length-drop place bits,
     ) in
-    rw (lt-leb (total ws) (length bits) long) refl
+    rw (lt-leb (total_width ws) (length bits) long) refl
 
 pub fields_few : (ws : List ℕ) (i : ℕ) (bits reader : List Bool) (values : List ℕ) →
     i ≤ length ws → FieldsRead ws i bits values reader → length values ≡ i
@@ -113,7 +114,7 @@ fields_few ws i bits reader values h so_far =
 
 -- WIDTHS THAT ARE ADDED UP
 pub record Summed (ws : List ℕ) (i size : ℕ) : Type 0 where
-  pub value : size ≡ total (take i ws)
+  pub value : size ≡ total_width (take i ws)
   pub small : size ≤ 64 * i
 
 pub summed_more : (ws : List ℕ) (i size w next : ℕ) → AreWidths ws → i < length ws →
@@ -135,7 +136,7 @@ widths_taken f (row ∷ rows) (suc j) are = (are.0, are.1, widths_taken f rows j
 -- NUMBERS OF RECORDS
 -- as many records as fit end within the bits
 pub records_end : (ws : List ℕ) (count size few all : ℕ) → count ≡ count_in ws few →
-    size ≡ total ws → few ≡ all → count * size ≤ all
+    size ≡ total_width ws → few ≡ all → count * size ≤ all
 records_end ws count size few all a b c = rw (a, b, ← c) (count_room ws few)
 
 -- each of them ends within the bits
@@ -171,12 +172,12 @@ rows_taken f (row ∷ rows) (suc j) = ap (λ (ws : List ℕ). f row ∷ ws) (row
 
 -- those of a field
 pub column_read : {A : Type 0} (f : A → ℕ) (rows : List A) (j base size place width n : ℕ)
-    (bits : List Bool) (read : List ℕ) → j < length rows → size ≡ total (map f rows) →
-    place ≡ total (map f (take j rows)) → width ≡ get_or (map f rows) j 0 →
+    (bits : List Bool) (read : List ℕ) → j < length rows → size ≡ total_width (map f rows) →
+    place ≡ total_width (map f (take j rows)) → width ≡ get_or (map f rows) j 0 →
     read ≡ column_at size (base + place) width n bits →
     read ≡ column_in (map f rows) n j (drop base bits)
 column_read f rows j base size place width n bits read h all before wide e =
-    let there : place ≡ total (take j (map f rows)) = before ∙ ap total (rows_taken f rows j) in
+    let there : place ≡ total_width (take j (map f rows)) = before ∙ ap total_width (rows_taken f rows j) in
     let t = lt-ltb j (length (map f rows)) (omega (arith, h, length-map rows f)) in
     e ∙ column_moved base size place width n bits ∙ rw (t, all, there, wide) refl
 

@@ -1,12 +1,12 @@
 -- Messages as contents of a layout: spelled and read again.
 use Rattle.message_layout.proofs.Common.{◌≡◌, ℕ, ◌/◌, ◌%◌, ◌^◌, ◌<◌, Bool, true, false, cond, List, [], ◌∷◌, length, get_or, map, refl, sym}
 use Rattle.message_layout.proofs.Common.{ap, subst, ◌∙◌, arith, Option, Some, None, nil_from_length, height, shares, mapped, reading}
-use Rattle.message_layout.proofs.Common.{is_lawful, Shape, spelling, IsOf, Contents}
+use Rattle.message_layout.proofs.Common.{is_lawful, MessageShape, spelling, IsOf, Contents}
 use Rattle.message_layout.proofs.Columns.{get-lengths, three_columns, three_long}
 use Rattle.message_layout.proofs.Round.{reading_again, reading_there}
 
 -- a type of messages that are contents of a layout, and made of such
-pub record ByLayout {M : Type 0} (s : Shape) (into : M → Contents) (out : Contents → M) : Type 0 where
+pub record ByLayout {M : Type 0} (s : MessageShape) (into : M → Contents) (out : Contents → M) : Type 0 where
   pub lawful : is_lawful s ≡ true
   pub back : (c : Contents) → IsOf s c → into (out c) ≡ c
   pub made : (m : M) → out (into m) ≡ m
@@ -23,18 +23,18 @@ mapped_cond f true x = refl
 mapped_cond f false x = refl
 
 -- contents of the layout are those of the message that is made of them
-pub contents_in : {M : Type 0} (s : Shape) (into : M → Contents) (out : Contents → M) →
+pub contents_in : {M : Type 0} (s : MessageShape) (into : M → Contents) (out : Contents → M) →
     ByLayout s into out → (c : Contents) → IsOf s c → IsOf s (into (out c))
 contents_in s into out l c is = subst (IsOf s) (sym (l.back c is)) is
 
 -- what was spelled is read again, and what is read is spelled so
-pub read_again : {M : Type 0} (s : Shape) (into : M → Contents) (out : Contents → M) →
+pub read_again : {M : Type 0} (s : MessageShape) (into : M → Contents) (out : Contents → M) →
     ByLayout s into out → (m : M) → IsOf s (into m) →
     mapped out (reading s (spelling s (into m))) ≡ Some m
 read_again s into out l m is =
     ap (mapped out) (reading_again s (into m) l.lawful is) ∙ ap Some (l.made m)
 
-pub read_there : {M : Type 0} (s : Shape) (into : M → Contents) (out : Contents → M) →
+pub read_there : {M : Type 0} (s : MessageShape) (into : M → Contents) (out : Contents → M) →
     ByLayout s into out → (bits : List Bool) (m : M) → mapped out (reading s bits) ≡ Some m →
     IsOf s (into m) × (bits ≡ spelling s (into m))
 read_there {M} s into out l bits m e =

@@ -3,10 +3,11 @@ use Rattle.message_layout.proofs.Common.{◌≡◌, ℕ, zero, suc, ◌+◌, ◌
 use Rattle.message_layout.proofs.Common.{◌++◌, length, get_or, map, take, drop, refl, sym, ap, subst, ◌∙◌, arith, append_assoc}
 use Rattle.message_layout.proofs.Common.{length-append, nat_le, inl, inr, Option, Some, None, cases_Bool, eq-eqb, eqb-true, le-leb}
 use Rattle.message_layout.proofs.Common.{leb-true, lt-ltb, ltb-true, ne_eqb, append-nil, drop_at, length-take-le, take-append-drop, take_at}
-use Rattle.message_layout.proofs.Common.{pow_pos, binary, field, spelled, in_widths, total, FieldsFit, number_at, values_at, length-binary}
+use Rattle.message_layout.proofs.Common.{pow_pos, binary, field, spelled, in_widths, total_width, FieldsFit, number_at, values_at}
+use Rattle.message_layout.proofs.Common.{length-binary}
 use Rattle.message_layout.proofs.Common.{behind_front, front, length-in_widths, number_front, values_again, values_there, columns_in}
 use Rattle.message_layout.proofs.Common.{count_in, height, record_fields, share, shares, ◌>>=◌, fields_at, group_at, number_part, octets_at}
-use Rattle.message_layout.proofs.Common.{part_at, presence_at, present_at, records_at, records_from, ends, is_told, group_fields}
+use Rattle.message_layout.proofs.Common.{part_at, presence_at, present_at, records_at, records_from, ends, group_is_told, group_fields}
 use Rattle.message_layout.proofs.Common.{octet_bits, HaveValues, IsGroup, IsRest, Presence, Never, Flagged, UnlessLeft}
 use Rattle.message_layout.proofs.Columns.{column_long, columns_again, columns_long, get-lengths, length-records, records_there, three_long}
 use Rattle.message_layout.proofs.Lawful.{count_room, counted}
@@ -37,19 +38,19 @@ unfolding fields_at
 fields_again ws vs rest have =
     let first = spelled (in_widths ws vs) in
     let all : length ws ≡ length vs = sym have.all in
-    let long : length first ≡ total ws = length-in_widths ws vs all in
-    let room = le-leb (total ws) (length (first ++ rest))
+    let long : length first ≡ total_width ws = length-in_widths ws vs all in
+    let room = le-leb (total_width ws) (length (first ++ rest))
     (omega (arith, length-append first rest, long)) in
-    rw (room, values_again ws vs rest all have.fit, drop_at first rest (total ws) long) refl
+    rw (room, values_again ws vs rest all have.fit, drop_at first rest (total_width ws) long) refl
 
 pub fields_there : (ws vs : List ℕ) (bits after : List Bool) →
     fields_at ws bits ≡ Some (vs, after) →
     HaveValues ws vs × (bits ≡ spelled (in_widths ws vs) ++ after)
 unfolding fields_at
 fields_there ws vs bits after e =
-    let read : List ℕ × List Bool = (values_at ws bits, drop (total ws) bits) in
-    let g = guard_some (nat_le (total ws) (length bits)) (Some read) (vs, after) e in
-    let there = values_there ws bits (leb-true (total ws) (length bits) g.0) in
+    let read : List ℕ × List Bool = (values_at ws bits, drop (total_width ws) bits) in
+    let g = guard_some (nat_le (total_width ws) (length bits)) (Some read) (vs, after) e in
+    let there = values_there ws bits (leb-true (total_width ws) (length bits) g.0) in
     subst (λ (x : List ℕ × List Bool).
     HaveValues ws x.0 × (bits ≡ spelled (in_widths ws x.0) ++ x.1))
     (some_is read (vs, after) g.1) (record { all = there.0; fit = there.1 }, there.2)
@@ -94,7 +95,7 @@ one_bit : (n : ℕ) (rest : List Bool) →
 one_bit n rest = ap (λ (r : List Bool). r ++ rest) (append-nil (binary 1 n))
 
 pub group_again : (p : Presence) (ws : List ℕ) (group : Option (List ℕ)) (rest : List Bool) →
-    is_told p ws ≡ true → IsGroup p ws group (length rest) →
+    group_is_told p ws ≡ true → IsGroup p ws group (length rest) →
     group_at p ws (spelled (group_fields p ws group) ++ rest) ≡ Some (group, rest)
 unfolding group_at presence_at
 group_again Never ws group rest told is = rw is refl
@@ -112,8 +113,8 @@ group_again (UnlessLeft count) ws None rest told is =
     rw t refl
 group_again (UnlessLeft count) ws (Some vs) rest told is =
     let first = spelled (in_widths ws vs) in
-    let long : length first ≡ total ws = length-in_widths ws vs (sym is.all) in
-    let more = ltb-true count (total ws) told in
+    let long : length first ≡ total_width ws = length-in_widths ws vs (sym is.all) in
+    let more = ltb-true count (total_width ws) told in
     let f = ne_eqb (length (first ++ rest)) count
     (λ same. omega (arith, same, more, long, length-append first rest)) in
     rw (f, fields_again ws vs rest is) refl
@@ -236,7 +237,7 @@ records_part_again ws least most columns rest few last even fit some short =
     let first = spelled (record_fields ws n columns) in
     let bits = first ++ rest in
     let wide : length ws ≤ length columns = omega (arith, few, three_long ws n columns even) in
-    let long : length first ≡ n * total ws = length-records ws n columns wide in
+    let long : length first ≡ n * total_width ws = length-records ws n columns wide in
     let share_of : n ≡ share ws n 0 =
     sym (get-lengths columns 0) ∙ ap (λ (ls : List ℕ). get_or ls 0 0) even in
     let count : count_in ws (length bits) ≡ n =
@@ -245,7 +246,7 @@ records_part_again ws least most columns rest few last even fit some short =
     ap (λ (k : ℕ). records_from ws least k bits) count
     ∙ rw (
       le-leb least n some,
-      drop_at first rest (n * total ws) long,
+      drop_at first rest (n * total_width ws) long,
     ) (ap (λ (cs : List (List ℕ)). Some (cs, rest))
     (columns_again ws n columns rest few even fit))
 
@@ -272,7 +273,7 @@ unfolding records_at
 records_part_there ws least bits columns after few e =
     let n = count_in ws (length bits) in
     let all = columns_in ws n bits in
-    let read : List (List ℕ) × List Bool = (all, drop (n * total ws) bits) in
+    let read : List (List ℕ) × List Bool = (all, drop (n * total_width ws) bits) in
     let g = guard_some (nat_le least n) (Some read) (columns, after) e in
     let there = records_there ws n bits few (count_room ws (length bits)) in
     let tall : n ≡ height all = sym (height_read ws (length bits) bits) in

@@ -1,7 +1,8 @@
 -- Layouts without a group and without octets: what is said by one, spelled and read by places.
 use Rattle.message_layout.proofs.Common.{◌≡◌, ℕ, ◌+◌, ◌*◌, ◌≤◌, Bool, cond, List, [], ◌∷◌, ◌++◌, length, map, drop, refl, sym, ap, ◌∙◌}
 use Rattle.message_layout.proofs.Common.{nil_from_length, arith, nat_le, inl, inr, Option, Some, None, cases_Bool, le-leb, length-append}
-use Rattle.message_layout.proofs.Common.{length-drop, length-in_widths, field, spelled, in_widths, total, FieldsFit, Field, binary, height}
+use Rattle.message_layout.proofs.Common.{length-drop, length-in_widths, field, spelled, in_widths, total_width, FieldsFit, Field, binary}
+use Rattle.message_layout.proofs.Common.{height}
 use Rattle.message_layout.proofs.Common.{record_fields, shares, fields_at, group_at, number_part, octets_at, part_at, presence_at, reading}
 use Rattle.message_layout.proofs.Common.{records_at, plain_contents, plain_shape, spelling, count_in, HaveValues, IsOf, IsRest, Contents}
 pub use Rattle.message_layout.specs.Plain.{has_length, list_said}
@@ -35,7 +36,7 @@ plain_spelled ws rs least most vs cs rest = refl
 pub plain_length : (ws rs : List ℕ) (least : ℕ) (most : Option ℕ) (vs : List ℕ)
     (cs : List (List ℕ)) (rest : List Bool) → length ws ≡ length vs → length rs ≤ length cs →
     length (spelling (plain_shape ws rs least most) (plain_contents vs cs rest))
-    ≡ total ws + height cs * total rs + length rest
+    ≡ total_width ws + height cs * total_width rs + length rest
 plain_length ws rs least most vs cs rest all wide =
     let fields = spelled (in_widths ws vs) in
     let records = spelled (record_fields rs (height cs) cs) in
@@ -79,12 +80,12 @@ pub plain_reading : (ws rs : List ℕ) (least : ℕ) (most : Option ℕ) (bits :
     ≡ cond (has_length (plain_shape ws rs least most) (length bits)) (Some (list_said ws rs bits)) None
 unfolding reading fields_at group_at presence_at octets_at number_part part_at records_at
 plain_reading ws rs least most bits =
-    let w = drop (total ws) bits in
+    let w = drop (total_width ws) bits in
     let n = count_in rs (length w) in
     let any = le-leb 0 (length w) (omega arith) in
-    let behind = length-drop (total ws) bits in
-    let left = length-drop (n * total rs) w in
-    elim (cases_Bool (nat_le (total ws) (length bits))) [
+    let behind = length-drop (total_width ws) bits in
+    let left = length-drop (n * total_width rs) w in
+    elim (cases_Bool (nat_le (total_width ws) (length bits))) [
       | inr f ↦ rw f refl
       | inl t ↦
           elim (cases_Bool (nat_le least n)) [

@@ -1,7 +1,7 @@
 -- Contents, spelled and read again.
 use Rattle.message_layout.proofs.Common.{◌≡◌, ℕ, Bool, true, List, ◌++◌, length, refl, sym, ap, subst, ◌∙◌, Option, Some, None, IfSome}
 use Rattle.message_layout.proofs.Common.{le-leb, leb-true, spelled, in_widths, ◌>>=◌, fields_at, group_at, is_rest, octets_at, reading}
-use Rattle.message_layout.proofs.Common.{records_at, rest_at, is_lawful, Shape, behind_group, group_fields, octet_bits, records_of}
+use Rattle.message_layout.proofs.Common.{records_at, rest_at, is_lawful, MessageShape, behind_group, group_fields, octet_bits, records_of}
 use Rattle.message_layout.proofs.Common.{spelling, IsGroup, IsOf, IsRest, Contents}
 use Rattle.message_layout.proofs.Lawful.{lawful}
 use Rattle.message_layout.proofs.Parts.{bind_some, fields_again, fields_there, group_again, group_there, guard_some, octets_again}
@@ -16,7 +16,7 @@ rest_from None rest h = tt
 rest_from (Some most) rest h = leb-true (length rest) most h
 
 -- what was spelled is read again
-pub reading_again : (s : Shape) (c : Contents) → is_lawful s ≡ true → IsOf s c →
+pub reading_again : (s : MessageShape) (c : Contents) → is_lawful s ≡ true → IsOf s c →
     reading s (spelling s c) ≡ Some c
 unfolding reading spelling
 reading_again s c h is =
@@ -33,10 +33,10 @@ reading_again s c h is =
     ) refl
 
 -- what is read is spelled so
-abbrev Spells : Shape → List Bool → Contents → Type 0
+abbrev Spells : MessageShape → List Bool → Contents → Type 0
 Spells s bits c = IsOf s c × (bits ≡ spelling s c)
 
-pub reading_there : (s : Shape) (bits : List Bool) (c : Contents) → is_lawful s ≡ true →
+pub reading_there : (s : MessageShape) (bits : List Bool) (c : Contents) → is_lawful s ≡ true →
     reading s bits ≡ Some c → IsOf s c × (bits ≡ spelling s c)
 unfolding reading spelling
 reading_there s bits c h e =
@@ -88,13 +88,13 @@ reading_there s bits c h e =
     )
 
 -- contents of one layout with one spelling are the same
-pub one_reading : (s : Shape) (c d : Contents) → is_lawful s ≡ true → IsOf s c → IsOf s d →
+pub one_reading : (s : MessageShape) (c d : Contents) → is_lawful s ≡ true → IsOf s c → IsOf s d →
     spelling s c ≡ spelling s d → c ≡ d
 one_reading s c d h p q same =
     some_is c d (sym (reading_again s c h p) ∙ ap (reading s) same ∙ reading_again s d h q)
 
 -- what is read by parts is read
-pub read_found : (s : Shape) (bits : List Bool) (read : Option Contents) → is_lawful s ≡ true →
+pub read_found : (s : MessageShape) (bits : List Bool) (read : Option Contents) → is_lawful s ≡ true →
     read ≡ reading s bits → IfSome read (λ c. IsOf s c × (bits ≡ spelling s c))
 read_found s bits None h e = tt
 read_found s bits (Some c) h e = reading_there s bits c h (sym e)

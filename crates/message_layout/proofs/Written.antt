@@ -1,21 +1,22 @@
 -- Contents that are written part by part.
 use Rattle.message_layout.proofs.Common.{◌≡◌, ℕ, ◌+◌, ◌≤◌, List, Bool, [], ◌++◌, length, ap, ◌∙◌, arith, append_assoc, length-append}
-use Rattle.message_layout.proofs.Common.{Option, None, Some, binary, spelled, in_widths, length-binary, Shape, behind_group, group_fields}
+use Rattle.message_layout.proofs.Common.{Option, None, Some, binary, spelled, in_widths, length-binary, MessageShape, behind_group}
+use Rattle.message_layout.proofs.Common.{group_fields}
 use Rattle.message_layout.proofs.Common.{octet_bits, records_of, spelling, Contents, Presence, Never, Flagged, UnlessLeft}
 
-abbrev pub fixed_bits : Shape → Contents → List Bool
+abbrev pub fixed_bits : MessageShape → Contents → List Bool
 fixed_bits s c = spelled (in_widths s.fixed c.fixed)
 
-abbrev pub group_bits : Shape → Contents → List Bool
+abbrev pub group_bits : MessageShape → Contents → List Bool
 group_bits s c = spelled (group_fields s.presence s.group c.group)
 
-abbrev pub octets_of : Shape → Contents → List Bool
+abbrev pub octets_of : MessageShape → Contents → List Bool
 octets_of s c = octet_bits s.zeros s.count c.octets
 
-abbrev pub record_bits : Shape → Contents → List Bool
+abbrev pub record_bits : MessageShape → Contents → List Bool
 record_bits s c = spelled (records_of s c)
 
-pub length-spelling : (s : Shape) (c : Contents) →
+pub length-spelling : (s : MessageShape) (c : Contents) →
     length (spelling s c)
     ≡ length (fixed_bits s c) + length (group_bits s c) + length (octets_of s c)
     + length (record_bits s c) + length c.rest
@@ -34,7 +35,7 @@ pub longer : (before part after : List Bool) → after ≡ before ++ part →
     length after ≡ length before + length part
 longer before part after is = ap length is ∙ length-append before part
 
-pub written : (s : Shape) (c : Contents) (first a b d e after : List Bool) →
+pub written : (s : MessageShape) (c : Contents) (first a b d e after : List Bool) →
     a ≡ first ++ fixed_bits s c → b ≡ a ++ group_bits s c → d ≡ b ++ octets_of s c →
     e ≡ d ++ record_bits s c → after ≡ e ++ c.rest → after ≡ first ++ spelling s c
 unfolding spelling

@@ -1,7 +1,7 @@
 -- Numbers of the fields of records, column by column.
 use Rattle.std.specs.Prelude.{ℕ, zero, suc, ◌/◌, if◌then◌else◌, List, [], ◌∷◌, ◌++◌, Bool, length}
 use Rattle.std.specs.Prelude.{map, take, drop, get_or, nat_lt}
-use Rattle.chip_core.specs.Fields.{in_widths, total}
+use Rattle.chip_core.specs.Fields.{in_widths, total_width}
 use Rattle.chip_core.specs.Readings.{column_at}
 use Rattle.chip_core.specs.declared.field.Field.{Field}
 
@@ -36,13 +36,14 @@ shares widths n = share widths n 0 ∷ share widths n 1 ∷ share widths n 2 ∷
 -- how many records fit into so many bits
 abbrev pub count_in : List ℕ → ℕ → ℕ
 count_in [] bits = 0
-count_in (width ∷ widths) bits = bits / total (width ∷ widths)
+count_in (width ∷ widths) bits = bits / total_width (width ∷ widths)
 
 -- the numbers of column j in the first n records
 abbrev pub column_in : List ℕ → ℕ → ℕ → List Bool → List ℕ
 column_in widths n j bits =
     if nat_lt j (length widths)
-    then column_at (total widths) (total (take j widths)) (get_or widths j 0) n bits else []
+    then column_at (total_width widths) (total_width (take j widths)) (get_or widths j 0) n bits
+    else []
 
 abbrev pub columns_in : List ℕ → ℕ → List Bool → List (List ℕ)
 columns_in widths n bits =

@@ -1,15 +1,15 @@
 -- Layouts without a group and without octets, and contents of these.
 use Rattle.std.specs.Prelude.{ℕ, ◌*◌, ◌-◌, ◌&&◌, Bool, List, [], length, drop, nat_le, Option, None}
-use Rattle.chip_core.specs.Fields.{total}
+use Rattle.chip_core.specs.Fields.{total_width}
 use Rattle.chip_core.specs.Readings.{values_at}
 use Rattle.message_layout.specs.Contents.{columns_in, count_in}
 use Rattle.message_layout.specs.Reading.{is_few}
-use Rattle.message_layout.specs.Shapes.{Shape}
+use Rattle.message_layout.specs.Shapes.{MessageShape}
 use Rattle.message_layout.specs.declared.contents.Contents.{Contents}
 use Rattle.message_layout.specs.declared.layout.Presence.TheVariants.{Never}
 
 -- fixed fields, so many records at least, and so many bits after them at most
-abbrev pub plain_shape : List ℕ → List ℕ → ℕ → Option ℕ → Shape
+abbrev pub plain_shape : List ℕ → List ℕ → ℕ → Option ℕ → MessageShape
 plain_shape fixed records least most = record {
   fixed = fixed;
   presence = Never;
@@ -33,14 +33,16 @@ plain_contents fixed columns rest = record {
 -- what stands at the places of fields, of as many records as fit after them, and after these
 abbrev pub list_said : List ℕ → List ℕ → List Bool → Contents
 list_said fixed records bits =
-    let w = drop (total fixed) bits in
+    let w = drop (total_width fixed) bits in
     let n = count_in records (length w) in
-    plain_contents (values_at fixed bits) (columns_in records n w) (drop (n * total records) w)
+    plain_contents (values_at fixed bits) (columns_in records n w)
+    (drop (n * total_width records) w)
 
 -- whether so many bits are contents of such a layout: the fixed fields, records enough, and no more
 -- bits after them than may be left
-abbrev pub has_length : Shape → ℕ → Bool
+abbrev pub has_length : MessageShape → ℕ → Bool
 has_length s count =
-    let left = count - total s.fixed in
+    let left = count - total_width s.fixed in
     let n = count_in s.records left in
-    nat_le (total s.fixed) count && (nat_le s.least n && is_few s.most (left - n * total s.records))
+    nat_le (total_width s.fixed) count
+    && (nat_le s.least n && is_few s.most (left - n * total_width s.records))

@@ -1,10 +1,10 @@
 -- Bits read by a layout, part by part: of each part what it says, and the bits after it.
 use Rattle.std.specs.Prelude.{ℕ, ◌*◌, ◌==◌, if◌then◌else◌, not, Bool, true, false, List, length}
 use Rattle.std.specs.Prelude.{take, drop, nat_le, Option, None, Some}
-use Rattle.chip_core.specs.Fields.{total}
+use Rattle.chip_core.specs.Fields.{total_width}
 use Rattle.chip_core.specs.Readings.{number_at, values_at}
 use Rattle.message_layout.specs.Contents.{columns_in, count_in}
-use Rattle.message_layout.specs.Shapes.{Shape}
+use Rattle.message_layout.specs.Shapes.{MessageShape}
 use Rattle.message_layout.specs.declared.contents.Contents.{Contents}
 use Rattle.message_layout.specs.declared.layout.Presence.{Presence}
 use Rattle.message_layout.specs.declared.layout.Presence.TheVariants.{Never, Flagged, UnlessLeft}
@@ -27,8 +27,8 @@ behind bits (Some x) = Some (x.0, drop x.1 bits)
 -- fields of these widths
 unfoldable pub fields_at : List ℕ → List Bool → Option (List ℕ × List Bool)
 fields_at widths bits =
-    if nat_le (total widths) (length bits)
-    then Some (values_at widths bits, drop (total widths) bits) else None
+    if nat_le (total_width widths) (length bits)
+    then Some (values_at widths bits, drop (total_width widths) bits) else None
 
 -- so many bits
 unfoldable pub part_at : ℕ → List Bool → Option (List Bool × List Bool)
@@ -69,7 +69,8 @@ octets_at zeros width bits = do
 -- so many records, where these are enough
 abbrev pub records_from : List ℕ → ℕ → ℕ → List Bool → Option (List (List ℕ) × List Bool)
 records_from widths least n bits =
-    if nat_le least n then Some (columns_in widths n bits, drop (n * total widths) bits) else None
+    if nat_le least n then Some (columns_in widths n bits, drop (n * total_width widths) bits)
+    else None
 
 -- as many records as fit
 unfoldable pub records_at : List ℕ → ℕ → List Bool → Option (List (List ℕ) × List Bool)
@@ -97,7 +98,7 @@ rest_at most fixed group octets columns rest =
     }) else None
 
 -- the contents whose spelling the bits are
-unfoldable pub reading : Shape → List Bool → Option Contents
+unfoldable pub reading : MessageShape → List Bool → Option Contents
 reading s bits = do
   fixed ← fields_at s.fixed bits
   group ← group_at s.presence s.group fixed.1

@@ -1,13 +1,13 @@
 -- Layouts of bodies as plain numbers: which fields stand in one, and in how many bits.
 use Rattle.std.specs.Prelude.{ℕ, ◌≤◌, ◌&&◌, Bool, true, false, List, [], ◌∷◌, length, map, nat_lt}
 use Rattle.std.specs.Prelude.{nat_le, Option, None, Some}
-use Rattle.chip_core.specs.Fields.{total}
+use Rattle.chip_core.specs.Fields.{total_width}
 use Rattle.message_layout.specs.declared.layout.Layout.{Layout}
 use Rattle.message_layout.specs.declared.layout.Presence.{Presence}
 use Rattle.message_layout.specs.declared.layout.Presence.TheVariants.{Never, Flagged, UnlessLeft}
 
 -- the widths of the fields, and what stands among them
-pub record Shape : Type 0 where
+pub record MessageShape : Type 0 where
   pub fixed : List ℕ
   pub presence : Presence
   pub group : List ℕ
@@ -18,7 +18,7 @@ pub record Shape : Type 0 where
   pub most : Option ℕ
 
 -- those of a layout
-abbrev pub shape : Layout → Shape
+abbrev pub shape : Layout → MessageShape
 shape layout = record {
   fixed = map (λ row. row.1) layout.fixed.now;
   presence = layout.group.presence;
@@ -41,22 +41,22 @@ AreNarrow [] = Unit {0}
 AreNarrow (width ∷ widths) = (width ≤ 32) × AreNarrow widths
 
 -- the group has more bits than are left where it isn't there
-abbrev pub is_told : Presence → List ℕ → Bool
-is_told Never group = true
-is_told Flagged group = true
-is_told (UnlessLeft count) group = nat_lt count (total group)
+abbrev pub group_is_told : Presence → List ℕ → Bool
+group_is_told Never group = true
+group_is_told Flagged group = true
+group_is_told (UnlessLeft count) group = nat_lt count (total_width group)
 
 -- the rest is shorter than a record
 abbrev pub ends : List ℕ → Option ℕ → Bool
 ends [] most = true
 ends (width ∷ widths) None = false
-ends (width ∷ widths) (Some most) = nat_lt most (total (width ∷ widths))
+ends (width ∷ widths) (Some most) = nat_lt most (total_width (width ∷ widths))
 
 -- the widths are admitted, there is room for all values, and a body tells where each part ends
-unfoldable pub is_lawful : Shape → Bool
+unfoldable pub is_lawful : MessageShape → Bool
 is_lawful s =
     are_widths 64 s.fixed && (nat_le (length s.fixed) 48
     && (are_widths 64 s.group && (nat_le (length s.group) 48
-    && (is_told s.presence s.group
+    && (group_is_told s.presence s.group
     && (nat_le s.zeros 64 && (nat_le s.count 8
     && (are_widths 32 s.records && (nat_le (length s.records) 3 && ends s.records s.most))))))))

@@ -4,7 +4,7 @@ use Rattle.std.specs.Prelude.{map, Option, None, Some}
 use Rattle.chip_core.specs.Fields.{field, spelled, in_widths, FieldsFit}
 use Rattle.chip_core.specs.declared.field.Field.{Field}
 use Rattle.message_layout.specs.Contents.{height, record_fields, shares}
-use Rattle.message_layout.specs.Shapes.{Shape}
+use Rattle.message_layout.specs.Shapes.{MessageShape}
 use Rattle.message_layout.specs.declared.contents.Contents.{Contents}
 use Rattle.message_layout.specs.declared.layout.Presence.{Presence}
 use Rattle.message_layout.specs.declared.layout.Presence.TheVariants.{Never, Flagged, UnlessLeft}
@@ -22,14 +22,14 @@ abbrev pub octet_bits : ℕ → ℕ → List Bool → List Bool
 octet_bits zeros count octets =
     spelled (field zeros 0 ∷ field count (length octets / 8) ∷ []) ++ octets
 
-abbrev pub records_of : Shape → Contents → List Field
+abbrev pub records_of : MessageShape → Contents → List Field
 records_of s c = record_fields s.records (height c.columns) c.columns
 
 -- after the group
-abbrev pub behind_group : Shape → Contents → List Bool
+abbrev pub behind_group : MessageShape → Contents → List Bool
 behind_group s c = octet_bits s.zeros s.count c.octets ++ (spelled (records_of s c) ++ c.rest)
 
-unfoldable pub spelling : Shape → Contents → List Bool
+unfoldable pub spelling : MessageShape → Contents → List Bool
 spelling s c =
     spelled (in_widths s.fixed c.fixed)
     ++ (spelled (group_fields s.presence s.group c.group) ++ behind_group s c)
@@ -53,7 +53,7 @@ IsRest None rest = Unit {0}
 IsRest (Some most) rest = length rest ≤ most
 
 -- the contents have a spelling by the layout
-pub record IsOf (s : Shape) (c : Contents) : Type 0 where
+pub record IsOf (s : MessageShape) (c : Contents) : Type 0 where
   pub fixed : HaveValues s.fixed c.fixed
   pub group : IsGroup s.presence s.group c.group (length (behind_group s c))
   pub whole : length c.octets % 8 ≡ 0

@@ -3,13 +3,13 @@ use Rattle.std.specs.Prelude.{◌≡◌, refl, true, false, [], ◌∷◌, None,
 use Rattle.chip_core.specs.Bits.{number, binary}
 use Rattle.message_layout.specs.Reading.{fields_at, group_at, number_part, octets_at, part_at}
 use Rattle.message_layout.specs.Reading.{presence_at, reading, records_at}
-use Rattle.message_layout.specs.Shapes.{is_lawful, Shape}
+use Rattle.message_layout.specs.Shapes.{is_lawful, MessageShape}
 use Rattle.message_layout.specs.Spelling.{spelling}
 use Rattle.message_layout.specs.declared.contents.Contents.{Contents}
 use Rattle.message_layout.specs.declared.layout.Presence.TheVariants.{Flagged, UnlessLeft}
 
 -- a layout with each kind of part
-all_parts : Shape
+all_parts : MessageShape
 all_parts =
     record {
       fixed = 4 ∷ [];
@@ -47,7 +47,7 @@ unfolding all_parts said spelling reading fields_at group_at presence_at octets_
 read = refl
 
 -- three bits after a field of four are a rest, and no group
-unless_left : Shape
+unless_left : MessageShape
 unless_left =
     record {
       fixed = 4 ∷ [];

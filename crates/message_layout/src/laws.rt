@@ -2,18 +2,18 @@
 
 ghost use Rattle.std.specs.Prelude.{◌≡◌, ◌↔◌, Bool, true, List, Some};
 ghost use Rattle.message_layout.specs.Reading.{reading};
-ghost use Rattle.message_layout.specs.Shapes.{is_lawful, Shape};
+ghost use Rattle.message_layout.specs.Shapes.{is_lawful, MessageShape};
 ghost use Rattle.message_layout.specs.Spelling.{spelling, IsOf};
 ghost use Rattle.message_layout.specs.declared.contents.Contents.{Contents as TheContents};
 
 /// Reading a list of bits by a layout gives contents exactly where the list is their spelling.
 pub fn reading_turns_spelling_back()
-    ensures { (s : Shape) (bits : List Bool) (c : TheContents) → is_lawful s ≡ true →
+    ensures { (s : MessageShape) (bits : List Bool) (c : TheContents) → is_lawful s ≡ true →
         (reading s bits ≡ Some c) ↔ (IsOf s c × (bits ≡ spelling s c)) }
 {}
 
 /// Contents of one layout with one spelling are the same.
 pub fn spelling_has_one_reading()
-    ensures { (s : Shape) (c d : TheContents) → is_lawful s ≡ true → IsOf s c → IsOf s d →
+    ensures { (s : MessageShape) (c d : TheContents) → is_lawful s ≡ true → IsOf s c → IsOf s d →
         spelling s c ≡ spelling s d → c ≡ d }
 {}

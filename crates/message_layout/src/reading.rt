@@ -8,7 +8,7 @@
 
 ghost use Rattle.std.specs.Prelude.{◌≡◌, ◌≤◌, ◌<◌, ◌+◌, ◌*◌, ◌^◌, ◌++◌, ◌∷◌, [], true, length, map};
 ghost use Rattle.std.specs.Prelude.{drop, IfSome, Some};
-ghost use Rattle.chip_core.specs.Fields.{total, AreWidths};
+ghost use Rattle.chip_core.specs.Fields.{total_width, AreWidths};
 ghost use Rattle.chip_core.specs.Readings.{column_at, number_at};
 ghost use Rattle.message_layout.specs.Contents.{column_in, count_in};
 ghost use Rattle.message_layout.specs.Reading.{behind, fields_at, group_at, is_rest, number_part};
@@ -269,7 +269,7 @@ fn records_within(fields: &[FieldRow], count: u16) -> u16
 pub(crate) fn size_of(fields: &[FieldRow]) -> u16
     requires widths { AreWidths (map (λ row. row.1) fields.now) }
     requires few { length fields.now ≤ 3 }
-    ensures value { result ≡ total (map (λ row. row.1) fields.now) }
+    ensures value { result ≡ total_width (map (λ row. row.1) fields.now) }
     ensures most { result ≤ 192 }
 {
     let mut size = 0;
@@ -285,7 +285,7 @@ fn read_column(fields: &[FieldRow], j: usize, count: u8, bits: &BitSlice<'_>, fr
     requires narrow { AreNarrow (map (λ row. row.1) fields.now) }
     requires few { length fields.now ≤ 3 }
     requires most { count ≤ 128 }
-    requires within { from + count * total (map (λ row. row.1) fields.now) ≤ length bits.now }
+    requires within { from + count * total_width (map (λ row. row.1) fields.now) ≤ length bits.now }
     ensures { result ≡ column_in (map (λ row. row.1) fields.now) count j (drop from bits.now) }
 {
     if j >= fields.len() {

@@ -4,7 +4,7 @@ use Rattle.mobile_core.proofs.Common.{None, ForSome, option_map_or, arith, lengt
 use Rattle.mobile_core.proofs.Common.{IsFollowedDue, IsSoundFollowed, EndFrom, WaitFrom, followed_events_left, followed_heard}
 use Rattle.mobile_core.proofs.Common.{paging_events_left, AreNear, Tuning, sync_stream, Event, Followed, Mark, PagingReceiver, SoftHandoff}
 use Rattle.mobile_core.proofs.Common.{IsSomeAnd, IsSoundPaging, IsSoundHandoff, IsDueAt, IsUnheard, Traffic, append-nil, bits_heard}
-use Rattle.mobile_core.proofs.Common.{followed_behind, listed, traffic_heard, traffic_events_left}
+use Rattle.mobile_core.proofs.Common.{followed_behind, event_list, traffic_heard, traffic_events_left}
 use Rattle.mobile_core.proofs.FramesFollowed.{frames_go, frames_more, told_few}
 use Rattle.heard_events.proofs.GoesOn.{GoesOn, both, goes_as, joined}
 use Rattle.heard_events.proofs.MarkStays.{pages_from_mark}
@@ -77,10 +77,10 @@ module _ {t : Tuning} {f : Followed} {mark : Option Mark} {heard : List Sample}
       ¬ IsSomeAnd f.paging (λ r. IsDueAt t.count r.received.clock) → n ≡ length heard →
       WaitFrom n f → (traffic : Option SoftHandoff) (event : Option Event) →
       (HearsFrames t t.traffic mark f.traffic heard [] → HearsFrames t t.traffic mark traffic heard []
-      × (listed event ++ traffic_events_left t t.traffic mark heard traffic
+      × (event_list event ++ traffic_events_left t t.traffic mark heard traffic
       ≡ traffic_events_left t t.traffic mark heard f.traffic)) →
       HearsFollowed t (record f { traffic = traffic }) mark heard
-      × (listed event ++ (paging_events_left t mark heard f.paging
+      × (event_list event ++ (paging_events_left t mark heard f.paging
       ++ traffic_events_left t t.traffic mark heard traffic) ≡ followed_events_left t mark heard f)
   heard_other none here waits traffic event hears =
       let quiet = (pages_go t mark heard f.paging st.paging none (length heard + 1)

@@ -25,7 +25,7 @@ pub use Rattle.rake_finger.specs.Near.{AreClose, all_close, AreNear, all_begun}
 pub use Rattle.heard_events.specs.Close.{legs_close, paths_close}
 pub use Rattle.heard_events.specs.Events.{events, followed_behind, told_behind}
 unfoldable pub use Rattle.heard_events.specs.Events.{events_at, heard_within}
-pub use Rattle.heard_events.specs.Given.{at_of, listed}
+pub use Rattle.heard_events.specs.Given.{at_of, event_list}
 pub use Rattle.heard_events.specs.Left.{pilot_left}
 unfoldable pub use Rattle.heard_events.specs.Left.{pages_left, sets_left_of, sync_events_left}
 pub use Rattle.heard_events.specs.Legs.{all_fingers, legs_of, pilot_finger, subchannels}
@@ -35,11 +35,11 @@ pub use Rattle.heard_events.specs.Moments.{frames_at, legs_at, legs_by, messages
 unfoldable pub use Rattle.heard_events.specs.Moments.{heard_from, kept_to, passed, sets_at, told_by}
 pub use Rattle.heard_events.specs.Noted.{all_noted, body_noted, moment_from, noted, noted_with, page_noted, system_thresholds}
 pub use Rattle.heard_events.specs.PagingEvents.{page_event, page_in, pages_behind}
-unfoldable pub use Rattle.heard_events.specs.PagingEvents.{bits_before, bits_up_to, page_at, pages_from}
+unfoldable pub use Rattle.heard_events.specs.PagingEvents.{paging_bits_before, bits_up_to, page_at, pages_from}
 pub use Rattle.heard_events.specs.PagingStreams.{paging_rate, paging_stream}
 pub use Rattle.rake_finger.specs.Scrambled.{unscrambled}
 pub use Rattle.heard_events.specs.Signaling.{capsule_with, message_events, signal_in, signal_of}
-unfoldable pub use Rattle.heard_events.specs.Signaling.{message_at, signal_at, signals_before}
+unfoldable pub use Rattle.heard_events.specs.Signaling.{signaling_message_at, signal_at, signals_before}
 pub use Rattle.heard_events.specs.SpelledMessages.{SpelledPage, SpelledSignal}
 pub use Rattle.heard_events.specs.Streams.{Stream}
 pub use Rattle.rake_finger.specs.Streams.{frame_end, frame_start, is_in_file}
@@ -66,7 +66,7 @@ pub use Rattle.pilot_sets.specs.Directions.{accepted_of, direction_fault}
 pub use Rattle.pilot_sets.specs.Standing.{Standing, new_standing, unless_refused, with_neighbors, with_thresholds}
 pub use Rattle.pilot_sets.specs.declared.fault.DirectionFault.{DirectionFault}
 pub use Rattle.pilot_sets.specs.declared.standing.Accepted.{Accepted}
-pub use Rattle.quality_bits.specs.Pieces.{StandsFor, piece}
+pub use Rattle.quality_bits.specs.Pieces.{CapsuleStandsFor, piece}
 unfoldable pub use Rattle.quality_bits.specs.Pieces.{capsule_ending}
 pub use Rattle.rake_finger.specs.Held.{Held, HoldsLast}
 pub use Rattle.rake_finger.specs.InRing.{IsInRing}
@@ -76,7 +76,7 @@ pub use Rattle.rake_finger.specs.declared.finger.Finger.{Finger}
 pub use Rattle.rake_finger.specs.declared.form.Form.TheVariants.{Data, Sync}
 pub use Rattle.symbol_path.specs.Scrambling.{power_places, scrambling}
 pub use Rattle.traffic_message.specs.declared.body.TrafficBody.{TrafficBody}
-pub use Rattle.reception.specs.Clocks.{IsDueAt, clock_from, first_frame, frame_heard}
+pub use Rattle.reception.specs.Clocks.{IsDueAt, clock_from, first_frame, clock_after_frame}
 pub use Rattle.mobile_core.specs.BehindMark.{FollowsPages, FollowsTraffic, IsUnheard, IsUnpaged, SetsMark, paging_left, traffic_left}
 pub use Rattle.mobile_core.specs.FollowedChannels.{EndFrom, HearsFollowed, HearsFrames, HearsPages, IsFollowedDue, IsSoundFollowed}
 pub use Rattle.mobile_core.specs.FollowedChannels.{WaitFrom, followed_events_left, followed_heard, paging_events_left, traffic_events_left}
@@ -86,7 +86,7 @@ pub use Rattle.reception.specs.Receiving.{Receives}
 pub use Rattle.heard_events.specs.SetsKeeping.{coming_place}
 pub use Rattle.mobile_core.specs.Standing.{IsDueIn, Stands, Steps, Tells, due_parts, heard_of, left_of}
 pub use Rattle.mobile_core.specs.SyncReceiving.{HearsNext, HearsSync, IsSoundSync}
-pub use Rattle.mobile_core.specs.TrafficReceiving.{GivesFirst, HasTold, HearsTraffic, HearsUntuned, HearsUpTo, HearsWith, IsSoundHandoff}
+pub use Rattle.mobile_core.specs.TrafficReceiving.{GivesFirst, HasToTell, HearsTraffic, HearsUntuned, HearsUpTo, HearsWith, IsSoundHandoff}
 pub use Rattle.mobile_core.specs.TrafficReceiving.{IsSoundTraffic, IsTrafficDue, WaitsAt, kept_in, next_end, noted_by, told_left_with}
 pub use Rattle.mobile_core.specs.TrafficReceiving.{traffic_heard, traffic_left_of}
 pub use Rattle.reception.specs.declared.continued.Continued.{Continued}

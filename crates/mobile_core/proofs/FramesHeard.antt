@@ -2,7 +2,8 @@
 use Rattle.mobile_core.proofs.Common.{◌≡◌, ℕ, ◌+◌, ◌-◌, ◌*◌, ◌/◌, ◌^◌, ◌<◌, ◌≤◌, List, [], ◌++◌, Bool, ℤ, length, map, take, refl, sym}
 use Rattle.mobile_core.proofs.Common.{◌==◌, false, ne_eqb, sets_left_of, length-append, ap, ◌∙◌, arith, inl, inr, subst, true, Option, None}
 use Rattle.mobile_core.proofs.Common.{Some, IsTrue, is_some, cases_lt, cases_order, take_all, places, Sample, power_bit, decoded}
-use Rattle.mobile_core.proofs.Common.{PowerSofts, Decoded, after, traffic_mask, after-after, Standing, StandsFor, softs, Finger, Data}
+use Rattle.mobile_core.proofs.Common.{PowerSofts, Decoded, after, traffic_mask, after-after, Standing, CapsuleStandsFor, softs, Finger}
+use Rattle.mobile_core.proofs.Common.{Data}
 use Rattle.mobile_core.proofs.Common.{power_places, scrambling, sums_on, all_fingers, legs_of, subchannels, heard_from, legs_by, moment_of}
 use Rattle.mobile_core.proofs.Common.{moment_place, told_by, all_noted, page_event, pages_behind, unscrambled, message_events, frame_end}
 use Rattle.mobile_core.proofs.Common.{all_sums, power_bits_at, decoded_at, raw_softs, HearsUpTo, HearsWith, IsSoundHandoff, IsTrafficDue}
@@ -298,7 +299,7 @@ module _ {t : Tuning} {traffic : Traffic} {m : Mark} {r : SoftHandoff} {heard : 
             start_is = st.frames.start_is;
             ended = λ k less. let e = st.frames.ended k less in omega (arith, long, e);
             come = λ come. absurd (omega (arith, come, idle));
-            framed = subst (StandsFor r.receiver.framer) (sym signals) st.frames.framed;
+            framed = subst (CapsuleStandsFor r.receiver.framer) (sym signals) st.frames.framed;
           };
           close = st.close;
           legs_are = st.legs_are;
@@ -323,7 +324,7 @@ module _ {t : Tuning} {traffic : Traffic} {m : Mark} {r : SoftHandoff} {heard : 
   pub hears_come : (fresh : List ℤ) (power : PowerSofts) (replaced : List ℕ) → coming ≡ next →
       end ≡ length heard → fresh ≡ softs heard r.receiver.frames.fingers Data r.receiver.frames.clock.start →
       replaced ≡ power_places (after r.receiver.frames.scrambling.state (24576 * coming)) r.receiver.frames.scrambling.mask →
-      frames.subchannels power
+      frames.summed_subchannels power
       ≡ map (sums_on heard r.receiver.phase (take r.receiver.near.count r.receiver.near.deltas) r.receiver.legs
       r.receiver.frames.clock.start replaced)
       (subchannels r.receiver.legs) →
@@ -386,7 +387,7 @@ module _ {t : Tuning} {traffic : Traffic} {m : Mark} {r : SoftHandoff} {heard : 
       ≡ unscrambled
       (scrambling (after r.receiver.frames.scrambling.state (24576 * next)) r.receiver.frames.scrambling.mask) r.receiver.softs →
       frame ≡ decoded replaced descrambled →
-      told ≡ map (power_bit (frames.subchannels r.receiver.power)) (places 16) →
+      told ≡ map (power_bit (frames.summed_subchannels r.receiver.power)) (places 16) →
       (frame ≡ decoded_at t traffic m legs heard next)
       × (told ≡ power_bits_at t traffic m legs heard next)
   unfolding decoded_at power_bits_at

@@ -1,7 +1,8 @@
 -- What a traffic channel and the pilot sets beside it stand for as they are opened.
 use Rattle.mobile_core.proofs.Common.{◌≡◌, ℕ, ◌-◌, ◌≤◌, List, [], ◌∷◌, length, ℤ, refl, sym, ap, ◌∙◌, arith, subst, None, true, pos}
 use Rattle.mobile_core.proofs.Common.{replicate, append-nil, get_or, ◌==◌, Some, slice_get, eq-eqb, unsigned_abs, sum_by, sum_by-replicate}
-use Rattle.mobile_core.proofs.Common.{places, Sample, Standing, new_standing, StandsFor, AreClose, all_close, paths_close, all_fingers}
+use Rattle.mobile_core.proofs.Common.{places, Sample, Standing, new_standing, CapsuleStandsFor, AreClose, all_close, paths_close}
+use Rattle.mobile_core.proofs.Common.{all_fingers}
 use Rattle.mobile_core.proofs.Common.{legs_of, pilot_finger, heard_from, kept_to, moment_place, all_noted, signals_before, HearsTraffic}
 use Rattle.mobile_core.proofs.Common.{told_left_with, traffic_start, Tuning, fingers_of, Event, Leg, Mark, Traffic, TrafficReceiver}
 use Rattle.heard_events.proofs.FrameBounds.{known_low}
@@ -44,7 +45,7 @@ module _ {t : Tuning} {traffic : Traffic} {m : Mark} {r : TrafficReceiver} {hear
     (legs_is : r.legs ≡ legs_of m (new_standing m.pilot traffic.row))
     (close : AreClose (all_fingers t.phase t.deltas (legs_of m (new_standing m.pilot traffic.row))))
     (within : length heard ≤ t.count) (early : length heard ≤ m.sample) where
-  pub hears_opened : r.frames.clock.start ≡ traffic_start traffic m 0 → StandsFor r.framer [] →
+  pub hears_opened : r.frames.clock.start ≡ traffic_start traffic m 0 → CapsuleStandsFor r.framer [] →
       HearsTraffic t traffic m (beside (first_keeper m traffic.row) r) heard []
   unfolding kept_to
   hears_opened start framed =
@@ -68,7 +69,7 @@ module _ {t : Tuning} {traffic : Traffic} {m : Mark} {r : TrafficReceiver} {hear
           start_is = start ∙ ap (traffic_start traffic m) (sym have);
           ended = λ k less. absurd (omega (arith, less, next));
           come = λ come. absurd (omega (arith, come, have));
-          framed = subst (StandsFor r.framer)
+          framed = subst (CapsuleStandsFor r.framer)
               (sym (ap (signals_before t traffic m legs heard) next
               ∙ signals_start t traffic m legs heard)) framed;
         };

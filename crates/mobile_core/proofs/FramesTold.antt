@@ -2,11 +2,13 @@
 use Rattle.mobile_core.proofs.Common.{◌≡◌, ℕ, ◌+◌, ◌<◌, ◌≤◌, List, [], ◌∷◌, ◌++◌, Bool, true, false, length, refl, sym, ap, ◌∙◌, arith}
 use Rattle.mobile_core.proofs.Common.{subst, Option, None, Some, inl, inr, ◌==◌, if◌then◌else◌, option_to_list, cases_lt, Sample, Decoded}
 use Rattle.mobile_core.proofs.Common.{PagingMessage, accepted_of, direction_fault, Standing, unless_refused, with_neighbors}
-use Rattle.mobile_core.proofs.Common.{with_thresholds, DirectionFault, Accepted, StandsFor, TrafficBody, at_of, legs_of, legs_by}
+use Rattle.mobile_core.proofs.Common.{with_thresholds, DirectionFault, Accepted, CapsuleStandsFor, TrafficBody, at_of, legs_of, legs_by}
 use Rattle.mobile_core.proofs.Common.{moment_place, all_noted, body_noted, moment_from, moments_before, noted, noted_with, page_noted}
-use Rattle.mobile_core.proofs.Common.{system_thresholds, capsule_with, message_at, message_events, signal_at, signal_in, signal_of}
+use Rattle.mobile_core.proofs.Common.{system_thresholds, capsule_with, signaling_message_at, message_events, signal_at, signal_in}
+use Rattle.mobile_core.proofs.Common.{signal_of}
 use Rattle.mobile_core.proofs.Common.{signals_before, GivesFirst, HearsTraffic, HearsWith, IsSoundHandoff, noted_by, told_left_with}
-use Rattle.mobile_core.proofs.Common.{frame_known, Tuning, Leg, kept_in, sets_left_of, frame_heard, Event, Mark, Traffic, SpelledSignal}
+use Rattle.mobile_core.proofs.Common.{frame_known, Tuning, Leg, kept_in, sets_left_of, clock_after_frame, Event, Mark, Traffic}
+use Rattle.mobile_core.proofs.Common.{SpelledSignal}
 use Rattle.mobile_core.proofs.Common.{SoftHandoff}
 use Rattle.heard_events.proofs.TrafficGrowth.{signals_more, told_left, told_next}
 use Rattle.mobile_core.proofs.FramesHeard.{closes, due_inside, left_unkept}
@@ -98,20 +100,20 @@ module _ {t : Tuning} {traffic : Traffic} {m : Mark} {r : SoftHandoff} {heard : 
   pub hears_heard : (frame : Decoded) (told : List Bool) (framer : Option (List Bool))
       (message : Option SpelledSignal) → frame ≡ decoded_at t traffic m legs heard next →
       told ≡ power_bits_at t traffic m legs heard next →
-      ((signals : List (List Bool)) → StandsFor r.receiver.framer signals →
-      StandsFor framer (signals ++ option_to_list (signal_of frame))) →
-      ((signals : List (List Bool)) → StandsFor r.receiver.framer signals →
+      ((signals : List (List Bool)) → CapsuleStandsFor r.receiver.framer signals →
+      CapsuleStandsFor framer (signals ++ option_to_list (signal_of frame))) →
+      ((signals : List (List Bool)) → CapsuleStandsFor r.receiver.framer signals →
       message ≡ signal_in t.check16 (capsule_with signals (signal_of frame))) →
       GivesFirst t traffic m heard r
       (record r {
         receiver = record r.receiver {
-          frames = record r.receiver.frames { clock = frame_heard r.receiver.frames.clock };
+          frames = record r.receiver.frames { clock = clock_after_frame r.receiver.frames.clock };
           framer = framer;
           kept = message;
         };
       }) (frame_event (length heard) frame told ∷ [])
       (frame_event (length heard) frame told ∷ [])
-  unfolding signal_at message_at
+  unfolding signal_at signaling_message_at
   hears_heard frame told framer message frame_is told_is takes gives =
       let n : ℕ = length heard in
       let before = signals_before t traffic m legs heard next in
@@ -125,7 +127,7 @@ module _ {t : Tuning} {traffic : Traffic} {m : Mark} {r : SoftHandoff} {heard : 
       ∙ ap (frame_event n (decoded_at t traffic m legs heard next)) told_is in
       let signal : signal_of frame ≡ signal_at t traffic m legs heard next =
       ap (λ (f : Decoded). signal_of f) frame_is in
-      let message_is : message ≡ message_at t traffic m legs heard next =
+      let message_is : message ≡ signaling_message_at t traffic m legs heard next =
       gives before st.frames.framed
       ∙ ap (λ (s : Option (List Bool)). signal_in t.check16 (capsule_with before s)) signal in
       let rest = told_left t traffic m legs heard (next + 1) in
@@ -150,7 +152,7 @@ module _ {t : Tuning} {traffic : Traffic} {m : Mark} {r : SoftHandoff} {heard : 
                       omega (arith, is, known)
                 ];
             come = λ more. absurd (omega (arith, more, order));
-            framed = subst (StandsFor framer)
+            framed = subst (CapsuleStandsFor framer)
                 (ap (λ (s : Option (List Bool)). before ++ option_to_list s) signal
                 ∙ sym (signals_more t traffic m legs heard next inside))
                 (takes before st.frames.framed);

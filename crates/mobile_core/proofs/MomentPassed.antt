@@ -1,7 +1,8 @@
 -- What a traffic channel and the pilot sets beside it stand for as a moment passes.
 use Rattle.mobile_core.proofs.Common.{◌≡◌, ℕ, ◌+◌, ◌-◌, ◌<◌, ◌≤◌, List, [], ◌∷◌, ◌++◌, length, take, sym, ap, ◌∙◌, arith, subst, Option}
 use Rattle.mobile_core.proofs.Common.{None, inl, inr, true, false, ◌==◌, flat_map, option_to_list, cases_lt, eq-eqb, take_all, Sample}
-use Rattle.mobile_core.proofs.Common.{filter_ext_places, flat_map_ext_filter_places, Standing, StandsFor, AreClose, listed, all_fingers}
+use Rattle.mobile_core.proofs.Common.{filter_ext_places, flat_map_ext_filter_places, Standing, CapsuleStandsFor, AreClose, event_list}
+use Rattle.mobile_core.proofs.Common.{all_fingers}
 use Rattle.mobile_core.proofs.Common.{legs_of, heard_from, kept_to, legs_by, moment_of, moment_place, passed, sets_events, all_noted}
 use Rattle.mobile_core.proofs.Common.{signal_at, signals_before, decoded_at, HearsTraffic, HearsUntuned, kept_in, sets_left_of}
 use Rattle.mobile_core.proofs.Common.{told_left_with, traffic_left_of, frame_known, has_frame, Tuning, Event, Leg, IsSoundHandoff, Mark}
@@ -150,7 +151,7 @@ module _ {t : Tuning} {traffic : Traffic} {m : Mark} {r : SoftHandoff} {heard : 
                 let was = st.frames.ended i less in
                 omega (arith, same, was);
             come = λ come. absurd (omega (arith, come, idle));
-            framed = subst (StandsFor r.receiver.framer)
+            framed = subst (CapsuleStandsFor r.receiver.framer)
                 (sym (signals_same t traffic m legs_now legs_then heard r.receiver.frames.clock.next heard_here))
                 st.frames.framed;
           };
@@ -168,19 +169,19 @@ module _ {t : Tuning} {traffic : Traffic} {m : Mark} {r : SoftHandoff} {heard : 
         }
 
     -- so nothing more is left
-    pub hears_passed : (event : Option Event) → listed event ≡ sets_events m heard (last + 1) r.sets.sets →
+    pub hears_passed : (event : Option Event) → event_list event ≡ sets_events m heard (last + 1) r.sets.sets →
         HearsUntuned t traffic m (record r { sets = k }) heard []
-        × (listed event ++ traffic_left_of t traffic m heard (record r { sets = k })
+        × (event_list event ++ traffic_left_of t traffic m heard (record r { sets = k })
         ≡ traffic_left_of t traffic m heard r)
     hears_passed event event_is =
         subst (λ (x : SetsKeeper). HearsUntuned t traffic m (record r { sets = x }) heard []
-        × (listed event ++ traffic_left_of t traffic m heard (record r { sets = x })
+        × (event_list event ++ traffic_left_of t traffic m heard (record r { sets = x })
         ≡ traffic_left_of t traffic m heard r)) (sym k_is) (
           hears_then,
-          ap (λ (es : List Event). listed event ++ (es ++ sets_left_of t traffic m heard (last + 1))) told_none
-              ∙ ap (λ (es : List Event). listed event ++ es)
+          ap (λ (es : List Event). event_list event ++ (es ++ sets_left_of t traffic m heard (last + 1))) told_none
+              ∙ ap (λ (es : List Event). event_list event ++ es)
               (not_left t traffic m heard (last + 1) (λ same. omega (arith, same, here)))
-              ∙ append-nil (listed event)
+              ∙ append-nil (event_list event)
               ∙ event_is
               ∙ sym event_now
               ∙ sym (ap (λ (es : List Event). es ++ sets_left_of t traffic m heard last)

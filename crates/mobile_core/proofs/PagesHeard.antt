@@ -2,11 +2,12 @@
 use Rattle.mobile_core.proofs.Common.{◌≡◌, ℕ, ◌+◌, ◌<◌, ◌≤◌, Bool, true, false, List, [], ◌∷◌, ◌++◌, length, take, refl, sym, ap, ◌∙◌}
 use Rattle.mobile_core.proofs.Common.{subst, arith, inl, inr, Option, Some, slice_get, nat_lt, option_to_list, cases_lt, lt-ltb, le-ltb}
 use Rattle.mobile_core.proofs.Common.{append_assoc, take_all, taken_more, Sample, Framing, half_frame_body, half_frame_capsule_ending}
-use Rattle.mobile_core.proofs.Common.{IsDueAt, frame_heard, bits_before, bits_up_to, page_at, page_in, pages_from, HearsBit, HearsPaging}
+use Rattle.mobile_core.proofs.Common.{IsDueAt, clock_after_frame, paging_bits_before, bits_up_to, page_at, page_in, pages_from, HearsBit}
+use Rattle.mobile_core.proofs.Common.{HearsPaging}
 use Rattle.mobile_core.proofs.Common.{bit_passed, pages_left, paging_rate, paging_stream, Receives, frame_own_bits, Tuning, Continued, Mark}
 use Rattle.mobile_core.proofs.Common.{PagingReceiver, SpelledPage}
 use Rattle.std.proofs.lemmas.List.{append-nil}
-use Rattle.paging_message.specs.HalfFrames.{StandsFor}
+use Rattle.paging_message.specs.HalfFrames.{HalfFramesStandFor}
 use Rattle.reception.proofs.ClockSteps.{due_inside, due_known, before_next}
 use Rattle.heard_events.proofs.PageGrowth.{bits_before_more, bits_before_none, bits_before_sooner, left_next, pages_behind_last, pages_next}
 use Rattle.reception.proofs.Received.{receives_heard, receives_more}
@@ -24,12 +25,12 @@ pub hears_none : (t : Tuning) (channel : ℕ) (m : Mark) (r : PagingReceiver)
     (heard : List Sample) → Receives t.count (paging_stream t channel m) r.received heard →
     r.received.clock.next ≡ r.received.clock.low →
     IsOfChannel channel m r.scrambling r.rate r.framer.size → r.place ≡ 0 →
-    StandsFor r.framer [] → HearsPaging t channel m r heard
+    HalfFramesStandFor r.framer [] → HearsPaging t channel m r heard
 hears_none t channel m r heard receives next tuned none framed =
     let s = paging_stream t channel m in
     let clock = r.received.clock in
     let own = frame_own_bits t.count heard s clock.next in
-    let empty : bits_before t.count heard s clock.next ≡ [] =
+    let empty : paging_bits_before t.count heard s clock.next ≡ [] =
     bits_before_none t.count heard s clock.low clock.next receives.clocked.timed
     (omega (arith, next)) in
     record {
@@ -88,10 +89,10 @@ module _ {t : Tuning} {channel : ℕ} {m : Mark} {r : PagingReceiver} {heard : L
       r.received.clock.next)
       (read : slice_get frame r.place ≡ Some bit) (below : r.place < length frame)
       (size_is : framer.size ≡ r.framer.size)
-      (framed : (bits : List Bool) → StandsFor r.framer bits → StandsFor framer (bits ++ bit ∷ []))
-      (page_is : (bits : List Bool) → StandsFor r.framer bits →
+      (framed : (bits : List Bool) → HalfFramesStandFor r.framer bits → HalfFramesStandFor framer (bits ++ bit ∷ []))
+      (page_is : (bits : List Bool) → HalfFramesStandFor r.framer bits →
       page ≡ page_in t.check30 (half_frame_capsule_ending r.framer.size (bits ++ bit ∷ []))) where
-    taken_bits : bits_before t.count heard (paging_stream t channel m) r.received.clock.next
+    taken_bits : paging_bits_before t.count heard (paging_stream t channel m) r.received.clock.next
         ++ take r.place
         (frame_own_bits t.count heard (paging_stream t channel m) r.received.clock.next)
         ++ bit ∷ []
@@ -100,21 +101,21 @@ module _ {t : Tuning} {channel : ℕ} {m : Mark} {r : PagingReceiver} {heard : L
     taken_bits =
         let s = paging_stream t channel m in
         let own = frame_own_bits t.count heard s r.received.clock.next in
-        let before = bits_before t.count heard s r.received.clock.next in
+        let before = paging_bits_before t.count heard s r.received.clock.next in
         append_assoc before (take r.place own) (bit ∷ [])
         ∙ ap (λ (bits : List Bool). before ++ bits)
         (sym (taken_more own r.place bit (rw own_is at read)))
 
-    stands_on : StandsFor framer
+    stands_on : HalfFramesStandFor framer
         (bits_up_to t.count heard (paging_stream t channel m) r.received.clock.next r.place)
-    stands_on = subst (StandsFor framer) taken_bits (framed _ st.framed)
+    stands_on = subst (HalfFramesStandFor framer) taken_bits (framed _ st.framed)
 
     page_here : page ≡ page_at t channel m heard r.received.clock.next r.place
     unfolding page_at
     page_here =
         let s = paging_stream t channel m in
         let next : ℕ = r.received.clock.next in
-        let taken : List Bool = bits_before t.count heard s next
+        let taken : List Bool = paging_bits_before t.count heard s next
         ++ take r.place (frame_own_bits t.count heard s next) in
         let size : ℕ = half_frame_body (paging_rate m.prat) in
         page_is taken st.framed
@@ -164,7 +165,7 @@ module _ {t : Tuning} {channel : ℕ} {m : Mark} {r : PagingReceiver} {heard : L
     hears_last : length frame ≤ r.place + 1 →
         HearsBit t channel m heard r
         (record r {
-          received = record r.received { clock = frame_heard r.received.clock };
+          received = record r.received { clock = clock_after_frame r.received.clock };
           framer = framer;
           frame = frame;
           place = 0;
@@ -175,7 +176,7 @@ module _ {t : Tuning} {channel : ℕ} {m : Mark} {r : PagingReceiver} {heard : L
         let s = paging_stream t channel m in
         let next : ℕ = r.received.clock.next in
         let own = frame_own_bits t.count heard s next in
-        let before = bits_before t.count heard s next in
+        let before = paging_bits_before t.count heard s next in
         let later = frame_own_bits t.count heard s (next + 1) in
         let whole : take (r.place + 1) own ≡ own =
         take_all (r.place + 1) own (rw own_is at last) in

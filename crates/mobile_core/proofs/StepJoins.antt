@@ -1,6 +1,7 @@
 -- Steps of a handset: those that take no sample, and those that follow one another.
 use Rattle.mobile_core.proofs.Common.{◌≡◌, ℕ, ◌+◌, List, ◌++◌, length, length-append, length-take, length-drop, take, drop, sym, ap, ◌∙◌}
-use Rattle.mobile_core.proofs.Common.{subst, ◌≤◌, arith, Option, Some, None, IfSome, append_assoc, take-add, Sample, listed, at_of, Steps}
+use Rattle.mobile_core.proofs.Common.{subst, ◌≤◌, arith, Option, Some, None, IfSome, append_assoc, take-add, Sample, event_list, at_of}
+use Rattle.mobile_core.proofs.Common.{Steps}
 use Rattle.mobile_core.proofs.Common.{Tells, Event, Mobile, Tuning, ◌^◌, heard_of}
 use Rattle.std.proofs.lemmas.List.{append-nil}
 use Rattle.mobile_core.specs.Standing.{StandsFor}
@@ -14,7 +15,7 @@ heard_few m =
     let few = followed_few m.followed m.sound.follows in
     omega (arith, few, clock.next_have, clock.have_end, clock.end_most)
 
-pub one_or_none : (event : Option Event) → length (listed event) ≤ 1
+pub one_or_none : (event : Option Event) → length (event_list event) ≤ 1
 one_or_none None = omega arith
 one_or_none (Some event) = omega arith
 
@@ -61,7 +62,7 @@ steps_joined {one} {two} {three} {samples} {n} m k event sum before next =
           ≡ heard ++ take (n + m) samples =
           append_assoc heard (take n samples) (take m (drop n samples))
           ∙ ap (λ (xs : List Sample). heard ++ xs) (sym (take-add n m samples)) in
-          subst (λ (xs : List Sample). StandsFor t three xs (given ++ listed event)) joined
+          subst (λ (xs : List Sample). StandsFor t three xs (given ++ event_list event)) joined
           (next.stands t (heard ++ take n samples) given (on t heard given st));
     })
 

@@ -2,7 +2,8 @@
 use Rattle.mobile_core.proofs.Common.{◌≡◌, ℕ, ◌+◌, ◌<◌, ◌≤◌, false, List, [], ◌∷◌, ◌++◌, length, refl, sym, ap, subst, ◌∙◌, arith, inl, inr}
 use Rattle.mobile_core.proofs.Common.{Option, Some, None, Bool, true, IsTrue, is_some, list_any, ForSome, append_assoc, list_any-append}
 use Rattle.mobile_core.proofs.Common.{Sample, Best, Held, HoldsLast, IsDueAt, events, EndFrom, HearsFollowed, IsFollowedDue, CheckForm}
-use Rattle.mobile_core.proofs.Common.{WaitFrom, first_of, mark_before, marks_at, followed_events_left, listed, pilot_left, sync_events_left}
+use Rattle.mobile_core.proofs.Common.{WaitFrom, first_of, mark_before, marks_at, followed_events_left, event_list, pilot_left}
+use Rattle.mobile_core.proofs.Common.{sync_events_left}
 use Rattle.mobile_core.proofs.Common.{sets_mark, AreNear, SetsMark, IsSoundSync, IsDueIn, Stands, left_of, HearsSync}
 use Rattle.mobile_core.proofs.Common.{HearsNext, Tuning, sync_stream, Event, Pilot, Followed, Mark, SyncReceiver, ◌||◌}
 use Rattle.std.proofs.lemmas.List.{append-nil}
@@ -128,9 +129,9 @@ module _ {t : Tuning} {count : ℕ} {check : CheckForm} {pilot : Option Best} {r
   stands_on : (untold : Option Best) (after : SyncReceiver) (others : Followed)
       (event : Option Event) → ForSome untold (λ best. length heard ≡ 0) →
       HearsSync t after heard → HearsFollowed t others after.mark heard →
-      is_some after.mark ≡ (is_some sync.mark || list_any sets_mark (listed event)) →
-      listed event ++ left_of t untold after others heard ≡ left_of t pilot sync followed heard →
-      Stands t count check untold ring after others heard (given ++ listed event)
+      is_some after.mark ≡ (is_some sync.mark || list_any sets_mark (event_list event)) →
+      event_list event ++ left_of t untold after others heard ≡ left_of t pilot sync followed heard →
+      Stands t count check untold ring after others heard (given ++ event_list event)
   stands_on untold after others event early hears follows noted left = record {
     count_is = st.count_is;
     check_is = st.check_is;
@@ -139,9 +140,9 @@ module _ {t : Tuning} {count : ℕ} {check : CheckForm} {pilot : Option Best} {r
     sync = hears;
     followed = follows;
     noted = noted
-        ∙ ap (λ b. b || list_any sets_mark (listed event)) st.noted
-        ∙ sym (list_any-append sets_mark given (listed event));
-    told = append_assoc given (listed event) (left_of t untold after others heard)
+        ∙ ap (λ b. b || list_any sets_mark (event_list event)) st.noted
+        ∙ sym (list_any-append sets_mark given (event_list event));
+    told = append_assoc given (event_list event) (left_of t untold after others heard)
         ∙ ap (λ (es : List Event). given ++ es) left
         ∙ st.told;
   }
@@ -202,22 +203,22 @@ module _ {t : Tuning} {count : ℕ} {check : CheckForm} {pilot : Option Best} {r
       pilot ≡ None → HearsNext t heard sync after event → HearsFollowed t others after.mark heard →
       followed_events_left t after.mark heard others
       ≡ followed_events_left t sync.mark heard followed →
-      Stands t count check pilot ring after others heard (given ++ listed event)
+      Stands t count check pilot ring after others heard (given ++ event_list event)
   stands_heard after others event told next follows left =
       let later = sync_events_left t heard after.received.clock.next in
       let behind = followed_events_left t sync.mark heard followed in
       stands_on pilot after others event st.early next.hears follows next.noted
       (rw (told, left)
-      (sym (append_assoc (listed event) later behind)
+      (sym (append_assoc (event_list event) later behind)
       ∙ ap (λ (es : List Event). es ++ behind) next.left))
 
   -- what is due of the other channels has been heard: a bit, or a frame
   pub stands_followed : (others : Followed) (event : Option Event) → pilot ≡ None →
       ¬ IsDueAt count sync.received.clock → length heard < sync.received.clock.end →
-      list_any sets_mark (listed event) ≡ false → HearsFollowed t others sync.mark heard →
-      listed event ++ followed_events_left t sync.mark heard others
+      list_any sets_mark (event_list event) ≡ false → HearsFollowed t others sync.mark heard →
+      event_list event ++ followed_events_left t sync.mark heard others
       ≡ followed_events_left t sync.mark heard followed →
-      Stands t count check pilot ring sync others heard (given ++ listed event)
+      Stands t count check pilot ring sync others heard (given ++ event_list event)
   stands_followed others event told none waits unset follows left =
       stands_on pilot sync others event st.early st.sync follows
       (rw unset (sym (or-false (is_some sync.mark))))

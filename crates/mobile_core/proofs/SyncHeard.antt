@@ -21,7 +21,7 @@ starts_is (b ∷ bits) begins read = cc
 
 -- before any sample is taken
 pub hears_new : (t : Tuning) (r : SyncReceiver) → Receives t.count (sync_stream t) r.received [] →
-    r.received.clock.next ≡ r.received.clock.low → framing.StandsFor r.framer [] →
+    r.received.clock.next ≡ r.received.clock.low → framing.CapsuleStandsFor r.framer [] →
     r.message_frames ≡ 0 → r.mark ≡ None → HearsSync t r []
 hears_new t r receives next framed frames none =
     let clock = r.received.clock in

@@ -6,9 +6,9 @@ use Rattle.chip_core.specs.declared.sample.Sample.{Sample}
 use Rattle.long_code.specs.LongCode.{paging_mask}
 use Rattle.paging_message.specs.HalfFrames as half_frames
 use Rattle.rake_finger.specs.declared.form.Form.TheVariants.{Data}
-use Rattle.reception.specs.Clocks.{IsDueAt, frame_heard}
+use Rattle.reception.specs.Clocks.{IsDueAt, clock_after_frame}
 use Rattle.heard_events.specs.Left.{pages_left}
-use Rattle.heard_events.specs.PagingEvents.{bits_before}
+use Rattle.heard_events.specs.PagingEvents.{paging_bits_before}
 use Rattle.heard_events.specs.PagingStreams.{paging_rate, paging_stream}
 use Rattle.reception.specs.Receiving.{Receives}
 use Rattle.reception.specs.declared.scrambling.Scrambling.{Scrambling}
@@ -41,8 +41,8 @@ pub record HearsPaging (t : Tuning) (channel : ℕ) (m : Mark) (r : PagingReceiv
   pub receives : Receives t.count (paging_stream t channel m) r.received heard
   pub tuned : IsOfChannel channel m r.scrambling r.rate r.framer.size
   pub under_way : 0 < r.place → IsUnderWay t channel m r heard
-  pub framed : half_frames.StandsFor r.framer
-      (bits_before t.count heard (paging_stream t channel m) r.received.clock.next
+  pub framed : half_frames.HalfFramesStandFor r.framer
+      (paging_bits_before t.count heard (paging_stream t channel m) r.received.clock.next
       ++ take r.place
       (frame_own_bits t.count heard (paging_stream t channel m) r.received.clock.next))
 
@@ -59,7 +59,7 @@ abbrev pub bit_passed : PagingReceiver → PagingReceiver
 bit_passed r =
     if nat_lt (r.place + 1) (length r.frame) then record r { place = r.place + 1 }
     else record r {
-      received = record r.received { clock = frame_heard r.received.clock };
+      received = record r.received { clock = clock_after_frame r.received.clock };
       place = 0;
     }
 

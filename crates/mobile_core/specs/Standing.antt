@@ -9,7 +9,7 @@ use Rattle.pilot_search.specs.declared.sweeping.Best.{Best}
 use Rattle.rake_finger.specs.Held.{Held, HoldsLast}
 use Rattle.reception.specs.Clocks.{IsDueAt}
 use Rattle.heard_events.specs.Events.{events}
-use Rattle.heard_events.specs.Given.{listed, at_of}
+use Rattle.heard_events.specs.Given.{event_list, at_of}
 use Rattle.heard_events.specs.Left.{pilot_left, sync_events_left}
 use Rattle.heard_events.specs.Marks.{sets_mark}
 use Rattle.mobile_core.specs.FollowedChannels.{HearsFollowed, IsFollowedDue, followed_due}
@@ -93,22 +93,22 @@ ring_room mobile = mobile.ring.room
 pub record Steps (before after : Mobile) (samples : List Sample) (step : Step) : Type 0 where
   pub most : step.taken ≤ length samples
   pub room : has_room after + step.taken ≡ has_room before
-  pub fewer : steps_left after + length (listed step.event) ≤ steps_left before
+  pub fewer : steps_left after + length (event_list step.event) ≤ steps_left before
   pub ends : (t : Tuning) (heard : List Sample) (given : List Event) →
       StandsFor t before heard given →
       IfSome step.event (λ event. at_of event ≡ length heard + step.taken)
   pub stands : (t : Tuning) (heard : List Sample) (given : List Event) →
       StandsFor t before heard given →
-      StandsFor t after (heard ++ take step.taken samples) (given ++ listed step.event)
+      StandsFor t after (heard ++ take step.taken samples) (given ++ event_list step.event)
 
 -- It took no sample, and gave this event, or none.
 pub record Tells (before after : Mobile) (event : Option Event) : Type 0 where
   pub room : has_room after ≡ has_room before
-  pub more : heard_of before + length (listed event) ≤ heard_of after
+  pub more : heard_of before + length (event_list event) ≤ heard_of after
   pub told : (t : Tuning) (heard : List Sample) (given : List Event) →
       StandsFor t before heard given →
       IfSome event (λ event. at_of event ≡ length heard)
-      × StandsFor t after heard (given ++ listed event)
+      × StandsFor t after heard (given ++ event_list event)
 
 -- Where it gave none, it took all, and nothing that ends within them is left to give.
 pub record IsStep (before after : Mobile) (samples : List Sample) (step : Step) : Type 0 where

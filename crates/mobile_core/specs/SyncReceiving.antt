@@ -6,7 +6,7 @@ use Rattle.chip_core.specs.declared.sample.Sample.{Sample}
 use Rattle.rake_finger.specs.Soft.{frame_chips}
 use Rattle.rake_finger.specs.declared.form.Form.TheVariants.{Sync}
 use Rattle.sync_message.specs.Framing as framing
-use Rattle.heard_events.specs.Given.{listed}
+use Rattle.heard_events.specs.Given.{event_list}
 use Rattle.heard_events.specs.Left.{sync_events_left}
 use Rattle.heard_events.specs.Marks.{frames_open, mark_before, sets_mark}
 use Rattle.reception.specs.Receiving.{Receives}
@@ -20,7 +20,7 @@ use Rattle.mobile_core.specs.declared.sync_receiver.SyncReceiver.{SyncReceiver}
 -- It has taken these samples, and of the frames in them has heard those before the next one.
 pub record HearsSync (t : Tuning) (r : SyncReceiver) (heard : List Sample) : Type 0 where
   pub receives : Receives t.count (sync_stream t) r.received heard
-  pub framed : framing.StandsFor r.framer (frames_before t heard r.received.clock.next)
+  pub framed : framing.CapsuleStandsFor r.framer (frames_before t heard r.received.clock.next)
   pub opened : r.message_frames ≡ frames_open t heard r.received.clock.next
   pub marked : r.mark ≡ mark_before t heard r.received.clock.next
 
@@ -34,9 +34,9 @@ message_start r =
 pub record HearsNext (t : Tuning) (heard : List Sample) (before after : SyncReceiver)
     (event : Option Event) : Type 0 where
   pub hears : HearsSync t after heard
-  pub left : listed event ++ sync_events_left t heard after.received.clock.next
+  pub left : event_list event ++ sync_events_left t heard after.received.clock.next
       ≡ sync_events_left t heard before.received.clock.next
-  pub noted : is_some after.mark ≡ (is_some before.mark || list_any sets_mark (listed event))
+  pub noted : is_some after.mark ≡ (is_some before.mark || list_any sets_mark (event_list event))
 
 -- frames of the sync channel, of which no message has more than were heard
 pub record IsSoundSync (r : SyncReceiver) : Type 0 where

@@ -4,12 +4,12 @@ use Rattle.std.specs.Prelude.{length, take, sum_by, unsigned_abs, IsTrue, Option
 use Rattle.std.specs.Prelude.{is_some, min, if◌then◌else◌, ℤ, Bool, false}
 use Rattle.chip_core.specs.Air.{data_frame_chips}
 use Rattle.chip_core.specs.declared.sample.Sample.{Sample}
-use Rattle.frame_decoder.specs.TrafficFrames.{subchannels}
+use Rattle.frame_decoder.specs.TrafficFrames.{summed_subchannels}
 use Rattle.frame_decoder.specs.declared.power.PowerSofts.{PowerSofts}
 use Rattle.long_code.specs.LongCode.{traffic_mask}
 use Rattle.pilot_search.specs.declared.paths.Near.{Near}
 use Rattle.pilot_sets.specs.Standing.{Standing, new_standing}
-use Rattle.quality_bits.specs.Pieces.{StandsFor}
+use Rattle.quality_bits.specs.Pieces.{CapsuleStandsFor}
 use Rattle.rake_finger.specs.declared.finger.Finger.{Finger}
 use Rattle.heard_events.specs.Close as closes
 use Rattle.rake_finger.specs.Near.{AreClose}
@@ -71,8 +71,8 @@ traffic_left_of t traffic m samples r =
 
 -- WHAT THEY STAND FOR
 -- the fingers of the pilots that the frame is heard from which comes next
-abbrev pub fingers_in : TrafficReceiver → List Finger
-fingers_in r = all_fingers r.phase (take r.near.count r.near.deltas) r.legs
+abbrev pub receiver_fingers : TrafficReceiver → List Finger
+receiver_fingers r = all_fingers r.phase (take r.near.count r.near.deltas) r.legs
 
 -- how many samples have been taken when that frame ends, or at the next moment, where that comes
 -- first
@@ -97,7 +97,7 @@ pub record IsTunedIn (t : Tuning) (traffic : Traffic) (m mark : Mark) (phase : �
 
 -- where so many samples of a file are among its moments: so many have passed, and where the next
 -- is due it lies there
-pub record IsAmong (m : Mark) (count taken passed : ℕ) (due : Bool) : Type 0 where
+pub record IsAmongMoments (m : Mark) (count taken passed : ℕ) (due : Bool) : Type 0 where
   pub within : taken ≤ count
   pub begun : 0 < passed → moment_place m passed ≤ taken
   pub coming : taken ≤ moment_place m (passed + 1)
@@ -108,7 +108,7 @@ pub record HasCome (t : Tuning) (traffic : Traffic) (m : Mark) (legs : ℕ → L
     (heard : List Sample) (k : ℕ) (values : List ℤ) (power : PowerSofts) : Type 0 where
   pub known : frame_known t traffic m legs k ≡ length heard
   pub softs_are : values ≡ raw_softs t traffic m legs heard k
-  pub power_is : subchannels power ≡ all_sums t traffic m legs heard k
+  pub power_is : summed_subchannels power ≡ all_sums t traffic m legs heard k
 
 -- The frame that comes next begins there. Where a frame has come it is the one that is heard next;
 -- the framer has taken the signaling of the frames before that one.
@@ -118,7 +118,7 @@ pub record HasHeard (t : Tuning) (traffic : Traffic) (m : Mark) (legs : ℕ → 
   pub start_is : start ≡ traffic_start traffic m have
   pub ended : (k : ℕ) → k < next → frame_known t traffic m legs k ≤ length heard
   pub come : next < have → HasCome t traffic m legs heard next values power
-  pub framed : StandsFor framer (signals_before t traffic m legs heard next)
+  pub framed : CapsuleStandsFor framer (signals_before t traffic m legs heard next)
 
 -- It has taken these samples, in which the events `pages` of the paging channel haven't been heard;
 -- `kept` is what is kept after the moments that have passed, and those before moment `until` have
@@ -128,7 +128,7 @@ pub record HearsUpTo (until : ℕ) (t : Tuning) (traffic : Traffic) (m : Mark) (
     (heard : List Sample) (pages : List Event) (kept : ℕ → Standing) : Type 0 where
   pub tuned : IsTunedIn t traffic m r.sets.mark r.receiver.phase r.receiver.near
       r.receiver.frames.scrambling
-  pub among : IsAmong m t.count (length heard) r.sets.passed r.sets.due
+  pub among : IsAmongMoments m t.count (length heard) r.sets.passed r.sets.due
   pub frames : HasHeard t traffic m (legs_by traffic m kept) heard r.receiver.frames.clock.next
       r.receiver.frames.clock.have r.receiver.frames.clock.start r.receiver.softs r.receiver.power
       r.receiver.framer
@@ -168,25 +168,25 @@ GivesFirst t traffic m heard before after given pages =
     ≡ traffic_left_of t traffic m heard before)
 
 -- whether a message is kept, or a frame has come that hasn't been heard
-abbrev pub HasTold : TrafficReceiver → Type 0
-HasTold r = IsTrue (is_some r.kept) ⊎ (r.frames.clock.next < r.frames.clock.have)
+abbrev pub HasToTell : TrafficReceiver → Type 0
+HasToTell r = IsTrue (is_some r.kept) ⊎ (r.frames.clock.next < r.frames.clock.have)
 
 -- or a moment has come that hasn't passed
 abbrev pub IsTrafficDue : SoftHandoff → Type 0
-IsTrafficDue r = HasTold r.receiver ⊎ IsTrue r.sets.due
+IsTrafficDue r = HasToTell r.receiver ⊎ IsTrue r.sets.due
 
 -- how many messages are kept
-abbrev pub kept_by : Option SpelledSignal → ℕ
-kept_by None = 0
-kept_by (Some message) = 1
+abbrev pub messages_kept : Option SpelledSignal → ℕ
+messages_kept None = 0
+messages_kept (Some message) = 1
 
 -- how much has been heard of the frames, where each counts as two, itself and what it completes;
 -- and how much has come that hasn't been heard
 abbrev pub told_heard : TrafficReceiver → ℕ
-told_heard r = 2 * r.frames.clock.next + 1 - kept_by r.kept
+told_heard r = 2 * r.frames.clock.next + 1 - messages_kept r.kept
 
 abbrev pub told_due : TrafficReceiver → ℕ
-told_due r = 2 * (r.frames.clock.have - r.frames.clock.next) + kept_by r.kept
+told_due r = 2 * (r.frames.clock.have - r.frames.clock.next) + messages_kept r.kept
 
 -- and with the moments
 abbrev pub traffic_heard : SoftHandoff → ℕ
@@ -243,7 +243,7 @@ pub record IsSoundlySet (near : Near) : Type 0 where
 pub record IsSoundTraffic (r : TrafficReceiver) : Type 0 where
   pub set : IsSoundlySet r.near
   pub frames : IsSoundReceiver r.frames
-  pub fingers_are : r.frames.fingers ≡ fingers_in r
+  pub fingers_are : r.frames.fingers ≡ receiver_fingers r
   pub have_most : r.frames.clock.have ≤ r.frames.clock.next + 1
   pub start_least : 2 ^ 16 + data_frame_chips * r.frames.clock.have ≤ r.frames.clock.start
   pub start_most : r.frames.clock.start ≤ 2 ^ 29 + 2 ^ 16

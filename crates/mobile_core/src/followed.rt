@@ -41,7 +41,7 @@ impl Followed {
     ghost use Rattle.mobile_core.specs.FollowedChannels.{IsSoundFollowed, WaitFrom, followed_due};
     ghost use Rattle.mobile_core.specs.FollowedChannels.{followed_events_left, followed_heard};
     ghost use Rattle.mobile_core.specs.FollowedChannels.{traffic_events_left};
-    ghost use Rattle.heard_events.specs.Given.{at_of, listed};
+    ghost use Rattle.heard_events.specs.Given.{at_of, event_list};
     ghost use Rattle.heard_events.specs.SoundMarks.{IsSoundMark};
     ghost use Rattle.mobile_core.specs.TrafficReceiving.{IsSoundHandoff, WaitsAt, traffic_due};
     ghost use Rattle.mobile_core.specs.TrafficReceiving.{traffic_heard};
@@ -126,7 +126,7 @@ impl Followed {
         ensures hears { (t : Tuning) (assigned : Option TheTraffic) (mark : Option TheMark)
             (heard : List Sample) (pages : List TheEvent) →
             IfSome event.now (λ told. at_of told ≡ length heard) →
-            HearsFrames t assigned mark traffic.old heard (listed event.now ++ pages) →
+            HearsFrames t assigned mark traffic.old heard (event_list event.now ++ pages) →
             HearsFrames t assigned mark traffic.new heard pages
             × (traffic_events_left t assigned mark heard traffic.new
             ≡ traffic_events_left t assigned mark heard traffic.old) }

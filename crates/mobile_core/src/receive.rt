@@ -15,7 +15,7 @@ pub(crate) trait Receive {
     ghost use Rattle.chip_core.specs.declared.assignment.Traffic.{Traffic};
     ghost use Rattle.chip_core.specs.declared.check_form.CheckForm.{CheckForm as TheForm};
     ghost use Rattle.chip_core.specs.declared.sample.Sample.{Sample};
-    ghost use Rattle.heard_events.specs.Given.{at_of, listed};
+    ghost use Rattle.heard_events.specs.Given.{at_of, event_list};
     ghost use Rattle.heard_events.specs.Marks.{sets_mark};
     ghost use Rattle.heard_events.specs.Tuning.{Tuning};
     ghost use Rattle.heard_events.specs.declared.event.Event.{Event as TheEvent};
@@ -106,12 +106,12 @@ pub(crate) trait Receive {
         ensures further { heard self.old < heard self.new }
         ensures nearer { unheard self.new < unheard self.old }
         ensures ends { IfSome result (λ event. at_of event ≡ ring.now.taken) }
-        ensures unset { list_any sets_mark (listed result) ≡ false }
+        ensures unset { list_any sets_mark (event_list result) ≡ false }
         ensures hears { (t : Tuning) (assigned : Option Traffic) (mark : Option Mark)
             (samples : List Sample) → HoldsLast ring.now samples → check ≡ form t →
             count ≡ t.count → stands t assigned mark self.old samples [] →
             stands t assigned mark self.new samples []
-            × (listed result ++ left t assigned mark samples self.new
+            × (event_list result ++ left t assigned mark samples self.new
             ≡ left t assigned mark samples self.old) };
 }
 

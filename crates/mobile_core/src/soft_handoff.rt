@@ -29,7 +29,7 @@ impl SoftHandoff {
     ghost use Rattle.chip_core.specs.declared.assignment.Traffic.{Traffic as TheTraffic};
     ghost use Rattle.chip_core.specs.declared.sample.Sample.{Sample};
     ghost use Rattle.heard_events.specs.Close.{legs_close};
-    ghost use Rattle.heard_events.specs.Given.{at_of, listed};
+    ghost use Rattle.heard_events.specs.Given.{at_of, event_list};
     ghost use Rattle.heard_events.specs.Legs.{legs_of};
     ghost use Rattle.heard_events.specs.Marks.{sets_mark};
     ghost use Rattle.heard_events.specs.SoundMarks.{IsSoundMark};
@@ -129,11 +129,11 @@ impl SoftHandoff {
         ensures waits { WaitsAt ring.now.taken self.new }
         ensures sound { IsSoundHandoff self.new }
         ensures ends { IfSome result (λ event. at_of event ≡ ring.now.taken) }
-        ensures unset { list_any sets_mark (listed result) ≡ false }
+        ensures unset { list_any sets_mark (event_list result) ≡ false }
         ensures hears { (t : Tuning) (traffic : TheTraffic) (m : TheMark)
             (heard : List Sample) → HoldsLast ring.now heard →
             HearsTraffic t traffic m self.old heard [] →
-            GivesFirst t traffic m heard self.old self.new (listed result) [] }
+            GivesFirst t traffic m heard self.old self.new (event_list result) [] }
     {
         let event = self.sets.pass(ring, codes);
         self.tune();

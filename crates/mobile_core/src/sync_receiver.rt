@@ -2,7 +2,7 @@
 
 ghost use Rattle.std.specs.Prelude.{◌≡◌, ◌<◌, ◌≤◌, ◌^◌, IfSome};
 ghost use Rattle.std.specs.Option.{ForSome, option_or};
-ghost use Rattle.heard_events.specs.Given.{at_of, listed};
+ghost use Rattle.heard_events.specs.Given.{at_of, event_list};
 ghost use Rattle.heard_events.specs.Marks.{first_of, frames_with, marks_of};
 ghost use Rattle.heard_events.specs.SoundMarks.{IsSoundMark};
 ghost use Rattle.heard_events.specs.SyncEvents.{events_of};
@@ -35,7 +35,7 @@ impl SyncReceiver {
     ghost use Rattle.std.specs.Prelude.{◌≡◌, ◌<◌, ◌≤◌, ◌+◌, ◌^◌, ◌↔◌, IsTrue, List, [], length};
     ghost use Rattle.std.specs.Prelude.{take, slice_get, None, Some, pos, is_some, IfSome};
     ghost use Rattle.chip_core.specs.declared.sample.Sample.{Sample};
-    ghost use Rattle.reception.specs.Clocks.{IsDueAt, frame_heard};
+    ghost use Rattle.reception.specs.Clocks.{IsDueAt, clock_after_frame};
     ghost use Rattle.heard_events.specs.Given.{at_of};
     ghost use Rattle.mobile_core.specs.SyncReceiving.{HearsNext, HearsSync, IsSoundSync};
     ghost use Rattle.mobile_core.specs.SyncReceiving.{message_start};
@@ -116,7 +116,7 @@ impl SyncReceiver {
         requires sound { IsSoundSync self.old }
         requires come { self.old.received.clock.next < self.old.received.clock.have }
         requires room { decoder.old ≡ 576 }
-        ensures clock { self.new.received.clock ≡ frame_heard self.old.received.clock }
+        ensures clock { self.new.received.clock ≡ clock_after_frame self.old.received.clock }
         ensures ends { IfSome result (λ event. at_of event ≡ at) }
         ensures sound { IsSoundSync self.new }
         ensures kept { decoder.new ≡ decoder.old }
@@ -160,7 +160,7 @@ fn with_frame(begins: bool, message_frames: u64) -> u64
 
 /// The event of what is told, where something is, when so many samples have been taken.
 fn event_in(told: &Option<Spelled<SyncMessage>>, at: u64) -> Option<Event>
-    ensures value { listed result ≡ events_of at told.now }
+    ensures value { event_list result ≡ events_of at told.now }
     ensures ends { IfSome result (λ event. at_of event ≡ at) }
 {
     let Some(told) = told else { return None };

@@ -55,7 +55,7 @@ impl TrafficReceiver {
     ghost use Rattle.heard_events.specs.declared.event.Event.{Event as TheEvent};
     ghost use Rattle.heard_events.specs.declared.mark.Mark.{Mark as TheMark};
     ghost use Rattle.heard_events.specs.declared.sets_keeper.SetsKeeper.{SetsKeeper};
-    ghost use Rattle.mobile_core.specs.TrafficReceiving.{GivesFirst, HasSoundLegs, HasTold};
+    ghost use Rattle.mobile_core.specs.TrafficReceiving.{GivesFirst, HasSoundLegs, HasToTell};
     ghost use Rattle.mobile_core.specs.TrafficReceiving.{HearsTraffic, HearsUntuned, HearsWith};
     ghost use Rattle.mobile_core.specs.TrafficReceiving.{IsSoundHandoff, IsSoundTraffic, beside};
     ghost use Rattle.mobile_core.specs.TrafficReceiving.{first_keeper, frame_taken, told_due};
@@ -83,7 +83,7 @@ impl TrafficReceiver {
         requires first { slice_get near.now.deltas 0 ≡ Some (pos 0) }
         ensures begins { mark.now.sample < result.frames.clock.end }
         ensures begun { mark.now.sample ≤ result.frames.clock.start }
-        ensures idle { ¬ HasTold result }
+        ensures idle { ¬ HasToTell result }
         ensures sound { IsSoundTraffic result }
         ensures hears { (t : Tuning) (heard : List Sample) → t.phase ≡ phase →
             t.deltas ≡ take near.now.count near.now.deltas → length heard ≤ t.count →
@@ -108,7 +108,7 @@ impl TrafficReceiver {
 
     /// Whether a message is kept, or a frame has come that hasn't been heard.
     pub(crate) fn has_told(&self) -> bool
-        ensures { IsTrue result ↔ HasTold self.now }
+        ensures { IsTrue result ↔ HasToTell self.now }
     {
         self.kept.is_some() || self.frames.clock.next < self.frames.clock.have
     }
@@ -150,7 +150,7 @@ impl TrafficReceiver {
     /// completes, and gives the event at so many samples.
     pub(crate) fn hear_told(&mut self, decoder: &mut Decoder, check: CheckForm, at: u64) -> Event
         requires sound { IsSoundTraffic self.old }
-        requires due { HasTold self.old }
+        requires due { HasToTell self.old }
         requires room { decoder.old ≡ 576 }
         ensures waits { self.new.frames.clock.end ≡ self.old.frames.clock.end }
         ensures starts { self.new.frames.clock.start ≡ self.old.frames.clock.start }

@@ -3,9 +3,9 @@
 use Rattle.owed_replies.proofs.Common.{◌≡◌, ℕ, List, length, take, refl, sym, ap, ◌∙◌, subst, Option, None, Some, is_some, nat_lt, Contains}
 use Rattle.owed_replies.proofs.Common.{Sample, Width, Header, CellPlan, PagingPlan, TrafficPlan, SyncPlan, IsReceivable, made_samples, mark}
 use Rattle.owed_replies.proofs.Common.{Mark, Tuning, IsOnPath, IsNearFile, IsPlanFile, IsCellFile, lawful_traffic, named_receivable}
-use Rattle.owed_replies.proofs.Common.{clean_end, end_when, tuning_for, HandsetOptions, All-contains, Bears, HearsSync, IsNear}
+use Rattle.owed_replies.proofs.Common.{clean_end, end_when, tuning_for, HandsetOptions, All-contains, Bears, HearsSentSync, IsNear}
 use Rattle.owed_replies.proofs.Common.{IsPagingPlan, IsSyncPlan, ShowsSync, clean_sync, events_of_channel, heard_sync, marked_in}
-use Rattle.owed_replies.proofs.Common.{near-equal, near-same, none_borne, paging_rate, sync_sent}
+use Rattle.owed_replies.proofs.Common.{near-equal, near-same, none_borne, sent_paging_rate, sync_sent}
 use Rattle.owed_replies.proofs.TuningLaw.{near_long, on_plans_path}
 
 -- The sync channel bears noise of this size, or the cell sends none and there is no noise.
@@ -37,7 +37,7 @@ pub none_on_paging : {width : Width} {plan : CellPlan} {p : PagingPlan} →
     IsReceivable width plan → Contains plan.paging p → Bears plan p.gain 0
 none_on_paging {width} {plan} {p} is has =
     none_borne width plan p.gain is
-    (All-contains (IsPagingPlan (paging_rate plan.sync)) plan.paging p is.lawful.paging has).gain
+    (All-contains (IsPagingPlan (sent_paging_rate plan.sync)) plan.paging p is.lawful.paging has).gain
 
 -- so a file that holds just what the cell sends is such a file
 pub plan_borne : {width : Width} {plan : CellPlan} {span fingers : ℕ} {header : Header}
@@ -81,7 +81,7 @@ module _ {e : ℕ} {width : Width} {plan : CellPlan} {span : ℕ} {header : Head
 
   -- a sync channel that is sent
   pub hears : (sync : SyncPlan) → plan.sync ≡ Some sync → Bears plan sync.gain e →
-      HearsSync width plan sync e samples
+      HearsSentSync width plan sync e samples
   hears sync sends bears = record {
     receivable = file.near.receivable;
     sends = sends;
@@ -92,7 +92,7 @@ module _ {e : ℕ} {width : Width} {plan : CellPlan} {span : ℕ} {header : Head
   -- What holds of the cell's own samples where there is no noise, and of near samples where a sync
   -- channel bears their noise, holds of the file's samples.
   pub by_sync : (P : List Sample → Type 0) → (e ≡ 0 → P (made_samples plan)) →
-      ((sync : SyncPlan) → HearsSync width plan sync e samples → P samples) → P samples
+      ((sync : SyncPlan) → HearsSentSync width plan sync e samples → P samples) → P samples
   by_sync P none some = by_channel plan.sync refl file.sync
     where
       by_channel : (channel : Option SyncPlan) → plan.sync ≡ channel →
@@ -120,12 +120,12 @@ module _ {e : ℕ} {width : Width} {plan : CellPlan} {span : ℕ} {header : Head
 
   -- where a mark is set, a sync channel is sent, and bears the noise
   pub sync_there : (m : Mark) → mark tuning samples (length samples) ≡ Some m →
-      (sync : SyncPlan) × HearsSync width plan sync e samples
+      (sync : SyncPlan) × HearsSentSync width plan sync e samples
   unfolding sync_sent
   sync_there m set = by_channel plan.sync refl file.sync
     where
       by_channel : (channel : Option SyncPlan) → plan.sync ≡ channel →
-          BearsSync plan e channel → (sync : SyncPlan) × HearsSync width plan sync e samples
+          BearsSync plan e channel → (sync : SyncPlan) × HearsSentSync width plan sync e samples
       by_channel None silent none =
           let one : is_some (Some m) ≡ nat_lt 0 (length (events_of_channel plan None)) =
           sym (ap is_some set) ∙ marked

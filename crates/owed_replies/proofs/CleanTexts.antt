@@ -2,7 +2,7 @@
 use Rattle.owed_replies.proofs.Common.{◌≡◌, ◌⊎◌, inl, inr, ℕ, ◌≤◌, List, ◌++◌, length, take, sym, ap, ◌∙◌, subst, All, Option, Some, Ok}
 use Rattle.owed_replies.proofs.Common.{Sample, IsSampleFile, Header, Width, energy, IsFreeOf, phase_at, CellPlan, named_receivable, KeptTap}
 use Rattle.owed_replies.proofs.Common.{run_text, events, Event, IsPaging, made_samples, Tuning, IsCellFile, IsCleanLink, cell_energy}
-use Rattle.owed_replies.proofs.Common.{IsNotDirected, IsOnPath, IsTunedTo, tuning_to, FollowsSent, sent_events, messages_back, tuned_is}
+use Rattle.owed_replies.proofs.Common.{IsNotDirected, IsOnPath, IsTunedToPlan, tuning_to, FollowsSent, sent_events, messages_back, tuned_is}
 use Rattle.owed_replies.proofs.Common.{Traffic, clean_end, clean_events, told, file_end_of, file_text, tuning_for, AnswersBehind}
 use Rattle.owed_replies.proofs.Common.{IsFileReply, Reply, following, HandsetOptions, Status, NoMemory}
 use Rattle.owed_replies.proofs.BorneFiles.{cell_borne, end_is, path}
@@ -22,7 +22,7 @@ tuned : (width : Width) (script : List ℕ) (plan : CellPlan) (span : ℕ) (opti
     IsCleanLink width script plan span options.fingers options.paging
     options.traffic header samples → IsFreeOf plan.traffic options.paging →
     length samples ≡ header.count → IsPaging options.paging →
-    IsTunedTo plan (tuning_for header (take span samples) options)
+    IsTunedToPlan plan (tuning_for header (take span samples) options)
 tuned width script plan span options header samples clean free counted paging = record {
   path = on_path width script plan span options header samples clean.file counted;
   first_channel = paging.0;
@@ -82,7 +82,7 @@ clean_events-are width script plan span fingers paging traffic header samples cl
     let options : HandsetOptions =
     record { fingers = fingers; paging = paging; traffic = traffic } in
     let t = tuning_for header (take span samples) options in
-    let tuned_to : IsTunedTo plan t =
+    let tuned_to : IsTunedToPlan plan t =
     tuned width script plan span options header samples clean free counted one in
     ap (events t) clean.file.sent
     ∙ messages_back width plan t (named_receivable width script plan clean.file.named) tuned_to follows

@@ -23,7 +23,7 @@ pub use Rattle.cdma_io.specs.declared.file_fault.FileFault.TheVariants.{Extra, R
 pub use Rattle.cdma_io.specs.declared.header.Header.{Header}
 pub use Rattle.command_line.specs.Args.{IsLawfulJob, IsPaging}
 pub use Rattle.command_line.specs.declared.job.Job.{Job}
-pub use Rattle.cell_plan.specs.Pages.{paging_rate}
+pub use Rattle.cell_plan.specs.Pages.{sent_paging_rate}
 pub use Rattle.cell_plan.specs.Plan.{IsFreeOf, IsPagingPlan, IsSyncPlan}
 unfoldable pub use Rattle.cell_plan.specs.Sampled.{made_samples}
 pub use Rattle.cell_plan.specs.Stated.{IsReceivable}
@@ -47,11 +47,11 @@ pub use Rattle.clean_link.proofs.noise.Rounding.{near-equal, near-same}
 pub use Rattle.clean_link.proofs.signal.Samples.{length-made}
 pub use Rattle.clean_link.proofs.traffic.Signs.{lawful_traffic}
 pub use Rattle.clean_link.specs.BoundedNoise.{Bears, IsNear}
-pub use Rattle.clean_link.specs.CleanLink.{IsNotDirected, IsOnPath, IsTunedTo, tuning_to, events_of_channel}
+pub use Rattle.clean_link.specs.CleanLink.{IsNotDirected, IsOnPath, IsTunedToPlan, tuning_to, events_of_channel}
 unfoldable pub use Rattle.clean_link.specs.CleanLink.{sync_sent}
 pub use Rattle.clean_link.specs.HeardEach.{HearsEach}
 pub use Rattle.clean_link.specs.NearFiles.{IsNearFile, IsPlanFile}
-pub use Rattle.clean_link.specs.CleanLaws.{HearsSync, ShowsSync}
+pub use Rattle.clean_link.specs.CleanLaws.{HearsSentSync, ShowsSync}
 pub use Rattle.clean_link.specs.SentEvents.{FollowsSent, sent_events}
 pub use Rattle.event_tap.specs.Taps.{KeptTap, kept_by}
 unfoldable pub use Rattle.event_tap.specs.Taps.{run_text}
@@ -71,7 +71,7 @@ pub use Rattle.owed_replies.specs.CleanLinks.{WritesEach}
 pub use Rattle.owed_replies.specs.Find.{BeginsFile, IsEnd, IsFault, IsFaultIn, IsHeaderFault, IsLaterFault, IsOfFiles, IsRestFault}
 pub use Rattle.owed_replies.specs.Find.{IsSearchable, PassesSamples, TakesNoMore, TakesSpan, WritesNoMore, WritesText, ended, file_end}
 pub use Rattle.owed_replies.specs.Find.{most_taken}
-pub use Rattle.owed_replies.specs.Hearing.{IsUnheard, clean_end, end_when, is_told, listening, tuning_for}
+pub use Rattle.owed_replies.specs.Hearing.{PurposeIsUnheard, clean_end, end_when, is_told, listening, tuning_for}
 unfoldable pub use Rattle.owed_replies.specs.Hearing.{clean_events, file_end_of, file_text, told}
 pub use Rattle.owed_replies.specs.Make.{WritesMadeFile}
 unfoldable pub use Rattle.owed_replies.specs.Make.{made_file}

@@ -3,7 +3,7 @@ use Rattle.owed_replies.proofs.Common.{◌≡◌, ℕ, ◌≤◌, ◌++◌, List
 use Rattle.owed_replies.proofs.Common.{[], Bool, flat_map, Appends-nil, Sample, Rose, FileFault, ReadFault, Header, header_spelling}
 use Rattle.owed_replies.proofs.Common.{sample_spelling, width_of, KeptTap, front_begins, Status, Done, NoSync, BadFile, NoMemory}
 use Rattle.owed_replies.proofs.Common.{WriteFault, file_status, BeginsFile, IsEnd, IsFault, TakesNoMore, TakesSpan, WritesNoMore, ended}
-use Rattle.owed_replies.proofs.Common.{IsUnheard, end_when, is_told, listening, Purpose, Follow, Tuned, ReceivesFile, Reception}
+use Rattle.owed_replies.proofs.Common.{PurposeIsUnheard, end_when, is_told, listening, Purpose, Follow, Tuned, ReceivesFile, Reception}
 
 -- a status that comes of a fault of the file blames a read, or the file's bytes
 pub by_file_status : (P : Status → Type 0) (fault : FileFault) → P Status.ReadFault →
@@ -41,14 +41,14 @@ begins_file {header} {samples} (Some bytes) (Some behind) same t = record {
 
 -- a run over a good file that nobody hears is done
 unheard_told : (taps : List KeptTap) (purpose : Purpose) (header : Header)
-    (first heard : List Sample) → IsUnheard purpose →
+    (first heard : List Sample) → PurposeIsUnheard purpose →
     is_told (listening taps purpose header first) heard ≡ true
 unheard_told taps (Follow options) header first heard unheard = absurd unheard
 unheard_told taps (Tuned fingers channel text) header first heard unheard = absurd unheard
 unheard_told taps purpose header first heard unheard = refl
 
 pub ends_well : {T : Type 0} (taps : List KeptTap) (purpose : Purpose) (header : Header)
-    (first heard : List Sample) (told : Bool) (r : Result T Status) → IsUnheard purpose →
+    (first heard : List Sample) (told : Bool) (r : Result T Status) → PurposeIsUnheard purpose →
     ended r ≡ end_when told → told ≡ is_told (listening taps purpose header first) heard →
     ¬ (ended r ≡ NoSync)
 ends_well taps purpose header first heard told r unheard ends is never =

@@ -4,7 +4,8 @@ use Rattle.owed_replies.proofs.Common.{◌≡◌, ◌≢◌, ℕ, ◌≤◌, ◌
 use Rattle.owed_replies.proofs.Common.{IfErr, IfSome, OnErr, OnOk, Result, Ok, Err, map, take, append-nil, StartsWith, Appends, Sample}
 use Rattle.owed_replies.proofs.Common.{IsSampleFile, FileFault, Header, Width, file_unique, CellPlan, ScriptFault, plan_named, KeptTap}
 use Rattle.owed_replies.proofs.Common.{kept_by, Job, front_begins, taken_begins, Reception, Status, Task, Make, Receive, Trial, IsCut}
-use Rattle.owed_replies.proofs.Common.{IsEnd, IsFaultIn, IsHeaderFault, IsSearchable, WritesText, ended, IsUnheard, file_end_of, file_text}
+use Rattle.owed_replies.proofs.Common.{IsEnd, IsFaultIn, IsHeaderFault, IsSearchable, WritesText, ended, PurposeIsUnheard, file_end_of}
+use Rattle.owed_replies.proofs.Common.{file_text}
 use Rattle.owed_replies.proofs.Common.{Purpose, WritesMadeFile, made_file, Answers, AnswersBehind, IsAnswered, IsEarlyFault, IsFaultyFile}
 use Rattle.owed_replies.proofs.Common.{IsFaultyScript, IsFileEnd, IsFileReply, IsPurposeEnd, IsReply, IsScriptReply, IsSearchEnd, IsTaskEnd}
 use Rattle.owed_replies.proofs.Common.{IsTaskReply, IsTrialEnd, IsTrialReply, IsVerdict, IsWholeFile, IsWholeScript, Reply, WritesPart}
@@ -75,7 +76,7 @@ search_end status end alone = tt
 
 -- for a purpose
 pub purpose_end : (purpose : Purpose) (status : Status) → IsFileEnd status →
-    (IsUnheard purpose → status ≢ Status.NoSync) → IsPurposeEnd purpose status
+    (PurposeIsUnheard purpose → status ≢ Status.NoSync) → IsPurposeEnd purpose status
 purpose_end (purposes.Follow options) status end alone = end
 purpose_end (purposes.Tuned fingers channel text) status end alone = end
 purpose_end purpose status end alone = search_end status end (alone tt)

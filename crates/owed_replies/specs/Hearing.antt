@@ -112,10 +112,10 @@ file_end_of r header samples =
     end_when (is_told (listening [] r.purpose header (take r.span samples)) samples)
 
 -- a file that nobody hears
-abbrev pub IsUnheard : Purpose → Type 0
-IsUnheard Find = Unit {0}
-IsUnheard (Survey base width top) = Unit {0}
-IsUnheard purpose = ⊥
+abbrev pub PurposeIsUnheard : Purpose → Type 0
+PurposeIsUnheard Find = Unit {0}
+PurposeIsUnheard (Survey base width top) = Unit {0}
+PurposeIsUnheard purpose = ⊥
 
 -- what is told of a clean link: the pilot at the cell's phase, all whole transmissions, the whole
 -- pages of the paging channel that is followed, and the frames of the traffic channel that is, with

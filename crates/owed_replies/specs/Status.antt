@@ -3,7 +3,7 @@
 use Rattle.std.specs.Prelude.{ℕ, List, [], ◌∷◌, ◌++◌, codes, decimal, Option, None, Some}
 use Rattle.cdma_io.specs.declared.file_fault.FileFault.{FileFault}
 use Rattle.cdma_io.specs.declared.file_fault.FileFault.TheVariants as file
-use Rattle.cdma_io.specs.SampleFile.{place_of}
+use Rattle.cdma_io.specs.SampleFile.{fault_place}
 use Rattle.cell_script.specs.declared.script_fault.ScriptFault.{ScriptFault}
 use Rattle.cell_script.specs.declared.script_fault.ScriptFault.TheVariants as script
 use Rattle.owed_replies.specs.declared.status.Status.{Status}
@@ -32,15 +32,15 @@ script_status script.OutOfMemory = NoMemory
 script_status fault = BadScript fault
 
 -- the kind of a fault of the file
-abbrev pub kind_of : FileFault → List ℕ
-kind_of file.Magic = codes "magic"
-kind_of file.Version = codes "version"
-kind_of file.Flags = codes "flags"
-kind_of file.Count = codes "count"
-kind_of (file.Short place) = codes "short"
-kind_of (file.Extra place) = codes "extra"
-kind_of file.ReadFault = codes "read fault"
-kind_of (file.TooFew count) = codes "too few"
+abbrev pub fault_kind_text : FileFault → List ℕ
+fault_kind_text file.Magic = codes "magic"
+fault_kind_text file.Version = codes "version"
+fault_kind_text file.Flags = codes "flags"
+fault_kind_text file.Count = codes "count"
+fault_kind_text (file.Short place) = codes "short"
+fault_kind_text (file.Extra place) = codes "extra"
+fault_kind_text file.ReadFault = codes "read fault"
+fault_kind_text (file.TooFew count) = codes "too few"
 
 -- a kind, and the place in decimal where there is one
 abbrev pub located : List ℕ → Option ℕ → List ℕ
@@ -62,7 +62,7 @@ abbrev pub text_of : Status → List ℕ
 text_of Done = codes ""
 text_of NoSync = codes "no sync message"
 text_of BadWords = codes "bad words"
-text_of (BadFile fault) = located (kind_of fault) (place_of fault)
+text_of (BadFile fault) = located (fault_kind_text fault) (fault_place fault)
 text_of ReadFault = codes "read fault"
 text_of WriteFault = codes "write fault"
 text_of NoMemory = codes "out of memory"

@@ -20,7 +20,7 @@ use Rattle.owed_replies.specs.declared.task.Task.TheVariants.{Trial}
 use Rattle.owed_replies.specs.Broken.{IsCut, IsLong, WritesAll, WritesFirst}
 use Rattle.owed_replies.specs.Find.{BeginsFile, IsEnd, IsFaultIn, IsHeaderFault, IsOfFiles}
 use Rattle.owed_replies.specs.Find.{IsSearchable, TakesNoMore, WritesNoMore, WritesText}
-use Rattle.owed_replies.specs.Hearing.{IsUnheard}
+use Rattle.owed_replies.specs.Hearing.{PurposeIsUnheard}
 use Rattle.owed_replies.specs.Make.{WritesMadeFile, WritesNoMoreMade}
 use Rattle.owed_replies.specs.Replies.{IsAnswered, IsEarlyFault, IsTaskEnd, IsTaskPromising}
 use Rattle.owed_replies.specs.Replies.{IsTaskReply, IsVerdict, TaskBegins, TaskReadsInput}
@@ -36,7 +36,7 @@ pub record ReceivesFile (taps : List KeptTap) (r : Reception) (status : Status)
   pub others : IsOfFiles status
   pub memory : status ≡ ends.NoMemory → SameSink
   pub early : status ≡ ends.NoMemory → SameSource ⊎ IfSome rest (BeginsFile r.span)
-  pub alone : IsUnheard r.purpose → status ≢ ends.NoSync
+  pub alone : PurposeIsUnheard r.purpose → status ≢ ends.NoSync
   pub bad_file : (fault : FileFault) → status ≡ ends.BadFile fault →
       (fault ≢ file.ReadFault) × IfSome rest (λ bytes. ¬ (IsSearchable bytes r.span))
   pub place : (fault : FileFault) → status ≡ ends.BadFile fault →

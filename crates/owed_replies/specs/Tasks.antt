@@ -46,8 +46,8 @@ hearing span workers fingers channel text = record {
 }
 
 -- a traffic channel of these numbers
-abbrev pub traffic_with : ℕ → ℕ → ℕ → Channel
-traffic_with esn row offset =
+abbrev pub traffic_channel_with : ℕ → ℕ → ℕ → Channel
+traffic_channel_with esn row offset =
     channels.Traffic (record { esn = esn; row = row; offset = offset })
 
 -- ---- the table
@@ -62,9 +62,9 @@ task_of (jobs.Find span workers) = untapped (finding span workers)
 task_of (jobs.Follow span workers fingers paging traffic limits) =
     Receive (following span workers fingers paging traffic) (Some limits)
 task_of (jobs.Rate2 span workers fingers offset esn row) =
-    untapped (hearing span workers fingers (traffic_with esn row offset) RateSetTwo)
+    untapped (hearing span workers fingers (traffic_channel_with esn row offset) RateSetTwo)
 task_of (jobs.List span workers fingers offset esn row k) =
-    untapped (hearing span workers fingers (traffic_with esn row offset) (Listed k))
+    untapped (hearing span workers fingers (traffic_channel_with esn row offset) (Listed k))
 task_of (jobs.Idle span workers fingers paging key cycle) =
     untapped (hearing span workers fingers (channels.Paging paging) (Slots key cycle))
 task_of (jobs.Survey span workers base width top) =

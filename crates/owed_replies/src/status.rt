@@ -2,7 +2,8 @@
 
 ghost use Rattle.std.specs.Prelude.{◌≡◌, ◌≤◌, ◌+◌, ◌++◌, ◌↔◌, Some, length, IsAscii};
 ghost use Rattle.std.specs.Prelude.{IsTrue, decimal};
-ghost use Rattle.owed_replies.specs.Status.{code_of, end_line, file_status, kind_of, located};
+ghost use Rattle.owed_replies.specs.Status.{code_of, end_line, file_status, fault_kind_text};
+ghost use Rattle.owed_replies.specs.Status.{located};
 ghost use Rattle.owed_replies.specs.Status.{script_line, text_of};
 
 use cdma_io::FileFault;
@@ -111,7 +112,7 @@ impl fmt::Display for Status {
 
 // The kind of a fault of the file.
 fn kind(fault: FileFault) -> &'static str
-    ensures value { result.now ≡ kind_of fault }
+    ensures value { result.now ≡ fault_kind_text fault }
     ensures ascii { IsAscii result.now }
     ensures most { length result.now ≤ 10 }
 {

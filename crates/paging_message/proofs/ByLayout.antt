@@ -1,15 +1,18 @@
 -- What stands after the message types, by its layouts.
 use Rattle.paging_message.proofs.Common.{◌≡◌, Bool, None, Some, ap, arith, cond, false, inl, length-append, map, refl, subst, sym, true}
 use Rattle.paging_message.proofs.Common.{◌*◌, ◌+◌, ◌-◌, ◌<◌, ◌==◌, ◌^◌, ◌∙◌, ◌∷◌, ◌≢◌, ◌≤◌, eqb-false, eqb-true, le-leb, lt-leb, ne_eqb}
-use Rattle.paging_message.proofs.Common.{length-binary, map-places-all, binary, places, FieldsFit, field, total, both_columns, first_column}
+use Rattle.paging_message.proofs.Common.{length-binary, map-places-all, binary, places, FieldsFit, field, total_width, both_columns}
+use Rattle.paging_message.proofs.Common.{first_column}
 use Rattle.paging_message.proofs.Common.{mapped_cond, no_columns, record_fit, has_length, list_said, plain_back, plain_length}
 use Rattle.paging_message.proofs.Common.{plain_reading, record_map, rest_back, count_in, height, plain_contents, plain_shape, mapped}
 use Rattle.paging_message.proofs.Common.{reading, is_lawful, IsOf, spelling, Contents, admits, IsChannelList, channel_contents}
-use Rattle.paging_message.proofs.Common.{channel_shape, channel_widths, channels_from, contents_of, kind_of, message_from, shape_of}
+use Rattle.paging_message.proofs.Common.{channel_shape, channel_widths, channels_from, contents_of, paging_kind_of, message_from}
+use Rattle.paging_message.proofs.Common.{paging_shape_of}
 use Rattle.paging_message.proofs.Common.{IsPagingMessage, message_body, IsNeighborList, neighbor_contents, neighbor_shape, neighbor_widths}
 use Rattle.paging_message.proofs.Common.{neighbors_from, other_contents, other_from, other_shape, message_at, IsSpelled, body_of}
 use Rattle.paging_message.proofs.Common.{system_contents, system_shape, system_widths, system_of, ChannelFields, NeighborFields}
-use Rattle.paging_message.proofs.Common.{PagingMessage, List, [], get_or, inr, length, ℕ, cases_Bool, Shape, system_from, system_values}
+use Rattle.paging_message.proofs.Common.{PagingMessage, List, [], get_or, inr, length, ℕ, cases_Bool, MessageShape, system_from}
+use Rattle.paging_message.proofs.Common.{system_values}
 use Rattle.std.proofs.Common.{All}
 use Rattle.std.proofs.lemmas.List.{get_or_default}
 use Rattle.paging_message.specs.declared.message.PagingMessage.TheVariants as messages
@@ -29,21 +32,21 @@ by_type P one three four others k =
       ]
     ]
 
-pub lawful : (k : ℕ) → is_lawful (shape_of k) ≡ true
+pub lawful : (k : ℕ) → is_lawful (paging_shape_of k) ≡ true
 unfolding is_lawful
 lawful k =
-    by_type (λ j. is_lawful (shape_of j) ≡ true) refl refl refl (λ j a b d. rw (a, b, d) refl) k
+    by_type (λ j. is_lawful (paging_shape_of j) ≡ true) refl refl refl (λ j a b d. rw (a, b, d) refl) k
 
 -- a body has at most 104 records
-pub few_records : (k count : ℕ) → count ≤ 1146 → count_in (shape_of k).records count ≤ 128
+pub few_records : (k count : ℕ) → count ≤ 1146 → count_in (paging_shape_of k).records count ≤ 128
 few_records k count most =
-    by_type (λ j. count_in (shape_of j).records count ≤ 128) (omega arith) (omega (arith, most))
+    by_type (λ j. count_in (paging_shape_of j).records count ≤ 128) (omega arith) (omega (arith, most))
     (omega (arith, most)) (λ j a b d. rw (a, b, d) (omega arith)) k
 
 -- MESSAGES AND CONTENTS
 -- a message's contents are its type's, and those of no other message
 pub spelled_by : (m : PagingMessage) → IsPagingMessage m →
-    IsSpelled (kind_of m) (shape_of (kind_of m)) (contents_of m)
+    IsSpelled (paging_kind_of m) (paging_shape_of (paging_kind_of m)) (contents_of m)
 spelled_by (messages.System m) is = is
 spelled_by (messages.Neighbors m) is = is
 spelled_by (messages.Channels m) is = is
@@ -61,7 +64,7 @@ other_is k c a b d =
     let z = ne_eqb k 4 d in
     rw (x, y, z) refl
 
-pub made_again : (m : PagingMessage) → IsPagingMessage m → message_from (kind_of m) (contents_of m) ≡ m
+pub made_again : (m : PagingMessage) → IsPagingMessage m → message_from (paging_kind_of m) (contents_of m) ≡ m
 unfolding system_of
 made_again (messages.System m) is = refl
 made_again (messages.Neighbors m) is = refl
@@ -95,10 +98,10 @@ channel_back c is =
 
 -- a message that is made of contents
 abbrev MadeOf : ℕ → Type 0
-MadeOf k = (c : Contents) → IsSpelled k (shape_of k) c →
-    IsPagingMessage (message_from k c) × (body_of k (shape_of k) c ≡ message_body (message_from k c))
+MadeOf k = (c : Contents) → IsSpelled k (paging_shape_of k) c →
+    IsPagingMessage (message_from k c) × (body_of k (paging_shape_of k) c ≡ message_body (message_from k c))
 
-made_so : (k : ℕ) (s : Shape) (c own : Contents) → own ≡ c → IsSpelled k s c →
+made_so : (k : ℕ) (s : MessageShape) (c own : Contents) → own ≡ c → IsSpelled k s c →
     IsSpelled k s own × (body_of k s c ≡ body_of k s own)
 made_so k s c own back is = (subst (IsSpelled k s) (sym back) is, ap (body_of k s) (sym back))
 
@@ -129,23 +132,23 @@ made_of =
 
 -- READ BY PLACES
 plain : (k : ℕ) →
-    let s = shape_of k in
+    let s = paging_shape_of k in
     s ≡ plain_shape s.fixed s.records s.least s.most
 plain =
-    by_type (λ k. shape_of k ≡ plain_shape (shape_of k).fixed (shape_of k).records
-    (shape_of k).least (shape_of k).most) refl refl refl (λ k a b d. rw (a, b, d) refl)
+    by_type (λ k. paging_shape_of k ≡ plain_shape (paging_shape_of k).fixed (paging_shape_of k).records
+    (paging_shape_of k).least (paging_shape_of k).most) refl refl refl (λ k a b d. rw (a, b, d) refl)
 
 -- what is read by a layout is what stands at the places of the fields
 pub placed : (bits : List Bool) (k : ℕ) →
-    mapped (message_from k) (reading (shape_of k) bits)
+    mapped (message_from k) (reading (paging_shape_of k) bits)
     ≡ cond (admits k (8 + length bits)) (Some (message_at k bits)) None
 unfolding admits message_at
 placed bits k =
-    let s = shape_of k in
+    let s = paging_shape_of k in
     let typed = le-leb 8 (8 + length bits) (omega arith) in
     let behind : 8 + length bits - 8 ≡ length bits = omega arith in
     rw (typed, behind)
-    (ap (λ (r : Shape). mapped (message_from k) (reading r bits)) (plain k)
+    (ap (λ (r : MessageShape). mapped (message_from k) (reading r bits)) (plain k)
     ∙ ap (mapped (message_from k)) (plain_reading s.fixed s.records s.least s.most bits)
     ∙ mapped_cond (message_from k) (has_length s (length bits)) (list_said s.fixed s.records bits))
 
@@ -157,7 +160,7 @@ admits_short k count short = rw (lt-leb 8 count short) refl
 -- as many as fit into a body
 few_records_in : (k : ℕ) (ws rs : List ℕ) (m : Contents) →
     IsSpelled k (plain_shape ws rs 0 (Some 7)) (plain_contents m.fixed m.columns m.rest) →
-    length rs ≤ length m.columns → 8 + (total ws + height m.columns * total rs) ≤ 1146
+    length rs ≤ length m.columns → 8 + (total_width ws + height m.columns * total_width rs) ≤ 1146
 few_records_in k ws rs m is wide =
     omega (
       arith,

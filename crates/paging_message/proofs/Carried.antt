@@ -399,7 +399,7 @@ feed_begins size l out b (d ∷ c) large whole f =
     let w = b ∷ d ∷ c in
     let zeros = feed_zeros size (laying.fill size (length l.body)) l out
     (behind_capsule size l) large (behind_over size l) f in
-    let front = laying.padded size l.body in
+    let front = laying.padded_to size l.body in
     let way : laying.Laid = record { body = front; starts = l.starts } in
     let base : laying.Laid =
     record { body = front; starts = l.starts ++ length front / size ∷ [] } in

@@ -23,7 +23,7 @@ pub use Rattle.chip_core.proofs.Ranges.{flat_map-places-more, flat_map_ext_place
 pub use Rattle.chip_core.proofs.ValueLists.{behind_front, front, number_front}
 pub use Rattle.chip_core.specs.Bits.{binary, number}
 unfoldable pub use Rattle.chip_core.specs.Bits.{places}
-pub use Rattle.chip_core.specs.Fields.{FieldsFit, field, total}
+pub use Rattle.chip_core.specs.Fields.{FieldsFit, field, total_width}
 pub use Rattle.chip_core.specs.Readings.{number_at}
 pub use Rattle.chip_core.specs.declared.check_form.CheckForm.{CheckForm}
 pub use Rattle.message_layout.proofs.Loops.{not_both}
@@ -35,7 +35,7 @@ pub use Rattle.message_layout.proofs.Round.{reading_again, reading_there}
 pub use Rattle.message_layout.specs.Contents.{count_in, height}
 pub use Rattle.message_layout.specs.Plain.{plain_contents, plain_shape}
 pub use Rattle.message_layout.specs.Reading.{mapped, number_part, reading}
-pub use Rattle.message_layout.specs.Shapes.{Shape, shape}
+pub use Rattle.message_layout.specs.Shapes.{MessageShape, shape}
 unfoldable pub use Rattle.message_layout.specs.Shapes.{is_lawful}
 pub use Rattle.message_layout.specs.Spelling.{IsOf, spelling}
 pub use Rattle.message_layout.specs.declared.contents.Contents.{Contents}
@@ -56,9 +56,9 @@ pub use Rattle.paging_message.specs.Channels.{IsChannelList, channel_contents, c
 pub use Rattle.paging_message.specs.HalfFrames.{Framing, half_frame_body, half_under_way}
 unfoldable pub use Rattle.paging_message.specs.HalfFrames.{bits_left, capsules_in, ends_chain, half_frame_capsule_ending, half_frames}
 unfoldable pub use Rattle.paging_message.specs.HalfFrames.{open_chain}
-pub use Rattle.paging_message.specs.Laying.{HasLaid, Laid, Place, bit_on, laid_on, padded, way_for}
+pub use Rattle.paging_message.specs.Laying.{HasLaid, Laid, Place, bit_on, laid_on, padded_to, way_for}
 unfoldable pub use Rattle.paging_message.specs.Laying.{fill}
-pub use Rattle.paging_message.specs.Layouts.{contents_of, kind_of, message_from, shape_of}
+pub use Rattle.paging_message.specs.Layouts.{contents_of, paging_kind_of, message_from, paging_shape_of}
 pub use Rattle.paging_message.specs.Messages.{IsPagingMessage}
 unfoldable pub use Rattle.paging_message.specs.Messages.{message_body, paging_capsule}
 pub use Rattle.paging_message.specs.Neighbors.{IsNeighborList, neighbor_contents, neighbor_shape, neighbor_widths, neighbors_from}

@@ -302,23 +302,23 @@ same_left size count = refl
 
 -- padded bits fill whole half-frames
 pub padded_whole : (size : ℕ) (bits : List Bool) → 0 < size →
-    length (laying.padded size bits) % size ≡ 0
+    length (laying.padded_to size bits) % size ≡ 0
 padded_whole size bits large =
     let count = length bits in
     let n = count / size in
     let all = div-add-mod count size in
     let below : count % size < size = mod-lt count large in
     let zeros = laying.fill size count in
-    let long : length (laying.padded size bits) ≡ count + zeros =
+    let long : length (laying.padded_to size bits) ≡ count + zeros =
     length-append bits (replicate zeros false)
     ∙ ap (λ (k : ℕ). count + k) (length-replicate zeros false) in
     elim (cases_lt 0 (count % size)) [
       | inl some ↦
-          let turned : length (laying.padded size bits) ≡ suc n * size + 0 =
+          let turned : length (laying.padded_to size bits) ≡ suc n * size + 0 =
           omega (arith, long, fill-some size count some large, all, below) in
           ap (λ (k : ℕ). k % size) turned ∙ mod-mul-add (suc n) size 0 large
       | inr none ↦
-          let turned : length (laying.padded size bits) ≡ n * size + 0 =
+          let turned : length (laying.padded_to size bits) ≡ n * size + 0 =
           omega (arith, long, fill-none size count (omega (arith, none)), all, none) in
           ap (λ (k : ℕ). k % size) turned ∙ mod-mul-add n size 0 large
     ]
@@ -352,7 +352,7 @@ capsule_first size l true b capsule is =
     ap (λ (bits : List Bool). let m : laying.Laid =
     record { body = l.body ++ bits; starts = l.starts } in m) (sym is)
 capsule_first size l false b capsule is =
-    let front = laying.padded size l.body in
+    let front = laying.padded_to size l.body in
     ap (λ (bits : List Bool). let m : laying.Laid =
     record { body = front ++ bits; starts = l.starts ++ length front / size ∷ [] } in m) (sym is)
 
@@ -366,7 +366,7 @@ capsule_next size l true b capsule i is =
     ap (λ (bits : List Bool). let m : laying.Laid = record { body = bits; starts = l.starts } in m)
     (append_assoc l.body (take i capsule) (b ∷ []) ∙ ap (λ (r : List Bool). l.body ++ r) (sym is))
 capsule_next size l false b capsule i is =
-    let front = laying.padded size l.body in
+    let front = laying.padded_to size l.body in
     ap (λ (bits : List Bool). let m : laying.Laid =
     record { body = bits; starts = l.starts ++ length front / size ∷ [] } in m)
     (append_assoc front (take i capsule) (b ∷ []) ∙ ap (λ (r : List Bool). front ++ r) (sym is))

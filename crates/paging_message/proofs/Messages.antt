@@ -4,8 +4,10 @@ use Rattle.paging_message.proofs.Common.{ap, subst, ◌∙◌, arith, nat_le, in
 use Rattle.paging_message.proofs.Common.{cases_Bool, cases_lt, eq-eqb, eqb-true, le-leb, leb-true, length-append, binary, number}
 use Rattle.paging_message.proofs.Common.{length-binary, behind_front, front, number_front, number_at, FillsCapsule, M30, guard_some}
 use Rattle.paging_message.proofs.Common.{not_both, number_again, number_part, number_there, mapped, mapped_some, reading, reading_again}
-use Rattle.paging_message.proofs.Common.{reading_there, spelling, IsOf, Contents, Shape, admits, HasMessage, message_body, IsPagingMessage}
-use Rattle.paging_message.proofs.Common.{PagingMessage, contents_of, kind_of, message_from, shape_of, body_reading, is_body, message_at}
+use Rattle.paging_message.proofs.Common.{reading_there, spelling, IsOf, Contents, MessageShape, admits, HasMessage, message_body}
+use Rattle.paging_message.proofs.Common.{IsPagingMessage}
+use Rattle.paging_message.proofs.Common.{PagingMessage, contents_of, paging_kind_of, message_from, paging_shape_of, body_reading, is_body}
+use Rattle.paging_message.proofs.Common.{message_at}
 use Rattle.paging_message.proofs.ByLayout.{admits_short, lawful, made_again, made_of, placed, spelled_by}
 
 pub message_fills : (m : PagingMessage) → IsPagingMessage m → FillsCapsule M30 (message_body m)
@@ -14,7 +16,7 @@ message_fills m is = (spelled_by m is).fills
 
 -- a message type and the bits after it are read by its layout
 pub typed_reading : (k : ℕ) (w : List Bool) → k < 2 ^ 8 → FillsCapsule M30 (binary 8 k ++ w) →
-    body_reading (binary 8 k ++ w) ≡ mapped (message_from k) (reading (shape_of k) w)
+    body_reading (binary 8 k ++ w) ≡ mapped (message_from k) (reading (paging_shape_of k) w)
 unfolding body_reading is_body
 typed_reading k w small fills =
     let body = binary 8 k ++ w in
@@ -28,10 +30,10 @@ typed_reading k w small fills =
 pub reads_body : (m : PagingMessage) → IsPagingMessage m → body_reading (message_body m) ≡ Some m
 unfolding message_body
 reads_body m is =
-    let k = kind_of m in
+    let k = paging_kind_of m in
     let s = spelled_by m is in
-    typed_reading k (spelling (shape_of k) (contents_of m)) s.typed s.fills
-    ∙ ap (mapped (message_from k)) (reading_again (shape_of k) (contents_of m) (lawful k) s.said)
+    typed_reading k (spelling (paging_shape_of k) (contents_of m)) s.typed s.fills
+    ∙ ap (mapped (message_from k)) (reading_again (paging_shape_of k) (contents_of m) (lawful k) s.said)
     ∙ ap Some (made_again m is)
 
 -- the test of a body, and its type
@@ -90,12 +92,12 @@ body_is_read body m e =
     let t = typed_from body (body_told body m e) in
     let k = number (take 8 body) in
     let w = drop 8 body in
-    let read : mapped (message_from k) (reading (shape_of k) w) ≡ Some m =
+    let read : mapped (message_from k) (reading (paging_shape_of k) w) ≡ Some m =
     sym (typed_reading k w t.kind (subst (FillsCapsule M30) t.same t.fills))
     ∙ ap body_reading (sym t.same) ∙ e in
-    let some = mapped_some (message_from k) (reading (shape_of k) w) m read in
-    let there = reading_there (shape_of k) w some.0 (lawful k) some.1 in
-    let spelled : body ≡ binary 8 k ++ spelling (shape_of k) some.0 =
+    let some = mapped_some (message_from k) (reading (paging_shape_of k) w) m read in
+    let there = reading_there (paging_shape_of k) w some.0 (lawful k) some.1 in
+    let spelled : body ≡ binary 8 k ++ spelling (paging_shape_of k) some.0 =
     t.same ∙ ap (λ (r : List Bool). binary 8 k ++ r) there.1 in
     let made = made_of k some.0
     (record { typed = t.kind; said = there.0; fills = subst (FillsCapsule M30) spelled t.fills }) in
@@ -155,35 +157,35 @@ typed_length body w k fills typed =
     omega (arith, fills.whole, fills.most, ap length t.1, length-append (binary 8 k) w)
 
 -- what was read after a type, by the type's layout
-pub told : (body w : List Bool) (k : ℕ) (s : Shape) (read : Option Contents) →
-    FillsCapsule M30 body → Some (k, w) ≡ number_part 8 body → s ≡ shape_of k →
+pub told : (body w : List Bool) (k : ℕ) (s : MessageShape) (read : Option Contents) →
+    FillsCapsule M30 body → Some (k, w) ≡ number_part 8 body → s ≡ paging_shape_of k →
     read ≡ reading s w → mapped (message_from k) read ≡ body_reading body
 told body w k s read fills typed layout e =
     let t = number_there 8 k body w (sym typed) in
-    ap (mapped (message_from k)) (e ∙ ap (λ (r : Shape). reading r w) layout)
+    ap (mapped (message_from k)) (e ∙ ap (λ (r : MessageShape). reading r w) layout)
     ∙ sym (typed_reading k w t.0 (subst (FillsCapsule M30) t.1 fills))
     ∙ ap body_reading (sym t.1)
 
-pub told_is : (body w : List Bool) (k : ℕ) (s : Shape) (c : Contents) → FillsCapsule M30 body →
-    Some (k, w) ≡ number_part 8 body → s ≡ shape_of k → IsOf s c × (w ≡ spelling s c) →
+pub told_is : (body w : List Bool) (k : ℕ) (s : MessageShape) (c : Contents) → FillsCapsule M30 body →
+    Some (k, w) ≡ number_part 8 body → s ≡ paging_shape_of k → IsOf s c × (w ≡ spelling s c) →
     IsPagingMessage (message_from k c)
 told_is body w k s c fills typed layout found =
     let t = number_there 8 k body w (sym typed) in
-    let there = subst (λ (r : Shape). IsOf r c × (w ≡ spelling r c)) layout found in
-    let same : body ≡ binary 8 k ++ spelling (shape_of k) c =
+    let there = subst (λ (r : MessageShape). IsOf r c × (w ≡ spelling r c)) layout found in
+    let same : body ≡ binary 8 k ++ spelling (paging_shape_of k) c =
     t.1 ∙ ap (λ (r : List Bool). binary 8 k ++ r) there.1 in
     (made_of k c
     (record { typed = t.0; said = there.0; fills = subst (FillsCapsule M30) same fills })).0
 
 -- what is written
-pub record IsWritten (k : ℕ) (s : Shape) (c : Contents) (m : PagingMessage) : Type 0 where
+pub record IsWritten (k : ℕ) (s : MessageShape) (c : Contents) (m : PagingMessage) : Type 0 where
   pub is : IsOf s c
   pub same : binary 8 k ++ spelling s c ≡ message_body m
   pub room : 8 + length (spelling s c) ≤ 1184
   pub fills : FillsCapsule M30 (message_body m)
 
-pub written : (m : PagingMessage) (k : ℕ) (s : Shape) (c : Contents) → IsPagingMessage m →
-    k ≡ kind_of m → s ≡ shape_of k → c ≡ contents_of m → IsWritten k s c m
+pub written : (m : PagingMessage) (k : ℕ) (s : MessageShape) (c : Contents) → IsPagingMessage m →
+    k ≡ paging_kind_of m → s ≡ paging_shape_of k → c ≡ contents_of m → IsWritten k s c m
 unfolding message_body
 written m k s c is kind layout contents =
     rw (layout, kind, contents) (
@@ -195,8 +197,8 @@ written m k s c is kind layout contents =
         arith,
         own.fills.whole,
         own.fills.most,
-        length-append (binary 8 (kind_of m)) (spelling (shape_of (kind_of m)) (contents_of m)),
-        length-binary 8 (kind_of m),
+        length-append (binary 8 (paging_kind_of m)) (spelling (paging_shape_of (paging_kind_of m)) (contents_of m)),
+        length-binary 8 (paging_kind_of m),
       );
       fills = own.fills;
     })

@@ -6,7 +6,7 @@ use Rattle.paging_message.proofs.Common.{map-append, take-append-le, mod-mul-add
 use Rattle.paging_message.proofs.Common.{from_last_start, ends_chain, flat_map_ext_places, flat_map-add, flat_map-zero, map-next}
 use Rattle.paging_message.proofs.Common.{map-zero, true, cond, drop, replicate, length-replicate, drop_at, take_at, Some, nat_le, nat_lt}
 use Rattle.paging_message.proofs.Common.{eq-eqb, le-leb, le-ltb, lt-leb, lt-ltb, take-take, div-mul-add, mod_below, mul-le-mul_left}
-use Rattle.paging_message.proofs.Common.{take-add, fill, padded, div-add-mod', if◌then◌else◌, and_from, and_left, and_right, cases_order}
+use Rattle.paging_message.proofs.Common.{take-add, fill, padded_to, div-add-mod', if◌then◌else◌, and_from, and_left, and_right, cases_order}
 use Rattle.paging_message.proofs.Common.{false_from_ne_true, drop-take, number, is_stated, stated_bits, IsWhole, stated_bounds}
 use Rattle.paging_message.proofs.Common.{stated_from, bits_left}
 use Rattle.paging_message.proofs.Common.{mod-eq_of_lt}
@@ -233,7 +233,7 @@ fills size count large =
     (mod_below count size large)
 
 pub length-padded : (size : ℕ) (bits : List Bool) → 0 < size →
-    length (padded size bits) ≡ size * width size (length bits)
+    length (padded_to size bits) ≡ size * width size (length bits)
 length-padded size bits large =
     length-append bits (replicate (fill size (length bits)) false)
     ∙ ap (λ (k : ℕ). length bits + k) (length-replicate (fill size (length bits)) false)
@@ -248,7 +248,7 @@ no_width size large =
 
 -- the body bits of a run
 abbrev pub run_bits : ℕ → List (List Bool) → List Bool
-run_bits size cs = padded size (joined cs 0)
+run_bits size cs = padded_to size (joined cs 0)
 
 -- how many half-frames it has
 abbrev pub run_width : ℕ → List (List Bool) → ℕ

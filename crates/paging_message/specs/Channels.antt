@@ -1,7 +1,7 @@
 -- The CDMA Channel List Message (TIA/EIA-95-B, 7.7.2.3.2.4).
 use Rattle.std.specs.Prelude.{ℕ, List, [], ◌∷◌, codes, get_or, Some}
 use Rattle.message_layout.specs.Plain.{plain_contents, plain_shape}
-use Rattle.message_layout.specs.Shapes.{Shape}
+use Rattle.message_layout.specs.Shapes.{MessageShape}
 use Rattle.message_layout.specs.declared.contents.Contents.{Contents}
 use Rattle.paging_message.specs.Spelling.{IsSpelled}
 use Rattle.paging_message.specs.declared.fields.ChannelFields.{ChannelFields}
@@ -14,7 +14,7 @@ abbrev pub channel_names : List (List ℕ)
 channel_names = codes "pn" ∷ codes "seq" ∷ []
 
 -- after them as many frequencies as fit
-abbrev pub channel_shape : Shape
+abbrev pub channel_shape : MessageShape
 channel_shape = plain_shape channel_widths (11 ∷ []) 0 (Some 7)
 
 -- the values of the first fields, in the order of the table

@@ -87,6 +87,6 @@ pub record Framing : Type 0 where
   pub open_bits : Option (List Bool)
 
 -- a framer that took these bits
-pub record StandsFor (framer : Framing) (bits : List Bool) : Type 0 where
+pub record HalfFramesStandFor (framer : Framing) (bits : List Bool) : Type 0 where
   pub placed : framer.place ≡ length bits % (framer.size + 1)
   pub under_way : framer.open_bits ≡ half_under_way framer.size bits

@@ -19,14 +19,14 @@ nothing_laid = record { body = []; starts = [] }
 unfoldable pub fill : ℕ → ℕ → ℕ
 fill size count = (size - count % size) % size
 
-abbrev pub padded : ℕ → List Bool → List Bool
-padded size bits = bits ++ replicate (fill size (length bits)) false
+abbrev pub padded_to : ℕ → List Bool → List Bool
+padded_to size bits = bits ++ replicate (fill size (length bits)) false
 
 -- One capsule more: right after the bits so far where it follows, and else in the next half-frame.
 unfoldable pub laid_on : ℕ → Laid → Bool → List Bool → Laid
 laid_on size l follow capsule =
     if follow then record { body = l.body ++ capsule; starts = l.starts }
-    else (let front = padded size l.body in
+    else (let front = padded_to size l.body in
     record { body = front ++ capsule; starts = l.starts ++ length front / size ∷ [] })
 
 -- the bits of half-frame h
@@ -40,7 +40,7 @@ framed size l =
 
 -- those half-frames, whole
 unfoldable pub half_frames_of : ℕ → Laid → List Bool
-half_frames_of size l = framed size (record { body = padded size l.body; starts = l.starts })
+half_frames_of size l = framed size (record { body = padded_to size l.body; starts = l.starts })
 
 -- a layout: the body bits of its half-frames, and how many bits of the half-frame under way are
 -- laid, none where it is full
@@ -72,7 +72,7 @@ bit_on size l sci bit = record {
 -- what was laid, and zeros up to where the next capsule begins
 abbrev pub way_for : ℕ → Laid → Bool → Laid
 way_for size l follow =
-    record { body = if follow then l.body else padded size l.body; starts = l.starts }
+    record { body = if follow then l.body else padded_to size l.body; starts = l.starts }
 
 -- half-frames whose first body bits are among so many
 abbrev pub HaveBegun : ℕ → ℕ → List ℕ → Type 0

@@ -1,7 +1,7 @@
 -- The layouts of what stands after the message types, and what the messages say as contents of
 -- these.
 use Rattle.std.specs.Prelude.{ℕ, ◌==◌, if◌then◌else◌}
-use Rattle.message_layout.specs.Shapes.{Shape}
+use Rattle.message_layout.specs.Shapes.{MessageShape}
 use Rattle.message_layout.specs.declared.contents.Contents.{Contents}
 use Rattle.paging_message.specs.Channels.{channel_contents, channel_shape, channels_from}
 use Rattle.paging_message.specs.Neighbors.{neighbor_contents, neighbor_shape, neighbors_from}
@@ -11,17 +11,17 @@ use Rattle.paging_message.specs.declared.message.PagingMessage.{PagingMessage}
 use Rattle.paging_message.specs.declared.message.PagingMessage.TheVariants as messages
 
 -- of each message type its layout
-abbrev pub shape_of : ℕ → Shape
-shape_of kind =
+abbrev pub paging_shape_of : ℕ → MessageShape
+paging_shape_of kind =
     if kind == 1 then system_shape
     else (if kind == 3 then neighbor_shape else (if kind == 4 then channel_shape else other_shape))
 
 -- the type of a message, what it says, and the message that says so
-abbrev pub kind_of : PagingMessage → ℕ
-kind_of (messages.System m) = 1
-kind_of (messages.Neighbors m) = 3
-kind_of (messages.Channels m) = 4
-kind_of (messages.Other m) = m.kind
+abbrev pub paging_kind_of : PagingMessage → ℕ
+paging_kind_of (messages.System m) = 1
+paging_kind_of (messages.Neighbors m) = 3
+paging_kind_of (messages.Channels m) = 4
+paging_kind_of (messages.Other m) = m.kind
 
 abbrev pub contents_of : PagingMessage → Contents
 contents_of (messages.System m) = system_contents m

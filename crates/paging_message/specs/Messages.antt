@@ -4,7 +4,7 @@ use Rattle.chip_core.specs.declared.check_form.CheckForm.{CheckForm}
 use Rattle.quality_bits.specs.Capsules.{capsule}
 use Rattle.quality_bits.specs.declared.kind.Kind.TheVariants.{M30}
 use Rattle.paging_message.specs.Channels.{IsChannelList}
-use Rattle.paging_message.specs.Layouts.{contents_of, kind_of, shape_of}
+use Rattle.paging_message.specs.Layouts.{contents_of, paging_kind_of, paging_shape_of}
 use Rattle.paging_message.specs.Neighbors.{IsNeighborList}
 use Rattle.paging_message.specs.Others.{IsOther}
 use Rattle.paging_message.specs.Spelling.{body_of}
@@ -14,7 +14,7 @@ use Rattle.paging_message.specs.declared.message.PagingMessage.TheVariants as me
 
 -- the type, and what the message says by the type's layout
 unfoldable pub message_body : PagingMessage → List Bool
-message_body m = body_of (kind_of m) (shape_of (kind_of m)) (contents_of m)
+message_body m = body_of (paging_kind_of m) (paging_shape_of (paging_kind_of m)) (contents_of m)
 
 -- the message has a spelling
 abbrev pub IsPagingMessage : PagingMessage → Type 0

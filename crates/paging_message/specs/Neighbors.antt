@@ -1,7 +1,7 @@
 -- The Neighbor List Message (TIA/EIA-95-B, 7.7.2.3.2.3).
 use Rattle.std.specs.Prelude.{ℕ, List, [], ◌∷◌, codes, get_or, Some}
 use Rattle.message_layout.specs.Plain.{plain_contents, plain_shape}
-use Rattle.message_layout.specs.Shapes.{Shape}
+use Rattle.message_layout.specs.Shapes.{MessageShape}
 use Rattle.message_layout.specs.declared.contents.Contents.{Contents}
 use Rattle.paging_message.specs.Spelling.{IsSpelled}
 use Rattle.paging_message.specs.declared.fields.NeighborFields.{NeighborFields}
@@ -14,7 +14,7 @@ abbrev pub neighbor_names : List (List ℕ)
 neighbor_names = codes "pn" ∷ codes "seq" ∷ codes "inc" ∷ []
 
 -- after them as many neighbors as fit, of each its configuration and its offset
-abbrev pub neighbor_shape : Shape
+abbrev pub neighbor_shape : MessageShape
 neighbor_shape = plain_shape neighbor_widths (3 ∷ 9 ∷ []) 0 (Some 7)
 
 -- the values of the first fields, in the order of the table

@@ -1,12 +1,12 @@
 -- Messages of other types: the type, and all bits after it.
 use Rattle.std.specs.Prelude.{ℕ, ◌≢◌, [], ◌∷◌, None}
 use Rattle.message_layout.specs.Plain.{plain_contents, plain_shape}
-use Rattle.message_layout.specs.Shapes.{Shape}
+use Rattle.message_layout.specs.Shapes.{MessageShape}
 use Rattle.message_layout.specs.declared.contents.Contents.{Contents}
 use Rattle.paging_message.specs.Spelling.{IsSpelled}
 use Rattle.paging_message.specs.declared.fields.OtherFields.{OtherFields}
 
-abbrev pub other_shape : Shape
+abbrev pub other_shape : MessageShape
 other_shape = plain_shape [] [] 0 None
 
 -- what the message says

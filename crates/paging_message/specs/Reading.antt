@@ -8,14 +8,14 @@ use Rattle.message_layout.specs.Plain.{list_said}
 use Rattle.quality_bits.specs.Capsules.{if_spelled}
 pub use Rattle.quality_bits.specs.Faults.{reading_of}
 use Rattle.paging_message.specs.Admitted.{admits}
-use Rattle.paging_message.specs.Layouts.{message_from, shape_of}
+use Rattle.paging_message.specs.Layouts.{message_from, paging_shape_of}
 use Rattle.paging_message.specs.Messages.{paging_capsule}
 use Rattle.paging_message.specs.declared.message.PagingMessage.{PagingMessage}
 
 -- what stands after a message type
 unfoldable pub message_at : ℕ → List Bool → PagingMessage
 message_at kind bits =
-    message_from kind (list_said (shape_of kind).fixed (shape_of kind).records bits)
+    message_from kind (list_said (paging_shape_of kind).fixed (paging_shape_of kind).records bits)
 
 -- whether the length is that of a capsule's body, and the message type admits it
 unfoldable pub is_body : List Bool → Bool

@@ -1,7 +1,7 @@
 -- The System Parameters Message (TIA/EIA-95-B, 7.7.2.3.2.1).
 use Rattle.std.specs.Prelude.{ℕ, Bool, List, [], ◌∷◌, codes, get_or, None}
 use Rattle.message_layout.specs.Plain.{plain_contents, plain_shape}
-use Rattle.message_layout.specs.Shapes.{Shape}
+use Rattle.message_layout.specs.Shapes.{MessageShape}
 use Rattle.message_layout.specs.declared.contents.Contents.{Contents}
 use Rattle.paging_message.specs.Spelling.{IsSpelled}
 use Rattle.paging_message.specs.declared.fields.SystemFields.{SystemFields}
@@ -24,7 +24,7 @@ system_names =
     ∷ codes "tadd" ∷ codes "tdrop" ∷ codes "tcomp" ∷ codes "ttdrop" ∷ []
 
 -- all bits after the fields
-abbrev pub system_shape : Shape
+abbrev pub system_shape : MessageShape
 system_shape = plain_shape system_widths [] 0 None
 
 -- the values of the fields, in the order of the table

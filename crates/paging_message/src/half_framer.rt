@@ -3,7 +3,7 @@
 ghost use Rattle.std.specs.Prelude.{◌≡◌, ◌≤◌, Bool, List, [], ◌∷◌, ◌++◌, Some, cond, nat_le};
 ghost use Rattle.std.specs.Prelude.{if◌then◌else◌};
 ghost use Rattle.paging_message.specs.HalfFrames.{half_frame_body, half_frame_capsule_ending};
-ghost use Rattle.paging_message.specs.HalfFrames.{IsPagingRate, StandsFor};
+ghost use Rattle.paging_message.specs.HalfFrames.{IsPagingRate, HalfFramesStandFor};
 
 use chip_core::Bits;
 use quality_bits::{OpenCapsule, Rate};
@@ -41,7 +41,7 @@ impl HalfFramer {
     pub fn new(rate: Rate) -> HalfFramer
         requires { IsPagingRate rate }
         ensures size { result.size ≡ half_frame_body rate }
-        ensures stands { StandsFor result [] }
+        ensures stands { HalfFramesStandFor result [] }
     {
         HalfFramer {
             size: body_bits(rate),
@@ -55,10 +55,10 @@ impl HalfFramer {
     /// the one that they end with.
     pub fn push(&mut self, bit: bool) -> Option<Bits>
         ensures size { self.new.size ≡ self.old.size }
-        ensures stands { (bits : List Bool) → StandsFor self.old bits →
-            StandsFor self.new (bits ++ bit ∷ []) }
+        ensures stands { (bits : List Bool) → HalfFramesStandFor self.old bits →
+            HalfFramesStandFor self.new (bits ++ bit ∷ []) }
         ensures capsule { (bits : List Bool) →
-            StandsFor self.old bits →
+            HalfFramesStandFor self.old bits →
             result ≡ half_frame_capsule_ending self.old.size (bits ++ bit ∷ []) }
     {
         if self.place == 0 {

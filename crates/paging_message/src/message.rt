@@ -5,7 +5,7 @@ ghost use Rattle.message_layout.specs.Shapes.{shape};
 ghost use Rattle.quality_bits.specs.Capsules.{FillsCapsule, IsWhole};
 ghost use Rattle.quality_bits.specs.Kinds.{IsChecked};
 ghost use Rattle.quality_bits.specs.declared.kind.Kind.TheVariants.{M30};
-ghost use Rattle.paging_message.specs.Layouts.{shape_of};
+ghost use Rattle.paging_message.specs.Layouts.{paging_shape_of};
 
 use crate::channels::{CHANNEL_LIST, ChannelList};
 use crate::neighbors::{NEIGHBOR_LIST, NeighborList};
@@ -31,7 +31,7 @@ pub enum PagingMessage {
 }
 
 impl PagingMessage {
-    ghost use Rattle.paging_message.specs.Layouts.{contents_of, kind_of, message_from};
+    ghost use Rattle.paging_message.specs.Layouts.{contents_of, paging_kind_of, message_from};
     ghost use Rattle.paging_message.specs.Messages.{message_body, paging_capsule, IsPagingMessage};
     ghost use Rattle.paging_message.specs.Reading.{body_reading, paging_reading, reading_of};
     ghost use Rattle.paging_message.specs.declared.message.PagingMessage.{
@@ -120,7 +120,7 @@ impl PagingMessage {
 
     /// The message type.
     fn kind(&self) -> u8
-        ensures { result ≡ kind_of self.now }
+        ensures { result ≡ paging_kind_of self.now }
     {
         match self {
             PagingMessage::System(_) => 1,
@@ -146,7 +146,7 @@ impl PagingMessage {
 
 /// The layout of what stands after a message type.
 fn layout_of(kind: u8) -> Layout
-    ensures { shape result ≡ shape_of kind }
+    ensures { shape result ≡ paging_shape_of kind }
 {
     match kind {
         1 => SYSTEM_PARAMETERS,

@@ -3,7 +3,7 @@ use Rattle.pilot_search.proofs.Common.{◌≡◌, ℕ, zero, suc, ◌+◌, ◌-�
 use Rattle.pilot_search.proofs.Common.{take, drop, refl, sym, ap, ◌∙◌, subst, arith, ℤ, ◌+ℤ◌, unsigned_abs, mul-le-mul, take-add, ints}
 use Rattle.pilot_search.proofs.Common.{length-take-le, drop-drop, origin, plus, times, conjugate, point, of_sample, sum_of, norm, Pair}
 use Rattle.pilot_search.proofs.Common.{Sample, plus_assoc, origin-plus, sum_of-append, code_point, despread, pilot_chip, despread-append}
-use Rattle.pilot_search.proofs.Common.{correlation, energy, magnitudes, square_of, bound, HasNoBoundBelow, IsSumOf}
+use Rattle.pilot_search.proofs.Common.{phase_correlation, energy, magnitudes, square_of, bound, HasNoBoundBelow, IsSumOf}
 use Rattle.pilot_search.proofs.CorrelationSums.{plus_is}
 
 -- PARTS OF THE SAMPLES
@@ -18,33 +18,33 @@ despread_mod (s ∷ samples) a b e =
     (despread_mod samples (a + 1) (b + 1) (omega (arith, e)))
 
 correlation_mod : (samples : List Sample) (phase : ℕ) →
-    correlation samples (phase % 32768) ≡ correlation samples phase
-unfolding correlation
+    phase_correlation samples (phase % 32768) ≡ phase_correlation samples phase
+unfolding phase_correlation
 correlation_mod samples phase = ap sum_of (despread_mod samples (phase % 32768) phase (omega arith))
 
 correlation-append : (xs ys : List Sample) (phase : ℕ) →
-    correlation (xs ++ ys) phase ≡ plus (correlation xs phase) (correlation ys (phase + length xs))
-unfolding correlation
+    phase_correlation (xs ++ ys) phase ≡ plus (phase_correlation xs phase) (phase_correlation ys (phase + length xs))
+unfolding phase_correlation
 correlation-append xs ys phase =
     ap sum_of (despread-append xs ys phase) ∙
     sum_of-append (despread phase xs) (despread (phase + length xs) ys)
 
 -- one chunk further
 pub chunk_more : (samples : List Sample) (phase k n : ℕ) → k ≤ length samples →
-    correlation (take (k + n) samples) phase ≡
-    plus (correlation (take k samples) phase)
-    (correlation (take n (drop k samples)) ((phase + k) % 32768))
+    phase_correlation (take (k + n) samples) phase ≡
+    plus (phase_correlation (take k samples) phase)
+    (phase_correlation (take n (drop k samples)) ((phase + k) % 32768))
 chunk_more samples phase k n le =
     let before = take k samples in
     let chunk = take n (drop k samples) in
     let long : length before ≡ k = length-take-le k samples le in
-    ap (λ (xs : List Sample). correlation xs phase) (take-add k n samples)
+    ap (λ (xs : List Sample). phase_correlation xs phase) (take-add k n samples)
     ∙ correlation-append before chunk phase
-    ∙ ap (λ (m : ℕ). plus (correlation before phase) (correlation chunk (phase + m))) long
-    ∙ ap (plus (correlation before phase)) (sym (correlation_mod chunk (phase + k)))
+    ∙ ap (λ (m : ℕ). plus (phase_correlation before phase) (phase_correlation chunk (phase + m))) long
+    ∙ ap (plus (phase_correlation before phase)) (sym (correlation_mod chunk (phase + k)))
 
-pub nothing_yet : (samples : List Sample) (phase : ℕ) → correlation (take 0 samples) phase ≡ origin
-unfolding correlation
+pub nothing_yet : (samples : List Sample) (phase : ℕ) → phase_correlation (take 0 samples) phase ≡ origin
+unfolding phase_correlation
 nothing_yet samples phase = refl
 
 -- the sum so far and the sum of the rest
@@ -109,7 +109,7 @@ reach a b left h = let w : unsigned_abs (a +ℤ b) ≤ unsigned_abs a + left = o
 -- the bound holds
 pub bounds : (samples : List Sample) (phase done : ℕ) →
     energy samples phase ≤ bound samples phase done
-unfolding energy correlation
+unfolding energy phase_correlation
 bounds samples phase done =
     let x = sum_of (despread phase (take done samples)) in
     let y = sum_of (despread (phase + done) (drop done samples)) in
@@ -131,13 +131,13 @@ magnitudes_parted (s ∷ samples) (suc n) =
     omega (arith, rest)
 
 chunk_i : (samples : List Sample) (phase : ℕ) →
-    unsigned_abs (correlation samples phase).i ≤ magnitudes samples
-unfolding correlation
+    unsigned_abs (phase_correlation samples phase).i ≤ magnitudes samples
+unfolding phase_correlation
 chunk_i samples phase = rest_i phase samples
 
 chunk_q : (samples : List Sample) (phase : ℕ) →
-    unsigned_abs (correlation samples phase).q ≤ magnitudes samples
-unfolding correlation
+    unsigned_abs (phase_correlation samples phase).q ≤ magnitudes samples
+unfolding phase_correlation
 chunk_q samples phase = rest_q phase samples
 
 nearer : (a b : ℤ) (all some left : ℕ) → unsigned_abs b ≤ some → all ≡ some + left →
@@ -149,9 +149,9 @@ nearer a b all some left h e =
 bound_falls : (samples : List Sample) (phase k n : ℕ) → k ≤ length samples →
     bound samples phase (k + n) ≤ bound samples phase k
 bound_falls samples phase k n le =
-    let x = correlation (take k samples) phase in
+    let x = phase_correlation (take k samples) phase in
     let chunk = take n (drop k samples) in
-    let y = correlation chunk ((phase + k) % 32768) in
+    let y = phase_correlation chunk ((phase + k) % 32768) in
     let left = magnitudes (drop (k + n) samples) in
     let all : magnitudes (drop k samples) ≡ magnitudes chunk + left =
     magnitudes_parted (drop k samples) n
@@ -176,7 +176,7 @@ none_below samples phase limit last all here j lt =
 
 -- the bound that the program looks at
 pub bound_is : (samples : List Sample) (phase k tail found : ℕ) (sum : Pair) →
-    sum ≡ correlation (take k samples) phase → tail ≡ magnitudes (drop k samples)
+    sum ≡ phase_correlation (take k samples) phase → tail ≡ magnitudes (drop k samples)
     → found ≡ square_of (unsigned_abs sum.i + tail) + square_of (unsigned_abs sum.q + tail) →
     found ≡ bound samples phase k
 bound_is samples phase k tail found sum e f is =
@@ -186,7 +186,7 @@ bound_is samples phase k tail found sum e f is =
 -- no samples
 pub none_left : (samples : List Sample) (phase limit : ℕ) → length samples ≡ 0 →
     (0 ≡ energy samples phase) × HasNoBoundBelow samples phase limit
-unfolding energy correlation
+unfolding energy phase_correlation
 none_left [] phase limit e = (refl, λ j lt. absurd (omega (arith, lt)))
 none_left (s ∷ samples) phase limit e = absurd (omega (arith, e))
 
@@ -202,20 +202,20 @@ none_added samples phase =
 -- the step of the loop over blocks of chunks
 pub sum_more : (samples rest : List Sample) (phase j chunks : ℕ) (sum part : Pair) (i q : ℤ) →
     64 * j ≤ length samples → rest ≡ drop (64 * j) samples → IsSumOf samples phase (64 * j) sum →
-    part ≡ correlation (take (64 * chunks) rest) ((phase + 64 * j) % 32768) →
+    part ≡ phase_correlation (take (64 * chunks) rest) ((phase + 64 * j) % 32768) →
     unsigned_abs part.i ≤ 65536 * (64 * chunks) → unsigned_abs part.q ≤ 65536 * (64 * chunks) →
     i ≡ sum.i +ℤ part.i → q ≡ sum.q +ℤ part.q →
     IsSumOf samples phase (64 * (j + chunks)) (record { i = i; q = q })
 sum_more samples rest phase j chunks sum part i q le is so_far added near_i near_q ei eq =
     let place : 64 * j + 64 * chunks ≡ 64 * (j + chunks) = omega arith in
     let block = λ (xs : List Sample).
-    correlation (take (64 * chunks) xs) ((phase + 64 * j) % 32768) in
+    phase_correlation (take (64 * chunks) xs) ((phase + 64 * j) % 32768) in
     record {
       value = plus_is sum part i q ei eq
           ∙ ap (λ (x : Pair). plus x part) so_far.value
-          ∙ ap (plus (correlation (take (64 * j) samples) phase)) (added ∙ ap block is)
+          ∙ ap (plus (phase_correlation (take (64 * j) samples) phase)) (added ∙ ap block is)
           ∙ sym (chunk_more samples phase (64 * j) (64 * chunks) le)
-          ∙ ap (λ (m : ℕ). correlation (take m samples) phase) place;
+          ∙ ap (λ (m : ℕ). phase_correlation (take m samples) phase) place;
       i_bound = far sum.i part.i i _ _ _ ei so_far.i_bound near_i (omega arith);
       q_bound = far sum.q part.q q _ _ _ eq so_far.q_bound near_q (omega arith);
     }
@@ -225,21 +225,21 @@ sum_more samples rest phase j chunks sum part i q le is so_far added near_i near
     far a b c m n k e h g is = omega (arith, ints, e, h, g, is)
 
 whole_parted : (samples : List Sample) (phase done : ℕ) →
-    plus (correlation (take done samples) phase) (correlation (drop done samples) (phase + done)) ≡
-    correlation samples phase
-unfolding correlation
+    plus (phase_correlation (take done samples) phase) (phase_correlation (drop done samples) (phase + done)) ≡
+    phase_correlation samples phase
+unfolding phase_correlation
 whole_parted samples phase done = sym (parted samples phase done)
 
 -- the last chunk is added
 pub sum_whole : (samples : List Sample) (phase done : ℕ) (sum part all : Pair) →
     IsSumOf samples phase done sum →
-    part ≡ correlation (drop done samples) ((phase + done) % 32768) → all ≡ plus sum part →
+    part ≡ phase_correlation (drop done samples) ((phase + done) % 32768) → all ≡ plus sum part →
     norm all ≡ energy samples phase
 unfolding energy
 sum_whole samples phase done sum part all so_far added is =
     ap norm
     (is
     ∙ ap (λ (x : Pair). plus x part) so_far.value
-    ∙ ap (plus (correlation (take done samples) phase))
+    ∙ ap (plus (phase_correlation (take done samples) phase))
     (added ∙ correlation_mod (drop done samples) (phase + done))
     ∙ whole_parted samples phase done)

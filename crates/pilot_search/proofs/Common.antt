@@ -45,16 +45,17 @@ pub use Rattle.pilot_search.specs.BestIn.{IsBestIn}
 pub use Rattle.pilot_search.specs.Bounds.{HasBoundBelow, HasNoBoundBelow, IsSumOf, bound, greatest, magnitudes, square_of}
 pub use Rattle.pilot_search.specs.BySigns.{across}
 unfoldable pub use Rattle.pilot_search.specs.BySigns.{correlation_with}
-pub use Rattle.pilot_search.specs.Found.{IsFound, better_of, start_of}
+pub use Rattle.pilot_search.specs.Found.{IsFound, better_of, worker_start}
 pub use Rattle.pilot_search.specs.Knowledge.{IsHeld, Knowledge}
-pub use Rattle.pilot_search.specs.Lanes.{AreNear, AreProducts, AreShort, AreSums, AreUnits, IsShort, both, eight, imaginary_lanes, parts}
+pub use Rattle.pilot_search.specs.Lanes.{LanesAreNear, AreProducts, AreShort, AreSums, AreUnits, IsShort, both, eight, imaginary_lanes}
+pub use Rattle.pilot_search.specs.Lanes.{parts}
 pub use Rattle.pilot_search.specs.Lanes.{product_at, real_lanes, sample_at, signs_at, with_signs}
-pub use Rattle.pilot_search.specs.Near.{near_place, near_value, phase_at}
+pub use Rattle.pilot_search.specs.Near.{near_place, near_value, near_phase_at}
 unfoldable pub use Rattle.pilot_search.specs.Near.{near_deltas}
 pub use Rattle.pilot_search.specs.Ranked.{IsNext, IsRound, measured_at}
-unfoldable pub use Rattle.pilot_search.specs.Search.{best_phase, correlation, energy}
+unfoldable pub use Rattle.pilot_search.specs.Search.{best_phase, phase_correlation, energy}
 pub use Rattle.pilot_search.specs.SearchRun.{BestComesFirst, ComesFirst, Evaluate, FindsBest, Goes, IsDone, IsTry, Parts, Publish, Read}
 pub use Rattle.pilot_search.specs.SearchRun.{IsStart, Run, Skip, Step, Worker}
-pub use Rattle.pilot_search.specs.SharedRule.{AllLie, Begun, IsKept, Lies, fresh, holding, joined, spent}
+pub use Rattle.pilot_search.specs.SharedRule.{AllLie, Begun, IsSharedState, Lies, fresh_view, holding, joined_views, spent}
 pub use Rattle.pilot_search.specs.declared.sweeping.Best.{Best}
 pub use Rattle.pilot_search.specs.declared.view.View.{View}

@@ -4,7 +4,7 @@ use Rattle.pilot_search.proofs.Common.{take, drop, All, min, refl, ◌⊎◌, �
 use Rattle.pilot_search.proofs.Common.{unsigned_abs, drop_all, take-append-drop, length-take-le, length-drop, All-from_get_or, cases_order}
 use Rattle.pilot_search.proofs.Common.{drop-cons, sign, zip_with, origin, plus, sum_of, plus_assoc, plus-origin, sum_of-append, Pair}
 use Rattle.pilot_search.proofs.Common.{Sample, pilot_chip, chip_signs, pilot_signs, despread, IsUnit, turned, despread-append}
-use Rattle.pilot_search.proofs.Common.{length-pilot_signs, get_or-pilot_signs, correlation, correlation_with}
+use Rattle.pilot_search.proofs.Common.{length-pilot_signs, get_or-pilot_signs, phase_correlation, correlation_with}
 
 abbrev pub no_sample : Sample
 no_sample = record { i = pos 0; q = pos 0 }
@@ -84,8 +84,8 @@ lesser a b n is =
 pub parted : (samples : List Sample) (phase n : ℕ) → phase < 32768 → length samples ≤ 32768 →
     n ≡ min (length samples) (32768 - phase) →
     plus (correlation_with (take n samples) (drop phase pilot_signs))
-    (correlation_with (drop n samples) pilot_signs) ≡ correlation samples phase
-unfolding correlation_with correlation
+    (correlation_with (drop n samples) pilot_signs) ≡ phase_correlation samples phase
+unfolding correlation_with phase_correlation
 parted samples phase n low few is =
     let within : n ≤ length samples = omega (arith, is) in
     let room : phase + n ≤ 32768 = omega (arith, is, low) in
@@ -113,7 +113,7 @@ parted samples phase n low few is =
 -- where nothing stands after the code's end, the part before it is all
 pub all_before : (samples : List Sample) (phase n : ℕ) → phase < 32768 → length samples ≤ 32768 →
     n ≡ min (length samples) (32768 - phase) → length samples ≤ n →
-    correlation_with (take n samples) (drop phase pilot_signs) ≡ correlation samples phase
+    correlation_with (take n samples) (drop phase pilot_signs) ≡ phase_correlation samples phase
 unfolding correlation_with
 all_before samples phase n low few is past =
     let none : correlation_with (drop n samples) pilot_signs ≡ origin =

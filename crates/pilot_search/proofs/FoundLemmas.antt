@@ -2,7 +2,7 @@
 use Rattle.pilot_search.proofs.Common.{◌≡◌, ℕ, ◌+◌, ◌<◌, ◌≤◌, Bool, true, false, List, refl, sym, ap, ◌∙◌, subst, ⊎_elim, arith, ◌*◌, ◌/◌}
 use Rattle.pilot_search.proofs.Common.{Option, Some, None, IsSome, if◌then◌else◌, nat_lt, div-le_self, div-mul-le_self, mul-div_cancel}
 use Rattle.pilot_search.proofs.Common.{le-div, cases_lt, nat_tests, Sample, energy, best_phase, greatest, HasBoundBelow, IsBestIn, IsFound}
-use Rattle.pilot_search.proofs.Common.{better_of, start_of, Best}
+use Rattle.pilot_search.proofs.Common.{better_of, worker_start, Best}
 use Rattle.pilot_search.proofs.BoundLemmas.{bounds}
 use Rattle.pilot_search.proofs.BestPhase.{best_phase-is}
 
@@ -88,28 +88,28 @@ is_some samples None h =
     absurd (h.first (best_phase samples) (omega arith) (best_phase-is samples).below refl)
 is_some samples (Some b) h = refl
 
-pub start_up : (a b workers : ℕ) → 0 < workers → a ≤ b → start_of a workers ≤ start_of b workers
+pub start_up : (a b workers : ℕ) → 0 < workers → a ≤ b → worker_start a workers ≤ worker_start b workers
 start_up a b workers some le =
     le-div (32768 * a / workers) (32768 * b) workers some
     (let m = div-mul-le_self (32768 * a) workers in omega arith)
 
-pub start_end : (workers : ℕ) → 0 < workers → start_of workers workers ≡ 32768
+pub start_end : (workers : ℕ) → 0 < workers → worker_start workers workers ≡ 32768
 start_end workers some = mul-div_cancel 32768 some
 
-pub start_most : (a workers : ℕ) → 0 < workers → a ≤ workers → start_of a workers ≤ 32768
+pub start_most : (a workers : ℕ) → 0 < workers → a ≤ workers → worker_start a workers ≤ 32768
 start_most a workers some le = rw start_end at (start_up a workers workers some le)
 
-start_none : (workers : ℕ) → start_of 0 workers ≡ 0
+start_none : (workers : ℕ) → worker_start 0 workers ≡ 0
 start_none workers = let l = div-le_self 0 workers in omega arith
 
 -- the whole range
 pub whole : (samples : List Sample) (workers : ℕ) (found : Option Best) → 0 < workers →
-    IsFound samples (start_of 0 workers) (start_of (0 + workers) workers) found →
+    IsFound samples (worker_start 0 workers) (worker_start (0 + workers) workers) found →
     IsFound samples 0 32768 found
 whole samples workers found some h =
     let e : 0 + workers ≡ workers = omega arith in
     subst (λ (n : ℕ × ℕ). IsFound samples n.0 n.1 found)
     (λ i. (
       start_none workers i,
-      (ap (λ (n : ℕ). start_of n workers) e ∙ start_end workers some) i,
+      (ap (λ (n : ℕ). worker_start n workers) e ∙ start_end workers some) i,
     )) h

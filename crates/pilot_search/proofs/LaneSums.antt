@@ -2,7 +2,7 @@
 use Rattle.pilot_search.proofs.Common.{◌≡◌, ℕ, ◌+◌, ◌*◌, ◌^◌, ◌<◌, ◌≤◌, List, length, drop, sym, ap, ◌∙◌, subst, arith, ℤ, ◌+ℤ◌}
 use Rattle.pilot_search.proofs.Common.{unsigned_abs, to_z, of_z, w64, Each1, Each2, zip2, to_z-of_z, fits_signed_from_abs}
 use Rattle.pilot_search.proofs.Common.{Each1-weaker, length-zip2, plus, total, Pair, Sample, correlation_with}
-use Rattle.pilot_search.proofs.Common.{AreNear, AreProducts, AreSums}
+use Rattle.pilot_search.proofs.Common.{LanesAreNear, AreProducts, AreSums}
 use Rattle.pilot_search.proofs.CorrelationSums.{correlation_with-all}
 use Rattle.pilot_search.proofs.LaneLemmas.{kept, kept_lanes, kept_products, lanes_fit, bounds_more, total_bound, lanes_more}
 
@@ -37,7 +37,7 @@ products_kept samples signs first real imaginary p = record {
 -- products are sums of one group
 pub products_near : (samples : List Sample) (signs : List (ℤ × ℤ)) (first : ℕ)
     (real imaginary : List ℤ) → AreProducts samples signs first real imaginary →
-    AreNear 1 real imaginary
+    LanesAreNear 1 real imaginary
 products_near samples signs first real imaginary p = record {
   real_long = ap (λ (xs : List ℤ). length xs) p.real_parts;
   imaginary_long = ap (λ (xs : List ℤ). length xs) p.imaginary_parts;
@@ -49,7 +49,7 @@ products_near samples signs first real imaginary p = record {
 -- and so they are where they are kept as bits
 pub kept_near : (samples : List Sample) (signs : List (ℤ × ℤ)) (first : ℕ)
     (real imaginary : List ℤ) → AreProducts samples signs first real imaginary →
-    AreNear 1 (kept real) (kept imaginary)
+    LanesAreNear 1 (kept real) (kept imaginary)
 kept_near samples signs first real imaginary p =
     products_near samples signs first (kept real) (kept imaginary)
     (products_kept samples signs first real imaginary p)

@@ -1,19 +1,20 @@
 -- The places near the best phase, and the phases at them.
 use Rattle.pilot_search.proofs.Common.{◌≡◌, ◌≢◌, ℕ, ◌+◌, ◌*◌, ◌<◌, ◌≤◌, true, false, List, [], ◌∷◌, map, refl, sym, ap, ◌∙◌, arith, ℤ, pos}
 use Rattle.pilot_search.proofs.Common.{negsuc, ◌-ℤ◌, ⊎_elim, nat_eq, nat_le, list_any, ints, cases_lt, nat_tests, first_places, Sample}
-use Rattle.pilot_search.proofs.Common.{IsBestIn, near_place, phase_at, near_value, near_deltas, measured_at, IsRound, IsNext, energy, Best}
+use Rattle.pilot_search.proofs.Common.{IsBestIn, near_place, near_phase_at, near_value, near_deltas, measured_at, IsRound, IsNext, energy}
+use Rattle.pilot_search.proofs.Common.{Best}
 use Rattle.pilot_search.proofs.Common.{IsGreatestUnless, first_places-none, first_places-more}
 
 -- PLACES AND PHASES
 pub place_back : (best place : ℕ) → best < 32768 → place < 65 →
-    near_place best (phase_at best place) ≡ place
+    near_place best (near_phase_at best place) ≡ place
 place_back best place low lt = omega (arith, low, lt)
 
 phase_back : (best phase : ℕ) → best < 32768 → phase < 32768 →
-    phase_at best (near_place best phase) ≡ phase
+    near_phase_at best (near_place best phase) ≡ phase
 phase_back best phase low lt = omega (arith, low, lt)
 
-middle : (best : ℕ) → best < 32768 → phase_at best 32 ≡ best
+middle : (best : ℕ) → best < 32768 → near_phase_at best 32 ≡ best
 middle best low = omega (arith, low)
 
 middle_place : (best : ℕ) → near_place best best ≡ 32
@@ -45,7 +46,7 @@ free_of_two k a b h g = grind (arith, nat_tests)
 
 -- two places have two phases
 two_phases : (best p q : ℕ) → best < 32768 → p < 65 → q < 65 → p ≢ q →
-    phase_at best p ≢ phase_at best q
+    near_phase_at best p ≢ near_phase_at best q
 two_phases best p q low hp hq ne =
     λ same. ne (sym (place_back best p low hp) ∙ ap (near_place best) same ∙
     place_back best q low hq)
@@ -57,15 +58,15 @@ measured_phase samples phase = record { phase = phase; energy = energy samples p
 compared : (samples : List Sample) (best : ℕ) (round : List Best) (first second place k : ℕ) →
     best < 32768 → IsRound samples best 65 round →
     IsNext round first second 65 place → k < 32768 → near_place best k ≤ 64 →
-    k ≢ phase_at best first → k ≢ phase_at best second →
-    32768 * energy samples k + phase_at best place ≤ 32768 * energy samples (phase_at best place) +
+    k ≢ near_phase_at best first → k ≢ near_phase_at best second →
+    32768 * energy samples k + near_phase_at best place ≤ 32768 * energy samples (near_phase_at best place) +
     k
 compared samples best round first second place k low r next lt near not_first not_second =
     let back = phase_back best k low lt in
     let d : Best = measured_at samples best 0 in
     let within : near_place best k < 65 = omega (arith, near) in
-    let a : near_place best k ≢ first = λ e. not_first (sym back ∙ ap (phase_at best) e) in
-    let b : near_place best k ≢ second = λ e. not_second (sym back ∙ ap (phase_at best) e) in
+    let a : near_place best k ≢ first = λ e. not_first (sym back ∙ ap (near_phase_at best) e) in
+    let b : near_place best k ≢ second = λ e. not_second (sym back ∙ ap (near_phase_at best) e) in
     let here = r.measured place d next.below in
     let there = r.measured (near_place best k) d within ∙
     ap (λ (n : ℕ). measured_phase samples n) back in
@@ -77,12 +78,12 @@ next_is : (samples : List Sample) (best : ℕ) (round : List Best) (first second
     (taken : List ℕ) → best < 32768 → IsRound samples best 65 round →
     IsNext round first second 65 place →
     ((k : ℕ) → list_any (nat_eq k) taken ≡ false →
-    (k ≢ phase_at best first) × (k ≢ phase_at best second)) →
-    list_any (nat_eq (phase_at best place)) taken ≡ false →
-    IsGreatestUnless taken (near_value samples best) 32768 (phase_at best place)
+    (k ≢ near_phase_at best first) × (k ≢ near_phase_at best second)) →
+    list_any (nat_eq (near_phase_at best place)) taken ≡ false →
+    IsGreatestUnless taken (near_value samples best) 32768 (near_phase_at best place)
 next_is samples best round first second place taken low r next others free =
     let back = place_back best place low next.below in
-    let own = value_near samples best (phase_at best place) (let b = next.below in
+    let own = value_near samples best (near_phase_at best place) (let b = next.below in
     omega (arith, back, b)) in
     record {
       below = omega arith;
@@ -135,36 +136,36 @@ one_place samples best most is =
 two_places : (samples : List Sample) (best most : ℕ) (round : List Best) (second : ℕ) →
     IsBestIn samples 0 32768 best most → IsRound samples best 65 round →
     IsNext round 32 32 65 second →
-    first_places 2 (near_value samples best) 32768 ≡ best ∷ phase_at best second ∷ []
+    first_places 2 (near_value samples best) 32768 ≡ best ∷ near_phase_at best second ∷ []
 two_places samples best most round second is r next =
     let low : best < 32768 = is.below in
     let mid = middle best low in
-    let here : phase_at best second ≢ best =
+    let here : near_phase_at best second ≢ best =
     λ e. two_phases best second 32 low next.below (omega arith) next.not_first (e ∙ sym mid) in
-    first_places-more 1 (near_value samples best) 32768 (phase_at best second) (best ∷ [])
+    first_places-more 1 (near_value samples best) 32768 (near_phase_at best second) (best ∷ [])
     (one_place samples best most is) (omega arith)
     (next_is samples best round 32 32 second (best ∷ []) low r next
     (λ k free. let ne = not_one k best free in (λ e. ne (e ∙ mid), λ e. ne (e ∙ mid)))
-    (free_of_one (phase_at best second) best here))
+    (free_of_one (near_phase_at best second) best here))
 
 three_places : (samples : List Sample) (best most : ℕ) (round : List Best) (second third : ℕ) →
     IsBestIn samples 0 32768 best most → IsRound samples best 65 round →
     IsNext round 32 32 65 second → IsNext round 32 second 65 third →
     first_places 3 (near_value samples best) 32768 ≡
-    best ∷ phase_at best second ∷ phase_at best third ∷ []
+    best ∷ near_phase_at best second ∷ near_phase_at best third ∷ []
 three_places samples best most round second third is r next last =
     let low : best < 32768 = is.below in
     let mid = middle best low in
-    let here : phase_at best third ≢ best =
+    let here : near_phase_at best third ≢ best =
     λ e. two_phases best third 32 low last.below (omega arith) last.not_first (e ∙ sym mid) in
-    let there : phase_at best third ≢ phase_at best second =
+    let there : near_phase_at best third ≢ near_phase_at best second =
     two_phases best third second low last.below next.below last.not_second in
-    first_places-more 2 (near_value samples best) 32768 (phase_at best third)
-    (best ∷ phase_at best second ∷ []) (two_places samples best most round second is r next)
+    first_places-more 2 (near_value samples best) 32768 (near_phase_at best third)
+    (best ∷ near_phase_at best second ∷ []) (two_places samples best most round second is r next)
     (omega arith)
-    (next_is samples best round 32 second third (best ∷ phase_at best second ∷ []) low r last
-    (λ k free. let ne = not_two k best (phase_at best second) free in (λ e. ne.0 (e ∙ mid), ne.1))
-    (free_of_two (phase_at best third) best (phase_at best second) here there))
+    (next_is samples best round 32 second third (best ∷ near_phase_at best second ∷ []) low r last
+    (λ k free. let ne = not_two k best (near_phase_at best second) free in (λ e. ne.0 (e ∙ mid), ne.1))
+    (free_of_two (near_phase_at best third) best (near_phase_at best second) here there))
 
 -- THEIR DELTAS
 abbrev delta_at : ℕ → ℕ → ℤ
@@ -174,7 +175,7 @@ middle_delta : (best : ℕ) → delta_at best best ≡ pos 0
 middle_delta best = let e = middle_place best in rw e
 
 place_delta : (best place : ℕ) → best < 32768 → place < 65 →
-    delta_at best (phase_at best place) ≡ pos place -ℤ pos 32
+    delta_at best (near_phase_at best place) ≡ pos place -ℤ pos 32
 place_delta best place low lt = let e = place_back best place low lt in rw e
 
 pub one_delta : (samples : List Sample) (best most : ℕ) → IsBestIn samples 0 32768 best most →
@@ -190,7 +191,7 @@ pub two_deltas : (samples : List Sample) (best most : ℕ) (round : List Best) (
 unfolding near_deltas
 two_deltas samples best most round second is r next =
     ap (map (delta_at best)) (two_places samples best most round second is r next)
-    ∙ ap (λ (z : ℤ). z ∷ delta_at best (phase_at best second) ∷ []) (middle_delta best)
+    ∙ ap (λ (z : ℤ). z ∷ delta_at best (near_phase_at best second) ∷ []) (middle_delta best)
     ∙ ap (λ (z : ℤ). pos 0 ∷ z ∷ []) (place_delta best second is.below next.below)
 
 pub three_deltas : (samples : List Sample) (best most : ℕ) (round : List Best) (second third : ℕ) →
@@ -200,9 +201,9 @@ pub three_deltas : (samples : List Sample) (best most : ℕ) (round : List Best)
 unfolding near_deltas
 three_deltas samples best most round second third is r next last =
     ap (map (delta_at best)) (three_places samples best most round second third is r next last)
-    ∙ ap (λ (z : ℤ). z ∷ delta_at best (phase_at best second) ∷ delta_at best (phase_at best third)
+    ∙ ap (λ (z : ℤ). z ∷ delta_at best (near_phase_at best second) ∷ delta_at best (near_phase_at best third)
     ∷ []) (middle_delta best)
-    ∙ ap (λ (z : ℤ). pos 0 ∷ z ∷ delta_at best (phase_at best third) ∷ [])
+    ∙ ap (λ (z : ℤ). pos 0 ∷ z ∷ delta_at best (near_phase_at best third) ∷ [])
     (place_delta best second is.below next.below)
     ∙ ap (λ (z : ℤ). pos 0 ∷ (pos second -ℤ pos 32) ∷ z ∷ [])
     (place_delta best third is.below last.below)

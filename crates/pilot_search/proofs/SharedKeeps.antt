@@ -2,7 +2,7 @@
 use Rattle.pilot_search.proofs.Common.{◌≡◌, ◌≢◌, ℕ, zero, suc, ◌≤◌, true, false, List, [], ◌∷◌, length, set, get_or, inr, refl, sym, ap}
 use Rattle.pilot_search.proofs.Common.{◌∙◌, subst, ⊎_elim, arith, length-set, get_or-set_same, true≢false, none, some, some-ne-none}
 use Rattle.pilot_search.proofs.Common.{some-injective, get_elem?, State, Me, step, keeps, stepped, Allows, Splits, Joins, at_set, at_snoc}
-use Rattle.pilot_search.proofs.Common.{set_again, View, holding, spent, fresh, Lies, AllLie, IsKept, Begun, joined}
+use Rattle.pilot_search.proofs.Common.{set_again, View, holding, spent, fresh_view, Lies, AllLie, IsSharedState, Begun, joined_views}
 
 abbrev Sat : Type 0
 Sat = Me (Unit {0}) View
@@ -13,17 +13,17 @@ At = State (Unit {0}) View
 off : ¬ (false ≡ true)
 off e = true≢false (sym e)
 
-only_fresh : (id : ℕ) (v : View) → get_elem? (fresh ∷ []) id ≡ some v → fresh ≡ v
-only_fresh zero v e = some-injective fresh v e
+only_fresh : (id : ℕ) (v : View) → get_elem? (fresh_view ∷ []) id ≡ some v → fresh_view ≡ v
+only_fresh zero v e = some-injective fresh_view v e
 only_fresh (suc id) v e = absurd (some-ne-none v (sym e))
 
-only_first : (id : ℕ) (v : View) → get_elem? (fresh ∷ []) id ≡ some v → id ≡ 0
+only_first : (id : ℕ) (v : View) → get_elem? (fresh_view ∷ []) id ≡ some v → id ≡ 0
 only_first zero v e = refl
 only_first (suc id) v e = absurd (some-ne-none v (sym e))
 
 -- the seat of a view that isn't spent is no first seat
 not_fresh : {X : Type 0} (views : List View) (id : ℕ) (v : View) → get_elem? views id ≡ some v →
-    v.spent ≡ false → views ≡ fresh ∷ [] → X
+    v.spent ≡ false → views ≡ fresh_view ∷ [] → X
 not_fresh views id v at held is =
     absurd (off (sym held ∙
     sym (ap (λ (u : View). u.spent)
@@ -41,7 +41,7 @@ lie_set word new ceiling id views w up low all old mine j u e =
     (at_set views id j w u e)
 
 placed : (s : At) (n id ceiling : ℕ) (me : Sat) (w : View) → length s.words ≡ 1 →
-    AllLie n ceiling (set s.views id w) → IsKept (stepped s 0 n id me.1 w keeps)
+    AllLie n ceiling (set s.views id w) → IsSharedState (stepped s 0 n id me.1 w keeps)
 placed s n id ceiling me w one all = (
   length-set s.words 0 n ∙
       one,
@@ -55,7 +55,7 @@ placed s n id ceiling me w one all = (
 -- a step that doesn't lower the word, nor raises it over the ceiling
 pub moves : (slots id : ℕ) (me : Sat) (f : ℕ → ℕ) → me.0.spent ≡ false → ((n : ℕ) → n ≤ f n) →
     ((n : ℕ) → n ≤ me.0.ceiling → f n ≤ me.0.ceiling)
-    → Allows IsKept slots id me 0 f (λ n m'. (me.0.floor ≤ n) × (n ≤ me.0.ceiling) ×
+    → Allows IsSharedState slots id me 0 f (λ n m'. (me.0.floor ≤ n) × (n ≤ me.0.ceiling) ×
     (m' ≡ (holding (f n) me.0.ceiling, me.1)))
 moves slots id me f held up low s kept _ at _ =
     ⊎_elim
@@ -78,7 +78,7 @@ moves slots id me f held up low s kept _ at _ =
     kept.1
 
 pub begins : (slots id : ℕ) (me : Sat) (ceiling : ℕ) → me.0.fresh ≡ true →
-    Allows IsKept slots id me 0 (λ n. n) (Begun ceiling (step slots 0 0 0 none) me)
+    Allows IsSharedState slots id me 0 (λ n. n) (Begun ceiling (step slots 0 0 0 none) me)
 begins slots id me ceiling is s kept _ at _ =
     ⊎_elim
     (λ first. let w = holding 0 ceiling in (
@@ -91,7 +91,7 @@ begins slots id me ceiling is s kept _ at _ =
     (λ lie. absurd (off (sym (lie.1 id me.0 at).0 ∙ is)))
     kept.1
   where
-    alone : (views : List View) → views ≡ fresh ∷ [] → get_or s.words 0 0 ≡ 0 →
+    alone : (views : List View) → views ≡ fresh_view ∷ [] → get_or s.words 0 0 ≡ 0 →
         get_elem? views id ≡ some me.0 →
         AllLie (get_or s.words 0 0) ceiling (set views id (holding 0 ceiling))
     alone views is zeroed at j u e =
@@ -105,7 +105,7 @@ begins slots id me ceiling is s kept _ at _ =
         absurd (t.0 (there ∙ sym here)))
         (at_set views id j (holding 0 ceiling) u e)
 
-pub splits : (id : ℕ) (v : View) → v.spent ≡ false → Splits IsKept id v v v
+pub splits : (id : ℕ) (v : View) → v.spent ≡ false → Splits IsSharedState id v v v
 splits id v held s kept at =
     ⊎_elim
     (λ first. not_fresh s.views id v at held first.0)
@@ -124,7 +124,7 @@ splits id v held s kept at =
     kept.1
 
 pub joins : (id other : ℕ) (v w : View) → v.spent ≡ false → w.spent ≡ false →
-    Joins IsKept id v other w (joined v w) spent
+    Joins IsSharedState id v other w (joined_views v w) spent
 joins id other v w held held' s kept at apart there =
     ⊎_elim
     (λ first. not_fresh s.views id v at held first.0)
@@ -132,17 +132,17 @@ joins id other v w held held' s kept at apart there =
     let word : ℕ = get_or s.words 0 0 in
     let mine = (lie.1 id v at).1 held in
     let theirs : get_elem? s.views other ≡
-    some w = ⊎_elim (λ (t : (other ≡ id) × (joined v w ≡ w)). absurd (apart t.0))
+    some w = ⊎_elim (λ (t : (other ≡ id) × (joined_views v w ≡ w)). absurd (apart t.0))
     (λ (t : (other ≢ id) × (get_elem? s.views other ≡ some w)). t.1)
-    (at_set s.views id other (joined v w) w there) in
+    (at_set s.views id other (joined_views v w) w there) in
     let others = (lie.1 other w theirs).1 held' in
-    let both : AllLie word lie.0 (set s.views id (joined v w)) =
-    lie_set word word lie.0 id s.views (joined v w) (omega arith) mine.1 lie.1 refl
+    let both : AllLie word lie.0 (set s.views id (joined_views v w)) =
+    lie_set word word lie.0 id s.views (joined_views v w) (omega arith) mine.1 lie.1 refl
     (λ _. (omega arith, mine.1, mine.2)) in (
       kept.0,
       inr (
         lie.0,
-        lie_set word word lie.0 other (set s.views id (joined v w)) spent (omega arith)
+        lie_set word word lie.0 other (set s.views id (joined_views v w)) spent (omega arith)
             mine.1 both refl (λ no. absurd (off (sym no))),
       ),
     ))

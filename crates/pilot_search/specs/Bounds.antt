@@ -3,7 +3,7 @@ use Rattle.std.specs.Prelude.{◌≡◌, ◌<◌, ◌≤◌, ℕ, ◌+◌, ◌*�
 use Rattle.std.specs.Prelude.{unsigned_abs, slice_index}
 use Rattle.chip_core.specs.declared.sample.Pair.{Pair}
 use Rattle.chip_core.specs.declared.sample.Sample.{Sample}
-use Rattle.pilot_search.specs.Search.{correlation, energy, best_phase}
+use Rattle.pilot_search.specs.Search.{phase_correlation, energy, best_phase}
 
 -- the greatest energy of any phase
 abbrev pub greatest : List Sample → ℕ
@@ -20,7 +20,7 @@ square_of x = x * x
 -- no more than this can the energy become, whatever the samples after the first `done` add
 abbrev pub bound : List Sample → ℕ → ℕ → ℕ
 bound samples phase done =
-    let partial = correlation (take done samples) phase in
+    let partial = phase_correlation (take done samples) phase in
     let left = magnitudes (drop done samples) in
     square_of (unsigned_abs partial.i + left) + square_of (unsigned_abs partial.q + left)
 
@@ -40,6 +40,6 @@ AreTails samples tails =
 
 -- the sum over the first `done` samples
 pub record IsSumOf (samples : List Sample) (phase done : ℕ) (sum : Pair) : Type 0 where
-  pub value : sum ≡ correlation (take done samples) phase
+  pub value : sum ≡ phase_correlation (take done samples) phase
   pub i_bound : unsigned_abs sum.i ≤ 65536 * done
   pub q_bound : unsigned_abs sum.q ≤ 65536 * done

@@ -22,5 +22,5 @@ better_of (Some left) (Some right) =
     if nat_lt left.energy right.energy then Some right else Some left
 
 -- the first phase of a worker, or the end of the last worker's
-abbrev pub start_of : ℕ → ℕ → ℕ
-start_of worker workers = 32768 * worker / workers
+abbrev pub worker_start : ℕ → ℕ → ℕ
+worker_start worker workers = 32768 * worker / workers

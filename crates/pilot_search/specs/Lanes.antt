@@ -68,7 +68,7 @@ pub record AreProducts (samples : List Sample) (signs : List (ℤ × ℤ)) (firs
   pub imaginary_bound : Each1 (λ x. unsigned_abs x ≤ 65536) (imaginary_lanes samples signs first)
 
 -- eight real parts and eight imaginary parts that so many products each may add up to
-pub record AreNear (groups : ℕ) (real imaginary : List ℤ) : Type 0 where
+pub record LanesAreNear (groups : ℕ) (real imaginary : List ℤ) : Type 0 where
   pub real_long : length real ≡ 8
   pub imaginary_long : length imaginary ≡ 8
   pub real_bound : Each1 (λ x. unsigned_abs x ≤ 65536 * groups) real
@@ -78,7 +78,7 @@ pub record AreNear (groups : ℕ) (real imaginary : List ℤ) : Type 0 where
 -- samples that are left they are the whole sum
 pub record AreSums (samples : List Sample) (signs : List (ℤ × ℤ)) (groups : ℕ)
     (real imaginary : List ℤ) : Type 0 where
-  pub near : AreNear groups real imaginary
+  pub near : LanesAreNear groups real imaginary
   pub whole : plus (record { i = total real; q = total imaginary })
       (correlation_with (drop (8 * groups) samples) (drop (8 * groups) signs)) ≡
       correlation_with samples signs

@@ -11,8 +11,8 @@ abbrev pub near_place : ℕ → ℕ → ℕ
 near_place best phase = (phase + 32800 - best) % 32768
 
 -- the phase at one of these places
-abbrev pub phase_at : ℕ → ℕ → ℕ
-phase_at best place = (best + 32736 + place) % 32768
+abbrev pub near_phase_at : ℕ → ℕ → ℕ
+near_phase_at best place = (best + 32736 + place) % 32768
 
 -- the energy of one of these phases, and less than any energy of another phase
 abbrev pub near_value : List Sample → ℕ → ℕ → ℤ

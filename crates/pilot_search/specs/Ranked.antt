@@ -1,18 +1,18 @@
 -- Phases with their energies, in order of rank: by greater energy, then by lesser phase.
 use Rattle.std.specs.Prelude.{◌≡◌, ◌≢◌, ℕ, ◌+◌, ◌*◌, ◌<◌, ◌≤◌, List, length, get_or}
 use Rattle.chip_core.specs.declared.sample.Sample.{Sample}
-use Rattle.pilot_search.specs.Near.{phase_at}
+use Rattle.pilot_search.specs.Near.{near_phase_at}
 use Rattle.pilot_search.specs.Search.{energy}
 use Rattle.pilot_search.specs.declared.sweeping.Best.{Best}
 
 -- one comes before the other, where the phases are below 32,768
-abbrev pub IsBefore : Best → Best → Type 0
-IsBefore x y = 32768 * y.energy + x.phase < 32768 * x.energy + y.phase
+abbrev pub RanksBefore : Best → Best → Type 0
+RanksBefore x y = 32768 * y.energy + x.phase < 32768 * x.energy + y.phase
 
 -- the phase at a place, with its energy
 abbrev pub measured_at : List Sample → ℕ → ℕ → Best
 measured_at samples best place =
-    record { phase = phase_at best place; energy = energy samples (phase_at best place) }
+    record { phase = near_phase_at best place; energy = energy samples (near_phase_at best place) }
 
 -- the phases of the first so many places, with their energies
 pub record IsRound (samples : List Sample) (best count : ℕ) (round : List Best) : Type 0 where

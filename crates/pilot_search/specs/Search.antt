@@ -6,11 +6,11 @@ use Rattle.chip_core.specs.declared.sample.Pair.{Pair}
 use Rattle.chip_core.specs.declared.sample.Sample.{Sample}
 use Rattle.short_code.specs.Despread.{despread}
 
-unfoldable pub correlation : List Sample → ℕ → Pair
-correlation samples phase = sum_of (despread phase samples)
+unfoldable pub phase_correlation : List Sample → ℕ → Pair
+phase_correlation samples phase = sum_of (despread phase samples)
 
 unfoldable pub energy : List Sample → ℕ → ℕ
-energy samples phase = norm (correlation samples phase)
+energy samples phase = norm (phase_correlation samples phase)
 
 -- the phase of greatest energy, the least on a tie
 unfoldable pub best_phase : List Sample → ℕ

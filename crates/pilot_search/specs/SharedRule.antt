@@ -14,8 +14,8 @@ abbrev pub spent : View
 spent = record { fresh = false; spent = true; floor = 0; ceiling = 0 }
 
 -- the first view, before its ceiling is told
-abbrev pub fresh : View
-fresh = record { fresh = true; spent = true; floor = 0; ceiling = 0 }
+abbrev pub fresh_view : View
+fresh_view = record { fresh = true; spent = true; floor = 0; ceiling = 0 }
 
 abbrev pub Lies : ℕ → ℕ → View → Type 0
 Lies word ceiling v = v.spent ≡ false → (v.floor ≤ word) × (word ≤ ceiling) × (v.ceiling ≡ ceiling)
@@ -24,10 +24,10 @@ abbrev pub AllLie : ℕ → ℕ → List View → Type 0
 AllLie word ceiling views =
     (id : ℕ) (v : View) → get_elem? views id ≡ some v → (v.fresh ≡ false) × Lies word ceiling v
 
-abbrev pub IsKept : State (Unit {0}) View → Type 0
-IsKept s =
+abbrev pub IsSharedState : State (Unit {0}) View → Type 0
+IsSharedState s =
     (length s.words ≡ 1)
-    × (((s.views ≡ fresh ∷ []) × (slice_index s.words 0 ≡ 0)) ⊎
+    × (((s.views ≡ fresh_view ∷ []) × (slice_index s.words 0 ≡ 0)) ⊎
     ((ceiling : ℕ) × AllLie (slice_index s.words 0) ceiling s.views))
 
 abbrev Sat : Type 0
@@ -44,5 +44,5 @@ abbrev pub Raised : Step (Unit {0}) → Sat → ℕ → Sat → Type 0
 Raised st m n m' =
     (m.0.floor ≤ n) × (n ≤ m.0.ceiling) × (m' ≡ (holding (max n st.first) m.0.ceiling, m.1))
 
-abbrev pub joined : View → View → View
-joined v w = holding (max v.floor w.floor) v.ceiling
+abbrev pub joined_views : View → View → View
+joined_views v w = holding (max v.floor w.floor) v.ceiling

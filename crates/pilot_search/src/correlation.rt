@@ -2,7 +2,7 @@
 
 ghost use Rattle.std.specs.Prelude.{◌≡◌, ◌<◌, ◌≤◌, ◌+◌, ◌*◌, ◌^◌, ℕ, length, unsigned_abs, All};
 ghost use Rattle.chip_core.specs.Complex.{norm};
-ghost use Rattle.pilot_search.specs.Search.{correlation, energy};
+ghost use Rattle.pilot_search.specs.Search.{phase_correlation, energy};
 ghost use Rattle.pilot_search.specs.BySigns.{IsSumBy};
 ghost use Rattle.short_code.specs.Despread.{IsUnit};
 
@@ -50,7 +50,7 @@ fn correlate(samples: &[Sample], signs: &[(i8, i8)]) -> Pair
 /// The correlation with the code from the phase on, parted where the code begins again.
 pub(crate) fn correlation_at(samples: &[Sample], codes: &Codes, phase: Phase) -> Pair
     requires { length samples.now ≤ 32768 }
-    ensures value { result ≡ correlation samples.now phase }
+    ensures value { result ≡ phase_correlation samples.now phase }
     ensures i_bound { unsigned_abs result.i ≤ 65536 * length samples.now }
     ensures q_bound { unsigned_abs result.q ≤ 65536 * length samples.now }
 {
@@ -76,7 +76,7 @@ pub(crate) fn correlation_by(
     phase: Phase,
 ) -> Pair
     requires { length samples.now ≤ 32768 }
-    ensures value { result ≡ correlation samples.now phase }
+    ensures value { result ≡ phase_correlation samples.now phase }
     ensures i_bound { unsigned_abs result.i ≤ 65536 * length samples.now }
     ensures q_bound { unsigned_abs result.q ≤ 65536 * length samples.now }
 {

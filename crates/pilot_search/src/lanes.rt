@@ -8,7 +8,7 @@ ghost use Rattle.chip_core.specs.Sums.{total};
 ghost use Rattle.chip_core.specs.declared.sample.Sample.{Sample as TheSample};
 ghost use Rattle.pilot_search.specs.BySigns.{across, correlation_with};
 ghost use Rattle.short_code.specs.Despread.{IsUnit};
-ghost use Rattle.pilot_search.specs.Lanes.{AreNear, AreProducts, AreShort, AreSums, AreUnits};
+ghost use Rattle.pilot_search.specs.Lanes.{LanesAreNear, AreProducts, AreShort, AreSums, AreUnits};
 ghost use Rattle.pilot_search.specs.Lanes.{IsShort, eight, parts, sample_at, signs_at, with_signs};
 
 use chip_core::{Pair, Sample};
@@ -111,8 +111,8 @@ pub fn with_products(
     more_imaginary: i32x8,
 ) -> (i32x8, i32x8)
     requires few { groups < 4096 }
-    requires near { AreNear groups real imaginary }
-    requires more { AreNear 1 more_real more_imaginary }
+    requires near { LanesAreNear groups real imaginary }
+    requires more { LanesAreNear 1 more_real more_imaginary }
     ensures { (samples : List TheSample) (signs : List (ℤ × ℤ)) →
         8 * groups + 8 ≤ length samples → 8 * groups + 8 ≤ length signs →
         AreSums samples signs groups real imaginary →
@@ -138,7 +138,7 @@ pub fn total_of(lanes: i32x8) -> i64
 /// The sum of the products of so many groups of eight samples, of their sums on lanes.
 pub fn sum_of_lanes(groups: usize, real: i32x8, imaginary: i32x8) -> Pair
     requires few { groups ≤ 4096 }
-    requires near { AreNear groups real imaginary }
+    requires near { LanesAreNear groups real imaginary }
     ensures value { result ≡ record { i = total real; q = total imaginary } }
     ensures i_bound { unsigned_abs result.i ≤ 65536 * (8 * groups) }
     ensures q_bound { unsigned_abs result.q ≤ 65536 * (8 * groups) }

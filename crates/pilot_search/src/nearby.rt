@@ -3,8 +3,8 @@
 ghost use Rattle.std.specs.Prelude.{◌≡◌, ◌≢◌, ◌<◌, ◌≤◌, ◌+◌, ◌-◌, ◌*◌, ◌↔◌, ◌++◌, IsTrue, length};
 ghost use Rattle.std.specs.Prelude.{replicate, slice_get, Some, pos, ◌-ℤ◌};
 ghost use Rattle.pilot_search.specs.BestIn.{IsBestIn};
-ghost use Rattle.pilot_search.specs.Near.{phase_at, near_deltas};
-ghost use Rattle.pilot_search.specs.Ranked.{IsBefore, IsRound, IsNext};
+ghost use Rattle.pilot_search.specs.Near.{near_phase_at, near_deltas};
+ghost use Rattle.pilot_search.specs.Ranked.{RanksBefore, IsRound, IsNext};
 
 use crate::paths::Near;
 use crate::sweeping::{Best, measured};
@@ -22,7 +22,7 @@ const MIDDLE: u8 = 32;
 fn phase_number(best: u16, place: u8) -> u16
     requires best { best < 32768 }
     requires place { place < 65 }
-    ensures value { result ≡ phase_at best place }
+    ensures value { result ≡ near_phase_at best place }
     ensures below { result < 32768 }
 {
     ((u32::from(best) + 32736 + u32::from(place)) % CODE_CHIPS as u32) as u16
@@ -51,7 +51,7 @@ fn measured_round(samples: &[Sample], codes: &Codes, best: Best) -> [Best; 65]
 
 /// Whether one phase comes before another: by greater energy, then by lesser phase.
 fn comes_before(one: &Best, other: &Best) -> bool
-    ensures { IsTrue result ↔ (IsBefore one.now other.now) }
+    ensures { IsTrue result ↔ (RanksBefore one.now other.now) }
 {
     let (phase, other_phase) = (one.phase.get(), other.phase.get());
     one.energy > other.energy || one.energy == other.energy && phase < other_phase

@@ -1,8 +1,9 @@
 //! The rule of the shared word, and what each step on it tells.
 
 ghost use Rattle.std.specs.Prelude.{ℕ};
-ghost use Rattle.pilot_search.specs.SharedRule.{IsKept, Begun, Loaded, Raised, fresh, spent};
-ghost use Rattle.pilot_search.specs.SharedRule.{joined};
+ghost use Rattle.pilot_search.specs.SharedRule.{IsSharedState, Begun, Loaded, Raised, fresh_view};
+ghost use Rattle.pilot_search.specs.SharedRule.{spent};
+ghost use Rattle.pilot_search.specs.SharedRule.{joined_views};
 
 use crate::view::View;
 use atomic_table::{Join, Play, Split, TableRule};
@@ -13,9 +14,9 @@ use std::marker::{Brand, PhantomData};
 pub struct BestRule;
 
 impl TableRule<(), View, ()> for BestRule {
-    ghost holds = { λ _. IsKept };
+    ghost holds = { λ _. IsSharedState };
 
-    ghost first = { λ _. fresh };
+    ghost first = { λ _. fresh_view };
 }
 
 /// A number that stands in contracts alone, and that a call picks.
@@ -63,7 +64,7 @@ impl Split<View> for Same {
 pub struct Greater;
 
 impl Join<View> for Greater {
-    ghost both = { joined };
+    ghost both = { joined_views };
 
     ghost spent = { spent };
 }

@@ -4,7 +4,7 @@ ghost use Rattle.std.specs.Prelude.{◌≡◌, ◌<◌, ◌≤◌, ◌+◌, ℕ,
 ghost use denote.Param.Send.{IsSync};
 ghost use Rattle.pilot_search.specs.BestIn.{IsBestIn};
 ghost use Rattle.pilot_search.specs.Bounds.{AreTails, greatest};
-ghost use Rattle.pilot_search.specs.Found.{IsFound, better_of, start_of};
+ghost use Rattle.pilot_search.specs.Found.{IsFound, better_of, worker_start};
 ghost use Rattle.pilot_search.specs.Knowledge.{IsHeld};
 
 use crate::gate::Gate;
@@ -40,7 +40,7 @@ fn better(left: Option<Best>, right: Option<Best>) -> Option<Best>
 fn start(worker: u8, workers: u8) -> u16
     requires worker { worker ≤ workers }
     requires workers { 0 < workers }
-    ensures value { result ≡ start_of worker workers }
+    ensures value { result ≡ worker_start worker workers }
     ensures most { result ≤ 32768 }
 {
     (CODE_CHIPS as u32 * u32::from(worker) / u32::from(workers)) as u16
@@ -122,7 +122,8 @@ fn run<R: Threads + Sync, G: Gate + Sync>(
     requires some { 0 < count }
     requires all { first + count ≤ workers }
     requires few { workers ≤ 64 }
-    ensures found { IsFound samples.now (start_of first workers) (start_of (first + count) workers)
+    ensures found { IsFound samples.now (worker_start first workers)
+        (worker_start (first + count) workers)
         result.0 }
     ensures held { IsHeld result.1 shared.now }
     ensures ceiling { result.1.ceiling ≡ greatest samples.now }
@@ -149,8 +150,8 @@ fn run<R: Threads + Sync, G: Gate + Sync>(
             requires held { IsHeld seat shared.now }
             requires ceiling { seat.ceiling ≡ greatest samples.now }
             requires workers { (0 < few) × (first + few ≤ workers) × (workers ≤ 64) }
-            ensures found { IsFound samples.entry.now (start_of first workers)
-                (start_of (first + few) workers) result.0 }
+            ensures found { IsFound samples.entry.now (worker_start first workers)
+                (worker_start (first + few) workers) result.0 }
             ensures held { IsHeld result.1 shared.entry.now }
             ensures ceiling { result.1.ceiling ≡ greatest samples.entry.now }
         {
@@ -165,8 +166,8 @@ fn run<R: Threads + Sync, G: Gate + Sync>(
             requires held { IsHeld other shared.now }
             requires ceiling { other.ceiling ≡ greatest samples.now }
             requires workers { (0 < others) × (middle + others ≤ workers) × (workers ≤ 64) }
-            ensures found { IsFound samples.entry.now (start_of middle workers)
-                (start_of (middle + others) workers) result.0 }
+            ensures found { IsFound samples.entry.now (worker_start middle workers)
+                (worker_start (middle + others) workers) result.0 }
             ensures held { IsHeld result.1 shared.entry.now }
             ensures ceiling { result.1.ceiling ≡ greatest samples.entry.now }
         {

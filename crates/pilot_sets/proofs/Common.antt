@@ -12,17 +12,18 @@ pub use Rattle.std.proofs.lemmas.Option.{get_or_from_slice_get}
 pub use Rattle.std.specs.Cmp.Lexicographic.{pointwise}
 pub use Rattle.std.specs.List.{All, find, list_all, list_any}
 pub use Rattle.traffic_message.specs.declared.fields.DirectionFields.{DirectionFields}
-pub use Rattle.pilot_sets.specs.Directions.{IsDirection, accepted_of, direction_fault, direction_time, fault_of, first_repeated}
+pub use Rattle.pilot_sets.specs.Directions.{IsDirection, accepted_of, direction_fault, direction_time, direction_fault_of, first_repeated}
 pub use Rattle.pilot_sets.specs.Directions.{is_unknown_row, named_pilots, unknown_or_twice}
-pub use Rattle.pilot_sets.specs.Filling.{filled_more, length-held}
+pub use Rattle.pilot_sets.specs.Filling.{filled_more, length-filled}
 pub use Rattle.pilot_sets.specs.Handoffs.{active_of, actives_after, actives_without, all_left, cleared, fresh, handed_off, left}
 pub use Rattle.pilot_sets.specs.Handoffs.{next_subchannel, pilots_named, subchannel_after, timer_of}
-pub use Rattle.pilot_sets.specs.Histories.{AreApart, Call, IsAmong, IsLawful, IsNextAt, LeavesWaiting, RunsSince, Starts, active_timers}
-pub use Rattle.pilot_sets.specs.Histories.{after, after_all, candidate_timers}
+pub use Rattle.pilot_sets.specs.Histories.{AreApart, Call, IsAmong, IsLawfulCall, IsNextAt, LeavesWaiting, RunsSince, Starts, active_timers}
+pub use Rattle.pilot_sets.specs.Histories.{after_call, after_all, candidate_timers}
 pub use Rattle.pilot_sets.specs.Histories.Call.{Direct, Due, Neighbors, Parameters, Step}
 pub use Rattle.pilot_sets.specs.Moments.{active_timed, candidate_timed, dropped, energy_in, expired_moved, goes, measured, moving_up}
 pub use Rattle.pilot_sets.specs.Moments.{pilots_going, risen, rises, rising, stays, timed}
-pub use Rattle.pilot_sets.specs.Orderly.{AreOnRows, IsActiveSet, IsActiveSetIfAny, IsOnceEach, IsOrderly, places_for, times, times_in}
+pub use Rattle.pilot_sets.specs.Orderly.{AreOnRows, IsActiveSet, IsActiveSetIfAny, IsOnceEach, IsOrderly, places_for, times_listed}
+pub use Rattle.pilot_sets.specs.Orderly.{times_in}
 pub use Rattle.pilot_sets.specs.PilotSets.{active_pilots, candidate_pilots, neighbors_heard, new_sets, pilots, pilots_of_actives}
 pub use Rattle.pilot_sets.specs.PilotSets.{pilots_of_candidates, thresholds_heard, timed_pilots}
 pub use Rattle.pilot_sets.specs.Pilots.{firsts, has, lacks, without}

@@ -6,7 +6,8 @@ use Rattle.pilot_sets.proofs.Common.{DirectionFields, lacks, without, firsts, ti
 use Rattle.pilot_sets.proofs.Common.{accepted_of, pilots_named, actives_without, fresh, left, all_left, cleared, handed_off}
 use Rattle.pilot_sets.proofs.Common.{energy_in, active_timed, candidate_timed, timed, stays, pilots_going, rises, dropped, moving_up}
 use Rattle.pilot_sets.proofs.Common.{measured, IsActiveSetIfAny, IsOrderly, Standing, new_standing, unless_refused, directed, began_in}
-use Rattle.pilot_sets.proofs.Common.{due_for, due_at, Call, after, after_all, IsLawful, AreApart, LeavesWaiting, Parameters, Neighbors}
+use Rattle.pilot_sets.proofs.Common.{due_for, due_at, Call, after_call, after_all, IsLawfulCall, AreApart, LeavesWaiting, Parameters}
+use Rattle.pilot_sets.proofs.Common.{Neighbors}
 use Rattle.pilot_sets.proofs.Common.{Direct, Due, Step, DirectionFault, ActivePilot, CandidatePilot, Accepted, PilotSets}
 use Rattle.pilot_sets.proofs.Refusals.{accepted_few}
 use Rattle.pilot_sets.proofs.Steps.{left_is, due_is, directed_is}
@@ -21,8 +22,8 @@ directed_orderly first d s lawful h =
     directed_is IsOrderly first d s
     (λ e. waiting_orderly (accepted_of first d) s.sets (accepted_active_set first d lawful e) h) h
 
-orderly_after : (call : Call) (s : Standing) → IsLawful call → IsOrderly s.sets →
-    IsOrderly (after call s).sets
+orderly_after : (call : Call) (s : Standing) → IsLawfulCall call → IsOrderly s.sets →
+    IsOrderly (after_call call s).sets
 orderly_after (Parameters t) s lawful h = thresholds_orderly t s.sets h
 orderly_after (Neighbors heard) s lawful h = neighbors_orderly heard s.sets lawful h
 orderly_after (Direct first d) s lawful h = directed_orderly first d s lawful h
@@ -157,7 +158,7 @@ measured_few energy power time began s h = record {
   waiting = h.waiting;
 }
 
-few_after : (call : Call) (s : Standing) → AreFew s.sets → AreFew (after call s).sets
+few_after : (call : Call) (s : Standing) → AreFew s.sets → AreFew (after_call call s).sets
 few_after (Parameters t) s h = record {
   active = h.active;
   candidates = h.candidates;
@@ -178,7 +179,7 @@ few_after (Step strengths power time) s h =
     measured_few (energy_in strengths) power time (began_in s).neighbors s.sets h
 
 -- APART
-all_apart : (calls : List Call) (s : Standing) → All IsLawful calls → IsOrderly s.sets →
+all_apart : (calls : List Call) (s : Standing) → All IsLawfulCall calls → IsOrderly s.sets →
     AreFew s.sets → AreApart (after_all calls s).sets
 all_apart [] s lawful h few = record {
   once = λ p. omega (arith, h.once p, once_at_most p);
@@ -188,11 +189,11 @@ all_apart [] s lawful h few = record {
   neighbors = few.neighbors;
 }
 all_apart (call ∷ calls) s lawful h few =
-    all_apart calls (after call s) (All-tail IsLawful call calls lawful)
-    (orderly_after call s (All-head IsLawful call calls lawful) h) (few_after call s few)
+    all_apart calls (after_call call s) (All-tail IsLawfulCall call calls lawful)
+    (orderly_after call s (All-head IsLawfulCall call calls lawful) h) (few_after call s few)
 
 pub sets_stay_apart : (pilot row : ℕ) (calls : List Call) → pilot < 512 → row < 64 →
-    All IsLawful calls →
+    All IsLawfulCall calls →
     AreApart (after_all calls (new_standing pilot row)).sets
 sets_stay_apart pilot row calls offset on_row lawful =
     all_apart calls (new_standing pilot row) lawful (new_orderly pilot row offset on_row) (record {
@@ -229,7 +230,7 @@ at_its_time direction s e =
 
 waits_after : (call : Call) (direction : Accepted) (s : Standing) →
     s.sets.waiting ≡ Some direction → LeavesWaiting direction call →
-    (after call s).sets.waiting ≡ Some direction
+    (after_call call s).sets.waiting ≡ Some direction
 waits_after (Parameters t) direction s e leaves = e
 waits_after (Neighbors heard) direction s e leaves = e
 waits_after (Direct first d) direction s e leaves =
@@ -243,6 +244,6 @@ pub waits : (calls : List Call) (direction : Accepted) (s : Standing) →
     (after_all calls s).sets.waiting ≡ Some direction
 waits [] direction s e leave = e
 waits (call ∷ calls) direction s e leave =
-    waits calls direction (after call s)
+    waits calls direction (after_call call s)
     (waits_after call direction s e (All-head (LeavesWaiting direction) call calls leave))
     (All-tail (LeavesWaiting direction) call calls leave)

@@ -6,7 +6,8 @@ use Rattle.pilot_sets.proofs.Common.{pilots, pilots_of_actives, pilots_of_candid
 use Rattle.pilot_sets.proofs.Common.{IsDirection, direction_fault, named_pilots, accepted_of, is_expired, pilots_named, actives_without}
 use Rattle.pilot_sets.proofs.Common.{next_subchannel, actives_after, fresh, left, all_left, cleared, handed_off, active_timed}
 use Rattle.pilot_sets.proofs.Common.{candidate_timed, timed, goes, stays, pilots_going, expired_moved, rises, rising, risen, measured}
-use Rattle.pilot_sets.proofs.Common.{times, times_in, places_for, IsOnceEach, IsActiveSet, IsActiveSetIfAny, IsOrderly, DirectionFields}
+use Rattle.pilot_sets.proofs.Common.{times_listed, times_in, places_for, IsOnceEach, IsActiveSet, IsActiveSetIfAny, IsOrderly}
+use Rattle.pilot_sets.proofs.Common.{DirectionFields}
 use Rattle.pilot_sets.proofs.Common.{Thresholds, ActivePilot, CandidatePilot, NamedPilot, Accepted, PilotSets}
 use Rattle.pilot_sets.proofs.Refusals.{accepted_few, accepted_known, accepted_once}
 use Rattle.pilot_sets.proofs.Steps.{left_is}
@@ -46,31 +47,31 @@ pilots-filter {X} pilot_in t (x ∷ xs) = go (t (pilot_in x)) (pilots-filter pil
 
 -- those that stay and those that go are all of them
 parts : (p : ℕ) (t : Thresholds) (time : ℕ) (xs : List CandidatePilot) →
-    times p (pilots_of_candidates (filter (stays t time) xs)) + times p (pilots_going t time xs)
-    ≡ times p (pilots_of_candidates xs)
+    times_listed p (pilots_of_candidates (filter (stays t time) xs)) + times_listed p (pilots_going t time xs)
+    ≡ times_listed p (pilots_of_candidates xs)
 parts p t time [] = refl
 parts p t time (c ∷ xs) = go (is_expired t time c.timer) (parts p t time xs)
   where
     go : (b : Bool) →
-        times p (pilots_of_candidates (filter (stays t time) xs)) + times p (pilots_going t time xs)
-        ≡ times p (pilots_of_candidates xs) →
-        times p (pilots_of_candidates
+        times_listed p (pilots_of_candidates (filter (stays t time) xs)) + times_listed p (pilots_going t time xs)
+        ≡ times_listed p (pilots_of_candidates xs) →
+        times_listed p (pilots_of_candidates
         (cond (not b) (c ∷ filter (stays t time) xs) (filter (stays t time) xs)))
-        + times p (pilots_of_candidates
+        + times_listed p (pilots_of_candidates
         (cond b (c ∷ filter (goes t time) xs) (filter (goes t time) xs)))
-        ≡ cond (nat_eq p c.pilot) 1 0 + times p (pilots_of_candidates xs)
+        ≡ cond (nat_eq p c.pilot) 1 0 + times_listed p (pilots_of_candidates xs)
     go true ih = omega (arith, ih)
     go false ih = omega (arith, ih)
 
 -- how often a pilot stands among candidates and neighbors
 abbrev lower : ℕ → PilotSets → ℕ
-lower p s = times p (candidate_pilots s) + times p s.neighbors
+lower p s = times_listed p (candidate_pilots s) + times_listed p s.neighbors
 
 -- pilots of sets in order are offsets
 pub pilots_offsets : (s : PilotSets) → IsOrderly s → All (λ p. p < 512) (pilots s)
 pilots_offsets s h = offsets_of (pilots s) once
   where
-    once : (p : ℕ) → times p (pilots s) ≤ places_for p
+    once : (p : ℕ) → times_listed p (pilots s) ≤ places_for p
     once p = omega (
       arith,
       h.once p,
@@ -107,10 +108,10 @@ thresholds_orderly t s h =
     record { some = h.some; once = h.once; rows = h.rows; waiting = h.waiting }
 
 heard_within : (p : ℕ) (heard : List ℕ) → All (λ x. x < 512) heard →
-    times p (firsts [] heard) ≤ places_for p
+    times_listed p (firsts [] heard) ≤ places_for p
 heard_within p heard offsets = go (nat_lt p 512) refl
   where
-    go : (b : Bool) → nat_lt p 512 ≡ b → times p (firsts [] heard) ≤ cond b 1 0
+    go : (b : Bool) → nat_lt p 512 ≡ b → times_listed p (firsts [] heard) ≤ cond b 1 0
     go true e = firsts_once p [] heard
     go false e = omega (
       arith,
@@ -122,8 +123,8 @@ neighbors_once : (p : ℕ) (heard : List ℕ) (s : PilotSets) → All (λ x. x <
     times_in p s ≤ places_for p → times_in p (neighbors_heard heard s) ≤ places_for p
 neighbors_once p heard s offsets once = go (has (timed_pilots s) p) refl
   where
-    cut : times p (neighbors_heard heard s).neighbors
-        ≤ times p (without (timed_pilots s) (firsts [] heard))
+    cut : times_listed p (neighbors_heard heard s).neighbors
+        ≤ times_listed p (without (timed_pilots s) (firsts [] heard))
     cut = times-take p 20 (without (timed_pilots s) (firsts [] heard))
 
     go : (b : Bool) → has (timed_pilots s) p ≡ b →
@@ -182,7 +183,7 @@ accepted_active_set m d h none = record {
     length-map (named_pilots d.pns d.combs d.rows) (λ (n : NamedPilot). n.pilot),
   );
   rows = named_rows d.pns d.combs d.rows (accepted_known d.pns d.rows none);
-  once = λ p. omega (arith, ap (times p) names, each p);
+  once = λ p. omega (arith, ap (times_listed p) names, each p);
 }
   where
     names : pilots_named (named_pilots d.pns d.combs d.rows) ≡ d.pns
@@ -193,7 +194,7 @@ accepted_active_set m d h none = record {
 
     each : IsOnceEach d.pns
     each =
-        once_each d.pns (λ p. omega (arith, ap (times p) firsts_are, firsts_once p [] d.pns))
+        once_each d.pns (λ p. omega (arith, ap (times_listed p) firsts_are, firsts_once p [] d.pns))
         h.pilots
 
 -- HANDOFF
@@ -215,7 +216,7 @@ left_le p time a s =
     left_is (λ (t : PilotSets). lower p t ≤ lower p s + cond (nat_eq p a.pilot) 1 0) time a s
     (λ free. omega (
       arith,
-      ap (times p) (pilots-append s.candidates (fresh a.pilot ∷ [])),
+      ap (times_listed p) (pilots-append s.candidates (fresh a.pilot ∷ [])),
       times-append p (candidate_pilots s) (a.pilot ∷ []),
     ))
     (λ free. omega (arith, times-append p s.neighbors (a.pilot ∷ [])))
@@ -226,7 +227,7 @@ left-waiting time a s =
     left_is (λ (t : PilotSets). t.waiting ≡ s.waiting) time a s (λ free. refl) (λ free. refl) refl
 
 all_left_le : (p time : ℕ) (xs : List ActivePilot) (s : PilotSets) →
-    lower p (all_left time xs s) ≤ lower p s + times p (pilots_of_actives xs)
+    lower p (all_left time xs s) ≤ lower p s + times_listed p (pilots_of_actives xs)
 all_left_le p time [] s = omega arith
 all_left_le p time (a ∷ xs) s =
     omega (arith, all_left_le p time xs (left time a s), left_le p time a s)
@@ -242,28 +243,28 @@ handed_off_once : (p time : ℕ) (direction : Accepted) (s : PilotSets) →
     times_in p (handed_off time direction s) ≤ places_for p
 handed_off_once p time direction s once each = go (has (pilots_named direction.named) p) refl
   where
-    actives_are : times p (active_pilots (handed_off time direction s))
-        ≡ times p (pilots_named direction.named)
-    actives_are = ap (times p) (pilots-after s.active 0 direction.named)
+    actives_are : times_listed p (active_pilots (handed_off time direction s))
+        ≡ times_listed p (pilots_named direction.named)
+    actives_are = ap (times_listed p) (pilots-after s.active 0 direction.named)
 
-    candidates_are : times p (candidate_pilots (cleared direction s))
-        ≡ times p (filter (lacks (pilots_named direction.named)) (candidate_pilots s))
+    candidates_are : times_listed p (candidate_pilots (cleared direction s))
+        ≡ times_listed p (filter (lacks (pilots_named direction.named)) (candidate_pilots s))
     candidates_are =
-        ap (times p)
+        ap (times_listed p)
         (pilots-filter (λ (c : CandidatePilot). c.pilot) (lacks (pilots_named direction.named)) s.candidates)
 
     leaving_are :
-        times p (pilots_of_actives (actives_without (pilots_named direction.named) s.active))
-        ≡ times p (filter (lacks (pilots_named direction.named)) (active_pilots s))
+        times_listed p (pilots_of_actives (actives_without (pilots_named direction.named) s.active))
+        ≡ times_listed p (filter (lacks (pilots_named direction.named)) (active_pilots s))
     leaving_are =
-        ap (times p)
+        ap (times_listed p)
         (pilots-filter (λ (a : ActivePilot). a.pilot) (lacks (pilots_named direction.named)) s.active)
 
     total : times_in p (handed_off time direction s)
-        ≤ times p (pilots_named direction.named)
-        + (times p (filter (lacks (pilots_named direction.named)) (candidate_pilots s))
-        + times p (filter (lacks (pilots_named direction.named)) s.neighbors)
-        + times p (filter (lacks (pilots_named direction.named)) (active_pilots s)))
+        ≤ times_listed p (pilots_named direction.named)
+        + (times_listed p (filter (lacks (pilots_named direction.named)) (candidate_pilots s))
+        + times_listed p (filter (lacks (pilots_named direction.named)) s.neighbors)
+        + times_listed p (filter (lacks (pilots_named direction.named)) (active_pilots s)))
     total = omega (
       arith,
       actives_are,
@@ -319,13 +320,13 @@ expired_le p time s =
       times-append p s.neighbors going,
     )
 
-risen_le : (p : ℕ) (up : List ℕ) (s : PilotSets) → times p up ≤ times p s.neighbors →
+risen_le : (p : ℕ) (up : List ℕ) (s : PilotSets) → times_listed p up ≤ times_listed p s.neighbors →
     lower p (risen up s) ≤ lower p s
 risen_le p up s h = go (has up p) refl
   where
-    above : times p (candidate_pilots (risen up s)) ≡ times p (candidate_pilots s) + times p up
+    above : times_listed p (candidate_pilots (risen up s)) ≡ times_listed p (candidate_pilots s) + times_listed p up
     above =
-        ap (times p)
+        ap (times_listed p)
         (pilots-append s.candidates (map fresh up)
         ∙ ap (λ l. candidate_pilots s ++ l) (pilots-fresh up))
         ∙ times-append p (candidate_pilots s) up
@@ -336,7 +337,7 @@ risen_le p up s h = go (has up p) refl
         omega (arith, above, times-missing p up e, times-filter p (lacks up) s.neighbors)
 
 rising_le : (p : ℕ) (energy : ℕ → ℕ) (power : ℕ) (began : List ℕ) (s : PilotSets) →
-    times p (rising energy power began s) ≤ times p s.neighbors
+    times_listed p (rising energy power began s) ≤ times_listed p s.neighbors
 rising_le p energy power began s =
     let test : ℕ → Bool = rises energy s.thresholds.t_add power began in
     omega (
@@ -348,11 +349,11 @@ rising_le p energy power began s =
 timed_same : (p : ℕ) (energy : ℕ → ℕ) (power time : ℕ) (s : PilotSets) →
     times_in p (timed energy power time s) ≡ times_in p s
 timed_same p energy power time s =
-    ap (λ l. times p l
-    + (times p (candidate_pilots (timed energy power time s)) + times p s.neighbors))
+    ap (λ l. times_listed p l
+    + (times_listed p (candidate_pilots (timed energy power time s)) + times_listed p s.neighbors))
     (pilots-kept (λ (a : ActivePilot). a.pilot) (active_timed energy s.thresholds.t_drop power time)
     (λ a. refl) s.active)
-    ∙ ap (λ l. times p (active_pilots s) + (times p l + times p s.neighbors))
+    ∙ ap (λ l. times_listed p (active_pilots s) + (times_listed p l + times_listed p s.neighbors))
     (pilots-kept (λ (c : CandidatePilot). c.pilot) (candidate_timed energy s.thresholds.t_drop power time)
     (λ c. refl) s.candidates)
 

@@ -4,7 +4,7 @@ use Rattle.pilot_sets.proofs.Common.{filter, nat_eq, Option, Some, None, unwrap_
 use Rattle.pilot_sets.proofs.Common.{list_any-append, has, lacks, active_pilots, candidate_pilots, timed_pilots, is_strong, timer_after}
 use Rattle.pilot_sets.proofs.Common.{pilots_named, actives_without, timer_of, next_subchannel, actives_after, fresh, left, all_left}
 use Rattle.pilot_sets.proofs.Common.{cleared, handed_off, energy_in, active_timed, candidate_timed, timed, stays, dropped, moving_up}
-use Rattle.pilot_sets.proofs.Common.{measured, Standing, began_in, due_for, Call, after, active_timers, candidate_timers, IsAmong}
+use Rattle.pilot_sets.proofs.Common.{measured, Standing, began_in, due_for, Call, after_call, active_timers, candidate_timers, IsAmong}
 use Rattle.pilot_sets.proofs.Common.{RunsSince, Starts, Parameters, Neighbors, Direct, Due, Step, ActivePilot, CandidatePilot, NamedPilot}
 use Rattle.pilot_sets.proofs.Common.{Accepted, PilotSets}
 use Rattle.pilot_sets.proofs.Refusals.{some_none}
@@ -217,7 +217,7 @@ measured_runs energy power time began pilot start s h =
 
 -- CALLS
 pub keeps : (call : Call) (pilot start : ℕ) (s : Standing) →
-    RunsSince pilot start (after call s).sets → RunsSince pilot start s.sets ⊎ Starts start call
+    RunsSince pilot start (after_call call s).sets → RunsSince pilot start s.sets ⊎ Starts start call
 keeps (Parameters t) pilot start s h = inl h
 keeps (Neighbors heard) pilot start s h = inl h
 keeps (Direct first d) pilot start s h = inl (

@@ -1,41 +1,42 @@
 -- How often a number stands in a list.
 use Rattle.pilot_sets.proofs.Common.{◌≡◌, ◌<◌, ◌≤◌, ◌+◌, ℕ, Bool, true, false, cond, ◌||◌, List, [], ◌∷◌, ◌++◌, if◌then◌else◌, Some, None}
 use Rattle.pilot_sets.proofs.Common.{filter, take, nat_eq, nat_lt, refl, ap, arith, zero, suc, ◌∙◌, eqb-true, eq-eqb, ltb-true, ltb-false}
-use Rattle.pilot_sets.proofs.Common.{All-nil, All-cons, All-head, All-tail, All, has, firsts, first_repeated, times, places_for, IsOnceEach}
+use Rattle.pilot_sets.proofs.Common.{All-nil, All-cons, All-head, All-tail, All, has, firsts, first_repeated, times_listed, places_for}
+use Rattle.pilot_sets.proofs.Common.{IsOnceEach}
 use Rattle.pilot_sets.proofs.Refusals.{some_none}
 
-pub times-append : (p : ℕ) (xs ys : List ℕ) → times p (xs ++ ys) ≡ times p xs + times p ys
+pub times-append : (p : ℕ) (xs ys : List ℕ) → times_listed p (xs ++ ys) ≡ times_listed p xs + times_listed p ys
 times-append p [] ys = omega arith
 times-append p (x ∷ xs) ys = omega (arith, times-append p xs ys)
 
-pub times-take : (p n : ℕ) (xs : List ℕ) → times p (take n xs) ≤ times p xs
+pub times-take : (p n : ℕ) (xs : List ℕ) → times_listed p (take n xs) ≤ times_listed p xs
 times-take p zero xs = omega arith
 times-take p (suc n) [] = omega arith
 times-take p (suc n) (x ∷ xs) = omega (arith, times-take p n xs)
 
-pub times-filter : (p : ℕ) (test : ℕ → Bool) (xs : List ℕ) → times p (filter test xs) ≤ times p xs
+pub times-filter : (p : ℕ) (test : ℕ → Bool) (xs : List ℕ) → times_listed p (filter test xs) ≤ times_listed p xs
 times-filter p test [] = omega arith
 times-filter p test (x ∷ xs) = go (test x) (times-filter p test xs)
   where
-    go : (b : Bool) → times p (filter test xs) ≤ times p xs →
-        times p (cond b (x ∷ filter test xs) (filter test xs))
-        ≤ cond (nat_eq p x) 1 0 + times p xs
+    go : (b : Bool) → times_listed p (filter test xs) ≤ times_listed p xs →
+        times_listed p (cond b (x ∷ filter test xs) (filter test xs))
+        ≤ cond (nat_eq p x) 1 0 + times_listed p xs
     go true ih = omega (arith, ih)
     go false ih = omega (arith, ih)
 
 -- a number that isn't in a list stands there 0 times
-pub times-missing : (p : ℕ) (xs : List ℕ) → has xs p ≡ false → times p xs ≡ 0
+pub times-missing : (p : ℕ) (xs : List ℕ) → has xs p ≡ false → times_listed p xs ≡ 0
 times-missing p [] h = refl
 times-missing p (x ∷ xs) h = go (nat_eq p x) h (times-missing p xs)
   where
-    go : (b : Bool) → (b || has xs p) ≡ false → (has xs p ≡ false → times p xs ≡ 0) →
-        cond b 1 0 + times p xs ≡ 0
+    go : (b : Bool) → (b || has xs p) ≡ false → (has xs p ≡ false → times_listed p xs ≡ 0) →
+        cond b 1 0 + times_listed p xs ≡ 0
     go true e ih = cc
     go false e ih = omega (arith, ih e)
 
 -- what a test leaves out stands 0 times in what it leaves
 pub times-left_out : (p : ℕ) (test : ℕ → Bool) (xs : List ℕ) → test p ≡ false →
-    times p (filter test xs) ≡ 0
+    times_listed p (filter test xs) ≡ 0
 times-left_out p test [] h = refl
 times-left_out p test (x ∷ xs) h = go (test x) refl (times-left_out p test xs h)
   where
@@ -43,13 +44,13 @@ times-left_out p test (x ∷ xs) h = go (test x) refl (times-left_out p test xs 
     other true e t = cc (ap test (eqb-true p x e), h, t)
     other false e t = refl
 
-    go : (b : Bool) → test x ≡ b → times p (filter test xs) ≡ 0 →
-        times p (cond b (x ∷ filter test xs) (filter test xs)) ≡ 0
+    go : (b : Bool) → test x ≡ b → times_listed p (filter test xs) ≡ 0 →
+        times_listed p (cond b (x ∷ filter test xs) (filter test xs)) ≡ 0
     go true t ih = omega (arith, other (nat_eq p x) refl t, ih)
     go false t ih = ih
 
 -- the first of equal numbers stand there once
-pub firsts_once : (p : ℕ) (seen xs : List ℕ) → times p (firsts seen xs) ≤ cond (has seen p) 0 1
+pub firsts_once : (p : ℕ) (seen xs : List ℕ) → times_listed p (firsts seen xs) ≤ cond (has seen p) 0 1
 firsts_once p seen [] = go (has seen p)
   where
     go : (b : Bool) → 0 ≤ cond b 0 1
@@ -59,29 +60,29 @@ firsts_once p seen (x ∷ xs) =
     go (has seen x) refl (firsts_once p seen xs) (firsts_once p (x ∷ seen) xs)
   where
     same : (b : Bool) → nat_eq p x ≡ b → has seen x ≡ false →
-        times p (firsts (x ∷ seen) xs) ≤ cond (b || has seen p) 0 1 →
-        cond b 1 0 + times p (firsts (x ∷ seen) xs) ≤ cond (has seen p) 0 1
+        times_listed p (firsts (x ∷ seen) xs) ≤ cond (b || has seen p) 0 1 →
+        cond b 1 0 + times_listed p (firsts (x ∷ seen) xs) ≤ cond (has seen p) 0 1
     same true e h k =
         let absent : has seen p ≡ false = ap (has seen) (eqb-true p x e) ∙ h in
         rw absent (omega (arith, k))
     same false e h k = omega (arith, k)
 
-    go : (b : Bool) → has seen x ≡ b → times p (firsts seen xs) ≤ cond (has seen p) 0 1 →
-        times p (firsts (x ∷ seen) xs) ≤ cond (nat_eq p x || has seen p) 0 1 →
-        times p (if b then firsts seen xs else x ∷ firsts (x ∷ seen) xs) ≤ cond (has seen p) 0 1
+    go : (b : Bool) → has seen x ≡ b → times_listed p (firsts seen xs) ≤ cond (has seen p) 0 1 →
+        times_listed p (firsts (x ∷ seen) xs) ≤ cond (nat_eq p x || has seen p) 0 1 →
+        times_listed p (if b then firsts seen xs else x ∷ firsts (x ∷ seen) xs) ≤ cond (has seen p) 0 1
     go true h k m = k
     go false h k m = same (nat_eq p x) refl h m
 
 -- and no oftener than in the list
-pub firsts_within : (p : ℕ) (seen xs : List ℕ) → times p (firsts seen xs) ≤ times p xs
+pub firsts_within : (p : ℕ) (seen xs : List ℕ) → times_listed p (firsts seen xs) ≤ times_listed p xs
 firsts_within p seen [] = omega arith
 firsts_within p seen (x ∷ xs) =
     go (has seen x) (firsts_within p seen xs) (firsts_within p (x ∷ seen) xs)
   where
-    go : (b : Bool) → times p (firsts seen xs) ≤ times p xs →
-        times p (firsts (x ∷ seen) xs) ≤ times p xs →
-        times p (if b then firsts seen xs else x ∷ firsts (x ∷ seen) xs)
-        ≤ cond (nat_eq p x) 1 0 + times p xs
+    go : (b : Bool) → times_listed p (firsts seen xs) ≤ times_listed p xs →
+        times_listed p (firsts (x ∷ seen) xs) ≤ times_listed p xs →
+        times_listed p (if b then firsts seen xs else x ∷ firsts (x ∷ seen) xs)
+        ≤ cond (nat_eq p x) 1 0 + times_listed p xs
     go true h k = omega (arith, h)
     go false h k = omega (arith, k)
 
@@ -98,12 +99,12 @@ firsts_all seen (x ∷ xs) h = go (has seen x) h (firsts_all (x ∷ seen) xs)
 
 -- OFFSETS
 -- a number from 512 on doesn't stand among offsets
-pub times-offsets : (p : ℕ) (xs : List ℕ) → All (λ x. x < 512) xs → 512 ≤ p → times p xs ≡ 0
+pub times-offsets : (p : ℕ) (xs : List ℕ) → All (λ x. x < 512) xs → 512 ≤ p → times_listed p xs ≡ 0
 times-offsets p [] h above = refl
 times-offsets p (x ∷ xs) h above =
     go (nat_eq p x) refl (times-offsets p xs (All-tail (λ y. y < 512) x xs h) above)
   where
-    go : (b : Bool) → nat_eq p x ≡ b → times p xs ≡ 0 → cond b 1 0 + times p xs ≡ 0
+    go : (b : Bool) → nat_eq p x ≡ b → times_listed p xs ≡ 0 → cond b 1 0 + times_listed p xs ≡ 0
     go true e ih =
         absurd (omega (arith, eqb-true p x e, All-head (λ y. y < 512) x xs h, above))
     go false e ih = omega (arith, ih)
@@ -116,21 +117,21 @@ once_at_most p = go (nat_lt p 512)
     go false = omega arith
 
 -- offsets, none of them twice
-pub once_each : (xs : List ℕ) → ((p : ℕ) → times p xs ≤ 1) → All (λ x. x < 512) xs → IsOnceEach xs
+pub once_each : (xs : List ℕ) → ((p : ℕ) → times_listed p xs ≤ 1) → All (λ x. x < 512) xs → IsOnceEach xs
 once_each xs once offsets p = go (nat_lt p 512) refl
   where
-    go : (b : Bool) → nat_lt p 512 ≡ b → times p xs ≤ cond b 1 0
+    go : (b : Bool) → nat_lt p 512 ≡ b → times_listed p xs ≤ cond b 1 0
     go true e = once p
     go false e = omega (arith, times-offsets p xs offsets (ltb-false p 512 e))
 
 -- a list in which each number stands only where it may holds offsets
-pub offsets_of : (xs : List ℕ) → ((p : ℕ) → times p xs ≤ places_for p) → All (λ x. x < 512) xs
+pub offsets_of : (xs : List ℕ) → ((p : ℕ) → times_listed p xs ≤ places_for p) → All (λ x. x < 512) xs
 offsets_of [] h = All-nil (λ y. y < 512)
 offsets_of (x ∷ xs) h =
     All-cons (λ y. y < 512) x xs (below (nat_lt x 512) refl)
     (offsets_of xs (λ p. omega (arith, h p)))
   where
-    here : 1 ≤ times x (x ∷ xs)
+    here : 1 ≤ times_listed x (x ∷ xs)
     here = rw (eq-eqb x x refl) (omega arith)
 
     below : (b : Bool) → nat_lt x 512 ≡ b → x < 512

@@ -37,13 +37,13 @@ unknown_or_twice (Some row) repeated = Some (Unknown row)
 unknown_or_twice None repeated = twice repeated
 
 -- the fault of pilots on rows, record by record
-abbrev pub fault_of : List ℕ → List ℕ → Option DirectionFault
-fault_of pilots rows =
+abbrev pub direction_fault_of : List ℕ → List ℕ → Option DirectionFault
+direction_fault_of pilots rows =
     if nat_lt 6 (length pilots) then Some (TooMany (length pilots))
     else unknown_or_twice (find is_unknown_row rows) (first_repeated [] pilots)
 
 abbrev pub direction_fault : DirectionFields → Option DirectionFault
-direction_fault d = fault_of d.pns d.rows
+direction_fault d = direction_fault_of d.pns d.rows
 
 -- WHEN IT TAKES EFFECT
 -- where m is the time of the first moment that isn't before the end of its message: at the next

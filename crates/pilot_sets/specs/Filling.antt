@@ -6,16 +6,16 @@ use Rattle.std.proofs.lemmas.List.{drop-drop, drop-replicate}
 use Rattle.pilot_sets.specs.Filled.{filled, IsFilled}
 use Rattle.pilot_sets.specs.declared.few.Few.TheInside.{Inside}
 
-pub length-held : {X : Type 0} (filler : X) (room : ℕ) (places : List X) (count : ℕ) →
+pub length-filled : {X : Type 0} (filler : X) (room : ℕ) (places : List X) (count : ℕ) →
     IsFilled filler room places count → length (take count places) ≡ count
-length-held filler room places count h =
+length-filled filler room places count h =
     omega (arith, length-take count places, h.long, h.within)
 
 pub places-held : {X : Type 0} (filler : X) (room : ℕ) (places : List X) (count : ℕ) →
     IsFilled filler room places count → filled filler room (take count places) ≡ places
 places-held filler room places count h =
     ap (λ n. take count places ++ replicate (room - n) filler)
-    (length-held filler room places count h)
+    (length-filled filler room places count h)
     ∙ ap (λ l. take count places ++ l) (sym h.clear)
     ∙ take-append-drop count places
 
@@ -28,7 +28,7 @@ pub filled-held : {X : Type 0} (filler : X) {room : ℕ} (f : Inside X room) →
 filled-held filler {room} f h =
     let places : filled filler room (take f.count f.places) ≡ f.places =
     places-held filler room f.places f.count h in
-    rw (places, length-held filler room f.places f.count h)
+    rw (places, length-filled filler room f.places f.count h)
 
 -- one thing more
 pub filled_more : {X : Type 0} (filler : X) (room : ℕ) (places : List X) (count : ℕ) (thing : X) →

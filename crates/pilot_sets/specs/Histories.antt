@@ -22,24 +22,24 @@ pub data Call : Type 0 where
   Due : (time : ℕ) → Call
   Step : (strengths : List Strength) (power : ℕ) (time : ℕ) → Call
 
-abbrev pub after : Call → Standing → Standing
-after (Parameters t) s = with_thresholds t s
-after (Neighbors heard) s = with_neighbors heard s
-after (Direct first d) s = directed first d s
-after (Due time) s = due_at time s
-after (Step strengths power time) s = stepped strengths power time s
+abbrev pub after_call : Call → Standing → Standing
+after_call (Parameters t) s = with_thresholds t s
+after_call (Neighbors heard) s = with_neighbors heard s
+after_call (Direct first d) s = directed first d s
+after_call (Due time) s = due_at time s
+after_call (Step strengths power time) s = stepped strengths power time s
 
 abbrev pub after_all : List Call → Standing → Standing
 after_all [] s = s
-after_all (call ∷ calls) s = after_all calls (after call s)
+after_all (call ∷ calls) s = after_all calls (after_call call s)
 
 -- what the calls ask of what they are given
-abbrev pub IsLawful : Call → Type 0
-IsLawful (Parameters t) = Unit {0}
-IsLawful (Neighbors heard) = All (λ p. p < 512) heard
-IsLawful (Direct first d) = IsDirection d
-IsLawful (Due time) = Unit {0}
-IsLawful (Step strengths power time) = Unit {0}
+abbrev pub IsLawfulCall : Call → Type 0
+IsLawfulCall (Parameters t) = Unit {0}
+IsLawfulCall (Neighbors heard) = All (λ p. p < 512) heard
+IsLawfulCall (Direct first d) = IsDirection d
+IsLawfulCall (Due time) = Unit {0}
+IsLawfulCall (Step strengths power time) = Unit {0}
 
 -- THE SETS
 -- no pilot is in two sets or in one twice, some pilot is active, and the lists are within their

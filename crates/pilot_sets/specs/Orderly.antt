@@ -11,20 +11,21 @@ use Rattle.pilot_sets.specs.declared.standing.Accepted.{Accepted}
 use Rattle.pilot_sets.specs.declared.standing.PilotSets.{PilotSets}
 
 -- how often a pilot stands in a list
-abbrev pub times : ℕ → List ℕ → ℕ
-times p [] = 0
-times p (x ∷ xs) = cond (nat_eq p x) 1 0 + times p xs
+abbrev pub times_listed : ℕ → List ℕ → ℕ
+times_listed p [] = 0
+times_listed p (x ∷ xs) = cond (nat_eq p x) 1 0 + times_listed p xs
 
 -- how often it stands in the three sets
 abbrev pub times_in : ℕ → PilotSets → ℕ
-times_in p s = times p (active_pilots s) + (times p (candidate_pilots s) + times p s.neighbors)
+times_in p s = times_listed p (active_pilots s)
+    + (times_listed p (candidate_pilots s) + times_listed p s.neighbors)
 
 -- how often a number may stand there: once, where it is an offset
 abbrev pub places_for : ℕ → ℕ
 places_for p = cond (nat_lt p 512) 1 0
 
 abbrev pub IsOnceEach : List ℕ → Type 0
-IsOnceEach pilots = (p : ℕ) → times p pilots ≤ places_for p
+IsOnceEach pilots = (p : ℕ) → times_listed p pilots ≤ places_for p
 
 -- active pilots have the row of a traffic channel, and one of 6 power control subchannels
 abbrev pub AreOnRows : List ActivePilot → Type 0

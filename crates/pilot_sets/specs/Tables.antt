@@ -11,13 +11,13 @@ drop_timers =
 abbrev pub drop_timer_ms : ℕ → ℕ
 drop_timer_ms k = get_or drop_timers k 0
 
-abbrev pub windows : List ℕ
-windows =
+abbrev pub search_windows : List ℕ
+search_windows =
     4 ∷ 6 ∷ 8 ∷ 10 ∷ 14 ∷ 20 ∷ 28 ∷ 40 ∷ 60 ∷ 80 ∷ 100 ∷ 130 ∷ 160 ∷ 226 ∷ 320 ∷ 452 ∷ []
 
 -- how wide a search window is, in chips (SRCH_WIN_A, SRCH_WIN_N)
-abbrev pub window_chips : ℕ → ℕ
-window_chips k = get_or windows k 0
+abbrev pub search_window_chips : ℕ → ℕ
+search_window_chips k = get_or search_windows k 0
 
 abbrev pub ratios : List ℕ
 ratios =

@@ -7,7 +7,7 @@ use Rattle.pilot_sets.specs.PilotSets.{first_thresholds, candidate_pilots}
 use Rattle.pilot_sets.specs.Handoffs.{fresh, left}
 use Rattle.pilot_sets.specs.Directions.{direction_fault, direction_time}
 use Rattle.pilot_sets.specs.Standing.{Standing, new_standing, stepped, change_at}
-use Rattle.pilot_sets.specs.Histories.{Call, after, after_all, timers}
+use Rattle.pilot_sets.specs.Histories.{Call, after_call, after_all, timers}
 use Rattle.pilot_sets.specs.Histories.Call.{Parameters, Neighbors, Direct, Due, Step}
 use Rattle.pilot_sets.specs.declared.change.SetChange.{SetChange}
 use Rattle.pilot_sets.specs.declared.fault.DirectionFault.TheVariants.{TooMany, Unknown, Twice}
@@ -154,7 +154,7 @@ change_of (Step strengths power time) s =
 
 abbrev changes : List Call → Standing → List (Bool × Bool)
 changes [] s = []
-changes (call ∷ calls) s = change_of call s ++ changes calls (after call s)
+changes (call ∷ calls) s = change_of call s ++ changes calls (after_call call s)
 
 abbrev Story : Type 0
 Story =

@@ -10,7 +10,7 @@ ghost use Rattle.pilot_sets.specs.PilotSets.{timed_pilots};
 ghost use Rattle.pilot_sets.specs.Directions.{direction_fault, direction_time, accepted_of};
 ghost use Rattle.pilot_sets.specs.Handoffs.{handed_off};
 ghost use Rattle.pilot_sets.specs.Standing.{Standing, new_standing, directed, due_at, began_in};
-ghost use Rattle.pilot_sets.specs.Histories.{Call, after, after_all, IsLawful, AreApart};
+ghost use Rattle.pilot_sets.specs.Histories.{Call, after_call, after_all, IsLawfulCall, AreApart};
 ghost use Rattle.pilot_sets.specs.Histories.{LeavesWaiting, IsNextAt, RunsSince, Starts};
 ghost use Rattle.pilot_sets.specs.declared.fault.DirectionFault.{DirectionFault as TheFault};
 ghost use Rattle.pilot_sets.specs.declared.standing.Accepted.{Accepted as TheAccepted};
@@ -22,7 +22,7 @@ pub fn sets_stay_apart()
     ensures { (pilot row : ℕ) (calls : List Call) →
         pilot < 512 →
         row < 64 →
-        All IsLawful calls →
+        All IsLawfulCall calls →
         AreApart (after_all calls (new_standing pilot row)).sets }
 {}
 
@@ -69,7 +69,7 @@ pub fn directions_take_the_next_action_time()
 /// pilot is active or a candidate: where it leaves both sets, it starts anew.
 pub fn timers_run_in_their_sets()
     ensures keeps { (call : Call) (pilot start : ℕ) (s : Standing) →
-        RunsSince pilot start (after call s).sets →
+        RunsSince pilot start (after_call call s).sets →
         RunsSince pilot start s.sets ⊎ Starts start call }
     ensures only { (pilot start : ℕ) (s : TheSets) →
         RunsSince pilot start s →

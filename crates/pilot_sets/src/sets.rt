@@ -4,7 +4,7 @@ ghost use Rattle.std.specs.Prelude.{◌≡◌, ◌<◌, ◌≤◌, ◌^◌, leng
 ghost use Rattle.std.specs.Prelude.{OnErr};
 ghost use Rattle.std.specs.List.{All};
 ghost use Rattle.std.specs.Result.{MatchResult};
-ghost use Rattle.pilot_sets.specs.Tables.{window_chips as window_of};
+ghost use Rattle.pilot_sets.specs.Tables.{search_window_chips as window_of};
 ghost use Rattle.pilot_sets.specs.PilotSets.{pilots as pilots_of};
 ghost use Rattle.pilot_sets.specs.PilotSets.{candidate_pilots as candidates_of};
 ghost use Rattle.pilot_sets.specs.Directions.{direction_fault as fault_of_direction};

@@ -2,7 +2,7 @@
 
 ghost use Rattle.std.specs.Prelude.{◌≡◌, ◌≤◌};
 ghost use Rattle.pilot_sets.specs.Tables.{drop_timer_ms as drop_timer_of, ratio as ratio_of};
-ghost use Rattle.pilot_sets.specs.Tables.{window_chips as window_of};
+ghost use Rattle.pilot_sets.specs.Tables.{search_window_chips as window_of};
 
 /// The drop timers in milliseconds.
 const DROP_TIMERS: [u32; 16] = [

@@ -6,7 +6,7 @@ use Rattle.std.proofs.lemmas.List.{same_lists, take_at}
 use Rattle.std.proofs.lemmas.List.FromFn.{length-map-range_with_len, get_or-map-range_with_len}
 use Rattle.std.proofs.Math.Nat.{div-le_self, div-mul-le_self, mul-div_cancel}
 use Rattle.std.proofs.lemmas.Nat.{le-div}
-use Rattle.pilot_survey.specs.Survey.{start_of}
+use Rattle.pilot_survey.specs.Survey.{survey_start}
 
 -- a list is the one that a function makes, by its entries
 pub filled : {X : Type 0} (f : ℕ → X) (first n : ℕ) (xs : List X) → length xs ≡ n →
@@ -39,21 +39,21 @@ both f first m n middle k left right low high cut whole =
     ap (λ (i : ℕ). map f (range_with_len first i)) whole
 
 -- the first pilots of workers
-pub start_up : (a b workers : ℕ) → 0 < workers → a ≤ b → start_of a workers ≤ start_of b workers
+pub start_up : (a b workers : ℕ) → 0 < workers → a ≤ b → survey_start a workers ≤ survey_start b workers
 start_up a b workers some le =
     le-div (512 * a / workers) (512 * b) workers some
     (let m = div-mul-le_self (512 * a) workers in omega arith)
 
-pub start_end : (workers : ℕ) → 0 < workers → start_of workers workers ≡ 512
+pub start_end : (workers : ℕ) → 0 < workers → survey_start workers workers ≡ 512
 start_end workers some = mul-div_cancel 512 some
 
-pub start_none : (workers : ℕ) → start_of 0 workers ≡ 0
+pub start_none : (workers : ℕ) → survey_start 0 workers ≡ 0
 start_none workers = let l = div-le_self 0 workers in omega arith
 
 -- what all workers wrote, in the room for it
 pub all_written : {X : Type 0} (f : ℕ → X) (workers n room : ℕ) (ranks others : List X) →
     0 < workers → n ≡ 512 → room ≡ 512 →
-    ranks ≡ map f (range_with_len (start_of 0 workers) n) →
+    ranks ≡ map f (range_with_len (survey_start 0 workers) n) →
     take room (ranks ++ others) ≡ map f (range_with_len 0 512)
 all_written f workers n room ranks others some long all is =
     let whole : ranks ≡ map f (range_with_len 0 512) =

@@ -32,5 +32,5 @@ ranking samples base width =
     (first_places 512 (λ pilot. pos ((surveyed samples base width pilot).energy)) 512)
 
 -- the first pilot of a worker, or the end of the last worker's
-abbrev pub start_of : ℕ → ℕ → ℕ
-start_of worker workers = 512 * worker / workers
+abbrev pub survey_start : ℕ → ℕ → ℕ
+survey_start worker workers = 512 * worker / workers

@@ -4,7 +4,7 @@ use Rattle.std.specs.Prelude.{◌≡◌, refl, List, [], ◌∷◌, pos, negsuc,
 use Rattle.chip_core.specs.Sums.{first_greatest}
 use Rattle.chip_core.specs.declared.sample.Sample.{Sample}
 use Rattle.short_code.specs.ShortCode.{chips_to}
-use Rattle.pilot_search.specs.Search.{correlation, energy}
+use Rattle.pilot_search.specs.Search.{phase_correlation, energy}
 use Rattle.pilot_survey.specs.Survey.{survey_phase, strongest, surveyed}
 
 two : List Sample
@@ -15,21 +15,21 @@ nothing = record { i = pos 0; q = pos 0 } ∷ record { i = pos 0; q = pos 0 } �
 
 -- phases 1 to 5
 at_the_edge : surveyed two 3 2 0 ≡ record { pilot = 0; delta = pos 2; energy = 8 }
-unfolding two chips_to correlation energy first_greatest strongest surveyed
+unfolding two chips_to phase_correlation energy first_greatest strongest surveyed
 at_the_edge = refl
 
 -- phases 1 to 3, of which the first and the last have the greatest energy
 least_on_a_tie : surveyed two 2 1 0 ≡ record { pilot = 0; delta = negsuc 0; energy = 4 }
-unfolding two chips_to correlation energy first_greatest strongest surveyed
+unfolding two chips_to phase_correlation energy first_greatest strongest surveyed
 least_on_a_tie = refl
 
 -- phases 1 to 3 are those of pilot 1 where the base is 66
 of_another_pilot : surveyed two 66 1 1 ≡ record { pilot = 1; delta = negsuc 0; energy = 4 }
-unfolding two chips_to correlation energy first_greatest strongest surveyed
+unfolding two chips_to phase_correlation energy first_greatest strongest surveyed
 of_another_pilot = refl
 
 of_nothing : surveyed nothing 10 10 0 ≡ record { pilot = 0; delta = negsuc 9; energy = 0 }
-unfolding nothing chips_to correlation energy first_greatest strongest surveyed
+unfolding nothing chips_to phase_correlation energy first_greatest strongest surveyed
 of_nothing = refl
 
 -- across the codes' end, and the last pilot's own phase

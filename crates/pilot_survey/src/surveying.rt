@@ -3,7 +3,7 @@
 ghost use Rattle.std.specs.Prelude.{◌≡◌, ◌<◌, ◌≤◌, ◌+◌, length, map, IfOk};
 ghost use Rattle.std.specs.List.{range_with_len};
 ghost use denote.Param.Send.{IsSync};
-ghost use Rattle.pilot_survey.specs.Survey.{surveyed, ranking, start_of};
+ghost use Rattle.pilot_survey.specs.Survey.{surveyed, ranking, survey_start};
 
 use crate::measuring::measure_all;
 use crate::rank::Rank;
@@ -18,7 +18,7 @@ use std::thread::{Threads, join_mut};
 fn start(worker: u8, workers: u8) -> u16
     requires worker { worker ≤ workers }
     requires workers { 0 < workers }
-    ensures value { result ≡ start_of worker workers }
+    ensures value { result ≡ survey_start worker workers }
     ensures most { result ≤ 512 }
 {
     (PILOTS as u32 * u32::from(worker) / u32::from(workers)) as u16
@@ -29,7 +29,7 @@ fn share(first: u8, end: u8, workers: u8) -> u16
     requires order { first ≤ end }
     requires all { end ≤ workers }
     requires workers { 0 < workers }
-    ensures { start_of first workers + result ≡ start_of end workers }
+    ensures { survey_start first workers + result ≡ survey_start end workers }
 {
     start(end, workers) - start(first, workers)
 }
@@ -53,9 +53,9 @@ fn run<R: Threads + Sync, G: Gate + Sync>(
     requires some { first < end }
     requires all { end ≤ workers }
     requires most { workers ≤ 64 }
-    requires room { start_of first workers + length ranks.old ≡ start_of end workers }
+    requires room { survey_start first workers + length ranks.old ≡ survey_start end workers }
     ensures { ranks.new ≡ map (surveyed samples.now base width)
-        (range_with_len (start_of first workers) (length ranks.old)) }
+        (range_with_len (survey_start first workers) (length ranks.old)) }
 {
     if end - first == 1 {
         gate.arrive(first);
@@ -72,9 +72,10 @@ fn run<R: Threads + Sync, G: Gate + Sync>(
             requires samples { length samples.now ≤ 32768 }
             requires width { width ≤ 31 }
             requires workers { (first < middle) × (middle ≤ workers) × (workers ≤ 64) }
-            requires room { start_of first workers + length left.now ≡ start_of middle workers }
+            requires room { survey_start first workers + length left.now
+                ≡ survey_start middle workers }
             ensures { left.exit.now ≡ map (surveyed samples.entry.now base width)
-                (range_with_len (start_of first workers) (length left.entry.now)) }
+                (range_with_len (survey_start first workers) (length left.entry.now)) }
         {
             run(
                 rt, samples, codes, base, width, first, middle, workers, gate, left,
@@ -85,9 +86,10 @@ fn run<R: Threads + Sync, G: Gate + Sync>(
             requires samples { length samples.now ≤ 32768 }
             requires width { width ≤ 31 }
             requires workers { (middle < end) × (end ≤ workers) × (workers ≤ 64) }
-            requires room { start_of middle workers + length right.now ≡ start_of end workers }
+            requires room { survey_start middle workers + length right.now
+                ≡ survey_start end workers }
             ensures { right.exit.now ≡ map (surveyed samples.entry.now base width)
-                (range_with_len (start_of middle workers) (length right.entry.now)) }
+                (range_with_len (survey_start middle workers) (length right.entry.now)) }
         {
             run(
                 rt, samples, codes, base, width, middle, end, workers, gate, right,

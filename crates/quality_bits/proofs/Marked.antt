@@ -1,7 +1,7 @@
 -- One more piece, its first bit the mark.
 use Rattle.std.proofs.Common.{◌≡◌, Bool, cond, List, [], ◌∷◌, ◌++◌, map, drop, refl, sym, ap, ◌∙◌, Option, Some, slice_get}
 use Rattle.quality_bits.specs.Capsules.{continued, completed}
-use Rattle.quality_bits.specs.Pieces.{Piece, piece, under_way, capsule_ending, StandsFor}
+use Rattle.quality_bits.specs.Pieces.{Piece, piece, under_way, capsule_ending, CapsuleStandsFor}
 use Rattle.quality_bits.proofs.Streams.{under_way-more, ending-more}
 
 marked_starts : (bits : List Bool) (mark : Bool) → slice_get bits 0 ≡ Some mark →
@@ -21,7 +21,7 @@ pieces_more (p ∷ pieces) bits = ap (λ (ps : List Piece). piece p ∷ ps) (pie
 
 pub marked_goes_on : (pieces : List (List Bool)) (bits : List Bool) (mark : Bool)
     (old capsule : Option (List Bool)) →
-    slice_get bits 0 ≡ Some mark → StandsFor old pieces → capsule ≡ cond mark (Some []) old →
+    slice_get bits 0 ≡ Some mark → CapsuleStandsFor old pieces → capsule ≡ cond mark (Some []) old →
     continued capsule (drop 1 bits) ≡ under_way (map piece (pieces ++ bits ∷ []))
 marked_goes_on pieces bits mark old capsule read stood is =
     let before = map piece pieces in
@@ -34,7 +34,7 @@ marked_goes_on pieces bits mark old capsule read stood is =
 
 pub marked_gives : (pieces : List (List Bool)) (bits : List Bool) (mark : Bool)
     (old capsule : Option (List Bool)) →
-    slice_get bits 0 ≡ Some mark → StandsFor old pieces → capsule ≡ cond mark (Some []) old →
+    slice_get bits 0 ≡ Some mark → CapsuleStandsFor old pieces → capsule ≡ cond mark (Some []) old →
     completed capsule (drop 1 bits) ≡ capsule_ending (map piece (pieces ++ bits ∷ []))
 marked_gives pieces bits mark old capsule read stood is =
     let before = map piece pieces in

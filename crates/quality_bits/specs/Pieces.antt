@@ -44,5 +44,5 @@ under_way pieces =
 
 -- an open capsule with the bits of the message that is under way after these pieces, each with its
 -- mark
-abbrev pub StandsFor : Option (List Bool) → List (List Bool) → Type 0
-StandsFor capsule pieces = capsule ≡ under_way (map piece pieces)
+abbrev pub CapsuleStandsFor : Option (List Bool) → List (List Bool) → Type 0
+CapsuleStandsFor capsule pieces = capsule ≡ under_way (map piece pieces)

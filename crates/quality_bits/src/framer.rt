@@ -1,7 +1,7 @@
 //! Capsules out of whole frames.
 
 ghost use Rattle.std.specs.Prelude.{◌≡◌, ◌≤◌, Bool, List, [], ◌∷◌, ◌++◌, length, map};
-ghost use Rattle.quality_bits.specs.Pieces.{piece, capsule_ending, StandsFor};
+ghost use Rattle.quality_bits.specs.Pieces.{piece, capsule_ending, CapsuleStandsFor};
 
 use crate::open_capsule::OpenCapsule;
 use chip_core::Bits;
@@ -33,7 +33,7 @@ impl Model for CapsuleFramer {
 impl CapsuleFramer {
     /// A framer that took no frames.
     pub fn new() -> CapsuleFramer
-        ensures { StandsFor result [] }
+        ensures { CapsuleStandsFor result [] }
     {
         CapsuleFramer {
             capsule: OpenCapsule::closed(),
@@ -46,9 +46,10 @@ impl CapsuleFramer {
     pub fn push(&mut self, frame: &Bits) -> Option<Bits>
         requires { 1 ≤ length frame.now }
         ensures stands { (frames : List (List Bool)) →
-            StandsFor self.old frames → StandsFor self.new (frames ++ frame.now ∷ []) }
+            CapsuleStandsFor self.old frames →
+            CapsuleStandsFor self.new (frames ++ frame.now ∷ []) }
         ensures capsule { (frames : List (List Bool)) →
-            StandsFor self.old frames →
+            CapsuleStandsFor self.old frames →
             result ≡ capsule_ending (map piece (frames ++ frame.now ∷ [])) }
     {
         self.capsule.push_piece(frame)

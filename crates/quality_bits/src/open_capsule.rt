@@ -3,7 +3,7 @@
 ghost use Rattle.std.specs.Prelude.{◌≡◌, ◌≤◌, ◌↔◌, Bool, true, cond, List, [], ◌∷◌, ◌++◌, drop};
 ghost use Rattle.std.specs.Prelude.{length, map, IsTrue, IsSome, Some, None, IfSome};
 ghost use Rattle.quality_bits.specs.Capsules.{front_capsule, awaits_more, continued, completed};
-ghost use Rattle.quality_bits.specs.Pieces.{piece, capsule_ending, StandsFor};
+ghost use Rattle.quality_bits.specs.Pieces.{piece, capsule_ending, CapsuleStandsFor};
 
 use crate::capsule::stated_length;
 use chip_core::Bits;
@@ -94,9 +94,9 @@ impl OpenCapsule {
     pub fn push_piece(&mut self, bits: &Bits) -> Option<Bits>
         requires { 1 ≤ length bits.now }
         ensures stands { (pieces : List (List Bool)) →
-            StandsFor self.old pieces → StandsFor self.new (pieces ++ bits.now ∷ []) }
+            CapsuleStandsFor self.old pieces → CapsuleStandsFor self.new (pieces ++ bits.now ∷ []) }
         ensures capsule { (pieces : List (List Bool)) →
-            StandsFor self.old pieces →
+            CapsuleStandsFor self.old pieces →
             result ≡ capsule_ending (map piece (pieces ++ bits.now ∷ [])) }
     {
         let mut capsule = from_start(bits.get(0), *self);

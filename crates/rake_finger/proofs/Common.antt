@@ -21,7 +21,7 @@ pub use Rattle.rake_finger.specs.Near.{AreBegun, AreClose, AreNear, all_begun, a
 pub use Rattle.rake_finger.specs.Scrambled.{unscrambled}
 pub use Rattle.rake_finger.specs.Soft.{covered_from, despread_at, finger_place, frame_chips, symbol_chips, symbols, window_chips}
 unfoldable pub use Rattle.rake_finger.specs.Soft.{pilot_sum, soft, softs, symbol_sum}
-pub use Rattle.rake_finger.specs.Streams.{Stream, frame_end, frame_softs, frame_start, is_in_file, is_within, known_at, span_first}
+pub use Rattle.rake_finger.specs.Streams.{StreamOf, frame_end, frame_softs, frame_start, is_in_file, is_within, known_at, span_first}
 pub use Rattle.rake_finger.specs.Streams.{span_frames, span_softs}
 pub use Rattle.rake_finger.specs.Timing.{IsTimed}
 unfoldable pub use Rattle.rake_finger.specs.Timing.{stream_end}

@@ -2,7 +2,7 @@
 use Rattle.rake_finger.proofs.Common.{◌≡◌, ℕ, zero, suc, ◌+◌, ◌*◌, ◌≤◌, Bool, true, false, cond, ◌&&◌, List, [], ◌∷◌, refl, sym, ap, ◌∙◌}
 use Rattle.rake_finger.proofs.Common.{arith, inl, inr, ℤ, pos, negsuc, ◌+ℤ◌, ◌-ℤ◌, nat_le, All, int_le, max, int_eq, ints, and_parts}
 use Rattle.rake_finger.proofs.Common.{and_from, or_cases, cases_lt, le-leb, lt-leb, nat_tests, Held, IsInRing, frame_chips, Finger, Form}
-use Rattle.rake_finger.proofs.Common.{Sync, Data, AreClose, all_near, has_reference, AreNear, all_begun, AreBegun, Stream, is_within}
+use Rattle.rake_finger.proofs.Common.{Sync, Data, AreClose, all_near, has_reference, AreNear, all_begun, AreBegun, StreamOf, is_within}
 use Rattle.rake_finger.proofs.Common.{frame_end, frame_start, stream_end, IsTimed}
 use Rattle.rake_finger.proofs.CloseFingers.{begun_in_ring, close_begun, end_at, later_by, near_are_close, near_close, near_parts}
 use Rattle.rake_finger.proofs.CloseFingers.{some_chips}
@@ -144,7 +144,7 @@ low_later : (b : Bool) (k : ℕ) → nat_le (cond b 0 1) (suc k) ≡ true
 low_later true k = le-leb 0 (suc k) (omega arith)
 low_later false k = le-leb 1 (suc k) (omega arith)
 
-low_is : {C : Type 0} (s : Stream C) → all_near s.fingers ≡ true → (k : ℕ) →
+low_is : {C : Type 0} (s : StreamOf C) → all_near s.fingers ≡ true → (k : ℕ) →
     all_begun (frame_start s k) s.fingers ≡ nat_le (near.low_in s) k
 low_is s h zero =
     let e : frame_start s 0 ≡ s.first = omega arith in
@@ -154,7 +154,7 @@ low_is s h (suc k) =
     ∙ sym (low_later (all_begun s.first s.fingers) k)
 
 -- the frames of a stream whose fingers are near lie one after another
-pub timed_in : {C : Type 0} (count : ℕ) (s : Stream C) → AreNear s.fingers → IsTimed count s (near.low_in s)
+pub timed_in : {C : Type 0} (count : ℕ) (s : StreamOf C) → AreNear s.fingers → IsTimed count s (near.low_in s)
 unfolding stream_end
 timed_in count s h =
     let both = and_parts (all_near s.fingers) (has_reference s.fingers) h in

@@ -1,15 +1,15 @@
 -- When frames end and are known, over any stream.
 use Rattle.rake_finger.proofs.Common.{◌≡◌, ◌⊎◌, ℕ, zero, suc, ◌+◌, ◌-◌, ◌<◌, ◌≤◌, true, false, refl, sym, ◌∙◌, arith, nat_le, inl, inr}
 use Rattle.rake_finger.proofs.Common.{and_parts, and_from, and_left, and_right, leb-true, le-leb, lt-leb, cases_lt, cases_order, cases_Bool}
-use Rattle.rake_finger.proofs.Common.{Stream, is_in_file, known_at, frame_chips, stream_end, IsTimed}
+use Rattle.rake_finger.proofs.Common.{StreamOf, is_in_file, known_at, frame_chips, stream_end, IsTimed}
 
 -- what the time at which a frame is known is
-pub record KnownBetween {C : Type 0} (count : ℕ) (s : Stream C) (k : ℕ) : Type 0 where
+pub record KnownBetween {C : Type 0} (count : ℕ) (s : StreamOf C) (k : ℕ) : Type 0 where
   pub low : stream_end s k ≤ known_at count s k
   pub high : known_at count s k ≤ stream_end s (k + 1)
   pub most : known_at count s k ≤ count
 
-module _ {C : Type 0} {count low : ℕ} (s : Stream C) (t : IsTimed count s low) where
+module _ {C : Type 0} {count low : ℕ} (s : StreamOf C) (t : IsTimed count s low) where
   pub ends_le : (k d : ℕ) → stream_end s k ≤ stream_end s (k + d)
   ends_le k zero = let e : k + 0 ≡ k = omega arith in rw e (omega arith)
   ends_le k (suc d) =

@@ -20,7 +20,7 @@ use Rattle.pilot_search.specs.Lanes.{eight, product_at, real_lanes, imaginary_la
 use Rattle.pilot_search.proofs.CorrelationSums.{no_sample}
 use Rattle.pilot_search.proofs.LaneLemmas.{kept, kept_lanes, kept_products, no_sign}
 use Rattle.pilot_search.proofs.LaneSums.{products_kept}
-use Rattle.rake_finger.specs.RowSigns.{AreRowSigns, AreUnits, turned_sign, covered_signs, sign_lanes}
+use Rattle.rake_finger.specs.RowSigns.{AreRowSigns, AreUnitSigns, turned_sign, covered_signs, sign_lanes}
 use Rattle.rake_finger.specs.Soft.{covered_from}
 use Rattle.rake_finger.proofs.CoveredSums.{row_sign, same_parts}
 
@@ -29,7 +29,7 @@ pub sign_unit : (b : Bool) → unsigned_abs (sign b) ≤ 1
 sign_unit true = omega arith
 sign_unit false = omega arith
 
-pub unit_lanes : (signs : List ℤ) (first : ℕ) → first + 8 ≤ 64 → AreUnits signs →
+pub unit_lanes : (signs : List ℤ) (first : ℕ) → first + 8 ≤ 64 → AreUnitSigns signs →
     Each1 (λ x. unsigned_abs x ≤ 1) (sign_lanes signs first)
 unit_lanes signs first room u = (
   u first (omega (arith, room)),
@@ -186,7 +186,7 @@ covered_lanes part turns samples signs row t chip room place whole =
 -- the products of a group of chips, covered by the row
 pub covered_are : (samples : List Sample) (signs : List (ℤ × ℤ)) (row : List ℤ) (k group : ℕ)
     (real imaginary real' imaginary' : List ℤ) → k % 8 ≡ group → 8 * k + 8 ≤ length signs →
-    AreUnits row → AreProducts samples signs (8 * k) real imaginary →
+    AreUnitSigns row → AreProducts samples signs (8 * k) real imaginary →
     real' ≡ zip2 (λ a b. a *ℤ b) real (sign_lanes row (8 * group)) →
     imaginary' ≡ zip2 (λ a b. a *ℤ b) imaginary (sign_lanes row (8 * group)) →
     AreProducts samples (covered_signs row 0 signs) (8 * k) real' imaginary'
@@ -243,7 +243,7 @@ covered_all row k row_signs (s ∷ samples) (g ∷ signs) all = λ i.
 
 -- the same for a group of chips, from the clauses of the two calls that made them
 pub group_products : (samples : List Sample) (signs : List (ℤ × ℤ)) (row : List ℤ) (k : ℕ)
-    (real imaginary real' imaginary' : List ℤ) → 8 * k + 8 ≤ length signs → AreUnits row →
+    (real imaginary real' imaginary' : List ℤ) → 8 * k + 8 ≤ length signs → AreUnitSigns row →
     AreProducts samples signs (8 * k) real imaginary →
     real' ≡ zip2 (λ a b. a *ℤ b) (kept real) (sign_lanes row (8 * (k % 8))) →
     imaginary' ≡ zip2 (λ a b. a *ℤ b) (kept imaginary) (sign_lanes row (8 * (k % 8))) →

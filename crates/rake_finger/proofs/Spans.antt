@@ -1,12 +1,12 @@
 -- Where a frame's span begins and ends, and what is read of it, over any stream.
 use Rattle.rake_finger.proofs.Common.{◌≡◌, ℕ, zero, suc, ◌+◌, ◌-◌, ◌<◌, ◌≤◌, true, List, ◌++◌, length, refl, sym, ap, arith, inl, inr}
-use Rattle.rake_finger.proofs.Common.{cases_Bool, cases_lt, cases_order, Sample, unscrambled, Stream, frame_start, is_in_file, known_at}
+use Rattle.rake_finger.proofs.Common.{cases_Bool, cases_lt, cases_order, Sample, unscrambled, StreamOf, frame_start, is_in_file, known_at}
 use Rattle.rake_finger.proofs.Common.{span_first, span_frames, frame_softs, span_softs, stream_end, IsTimed, flat_map_ext_places}
 use Rattle.rake_finger.proofs.Sooner.{softs_sooner, all_fit}
 use Rattle.rake_finger.proofs.FrameTimes as times
 
 -- a frame lies in its span, which begins no later
-module _ {C : Type 0} (count : ℕ) (s : Stream C) where
+module _ {C : Type 0} (count : ℕ) (s : StreamOf C) where
   span_first_most : (k : ℕ) → span_first count s k ≤ k
   span_first_most zero = omega arith
   span_first_most (suc k) =
@@ -23,7 +23,7 @@ module _ {C : Type 0} (count : ℕ) (s : Stream C) where
         | inr e ↦ rw e (omega (arith, most))
       ]
 
-module _ {C : Type 0} {count low : ℕ} (s : Stream C) (t : IsTimed count s low) where
+module _ {C : Type 0} {count low : ℕ} (s : StreamOf C) (t : IsTimed count s low) where
   pub span_first_low : (k : ℕ) → k ≡ low → span_first count s k ≡ k
   span_first_low zero h = refl
   span_first_low (suc k) h = let e = times.outside_low s t k (omega arith) in rw e refl

@@ -12,7 +12,7 @@ use Rattle.chip_core.specs.declared.sample.Pair.{Pair}
 use Rattle.chip_core.specs.declared.sample.Sample.{Sample}
 use Rattle.chip_core.proofs.Greatest.{takes, keeps, starts, only, first_greatest-is}
 use Rattle.pilot_search.specs.Bounds.{magnitudes, square_of, bound}
-use Rattle.pilot_search.specs.Search.{correlation, energy}
+use Rattle.pilot_search.specs.Search.{phase_correlation, energy}
 use Rattle.pilot_search.proofs.BoundLemmas.{bounds, nothing_yet, despread_mod}
 use Rattle.rake_finger.specs.Strengths.{samples_before, window_energy, Strength, strength, IsStrongest, IsNarrow}
 
@@ -20,7 +20,7 @@ use Rattle.rake_finger.specs.Strengths.{samples_before, window_energy, Strength,
 
 pub energy_again : (samples : List Sample) (a b : ℕ) → a % 32768 ≡ b % 32768 →
     energy samples a ≡ energy samples b
-unfolding energy correlation
+unfolding energy phase_correlation
 energy_again samples a b e =
     ap (λ (ps : List Pair). norm (sum_of ps)) (despread_mod samples a b e)
 

@@ -12,7 +12,7 @@ use Rattle.chip_core.specs.declared.sample.Sample.{Sample}
 use Rattle.short_code.specs.Despread.{despread}
 use Rattle.short_code.proofs.Despreading.{despread-append}
 use Rattle.rake_finger.specs.Held.{Held}
-use Rattle.rake_finger.specs.InRing.{IsHeld, IsInRing}
+use Rattle.rake_finger.specs.InRing.{IsHeldInRing, IsInRing}
 use Rattle.rake_finger.specs.Soft.{symbol_chips, window_chips, windows, window_symbols, finger_place, frame_chips, despread_at, pilot_sum}
 use Rattle.rake_finger.specs.declared.finger.Finger.{Finger}
 use Rattle.rake_finger.specs.declared.form.Form.{Form}
@@ -30,7 +30,7 @@ in_frame Data window k lt few = omega (arith, lt, few)
 pub symbol_held : (ring : Held) (finger : Finger) (form : Form) (start window k place : ℕ) →
     IsInRing ring form start finger → window < windows form → k < window_symbols form →
     place ≡ finger_place finger start + window_chips form * window + symbol_chips form * k →
-    IsHeld ring place (symbol_chips form)
+    IsHeldInRing ring place (symbol_chips form)
 symbol_held ring finger form start window k place h lt few at =
     let within = in_frame form window k lt few in
     let kept = h.held.kept in

@@ -6,16 +6,16 @@ use Rattle.rake_finger.specs.declared.finger.Finger.{Finger}
 use Rattle.rake_finger.specs.declared.form.Form.{Form}
 
 -- the ring still holds the samples from a place on, so many, and has taken them all
-pub record IsHeld (ring : Held) (place count : ℕ) : Type 0 where
+pub record IsHeldInRing (ring : Held) (place count : ℕ) : Type 0 where
   pub kept : ring.taken ≤ place + ring.room
   pub taken : place + count ≤ ring.taken
 
 -- it holds the finger's samples of the frame that begins at reference sample `start`
 pub record IsInRing (ring : Held) (form : Form) (start : ℕ) (finger : Finger) : Type 0 where
   pub begun : finger.delta ≤ℤ pos start
-  pub held : IsHeld ring (finger_place finger start) (frame_chips form)
+  pub held : IsHeldInRing ring (finger_place finger start) (frame_chips form)
 
 -- it holds the 512 samples before a place
 pub record HoldsBefore (ring : Held) (end : ℕ) : Type 0 where
   pub begun : 512 ≤ end
-  pub held : IsHeld ring (end - 512) 512
+  pub held : IsHeldInRing ring (end - 512) 512

@@ -4,7 +4,7 @@ use Rattle.std.specs.Prelude.{nat_le, nat_lt, unsigned_abs, IsTrue, if◌then◌
 use Rattle.std.specs.Ordering.{int_eq}
 use Rattle.std.specs.List.{list_all, list_any}
 use Rattle.chip_core.specs.Air.{half_window_chips}
-use Rattle.rake_finger.specs.Streams.{Stream}
+use Rattle.rake_finger.specs.Streams.{StreamOf}
 use Rattle.rake_finger.specs.declared.finger.Finger.{Finger}
 
 -- NEAR IT
@@ -34,7 +34,7 @@ abbrev pub AreBegun : ℕ → List Finger → Type 0
 AreBegun u fingers = IsTrue (all_begun u fingers)
 
 -- the first frame of a stream in a file that is long enough
-abbrev pub low_in : {C : Type 0} → Stream C → ℕ
+abbrev pub low_in : {C : Type 0} → StreamOf C → ℕ
 low_in s = if all_begun s.first s.fingers then 0 else 1
 
 -- CLOSE TO IT

@@ -10,8 +10,8 @@ abbrev pub AreRowSigns : ℕ → List ℤ → Type 0
 AreRowSigns row signs = (k : ℕ) → k < 64 → get_or signs k (pos 0) ≡ sign (walsh row k)
 
 -- 64 numbers whose absolute values are 0 or 1
-abbrev pub AreUnits : List ℤ → Type 0
-AreUnits signs = (k : ℕ) → k < 64 → unsigned_abs (get_or signs k (pos 0)) ≤ 1
+abbrev pub AreUnitSigns : List ℤ → Type 0
+AreUnitSigns signs = (k : ℕ) → k < 64 → unsigned_abs (get_or signs k (pos 0)) ≤ 1
 
 -- both signs of a chip of the code, times another sign
 abbrev pub turned_sign : ℤ → ℤ × ℤ → ℤ × ℤ

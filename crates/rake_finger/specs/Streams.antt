@@ -31,7 +31,7 @@ is_within n fingers form u =
 -- A channel whose frames follow one another from reference sample `first` on, as fingers hear it.
 -- Those of a sync or a paging channel wait: each is decoded with the frame after it. How a frame's
 -- soft values are decoded is of a type that matters to nothing here.
-pub record Stream (C : Type 0) : Type 0 where
+pub record StreamOf (C : Type 0) : Type 0 where
   pub channel : C
   pub form : Form
   pub fingers : List Finger
@@ -39,46 +39,46 @@ pub record Stream (C : Type 0) : Type 0 where
   pub scrambling : ℕ → List Bool  -- of a frame: a bit a symbol, or none where nothing is scrambled
   pub waits : Bool
 
-abbrev pub frame_start : {C : Type 0} → Stream C → ℕ → ℕ
+abbrev pub frame_start : {C : Type 0} → StreamOf C → ℕ → ℕ
 frame_start s k = s.first + frame_chips s.form * k
 
 -- whether frame k lies in a file of so many samples
-abbrev pub is_in_file : {C : Type 0} → ℕ → Stream C → ℕ → Bool
+abbrev pub is_in_file : {C : Type 0} → ℕ → StreamOf C → ℕ → Bool
 is_in_file count s k = is_within count s.fingers s.form (frame_start s k)
 
 -- A frame is decoded with the frame before it and the frame after it, where these are in the file:
 -- the span.
-abbrev pub span_first : {C : Type 0} → ℕ → Stream C → ℕ → ℕ
+abbrev pub span_first : {C : Type 0} → ℕ → StreamOf C → ℕ → ℕ
 span_first count s zero = 0
 span_first count s (suc k) = if is_in_file count s k then k else suc k
 
-abbrev pub span_frames : {C : Type 0} → ℕ → Stream C → ℕ → ℕ
+abbrev pub span_frames : {C : Type 0} → ℕ → StreamOf C → ℕ → ℕ
 span_frames count s k = (if is_in_file count s (k + 1) then k + 2 else k + 1) - span_first count s k
 
 -- the number of samples at which frame k is known: the end of its span, or its own where it doesn't
 -- wait
-abbrev pub known_at : {C : Type 0} → ℕ → Stream C → ℕ → ℕ
+abbrev pub known_at : {C : Type 0} → ℕ → StreamOf C → ℕ → ℕ
 known_at count s k =
     frame_end s.fingers s.form
     (frame_start s (if s.waits && is_in_file count s (k + 1) then k + 1 else k))
 
-abbrev pub frame_softs : {C : Type 0} → List Sample → Stream C → ℕ → List ℤ
+abbrev pub frame_softs : {C : Type 0} → List Sample → StreamOf C → ℕ → List ℤ
 frame_softs samples s k =
     unscrambled (s.scrambling k) (softs samples s.fingers s.form (frame_start s k))
 
 -- those of the frames of frame k's span, one after another
-abbrev pub span_softs : {C : Type 0} → ℕ → List Sample → Stream C → ℕ → List ℤ
+abbrev pub span_softs : {C : Type 0} → ℕ → List Sample → StreamOf C → ℕ → List ℤ
 span_softs count samples s k =
     let first = span_first count s k in
     flat_map (λ j. frame_softs samples s (first + j)) (places (span_frames count s k))
 
 -- the frames that are known when just so many samples have been taken; bound is a number of frames
 -- that is enough
-abbrev pub known_now : {C : Type 0} → ℕ → Stream C → ℕ → ℕ → List ℕ
+abbrev pub known_now : {C : Type 0} → ℕ → StreamOf C → ℕ → ℕ → List ℕ
 known_now count s n bound =
     filter (λ k. is_in_file count s k && known_at count s k == n) (places bound)
 
 -- the frames that are known within so many samples
-abbrev pub known_by : {C : Type 0} → ℕ → Stream C → ℕ → ℕ → List ℕ
+abbrev pub known_by : {C : Type 0} → ℕ → StreamOf C → ℕ → ℕ → List ℕ
 known_by count s n bound =
     filter (λ k. is_in_file count s k && nat_le (known_at count s k) n) (places bound)

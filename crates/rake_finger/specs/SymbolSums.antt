@@ -14,6 +14,6 @@ pub record AreSymbolSums (samples : List Sample) (row phase place chips : ℕ) (
   pub covered : sums.covered ≡ sum_of (covered_from row 0 (despread_at samples phase place chips))
 
 -- no greater than so many samples make them
-pub record AreSmall (chips : ℕ) (sums : Sums) : Type 0 where
+pub record SumsAreSmall (chips : ℕ) (sums : Sums) : Type 0 where
   pub plain : IsWithin (65536 * chips) sums.plain
   pub covered : IsWithin (65536 * chips) sums.covered

@@ -4,7 +4,7 @@ use Rattle.chip_core.specs.Bits.{binary}
 use Rattle.chip_core.specs.Complex.{sum_of}
 use Rattle.chip_core.specs.Sums.{first_greatest}
 use Rattle.chip_core.specs.declared.sample.Sample.{Sample}
-use Rattle.pilot_search.specs.Search.{correlation, energy}
+use Rattle.pilot_search.specs.Search.{phase_correlation, energy}
 use Rattle.short_code.specs.ShortCode.{chips_to}
 use Rattle.walsh.specs.Walsh.{walsh}
 use Rattle.rake_finger.specs.Paths.{modulo_code}
@@ -42,13 +42,13 @@ later = refl
 windows : map (λ phase. strength two phase 4) (5 ∷ 7 ∷ 2 ∷ [])
     ≡ record { energy = 8; delta = pos 0 } ∷ record { energy = 8; delta = negsuc 1 }
     ∷ record { energy = 4; delta = negsuc 0 } ∷ []
-unfolding two chips_to correlation energy strength first_greatest
+unfolding two chips_to phase_correlation energy strength first_greatest
 windows = refl
 
 -- of nothing all energies are the same
 nothing_there : strength (replicate 4 (record { i = pos 0; q = pos 0 })) 20 10 ≡
     record { energy = 0; delta = negsuc 4 }
-unfolding chips_to correlation energy strength first_greatest
+unfolding chips_to phase_correlation energy strength first_greatest
 nothing_there = refl
 
 power_of_two : sample_power two ≡ 2

@@ -4,8 +4,8 @@ ghost use Rattle.std.specs.Prelude.{◌≡◌, ◌<◌, ◌≤◌, ◌+◌, ◌*
 ghost use lib.Lanes.{Each1, zip2};
 ghost use Rattle.pilot_search.specs.BySigns.{correlation_with};
 ghost use Rattle.short_code.specs.Despread.{IsUnit};
-ghost use Rattle.rake_finger.specs.RowSigns.{AreUnits, covered_signs, sign_lanes};
-ghost use Rattle.rake_finger.specs.SymbolSums.{AreSmall};
+ghost use Rattle.rake_finger.specs.RowSigns.{AreUnitSigns, covered_signs, sign_lanes};
+ghost use Rattle.rake_finger.specs.SymbolSums.{SumsAreSmall};
 
 use crate::rows::RowSigns;
 use chip_core::{Pair, Sample};
@@ -28,7 +28,7 @@ pub(crate) struct Sums {
 /// Eight signs of a row, from a chip on.
 fn eight_signs(row: &RowSigns, first: usize) -> i32x8
     requires room { first + 8 ≤ 64 }
-    requires units { AreUnits row.now }
+    requires units { AreUnitSigns row.now }
     ensures { result ≡ sign_lanes row.now first }
 {
     i32x8::from_array([
@@ -56,7 +56,7 @@ fn signed_lanes(products: i32x8, signs: i32x8) -> i32x8
 /// and their imaginary parts.
 fn covered_products(real: i32x8, imaginary: i32x8, row: &RowSigns, group: usize) -> (i32x8, i32x8)
     requires group { group < 8 }
-    requires units { AreUnits row.now }
+    requires units { AreUnitSigns row.now }
     requires real { Each1 (λ x. unsigned_abs x ≤ 65536) real }
     requires imaginary { Each1 (λ x. unsigned_abs x ≤ 65536) imaginary }
     ensures real { result.0 ≡ zip2 (λ a b. a *ℤ b) real (sign_lanes row.now (8 * group)) }
@@ -75,11 +75,11 @@ pub(crate) fn sums_on_lanes(samples: &[Sample], signs: &[(i8, i8)], row: &RowSig
     requires whole { length samples.now % 8 ≡ 0 }
     requires room { length samples.now ≤ length signs.now }
     requires units { All IsUnit signs.now }
-    requires row_units { AreUnits row.now }
+    requires row_units { AreUnitSigns row.now }
     ensures plain { result.plain ≡ correlation_with samples.now signs.now }
     ensures covered { result.covered ≡
         correlation_with samples.now (covered_signs row.now 0 signs.now) }
-    ensures small { AreSmall (length samples.now) result }
+    ensures small { SumsAreSmall (length samples.now) result }
 {
     let mut real = i32x8::splat(0);
     let mut imaginary = i32x8::splat(0);

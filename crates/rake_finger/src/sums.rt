@@ -6,10 +6,10 @@ ghost use Rattle.chip_core.specs.Bits.{sign};
 ghost use Rattle.chip_core.specs.Complex.{times, conjugate, point, sum_of, of_sample};
 ghost use Rattle.chip_core.specs.declared.sample.Sample.{Sample};
 ghost use Rattle.rake_finger.specs.Held.{HoldsLast};
-ghost use Rattle.rake_finger.specs.InRing.{IsHeld};
-ghost use Rattle.rake_finger.specs.RowSigns.{AreRowSigns, AreUnits};
+ghost use Rattle.rake_finger.specs.InRing.{IsHeldInRing};
+ghost use Rattle.rake_finger.specs.RowSigns.{AreRowSigns, AreUnitSigns};
 ghost use Rattle.rake_finger.specs.Soft.{covered_from, despread_at};
-ghost use Rattle.rake_finger.specs.SymbolSums.{AreSmall, AreSymbolSums};
+ghost use Rattle.rake_finger.specs.SymbolSums.{SumsAreSmall, AreSymbolSums};
 
 use crate::finger::Finger;
 use crate::lanes::{Sums, sums_on_lanes};
@@ -48,7 +48,7 @@ pub(crate) fn covered_sum(
     chips: u16,
 ) -> Pair
     requires row { row < 64 }
-    requires held { IsHeld ring.now place chips }
+    requires held { IsHeldInRing ring.now place chips }
     ensures value { (samples : List Sample) → HoldsLast ring.now samples →
         result ≡ sum_of (covered_from row 0 (despread_at samples phase place chips)) }
     ensures i_bound { unsigned_abs result.i ≤ 65536 * chips }
@@ -73,10 +73,10 @@ pub(crate) fn covered_sum(
 /// The sums of a symbol's samples, despread, one sample at a time.
 fn broken_sums(ring: &SampleRing, codes: &Codes, finger: &Finger, place: u64, chips: u16) -> Sums
     requires row { finger.now.row < 64 }
-    requires held { IsHeld ring.now place chips }
+    requires held { IsHeldInRing ring.now place chips }
     ensures sums { (samples : List Sample) → HoldsLast ring.now samples →
         AreSymbolSums samples finger.now.row finger.now.phase place chips result }
-    ensures small { AreSmall chips result }
+    ensures small { SumsAreSmall chips result }
 {
     Sums {
         plain: covered_sum(ring, codes, finger.phase, PILOT_ROW, place, chips),
@@ -97,13 +97,13 @@ fn unbroken_sums(
     requires cells { cell + chips ≤ ring.now.room }
     requires code { first + chips ≤ 32768 }
     requires whole { chips % 8 ≡ 0 }
-    requires units { AreUnits signs.now }
+    requires units { AreUnitSigns signs.now }
     ensures sums { (samples : List Sample) (row phase place : ℕ) →
         HoldsLast ring.now samples → AreRowSigns row signs.now →
-        IsHeld ring.now place chips → cell ≡ place % ring.now.room →
+        IsHeldInRing ring.now place chips → cell ≡ place % ring.now.room →
         first ≡ (phase + place) % 32768 →
         AreSymbolSums samples row phase place chips result }
-    ensures small { AreSmall chips result }
+    ensures small { SumsAreSmall chips result }
 {
     let (_, ahead) = codes.table().split_at(usize::from(first));
     sums_on_lanes(ring.run(cell, usize::from(chips)), ahead, signs)
@@ -125,10 +125,10 @@ pub(crate) fn symbol_sums(
     requires row { finger.now.row < 64 }
     requires signs { AreRowSigns finger.now.row signs.now }
     requires whole { chips % 8 ≡ 0 }
-    requires held { IsHeld ring.now place chips }
+    requires held { IsHeldInRing ring.now place chips }
     ensures sums { (samples : List Sample) → HoldsLast ring.now samples →
         AreSymbolSums samples finger.now.row finger.now.phase place chips result }
-    ensures small { AreSmall chips result }
+    ensures small { SumsAreSmall chips result }
 {
     let _taken = ring.taken();
     let first = (u64::from(finger.phase.get()) + place) % CODE_CHIPS;

@@ -4,18 +4,18 @@ use Rattle.symbol_path.specs.declared.rate_two.Rate2.{Rate2}
 use Rattle.symbol_path.specs.declared.rate_two.Rate2.TheVariants.{R14400, R7200, R3600, R1800}
 use Rattle.frame_decoder.proofs.FormatChoice.{IsAmong}
 use Rattle.frame_decoder.proofs.SentFormats.{shown_decoded, signs_decoded}
-use Rattle.rate_set_two.specs.TrafficFrames.{format_of, as_decoded, lower_rates, decoded2}
-use Rattle.rate_set_two.specs.Laws.{IsDecodedBySigns, IsSentFrameDecoded}
+use Rattle.rate_set_two.specs.TrafficFrames.{format_of2, as_decoded2, lower_rates2, decoded2}
+use Rattle.rate_set_two.specs.Laws.{IsDecodedBySigns2, IsSentFrameDecoded2}
 
-among : (rate : Rate2) → IsAmong rate (lower_rates ++ R14400 ∷ [])
+among : (rate : Rate2) → IsAmong rate (lower_rates2 ++ R14400 ∷ [])
 among R14400 = record { before = R1800 ∷ R3600 ∷ R7200 ∷ []; after = []; parted = refl }
 among R7200 = record { before = R1800 ∷ R3600 ∷ []; after = R14400 ∷ []; parted = refl }
 among R3600 = record { before = R1800 ∷ []; after = R7200 ∷ R14400 ∷ []; parted = refl }
 among R1800 = record { before = []; after = R3600 ∷ R7200 ∷ R14400 ∷ []; parted = refl }
 
-pub signs_frame : IsDecodedBySigns
+pub signs_frame : IsDecodedBySigns2
 unfolding decoded2
-signs_frame = signs_decoded format_of as_decoded R14400 lower_rates (λ r. refl) among
+signs_frame = signs_decoded format_of2 as_decoded2 R14400 lower_rates2 (λ r. refl) among
 
-pub sent_frame : IsSentFrameDecoded
-sent_frame = shown_decoded format_of as_decoded decoded2 signs_frame
+pub sent_frame : IsSentFrameDecoded2
+sent_frame = shown_decoded format_of2 as_decoded2 decoded2 signs_frame

@@ -10,7 +10,7 @@ use Rattle.symbol_path.specs.RatesTwo.{symbols_of}
 use Rattle.symbol_path.specs.SentOrderTwo.{sent2}
 use Rattle.rate_set_two.specs.SentOrder.{gathered2}
 use Rattle.rate_set_two.specs.declared.traffic.Decoded2.{Decoded2}
-use Rattle.rate_set_two.specs.TrafficFrames.{format_of, as_decoded, decoded2}
+use Rattle.rate_set_two.specs.TrafficFrames.{format_of2, as_decoded2, decoded2}
 
 -- ---- the sums
 -- soft values agree with what is sent as their sums agree with the code symbols
@@ -22,26 +22,26 @@ KeepsAgreement =
 
 -- ---- sent frames
 -- no other codeword of any rate, its quality indicator right or not, has a codeword's symbols there
-abbrev pub IsUnshared : List ℕ → Rate2 → Codeword → Type 0
-IsUnshared = IsUnsharedIn format_of
+abbrev pub IsUnshared2 : List ℕ → Rate2 → Codeword → Type 0
+IsUnshared2 = IsUnsharedIn format_of2
 
 -- a good frame with these information bits
-abbrev pub good_frame : Rate2 → List Bool → ℤ → Decoded2
-good_frame rate information score =
+abbrev pub good_frame2 : Rate2 → List Bool → ℤ → Decoded2
+good_frame2 rate information score =
     record { rate = rate; good = true; bits = information; score = score }
 
 -- soft values that show the symbols of a frame which no other codeword shares give that frame
-abbrev pub IsSentFrameDecoded : Type 0
-IsSentFrameDecoded = DecodesSentFrames format_of as_decoded decoded2
+abbrev pub IsSentFrameDecoded2 : Type 0
+IsSentFrameDecoded2 = DecodesSentFrames format_of2 as_decoded2 decoded2
 
 -- so do soft values with the signs of these symbols, whatever their sizes: the score is what they
 -- add up to
-abbrev pub IsDecodedBySigns : Type 0
-IsDecodedBySigns = DecodesBySigns format_of as_decoded decoded2
+abbrev pub IsDecodedBySigns2 : Type 0
+IsDecodedBySigns2 = DecodesBySigns format_of2 as_decoded2 decoded2
 
 -- where all soft values are 0, no frame is good, and the bits are zeros
-abbrev pub IsNothingGood : Type 0
-IsNothingGood =
+abbrev pub IsNothingGood2 : Type 0
+IsNothingGood2 =
     (replaced : List ℕ) → decoded2 replaced (replicate 384 (pos 0)) ≡ record {
       rate = R14400;
       good = false;

@@ -5,7 +5,7 @@ use Rattle.quality_bits.specs.Quality.{check_bits}
 use Rattle.symbol_path.specs.SentOrder.{sent_by}
 use Rattle.symbol_path.specs.SentOrderTwo.{place2}
 use Rattle.symbol_path.specs.FramesTwo.{codeword_bits}
-use Rattle.rate_set_two.specs.TrafficFrames.{format_of, frame_codeword, frame_symbols}
+use Rattle.rate_set_two.specs.TrafficFrames.{format_of2, frame_codeword2, frame_symbols2}
 use Rattle.frame_decoder.specs.Formats.{is_right}
 use Rattle.symbol_path.specs.declared.rate_two.Rate2.TheVariants.{R14400, R7200, R3600, R1800}
 
@@ -46,18 +46,18 @@ unfolding few binary places check_bits
 codeword_1800 = refl
 
 -- and its symbols as they are sent
-symbols_1800 : frame_symbols R1800 (frame_codeword R1800 few) ≡
+symbols_1800 : frame_symbols2 R1800 (frame_codeword2 R1800 few) ≡
     binary 192 0x044992712e55044992b6f11f044992712e55712e55b6f11f
     ++ binary 192 0x044992712e55044992b6f11f044992b6f11f712e55b6f11f
 unfolding few binary places check_bits sent_by
 symbols_1800 = refl
 
 -- quality indicators, right and with a bit changed
-right_7200 : is_right (format_of R7200)
+right_7200 : is_right (format_of2 R7200)
     (binary 64 0x7b41f3ba74f6b323 ++ binary 64 0xe2e6eab2cb9fcfb3 ++ binary 16 0x9d00) ≡ true
 unfolding binary places check_bits
 right_7200 = refl
 
-wrong_1800 : is_right (format_of R1800) (binary 36 0x5a5a5b300) ≡ false
+wrong_1800 : is_right (format_of2 R1800) (binary 36 0x5a5a5b300) ≡ false
 unfolding binary places check_bits
 wrong_1800 = refl

@@ -1,7 +1,7 @@
 //! Laws of the definitions: each function does nothing, and its contract is the law.
 
 ghost use Rattle.symbol_path.specs.SentOrderTwo.{IsKeptOnce, IsDropped};
-ghost use Rattle.rate_set_two.specs.Laws.{IsDecodedBySigns, IsNothingGood, IsSentFrameDecoded};
+ghost use Rattle.rate_set_two.specs.Laws.{IsDecodedBySigns2, IsNothingGood2, IsSentFrameDecoded2};
 ghost use Rattle.rate_set_two.specs.Laws.{KeepsAgreement};
 
 /// A frame sends each of its repeated symbols exactly once, but for the third and the fifth of each
@@ -21,16 +21,16 @@ pub fn gathering_keeps_agreement()
 /// that no power control bit replaces are one positive number times the symbols' signs, and no
 /// other codeword of any rate has these symbols there.
 pub fn sent_frame_is_decoded()
-    ensures { IsSentFrameDecoded }
+    ensures { IsSentFrameDecoded2 }
 {}
 
 /// So it does where they have the symbols' signs and none is 0, whatever their sizes: its score is
 /// what they add up to.
 pub fn sent_frame_is_decoded_by_signs()
-    ensures { IsDecodedBySigns }
+    ensures { IsDecodedBySigns2 }
 {}
 
 /// Soft values of 0 give no good frame: the rate is 14,400 bits a second, and all bits are 0.
 pub fn nothing_heard_is_not_good()
-    ensures { IsNothingGood }
+    ensures { IsNothingGood2 }
 {}

@@ -2,7 +2,7 @@
 
 ghost use Rattle.std.specs.Prelude.{◌≡◌, ◌≤◌, ◌^◌, sum_by, unsigned_abs};
 ghost use Rattle.frame_decoder.specs.Formats.{IsFormat};
-ghost use Rattle.rate_set_two.specs.TrafficFrames.{format_of, decoded2};
+ghost use Rattle.rate_set_two.specs.TrafficFrames.{format_of2, decoded2};
 
 use chip_core::Bits;
 use frame_decoder::{FrameFormat, FrameSofts, frame_of};
@@ -25,7 +25,7 @@ pub struct Decoded2 {
 
 /// What the frames of a rate are made of.
 fn format_of(rate: Rate2) -> FrameFormat<Rate2>
-    ensures value { result ≡ format_of rate }
+    ensures value { result ≡ format_of2 rate }
     ensures format { IsFormat result }
 {
     FrameFormat {

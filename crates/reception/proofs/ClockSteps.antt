@@ -1,7 +1,8 @@
 -- What the clock of a channel's frames stands for, step by step, over any stream.
 use Rattle.reception.proofs.Common.{◌≡◌, ℕ, ◌+◌, ◌-◌, ◌*◌, ◌<◌, ◌≤◌, true, refl, sym, ap, ◌∙◌, arith, ◌⊎◌, inl, inr, nat_lt, false}
 use Rattle.reception.proofs.Common.{cases_Bool, cases_lt, lt-ltb, le-ltb, frame_chips, Form, Sync, Data, IsAt, IsDueAt, clock_from}
-use Rattle.reception.proofs.Common.{first_frame, frame_come, frame_heard, span_from, AreNear, Stream, frame_start, is_in_file, known_at}
+use Rattle.reception.proofs.Common.{first_frame, frame_come, clock_after_frame, span_from, AreNear, StreamOf, frame_start, is_in_file}
+use Rattle.reception.proofs.Common.{known_at}
 use Rattle.reception.proofs.Common.{span_first, span_frames, stream_end, FrameClock, Bool, List, if◌then◌else◌, Finger, all_begun}
 use Rattle.reception.proofs.Common.{frame_end}
 use Rattle.rake_finger.proofs.FingerTimes.{start_step, timed_in, ends_bounds, times_one}
@@ -34,7 +35,7 @@ span_bounds c come =
     ]
 
 -- before any sample is taken
-pub clock_new : {C : Type 0} (count : ℕ) (s : Stream C) → AreNear s.fingers →
+pub clock_new : {C : Type 0} (count : ℕ) (s : StreamOf C) → AreNear s.fingers →
     IsAt count s (clock_from s.fingers s.form s.waits s.first (first_frame s.fingers s.first)) 0
 unfolding stream_end
 clock_new count s near = record {
@@ -61,7 +62,7 @@ starts_before : (form : Form) (first have frame : ℕ) → frame ≤ have →
 starts_before Sync first have frame h = omega arith
 starts_before Data first have frame h = omega arith
 
-module _ {C : Type 0} {count : ℕ} {s : Stream C} {c : FrameClock} {n : ℕ} (is : IsAt count s c n) where
+module _ {C : Type 0} {count : ℕ} {s : StreamOf C} {c : FrameClock} {n : ℕ} (is : IsAt count s c n) where
   -- a frame that is due is known just now
   pub due_inside : IsDueAt count c → is_in_file count s c.next ≡ true
   due_inside d =
@@ -227,7 +228,7 @@ module _ {C : Type 0} {count : ℕ} {s : Stream C} {c : FrameClock} {n : ℕ} (i
       }
 
   -- one frame more has been heard
-  pub clock_heard : IsDueAt count c → IsAt count s (frame_heard c) n
+  pub clock_heard : IsDueAt count c → IsAt count s (clock_after_frame c) n
   clock_heard d =
       let r = is.reached in
       let known = due_known d in

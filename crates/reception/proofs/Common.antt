@@ -21,7 +21,7 @@ pub use Rattle.rake_finger.specs.Paths.{finger_of, fingers_of}
 pub use Rattle.rake_finger.specs.Scrambled.{descrambled, unscrambled}
 pub use Rattle.rake_finger.specs.Soft.{frame_chips, soft_bound, symbols}
 unfoldable pub use Rattle.rake_finger.specs.Soft.{softs}
-pub use Rattle.rake_finger.specs.Streams.{Stream, frame_end, frame_softs, frame_start, is_in_file, known_at, span_first, span_frames}
+pub use Rattle.rake_finger.specs.Streams.{StreamOf, frame_end, frame_softs, frame_start, is_in_file, known_at, span_first, span_frames}
 unfoldable pub use Rattle.rake_finger.specs.Timing.{stream_end}
 pub use Rattle.rake_finger.specs.declared.finger.Finger.{Finger}
 pub use Rattle.rake_finger.specs.declared.form.Form.{Form}
@@ -29,7 +29,7 @@ pub use Rattle.rake_finger.specs.declared.form.Form.TheVariants.{Data, Sync}
 pub use borrow.Rule.Slice.PartMut.{post_of}
 pub use mir.Syntax.{w64, w8}
 pub use mir.Val.{SFits}
-pub use Rattle.reception.specs.Clocks.{IsAt, IsDueAt, clock_from, first_frame, frame_come, frame_heard, span_from}
+pub use Rattle.reception.specs.Clocks.{IsAt, IsDueAt, clock_from, first_frame, frame_come, clock_after_frame, span_from}
 pub use Rattle.reception.specs.Receiving.{Receives}
 pub use Rattle.reception.specs.Softs.{AreSmall, frame_most, last_softs}
 pub use Rattle.reception.specs.declared.continued.Continued.{Continued}

@@ -1,8 +1,9 @@
 -- What a continued channel stands for, step by step, over any stream.
 use Rattle.reception.proofs.Common.{◌≡◌, ℕ, zero, suc, ◌+◌, ◌-◌, ◌*◌, ◌≤◌, List, [], ◌++◌, length, length-append, take, drop, refl, sym, ap}
 use Rattle.reception.proofs.Common.{◌∙◌, arith, true, ℤ, flat_map, drop_all, take_all, places-none, places, Sample, own_bits, symbols}
-use Rattle.reception.proofs.Common.{IsDueAt, clock_from, first_frame, frame_come, frame_heard, span_from, AreNear, Receives, last_softs}
-use Rattle.reception.proofs.Common.{Stream, Channel, frame_softs, span_first, span_frames, Continued, flat_map_ext_places}
+use Rattle.reception.proofs.Common.{IsDueAt, clock_from, first_frame, frame_come, clock_after_frame, span_from, AreNear, Receives}
+use Rattle.reception.proofs.Common.{last_softs}
+use Rattle.reception.proofs.Common.{StreamOf, Channel, frame_softs, span_first, span_frames, Continued, flat_map_ext_places}
 use Rattle.reception.proofs.Common.{flat_map-places-more}
 use Rattle.rake_finger.specs.Streams.{span_softs}
 use Rattle.std.proofs.lemmas.List.{length-drop}
@@ -26,7 +27,7 @@ none_kept size softs f long =
     ∙ sym (ap (flat_map f) places-none)
 
 -- before any sample is taken
-pub receives_new : {C : Type 0} (count : ℕ) (s : Stream C) (c : Continued) → s.waits ≡ true →
+pub receives_new : {C : Type 0} (count : ℕ) (s : StreamOf C) (c : Continued) → s.waits ≡ true →
     AreNear s.fingers → c.fingers ≡ s.fingers → length c.softs ≡ 1152 →
     c.clock ≡ clock_from s.fingers s.form s.waits s.first (first_frame s.fingers s.first) →
     Receives count s c []
@@ -40,7 +41,7 @@ receives_new count s c waits near fingers long clock = record {
       rw z (none_kept (symbols s.form) c.softs _ long);
 }
 
-module _ {C : Type 0} {count : ℕ} {s : Stream C} {c : Continued} {heard : List Sample}
+module _ {C : Type 0} {count : ℕ} {s : StreamOf C} {c : Continued} {heard : List Sample}
     (r : Receives count s c heard) where
   -- more samples, up to the end of the frame that comes next
   pub receives_more : (more : List Sample) → ¬ IsDueAt count c.clock →
@@ -117,7 +118,7 @@ module _ {C : Type 0} {count : ℕ} {s : Stream C} {c : Continued} {heard : List
 
   -- one frame more has been heard
   pub receives_heard : IsDueAt count c.clock →
-      Receives count s (record c { clock = frame_heard c.clock }) heard
+      Receives count s (record c { clock = clock_after_frame c.clock }) heard
   receives_heard d = record {
     waits = r.waits;
     clocked = clock_heard r.clocked d;
@@ -125,7 +126,7 @@ module _ {C : Type 0} {count : ℕ} {s : Stream C} {c : Continued} {heard : List
     softs_are = r.softs_are;
   }
 
-module _ {count : ℕ} {s : Stream Channel} {c : Continued} {heard : List Sample}
+module _ {count : ℕ} {s : StreamOf Channel} {c : Continued} {heard : List Sample}
     (r : Receives count s c heard) where
   -- the own bits of the frame that is due, as the code cuts its span out
   pub own_bits_are : IsDueAt count c.clock → (frames own kept : ℕ) →

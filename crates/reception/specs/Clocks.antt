@@ -6,7 +6,7 @@ use Rattle.rake_finger.specs.declared.finger.Finger.{Finger}
 use Rattle.rake_finger.specs.declared.form.Form.{Form}
 use Rattle.rake_finger.specs.Near.{all_begun}
 use Rattle.reception.specs.Progress.{IsReached}
-use Rattle.rake_finger.specs.Streams.{Stream, frame_end, frame_start}
+use Rattle.rake_finger.specs.Streams.{StreamOf, frame_end, frame_start}
 use Rattle.rake_finger.specs.Timing.{IsTimed, stream_end}
 use Rattle.reception.specs.declared.frame_clock.FrameClock.{FrameClock}
 
@@ -36,8 +36,8 @@ frame_come c = record c {
 }
 
 -- one frame more has been heard
-abbrev pub frame_heard : FrameClock → FrameClock
-frame_heard c = record c { next = c.next + 1 }
+abbrev pub clock_after_frame : FrameClock → FrameClock
+clock_after_frame c = record c { next = c.next + 1 }
 
 -- whether the next frame is known: it has come, and where it waits the frame after it has come, or
 -- isn't in the file
@@ -50,7 +50,8 @@ abbrev pub span_from : FrameClock → ℕ
 span_from c = if nat_lt c.low c.next then c.next - 1 else c.next
 
 -- the clock shows how far the frames of a stream have come in a file, after so many samples
-pub record IsAt {C : Type 0} (count : ℕ) (s : Stream C) (c : FrameClock) (taken : ℕ) : Type 0 where
+pub record IsAt {C : Type 0} (count : ℕ) (s : StreamOf C) (c : FrameClock) (taken : ℕ) :
+    Type 0 where
   pub timed : IsTimed count s c.low
   pub reached : IsReached count s c.low c.next c.have taken
   pub form_is : c.form ≡ s.form

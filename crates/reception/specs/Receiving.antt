@@ -6,12 +6,12 @@ use Rattle.chip_core.specs.declared.sample.Sample.{Sample}
 use Rattle.rake_finger.specs.Soft.{symbols}
 use Rattle.reception.specs.Clocks.{IsAt}
 use Rattle.reception.specs.Softs.{last_softs}
-use Rattle.rake_finger.specs.Streams.{Stream, frame_softs}
+use Rattle.rake_finger.specs.Streams.{StreamOf, frame_softs}
 use Rattle.reception.specs.declared.continued.Continued.{Continued}
 
 -- The stream's fingers have taken these samples of a file: the clock is there, and the soft values
 -- of the last frames, up to three, are those of the stream.
-pub record Receives {C : Type 0} (count : ℕ) (s : Stream C) (c : Continued)
+pub record Receives {C : Type 0} (count : ℕ) (s : StreamOf C) (c : Continued)
     (heard : List Sample) : Type 0 where
   pub waits : s.waits ≡ true
   pub clocked : IsAt count s c.clock (length heard)

@@ -33,7 +33,7 @@ impl Continued {
     ghost use Rattle.reception.specs.Receiving.{Receives};
     ghost use Rattle.rake_finger.specs.Scrambled.{Scrambles};
     ghost use Rattle.reception.specs.Sound.{IsSoundChannel};
-    ghost use Rattle.rake_finger.specs.Streams.{Stream, span_first, span_frames, span_softs};
+    ghost use Rattle.rake_finger.specs.Streams.{StreamOf, span_first, span_frames, span_softs};
     ghost use Rattle.rake_finger.specs.Held.{HoldsLast};
     ghost use Rattle.rake_finger.specs.Soft.{symbols};
     ghost use Rattle.symbol_path.specs.SentOrder.{size};
@@ -68,7 +68,7 @@ impl Continued {
         requires bits { Scrambles scrambling.now (symbols self.old.clock.form) }
         ensures clock { self.new.clock ≡ frame_come self.old.clock }
         ensures sound { IsSoundChannel self.new }
-        ensures stands { (count : ℕ) (s : Stream Channel) (heard : List Sample) →
+        ensures stands { (count : ℕ) (s : StreamOf Channel) (heard : List Sample) →
             HoldsLast ring.now heard → scrambling.now ≡ s.scrambling self.old.clock.have →
             ¬ IsDueAt count self.old.clock →
             Receives count s self.old heard → Receives count s self.new heard }
@@ -92,7 +92,7 @@ impl Continued {
         requires come { self.now.clock.next < self.now.clock.have }
         requires kind { size (channel_for kind).shape ≡ symbols self.now.clock.form }
         requires room { decoder.old ≡ 576 }
-        ensures value { (count : ℕ) (s : Stream Channel) (heard : List Sample) →
+        ensures value { (count : ℕ) (s : StreamOf Channel) (heard : List Sample) →
             Receives count s self.now heard → channel_for kind ≡ s.channel →
             IsDueAt count self.now.clock →
             result ≡ own_bits s.channel (span_frames count s self.now.clock.next)

@@ -34,7 +34,7 @@ pub struct Span {
 impl FrameClock {
     ghost use Rattle.std.specs.Prelude.{◌≡◌, ◌<◌, ◌≤◌, ◌+◌, ◌-◌, ◌*◌, ◌^◌, ◌↔◌, IsTrue};
     ghost use Rattle.reception.specs.Clocks.{IsDueAt, clock_from, first_frame};
-    ghost use Rattle.reception.specs.Clocks.{frame_come, frame_heard, span_from};
+    ghost use Rattle.reception.specs.Clocks.{frame_come, clock_after_frame, span_from};
     ghost use Rattle.rake_finger.specs.Near.{AreBegun, AreClose};
     ghost use Rattle.reception.specs.Sound.{IsSoundClock};
     ghost use Rattle.rake_finger.specs.Soft.{frame_chips};
@@ -103,7 +103,7 @@ impl FrameClock {
     pub fn hear(&mut self)
         requires sound { IsSoundClock self.old }
         requires come { self.old.next < self.old.have }
-        ensures value { self.new ≡ frame_heard self.old }
+        ensures value { self.new ≡ clock_after_frame self.old }
         ensures sound { IsSoundClock self.new }
     {
         self.next += 1;

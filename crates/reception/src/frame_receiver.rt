@@ -32,7 +32,8 @@ impl FrameReceiver {
     ghost use Rattle.rake_finger.specs.Soft.{softs};
     ghost use Rattle.rake_finger.specs.Streams.{frame_end};
     ghost use Rattle.rake_finger.specs.declared.form.Form.TheVariants.{Data};
-    ghost use Rattle.reception.specs.Clocks.{clock_from, first_frame, frame_come, frame_heard};
+    ghost use Rattle.reception.specs.Clocks.{clock_from, first_frame, frame_come};
+    ghost use Rattle.reception.specs.Clocks.{clock_after_frame};
     ghost use Rattle.reception.specs.Sound.{IsSoundReceiver};
     ghost use Rattle.symbol_path.specs.Scrambling.{scrambling};
 
@@ -102,7 +103,7 @@ impl FrameReceiver {
     pub fn hear(&mut self)
         requires sound { IsSoundReceiver self.old }
         requires come { self.old.clock.next < self.old.clock.have }
-        ensures value { self.new ≡ record self.old { clock = frame_heard self.old.clock } }
+        ensures value { self.new ≡ record self.old { clock = clock_after_frame self.old.clock } }
         ensures sound { IsSoundReceiver self.new }
     {
         self.clock.hear();

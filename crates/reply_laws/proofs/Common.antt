@@ -14,7 +14,8 @@ pub use Rattle.std.specs.Prelude.{if◌then◌else◌, int_le, is_some, ◌+ℤ�
 pub use Rattle.cdma_io.proofs.ByteNumbers.{AreBytes, AreBytes-drop, AreBytes-from_all, AreBytes-take}
 pub use Rattle.cdma_io.proofs.Opening.{opening-ok}
 pub use Rattle.cdma_io.proofs.Spelling.{sample_bytes, sample_in}
-pub use Rattle.cdma_io.specs.SampleFile.{HasBits, IsLawfulHeader, IsSampleFile, bits_of, header_spelling, most_samples, opening, sample_len}
+pub use Rattle.cdma_io.specs.SampleFile.{HasBits, IsLawfulHeader, IsSampleFile, integer_width_of, header_spelling, most_samples, opening}
+pub use Rattle.cdma_io.specs.SampleFile.{sample_len}
 pub use Rattle.cdma_io.specs.SampleFile.{sample_spelling, width_of}
 pub use Rattle.cdma_io.specs.declared.file_fault.FileFault.{FileFault}
 pub use Rattle.cdma_io.specs.declared.file_fault.FileFault.TheVariants.{Extra, Short, TooFew}
@@ -27,7 +28,7 @@ pub use Rattle.cell_plan.specs.Plan.{IsLawfulPlan, loudness, most_part}
 unfoldable pub use Rattle.cell_plan.specs.Sampled.{made_samples}
 pub use Rattle.cell_plan.specs.Signal.{amplitudes, carriers, frames_of, scaled}
 pub use Rattle.cell_plan.specs.Stated.{IsReceivable}
-pub use Rattle.cell_plan.specs.TrafficFrames.{IsTrafficFrame, cycled_frame, frame_state, set_one}
+pub use Rattle.cell_plan.specs.TrafficFrames.{IsTrafficFrame, cycled_frame, sent_frame_state, set_one}
 pub use Rattle.cell_plan.specs.Transmitter.{header_of, phase_at, version_of}
 pub use Rattle.cell_plan.specs.declared.plan.CellPlan.{CellPlan}
 pub use Rattle.cell_plan.specs.declared.plan.PagingPlan.{PagingPlan}
@@ -101,7 +102,7 @@ pub use Rattle.pilot_search.specs.Ranked.{IsNext, IsRound, measured_at}
 pub use Rattle.pilot_search.specs.Search.{best_phase, energy}
 pub use Rattle.pilot_search.specs.declared.sweeping.Best.{Best}
 pub use Rattle.rate_set_two.specs.TrafficFrames.{decoded2}
-pub use Rattle.rate_set_two.specs.Laws.{good_frame}
+pub use Rattle.rate_set_two.specs.Laws.{good_frame2}
 pub use Rattle.rate_set_two.specs.declared.traffic.Decoded2.{Decoded2}
 pub use Rattle.short_code.specs.ShortCode.{pilot_chip}
 pub use Rattle.slot_link.proofs.File.{slot_texts_back, noisy_slot_texts_back}
@@ -120,7 +121,7 @@ pub use Rattle.owed_replies.specs.Hearing.{ByFrames, clean_end, end_when, first_
 unfoldable pub use Rattle.owed_replies.specs.Hearing.{best_pilot, file_end_of, file_text, told}
 unfoldable pub use Rattle.owed_replies.specs.Make.{made_file}
 pub use Rattle.reply_laws.specs.NoisyReplies.{IsNoisyFile, NoisyRepliesComeBack}
-pub use Rattle.reply_laws.specs.OneCodeword.{OneCodewordFollows, OneCodewordFollowsFrame, followed_line}
+pub use Rattle.reply_laws.specs.OneCodeword.{OneCodewordFollows, OneCodewordFollowsFrame, followed_frame_line}
 pub use Rattle.owed_replies.specs.Replies.{IsFileReply, IsReply, IsScriptReply, IsTaskReply, IsWholeFile, Reply, taps_by}
 pub use Rattle.reply_laws.specs.ReplyLaws.{EachInputIsOwed, FindOwesThePilot, FollowOwesTheEvents, IdleOwesTheSlots, ListOwesTheFrames}
 pub use Rattle.reply_laws.specs.ReplyLaws.{MakeOwesTheFile, Rate2OwesTheFrames, SurveyOwesTheRanks, TrialOwesItsLine, WorkersChangeNoReply}

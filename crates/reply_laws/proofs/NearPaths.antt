@@ -6,7 +6,7 @@ use Rattle.reply_laws.proofs.Common.{first_greatest, Sample, first_greatest-is, 
 use Rattle.reply_laws.proofs.Common.{near_deltas, IsNext, IsRound, measured_at, best_phase, energy, Best, best_phase-is, one_delta}
 use Rattle.reply_laws.proofs.Common.{three_deltas, two_deltas, AreNear, all_near, is_near, fingers_of, sync_stream, IsFingers, tuning_for}
 use Rattle.reply_laws.proofs.Common.{waiting}
-use Rattle.pilot_search.specs.Near.{phase_at}
+use Rattle.pilot_search.specs.Near.{near_phase_at}
 
 -- ---- the place that comes next
 
@@ -63,7 +63,7 @@ module _ (samples : List Sample) (best : ℕ) where
   module _ (second : ℕ) where
     abbrev rank : ℕ → ℤ
     rank place =
-        soon (is_out second place) (energy samples (phase_at best place)) (phase_at best place)
+        soon (is_out second place) (energy samples (near_phase_at best place)) (near_phase_at best place)
 
     next_found : (place : ℕ) × IsNext round 32 second 65 place
     next_found =
@@ -72,7 +72,7 @@ module _ (samples : List Sample) (best : ℕ) where
         let (free, lies) = free_place second in
         let most = is.greatest free lies.0 in
         let inside : is_out second place ≡ false =
-        not_out (is_out second place) _ (energy samples (phase_at best place)) (phase_at best place)
+        not_out (is_out second place) _ (energy samples (near_phase_at best place)) (near_phase_at best place)
         (rw lies.1 at most) in
         let parts = free_parts second place inside in (
           place,
@@ -85,8 +85,8 @@ module _ (samples : List Sample) (best : ℕ) where
                 let here = get_or-map-places (measured_at samples best) 65 place d is.below in
                 let out = out_free second other ne ne' in
                 rw (there, here)
-                (sooner (energy samples (phase_at best place)) (phase_at best place)
-                (energy samples (phase_at best other)) (phase_at best other) (omega arith)
+                (sooner (energy samples (near_phase_at best place)) (near_phase_at best place)
+                (energy samples (near_phase_at best other)) (near_phase_at best other) (omega arith)
                 (omega arith) (rw (out, inside) at (is.greatest other below)));
           },
         )

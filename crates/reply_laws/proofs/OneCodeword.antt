@@ -3,7 +3,8 @@ use Rattle.reply_laws.proofs.Common.{◌≡◌, ℕ, ◌&&◌, sym, ap, ◌∙�
 use Rattle.reply_laws.proofs.Common.{flat_map_ext_filter, Decoded, decoded_by_one_codeword, channel_stream, reference_alone}
 use Rattle.reply_laws.proofs.Common.{traffic_channel, paging_bound, frames_within, soft_frame, soft_frames, is_in_file, known_at, known_by}
 use Rattle.reply_laws.proofs.Common.{power_bits_at, decoded_at, replaced_in, Tuning, Mark, Traffic, SoftFrame, decoded_alone, power_alone}
-use Rattle.reply_laws.proofs.Common.{listed_texts, decoded_line, listed_text, text_behind, text_from, tuned_text, Listed, followed_line}
+use Rattle.reply_laws.proofs.Common.{listed_texts, decoded_line, listed_text, text_behind, text_from, tuned_text, Listed}
+use Rattle.reply_laws.proofs.Common.{followed_frame_line}
 use Rattle.reply_laws.proofs.Common.{OneCodewordFollows, OneCodewordFollowsFrame}
 use Rattle.reply_laws.proofs.SentLines.{line_of_event, listed_of}
 
@@ -22,7 +23,7 @@ one_frame t traffic m samples slot k =
 -- of those that end within these samples
 each_frame : (t : Tuning) (traffic : Traffic) (m : Mark) (samples : List Sample) →
     text_from (Listed 1) t (traffic_channel traffic) m samples ≡
-    flat_map (followed_line t traffic m samples)
+    flat_map (followed_frame_line t traffic m samples)
     (soft_frames t (traffic_channel traffic) m samples)
 unfolding frames_within
 each_frame t traffic m samples =
@@ -34,9 +35,9 @@ each_frame t traffic m samples =
     ∙ flat_map-map (listed_of 1) soft within
     ∙ flat_map_ext_filter
     (λ k. is_in_file t.count stream k && nat_le (known_at t.count stream k) n)
-    (λ k. listed_of 1 (soft k)) (λ k. followed_line t traffic m samples (soft k))
+    (λ k. listed_of 1 (soft k)) (λ k. followed_frame_line t traffic m samples (soft k))
     (places (paging_bound n)) (λ k kept. one_frame t traffic m samples [] k)
-    ∙ sym (flat_map-map (followed_line t traffic m samples) soft within)
+    ∙ sym (flat_map-map (followed_frame_line t traffic m samples) soft within)
 
 pub one_codeword_follows : OneCodewordFollows
 unfolding tuned_text

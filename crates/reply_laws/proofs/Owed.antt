@@ -1,7 +1,7 @@
 -- Each input is owed a reply, the number of workers changes none, and what each command owes.
 use Rattle.reply_laws.proofs.Common.{◌≡◌, ℕ, zero, suc, ◌*◌, ◌+◌, ◌≤◌, ◌++◌, inl, inr, List, [], ◌∷◌, length, take, drop, refl, sym, ap}
 use Rattle.reply_laws.proofs.Common.{◌∙◌, arith, All, append-nil, length-drop, length-take-le, take-append-drop, Result, Ok, Err, cases_lt}
-use Rattle.reply_laws.proofs.Common.{All-cons, flat_map, read_sfits, Sample, Width, Eight, Sixteen, HasBits, IsSampleFile, bits_of}
+use Rattle.reply_laws.proofs.Common.{All-cons, flat_map, read_sfits, Sample, Width, Eight, Sixteen, HasBits, IsSampleFile, integer_width_of}
 use Rattle.reply_laws.proofs.Common.{header_spelling, opening, sample_len, sample_spelling, width_of, FileFault, Extra, Short, TooFew}
 use Rattle.reply_laws.proofs.Common.{Header, AreBytes, AreBytes-drop, AreBytes-from_all, AreBytes-take, opening-ok, sample_bytes, sample_in}
 use Rattle.reply_laws.proofs.Common.{plan_named, CellPlan, ScriptFault, KeptTap, Channel, TunedText, IsFaultIn, file_end, ByFrames}
@@ -36,8 +36,8 @@ one_more Eight n = omega arith
 
 has_bits : (width : Width) (bytes : List ℕ) → HasBits width (sample_in width bytes)
 has_bits width bytes = record {
-  in_phase = read_sfits (bits_of width) _;
-  quadrature = read_sfits (bits_of width) _;
+  in_phase = read_sfits (integer_width_of width) _;
+  quadrature = read_sfits (integer_width_of width) _;
 }
 
 spells : (width : Width) (n : ℕ) (bytes : List ℕ) → AreBytes bytes →

@@ -1,7 +1,7 @@
 -- The lines of a traffic channel's frames come back.
 use Rattle.reply_laws.proofs.Common.{◌≡◌, ◌≤◌, ℕ, ◌*◌, ◌%◌, refl, sym, ap, ◌∙◌, subst, arith, List, [], ◌∷◌, length, take, Bool, Option, ℤ}
 use Rattle.reply_laws.proofs.Common.{None, Some, Contains, flat_map, flat_map-map, CheckForm, Sample, Width, traffic_mask, decoded2}
-use Rattle.reply_laws.proofs.Common.{frames_of, cycled_frame, frame_state, set_one, HandsetOptions, Header, IsTrafficFrame, CellPlan}
+use Rattle.reply_laws.proofs.Common.{frames_of, cycled_frame, sent_frame_state, set_one, HandsetOptions, Header, IsTrafficFrame, CellPlan}
 use Rattle.reply_laws.proofs.Common.{TrafficPlan, TrafficFrame, TrafficFrame2, event_line, frame2_line, traffic_channel, mark, soft_frames}
 use Rattle.reply_laws.proofs.Common.{frame_event, Tuning, Mark, Traffic, SoftFrame, IsReceivable, frame_ends, received_frames, replaced_of}
 use Rattle.reply_laws.proofs.Common.{sent_bits, sent_power_bits, codeword_symbols, IsAssigned, SendsSetOne, SendsSetTwo, SendsSymbols}
@@ -11,7 +11,7 @@ use Rattle.reply_laws.proofs.Common.{text_behind, tuned_text, TunedText, Listed,
 use Rattle.reply_laws.proofs.Common.{IsLineOfSetTwo, IsSentLine, IsSentLine2, IsSentText, LinesComeBack, ListedLinesComeBack}
 use Rattle.reply_laws.proofs.Common.{SetTwoLinesComeBack, named_receivable, Bears, Decoded2, HoldsBehindMark, IsReceivedBySigns}
 use Rattle.reply_laws.proofs.Common.{IsSentFrame2BySigns, noisy_frames_behind_mark, noisy_set_two_behind_mark, signs_frame_listed}
-use Rattle.reply_laws.proofs.Common.{untold_in, good_frame}
+use Rattle.reply_laws.proofs.Common.{untold_in, good_frame2}
 use Rattle.listed_frame.specs.ListedFrames.{listed}
 use Rattle.owed_replies.proofs.BorneFiles.{IsBorneFile, cell_borne, long, none_on_traffic, path, shows, sync_there}
 
@@ -144,7 +144,7 @@ listed_back : (k : ℕ) → 1 ≤ k → (plan : CellPlan) (p : TrafficPlan) (fra
     IsReceivedBySigns plan p frame (codeword_symbols f) f.power_bits soft →
     IsSentLine plan p frame f (listed_of k soft)
 listed_back k most plan p frame f soft sized received =
-    let few = (power_pairs (frame_state (frames_of plan p) frame) (traffic_mask p.esn)).long in
+    let few = (power_pairs (sent_frame_state (frames_of plan p) frame) (traffic_mask p.esn)).long in
     let shown = received.shown in
     let replaced = replaced_of plan p frame in
     let ends = frame_ends plan p frame in
@@ -188,8 +188,8 @@ rate2_of soft = rate2_text soft.end soft.descrambled soft.power
 
 -- the line of what is decoded has no score
 of_any_score : (place : ℕ) (f : TrafficFrame2) (score other : ℤ) (power_bits : List Bool) →
-    frame2_line place (good_frame f.rate f.information score) power_bits
-    ≡ frame2_line place (good_frame f.rate f.information other) power_bits
+    frame2_line place (good_frame2 f.rate f.information score) power_bits
+    ≡ frame2_line place (good_frame2 f.rate f.information other) power_bits
 unfolding frame2_line
 of_any_score place f score other power_bits = refl
 

@@ -22,7 +22,7 @@ use Rattle.event_tap.specs.declared.tuned_text.TunedText.TheVariants.{Slots}
 use Rattle.command_line.specs.declared.job.Job.{Job}
 use Rattle.command_line.specs.declared.job.Job.TheVariants as jobs
 use Rattle.owed_replies.specs.Hearing.{end_when, tuning_for, waiting}
-use Rattle.owed_replies.specs.Tasks.{traffic_with}
+use Rattle.owed_replies.specs.Tasks.{traffic_channel_with}
 use Rattle.owed_replies.specs.Make.{made_file}
 use Rattle.owed_replies.specs.Ranks.{survey_text}
 use Rattle.owed_replies.specs.Replies.{IsReply, Reply}
@@ -95,13 +95,13 @@ abbrev pub Rate2OwesTheFrames : Type 0
 Rate2OwesTheFrames =
     (span workers fingers offset esn row : ℕ) →
     OwesTheFrames (jobs.Rate2 span workers fingers offset esn row) span fingers
-    (traffic_with esn row offset) RateSetTwo
+    (traffic_channel_with esn row offset) RateSetTwo
 
 abbrev pub ListOwesTheFrames : Type 0
 ListOwesTheFrames =
     (span workers fingers offset esn row k : ℕ) →
     OwesTheFrames (jobs.List span workers fingers offset esn row k) span fingers
-    (traffic_with esn row offset) (Listed k)
+    (traffic_channel_with esn row offset) (Listed k)
 
 abbrev pub IdleOwesTheSlots : Type 0
 IdleOwesTheSlots =

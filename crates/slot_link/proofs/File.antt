@@ -10,7 +10,7 @@ use Rattle.chip_core.proofs.Ranges.{filter_enough, filter_ext_places, filter_non
 use Rattle.chip_core.specs.declared.sample.Sample.{Sample}
 use Rattle.chip_core.specs.declared.width.Width.{Width}
 use Rattle.slot_mode.specs.Slots.{is_monitored}
-use Rattle.cell_plan.specs.Pages.{paging_rate, page_cycle}
+use Rattle.cell_plan.specs.Pages.{sent_paging_rate, page_cycle}
 use Rattle.cell_plan.specs.Sampled.{made_samples}
 use Rattle.cell_plan.specs.declared.plan.CellPlan.{CellPlan}
 use Rattle.cell_plan.specs.declared.plan.PagingPlan.{PagingPlan}
@@ -42,7 +42,7 @@ use Rattle.std.proofs.lemmas.List.Elements.{All-contains}
 use Rattle.chip_core.specs.declared.check_form.CheckForm.{CheckForm}
 use Rattle.quality_bits.specs.declared.rate.Rate.{Rate}
 use Rattle.viterbi.specs.Signs.{HasSign, HaveSigns}
-use Rattle.slot_mode.specs.Frames.{slot_bits, frame_bits}
+use Rattle.slot_mode.specs.Frames.{slot_bits, slot_frame_bits}
 use Rattle.cell_plan.specs.PageCycles.{cycle_frame_bits, cycled, paging_frame_size}
 use Rattle.cell_plan.specs.Stated.{IsStatedPaging}
 use Rattle.cell_plan.specs.Signal.{cycle_of}
@@ -74,7 +74,7 @@ use Rattle.paging_message.specs.HalfFrames.{capsules_in, half_frame_body, half_f
 use Rattle.paging_message.specs.Reading.{paging_reading}
 use Rattle.paging_message.specs.declared.message.PagingMessage.{PagingMessage}
 use Rattle.cell_plan.proofs.LaidPages.{size_large}
-use Rattle.heard_events.specs.PagingEvents.{with_page}
+use Rattle.heard_events.specs.PagingEvents.{as_spelled_page}
 use Rattle.clean_link.specs.HeardPages.{ReadPage}
 use Rattle.clean_link.specs.HeardPages.{capsules_with_frames, cycle_half_frames, frame_capsules, is_between, placed, sending_of, Placed}
 use Rattle.clean_link.proofs.pages.Back.{flat_map-flat_map, pages_placed, told_each, IsPlaced, page_read}
@@ -182,7 +182,7 @@ module _ (rate : Rate) (bits_of : ℕ → List Bool) (first : ℕ) (softs : List
       (signs-drop (384 * a) whole softs have)))
       ∙ ap bits_of place
 
-  frame_of_four : (k : ℕ) → k < 4 → frame_bits rate softs k ≡ bits_of (first + k)
+  frame_of_four : (k : ℕ) → k < 4 → slot_frame_bits rate softs k ≡ bits_of (first + k)
   frame_of_four zero inside = frame_of_span 0 2 2 0 refl (omega arith)
   frame_of_four (suc zero) inside = frame_of_span 0 3 1 1 refl (omega arith)
   frame_of_four (suc (suc zero)) inside = frame_of_span 1 3 0 1 refl (omega arith)
@@ -192,7 +192,7 @@ module _ (rate : Rate) (bits_of : ℕ → List Bool) (first : ℕ) (softs : List
 pub signed_slot_bits_back : SlotBitsComeBackBySigns
 unfolding slot_bits
 signed_slot_bits_back rate bits_of first softs each have =
-    flat_map_ext_places (frame_bits rate softs) (λ k. bits_of (first + k)) 4
+    flat_map_ext_places (slot_frame_bits rate softs) (λ k. bits_of (first + k)) 4
     (λ k inside. frame_of_four rate bits_of first softs each have k inside)
 
 pub slot_bits_back : SlotBitsComeBack
@@ -273,7 +273,7 @@ message_told None = []
 message_told (Some page) = page.message ∷ []
 
 told_is : (c : List Bool) (o : Option PagingMessage) →
-    message_told (with_page c o) ≡ option_to_list o
+    message_told (as_spelled_page c o) ≡ option_to_list o
 told_is c None = refl
 told_is c (Some m) = refl
 
@@ -316,8 +316,8 @@ slot_pages_back rate form pages first whole =
 module _ (width : Width) (plan : CellPlan) (sync : SyncPlan) (p : PagingPlan) (t : Tuning)
     (m : Mark) (superframes : ℕ) (is : HearsSlots width plan sync p t m superframes) where
   -- the handset takes the channel to have the cell's rate
-  same_rate : streams.paging_rate m.prat ≡ paging_rate plan.sync
-  same_rate = ap streams.paging_rate is.rate ∙ sym (ap paging_rate is.sends)
+  same_rate : streams.paging_rate m.prat ≡ sent_paging_rate plan.sync
+  same_rate = ap streams.paging_rate is.rate ∙ sym (ap sent_paging_rate is.sends)
 
   -- the frames of a slot that ends in the file lie in it
   there : (i k : ℕ) → i < slots_to_end plan superframes → k < 4 →
@@ -332,7 +332,7 @@ module _ (width : Width) (plan : CellPlan) (sync : SyncPlan) (p : PagingPlan) (t
       Bears plan p.gain e → (i : ℕ) → i < slots_to_end plan superframes →
       AreSlotPages plan p t m superframes i samples
   slot_back e samples near bears i inside =
-      let rate = paging_rate plan.sync in
+      let rate = sent_paging_rate plan.sync in
       let bits_of = cycle_frame_bits (cycle_of plan p) in
       let first : ℕ = 4 * (superframes + i) in
       let s = streams.paging_stream t p.number m in
@@ -480,7 +480,7 @@ module _ (width : Width) (plan : CellPlan) (sync : SyncPlan) (p : PagingPlan) (t
       sent_slot plan p (superframes + slot)
   lines_back slot inside =
       let s = channel_stream t (Paging p.number) m in
-      let pages = pages_in_slot (paging_rate plan.sync) plan.cell.check30 p.pages
+      let pages = pages_in_slot (sent_paging_rate plan.sync) plan.cell.check30 p.pages
       (4 * (superframes + slot)) in
       let place = is.marked.place in
       let ends : frame_of_slot_end s slot 3 ≡

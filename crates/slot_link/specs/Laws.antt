@@ -14,7 +14,7 @@ use Rattle.viterbi.specs.Signs.{HaveSigns}
 use Rattle.frame_decoder.specs.Spans.{Channel, own_bits, paging_channel}
 use Rattle.slot_mode.specs.Frames.{slot_bits}
 use Rattle.cell_plan.specs.PageCycles.{cycled, paging_frame_size}
-use Rattle.cell_plan.specs.Pages.{page_cycle, paging_rate}
+use Rattle.cell_plan.specs.Pages.{page_cycle, sent_paging_rate}
 use Rattle.cell_plan.specs.Sampled.{made_samples}
 use Rattle.cell_plan.specs.Sendings.{continued_symbols}
 use Rattle.cell_plan.specs.declared.plan.CellPlan.{CellPlan}
@@ -29,7 +29,7 @@ use Rattle.heard_events.specs.declared.mark.Mark.{Mark}
 use Rattle.event_tap.specs.SlotLines.{lines_of_slots, slot_pages, slot_softs, slot_lines}
 use Rattle.clean_link.specs.BoundedNoise.{Bears, IsNear}
 use Rattle.clean_link.specs.CleanLink.{IsOnPath, IsTrueMark, whole_sendings}
-use Rattle.clean_link.specs.CleanLaws.{HearsSync}
+use Rattle.clean_link.specs.CleanLaws.{HearsSentSync}
 use Rattle.cell_plan.specs.Stated.{IsReceivable}
 use Rattle.clean_link.specs.Signals.{IsWholeChannel}
 use Rattle.clean_link.specs.HeardPages.{AreWholePages, end_chip, message_in, cycle_half_frames}
@@ -73,7 +73,7 @@ slots_to_end plan first = end_chip plan / superframe_chips - first
 abbrev pub sent_slot : CellPlan → PagingPlan → ℕ → List ℕ
 sent_slot plan p n =
     slot_lines (superframe_chips * (n + 1) - plan.link.start) (plan.cell.time + n)
-    (pages_in_slot (paging_rate plan.sync) plan.cell.check30 p.pages (4 * n))
+    (pages_in_slot (sent_paging_rate plan.sync) plan.cell.check30 p.pages (4 * n))
 
 -- of the slots from slot `first` on that end in the file, counted from it on, those that the
 -- handset of a key monitors in a cycle
@@ -176,7 +176,7 @@ AreSlotPages plan p t m superframes i samples =
     slot_pages t.check30 (heard.paging_rate m.prat)
     (slot_bits (heard.paging_rate m.prat)
     (slot_softs samples (channel_stream t (channels.Paging p.number) m) i))
-    ≡ pages_in_slot (paging_rate plan.sync) plan.cell.check30 p.pages (4 * (superframes + i))
+    ≡ pages_in_slot (sent_paging_rate plan.sync) plan.cell.check30 p.pages (4 * (superframes + i))
 
 -- So it is of each slot from the mark on that ends in the file, where the samples are near to the
 -- cell's within what the paging channel bears.
@@ -203,7 +203,7 @@ abbrev pub NoisySlotTextsComeBack : Type 0
 NoisySlotTextsComeBack =
     (width : Width) (plan : CellPlan) (sync : SyncPlan) (p : PagingPlan) (t : Tuning)
     (key cycle e : ℕ) (samples : List Sample) →
-    HearsSync width plan sync e samples → IsOnPath plan t → Contains plan.paging p →
+    HearsSentSync width plan sync e samples → IsOnPath plan t → Contains plan.paging p →
     Bears plan p.gain e → lines_of_slots key cycle t p.number samples ≡ slots_sent key cycle plan p
 
 -- So are those of a clean link's file, also where the cell sends no sync channel.

@@ -4,18 +4,18 @@ use Rattle.std.proofs.lemmas.Bool.{cases_lt, eqb-true, eq-eqb}
 use Rattle.std.proofs.lemmas.Nat.{mod_below, pow_pos, pow-add}
 use Rattle.std.proofs.Math.Nat.{div-add-mod, add-mod-mod, add-mul-mod_self_right, mod-eq_of_lt, mod-mod_of_dvd, dvd-mul_right, mul_assoc}
 use Rattle.frame_decoder.proofs.Parts.{within}
-use Rattle.slot_mode.specs.Slots.{slot_of, period, next_monitored}
+use Rattle.slot_mode.specs.Slots.{slot_of, slot_period, next_monitored}
 use Rattle.slot_mode.specs.Laws.{ComesAgain, ComesInTime, ComesOnce, IsAmongShorter}
 
 -- a cycle has slots
-has_slots : (cycle : ℕ) → 0 < period cycle
+has_slots : (cycle : ℕ) → 0 < slot_period cycle
 has_slots cycle = let some = pow_pos cycle in omega (arith, some)
 
 -- whole cycles later
 pub comes_again : ComesAgain
 comes_again time key cycle count =
-    ap (λ (r : ℕ). nat_eq r (slot_of key % period cycle))
-    (add-mul-mod_self_right time count (period cycle))
+    ap (λ (r : ℕ). nat_eq r (slot_of key % slot_period cycle))
+    (add-mul-mod_self_right time count (slot_period cycle))
 
 -- from a time, whose remainder is a, up to the remainder r in the cycle after its own
 to_remainder : (from p r a q : ℕ) → p * q + a ≡ from → a < p →
@@ -39,7 +39,7 @@ comes_before from p d below = omega (arith, below)
 
 pub comes_in_time : ComesInTime
 comes_in_time from key cycle =
-    let p = period cycle in
+    let p = slot_period cycle in
     let r = slot_of key % p in
     let some = has_slots cycle in
     let low = mod_below (slot_of key) p some in
@@ -81,14 +81,14 @@ same_in_row from p x y first last first' last' same =
 
 pub comes_once : ComesOnce
 comes_once from key cycle time first last is =
-    let p = period cycle in
+    let p = slot_period cycle in
     let next = comes_in_time from key cycle in
     same_in_row from p time (next_monitored from key cycle) first last next.0 next.1
     (eqb-true (time % p) (slot_of key % p) is
     ∙ sym (eqb-true (next_monitored from key cycle % p) (slot_of key % p) next.2))
 
 -- a longer cycle is whole shorter ones
-longer : (cycle more : ℕ) → period (cycle + more) ≡ period cycle * 2 ^ more
+longer : (cycle more : ℕ) → slot_period (cycle + more) ≡ slot_period cycle * 2 ^ more
 longer cycle more =
     ap (λ (n : ℕ). 16 * n) (pow-add 2 cycle more) ∙ sym (mul_assoc 16 (2 ^ cycle) (2 ^ more))
 
@@ -102,7 +102,7 @@ shorter p k m x y whole same =
 
 pub among_shorter : IsAmongShorter
 among_shorter time key cycle more is =
-    let p = period (cycle + more) in
-    eq-eqb (time % period cycle) (slot_of key % period cycle)
-    (shorter (period cycle) (2 ^ more) p time (slot_of key) (longer cycle more)
+    let p = slot_period (cycle + more) in
+    eq-eqb (time % slot_period cycle) (slot_of key % slot_period cycle)
+    (shorter (slot_period cycle) (2 ^ more) p time (slot_of key) (longer cycle more)
     (eqb-true (time % p) (slot_of key % p) is))

@@ -7,24 +7,25 @@ use Rattle.frame_decoder.specs.Spans.{paging_channel, own_bits}
 
 -- A frame's span is the frame itself and its neighbours among the four. Its first frame; 0 has none
 -- before it,
-abbrev pub span_first : ℕ → ℕ
-span_first frame = frame - 1
+abbrev pub slot_span_first : ℕ → ℕ
+slot_span_first frame = frame - 1
 
 -- and the frame at which it ends; 3 has none after it
 abbrev pub span_end : ℕ → ℕ
 span_end frame = min (frame + 2) 4
 
 -- the soft values of a frame's span, of those of the slot, 384 a frame
-abbrev pub span_softs : List ℤ → ℕ → List ℤ
-span_softs softs frame =
-    take (384 * (span_end frame - span_first frame)) (drop (384 * span_first frame) softs)
+abbrev pub slot_span_softs : List ℤ → ℕ → List ℤ
+slot_span_softs softs frame =
+    take (384 * (span_end frame - slot_span_first frame)) (drop (384 * slot_span_first frame) softs)
 
 -- the frame's own bits of its span
-abbrev pub frame_bits : Rate → List ℤ → ℕ → List Bool
-frame_bits rate softs frame =
-    own_bits (paging_channel rate) (span_end frame - span_first frame) (frame - span_first frame)
-    (span_softs softs frame)
+abbrev pub slot_frame_bits : Rate → List ℤ → ℕ → List Bool
+slot_frame_bits rate softs frame =
+    own_bits (paging_channel rate) (span_end frame - slot_span_first frame)
+    (frame - slot_span_first frame)
+    (slot_span_softs softs frame)
 
 -- the bits of the slot, frame after frame
 unfoldable pub slot_bits : Rate → List ℤ → List Bool
-slot_bits rate softs = flat_map (frame_bits rate softs) (places 4)
+slot_bits rate softs = flat_map (slot_frame_bits rate softs) (places 4)

@@ -3,32 +3,32 @@ use Rattle.std.specs.Prelude.{◌≡◌, ◌<◌, ◌≤◌, ◌↔◌, ℕ, ◌
 use Rattle.std.specs.Prelude.{drop, ℤ, IsTrue}
 use Rattle.quality_bits.specs.declared.rate.Rate.{Rate}
 use Rattle.frame_decoder.specs.Spans.{paging_channel, own_bits}
-use Rattle.slot_mode.specs.Slots.{period, is_monitored, next_monitored}
-use Rattle.slot_mode.specs.Frames.{span_first, span_end, frame_bits}
+use Rattle.slot_mode.specs.Slots.{slot_period, is_monitored, next_monitored}
+use Rattle.slot_mode.specs.Frames.{slot_span_first, span_end, slot_frame_bits}
 
 -- with a time that is monitored, each that is a whole number of cycles after it is
 abbrev pub ComesAgain : Type 0
 ComesAgain =
     (time key cycle count : ℕ) →
-    is_monitored (time + count * period cycle) key cycle ≡ is_monitored time key cycle
+    is_monitored (time + count * slot_period cycle) key cycle ≡ is_monitored time key cycle
 
 -- of as many times in a row as the cycle has slots, the next monitored one is one
 abbrev pub ComesInTime : Type 0
 ComesInTime =
     (from key cycle : ℕ) → let next = next_monitored from key cycle in
-    (from ≤ next) × (next < from + period cycle) × IsTrue (is_monitored next key cycle)
+    (from ≤ next) × (next < from + slot_period cycle) × IsTrue (is_monitored next key cycle)
 
 -- and the only one
 abbrev pub ComesOnce : Type 0
 ComesOnce =
-    (from key cycle time : ℕ) → from ≤ time → time < from + period cycle →
+    (from key cycle time : ℕ) → from ≤ time → time < from + slot_period cycle →
     IsTrue (is_monitored time key cycle) → time ≡ next_monitored from key cycle
 
 -- all monitored times of a key and a cycle have one remainder
 abbrev pub HasOneRemainder : Type 0
 HasOneRemainder =
     (one other key cycle : ℕ) → IsTrue (is_monitored one key cycle) →
-    IsTrue (is_monitored other key cycle) → one % period cycle ≡ other % period cycle
+    IsTrue (is_monitored other key cycle) → one % slot_period cycle ≡ other % slot_period cycle
 
 -- a time that is monitored in a cycle is monitored in each shorter one
 abbrev pub IsAmongShorter : Type 0
@@ -40,7 +40,7 @@ IsAmongShorter =
 abbrev pub IsOfNeighbours : Type 0
 IsOfNeighbours =
     (frame other : ℕ) → frame < 4 →
-    ((span_first frame ≤ other) × (other < span_end frame))
+    ((slot_span_first frame ≤ other) × (other < span_end frame))
     ↔ ((other < 4) × (other ≤ frame + 1) × (frame ≤ other + 1))
 
 -- The two frames in the middle of a slot have the bits that a handset which never sleeps gives
@@ -50,5 +50,5 @@ abbrev pub IsHeardAsEver : Type 0
 IsHeardAsEver =
     (rate : Rate) (before softs behind : List ℤ) (frame : ℕ) → length softs ≡ 1536 →
     1 ≤ frame → frame ≤ 2 →
-    frame_bits rate softs frame ≡ own_bits (paging_channel rate) 3 1
+    slot_frame_bits rate softs frame ≡ own_bits (paging_channel rate) 3 1
     (take 1152 (drop (length before + 384 * (frame - 1)) (before ++ softs ++ behind)))

@@ -11,18 +11,19 @@ slot_of key =
     40503 * bit_xor (bit_xor low high) (6 * (key % 4096)) % 65536 / 32
 
 -- how many slots a cycle has: 16 for index 0, and twice as many for each index more
-abbrev pub period : ℕ → ℕ
-period cycle = 16 * 2 ^ cycle
+abbrev pub slot_period : ℕ → ℕ
+slot_period cycle = 16 * 2 ^ cycle
 
 -- whether the slot of a time is one that the handset of a key monitors: modulo the cycle's length
 -- the time is the key's slot
 abbrev pub is_monitored : ℕ → ℕ → ℕ → Bool
-is_monitored time key cycle = time % period cycle == slot_of key % period cycle
+is_monitored time key cycle = time % slot_period cycle == slot_of key % slot_period cycle
 
 -- the first monitored time of all from one on
 abbrev pub next_monitored : ℕ → ℕ → ℕ → ℕ
 next_monitored from key cycle =
-    from + (slot_of key % period cycle + period cycle - from % period cycle) % period cycle
+    from + (slot_of key % slot_period cycle + slot_period cycle - from % slot_period cycle)
+    % slot_period cycle
 
 -- the handset of a key, awake at a time in a cycle
 pub record Waking : Type 0 where

@@ -1,7 +1,7 @@
 -- Worked values, which the checker computes.
 use Rattle.std.specs.Prelude.{◌≡◌, refl, true, false, [], ◌∷◌, map}
-use Rattle.slot_mode.specs.Slots.{slot_of, period, is_monitored, next_monitored}
-use Rattle.slot_mode.specs.Frames.{span_first, span_end}
+use Rattle.slot_mode.specs.Slots.{slot_of, slot_period, is_monitored, next_monitored}
+use Rattle.slot_mode.specs.Frames.{slot_span_first, span_end}
 
 slots : map slot_of (0 ∷ 1 ∷ 0x12345678 ∷ 0xffffffff ∷ []) ≡ 0 ∷ 668 ∷ 956 ∷ 1877 ∷ []
 slots = refl
@@ -10,7 +10,7 @@ slots = refl
 halves : map slot_of (0x00010000 ∷ 0x56781234 ∷ []) ≡ 1265 ∷ 767 ∷ []
 halves = refl
 
-periods : map period (0 ∷ 1 ∷ 7 ∷ []) ≡ 16 ∷ 32 ∷ 2048 ∷ []
+periods : map slot_period (0 ∷ 1 ∷ 7 ∷ []) ≡ 16 ∷ 32 ∷ 2048 ∷ []
 periods = refl
 
 not_monitored : is_monitored 1007 0 0 ≡ false
@@ -33,7 +33,7 @@ itself = refl
 after_that : next_monitored 1005 1 0 ≡ 1020
 after_that = refl
 
-firsts : map span_first (0 ∷ 1 ∷ 2 ∷ 3 ∷ []) ≡ 0 ∷ 0 ∷ 1 ∷ 2 ∷ []
+firsts : map slot_span_first (0 ∷ 1 ∷ 2 ∷ 3 ∷ []) ≡ 0 ∷ 0 ∷ 1 ∷ 2 ∷ []
 firsts = refl
 
 ends : map span_end (0 ∷ 1 ∷ 2 ∷ 3 ∷ []) ≡ 2 ∷ 3 ∷ 4 ∷ 4 ∷ []

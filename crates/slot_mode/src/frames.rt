@@ -4,7 +4,8 @@ ghost use Rattle.std.specs.Prelude.{◌≡◌, ◌<◌, ◌≤◌, ◌+◌, ◌*
 ghost use Rattle.std.specs.Prelude.{unsigned_abs};
 ghost use Rattle.paging_message.specs.HalfFrames.{half_frame_body};
 ghost use Rattle.frame_decoder.specs.Spans.{paging_channel};
-ghost use Rattle.slot_mode.specs.Frames.{span_first, span_end, span_softs, frame_bits, slot_bits};
+ghost use Rattle.slot_mode.specs.Frames.{slot_span_first, span_end, slot_span_softs};
+ghost use Rattle.slot_mode.specs.Frames.{slot_frame_bits, slot_bits};
 
 use crate::wake::Wake;
 use chip_core::Bits;
@@ -16,7 +17,7 @@ use viterbi::Decoder;
 
 /// The first frame of the span of a slot's frame: the one before it, where there is one.
 fn span_first(frame: u8) -> u8
-    ensures { result ≡ span_first frame }
+    ensures { result ≡ slot_span_first frame }
 {
     if frame == 0 { 0 } else { frame - 1 }
 }
@@ -38,8 +39,8 @@ fn span_end(frame: u8) -> u8
 fn frame_bits(decoder: &mut Decoder, rate: Rate, softs: &[i64; 1536], frame: u8) -> Bits
     requires frame { frame < 4 }
     requires room { (paging_channel rate).bits * 3 ≤ decoder.old }
-    requires bound { sum_by unsigned_abs (span_softs softs.now frame) ≤ 2 ^ 62 }
-    ensures value { result ≡ frame_bits rate softs.now frame }
+    requires bound { sum_by unsigned_abs (slot_span_softs softs.now frame) ≤ 2 ^ 62 }
+    ensures value { result ≡ slot_frame_bits rate softs.now frame }
     ensures count { length result ≡ (paging_channel rate).bits }
     ensures kept { decoder.new ≡ decoder.old }
 {
@@ -73,7 +74,7 @@ fn append_all(out: &mut HalfBits, bits: &Bits)
 pub fn slot_bits(_wake: &Wake, decoder: &mut Decoder, rate: Rate, softs: &[i64; 1536]) -> HalfBits
     requires room { (paging_channel rate).bits * 3 ≤ decoder.old }
     requires bound { (frame : ℕ) → frame < 4 →
-        sum_by unsigned_abs (span_softs softs.now frame) ≤ 2 ^ 62 }
+        sum_by unsigned_abs (slot_span_softs softs.now frame) ≤ 2 ^ 62 }
     ensures value { result ≡ slot_bits rate softs.now }
     ensures halves { length result ≡ 8 * (half_frame_body rate + 1) }
     ensures kept { decoder.new ≡ decoder.old }

@@ -1,7 +1,7 @@
 //! The times at which a handset wakes.
 
 ghost use Rattle.std.specs.Prelude.{◌≡◌, ◌≤◌, IsTrue, SomeIff};
-ghost use Rattle.slot_mode.specs.Slots.{period, is_monitored};
+ghost use Rattle.slot_mode.specs.Slots.{slot_period, is_monitored};
 
 use crate::hash::slot_of;
 use std::marker::Model;
@@ -12,7 +12,7 @@ const SHORTEST_CYCLE: u64 = 16;
 /// How many slots a cycle of this index has.
 fn period(cycle: u8) -> u64
     requires { cycle ≤ 7 }
-    ensures { result ≡ period cycle }
+    ensures { result ≡ slot_period cycle }
 {
     SHORTEST_CYCLE << cycle
 }

@@ -38,10 +38,10 @@ pub use Rattle.quality_bits.proofs.Steps.{length-check_bits}
 pub use Rattle.quality_bits.specs.Kinds.{generator_of, sent_check}
 pub use mir.Syntax.{w64}
 pub use mir.Val.{SFits, of_z, to_z}
-pub use Rattle.symbol_path.specs.FramesTwo.{quality_indicator, codeword_bits}
-pub use Rattle.symbol_path.specs.RatesTwo.{frame_bits, information_of, quality_length, quality_of, symbols_of}
+pub use Rattle.symbol_path.specs.FramesTwo.{quality_indicator2, codeword_bits}
+pub use Rattle.symbol_path.specs.RatesTwo.{frame_bits2, information_of2, quality_length2, quality_of2, symbols_of}
 pub use Rattle.symbol_path.specs.Scrambling.{group_scrambling, power_place, power_start, symbol_or_power_bit}
-unfoldable pub use Rattle.symbol_path.specs.Scrambling.{power_places, symbol_chips, with_power_bits}
+unfoldable pub use Rattle.symbol_path.specs.Scrambling.{power_places, scrambling_chips, with_power_bits}
 pub use Rattle.symbol_path.specs.SentOrder.{Shape, address, code_symbol, data_shape, gathered, place, reversed, sent, shape_of, size}
 pub use Rattle.symbol_path.specs.SentOrder.{sync_shape}
 unfoldable pub use Rattle.symbol_path.specs.SentOrder.{gathered_by, sent_by}

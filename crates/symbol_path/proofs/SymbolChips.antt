@@ -1,7 +1,7 @@
 -- The long code's chips at the first chips of symbols, and the places of the power control bits.
 use Rattle.symbol_path.proofs.Common.{◌≡◌, ℕ, zero, suc, ◌+◌, ◌-◌, ◌*◌, ◌%◌, ◌^◌, ◌<◌, ◌≤◌, Bool, false, List, length, get_or, refl, sym}
 use Rattle.symbol_path.proofs.Common.{ap, ◌∙◌, arith, zero-add, binary, common_parity, map-places-all, after, before, long_chip, period}
-use Rattle.symbol_path.proofs.Common.{after-after, after_none, after-before, before_lt, before_is_later, binary-low, symbol_chips}
+use Rattle.symbol_path.proofs.Common.{after-after, after_none, after-before, before_lt, before_is_later, binary-low, scrambling_chips}
 use Rattle.symbol_path.proofs.Common.{group_scrambling, power_start, power_place}
 
 -- a chip of a state that is the same from then on
@@ -19,8 +19,8 @@ later_by_symbol s t k n e =
 
 pub symbol_chips_all : (state mask n : ℕ) (out : List Bool) → length out ≡ n →
     ((k : ℕ) → k < n → get_or out k false ≡ long_chip state mask (64 * k)) →
-    out ≡ symbol_chips state mask n
-unfolding symbol_chips
+    out ≡ scrambling_chips state mask n
+unfolding scrambling_chips
 symbol_chips_all state mask n out long each =
     map-places-all (λ i. long_chip state mask (64 * i)) out n false long each
 

@@ -7,34 +7,34 @@ use Rattle.symbol_path.specs.declared.rate_two.Rate2.{Rate2}
 use Rattle.symbol_path.specs.declared.rate_two.Rate2.TheVariants.{R14400, R7200, R3600, R1800}
 
 -- how often each code symbol of a rate is repeated
-abbrev pub repeats_of : Rate2 → ℕ
-repeats_of R14400 = 1
-repeats_of R7200 = 2
-repeats_of R3600 = 4
-repeats_of R1800 = 8
+abbrev pub repeats_of2 : Rate2 → ℕ
+repeats_of2 R14400 = 1
+repeats_of2 R7200 = 2
+repeats_of2 R3600 = 4
+repeats_of2 R1800 = 8
 
 -- how many information bits a frame has, the reserved bit first
-abbrev pub information_of : Rate2 → ℕ
-information_of R14400 = 268
-information_of R7200 = 126
-information_of R3600 = 56
-information_of R1800 = 22
+abbrev pub information_of2 : Rate2 → ℕ
+information_of2 R14400 = 268
+information_of2 R7200 = 126
+information_of2 R3600 = 56
+information_of2 R1800 = 22
 
 -- the kind of its quality indicator
-abbrev pub quality_of : Rate2 → Kind
-quality_of R14400 = Q12
-quality_of R7200 = Q10
-quality_of R3600 = Q8
-quality_of R1800 = Q6
+abbrev pub quality_of2 : Rate2 → Kind
+quality_of2 R14400 = Q12
+quality_of2 R7200 = Q10
+quality_of2 R3600 = Q8
+quality_of2 R1800 = Q6
 
 -- how many bits that has
-abbrev pub quality_length : Rate2 → ℕ
-quality_length rate = (generator_of (quality_of rate)).degree
+abbrev pub quality_length2 : Rate2 → ℕ
+quality_length2 rate = (generator_of (quality_of2 rate)).degree
 
 -- how many bits a frame has, its quality indicator and its eight tail bits included
-abbrev pub frame_bits : Rate2 → ℕ
-frame_bits rate = information_of rate + quality_length rate + 8
+abbrev pub frame_bits2 : Rate2 → ℕ
+frame_bits2 rate = information_of2 rate + quality_length2 rate + 8
 
 -- how many code symbols a frame has: repeated, they are 576
 abbrev pub symbols_of : Rate2 → ℕ
-symbols_of rate = 576 / repeats_of rate
+symbols_of rate = 576 / repeats_of2 rate

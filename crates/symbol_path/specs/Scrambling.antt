@@ -6,16 +6,16 @@ use Rattle.chip_core.specs.Bits.{places, digit}
 use Rattle.long_code.specs.LongCode.{after, before, long_chip}
 
 -- the long-code chips at the first chips of so many symbols of 64 chips
-unfoldable pub symbol_chips : ℕ → ℕ → ℕ → List Bool
-symbol_chips state mask count = map (λ i. long_chip state mask (64 * i)) (places count)
+unfoldable pub scrambling_chips : ℕ → ℕ → ℕ → List Bool
+scrambling_chips state mask count = map (λ i. long_chip state mask (64 * i)) (places count)
 
 -- of a frame of 384 symbols
 abbrev pub scrambling : ℕ → ℕ → List Bool
-scrambling state mask = symbol_chips state mask 384
+scrambling state mask = scrambling_chips state mask 384
 
 -- of a power control group of 24 symbols
 abbrev pub group_scrambling : ℕ → ℕ → List Bool
-group_scrambling state mask = symbol_chips state mask 24
+group_scrambling state mask = scrambling_chips state mask 24
 
 -- where a group's power control bit begins, from the scrambling bits of the group before
 abbrev pub power_start : List Bool → ℕ

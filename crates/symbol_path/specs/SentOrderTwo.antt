@@ -3,7 +3,7 @@ use Rattle.std.specs.Prelude.{◌≡◌, ℕ, ◌+◌, ◌*◌, ◌/◌, ◌%◌
 use Rattle.std.specs.Prelude.{◌∷◌, get_or}
 use Rattle.symbol_path.specs.SentOrder.{data_shape, address, sent_by}
 use Rattle.symbol_path.specs.declared.rate_two.Rate2.{Rate2}
-use Rattle.symbol_path.specs.RatesTwo.{repeats_of}
+use Rattle.symbol_path.specs.RatesTwo.{repeats_of2}
 
 -- which of the repeated symbols is kept as symbol a: the first, second, fourth and sixth of each
 -- six
@@ -16,7 +16,7 @@ repeated_symbol i = kept_symbol (address data_shape i)
 
 -- which code symbol is
 abbrev pub place2 : Rate2 → ℕ → ℕ
-place2 rate i = repeated_symbol i / repeats_of rate
+place2 rate i = repeated_symbol i / repeats_of2 rate
 
 -- the code symbols in the order in which they are sent
 abbrev pub sent2 : Rate2 → List Bool → List Bool

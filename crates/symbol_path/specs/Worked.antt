@@ -3,7 +3,7 @@ use Rattle.std.specs.Prelude.{◌≡◌, ◌^◌, refl, true, [], ◌∷◌, ◌
 use Rattle.chip_core.specs.Bits.{binary, number, places}
 use Rattle.long_code.specs.LongCode.{after, before, long_chip}
 use Rattle.quality_bits.specs.Quality.{check_bits}
-use Rattle.symbol_path.specs.Scrambling.{power_place, symbol_chips}
+use Rattle.symbol_path.specs.Scrambling.{power_place, scrambling_chips}
 use Rattle.symbol_path.specs.SentOrder.{address, sync_shape, data_shape}
 use Rattle.quality_bits.specs.TrafficCodewords.{traffic_codeword}
 use Rattle.quality_bits.specs.declared.rate.Rate.TheVariants.{R9600, R4800, R2400, R1200}
@@ -37,5 +37,5 @@ codeword_1200 = refl
 
 -- the first symbols that the first two power control bits of a frame replace
 replaced : map (power_place (2 ^ 41) 0x31891126c01) (0 ∷ 1 ∷ []) ≡ 10 ∷ 33 ∷ []
-unfolding after before binary long_chip places symbol_chips
+unfolding after before binary long_chip places scrambling_chips
 replaced = refl

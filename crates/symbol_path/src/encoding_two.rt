@@ -1,7 +1,7 @@
 //! From the information bits of a frame of rate set 2 to its symbols.
 
 ghost use Rattle.std.specs.Prelude.{◌≡◌, length};
-ghost use Rattle.symbol_path.specs.RatesTwo.{information_of, frame_bits};
+ghost use Rattle.symbol_path.specs.RatesTwo.{information_of2, frame_bits2};
 ghost use Rattle.symbol_path.specs.FramesTwo.{codeword_bits, sent_frame2};
 
 use crate::order_two::place2_into;
@@ -14,9 +14,9 @@ use quality_bits::append_check;
 /// The bits of a frame with this information: the quality indicator stands after the information,
 /// and the tail after both.
 fn codeword(rate: Rate2, info: &Bits) -> Bits
-    requires { length info.now ≡ information_of rate }
+    requires { length info.now ≡ information_of2 rate }
     ensures value { result ≡ codeword_bits rate info.now }
-    ensures count { length result ≡ frame_bits rate }
+    ensures count { length result ≡ frame_bits2 rate }
 {
     let mut bits = *info;
     append_check(rate.quality(), CheckForm::Plain, &mut bits);
@@ -31,7 +31,7 @@ fn codeword(rate: Rate2, info: &Bits) -> Bits
 /// stand the quality indicator and eight tail bits. The encoder starts each frame in state zero
 /// (TIA/EIA-95-B, 7.1.3.1.3).
 pub fn encode2_into(rate: Rate2, info: &Bits, out: &mut Bits)
-    requires { length info.now ≡ information_of rate }
+    requires { length info.now ≡ information_of2 rate }
     ensures value { out.new ≡ sent_frame2 rate info.now }
     ensures count { length out.new ≡ 384 }
 {

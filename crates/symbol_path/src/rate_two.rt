@@ -22,12 +22,12 @@ pub enum Rate2 {
 }
 
 impl Rate2 {
-    ghost use Rattle.symbol_path.specs.RatesTwo.{repeats_of, information_of, quality_of};
+    ghost use Rattle.symbol_path.specs.RatesTwo.{repeats_of2, information_of2, quality_of2};
     ghost use Rattle.symbol_path.specs.RatesTwo.{symbols_of};
 
     /// How often each code symbol is repeated: 1, 2, 4 or 8 times.
     pub fn repeats(&self) -> u8
-        ensures value { result ≡ repeats_of self.now }
+        ensures value { result ≡ repeats_of2 self.now }
         ensures some { 1 ≤ result }
         ensures most { result ≤ 8 }
     {
@@ -41,14 +41,14 @@ impl Rate2 {
 
     /// How many bits a second are sent, frame quality indicators and encoder tails included.
     pub fn bits_per_second(&self) -> u16
-        ensures { result * repeats_of self.now ≡ 14400 }
+        ensures { result * repeats_of2 self.now ≡ 14400 }
     {
         14400 / u16::from(self.repeats())
     }
 
     /// How many information bits a frame has, the reserved bit first: 268, 126, 56 or 22.
     pub fn information_bits(&self) -> u16
-        ensures { result ≡ information_of self.now }
+        ensures { result ≡ information_of2 self.now }
     {
         match self {
             Rate2::R14400 => 268,
@@ -60,7 +60,7 @@ impl Rate2 {
 
     /// The quality indicator of the frames, of 12, 10, 8 or 6 bits.
     pub fn quality(&self) -> Kind
-        ensures { result ≡ quality_of self.now }
+        ensures { result ≡ quality_of2 self.now }
     {
         match self {
             Rate2::R14400 => Kind::Q12,

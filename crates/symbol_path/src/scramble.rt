@@ -3,7 +3,7 @@
 ghost use Rattle.std.specs.Prelude.{◌≡◌, ◌+◌, ◌*◌, ◌<◌, ◌≤◌, ◌^◌, ℕ, length, slice_index, All};
 ghost use Rattle.std.specs.List.Sorted.{IsStrictlyIncreasing};
 ghost use Rattle.long_code.specs.LongCode.{IsState, after};
-ghost use Rattle.symbol_path.specs.Scrambling.{symbol_chips, scrambling, group_scrambling};
+ghost use Rattle.symbol_path.specs.Scrambling.{scrambling_chips, scrambling, group_scrambling};
 ghost use Rattle.symbol_path.specs.Scrambling.{power_start, power_places};
 
 use chip_core::air::{DATA_SYMBOLS, POWER_GROUP_CHIPS};
@@ -24,7 +24,7 @@ const PERIOD: u64 = 4_398_046_511_103;
 /// after them.
 fn symbol_chips(state: &mut State, mask: u64, out: &mut [bool])
     requires { mask < 2 ^ 42 }
-    ensures chips { out.new ≡ symbol_chips state.old mask (length out.old) }
+    ensures chips { out.new ≡ scrambling_chips state.old mask (length out.old) }
     ensures later { (n : ℕ) → after state.new n ≡ after state.old (64 * length out.old + n) }
     ensures state { 0 < length out.old → IsState state.new }
 {

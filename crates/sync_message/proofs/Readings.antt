@@ -7,8 +7,8 @@ use Rattle.quality_bits.specs.Capsules.{if_spelled}
 use Rattle.quality_bits.specs.declared.kind.Kind.TheVariants.{M30}
 use Rattle.quality_bits.proofs.Decoded.{if_spelled-again, if_spelled-there, AreRead}
 use Rattle.quality_bits.proofs.Wholes.{length-capsule}
-use Rattle.sync_message.specs.Layouts.{body_reading}
-use Rattle.sync_message.specs.Reading.{is_whole, sync_reading}
+use Rattle.sync_message.specs.Layouts.{sync_body_reading}
+use Rattle.sync_message.specs.Reading.{is_whole_capsule, sync_reading}
 use Rattle.sync_message.specs.SyncMessage.{sync_body, sync_capsule, IsSyncMessage}
 use Rattle.sync_message.specs.declared.fields.SyncFields.{SyncFields}
 use Rattle.sync_message.proofs.Bodies.{fills_from, length-body}
@@ -22,14 +22,14 @@ reads_capsule form m is =
     let long = length-capsule M30 form (sync_body m) in
     let whole = eq-eqb (length c % 8) 0 (omega (arith, long, is.fills.whole)) in
     let most = le-leb (length c) 1184 (omega (arith, long, is.fills.whole, is.fills.most)) in
-    rw (whole, most) (if_spelled-again M30 form sync_body body_reading 38 m refl (body_again m is))
+    rw (whole, most) (if_spelled-again M30 form sync_body sync_body_reading 38 m refl (body_again m is))
 
 pub reading_is_message : (form : CheckForm) (bits : List Bool) (m : SyncFields) →
     sync_reading form bits ≡ Some m → IsSyncMessage m × (bits ≡ sync_capsule form m)
 unfolding sync_reading sync_capsule
 reading_is_message form bits m e =
-    let read = body_reading (take (length bits - 38) (drop 8 bits)) in
-    let whole = guard_some (is_whole bits) (if_spelled (sync_capsule form) bits read) m e in
+    let read = sync_body_reading (take (length bits - 38) (drop 8 bits)) in
+    let whole = guard_some (is_whole_capsule bits) (if_spelled (sync_capsule form) bits read) m e in
     let tests = and_parts (length bits % 8 == 0) (nat_le (length bits) 1184) whole.0 in
     let octets = eqb-true (length bits % 8) 0 tests.0 in
     let most = leb-true (length bits) 1184 tests.1 in
@@ -42,7 +42,7 @@ reading_is_message form bits m e =
 
 -- WHAT THE CODE GIVES
 pub are_read : (form : CheckForm) →
-    AreRead M30 form IsSyncMessage sync_body body_reading (sync_reading form)
+    AreRead M30 form IsSyncMessage sync_body sync_body_reading (sync_reading form)
 unfolding sync_capsule
 are_read form =
     record {

@@ -1,6 +1,6 @@
 -- The frames of the sync channel: the SOM bit, 1 where a message starts, and 31 bits of body.
 use Rattle.std.specs.Prelude.{ℕ, ◌+◌, ◌/◌, Bool, List, length}
-pub use Rattle.quality_bits.specs.Pieces.{StandsFor}
+pub use Rattle.quality_bits.specs.Pieces.{CapsuleStandsFor}
 
 -- how many superframes a capsule takes: each has three frames, and so 93 bits of body
 abbrev pub superframes_of : List Bool → ℕ

@@ -2,15 +2,15 @@
 use Rattle.std.specs.Prelude.{ℕ, ◌==◌, if◌then◌else◌, Bool, List, [], ◌∷◌, get_or, Option, None}
 use Rattle.std.specs.Prelude.{Some}
 use Rattle.message_layout.specs.Reading.{◌>>=◌, mapped, number_part, reading}
-use Rattle.message_layout.specs.Shapes.{Shape}
+use Rattle.message_layout.specs.Shapes.{MessageShape}
 use Rattle.message_layout.specs.declared.contents.Contents.{Contents}
 use Rattle.message_layout.specs.declared.layout.Presence.TheVariants.{UnlessLeft}
 use Rattle.sync_message.specs.Rows.{freq_row, sync_values, sync_widths}
 use Rattle.sync_message.specs.declared.fields.SyncFields.{SyncFields}
 
 -- the frequency is there unless 3 bits are left
-abbrev pub sync_shape : Shape
-sync_shape = record {
+abbrev pub sync_message_shape : MessageShape
+sync_message_shape = record {
   fixed = sync_widths;
   presence = UnlessLeft 3;
   group = freq_row.width ∷ [];
@@ -60,7 +60,7 @@ abbrev pub sync_from : Contents → SyncFields
 sync_from c = sync_of c.fixed (freq_from c.group) c.rest
 
 -- the message that a body says after its type, 1
-unfoldable pub body_reading : List Bool → Option SyncFields
-body_reading body = do
+unfoldable pub sync_body_reading : List Bool → Option SyncFields
+sync_body_reading body = do
   kind ← number_part 8 body
-  if kind.0 == 1 then mapped sync_from (reading sync_shape kind.1) else None
+  if kind.0 == 1 then mapped sync_from (reading sync_message_shape kind.1) else None

@@ -5,16 +5,16 @@ use Rattle.std.specs.Prelude.{nat_le, Option, None}
 use Rattle.chip_core.specs.declared.check_form.CheckForm.{CheckForm}
 use Rattle.quality_bits.specs.Capsules.{if_spelled}
 pub use Rattle.quality_bits.specs.Faults.{reading_of}
-use Rattle.sync_message.specs.Layouts.{body_reading}
+use Rattle.sync_message.specs.Layouts.{sync_body_reading}
 use Rattle.sync_message.specs.SyncMessage.{sync_capsule}
 use Rattle.sync_message.specs.declared.fields.SyncFields.{SyncFields}
 
 -- whether a list has whole octets, at most 148
-abbrev pub is_whole : List Bool → Bool
-is_whole capsule = length capsule % 8 == 0 && nat_le (length capsule) 1184
+abbrev pub is_whole_capsule : List Bool → Bool
+is_whole_capsule capsule = length capsule % 8 == 0 && nat_le (length capsule) 1184
 
 -- the message whose capsule the list is
 unfoldable pub sync_reading : CheckForm → List Bool → Option SyncFields
 sync_reading form capsule =
-    if is_whole capsule then if_spelled (sync_capsule form) capsule
-    (body_reading (take (length capsule - 38) (drop 8 capsule))) else None
+    if is_whole_capsule capsule then if_spelled (sync_capsule form) capsule
+    (sync_body_reading (take (length capsule - 38) (drop 8 capsule))) else None

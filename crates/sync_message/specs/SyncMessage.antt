@@ -8,7 +8,7 @@ use Rattle.message_layout.specs.Spelling.{IsOf}
 unfoldable pub use Rattle.message_layout.specs.Spelling.{spelling}
 use Rattle.quality_bits.specs.Capsules.{FillsCapsule, capsule}
 use Rattle.quality_bits.specs.declared.kind.Kind.TheVariants.{M30}
-use Rattle.sync_message.specs.Layouts.{sync_contents, sync_shape}
+use Rattle.sync_message.specs.Layouts.{sync_contents, sync_message_shape}
 use Rattle.sync_message.specs.Rows.{in_widths, sync_values, sync_widths}
 use Rattle.sync_message.specs.declared.fields.SyncFields.{SyncFields}
 
@@ -18,11 +18,11 @@ fixed_fields m = field 8 1 ∷ in_widths sync_widths (sync_values m)
 
 -- the type, and what the message says by its layout
 unfoldable pub sync_body : SyncFields → List Bool
-sync_body m = binary 8 1 ++ spelling sync_shape (sync_contents m)
+sync_body m = binary 8 1 ++ spelling sync_message_shape (sync_contents m)
 
 -- the fields have a spelling
 pub record IsSyncMessage (m : SyncFields) : Type 0 where
-  pub said : IsOf sync_shape (sync_contents m)
+  pub said : IsOf sync_message_shape (sync_contents m)
   pub fills : FillsCapsule M30 (sync_body m)
 
 unfoldable pub sync_capsule : CheckForm → SyncFields → List Bool

@@ -7,7 +7,7 @@ use Rattle.message_layout.specs.Reading.{presence_at, reading, records_at}
 use Rattle.message_layout.specs.Spelling.{spelling}
 use Rattle.quality_bits.specs.Capsules.{capsule}
 use Rattle.quality_bits.specs.Quality.{check_bits}
-use Rattle.sync_message.specs.Layouts.{body_reading, sync_of}
+use Rattle.sync_message.specs.Layouts.{sync_body_reading, sync_of}
 use Rattle.sync_message.specs.Reading.{sync_reading}
 use Rattle.sync_message.specs.SyncMessage.{sync_body, sync_capsule}
 use Rattle.sync_message.specs.declared.fields.SyncFields.{SyncFields}
@@ -53,20 +53,20 @@ with_freq_octets = refl
 
 -- what is read is what was spelled
 shortest_read : sync_reading Plain (sync_capsule Plain shortest) ≡ Some shortest
-unfolding shortest sync_reading body_reading sync_of reading fields_at group_at presence_at
+unfolding shortest sync_reading sync_body_reading sync_of reading fields_at group_at presence_at
     octets_at records_at number_part part_at sync_capsule sync_body spelling capsule binary
     check_bits places
 shortest_read = refl
 
 with_freq_read : sync_reading Plain (sync_capsule Plain with_freq) ≡ Some with_freq
-unfolding with_freq shortest sync_reading body_reading sync_of reading fields_at group_at
+unfolding with_freq shortest sync_reading sync_body_reading sync_of reading fields_at group_at
     presence_at octets_at records_at number_part part_at sync_capsule sync_body spelling capsule
     binary check_bits places
 with_freq_read = refl
 
 -- a capsule whose check is of the other form spells no message
 other_form_read : sync_reading Complemented (sync_capsule Plain shortest) ≡ None
-unfolding shortest sync_reading body_reading sync_of reading fields_at group_at presence_at
+unfolding shortest sync_reading sync_body_reading sync_of reading fields_at group_at presence_at
     octets_at records_at number_part part_at sync_capsule sync_body spelling capsule binary
     check_bits places
 other_form_read = refl

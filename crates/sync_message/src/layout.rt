@@ -2,7 +2,8 @@
 
 ghost use Rattle.std.specs.Prelude.{◌≡◌, ◌<◌, ◌^◌, IfSome};
 ghost use Rattle.chip_core.specs.Fields.{in_widths, FieldsFit};
-ghost use Rattle.sync_message.specs.Layouts.{body_reading, freq_from, freq_group, sync_contents};
+ghost use Rattle.sync_message.specs.Layouts.{sync_body_reading, freq_from, freq_group};
+ghost use Rattle.sync_message.specs.Layouts.{sync_contents};
 ghost use Rattle.sync_message.specs.Layouts.{sync_from};
 ghost use Rattle.sync_message.specs.Rows.{sync_values, sync_widths};
 
@@ -25,9 +26,9 @@ pub(crate) const SYNC_CHANNEL: Layout = Layout {
 };
 
 /// What a body says after its type, which is 1.
-#[tactic(auto, unfolding(crate::specs::Layouts::body_reading))]
+#[tactic(auto, unfolding(crate::specs::Layouts::sync_body_reading))]
 pub(crate) fn read_body(body: &BitSlice<'_>) -> Option<SyncFields>
-    ensures { result ≡ body_reading body.now }
+    ensures { result ≡ sync_body_reading body.now }
 {
     let (kind, from) = read_kind(body)?;
     if kind != 1 {

@@ -1,16 +1,17 @@
 -- Which bodies are those of messages.
 use Rattle.traffic_message.proofs.Common.{◌≡◌, Bool, List, Option, ap, drop, length, nat_le, refl, true, ◌∙◌, and_from, and_parts, le-leb}
-use Rattle.traffic_message.proofs.Common.{leb-true, number_at, is_some, FillsCapsule, M16, HasMessage, admits, head_at, part_reading, None}
-use Rattle.traffic_message.proofs.Common.{Some, Message, body_reading}
+use Rattle.traffic_message.proofs.Common.{leb-true, number_at, is_some, FillsCapsule, M16, HasTrafficMessage, traffic_admits, head_at}
+use Rattle.traffic_message.proofs.Common.{part_reading, None}
+use Rattle.traffic_message.proofs.Common.{Some, Message, traffic_body_reading}
 use Rattle.traffic_message.proofs.Bodies.{body_parts_read, body_read, is_body_from, is_body_parts, message_again, message_there}
 
 there : {A : Type 0} (o : Option A) → is_some o ≡ true → (x : A) × (o ≡ Some x)
 there None h = absurd (cc)
 there (Some x) h = (x, refl)
 
-pub admitted_has : (body : List Bool) → FillsCapsule M16 body → admits body ≡ true →
-    HasMessage body
-unfolding admits
+pub admitted_has : (body : List Bool) → FillsCapsule M16 body → traffic_admits body ≡ true →
+    HasTrafficMessage body
+unfolding traffic_admits
 admitted_has body fills h =
     let kind = number_at 0 8 body in
     let head = head_at body in
@@ -23,14 +24,14 @@ admitted_has body fills h =
     let spelled = message_there body m (body_read body part.0 t part.1) in
     record { message = m; spelled = spelled.0; same = spelled.1 }
 
-pub has_admitted : (body : List Bool) → HasMessage body → admits body ≡ true
-unfolding admits
+pub has_admitted : (body : List Bool) → HasTrafficMessage body → traffic_admits body ≡ true
+unfolding traffic_admits
 has_admitted body has =
     let kind = number_at 0 8 body in
     let head = head_at body in
     let bits = drop 17 body in
-    let read : body_reading body ≡ Some has.message =
-    ap body_reading has.same ∙ message_again has.message has.spelled in
+    let read : traffic_body_reading body ≡ Some has.message =
+    ap traffic_body_reading has.same ∙ message_again has.message has.spelled in
     let parts = body_parts_read body has.message read in
     and_from (nat_le 17 (length body)) (is_some (part_reading kind head.encryption bits))
     (le-leb 17 (length body) (is_body_parts body parts.0).1)

@@ -4,7 +4,8 @@ use Rattle.traffic_message.proofs.Common.{drop, refl, sym, ap, subst, ◌∙◌,
 use Rattle.traffic_message.proofs.Common.{Some, None, and_from, and_parts, cases_Bool, eq-eqb, eqb-false, eqb-true, le-leb, leb-true}
 use Rattle.traffic_message.proofs.Common.{drop_at, binary, digit, spelled, in_widths, FieldsFit, number_at, values_at, digit_of}
 use Rattle.traffic_message.proofs.Common.{length-in_widths, values_again, values_there, FillsCapsule, M16, is_hard, head_widths}
-use Rattle.traffic_message.proofs.Common.{TrafficBody, Head, Form, HasFields, body_from, contents_of, form_at, form_in, shape_of, Contents}
+use Rattle.traffic_message.proofs.Common.{TrafficBody, Head, Form, HasFields, body_from, traffic_contents_of, form_at, form_in}
+use Rattle.traffic_message.proofs.Common.{traffic_shape_of, Contents}
 use Rattle.traffic_message.proofs.Common.{mapped, fields_at, mapped_some, some_is, reading_again, reading_there, not_both, get_or}
 use Rattle.traffic_message.proofs.Common.{head_contents, head_in, head_shape, typed_widths, spelling, plain_spelled, plain_contents}
 use Rattle.traffic_message.proofs.Common.{plain_shape, []}
@@ -94,8 +95,8 @@ part_again h b is =
     let k = messages.kind_of b in
     let bits = messages.bits_of b in
     let own = laid b (fields_of h b is) in
-    ap (λ (g : Form). mapped (body_from g k) (layouts.reading (shape_of g) bits)) (form_again h b is)
-    ∙ ap (mapped (body_from f k)) (reading_again (shape_of f) (contents_of b) (lawful f) own)
+    ap (λ (g : Form). mapped (body_from g k) (layouts.reading (traffic_shape_of g) bits)) (form_again h b is)
+    ∙ ap (mapped (body_from f k)) (reading_again (traffic_shape_of f) (traffic_contents_of b) (lawful f) own)
     ∙ ap Some (made_again b)
 
 -- what it says has this type and these bits
@@ -135,8 +136,8 @@ unfolding reading.part_reading
 part_there h kind bits b e =
     let f = form_at kind h.encryption bits in
     let is = form_is kind h.encryption bits in
-    let some = mapped_some (body_from f kind) (layouts.reading (shape_of f) bits) b e in
-    let there = reading_there (shape_of f) bits some.0 (lawful f) some.1 in
+    let some = mapped_some (body_from f kind) (layouts.reading (traffic_shape_of f) bits) b e in
+    let there = reading_there (traffic_shape_of f) bits some.0 (lawful f) some.1 in
     let made = made_of f kind some.0 there.0 in
     let same = spelled_as f some.0 (body_from f kind some.0) bits made there.1 in
     subst (Says kind h.encryption bits) some.2 (
@@ -164,16 +165,16 @@ head_back w fit =
 
 -- a body is its type and its head as fields of one table, and what stands after them
 typed : (m : messages.Message) →
-    messages.message_body m
+    messages.traffic_message_body m
     ≡ spelled (in_widths typed_widths (messages.kind_of m.body ∷ messages.head_values m.head))
     ++ messages.bits_of m.body
-unfolding messages.message_body
+unfolding messages.traffic_message_body
 typed m =
     sym (append_assoc (binary 8 (messages.kind_of m.body)) (spelled (messages.head_fields m.head))
     (messages.bits_of m.body))
 
 pub length-message : (m : messages.Message) →
-    length (messages.message_body m) ≡ 17 + length (messages.bits_of m.body)
+    length (messages.traffic_message_body m) ≡ 17 + length (messages.bits_of m.body)
 length-message m =
     let vs = messages.kind_of m.body ∷ messages.head_values m.head in
     omega (
@@ -185,8 +186,8 @@ length-message m =
 
 -- BODIES
 pub is_body_from : (body : List Bool) → FillsCapsule M16 body → 17 ≤ length body →
-    reading.is_body body ≡ true
-unfolding reading.is_body
+    reading.is_traffic_body body ≡ true
+unfolding reading.is_traffic_body
 is_body_from body fills least =
     and_from (length body % 8 == 0) (nat_le 17 (length body) && nat_le (length body) 1160)
     (eq-eqb (length body % 8) 0 (omega (arith, fills.whole)))
@@ -194,9 +195,9 @@ is_body_from body fills least =
     (le-leb 17 (length body) least)
     (le-leb (length body) 1160 (omega (arith, fills.whole, fills.most))))
 
-pub is_body_parts : (body : List Bool) → reading.is_body body ≡ true →
+pub is_body_parts : (body : List Bool) → reading.is_traffic_body body ≡ true →
     FillsCapsule M16 body × (17 ≤ length body) × (length body ≤ 1160)
-unfolding reading.is_body
+unfolding reading.is_traffic_body
 is_body_parts body h =
     let all = and_parts (length body % 8 == 0)
     (nat_le 17 (length body) && nat_le (length body) 1160) h in
@@ -214,7 +215,7 @@ is_body_parts body h =
     )
 
 body_parts : (m : messages.Message) (body : List Bool) → messages.IsTrafficMessage m →
-    body ≡ messages.message_body m →
+    body ≡ messages.traffic_message_body m →
     (number_at 0 8 body ≡ messages.kind_of m.body) × (reading.head_at body ≡ m.head)
     × (drop 17 body ≡ messages.bits_of m.body)
 unfolding reading.head_at
@@ -233,10 +234,10 @@ body_parts m body is same =
 
 -- what was spelled is read again
 pub message_again : (m : messages.Message) → messages.IsTrafficMessage m →
-    reading.body_reading (messages.message_body m) ≡ Some m
-unfolding reading.body_reading
+    reading.traffic_body_reading (messages.traffic_message_body m) ≡ Some m
+unfolding reading.traffic_body_reading
 message_again m is =
-    let body = messages.message_body m in
+    let body = messages.traffic_message_body m in
     let p = body_parts m body is refl in
     let t = is_body_from body is.fills (omega (arith, length-message m)) in
     let part = part_again m.head m.body is.says in
@@ -244,9 +245,9 @@ message_again m is =
 
 -- what is read is spelled so
 abbrev Spells : List Bool → messages.Message → Type 0
-Spells body m = messages.IsTrafficMessage m × (body ≡ messages.message_body m)
+Spells body m = messages.IsTrafficMessage m × (body ≡ messages.traffic_message_body m)
 
-spelled_from : (body : List Bool) (b : TrafficBody) → reading.is_body body ≡ true →
+spelled_from : (body : List Bool) (b : TrafficBody) → reading.is_traffic_body body ≡ true →
     Says (number_at 0 8 body) (reading.head_at body).encryption (drop 17 body) b →
     Spells body (record { head = reading.head_at body; body = b })
 unfolding reading.head_at
@@ -255,7 +256,7 @@ spelled_from body b t says =
     let m : messages.Message = record { head = reading.head_at body; body = b } in
     let v = values_there typed_widths body fits.1 in
     let head = head_back (drop 8 body) v.1.1 in
-    let same : body ≡ messages.message_body m =
+    let same : body ≡ messages.traffic_message_body m =
     v.2 ∙ ap (λ (ns : List ℕ). spelled (in_widths typed_widths (number_at 0 8 body ∷ ns)) ++ drop 17 body)
     (sym head)
     ∙ ap (λ (n : ℕ). spelled (in_widths typed_widths (n ∷ messages.head_values m.head)) ++ drop 17 body)
@@ -273,24 +274,24 @@ spelled_from body b t says =
     )
 
 -- the tests of the reading, and what it gives
-pub body_read : (body : List Bool) (b : TrafficBody) → reading.is_body body ≡ true →
+pub body_read : (body : List Bool) (b : TrafficBody) → reading.is_traffic_body body ≡ true →
     reading.part_reading (number_at 0 8 body) (reading.head_at body).encryption (drop 17 body)
     ≡ Some b →
-    reading.body_reading body ≡ Some (record { head = reading.head_at body; body = b })
-unfolding reading.body_reading
+    reading.traffic_body_reading body ≡ Some (record { head = reading.head_at body; body = b })
+unfolding reading.traffic_body_reading
 body_read body b t part = rw (t, part) refl
 
 abbrev BodyParts : List Bool → messages.Message → Type 0
 BodyParts body m =
-    (reading.is_body body ≡ true) × (b : TrafficBody)
+    (reading.is_traffic_body body ≡ true) × (b : TrafficBody)
     × (reading.part_reading (number_at 0 8 body) (reading.head_at body).encryption (drop 17 body)
     ≡ Some b) × (record { head = reading.head_at body; body = b } ≡ m)
 
 pub body_parts_read : (body : List Bool) (m : messages.Message) →
-    reading.body_reading body ≡ Some m → BodyParts body m
-unfolding reading.body_reading
+    reading.traffic_body_reading body ≡ Some m → BodyParts body m
+unfolding reading.traffic_body_reading
 body_parts_read body m e =
-    elim (cases_Bool (reading.is_body body)) [
+    elim (cases_Bool (reading.is_traffic_body body)) [
       | inl t ↦
           let head = reading.head_at body in
           let some = mapped_some (λ (b : TrafficBody). record { head = head; body = b })
@@ -303,16 +304,16 @@ body_parts_read body m e =
     ]
 
 pub message_there : (body : List Bool) (m : messages.Message) →
-    reading.body_reading body ≡ Some m →
-    messages.IsTrafficMessage m × (body ≡ messages.message_body m)
+    reading.traffic_body_reading body ≡ Some m →
+    messages.IsTrafficMessage m × (body ≡ messages.traffic_message_body m)
 message_there body m e =
     let p = body_parts_read body m e in
     subst (Spells body) p.3 (spelled_from body p.1 p.0
     (part_there (reading.head_at body) (number_at 0 8 body) (drop 17 body) p.1 p.2))
 
 -- WHAT THE CODE READS AND WRITES
-pub no_body : (body : List Bool) → reading.is_body body ≡ false → None ≡ reading.body_reading body
-unfolding reading.body_reading
+pub no_body : (body : List Bool) → reading.is_traffic_body body ≡ false → None ≡ reading.traffic_body_reading body
+unfolding reading.traffic_body_reading
 no_body body f = rw f refl
 
 abbrev pub message : Head → TrafficBody → messages.Message
@@ -329,21 +330,21 @@ pub record AreParts (body : List Bool) (vs : List ℕ) (rest : List Bool) : Type
 abbrev head_said : List Bool → List ℕ × List Bool
 head_said body = (values_at typed_widths body, drop 17 body)
 
-head_there : (body : List Bool) → reading.is_body body ≡ true →
+head_there : (body : List Bool) → reading.is_traffic_body body ≡ true →
     fields_at typed_widths body ≡ Some (head_said body)
 unfolding fields_at
 head_there body t =
     let some = le-leb 17 (length body) (is_body_parts body t).1 in
     rw some refl
 
-pub no_head : (body : List Bool) → reading.is_body body ≡ true →
+pub no_head : (body : List Bool) → reading.is_traffic_body body ≡ true →
     ¬ (None ≡ fields_at typed_widths body)
 no_head body t none =
     let some : None ≡ Some (head_said body) = none ∙ head_there body t in
     absurd (cc)
 
 pub are_parts : (body : List Bool) (vs : List ℕ) (rest : List Bool) →
-    reading.is_body body ≡ true → Some (vs, rest) ≡ fields_at typed_widths body →
+    reading.is_traffic_body body ≡ true → Some (vs, rest) ≡ fields_at typed_widths body →
     AreParts body vs rest
 unfolding reading.head_at reading.head_of
 are_parts body vs rest t read =
@@ -363,10 +364,10 @@ are_parts body vs rest t read =
 
 -- what was read after a head
 pub part_read : (body : List Bool) (vs : List ℕ) (rest : List Bool) (k : ℕ) (h : Head)
-    (read : Option TrafficBody) → reading.is_body body ≡ true → AreParts body vs rest →
+    (read : Option TrafficBody) → reading.is_traffic_body body ≡ true → AreParts body vs rest →
     k ≡ get_or vs 0 0 → h ≡ head_in vs → read ≡ reading.part_reading k h.encryption rest →
-    mapped (message h) read ≡ reading.body_reading body
-unfolding reading.body_reading
+    mapped (message h) read ≡ reading.traffic_body_reading body
+unfolding reading.traffic_body_reading
 part_read body vs rest k h read t parts typed head e =
     let g = reading.head_at body in
     let n = number_at 0 8 body in
@@ -377,7 +378,7 @@ part_read body vs rest k h read t parts typed head e =
 pub message_written : (m : messages.Message) (c : Contents) (one after : List Bool) →
     messages.IsTrafficMessage m → c ≡ head_contents (messages.kind_of m.body) m.head →
     one ≡ spelling head_shape c → after ≡ one ++ messages.bits_of m.body →
-    after ≡ messages.message_body m
+    after ≡ messages.traffic_message_body m
 message_written m c one after is contents a b =
     b ∙ ap (λ (r : List Bool). r ++ messages.bits_of m.body)
     (a ∙ (head_written (messages.kind_of m.body) m.head c is.kind.0 is.head contents).1)

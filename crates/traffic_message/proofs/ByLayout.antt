@@ -4,7 +4,7 @@ use Rattle.traffic_message.proofs.Common.{map-places-all, places, FieldsFit, in_
 use Rattle.traffic_message.proofs.Common.{one_value, record_fit, plain_back, plain_of, plain_spelled, rest_back, count_in, mapped, reading}
 use Rattle.traffic_message.proofs.Common.{is_lawful, IsGroup, IsOf, behind_group, spelling, Contents, Flagged, bits_of, head_fields}
 use Rattle.traffic_message.proofs.Common.{head_values, kind_of, part_reading, in_traffic_widths, search_widths, TrafficBody}
-use Rattle.traffic_message.proofs.Common.{DirectionFields, Head, Search, UpdateFields, List, None, Some, [], get_or, ℕ, Shape, Form}
+use Rattle.traffic_message.proofs.Common.{DirectionFields, Head, Search, UpdateFields, List, None, Some, [], get_or, ℕ, MessageShape, Form}
 use Rattle.traffic_message.specs.Handoff as handoff
 use Rattle.traffic_message.specs.InTraffic as parameters
 use Rattle.traffic_message.specs.Layouts as layouts
@@ -82,7 +82,7 @@ search_fits None behind is = tt
 search_fits (Some search) behind is = is.fit
 
 -- WHAT STANDS AFTER A HEAD
-pub lawful : (f : Form) → is_lawful (layouts.shape_of f) ≡ true
+pub lawful : (f : Form) → is_lawful (layouts.traffic_shape_of f) ≡ true
 unfolding is_lawful
 lawful forms.Parameters = refl
 lawful forms.Update = refl
@@ -90,7 +90,7 @@ lawful forms.Direction = refl
 lawful forms.Plain = refl
 
 pub few_records : (f : Form) (count : ℕ) → count ≤ 1143 →
-    count_in (layouts.shape_of f).records count ≤ 128
+    count_in (layouts.traffic_shape_of f).records count ≤ 128
 few_records forms.Parameters count h = omega arith
 few_records forms.Update count h = omega (arith, h)
 few_records forms.Direction count h = omega (arith, h)
@@ -98,7 +98,7 @@ few_records forms.Plain count h = omega arith
 
 -- what a body says are contents of its layout, and those of no other
 pub laid : (b : TrafficBody) → layouts.HasFields b →
-    IsOf (layouts.shape_of (layouts.form_in b)) (layouts.contents_of b)
+    IsOf (layouts.traffic_shape_of (layouts.form_in b)) (layouts.traffic_contents_of b)
 laid (bodies.System m) is = is
 laid (bodies.Neighbors m) is = is
 laid (bodies.Handoff m) is = is
@@ -107,7 +107,7 @@ laid (bodies.Other kind bits) is =
     tt (omega arith) tt
 
 pub made_again : (b : TrafficBody) →
-    layouts.body_from (layouts.form_in b) (kind_of b) (layouts.contents_of b) ≡ b
+    layouts.body_from (layouts.form_in b) (kind_of b) (layouts.traffic_contents_of b) ≡ b
 unfolding parameters.in_traffic_of
 made_again (bodies.System m) = refl
 made_again (bodies.Neighbors m) = refl
@@ -118,9 +118,9 @@ made_again (bodies.Other kind bits) = refl
 pub record IsMade (f : Form) (c : Contents) (b : TrafficBody) : Type 0 where
   pub fields : layouts.HasFields b
   pub form : layouts.form_in b ≡ f
-  pub contents : layouts.contents_of b ≡ c
+  pub contents : layouts.traffic_contents_of b ≡ c
 
-pub made_of : (f : Form) (kind : ℕ) (c : Contents) → IsOf (layouts.shape_of f) c →
+pub made_of : (f : Form) (kind : ℕ) (c : Contents) → IsOf (layouts.traffic_shape_of f) c →
     IsMade f c (layouts.body_from f kind c)
 made_of forms.Parameters kind c is =
     let back = parameters_back c is in
@@ -138,27 +138,27 @@ made_of forms.Plain kind c is = record { fields = tt; form = refl; contents = re
 
 -- and so they are spelled as it is
 pub spelled_as : (f : Form) (c : Contents) (b : TrafficBody) (bits : List Bool) → IsMade f c b →
-    bits ≡ spelling (layouts.shape_of f) c → bits ≡ bits_of b
+    bits ≡ spelling (layouts.traffic_shape_of f) c → bits ≡ bits_of b
 spelled_as f c b bits made same =
-    same ∙ ap (λ (g : Form). spelling (layouts.shape_of g) c) (sym made.form)
-    ∙ ap (spelling (layouts.shape_of (layouts.form_in b))) (sym made.contents)
+    same ∙ ap (λ (g : Form). spelling (layouts.traffic_shape_of g) c) (sym made.form)
+    ∙ ap (spelling (layouts.traffic_shape_of (layouts.form_in b))) (sym made.contents)
 
 -- WHAT THE CODE READS AND WRITES
-pub told : (kind encryption : ℕ) (bits : List Bool) (f : Form) (s : Shape)
-    (read : Option Contents) → f ≡ layouts.form_at kind encryption bits → s ≡ layouts.shape_of f →
+pub told : (kind encryption : ℕ) (bits : List Bool) (f : Form) (s : MessageShape)
+    (read : Option Contents) → f ≡ layouts.form_at kind encryption bits → s ≡ layouts.traffic_shape_of f →
     read ≡ reading s bits →
     mapped (layouts.body_from f kind) read ≡ part_reading kind encryption bits
 unfolding part_reading
 told kind encryption bits f s read form layout e =
-    ap (mapped (layouts.body_from f kind)) (e ∙ ap (λ (r : Shape). reading r bits) layout)
-    ∙ ap (λ (g : Form). mapped (layouts.body_from g kind) (reading (layouts.shape_of g) bits)) form
+    ap (mapped (layouts.body_from f kind)) (e ∙ ap (λ (r : MessageShape). reading r bits) layout)
+    ∙ ap (λ (g : Form). mapped (layouts.body_from g kind) (reading (layouts.traffic_shape_of g) bits)) form
 
-pub told_is : (kind : ℕ) (f : Form) (s : Shape) (c : Contents) → s ≡ layouts.shape_of f →
+pub told_is : (kind : ℕ) (f : Form) (s : MessageShape) (c : Contents) → s ≡ layouts.traffic_shape_of f →
     IsOf s c → layouts.HasFields (layouts.body_from f kind c)
-told_is kind f s c layout is = (made_of f kind c (subst (λ (r : Shape). IsOf r c) layout is)).fields
+told_is kind f s c layout is = (made_of f kind c (subst (λ (r : MessageShape). IsOf r c) layout is)).fields
 
-pub written : (b : TrafficBody) (f : Form) (s : Shape) (c : Contents) → layouts.HasFields b →
-    f ≡ layouts.form_in b → s ≡ layouts.shape_of f → c ≡ layouts.contents_of b →
+pub written : (b : TrafficBody) (f : Form) (s : MessageShape) (c : Contents) → layouts.HasFields b →
+    f ≡ layouts.form_in b → s ≡ layouts.traffic_shape_of f → c ≡ layouts.traffic_contents_of b →
     IsOf s c × (spelling s c ≡ bits_of b)
 written b f s c is form layout contents = rw (layout, form, contents) (laid b is, refl)
 

@@ -26,7 +26,7 @@ pub use Rattle.message_layout.specs.Contents.{count_in, record_fields}
 pub use Rattle.message_layout.specs.Plain.{plain_contents, plain_shape}
 pub use Rattle.message_layout.specs.Reading.{mapped}
 unfoldable pub use Rattle.message_layout.specs.Reading.{fields_at, reading}
-pub use Rattle.message_layout.specs.Shapes.{Shape}
+pub use Rattle.message_layout.specs.Shapes.{MessageShape}
 unfoldable pub use Rattle.message_layout.specs.Shapes.{is_lawful}
 pub use Rattle.message_layout.specs.Spelling.{IsGroup, IsOf, behind_group, group_fields}
 unfoldable pub use Rattle.message_layout.specs.Spelling.{spelling}
@@ -36,16 +36,17 @@ pub use Rattle.quality_bits.proofs.Decoded.{AreRead, IsDecoded, IsNone, decoded,
 pub use Rattle.quality_bits.proofs.Decoded.{undecoded, whole_checked}
 pub use Rattle.quality_bits.specs.Capsules.{FillsCapsule, capsule}
 pub use Rattle.quality_bits.specs.declared.kind.Kind.TheVariants.{M16}
-pub use Rattle.traffic_message.specs.Admitted.{HasMessage}
-unfoldable pub use Rattle.traffic_message.specs.Admitted.{admits}
+pub use Rattle.traffic_message.specs.Admitted.{HasTrafficMessage}
+unfoldable pub use Rattle.traffic_message.specs.Admitted.{traffic_admits}
 pub use Rattle.traffic_message.specs.Handoff.{is_hard}
-pub use Rattle.traffic_message.specs.Layouts.{HasFields, body_from, contents_of, form_at, form_in, head_contents, head_in, head_shape}
-pub use Rattle.traffic_message.specs.Layouts.{shape_of, typed_widths}
-pub use Rattle.traffic_message.specs.Messages.{IsTrafficMessage, Message, bits_of, head_fields, head_values, kind_of, message_body}
+pub use Rattle.traffic_message.specs.Layouts.{HasFields, body_from, traffic_contents_of, form_at, form_in, head_contents, head_in}
+pub use Rattle.traffic_message.specs.Layouts.{head_shape}
+pub use Rattle.traffic_message.specs.Layouts.{traffic_shape_of, typed_widths}
+pub use Rattle.traffic_message.specs.Messages.{IsTrafficMessage, Message, bits_of, head_fields, head_values, kind_of, traffic_message_body}
 unfoldable pub use Rattle.traffic_message.specs.Messages.{traffic_capsule}
 pub use Rattle.traffic_message.specs.Multiplex.{joined, primary_bits}
 unfoldable pub use Rattle.traffic_message.specs.Multiplex.{split_9600}
-pub use Rattle.traffic_message.specs.Reading.{body_reading, head_at, is_body, traffic_reading}
+pub use Rattle.traffic_message.specs.Reading.{traffic_body_reading, head_at, is_traffic_body, traffic_reading}
 unfoldable pub use Rattle.traffic_message.specs.Reading.{part_reading}
 pub use Rattle.traffic_message.specs.Widths.{head_widths, in_traffic_widths, search_widths, time_widths}
 pub use Rattle.traffic_message.specs.declared.body.TrafficBody.{TrafficBody}

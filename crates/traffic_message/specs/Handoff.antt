@@ -3,7 +3,7 @@ use Rattle.std.specs.Prelude.{ℕ, ◌==◌, if◌then◌else◌, Bool, List, []
 use Rattle.std.specs.Prelude.{None}
 use Rattle.chip_core.specs.Fields.{in_widths, FieldsFit}
 use Rattle.chip_core.specs.Readings.{number_at}
-use Rattle.message_layout.specs.Shapes.{Shape}
+use Rattle.message_layout.specs.Shapes.{MessageShape}
 use Rattle.message_layout.specs.Spelling.{IsOf}
 use Rattle.message_layout.specs.declared.contents.Contents.{Contents}
 use Rattle.message_layout.specs.declared.layout.Presence.TheVariants.{Flagged}
@@ -14,7 +14,7 @@ use Rattle.traffic_message.specs.declared.fields.Search.{Search}
 -- When it takes effect and its number; SEARCH_INCLUDED, and the search parameters where it is 1;
 -- HARD_INCLUDED, which is 0; ADD_LENGTH and so many octets of additional fields; and as many
 -- records as fit, one at least, each of a pilot's offset, the combination indicator and the row.
-abbrev pub direction_shape : Shape
+abbrev pub direction_shape : MessageShape
 direction_shape = record {
   fixed = time_widths;
   presence = Flagged;

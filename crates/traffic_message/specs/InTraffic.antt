@@ -1,7 +1,7 @@
 -- The In-Traffic System Parameters Message (TIA/EIA-95-B, 7.7.3.3.2.7).
 use Rattle.std.specs.Prelude.{ℕ, Bool, List, [], ◌∷◌, get_or, None}
 use Rattle.message_layout.specs.Plain.{plain_contents, plain_shape}
-use Rattle.message_layout.specs.Shapes.{Shape}
+use Rattle.message_layout.specs.Shapes.{MessageShape}
 use Rattle.message_layout.specs.Spelling.{IsOf}
 use Rattle.message_layout.specs.declared.contents.Contents.{Contents}
 use Rattle.traffic_message.specs.Widths.{in_traffic_widths}
@@ -13,7 +13,7 @@ in_traffic_values m =
     m.sid ∷ m.nid ∷ m.wina ∷ m.winn ∷ m.winr ∷ m.tadd ∷ m.tdrop ∷ m.tcomp ∷ m.ttdrop ∷ m.age ∷ []
 
 -- the fields, and all bits after them
-abbrev pub in_traffic_shape : Shape
+abbrev pub in_traffic_shape : MessageShape
 in_traffic_shape = plain_shape in_traffic_widths [] 0 None
 
 -- what the message says, which fits

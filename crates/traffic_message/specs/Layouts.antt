@@ -5,7 +5,7 @@ use Rattle.chip_core.specs.Bits.{digit}
 use Rattle.chip_core.specs.Fields.{in_widths}
 use Rattle.chip_core.specs.declared.field.Field.{Field}
 use Rattle.message_layout.specs.Plain.{plain_contents, plain_shape}
-use Rattle.message_layout.specs.Shapes.{Shape}
+use Rattle.message_layout.specs.Shapes.{MessageShape}
 use Rattle.message_layout.specs.Spelling.{spelling}
 use Rattle.message_layout.specs.declared.contents.Contents.{Contents}
 use Rattle.traffic_message.specs.Handoff.{direction_contents, direction_from, direction_shape}
@@ -32,7 +32,7 @@ head_fields h = in_widths head_widths (head_values h)
 abbrev pub typed_widths : List ℕ
 typed_widths = 8 ∷ head_widths
 
-abbrev pub head_shape : Shape
+abbrev pub head_shape : MessageShape
 head_shape = plain_shape typed_widths [] 0 None
 
 abbrev pub head_contents : ℕ → Head → Contents
@@ -62,17 +62,17 @@ form_in (bodies.Neighbors m) = forms.Update
 form_in (bodies.Handoff m) = forms.Direction
 form_in (bodies.Other kind bits) = forms.Plain
 
-abbrev pub shape_of : Form → Shape
-shape_of forms.Parameters = in_traffic_shape
-shape_of forms.Update = update_shape
-shape_of forms.Direction = direction_shape
-shape_of forms.Plain = plain_shape [] [] 0 None
+abbrev pub traffic_shape_of : Form → MessageShape
+traffic_shape_of forms.Parameters = in_traffic_shape
+traffic_shape_of forms.Update = update_shape
+traffic_shape_of forms.Direction = direction_shape
+traffic_shape_of forms.Plain = plain_shape [] [] 0 None
 
-abbrev pub contents_of : TrafficBody → Contents
-contents_of (bodies.System m) = in_traffic_contents m
-contents_of (bodies.Neighbors m) = update_contents m
-contents_of (bodies.Handoff m) = direction_contents m
-contents_of (bodies.Other kind bits) = plain_contents [] ([] ∷ [] ∷ [] ∷ []) bits
+abbrev pub traffic_contents_of : TrafficBody → Contents
+traffic_contents_of (bodies.System m) = in_traffic_contents m
+traffic_contents_of (bodies.Neighbors m) = update_contents m
+traffic_contents_of (bodies.Handoff m) = direction_contents m
+traffic_contents_of (bodies.Other kind bits) = plain_contents [] ([] ∷ [] ∷ [] ∷ []) bits
 
 abbrev pub body_from : Form → ℕ → Contents → TrafficBody
 body_from forms.Parameters kind c = bodies.System (in_traffic_from c)
@@ -82,7 +82,7 @@ body_from forms.Plain kind c = bodies.Other kind c.rest
 
 -- what is spelled so
 abbrev pub bits_of : TrafficBody → List Bool
-bits_of b = spelling (shape_of (form_in b)) (contents_of b)
+bits_of b = spelling (traffic_shape_of (form_in b)) (traffic_contents_of b)
 
 -- the fields are those of a message
 abbrev pub HasFields : TrafficBody → Type 0

@@ -26,8 +26,9 @@ kind_of (bodies.Handoff m) = 17
 kind_of (bodies.Other kind bits) = kind
 
 -- the body of the message's capsule: the type, the head, and what stands after it
-unfoldable pub message_body : Message → List Bool
-message_body m = binary 8 (kind_of m.body) ++ (spelled (head_fields m.head) ++ bits_of m.body)
+unfoldable pub traffic_message_body : Message → List Bool
+traffic_message_body m = binary 8 (kind_of m.body)
+    ++ (spelled (head_fields m.head) ++ bits_of m.body)
 
 -- A type with fields of its own is read by them where nothing is encrypted; a hard handoff is
 -- passed on as it is.
@@ -43,7 +44,7 @@ pub record IsTrafficMessage (m : Message) : Type 0 where
   pub kind : FieldsFit (field 8 (kind_of m.body) ∷ [])
   pub head : FieldsFit (head_fields m.head)
   pub says : IsOfKind m.head m.body
-  pub fills : FillsCapsule M16 (message_body m)
+  pub fills : FillsCapsule M16 (traffic_message_body m)
 
 unfoldable pub traffic_capsule : CheckForm → Message → List Bool
-traffic_capsule form m = capsule M16 form (message_body m)
+traffic_capsule form m = capsule M16 form (traffic_message_body m)

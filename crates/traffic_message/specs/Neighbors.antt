@@ -1,14 +1,14 @@
 -- The Neighbor List Update Message (TIA/EIA-95-B, 7.7.3.3.2.8).
 use Rattle.std.specs.Prelude.{ℕ, List, [], ◌∷◌, get_or, Some}
 use Rattle.message_layout.specs.Plain.{plain_contents, plain_shape}
-use Rattle.message_layout.specs.Shapes.{Shape}
+use Rattle.message_layout.specs.Shapes.{MessageShape}
 use Rattle.message_layout.specs.Spelling.{IsOf}
 use Rattle.message_layout.specs.declared.contents.Contents.{Contents}
 use Rattle.traffic_message.specs.Widths.{update_widths}
 use Rattle.traffic_message.specs.declared.fields.UpdateFields.{UpdateFields}
 
 -- the step of offsets, and after it the offsets of as many neighbors as fit, one at least
-abbrev pub update_shape : Shape
+abbrev pub update_shape : MessageShape
 update_shape = plain_shape update_widths (9 ∷ []) 1 (Some 7)
 
 -- the value of the first field, as the table has it

@@ -7,7 +7,7 @@ use Rattle.chip_core.specs.declared.check_form.CheckForm.{CheckForm}
 use Rattle.message_layout.specs.Reading.{mapped, reading}
 use Rattle.quality_bits.specs.Capsules.{if_spelled}
 pub use Rattle.quality_bits.specs.Faults.{reading_of}
-use Rattle.traffic_message.specs.Layouts.{body_from, form_at, shape_of}
+use Rattle.traffic_message.specs.Layouts.{body_from, form_at, traffic_shape_of}
 use Rattle.traffic_message.specs.Messages.{Message, traffic_capsule}
 use Rattle.traffic_message.specs.Widths.{head_widths}
 use Rattle.traffic_message.specs.declared.body.TrafficBody.{TrafficBody}
@@ -29,21 +29,22 @@ head_at body = head_of (values_at head_widths (drop 8 body))
 unfoldable pub part_reading : ℕ → ℕ → List Bool → Option TrafficBody
 part_reading kind encryption bits =
     let form = form_at kind encryption bits in
-    mapped (body_from form kind) (reading (shape_of form) bits)
+    mapped (body_from form kind) (reading (traffic_shape_of form) bits)
 
 -- whether the length is that of a capsule's body, and the head is there
-unfoldable pub is_body : List Bool → Bool
-is_body body = length body % 8 == 0 && (nat_le 17 (length body) && nat_le (length body) 1160)
+unfoldable pub is_traffic_body : List Bool → Bool
+is_traffic_body body = length body % 8 == 0
+    && (nat_le 17 (length body) && nat_le (length body) 1160)
 
 -- the message whose body the list is
-unfoldable pub body_reading : List Bool → Option Message
-body_reading body =
+unfoldable pub traffic_body_reading : List Bool → Option Message
+traffic_body_reading body =
     let head = head_at body in
-    if is_body body then mapped (λ part. record { head = head; body = part })
+    if is_traffic_body body then mapped (λ part. record { head = head; body = part })
     (part_reading (number_at 0 8 body) head.encryption (drop 17 body)) else None
 
 -- the message whose capsule the list is
 unfoldable pub traffic_reading : CheckForm → List Bool → Option Message
 traffic_reading form capsule =
     if_spelled (traffic_capsule form) capsule
-    (body_reading (take (length capsule - 24) (drop 8 capsule)))
+    (traffic_body_reading (take (length capsule - 24) (drop 8 capsule)))

@@ -12,9 +12,10 @@ use Rattle.quality_bits.specs.Quality.{check_bits}
 use Rattle.quality_bits.specs.declared.rate.Rate.TheVariants.{R9600, R4800}
 use Rattle.traffic_message.specs.Handoff.{direction_of, hard_place, is_hard, search_of}
 use Rattle.traffic_message.specs.InTraffic.{in_traffic_of}
-use Rattle.traffic_message.specs.Messages.{Message, message_body, traffic_capsule}
+use Rattle.traffic_message.specs.Messages.{Message, traffic_message_body, traffic_capsule}
 use Rattle.traffic_message.specs.Multiplex.{split, split_9600}
-use Rattle.traffic_message.specs.Reading.{body_reading, head_at, head_of, is_body, part_reading}
+use Rattle.traffic_message.specs.Reading.{traffic_body_reading, head_at, head_of, is_traffic_body}
+use Rattle.traffic_message.specs.Reading.{part_reading}
 use Rattle.traffic_message.specs.Reading.{traffic_reading}
 use Rattle.traffic_message.specs.declared.body.TrafficBody.TheVariants.{Handoff, Neighbors, Other}
 use Rattle.traffic_message.specs.declared.body.TrafficBody.TheVariants.{System}
@@ -60,26 +61,28 @@ other : Message
 unfolding first_head
 other = record { head = first_head; body = Other 1 (replicate 7 false) }
 
-other_spelled : message_body other ≡ binary 24 0x014e00
-unfolding other first_head message_body spelling binary
+other_spelled : traffic_message_body other ≡ binary 24 0x014e00
+unfolding other first_head traffic_message_body spelling binary
 other_spelled = refl
 
-other_read : body_reading (binary 24 0x014e00) ≡ Some other
-unfolding other first_head body_reading is_body head_at head_of part_reading reading fields_at
-    group_at presence_at octets_at number_part part_at records_at is_hard hard_place binary
+other_read : traffic_body_reading (binary 24 0x014e00) ≡ Some other
+unfolding other first_head traffic_body_reading is_traffic_body head_at head_of part_reading reading
+    fields_at group_at presence_at octets_at number_part part_at records_at is_hard hard_place
+    binary
 other_read = refl
 
 -- 16 bits have no head
-too_short : body_reading (replicate 16 false) ≡ None
-unfolding body_reading is_body
+too_short : traffic_body_reading (replicate 16 false) ≡ None
+unfolding traffic_body_reading is_traffic_body
 too_short = refl
 
 -- what is read is what was spelled, with the check in its form
 other_again : (traffic_reading Complemented (traffic_capsule Complemented other) ≡ Some other)
     × (traffic_reading Plain (traffic_capsule Complemented other) ≡ None)
-unfolding other first_head traffic_reading traffic_capsule message_body spelling body_reading
-    is_body head_at head_of part_reading reading fields_at group_at presence_at octets_at
-    number_part part_at records_at is_hard hard_place capsule check_bits binary places
+unfolding other first_head traffic_reading traffic_capsule traffic_message_body spelling
+    traffic_body_reading is_traffic_body head_at head_of part_reading reading fields_at group_at
+    presence_at octets_at number_part part_at records_at is_hard hard_place capsule check_bits
+    binary places
 other_again = (refl, refl)
 
 -- HANDOFF DIRECTIONS
@@ -104,21 +107,22 @@ one_pilot = record {
   });
 }
 
-one_pilot_read : body_reading (binary 56 0x11007101ff0a00) ≡ Some one_pilot
-unfolding one_pilot no_head body_reading is_body head_at head_of part_reading reading fields_at
-    group_at presence_at octets_at number_part part_at records_at is_hard hard_place direction_of
-    binary
+one_pilot_read : traffic_body_reading (binary 56 0x11007101ff0a00) ≡ Some one_pilot
+unfolding one_pilot no_head traffic_body_reading is_traffic_body head_at head_of part_reading
+    reading fields_at group_at presence_at octets_at number_part part_at records_at is_hard
+    hard_place direction_of binary
 one_pilot_read = refl
 
-one_pilot_spelled : message_body one_pilot ≡ binary 56 0x11007101ff0a00
-unfolding one_pilot no_head message_body spelling binary
+one_pilot_spelled : traffic_message_body one_pilot ≡ binary 56 0x11007101ff0a00
+unfolding one_pilot no_head traffic_message_body spelling binary
 one_pilot_spelled = refl
 
 -- with HARD_INCLUDED 1 it is passed on as it is
-hard : body_reading (binary 56 0x11007111ff0a00)
+hard : traffic_body_reading (binary 56 0x11007111ff0a00)
     ≡ Some (record { head = no_head; body = Other 17 (drop 17 (binary 56 0x11007111ff0a00)) })
-unfolding no_head body_reading is_body head_at head_of part_reading reading fields_at group_at
-    presence_at octets_at number_part part_at records_at is_hard hard_place binary
+unfolding no_head traffic_body_reading is_traffic_body head_at head_of part_reading reading
+    fields_at group_at presence_at octets_at number_part part_at records_at is_hard hard_place
+    binary
 hard = refl
 
 -- with search parameters, an additional octet and two records; PWR_COMB_IND stands before the row
@@ -139,53 +143,53 @@ two_pilots = record {
   });
 }
 
-two_pilots_again : body_reading (message_body two_pilots) ≡ Some two_pilots
-unfolding two_pilots no_head message_body spelling body_reading is_body head_at
-    head_of part_reading reading fields_at group_at presence_at octets_at number_part part_at
-    records_at is_hard hard_place direction_of search_of binary
+two_pilots_again : traffic_body_reading (traffic_message_body two_pilots) ≡ Some two_pilots
+unfolding two_pilots no_head traffic_message_body spelling traffic_body_reading is_traffic_body
+    head_at head_of part_reading reading fields_at group_at presence_at octets_at number_part
+    part_at records_at is_hard hard_place direction_of search_of binary
 two_pilots_again = refl
 
 -- without a record it is none
-no_pilot : body_reading (binary 32 0x11007100) ≡ None
-unfolding body_reading is_body head_at head_of part_reading reading fields_at group_at presence_at
-    octets_at number_part part_at records_at is_hard hard_place binary
+no_pilot : traffic_body_reading (binary 32 0x11007100) ≡ None
+unfolding traffic_body_reading is_traffic_body head_at head_of part_reading reading fields_at
+    group_at presence_at octets_at number_part part_at records_at is_hard hard_place binary
 no_pilot = refl
 
 -- NEIGHBORS
-one_neighbor : body_reading (binary 32 0x080008ff)
+one_neighbor : traffic_body_reading (binary 32 0x080008ff)
     ≡ Some (record {
       head = no_head;
       body = Neighbors (record { inc = 1; pns = 63 ∷ []; rest = true ∷ true ∷ [] });
     })
-unfolding no_head body_reading is_body head_at head_of part_reading reading fields_at group_at
-    presence_at octets_at number_part part_at records_at binary
+unfolding no_head traffic_body_reading is_traffic_body head_at head_of part_reading reading
+    fields_at group_at presence_at octets_at number_part part_at records_at binary
 one_neighbor = refl
 
-two_neighbors : message_body (record {
+two_neighbors : traffic_message_body (record {
   head = first_head;
   body = Neighbors (record { inc = 1; pns = 63 ∷ 511 ∷ []; rest = true ∷ [] });
 }) ≡ binary 40 0x084e08ffff
-unfolding first_head message_body spelling binary
+unfolding first_head traffic_message_body spelling binary
 two_neighbors = refl
 
 -- without a neighbor it is none
-no_neighbor : body_reading (binary 24 0x080008) ≡ None
-unfolding body_reading is_body head_at head_of part_reading reading fields_at group_at presence_at
-    octets_at number_part part_at records_at binary
+no_neighbor : traffic_body_reading (binary 24 0x080008) ≡ None
+unfolding traffic_body_reading is_traffic_body head_at head_of part_reading reading fields_at
+    group_at presence_at octets_at number_part part_at records_at binary
 no_neighbor = refl
 
 -- encrypted, it is passed on as it is
-secret : body_reading (binary 24 0x080088)
+secret : traffic_body_reading (binary 24 0x080088)
     ≡ Some (record {
       head = record no_head { encryption = 1 };
       body = Other 8 (binary 7 8);
     })
-unfolding no_head body_reading is_body head_at head_of part_reading reading fields_at group_at
-    presence_at octets_at number_part part_at records_at binary
+unfolding no_head traffic_body_reading is_traffic_body head_at head_of part_reading reading
+    fields_at group_at presence_at octets_at number_part part_at records_at binary
 secret = refl
 
 -- PARAMETERS
-parameters_spelled : message_body (record {
+parameters_spelled : traffic_message_body (record {
   head = first_head;
   body = System (record {
     sid = 4660;
@@ -201,11 +205,11 @@ parameters_spelled : message_body (record {
     rest = binary 4 5;
   });
 }) ≡ binary 88 0x074e123456789ab72053c5
-unfolding first_head message_body spelling binary
+unfolding first_head traffic_message_body spelling binary
 parameters_spelled = refl
 
 -- 67 bits after the head are enough, and 63 aren't
-enough : (body_reading (binary 8 7 ++ replicate 80 false)
+enough : (traffic_body_reading (binary 8 7 ++ replicate 80 false)
     ≡ Some (record {
       head = no_head;
       body = System (record {
@@ -222,9 +226,9 @@ enough : (body_reading (binary 8 7 ++ replicate 80 false)
         rest = replicate 4 false;
       });
     }))
-    × (body_reading (binary 8 7 ++ replicate 72 false) ≡ None)
-unfolding no_head body_reading is_body head_at head_of part_reading reading fields_at group_at
-    presence_at octets_at number_part part_at records_at in_traffic_of binary
+    × (traffic_body_reading (binary 8 7 ++ replicate 72 false) ≡ None)
+unfolding no_head traffic_body_reading is_traffic_body head_at head_of part_reading reading
+    fields_at group_at presence_at octets_at number_part part_at records_at in_traffic_of binary
 enough = (refl, refl)
 
 -- SIGNALING

@@ -1,7 +1,7 @@
 //! What a message says after its head.
 
 ghost use Rattle.std.specs.Prelude.{◌≡◌, ◌+◌, ◌≤◌, ◌++◌, drop, length};
-ghost use Rattle.traffic_message.specs.Layouts.{bits_of, body_from, contents_of, form_in};
+ghost use Rattle.traffic_message.specs.Layouts.{bits_of, body_from, traffic_contents_of, form_in};
 ghost use Rattle.traffic_message.specs.Layouts.{HasFields};
 ghost use Rattle.traffic_message.specs.Messages.{kind_of as type_of};
 ghost use Rattle.traffic_message.specs.Reading.{part_reading};
@@ -101,7 +101,7 @@ impl TrafficBody {
 
     /// What stands after the head, as its layout has it.
     fn contents(&self) -> Contents
-        ensures value { result ≡ contents_of self.now }
+        ensures value { result ≡ traffic_contents_of self.now }
         ensures fields { HasFields self.now }
     {
         match self {

@@ -5,11 +5,12 @@ ghost use Rattle.std.specs.Prelude.{length};
 ghost use Rattle.chip_core.specs.declared.check_form.CheckForm.{CheckForm as TheForm};
 ghost use Rattle.quality_bits.specs.Capsules.{FillsCapsule};
 ghost use Rattle.quality_bits.specs.declared.kind.Kind.TheVariants.{M16};
-ghost use Rattle.traffic_message.specs.Admitted.{admits, HasMessage};
-ghost use Rattle.traffic_message.specs.Messages.{message_body, traffic_capsule, IsTrafficMessage};
+ghost use Rattle.traffic_message.specs.Admitted.{traffic_admits, HasTrafficMessage};
+ghost use Rattle.traffic_message.specs.Messages.{traffic_message_body, traffic_capsule};
+ghost use Rattle.traffic_message.specs.Messages.{IsTrafficMessage};
 ghost use Rattle.traffic_message.specs.Messages.{Message};
 ghost use Rattle.traffic_message.specs.Multiplex.{joined, split_9600};
-ghost use Rattle.traffic_message.specs.Reading.{body_reading, traffic_reading};
+ghost use Rattle.traffic_message.specs.Reading.{traffic_body_reading, traffic_reading};
 
 /// Two messages with one spelling are the same.
 pub fn spelling_has_one_message()
@@ -25,16 +26,17 @@ pub fn reading_turns_spelling_back()
         (traffic_reading form capsule ≡ Some m)
         ↔ (IsTrafficMessage m × (capsule ≡ traffic_capsule form m)) }
     ensures body { (body : List Bool) (m : Message) →
-        (body_reading body ≡ Some m) ↔ (IsTrafficMessage m × (body ≡ message_body m)) }
+        (traffic_body_reading body ≡ Some m)
+        ↔ (IsTrafficMessage m × (body ≡ traffic_message_body m)) }
 {}
 
 /// A body that fills a capsule is that of a message exactly where its type, its length and the
 /// numbers that count its records admit it; no other body is.
 pub fn type_and_length_admit()
-    ensures fills { (m : Message) → IsTrafficMessage m → FillsCapsule M16 (message_body m) }
+    ensures fills { (m : Message) → IsTrafficMessage m → FillsCapsule M16 (traffic_message_body m) }
     ensures admitted { (body : List Bool) →
         FillsCapsule M16 body →
-        (admits body ≡ true) ↔ HasMessage body }
+        (traffic_admits body ≡ true) ↔ HasTrafficMessage body }
 {}
 
 /// The parts of a frame of 9,600 bits a second are all of its bits after the mode bits, in order.

@@ -2,7 +2,7 @@
 
 ghost use Rattle.std.specs.Prelude.{◌≡◌, ◌≤◌, drop, length};
 ghost use Rattle.message_layout.specs.Shapes.{shape};
-ghost use Rattle.traffic_message.specs.Layouts.{form_at, shape_of};
+ghost use Rattle.traffic_message.specs.Layouts.{form_at, traffic_shape_of};
 
 use crate::handoff::is_hard_handoff;
 use crate::table::{HEAD_FIELDS, IN_TRAFFIC_FIELDS, SEARCH_FIELDS, TIME_FIELDS, UPDATE_FIELDS};
@@ -42,7 +42,7 @@ pub(crate) fn form_of(kind: u8, encryption: u8, bits: &BitSlice<'_>, from: u16) 
 
 /// The layout of a form.
 pub(crate) fn layout_of(form: Form) -> Layout
-    ensures { shape result ≡ shape_of form }
+    ensures { shape result ≡ traffic_shape_of form }
 {
     match form {
         Form::Parameters => IN_TRAFFIC,

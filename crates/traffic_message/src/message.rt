@@ -6,9 +6,10 @@ ghost use Rattle.quality_bits.specs.Capsules.{FillsCapsule, IsWhole};
 ghost use Rattle.quality_bits.specs.Kinds.{IsChecked};
 ghost use Rattle.quality_bits.specs.declared.kind.Kind.TheVariants.{M16};
 ghost use Rattle.traffic_message.specs.Layouts.{head_contents, head_in};
-ghost use Rattle.traffic_message.specs.Messages.{head_fields, head_values, message_body};
+ghost use Rattle.traffic_message.specs.Messages.{head_fields, head_values, traffic_message_body};
 ghost use Rattle.traffic_message.specs.Messages.{traffic_capsule, IsTrafficMessage, Message};
-ghost use Rattle.traffic_message.specs.Reading.{body_reading, is_body, reading_of, traffic_reading};
+ghost use Rattle.traffic_message.specs.Reading.{traffic_body_reading, is_traffic_body, reading_of};
+ghost use Rattle.traffic_message.specs.Reading.{traffic_reading};
 
 use crate::body::TrafficBody;
 use crate::fields::Head;
@@ -57,13 +58,14 @@ impl TrafficMessage {
         self.body
     }
 
-    /// The message that a body spells, as `body_reading` defines it; `None` exactly where no
-    /// message has this body.
+    /// The message that a body spells, as `traffic_body_reading` defines it; `None` exactly where
+    /// no message has this body.
     pub fn from_body(body: &Bits) -> Option<TrafficMessage>
-        ensures found { IfSome result (λ m. IsTrafficMessage m × (body.now ≡ message_body m)) }
-        ensures only { (m : Message) → IsTrafficMessage m → body.now ≡ message_body m →
+        ensures found { IfSome result
+            (λ m. IsTrafficMessage m × (body.now ≡ traffic_message_body m)) }
+        ensures only { (m : Message) → IsTrafficMessage m → body.now ≡ traffic_message_body m →
             result ≡ Some m }
-        ensures reading { result ≡ body_reading body.now }
+        ensures reading { result ≡ traffic_body_reading body.now }
     {
         TrafficMessage::read(&BitSlice::whole(body))
     }
@@ -104,7 +106,7 @@ impl TrafficMessage {
 
     /// The message that a body spells.
     fn read(body: &BitSlice<'_>) -> Option<TrafficMessage>
-        ensures { result ≡ body_reading body.now }
+        ensures { result ≡ traffic_body_reading body.now }
     {
         if !fills_capsule(body) {
             return None;
@@ -117,7 +119,7 @@ impl TrafficMessage {
 
     /// The body that spells the message.
     fn spelled_body(&self) -> Bits
-        ensures value { result ≡ message_body self.now }
+        ensures value { result ≡ traffic_message_body self.now }
         ensures fills { FillsCapsule M16 result }
     {
         let mut body = Bits::empty();
@@ -128,9 +130,9 @@ impl TrafficMessage {
 }
 
 /// Whether a body's length is that of a capsule of 5 to 148 octets, and has a head.
-#[tactic(auto, unfolding(crate::specs::Reading::is_body))]
+#[tactic(auto, unfolding(crate::specs::Reading::is_traffic_body))]
 fn fills_capsule(body: &BitSlice<'_>) -> bool
-    ensures { result ≡ is_body body.now }
+    ensures { result ≡ is_traffic_body body.now }
 {
     body.len() % 8 == 0 && body.len() >= 17 && body.len() <= 1160
 }

@@ -33,19 +33,20 @@ pub use Rattle.cell_script.proofs.ScriptSplits.{draft_after-line, lines-append, 
 pub use Rattle.cell_script.proofs.ScriptTables.{traffic_read}
 pub use Rattle.cell_script.specs.Script.{draft_after, named, plan_fault, stated, unless}
 unfoldable pub use Rattle.cell_script.specs.Script.{is_line, lines, plan_named, stated_plan}
-pub use Rattle.cell_script.specs.ScriptDrafts.{Draft, draft_at, empty_draft, empty_plan, opened, plan_at, with_frame}
+pub use Rattle.cell_script.specs.ScriptDrafts.{Draft, draft_at, empty_draft, empty_plan, opened_paging, plan_at, with_frame}
 unfoldable pub use Rattle.cell_script.specs.ScriptDrafts.{with_line, with_next}
 unfoldable pub use Rattle.cell_script.specs.Rows.{numbers_in, past_numbers}
 pub use Rattle.cell_script.specs.ScriptFields.{keyed, past_at, unsigned_at, value_of}
-unfoldable pub use Rattle.cell_script.specs.ScriptFields.{field, past}
+unfoldable pub use Rattle.cell_script.specs.ScriptFields.{script_field, past}
 pub use Rattle.cell_script.specs.ScriptLines.{cell_line, cell_rows, check_form, frame_key, frame_with, lawful_frame, page_key, page_with}
 pub use Rattle.cell_script.specs.ScriptLines.{traffic_in}
-unfoldable pub use Rattle.cell_script.specs.ScriptLines.{cell_in, frame_in, freq_in, link_in, page_in, paging_in, past_freq, pilot_in}
+unfoldable pub use Rattle.cell_script.specs.ScriptLines.{cell_in, traffic_frame_in, freq_in, link_in, stated_page_in, paging_in, past_freq}
+unfoldable pub use Rattle.cell_script.specs.ScriptLines.{pilot_in}
 unfoldable pub use Rattle.cell_script.specs.ScriptLines.{statement_in, sync_behind, sync_in}
 pub use Rattle.cell_script.specs.ScriptStages.{after_frame, after_traffic, count_behind}
-unfoldable pub use Rattle.cell_script.specs.ScriptStages.{pages_behind}
-pub use Rattle.cell_script.specs.ScriptValues.{all_clear, as_state, begins_with, behind, hex_digit, octets_in, unpadded}
-unfoldable pub use Rattle.cell_script.specs.ScriptValues.{bits_in, power_bits_in, digits_behind, hex_bits, hex_from, length_before}
+unfoldable pub use Rattle.cell_script.specs.ScriptStages.{page_stage}
+pub use Rattle.cell_script.specs.ScriptValues.{all_clear, as_state, begins_with, text_after, hex_digit, octets_in, unpadded}
+unfoldable pub use Rattle.cell_script.specs.ScriptValues.{bits_in_text, power_bits_in, digits_behind, hex_bits, hex_from, length_before}
 unfoldable pub use Rattle.cell_script.specs.ScriptValues.{number_up_to, serial_number_in, signed_in, state_in}
 pub use Rattle.cell_script.specs.declared.stage.Stage.{Stage}
 pub use Rattle.cell_script.specs.declared.stage.Stage.TheVariants.{FirstFrame, FirstPage, Frames, Link, Pages, Paging, Pilot, Sync}
@@ -65,7 +66,7 @@ pub use Rattle.hex.proofs.HexLemmas.{decode_of-encode_lower, length-encode_with}
 pub use Rattle.hex.specs.Hex.{IsBytes, encode_lower, lower_digits}
 unfoldable pub use Rattle.hex.specs.Hex.{decode_pairs, encode_with}
 pub use Rattle.line_text.specs.Texts.{digit_of, octet_count}
-unfoldable pub use Rattle.line_text.specs.Texts.{bit_text, digits_of, octets, padded, serial_digits, state_digits}
+unfoldable pub use Rattle.line_text.specs.Texts.{bit_text, digits_of, packed_octets, padded, serial_digits, state_digits}
 pub use Rattle.long_code.specs.LongCode.{IsState}
 unfoldable pub use Rattle.paging_message.specs.Admitted.{admits}
 unfoldable pub use Rattle.paging_message.specs.HalfFrames.{bits_left}
@@ -77,7 +78,8 @@ pub use Rattle.quality_bits.specs.declared.rate.Rate.{Rate}
 pub use Rattle.quality_bits.specs.declared.rate.Rate.TheVariants.{R9600}
 pub use Rattle.trial_link.specs.Spelling.{form_bit}
 unfoldable pub use Rattle.trial_link.specs.Spelling.{cell_text, frame_text, page_text, traffic_text}
-pub use Rattle.trial_link.specs.Trial.{behind_draw, behind_frame, bits_of_frame, channel_of, channel_text, drawn, ended, followed_line}
+pub use Rattle.trial_link.specs.Trial.{behind_draw, behind_frame, bits_of_frame, traffic_plan_of, channel_text, drawn, with_line_feed}
+pub use Rattle.trial_link.specs.Trial.{followed_line}
 pub use Rattle.trial_link.specs.Trial.{frame_drawn, frame_lines, head_text, link_text, second_line, state_of_draws, sync_text, third_line}
 unfoldable pub use Rattle.trial_link.specs.Trial.{behind_draws, behind_frames, bits_drawn, frames_drawn, other_frame, trial_cell}
 unfoldable pub use Rattle.trial_link.specs.Trial.{trial_frames, trial_page, trial_plan, trial_serial_number, trial_sync, trial_text}

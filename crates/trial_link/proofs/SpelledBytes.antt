@@ -6,7 +6,7 @@ use Rattle.trial_link.proofs.Common.{length-append, length-drop, is_ascii_digit,
 use Rattle.trial_link.proofs.Common.{all_ascii_digits, pow-le-pow_right, and_from, and_parts, cases_lt, cond-false, cond-true, eq-eqb}
 use Rattle.trial_link.proofs.Common.{eqb-true, le-leb, leb-true, ne_eqb, digits_decimal, length-decimal-le, length-take, length-encode_with}
 use Rattle.trial_link.proofs.Common.{IsBytes, encode_lower, encode_with, lower_digits, number_lt, number, bit_text, digit_of, digits_of}
-use Rattle.trial_link.proofs.Common.{octet_count, octets, padded, serial_digits, state_digits, is_line, length_before, own_numerals}
+use Rattle.trial_link.proofs.Common.{octet_count, packed_octets, padded, serial_digits, state_digits, is_line, length_before, own_numerals}
 
 -- whether all bytes are in a range
 abbrev pub are_within : ℕ → ℕ → List ℕ → Bool
@@ -221,29 +221,29 @@ octet_small bits =
     omega (arith, number_lt (take 8 bits), most)
 
 -- the octets of bits, and how many
-pub octets_are : (count : ℕ) (bits : List Bool) → IsBytes (octets count bits)
-unfolding octets
+pub octets_are : (count : ℕ) (bits : List Bool) → IsBytes (packed_octets count bits)
+unfolding packed_octets
 octets_are zero bits i = omega arith
 octets_are (suc count) bits zero = octet_small bits
 octets_are (suc count) bits (suc i) = octets_are count (drop 8 bits) i
 
-pub octets_long : (count : ℕ) (bits : List Bool) → length (octets count bits) ≡ count
-unfolding octets
+pub octets_long : (count : ℕ) (bits : List Bool) → length (packed_octets count bits) ≡ count
+unfolding packed_octets
 octets_long zero bits = refl
 octets_long (suc count) bits = ap suc (octets_long count (drop 8 bits))
 
 abbrev pub octet_digits : List Bool → List ℕ
-octet_digits bits = encode_lower (octets (octet_count bits) (padded bits))
+octet_digits bits = encode_lower (packed_octets (octet_count bits) (padded bits))
 
 -- what stands after the colon, and how long it is
 pub octet_digits_within : (bits : List Bool) → are_within 48 102 (octet_digits bits) ≡ true
 octet_digits_within bits =
-    encoded_within (octets (octet_count bits) (padded bits))
+    encoded_within (packed_octets (octet_count bits) (padded bits))
     (octets_are (octet_count bits) (padded bits))
 
 pub octet_digits_long : (bits : List Bool) → length (octet_digits bits) ≡ 2 * octet_count bits
 octet_digits_long bits =
-    let all = length-encode_with lower_digits (octets (octet_count bits) (padded bits)) in
+    let all = length-encode_with lower_digits (packed_octets (octet_count bits) (padded bits)) in
     omega (arith, all, octets_long (octet_count bits) (padded bits))
 
 -- the whole text of bits

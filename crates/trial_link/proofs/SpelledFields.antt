@@ -1,6 +1,7 @@
 -- Fields read back: a key, and after it a value that ends at a space or with the text.
 use Rattle.trial_link.proofs.Common.{◌≡◌, ℕ, ◌==◌, true, List, [], ◌∷◌, ◌++◌, length, refl, sym, ap, ◌∙◌, arith, take, drop, Option, nat_eq}
-use Rattle.trial_link.proofs.Common.{append-nil, pointwise, drop-append_seam, take-append_seam, and_from, cond-true, eq-eqb, field, keyed}
+use Rattle.trial_link.proofs.Common.{append-nil, pointwise, drop-append_seam, take-append_seam, and_from, cond-true, eq-eqb, script_field}
+use Rattle.trial_link.proofs.Common.{keyed}
 use Rattle.trial_link.proofs.Common.{past, value_of, begins_with, length_before}
 use Rattle.trial_link.proofs.SpelledBytes.{are_within, before_low_mark, before_mark}
 use Rattle.cell_script.proofs.ScriptTexts.{before-none}
@@ -35,8 +36,8 @@ fenced_by_end value are =
 
 -- the value of a field, and what is after it
 pub field-front : {A : Type 0} (key value rest : List ℕ) (read : List ℕ → Option A) →
-    IsFenced value rest → field key read (key ++ (value ++ rest)) ≡ read value
-unfolding field
+    IsFenced value rest → script_field key read (key ++ (value ++ rest)) ≡ read value
+unfolding script_field
 field-front key value rest read fenced =
     let text = key ++ (value ++ rest) in
     let behind : keyed key text ≡ value ++ rest = drop-append_seam key (value ++ rest) in
@@ -58,9 +59,9 @@ past-front key value rest fenced =
 
 -- a last field
 pub field-last : {A : Type 0} (key value : List ℕ) (read : List ℕ → Option A) →
-    are_within 33 126 value ≡ true → field key read (key ++ value) ≡ read value
+    are_within 33 126 value ≡ true → script_field key read (key ++ value) ≡ read value
 field-last key value read are =
-    ap (λ (t : List ℕ). field key read (key ++ t)) (sym (append-nil value))
+    ap (λ (t : List ℕ). script_field key read (key ++ t)) (sym (append-nil value))
     ∙ field-front key value [] read (fenced_by_end value are)
 
 pub past-last : (key value : List ℕ) → are_within 33 126 value ≡ true →

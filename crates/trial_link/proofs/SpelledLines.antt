@@ -3,9 +3,11 @@ use Rattle.trial_link.proofs.Common.{◌≡◌, ℕ, ◌+◌, ◌*◌, ◌/◌, 
 use Rattle.trial_link.proofs.Common.{◌∙◌, arith, Some, codes, decimal, nat_le, ◌&&◌, ◌==◌, option_map, take, length-append, and_parts}
 use Rattle.trial_link.proofs.Common.{cond-true, eq-eqb, leb-true, number, CheckForm, Plain, Complemented, bit_text, digits_of}
 use Rattle.trial_link.proofs.Common.{serial_digits, state_digits, admits, is_body, information_of, Rate, R9600, CellIdentity, Page}
-use Rattle.trial_link.proofs.Common.{TrafficLine, TrafficFrame, field, past, past_at, unsigned_at, cell_in, cell_line, cell_rows}
-use Rattle.trial_link.proofs.Common.{check_form, frame_in, frame_key, frame_with, lawful_frame, page_in, page_key, page_with, statement_in}
-use Rattle.trial_link.proofs.Common.{traffic_in, IsStatedCell, bits_in, power_bits_in, number_up_to, serial_number_in, state_in, cell_text}
+use Rattle.trial_link.proofs.Common.{TrafficLine, TrafficFrame, script_field, past, past_at, unsigned_at, cell_in, cell_line, cell_rows}
+use Rattle.trial_link.proofs.Common.{check_form, traffic_frame_in, frame_key, frame_with, lawful_frame, stated_page_in, page_key, page_with}
+use Rattle.trial_link.proofs.Common.{statement_in}
+use Rattle.trial_link.proofs.Common.{traffic_in, IsStatedCell, bits_in_text, power_bits_in, number_up_to, serial_number_in, state_in}
+use Rattle.trial_link.proofs.Common.{cell_text}
 use Rattle.trial_link.proofs.Common.{form_bit, frame_text, page_text, traffic_text, IsTrafficFrame, traffic_read}
 use Rattle.trial_link.proofs.SpelledBytes.{are_within, bit_text_short, bit_text_within, decimal_short, decimal_within, digits_of_long}
 use Rattle.trial_link.proofs.SpelledBytes.{digits_of_within, serial_long, serial_within, state_long, state_within, within-append}
@@ -248,7 +250,7 @@ body_short body is =
     (and_parts (nat_le (length body) 1146) (admits (number (take 8 body)) (length body)) all.1).0
 
 page_read : (follows : Bool) (body : List Bool) (text : List ℕ) →
-    field (page_key follows) bits_in text ≡ Some body → past (page_key follows) text ≡ [] →
+    script_field (page_key follows) bits_in_text text ≡ Some body → past (page_key follows) text ≡ [] →
     is_body body ≡ true →
     page_with follows text ≡ Some (record { follows = follows; body = body })
 page_read follows body text read ended is = rw (read, ended, is) refl
@@ -260,7 +262,7 @@ page_back follows body is =
     let short = body_short body is in
     let word = bits_word body (omega (arith, short)) in
     page_read follows body (page_key follows ++ bit_text body)
-    (field-last (page_key follows) (bit_text body) bits_in word
+    (field-last (page_key follows) (bit_text body) bits_in_text word
     ∙ bits_back body (omega (arith, short)))
     (past-last (page_key follows) (bit_text body) word)
     is
@@ -268,7 +270,7 @@ page_back follows body is =
 page_statement : (follows : Bool) (body : List Bool) →
     statement_in (page_key follows ++ bit_text body)
     ≡ option_map statements.Page (page_with follows (page_key follows ++ bit_text body))
-unfolding statement_in page_in
+unfolding statement_in stated_page_in
 page_statement true body = refl
 page_statement false body = refl
 
@@ -297,9 +299,9 @@ page_line_within page is =
 -- ---- frames
 
 frame_read : (rate : Rate) (information power_bits : List Bool) (text0 text1 : List ℕ) →
-    field (frame_key rate) bits_in text0 ≡ Some information →
+    script_field (frame_key rate) bits_in_text text0 ≡ Some information →
     past (frame_key rate) text0 ≡ text1 →
-    field (codes " ") power_bits_in text1 ≡ Some power_bits → past (codes " ") text1 ≡ [] →
+    script_field (codes " ") power_bits_in text1 ≡ Some power_bits → past (codes " ") text1 ≡ [] →
     length information ≡ information_of rate →
     frame_with rate text0
     ≡ Some (record { rate = rate; information = information; power_bits = power_bits })
@@ -328,7 +330,7 @@ frame_back rate information power_bits long sixteen =
     (bits_word information (omega (arith, long, few))) in
     let behind = codes " " ++ digits_of power_bits in
     frame_read rate information power_bits (frame_line rate information power_bits) behind
-    (field-front (frame_key rate) (bit_text information) behind bits_in information_end
+    (field-front (frame_key rate) (bit_text information) behind bits_in_text information_end
     ∙ bits_back information (omega (arith, long, few)))
     (past-front (frame_key rate) (bit_text information) behind information_end)
     (field-last (codes " ") (digits_of power_bits) power_bits_in (digits_word power_bits)
@@ -339,7 +341,7 @@ frame_back rate information power_bits long sixteen =
 frame_statement : (rate : Rate) (rest : List ℕ) →
     statement_in (frame_key rate ++ rest)
     ≡ option_map statements.Frame (frame_with rate (frame_key rate ++ rest))
-unfolding statement_in frame_in
+unfolding statement_in traffic_frame_in
 frame_statement R9600 rest = refl
 frame_statement rate rest = refl
 

@@ -6,8 +6,9 @@ use Rattle.trial_link.proofs.Common.{flat_map, option_and_then, byte_at, bytes_h
 use Rattle.trial_link.proofs.Common.{take-append_seam, cond-false, cond-true, eq-eqb, eqb-true, le-ltb, lt-leb, lt-ltb, ne_eqb}
 use Rattle.trial_link.proofs.Common.{length-replicate, from_be_bytes-to_be_bytes_4, from_be_bytes-to_be_bytes_8, decode_of-encode_lower}
 use Rattle.trial_link.proofs.Common.{IsBytes, encode_lower, encode_with, lower_digits, binary, number, IsState, binary-number, bit_text}
-use Rattle.trial_link.proofs.Common.{digits_of, octet_count, octets, padded, serial_digits, state_digits, all_clear, as_state, behind}
-use Rattle.trial_link.proofs.Common.{bits_in, power_bits_in, digits_behind, hex_bits, hex_digit, hex_from, length_before, number_up_to}
+use Rattle.trial_link.proofs.Common.{digits_of, octet_count, packed_octets, padded, serial_digits, state_digits, all_clear, as_state}
+use Rattle.trial_link.proofs.Common.{text_after}
+use Rattle.trial_link.proofs.Common.{bits_in_text, power_bits_in, digits_behind, hex_bits, hex_digit, hex_from, length_before, number_up_to}
 use Rattle.trial_link.proofs.Common.{octets_in, serial_number_in, state_in, unpadded, one_numeral}
 use Rattle.std.proofs.lemmas.List.{length-drop}
 use Rattle.trial_link.proofs.SpelledBytes.{are_within, at_below, before_high_mark, before_mark, bytes_are, decimal_within, digits_of_long}
@@ -118,14 +119,14 @@ no_bits [] none = refl
 no_bits (bit ∷ bits) none = absurd (omega (arith, none))
 
 octets_spell : (count : ℕ) (bits : List Bool) → length bits ≡ 8 * count →
-    flat_map (binary 8) (octets count bits) ≡ bits
-unfolding octets
+    flat_map (binary 8) (packed_octets count bits) ≡ bits
+unfolding packed_octets
 octets_spell zero bits whole = no_bits bits (omega (arith, whole))
 octets_spell (suc count) bits whole =
     let eight : length (take 8 bits) ≡ 8 = length-take-le 8 bits (omega (arith, whole)) in
     let first : binary 8 (number (take 8 bits)) ≡ take 8 bits =
     ap (λ (k : ℕ). binary k (number (take 8 bits))) (sym eight) ∙ binary-number (take 8 bits) in
-    ap (λ (bs : List Bool). bs ++ flat_map (binary 8) (octets count (drop 8 bits))) first
+    ap (λ (bs : List Bool). bs ++ flat_map (binary 8) (packed_octets count (drop 8 bits))) first
     ∙ ap (λ (bs : List Bool). take 8 bits ++ bs)
     (octets_spell count (drop 8 bits) (omega (arith, length-drop 8 bits, whole)))
     ∙ take-append-drop 8 bits
@@ -164,7 +165,7 @@ hex_bits_back : (bits : List Bool) → length bits ≤ 1184 →
     hex_bits (octet_digits bits) ≡ Some (padded bits)
 unfolding hex_bits
 hex_bits_back bits few =
-    let bytes = octets (octet_count bits) (padded bits) in
+    let bytes = packed_octets (octet_count bits) (padded bits) in
     cond-false _ _ _ (le-ltb 296 (length (octet_digits bits))
     (omega (arith, octet_digits_long bits, few)))
     ∙ ap octets_in (decode_of-encode_lower bytes (octets_are (octet_count bits) (padded bits)))
@@ -175,12 +176,12 @@ abbrev bits_of_parts : List ℕ → List ℕ → Option (List Bool)
 bits_of_parts front rest =
     option_and_then
     (λ count. option_and_then (λ digits. option_and_then (unpadded count) (hex_bits digits))
-    (behind (codes ":") rest))
+    (text_after (codes ":") rest))
     (number_up_to 1184 front)
 
 bits_in-parts : (front hex : List ℕ) → are_within 48 57 front ≡ true →
-    bits_in (front ++ 58 ∷ hex) ≡ bits_of_parts front (58 ∷ hex)
-unfolding bits_in
+    bits_in_text (front ++ 58 ∷ hex) ≡ bits_of_parts front (58 ∷ hex)
+unfolding bits_in_text
 bits_in-parts front hex are =
     let text = front ++ 58 ∷ hex in
     let at_mark : length_before 58 text ≡ length front =
@@ -195,7 +196,7 @@ bits_in-parts front hex are =
     ∙ ap (λ (t : List ℕ). bits_of_parts front t) (drop-append_seam front (58 ∷ hex))
 
 -- bits
-pub bits_back : (bits : List Bool) → length bits ≤ 1184 → bits_in (bit_text bits) ≡ Some bits
+pub bits_back : (bits : List Bool) → length bits ≤ 1184 → bits_in_text (bit_text bits) ≡ Some bits
 unfolding bit_text
 bits_back bits few =
     let count = length bits in
@@ -204,9 +205,9 @@ bits_back bits few =
     ≡ option_and_then (unpadded count) (hex_bits hex) =
     ap (option_and_then
     (λ (n : ℕ). option_and_then (λ (ds : List ℕ). option_and_then (unpadded n) (hex_bits ds))
-    (behind (codes ":") (58 ∷ hex))))
+    (text_after (codes ":") (58 ∷ hex))))
     (number_back 1184 count (omega arith) few) in
-    ap bits_in (append_assoc (decimal count) (codes ":") hex)
+    ap bits_in_text (append_assoc (decimal count) (codes ":") hex)
     ∙ bits_in-parts (decimal count) hex (decimal_within count (omega (arith, few)))
     ∙ step
     ∙ ap (option_and_then (unpadded count)) (hex_bits_back bits few)

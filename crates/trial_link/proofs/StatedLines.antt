@@ -2,7 +2,7 @@
 use Rattle.trial_link.proofs.Common.{◌≡◌, ℕ, ◌+◌, ◌-◌, true, List, [], ◌∷◌, ◌++◌, length, take, refl, sym, ap, ◌∙◌, arith, Option, Some}
 use Rattle.trial_link.proofs.Common.{append_assoc, length-append, Ok, append-nil, option_and_then, ok_or, take-append_seam, CellPlan}
 use Rattle.trial_link.proofs.Common.{Statement, draft_after, lines, stated, stated_plan, Draft, empty_draft, plan_at, with_line, with_next}
-use Rattle.trial_link.proofs.Common.{statement_in, ended, draft_after-line, lines-append, stated-next, stated-none}
+use Rattle.trial_link.proofs.Common.{statement_in, with_line_feed, draft_after-line, lines-append, stated-next, stated-none}
 use Rattle.trial_link.proofs.SpelledBytes.{are_within, is_line-within}
 
 -- ---- one line
@@ -13,14 +13,14 @@ unfolding with_line
 with_line-of draft text statement is = ap (option_and_then (with_next draft)) is
 
 -- how long a line is
-pub ended_long : (text : List ℕ) → length (ended text) ≡ length text + 1
+pub ended_long : (text : List ℕ) → length (with_line_feed text) ≡ length text + 1
 ended_long text = length-append text (10 ∷ [])
 
-line_text : (text : List ℕ) → take (length (ended text) - 1) (ended text) ≡ text
+line_text : (text : List ℕ) → take (length (with_line_feed text) - 1) (with_line_feed text) ≡ text
 line_text text =
-    let long : length (ended text) - 1 ≡ length text =
+    let long : length (with_line_feed text) - 1 ≡ length text =
     omega (arith, length-append text (10 ∷ [])) in
-    ap (λ (n : ℕ). take n (ended text)) long ∙ take-append_seam text (10 ∷ [])
+    ap (λ (n : ℕ). take n (with_line_feed text)) long ∙ take-append_seam text (10 ∷ [])
 
 -- ---- lines after one another
 
@@ -33,17 +33,17 @@ pub record Leads (draft : Draft) (text : List ℕ) (next : Draft) : Type 0 where
 -- one line
 pub one_leads : (draft next : Draft) (text : List ℕ) (statement : Statement) →
     are_within 32 126 text ≡ true → statement_in text ≡ Some statement →
-    with_next draft statement ≡ Some next → Leads draft (ended text) next
+    with_next draft statement ≡ Some next → Leads draft (with_line_feed text) next
 one_leads draft next text statement are is behind_it =
     let line = is_line-within text are in
-    let after : draft_after draft (ended text) ≡ Some next =
-    draft_after-line draft (ended text) line ∙ ap (with_line draft) (line_text text)
+    let after : draft_after draft (with_line_feed text) ≡ Some next =
+    draft_after-line draft (with_line_feed text) line ∙ ap (with_line draft) (line_text text)
     ∙ with_line-of draft text statement is ∙ behind_it in
     record {
       on = λ n behind. (
         n + 1,
-        ap (stated draft n) (lines-append (ended text) behind line)
-            ∙ stated-next draft next n (ended text) (lines behind) after,
+        ap (stated draft n) (lines-append (with_line_feed text) behind line)
+            ∙ stated-next draft next n (with_line_feed text) (lines behind) after,
       );
     }
 

@@ -2,7 +2,8 @@
 use Rattle.trial_link.proofs.Common.{◌≡◌, ℕ, suc, ◌+◌, ◌%◌, ◌==◌, List, [], ◌∷◌, ◌++◌, length, map, refl, sym, ap, ◌∙◌, arith, append_assoc}
 use Rattle.trial_link.proofs.Common.{append-nil, flat_map-append, places, length-map-places, map-places-more, places-none, CellIdentity}
 use Rattle.trial_link.proofs.Common.{TrafficFrame, cell_text, frame_text, page_text, traffic_text, behind_draw, behind_draws, behind_frame}
-use Rattle.trial_link.proofs.Common.{behind_frames, bits_drawn, channel_text, drawn, ended, followed_line, frame_drawn, frame_lines}
+use Rattle.trial_link.proofs.Common.{behind_frames, bits_drawn, channel_text, drawn, with_line_feed, followed_line, frame_drawn}
+use Rattle.trial_link.proofs.Common.{frame_lines}
 use Rattle.trial_link.proofs.Common.{frames_drawn, head_text, other_frame, link_text, second_line, sync_text, third_line, trial_cell}
 use Rattle.trial_link.proofs.Common.{trial_frames, trial_page, trial_serial_number, trial_text}
 
@@ -46,14 +47,14 @@ unfolding behind_frames
 frames_more state n = let e : n + 1 ≡ suc n = omega arith in ap (behind_frames state) e
 
 line_more : (frames : List TrafficFrame) (frame : TrafficFrame) →
-    frame_lines (frames ++ frame ∷ []) ≡ frame_lines frames ++ ended (frame_text frame)
+    frame_lines (frames ++ frame ∷ []) ≡ frame_lines frames ++ with_line_feed (frame_text frame)
 line_more frames frame =
-    flat_map-append (λ (f : TrafficFrame). ended (frame_text f)) frames (frame ∷ [])
-    ∙ ap (λ (text : List ℕ). frame_lines frames ++ text) (append-nil (ended (frame_text frame)))
+    flat_map-append (λ (f : TrafficFrame). with_line_feed (frame_text f)) frames (frame ∷ [])
+    ∙ ap (λ (text : List ℕ). frame_lines frames ++ text) (append-nil (with_line_feed (frame_text frame)))
 
 pub lines_more : (state n : ℕ) →
     frame_lines (frames_drawn state (n + 1))
-    ≡ frame_lines (frames_drawn state n) ++ ended (frame_text (frame_drawn (behind_frames state n)))
+    ≡ frame_lines (frames_drawn state n) ++ with_line_feed (frame_text (frame_drawn (behind_frames state n)))
 unfolding frames_drawn
 lines_more state n =
     ap frame_lines (map-places-more (λ k. frame_drawn (behind_frames state k)) n)
@@ -82,7 +83,7 @@ serial_number_drawn number = refl
 
 pub script_whole : (number : ℕ) (one two three four : List ℕ) →
     one ≡ head_text (trial_cell number) →
-    two ≡ one ++ ended (traffic_text (followed_line (trial_serial_number number))) →
+    two ≡ one ++ with_line_feed (traffic_text (followed_line (trial_serial_number number))) →
     three ≡ two ++ frame_lines (frames_drawn (behind_draws number 5) 100) →
     four
     ≡ three
@@ -91,7 +92,7 @@ pub script_whole : (number : ℕ) (one two three four : List ℕ) →
 unfolding trial_text trial_frames
 script_whole number one two three four one_is two_is three_is four_is =
     let head = head_text (trial_cell number) in
-    let line = ended (traffic_text (followed_line (trial_serial_number number))) in
+    let line = with_line_feed (traffic_text (followed_line (trial_serial_number number))) in
     let frames = frame_lines (frames_drawn (behind_draws number 5) 100) in
     let others = channel_text second_line (other_frame ∷ [])
     ++ channel_text third_line (other_frame ∷ []) in
@@ -102,11 +103,11 @@ script_whole number one two three four one_is two_is three_is four_is =
 
 -- the lines before the traffic channels
 pub head_whole : (cell : CellIdentity) (before one two three four : List ℕ) →
-    one ≡ before ++ ended (cell_text cell) → two ≡ one ++ link_text → three ≡ two ++ sync_text →
-    four ≡ three ++ ended (page_text (trial_page cell.pn)) → four ≡ before ++ head_text cell
+    one ≡ before ++ with_line_feed (cell_text cell) → two ≡ one ++ link_text → three ≡ two ++ sync_text →
+    four ≡ three ++ with_line_feed (page_text (trial_page cell.pn)) → four ≡ before ++ head_text cell
 head_whole cell before one two three four one_is two_is three_is four_is =
-    let page = ended (page_text (trial_page cell.pn)) in
-    let first = ended (cell_text cell) in
+    let page = with_line_feed (page_text (trial_page cell.pn)) in
+    let first = with_line_feed (cell_text cell) in
     let second : two ≡ before ++ (first ++ link_text) =
     text_more before one two first link_text (first ++ link_text) one_is two_is refl in
     let third : three ≡ before ++ (first ++ (link_text ++ sync_text)) =

@@ -3,8 +3,8 @@ use Rattle.trial_link.proofs.Common.{◌≡◌, ℕ, ◌+◌, ◌*◌, ◌<◌, 
 use Rattle.trial_link.proofs.Common.{subst, Some, append_assoc, append-nil, length-append, option_map, length-map-range_with_len, places}
 use Rattle.trial_link.proofs.Common.{CellPlan, TrafficPlan, Stage, FirstFrame, Frames, TrafficLine, TrafficFrame, Draft, draft_at}
 use Rattle.trial_link.proofs.Common.{with_frame, with_next, with_one, IsTrafficFrame, after_frame, after_traffic, frame_text, traffic_text}
-use Rattle.trial_link.proofs.Common.{behind_draw, behind_draws, behind_frames, bits_of_frame, channel_of, channel_text}
-use Rattle.trial_link.proofs.Common.{ended, frame_drawn, frame_lines, frames_drawn, on_last-last}
+use Rattle.trial_link.proofs.Common.{behind_draw, behind_draws, behind_frames, bits_of_frame, traffic_plan_of, channel_text}
+use Rattle.trial_link.proofs.Common.{with_line_feed, frame_drawn, frame_lines, frames_drawn, on_last-last}
 use Rattle.trial_link.proofs.SpelledLines.{IsStatedLine, frame_line_within, frame_spelled, frame_text_short, traffic_line_within}
 use Rattle.trial_link.proofs.SpelledLines.{traffic_spelled, traffic_text_short}
 use Rattle.trial_link.proofs.StatedLines.{Leads, both_lead, ended_long, none_leads, one_leads}
@@ -20,7 +20,7 @@ AreToldFrames (f ∷ frames) =
 -- a plan whose last traffic channel has these frames
 abbrev pub with_last : CellPlan → List TrafficPlan → TrafficLine → List TrafficFrame → CellPlan
 with_last plan before line frames =
-    record plan { traffic = before ++ channel_of line frames ∷ [] }
+    record plan { traffic = before ++ traffic_plan_of line frames ∷ [] }
 
 abbrev pub on_frames : CellPlan → List TrafficPlan → TrafficLine → List TrafficFrame → Draft
 on_frames plan before line frames = draft_at (with_last plan before line frames) Frames
@@ -41,12 +41,12 @@ frame_added : (plan : CellPlan) (before : List TrafficPlan) (line : TrafficLine)
 frame_added plan before line got f stage is =
     frame_next (with_last plan before line got) stage f is
     ∙ ap (λ (ts : List TrafficPlan). Some (draft_at (record plan { traffic = ts }) Frames))
-    (on_last-last (with_one f) before (channel_of line got))
+    (on_last-last (with_one f) before (traffic_plan_of line got))
 
 frame_leads : (plan : CellPlan) (before : List TrafficPlan) (line : TrafficLine)
     (got : List TrafficFrame) (f : TrafficFrame) (stage : Stage) →
     after_frame stage ≡ Some Frames → IsTrafficFrame f → length f.power_bits ≡ 16 →
-    Leads (draft_at (with_last plan before line got) stage) (ended (frame_text f))
+    Leads (draft_at (with_last plan before line got) stage) (with_line_feed (frame_text f))
     (on_frames plan before line (got ++ f ∷ []))
 frame_leads plan before line got f stage is long sixteen =
     one_leads (draft_at (with_last plan before line got) stage)
@@ -67,7 +67,7 @@ frames_lead plan before line got (f ∷ frames) are =
     Leads (on_frames plan before line got) (frame_lines (f ∷ frames))
     (on_frames plan before line fs)) (append_assoc got (f ∷ []) frames)
     (both_lead (on_frames plan before line got) (on_frames plan before line (got ++ f ∷ []))
-    (on_frames plan before line ((got ++ f ∷ []) ++ frames)) (ended (frame_text f))
+    (on_frames plan before line ((got ++ f ∷ []) ++ frames)) (with_line_feed (frame_text f))
     (frame_lines frames)
     (frame_leads plan before line got f Frames refl are.0 are.1)
     (frames_lead plan before line (got ++ f ∷ []) frames are.2))
@@ -92,12 +92,12 @@ channel_leads plan stage line [] is stated are some = absurd (omega (arith, some
 channel_leads plan stage line (f ∷ frames) is stated are some =
     let opened = draft_at (with_last plan plan.traffic line []) FirstFrame in
     both_lead (draft_at plan stage) opened (on_frames plan plan.traffic line (f ∷ frames))
-    (ended (traffic_text line)) (frame_lines (f ∷ frames))
+    (with_line_feed (traffic_text line)) (frame_lines (f ∷ frames))
     (one_leads (draft_at plan stage) opened (traffic_text line) (statements.Traffic line)
     (traffic_line_within line stated) (traffic_spelled line stated)
     (traffic_next plan stage line is))
     (both_lead opened (on_frames plan plan.traffic line (f ∷ []))
-    (on_frames plan plan.traffic line (f ∷ frames)) (ended (frame_text f)) (frame_lines frames)
+    (on_frames plan plan.traffic line (f ∷ frames)) (with_line_feed (frame_text f)) (frame_lines frames)
     (frame_leads plan plan.traffic line [] f FirstFrame refl are.0 are.1)
     (frames_lead plan plan.traffic line (f ∷ []) frames are.2))
 
@@ -107,7 +107,7 @@ frame_lines_short [] are = omega arith
 frame_lines_short (f ∷ frames) are =
     omega (
       arith,
-      length-append (ended (frame_text f)) (frame_lines frames),
+      length-append (with_line_feed (frame_text f)) (frame_lines frames),
       ended_long (frame_text f),
       frame_text_short f are.0 are.1,
       frame_lines_short frames are.2,
@@ -119,7 +119,7 @@ pub channel_short : (line : TrafficLine) (frames : List TrafficFrame) → IsStat
 channel_short line frames is are =
     omega (
       arith,
-      length-append (ended (traffic_text line)) (frame_lines frames),
+      length-append (with_line_feed (traffic_text line)) (frame_lines frames),
       ended_long (traffic_text line),
       traffic_text_short line is,
       frame_lines_short frames are,

@@ -4,10 +4,12 @@ use Rattle.trial_link.proofs.Common.{◌∙◌, arith, Some, None, Ok, codes, po
 use Rattle.trial_link.proofs.Common.{le-ltb, Sixteen, binary, digits_from, decode_pairs, IsState, admits, bits_left, fill, is_body, R9600}
 use Rattle.trial_link.proofs.Common.{CellIdentity, CellPlan, LinkPlan, Stage, Link, Pilot, Sync, Paging, FirstPage, Pages, Frames}
 use Rattle.trial_link.proofs.Common.{PagingLine, named, plan_fault, plan_named, stated_plan, unless, draft_at, empty_draft, empty_plan}
-use Rattle.trial_link.proofs.Common.{opened, with_next, field, numbers_in, past, past_numbers, freq_in, link_in, paging_in, past_freq}
-use Rattle.trial_link.proofs.Common.{pilot_in, statement_in, sync_behind, sync_in, IsStatedCell, count_behind, pages_behind, bits_in}
+use Rattle.trial_link.proofs.Common.{opened_paging, with_next, script_field, numbers_in, past, past_numbers, freq_in, link_in, paging_in}
+use Rattle.trial_link.proofs.Common.{past_freq}
+use Rattle.trial_link.proofs.Common.{pilot_in, statement_in, sync_behind, sync_in, IsStatedCell, count_behind, page_stage, bits_in_text}
 use Rattle.trial_link.proofs.Common.{hex_bits, length_before, number_up_to, signed_in, cell_text, page_text, channel_text, drawn}
-use Rattle.trial_link.proofs.Common.{behind_draws, ended, followed_line, head_text, link_text, other_frame, second_line, state_of_draws}
+use Rattle.trial_link.proofs.Common.{behind_draws, with_line_feed, followed_line, head_text, link_text, other_frame, second_line}
+use Rattle.trial_link.proofs.Common.{state_of_draws}
 use Rattle.trial_link.proofs.Common.{sync_text, third_line, trial_cell, trial_frames, trial_page, trial_plan, trial_serial_number}
 use Rattle.trial_link.proofs.Common.{trial_sync, trial_text}
 use Rattle.trial_link.proofs.SpelledLines.{IsStatedLine, cell_line_within, cell_spelled, cell_text_short, page_line_within, page_spelled}
@@ -26,24 +28,24 @@ trial_paging = record { number = 1; gain = 60 }
 
 link_stated : statement_in (codes "link re=1 im=0 start=0 samples=2457600")
     ≡ Some (statements.Link trial_link)
-unfolding statement_in link_in field past length_before number_up_to digits_from signed_in
+unfolding statement_in link_in script_field past length_before number_up_to digits_from signed_in
 link_stated = refl
 
 pilot_stated : statement_in (codes "pilot gain=100")
     ≡ Some (statements.Pilot (record { gain = 100 }))
-unfolding statement_in pilot_in field past length_before number_up_to digits_from
+unfolding statement_in pilot_in script_field past length_before number_up_to digits_from
 pilot_stated = refl
 
 sync_stated : statement_in (codes
     "sync gain=30 prev=3 min=1 sid=1 nid=2 lp=13 ltm=0 daylt=0 prat=0 rest=3:00")
     ≡ Some (statements.Sync trial_sync)
 unfolding trial_sync statement_in sync_in sync_behind freq_in past_freq numbers_in past_numbers
-    field past length_before number_up_to digits_from bits_in hex_bits decode_pairs binary
+    script_field past length_before number_up_to digits_from bits_in_text hex_bits decode_pairs binary
 sync_stated = refl
 
 paging_stated : statement_in (codes "paging channel=1 gain=60")
     ≡ Some (statements.Paging trial_paging)
-unfolding statement_in paging_in field past length_before number_up_to digits_from
+unfolding statement_in paging_in script_field past length_before number_up_to digits_from
 paging_stated = refl
 
 -- ---- the page
@@ -52,9 +54,9 @@ page_is_body : (pn : ℕ) → is_body (trial_page pn).body ≡ true
 unfolding is_body admits trial_page binary
 page_is_body pn = refl
 
-page_fits : (pn : ℕ) → pages_behind R9600 0 (trial_page pn)
+page_fits : (pn : ℕ) → page_stage R9600 0 (trial_page pn)
     ≡ Some (Pages R9600 (count_behind R9600 0 (trial_page pn)))
-unfolding pages_behind bits_left fill trial_page binary
+unfolding page_stage bits_left fill trial_page binary
 page_fits pn = refl
 
 -- ---- the cell
@@ -123,7 +125,7 @@ abbrev with_sync : CellIdentity → CellPlan
 with_sync cell = record (with_pilot cell) { sync = Some trial_sync }
 
 abbrev with_paging : CellIdentity → CellPlan
-with_paging cell = record (with_sync cell) { paging = opened trial_paging ∷ [] }
+with_paging cell = record (with_sync cell) { paging = opened_paging trial_paging ∷ [] }
 
 abbrev with_page : CellIdentity → CellPlan
 with_page cell = record (with_sync cell) {
@@ -174,7 +176,7 @@ link_leads : (cell : CellIdentity) →
     Leads (draft_at (with_cell cell) Link) link_text (draft_at (with_pilot cell) Sync)
 link_leads cell =
     both_lead (draft_at (with_cell cell) Link) (draft_at (with_link cell) Pilot)
-    (draft_at (with_pilot cell) Sync) (ended link_line) (ended pilot_line)
+    (draft_at (with_pilot cell) Sync) (with_line_feed link_line) (with_line_feed pilot_line)
     (one_leads (draft_at (with_cell cell) Link) (draft_at (with_link cell) Pilot) link_line
     (statements.Link trial_link) refl link_stated (link_next (with_cell cell)))
     (one_leads (draft_at (with_link cell) Pilot) (draft_at (with_pilot cell) Sync) pilot_line
@@ -185,7 +187,7 @@ sync_leads : (cell : CellIdentity) →
     (draft_at (with_paging cell) (FirstPage R9600))
 sync_leads cell =
     both_lead (draft_at (with_pilot cell) Sync) (draft_at (with_sync cell) (Paging R9600))
-    (draft_at (with_paging cell) (FirstPage R9600)) (ended sync_line) (ended paging_line)
+    (draft_at (with_paging cell) (FirstPage R9600)) (with_line_feed sync_line) (with_line_feed paging_line)
     (one_leads (draft_at (with_pilot cell) Sync) (draft_at (with_sync cell) (Paging R9600))
     sync_line (statements.Sync trial_sync) refl sync_stated (sync_next (with_pilot cell)))
     (one_leads (draft_at (with_sync cell) (Paging R9600))
@@ -193,7 +195,7 @@ sync_leads cell =
     (statements.Paging trial_paging) refl paging_stated (paging_next cell))
 
 page_leads : (cell : CellIdentity) →
-    Leads (draft_at (with_paging cell) (FirstPage R9600)) (ended (page_text (trial_page cell.pn)))
+    Leads (draft_at (with_paging cell) (FirstPage R9600)) (with_line_feed (page_text (trial_page cell.pn)))
     (draft_at (with_page cell) (behind_page cell.pn))
 page_leads cell =
     one_leads (draft_at (with_paging cell) (FirstPage R9600))
@@ -205,9 +207,9 @@ page_leads cell =
 head_leads : (cell : CellIdentity) → IsStatedCell cell →
     Leads empty_draft (head_text cell) (draft_at (with_page cell) (behind_page cell.pn))
 head_leads cell is =
-    let page = ended (page_text (trial_page cell.pn)) in
+    let page = with_line_feed (page_text (trial_page cell.pn)) in
     let last = draft_at (with_page cell) (behind_page cell.pn) in
-    both_lead empty_draft (draft_at (with_cell cell) Link) last (ended (cell_text cell))
+    both_lead empty_draft (draft_at (with_cell cell) Link) last (with_line_feed (cell_text cell))
     (link_text ++ (sync_text ++ page))
     (one_leads empty_draft (draft_at (with_cell cell) Link) (cell_text cell)
     (statements.Cell cell) (cell_line_within cell is) (cell_spelled cell is) (cell_next cell))
@@ -316,12 +318,12 @@ no_fault number = refl
 
 head_short : (cell : CellIdentity) → IsStatedCell cell → length (head_text cell) ≤ 2000
 head_short cell is =
-    let page = ended (page_text (trial_page cell.pn)) in
+    let page = with_line_feed (page_text (trial_page cell.pn)) in
     let link_long : length link_text ≡ 54 = refl in
     let sync_long : length sync_text ≡ 100 = refl in
     omega (
       arith,
-      length-append (ended (cell_text cell)) (link_text ++ (sync_text ++ page)),
+      length-append (with_line_feed (cell_text cell)) (link_text ++ (sync_text ++ page)),
       length-append link_text (sync_text ++ page),
       length-append sync_text page,
       ended_long (cell_text cell),

@@ -126,15 +126,15 @@ third_line = record { row = 10; esn = 10; offset = 5; gain = 40 }
 -- ---- the script
 
 -- a line with its LF
-abbrev pub ended : List ℕ → List ℕ
-ended line = line ++ 10 ∷ []
+abbrev pub with_line_feed : List ℕ → List ℕ
+with_line_feed line = line ++ 10 ∷ []
 
 abbrev pub frame_lines : List TrafficFrame → List ℕ
-frame_lines frames = flat_map (λ (f : TrafficFrame). ended (frame_text f)) frames
+frame_lines frames = flat_map (λ (f : TrafficFrame). with_line_feed (frame_text f)) frames
 
 -- a traffic channel with its frames
 abbrev pub channel_text : TrafficLine → List TrafficFrame → List ℕ
-channel_text line frames = ended (traffic_text line) ++ frame_lines frames
+channel_text line frames = with_line_feed (traffic_text line) ++ frame_lines frames
 
 -- two seconds of a link that leaves the samples as they are, and the pilot
 abbrev pub link_text : List ℕ
@@ -149,7 +149,8 @@ sync_text =
 -- the cell, the link, and the channels but those of traffic
 abbrev pub head_text : CellIdentity → List ℕ
 head_text cell =
-    ended (cell_text cell) ++ (link_text ++ (sync_text ++ ended (page_text (trial_page cell.pn))))
+    with_line_feed (cell_text cell)
+    ++ (link_text ++ (sync_text ++ with_line_feed (page_text (trial_page cell.pn))))
 
 -- the script of a number
 unfoldable pub trial_text : ℕ → List ℕ
@@ -164,8 +165,8 @@ trial_text number =
 unfoldable pub trial_sync : SyncPlan
 trial_sync = some_sync 0
 
-abbrev pub channel_of : TrafficLine → List TrafficFrame → TrafficPlan
-channel_of line frames = record {
+abbrev pub traffic_plan_of : TrafficLine → List TrafficFrame → TrafficPlan
+traffic_plan_of line frames = record {
   row = line.row;
   esn = line.esn;
   offset = line.offset;
@@ -185,8 +186,8 @@ trial_plan number = record {
     pages = trial_page (trial_cell number).pn ∷ [];
   } ∷ [];
   traffic =
-      channel_of (followed_line (trial_serial_number number)) (trial_frames number)
-      ∷ channel_of second_line (other_frame ∷ [])
-      ∷ channel_of third_line (other_frame ∷ [])
+      traffic_plan_of (followed_line (trial_serial_number number)) (trial_frames number)
+      ∷ traffic_plan_of second_line (other_frame ∷ [])
+      ∷ traffic_plan_of third_line (other_frame ∷ [])
       ∷ [];
 }

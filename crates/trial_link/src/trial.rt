@@ -174,7 +174,7 @@ pub fn trial_script(alloc: Global, number: u64) -> Result<Vec<u8>, OutOfMemory>
 
 /// Adds a line with its LF.
 fn add_line(script: &mut Vec<u8>, line: &Text) -> Result<(), OutOfMemory>
-    ensures { OnOk result (script.new.items ≡ script.old.items ++ trial.ended line.now) }
+    ensures { OnOk result (script.new.items ≡ script.old.items ++ trial.with_line_feed line.now) }
 {
     script.extend_from_slice(line.bytes())?;
     script.push(b'\n')?;
@@ -201,7 +201,7 @@ fn add_traffic(script: &mut Vec<u8>, channel: &TrafficLine) -> Result<(), OutOfM
     requires row { channel.now.row ≤ 63 }
     requires offset { channel.now.offset ≤ 15 }
     ensures { OnOk result (script.new.items ≡
-        script.old.items ++ trial.ended (traffic_text channel.now)) }
+        script.old.items ++ trial.with_line_feed (traffic_text channel.now)) }
 {
     let mut line = Text::empty();
     append_traffic(&mut line, channel);
@@ -211,7 +211,7 @@ fn add_traffic(script: &mut Vec<u8>, channel: &TrafficLine) -> Result<(), OutOfM
 /// Adds the line of a frame.
 fn add_frame(script: &mut Vec<u8>, frame: &TrafficFrame) -> Result<(), OutOfMemory>
     ensures { OnOk result (script.new.items ≡
-        script.old.items ++ trial.ended (frame_text frame.now)) }
+        script.old.items ++ trial.with_line_feed (frame_text frame.now)) }
 {
     let mut line = Text::empty();
     append_frame(&mut line, frame);

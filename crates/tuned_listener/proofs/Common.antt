@@ -42,7 +42,7 @@ pub use Rattle.mobile_core.proofs.MarkAhead.{marked_all}
 pub use Rattle.heard_events.specs.Channels.{IsLawful, channel_stream, has_power_control, mask_of, state_at}
 pub use Rattle.heard_events.specs.Events.{events}
 pub use Rattle.rake_finger.specs.FrameSamples.{AgreeIn}
-pub use Rattle.heard_events.specs.Given.{at_of, listed}
+pub use Rattle.heard_events.specs.Given.{at_of, event_list}
 pub use Rattle.heard_events.specs.Marks.{sets_mark}
 unfoldable pub use Rattle.heard_events.specs.Marks.{mark}
 pub use Rattle.rake_finger.specs.Near.{AreNear, all_begun, all_near, has_reference, low_in}
@@ -73,7 +73,7 @@ pub use Rattle.heard_events.specs.declared.soft_frame.SoftFrame.{SoftFrame}
 pub use Rattle.long_code.specs.LongCode.{after}
 pub use Rattle.tuned_listener.specs.declared.tuner.Tuner.{Tuner}
 pub use Rattle.tuned_listener.specs.declared.tuner.TunerStep.{TunerStep}
-pub use Rattle.paging_message.specs.HalfFrames.{StandsFor, half_frame_body, half_frame_capsule_ending}
+pub use Rattle.paging_message.specs.HalfFrames.{HalfFramesStandFor, half_frame_body, half_frame_capsule_ending}
 unfoldable pub use Rattle.paging_message.specs.HalfFrames.{capsules_in}
 pub use Rattle.paging_message.specs.Reading.{paging_reading}
 pub use Rattle.paging_message.specs.declared.message.PagingMessage.{PagingMessage}
@@ -82,20 +82,20 @@ pub use Rattle.quality_bits.specs.declared.rate.Rate.{Rate}
 pub use Rattle.rake_finger.specs.Scrambled.{unscrambled}
 pub use Rattle.rake_finger.specs.Soft.{frame_chips, softs}
 pub use Rattle.rake_finger.specs.declared.form.Form.TheVariants.{Data}
-pub use Rattle.slot_mode.specs.Frames.{slot_bits, span_softs}
+pub use Rattle.slot_mode.specs.Frames.{slot_bits, slot_span_softs}
 pub use Rattle.slot_mode.specs.Slots.{is_monitored}
 pub use Rattle.symbol_path.specs.Scrambling.{scrambling}
 pub use borrow.Rule.Slice.PartMut.{put_mid}
 pub use mir.Val.{bool_byte}
 pub use Rattle.tuned_listener.specs.FrameReceiving.{HasGiven, frame_passed}
-pub use Rattle.tuned_listener.specs.FrameWriting.{HoldsFrames, IsReady, WritesFrames, WritesFramesPart, text_of}
+pub use Rattle.tuned_listener.specs.FrameWriting.{HoldsFrames, IsReady, WritesFrames, WritesFramesPart, tuned_text_of}
 pub use Rattle.tuned_listener.specs.Marking.{HasNoMark, HearsUntold, IsMarkedAt, IsUntold, ListensAhead}
 pub use Rattle.tuned_listener.specs.SlotLaws.{AgreeInSlot, IsWrittenByTimes, NeedsMark, SleepsThroughTheRest}
 pub use Rattle.tuned_listener.specs.SlotWriting.{HoldsSlot, IsReadyForSlots, page_list, pages_ending}
 pub use Rattle.event_tap.specs.Slots.{slot_more, slot_text}
 unfoldable pub use Rattle.event_tap.specs.Slots.{slot_behind}
 pub use Rattle.tuned_listener.specs.TunedListening.{ListensBehind, ListensFrom, ListensTuned, TellsTuned, TellsTunedPart}
-pub use Rattle.event_tap.specs.TunedTexts.{behind_mark, frame_text, frames_from, listed_text, rate2_text, text_behind, text_from}
+pub use Rattle.event_tap.specs.TunedTexts.{behind_mark, tuned_frame_text, frames_from, listed_text, rate2_text, text_behind, text_from}
 unfoldable pub use Rattle.event_tap.specs.TunedTexts.{frames_text, tuned_text}
 pub use Rattle.tuned_listener.specs.declared.channel_receiver.ChannelReceiver.{ChannelReceiver}
 pub use Rattle.tuned_listener.specs.declared.frame_writer.FrameWriter.{FrameWriter}

@@ -1,6 +1,6 @@
 -- What is written of frames in order, and what they leave of a slot, as frames go on.
 use Rattle.tuned_listener.proofs.Common.{◌≡◌, ℕ, List, [], ◌∷◌, ◌++◌, refl, sym, ap, ◌∙◌, append-nil, append_assoc, flat_map, CheckForm}
-use Rattle.tuned_listener.proofs.Common.{Mark, SoftFrame, slot_behind, slot_more, frame_text, frames_text, listed_text, rate2_text}
+use Rattle.tuned_listener.proofs.Common.{Mark, SoftFrame, slot_behind, slot_more, tuned_frame_text, frames_text, listed_text, rate2_text}
 use Rattle.tuned_listener.proofs.Common.{TunedText, Listed, RateSetTwo}
 
 -- what frames leave of a slot
@@ -28,16 +28,16 @@ module _ (form : TunedText) (check : CheckForm) (m : Mark) where
   texts_joined kept [] ys = refl
   texts_joined kept (frame ∷ xs) ys =
       let slot = slot_more kept frame in
-      let first = frame_text form check m slot frame in
+      let first = tuned_frame_text form check m slot frame in
       ap (λ (text : List ℕ). first ++ text) (texts_joined slot xs ys)
       ∙ sym (append_assoc first (frames_text form check m slot xs)
       (frames_text form check m (slot_behind slot xs) ys))
 
   pub text_of_one : (kept : List SoftFrame) (frame : SoftFrame) →
       frames_text form check m kept (frame ∷ [])
-      ≡ frame_text form check m (slot_more kept frame) frame
+      ≡ tuned_frame_text form check m (slot_more kept frame) frame
   unfolding frames_text
-  text_of_one kept frame = append-nil (frame_text form check m (slot_more kept frame) frame)
+  text_of_one kept frame = append-nil (tuned_frame_text form check m (slot_more kept frame) frame)
 
   pub text_of_none : (kept : List SoftFrame) → frames_text form check m kept [] ≡ []
   unfolding frames_text
@@ -46,9 +46,9 @@ module _ (form : TunedText) (check : CheckForm) (m : Mark) where
   -- where the text of a frame is the same whatever is kept of its slot, that of frames is their
   -- texts one after the other
   pub texts_by_frame : ((slot : List SoftFrame) (frame : SoftFrame) →
-      frame_text form check m slot frame ≡ frame_text form check m [] frame) →
+      tuned_frame_text form check m slot frame ≡ tuned_frame_text form check m [] frame) →
       (kept frames : List SoftFrame) →
-      frames_text form check m kept frames ≡ flat_map (frame_text form check m []) frames
+      frames_text form check m kept frames ≡ flat_map (tuned_frame_text form check m []) frames
   unfolding frames_text
   texts_by_frame same kept [] = refl
   texts_by_frame same kept (frame ∷ frames) =

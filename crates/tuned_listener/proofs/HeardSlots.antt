@@ -2,7 +2,7 @@
 use Rattle.tuned_listener.proofs.Common.{◌≡◌, ◌<◌, ◌≤◌, ℕ, zero, suc, ◌+◌, ◌*◌, ◌/◌, Bool, true, false, List, length, take, drop, ℤ, refl}
 use Rattle.tuned_listener.proofs.Common.{sym, ap, ◌∙◌, arith, Some, None, flat_map, nat_lt, sum_by, unsigned_abs, take-add, if◌then◌else◌}
 use Rattle.tuned_listener.proofs.Common.{eq-eqb, drop-drop, take_all, sum_by-append, CheckForm, paging_rate, frame_most, Mark, SoftFrame}
-use Rattle.tuned_listener.proofs.Common.{slot_bits, span_softs, is_monitored, Rate, slot_lines, slot_pages, HoldsSlot, slot_text}
+use Rattle.tuned_listener.proofs.Common.{slot_bits, slot_span_softs, is_monitored, Rate, slot_lines, slot_pages, HoldsSlot, slot_text}
 use Rattle.tuned_listener.proofs.Common.{SlotWriter}
 
 -- ---- its soft values
@@ -33,7 +33,7 @@ module _ (softs : List ℤ) (small : (frame : ℕ) → frame < 4 →
 
   -- those of a frame's span
   pub spans_small : (frame : ℕ) → frame < 4 →
-      sum_by unsigned_abs (span_softs softs frame) ≤ 4611686018427387904
+      sum_by unsigned_abs (slot_span_softs softs frame) ≤ 4611686018427387904
   spans_small zero below = let few = frames_small 0 2 (omega arith) in omega (arith, few)
   spans_small (suc zero) below = let few = frames_small 0 3 (omega arith) in omega (arith, few)
   spans_small (suc (suc zero)) below =

@@ -6,7 +6,7 @@ use Rattle.tuned_listener.proofs.Common.{Appends-trans, and_from, cases_Bool, ca
 use Rattle.tuned_listener.proofs.Common.{take-append-drop, take_all, places, Sample, AppendsPrefix, channel_stream, paging_bound}
 use Rattle.tuned_listener.proofs.Common.{frames_within, soft_frame, soft_frames, IsTimed, IsTunedTo, IsTunerStep, Tuning, Channel, Mark}
 use Rattle.tuned_listener.proofs.Common.{SoftFrame, Tuner, TunerStep, frames_sooner, HoldsFrames, WritesFrames, WritesFramesPart}
-use Rattle.tuned_listener.proofs.Common.{slot_behind, slot_more, frame_text, frames_text, text_from, FrameWriter, TunedText}
+use Rattle.tuned_listener.proofs.Common.{slot_behind, slot_more, tuned_frame_text, frames_text, text_from, FrameWriter, TunedText}
 use Rattle.tuned_listener.proofs.FrameTexts.{kept_behind, kept_behind_none, kept_behind_one, text_of_none, text_of_one, texts_joined}
 use Rattle.event_tap.proofs.Prefixes.{begins_more, prefix_before, prefix_behind, taken_begins}
 use Rattle.heard_events.proofs.Arrivals.{Arrivals, by_parts, frames_in, is_by}
@@ -132,7 +132,7 @@ module _ (t : Tuning) (channel : Channel) (m : Mark) (form : TunedText) where
   module _ (heard : List Sample) (shown : Option SoftFrame) where
     -- the text of what a step gives
     pub frame_written : (frame : SoftFrame) (old new : Option (List ℕ)) → shown ≡ Some frame →
-        Appends old new (frame_text form t.check30 m
+        Appends old new (tuned_frame_text form t.check30 m
         (slot_more (kept_of t channel m heard) frame) frame) →
         Appends old new (shown_text form t channel m heard shown)
     frame_written frame old new is written =
@@ -142,7 +142,7 @@ module _ (t : Tuning) (channel : Channel) (m : Mark) (form : TunedText) where
         (sym (text_of_one form t.check30 m (kept_of t channel m heard) frame)) written)
 
     pub frame_cut : (frame : SoftFrame) (old new : Option (List ℕ)) → shown ≡ Some frame →
-        AppendsPrefix old new (frame_text form t.check30 m
+        AppendsPrefix old new (tuned_frame_text form t.check30 m
         (slot_more (kept_of t channel m heard) frame) frame) →
         AppendsPrefix old new (shown_text form t channel m heard shown)
     frame_cut frame old new is part =

@@ -3,7 +3,8 @@ use Rattle.tuned_listener.proofs.Common.{◌≡◌, ℕ, ◌+◌, true, List, []
 use Rattle.tuned_listener.proofs.Common.{append-nil, append_assoc, arith, subst, ◌*◌, ◌<◌, ◌≤◌, sum_by, unsigned_abs, StartsWith, is_some}
 use Rattle.tuned_listener.proofs.Common.{Appends-nil, take-append-drop, take_all, CheckForm, Sample, Near, IsLawful, mark, AreNear}
 use Rattle.tuned_listener.proofs.Common.{soft_frames, frame_most, IsTunedTo, Tuning, sync_stream, Channel, Paging, Traffic, Mark, Mobile}
-use Rattle.tuned_listener.proofs.Common.{SoftFrame, Tuner, HoldsFrames, IsReady, WritesFrames, WritesFramesPart, text_of, ListensAhead}
+use Rattle.tuned_listener.proofs.Common.{SoftFrame, Tuner, HoldsFrames, IsReady, WritesFrames, WritesFramesPart, tuned_text_of}
+use Rattle.tuned_listener.proofs.Common.{ListensAhead}
 use Rattle.tuned_listener.proofs.Common.{ListensBehind, ListensFrom, ListensTuned, TellsTuned, TellsTunedPart, IsReadyForSlots, slot_behind}
 use Rattle.tuned_listener.proofs.Common.{behind_mark, frames_from, text_from, tuned_text, FrameWriter, SlotWriter, Behind, TunedListener}
 use Rattle.tuned_listener.proofs.Common.{TunedText}
@@ -77,7 +78,7 @@ module _ (t : Tuning) (channel : Channel) (form : TunedText) (l : TunedListener)
     (heard : List Sample) (is : ListensTuned t channel form l heard) where
   -- another takes its place, on the same channel
   pub listens_on : (l' : TunedListener) (heard' : List Sample) → l'.phase ≡ l.phase →
-      l'.near ≡ l.near → l'.channel ≡ l.channel → text_of l'.writer ≡ text_of l.writer →
+      l'.near ≡ l.near → l'.channel ≡ l.channel → tuned_text_of l'.writer ≡ tuned_text_of l.writer →
       HoldsFrames l'.writer t.check30 (slot_behind [] (behind_mark t channel heard')) →
       ListensFrom t channel l'.ahead l'.behind heard' → ListensTuned t channel form l' heard'
   listens_on l' heard' phase near same text holds from = record {
@@ -110,7 +111,7 @@ module _ (t : Tuning) (channel : Channel) (form : TunedText) (l : TunedListener)
       let silent = frames_unmarked t channel now hears.unmarked
       ∙ sym (frames_unmarked t channel heard unmarked) in
       subst (ListensTuned t channel form l') (sym joined)
-      (listens_on l' now phase near same (ap text_of writer)
+      (listens_on l' now phase near same (ap tuned_text_of writer)
       (subst (λ (w : FrameWriter). HoldsFrames w t.check30 (slot_behind [] (behind_mark t channel now)))
       (sym writer) (holds_on now silent))
       (subst (λ (a : Option Mobile). ListensFrom t channel a l'.behind now) (sym ahead)
@@ -133,7 +134,7 @@ module _ (t : Tuning) (channel : Channel) (form : TunedText) (l : TunedListener)
       frames_marked t channel heard' b.mark marked
       ∙ subst (λ (c : Channel). soft_frames t c b.mark heard' ≡ []) is.channel_is none
       ∙ sym (frames_unmarked t channel heard unmarked) in
-      listens_on l' heard' phase near same (ap text_of writer)
+      listens_on l' heard' phase near same (ap tuned_text_of writer)
       (subst (λ (w : FrameWriter). HoldsFrames w t.check30
       (slot_behind [] (behind_mark t channel heard'))) (sym writer) (holds_on heard' silent))
       (subst (λ (a : Option Mobile). ListensFrom t channel a l'.behind heard') (sym ahead)
@@ -219,12 +220,12 @@ module _ (t : Tuning) (channel : Channel) (form : TunedText) (l : TunedListener)
 
     -- the frames were written
     pub tells_behind : (l' : TunedListener) (tuner' : Tuner) → l'.phase ≡ l.phase →
-        l'.near ≡ l.near → l'.channel ≡ l.channel → text_of l'.writer ≡ text_of l.writer →
+        l'.near ≡ l.near → l'.channel ≡ l.channel → tuned_text_of l'.writer ≡ tuned_text_of l.writer →
         l'.ahead ≡ l.ahead → l'.behind ≡ Some (record { mark = b.mark; tuner = tuner' }) →
         ((t : Tuning) (channel : Channel) (heard : List Sample) →
         IsTunedTo t channel b.mark b.tuner heard →
         HoldsFrames l.writer t.check30 (slot_behind [] (soft_frames t channel b.mark heard)) →
-        WritesFrames t channel b.mark (text_of l.writer) tuner' l'.writer heard (heard ++ samples)
+        WritesFrames t channel b.mark (tuned_text_of l.writer) tuner' l'.writer heard (heard ++ samples)
         old new) →
         TellsTuned t channel form l' heard (heard ++ samples) old new
     tells_behind l' tuner' phase near same text ahead behind writes =
@@ -254,7 +255,7 @@ module _ (t : Tuning) (channel : Channel) (form : TunedText) (l : TunedListener)
     pub tells_cut : ((t : Tuning) (channel : Channel) (heard : List Sample) →
         IsTunedTo t channel b.mark b.tuner heard →
         HoldsFrames l.writer t.check30 (slot_behind [] (soft_frames t channel b.mark heard)) →
-        WritesFramesPart t channel b.mark (text_of l.writer) heard (heard ++ samples) old new) →
+        WritesFramesPart t channel b.mark (tuned_text_of l.writer) heard (heard ++ samples) old new) →
         TellsTunedPart t channel form heard (heard ++ samples) old new
     tells_cut writes =
         let m = b.mark in
@@ -293,7 +294,7 @@ tells_nothing t channel form l l' heard samples old is none empty phase near sam
       written = Appends-nil old;
       all = append-nil (tuned_text form t channel heard) ∙ ap (tuned_text form t channel) (sym now);
       listens = subst (ListensTuned t channel form l') (sym now)
-          (listens_on t channel form l heard is l' heard phase near same (ap text_of writer)
+          (listens_on t channel form l heard is l' heard phase near same (ap tuned_text_of writer)
           (subst (λ (w : FrameWriter). HoldsFrames w t.check30
           (slot_behind [] (behind_mark t channel heard))) (sym writer) is.holds)
           from);

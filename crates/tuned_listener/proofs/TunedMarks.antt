@@ -2,7 +2,7 @@
 use Rattle.tuned_listener.proofs.Common.{◌≡◌, ℕ, ◌+◌, ◌≤◌, true, false, List, [], ◌∷◌, ◌++◌, length, refl, sym, ap, ◌∙◌, subst, arith, inl}
 use Rattle.tuned_listener.proofs.Common.{inr, Option, Some, None, append-nil, append_assoc, drop, length-append, length-take-le, take}
 use Rattle.tuned_listener.proofs.Common.{∥∥₁_map, IfSome, is_some, list_any, cases_lt, not_there, take-append-drop, take_all, Sample}
-use Rattle.tuned_listener.proofs.Common.{events, at_of, listed, mark, sets_mark, AreNear, low_of, Steps, samples_taken, Tuning}
+use Rattle.tuned_listener.proofs.Common.{events, at_of, event_list, mark, sets_mark, AreNear, low_of, Steps, samples_taken, Tuning}
 use Rattle.tuned_listener.proofs.Common.{sync_stream, Event, Mark, Mobile, Step, timed_of, mark_sooner, mark_stays, marked_all, HasNoMark}
 use Rattle.tuned_listener.proofs.Common.{HearsUntold, IsMarkedAt, IsUntold, ListensAhead}
 use Rattle.mobile_core.specs.Standing.{StandsFor}
@@ -63,13 +63,13 @@ module _ (before after : Mobile) (next : List Sample) (step : Step)
   abbrev pub StaysUnset : Type 0
   StaysUnset = (t : Tuning) (heard : List Sample) (given : List Event) →
       list_any sets_mark given ≡ false →
-      StandsFor t after (heard ++ take step.taken next) (given ++ listed step.event) →
-      list_any sets_mark (given ++ listed step.event) ≡ false
+      StandsFor t after (heard ++ take step.taken next) (given ++ event_list step.event) →
+      list_any sets_mark (given ++ event_list step.event) ≡ false
 
   -- so where the step gave no event
   pub unset_without : step.event ≡ None → StaysUnset
   unset_without none t heard given unset stands =
-      ap (λ (e : Option Event). list_any sets_mark (given ++ listed e)) none
+      ap (λ (e : Option Event). list_any sets_mark (given ++ event_list e)) none
       ∙ ap (list_any sets_mark) (append-nil given)
       ∙ unset
 
@@ -78,7 +78,7 @@ module _ (before after : Mobile) (next : List Sample) (step : Step)
       ((t : Tuning) (heard : List Sample) (given : List Event) → StandsFor t after heard given →
       is_some told ≡ list_any sets_mark given) → StaysUnset
   unset_untold told none tells t heard given unset stands =
-      sym (tells t (heard ++ take step.taken next) (given ++ listed step.event) stands)
+      sym (tells t (heard ++ take step.taken next) (given ++ event_list step.event) stands)
       ∙ ap is_some none
 
   module _ (unset : StaysUnset) where
@@ -87,7 +87,7 @@ module _ (before after : Mobile) (next : List Sample) (step : Step)
     no_mark_more t heard has =
         let is = does.stands t heard has.given has.stands in
         record {
-          given = has.given ++ listed step.event;
+          given = has.given ++ event_list step.event;
           stands = is;
           unset = unset t heard has.given has.unset is;
         }
@@ -117,16 +117,16 @@ module _ (before after : Mobile) (next : List Sample) (step : Step)
       ∙ ap (λ (xs : List Sample). heard ++ xs) (take-append-drop taken samples) in
       let stands = does.stands t now has.given has.stands in
       let unset = unset_without none t now has.given has.unset stands in
-      let given : has.given ++ listed step.event ≡ events t (now ++ take step.taken next) =
-      ap (λ (e : Option Event). has.given ++ listed e) none
+      let given : has.given ++ event_list step.event ≡ events t (now ++ take step.taken next) =
+      ap (λ (e : Option Event). has.given ++ event_list e) none
       ∙ append-nil has.given
       ∙ told t now has.given has.stands
       ∙ ap (λ (xs : List Sample). events t (now ++ xs)) (sym taken_all) in
       subst (ListensAhead t after) whole
       (record {
-        has = record { given = has.given ++ listed step.event; stands = stands; unset = unset };
+        has = record { given = has.given ++ event_list step.event; stands = stands; unset = unset };
         unmarked = unmarked_all t after (now ++ take step.taken next)
-            (has.given ++ listed step.event) stands unset given;
+            (has.given ++ event_list step.event) stands unset given;
       })
 
   module _ (told : Option Mark) (m : Mark) (is : told ≡ Some m)
@@ -141,10 +141,10 @@ module _ (before after : Mobile) (next : List Sample) (step : Step)
     early None gave ahead was =
         let given = was.has.given in
         let stands = does.stands was.tuning was.heard given was.has.stands in
-        let set : true ≡ list_any sets_mark (given ++ listed step.event) =
+        let set : true ≡ list_any sets_mark (given ++ event_list step.event) =
         sym (ap is_some is) ∙ tells was.tuning (was.heard ++ take step.taken next)
-        (given ++ listed step.event) stands in
-        let unset : list_any sets_mark (given ++ listed step.event) ≡ false =
+        (given ++ event_list step.event) stands in
+        let unset : list_any sets_mark (given ++ event_list step.event) ≡ false =
         unset_without (sym gave) was.tuning was.heard given was.has.unset stands in
         let lost : true ≡ false = set ∙ unset in
         absurd (cc)
@@ -153,7 +153,7 @@ module _ (before after : Mobile) (next : List Sample) (step : Step)
         let given = was.has.given in
         let now = was.heard ++ take step.taken next in
         let stands : StandsFor t after now (given ++ event ∷ []) =
-        subst (λ (e : Option Event). StandsFor t after now (given ++ listed e)) (sym gave)
+        subst (λ (e : Option Event). StandsFor t after now (given ++ event_list e)) (sym gave)
         (does.stands t was.heard given was.has.stands) in
         let ends : at_of event ≡ length was.heard + step.taken =
         subst (λ (e : Option Event). IfSome e
@@ -184,9 +184,9 @@ module _ (before after : Mobile) (next : List Sample) (step : Step)
       let stands = does.stands t now has.given has.stands in
       subst (IsMarkedAt t after m) (step_joined heard samples next taken step.taken left)
       (record {
-        given = has.given ++ listed step.event;
+        given = has.given ++ event_list step.event;
         stands = stands;
-        marked = set (now ++ take step.taken next) (has.given ++ listed step.event) stands;
+        marked = set (now ++ take step.taken next) (has.given ++ event_list step.event) stands;
       })
 
   -- no mark is told

@@ -8,7 +8,7 @@ use Rattle.heard_events.specs.declared.channel.Channel.{Channel}
 use Rattle.heard_events.specs.declared.mark.Mark.{Mark}
 use Rattle.tuned_listener.specs.declared.channel_receiver.ChannelReceiver.{ChannelReceiver}
 use Rattle.rake_finger.specs.Held.{Held}
-use Rattle.reception.specs.Clocks.{IsAt, frame_come, frame_heard}
+use Rattle.reception.specs.Clocks.{IsAt, frame_come, clock_after_frame}
 use Rattle.reception.specs.Sound.{IsSoundReceiver}
 
 -- one to three fingers, and each frame that came was given
@@ -32,7 +32,7 @@ pub record HasGiven (t : Tuning) (channel : Channel) (m : Mark) (r : ChannelRece
 abbrev pub frame_passed : ChannelReceiver → ChannelReceiver
 frame_passed r =
     record r {
-      frames = record r.frames { clock = frame_heard (frame_come r.frames.clock) };
+      frames = record r.frames { clock = clock_after_frame (frame_come r.frames.clock) };
     }
 
 -- the ring holds two frames, and the next frame ends later

@@ -22,10 +22,10 @@ use Rattle.event_tap.specs.declared.tuned_text.TunedText.TheVariants.{Listed, Ra
 use Rattle.event_tap.specs.declared.tuned_text.TunedText.TheVariants.{Slots}
 
 -- which text it writes
-abbrev pub text_of : FrameWriter → TunedText
-text_of (writers.RateSetTwo decoder) = RateSetTwo
-text_of (writers.Listed decoder k) = Listed k
-text_of (writers.Slots slots) = Slots slots.key slots.cycle
+abbrev pub tuned_text_of : FrameWriter → TunedText
+tuned_text_of (writers.RateSetTwo decoder) = RateSetTwo
+tuned_text_of (writers.Listed decoder k) = Listed k
+tuned_text_of (writers.Slots slots) = Slots slots.key slots.cycle
 
 -- its decoder takes a frame, and lists from 1 to 16 codewords; or it is ready for slots
 abbrev pub IsReady : FrameWriter → Type 0

@@ -10,7 +10,7 @@ use Rattle.tuned_listener.specs.Tuners.{IsTunedTo, samples_left}
 use Rattle.heard_events.specs.Tuning.{Tuning, sync_stream}
 use Rattle.heard_events.specs.declared.channel.Channel.{Channel}
 use Rattle.mobile_core.specs.declared.mobile.Mobile.{Mobile}
-use Rattle.tuned_listener.specs.FrameWriting.{HoldsFrames, text_of}
+use Rattle.tuned_listener.specs.FrameWriting.{HoldsFrames, tuned_text_of}
 use Rattle.tuned_listener.specs.Marking.{ListensAhead}
 use Rattle.event_tap.specs.Slots.{slot_behind}
 use Rattle.event_tap.specs.TunedTexts.{behind_mark, tuned_text}
@@ -38,7 +38,7 @@ pub record ListensTuned (t : Tuning) (channel : Channel) (form : TunedText) (l :
   pub phase_is : t.phase ≡ l.phase
   pub deltas_are : t.deltas ≡ take l.near.count l.near.deltas
   pub channel_is : l.channel ≡ channel
-  pub form_is : text_of l.writer ≡ form
+  pub form_is : tuned_text_of l.writer ≡ form
   pub close : AreNear (sync_stream t).fingers
   pub holds : HoldsFrames l.writer t.check30 (slot_behind [] (behind_mark t channel heard))
   pub listens : ListensFrom t channel l.ahead l.behind heard

@@ -13,10 +13,11 @@ ghost use Rattle.tuned_listener.specs.Tuners.{IsTunedTo, samples_left};
 ghost use Rattle.heard_events.specs.Tuning.{Tuning};
 ghost use Rattle.heard_events.specs.declared.channel.Channel.{Channel as TheChannel};
 ghost use Rattle.heard_events.specs.declared.soft_frame.SoftFrame.{SoftFrame as TheFrame};
-ghost use Rattle.tuned_listener.specs.FrameWriting.{HoldsFrames, IsLawfulText, IsReady, text_of};
+ghost use Rattle.tuned_listener.specs.FrameWriting.{HoldsFrames, IsLawfulText, IsReady};
+ghost use Rattle.tuned_listener.specs.FrameWriting.{tuned_text_of};
 ghost use Rattle.tuned_listener.specs.FrameWriting.{WritesFrames, WritesFramesPart};
 ghost use Rattle.event_tap.specs.Slots.{slot_behind, slot_more};
-ghost use Rattle.event_tap.specs.TunedTexts.{listed_text, rate2_text, frame_text};
+ghost use Rattle.event_tap.specs.TunedTexts.{listed_text, rate2_text, tuned_frame_text};
 
 use crate::slot_writer::SlotWriter;
 use crate::tuner::Tuner;
@@ -108,7 +109,7 @@ impl FrameWriter {
     ) -> Result<FrameWriter, OutOfMemory>
         requires { IsLawfulText text }
         ensures ready { IfOk result IsReady }
-        ensures text { IfOk result (λ writer. text_of writer ≡ text) }
+        ensures text { IfOk result (λ writer. tuned_text_of writer ≡ text) }
         ensures holds { IfOk result (λ writer. HoldsFrames writer check []) }
     {
         match text {
@@ -132,17 +133,19 @@ impl FrameWriter {
         requires mark { IsSoundMark mark.now }
         requires small { sum_by unsigned_abs frame.now.descrambled ≤ frame_most }
         ensures ready { IsReady self.new }
-        ensures text { text_of self.new ≡ text_of self.old }
+        ensures text { tuned_text_of self.new ≡ tuned_text_of self.old }
         ensures holds { (check : TheCheck) (slot : List TheFrame) →
             HoldsFrames self.old check slot →
             HoldsFrames self.new check (slot_more slot frame.now) }
         ensures ok { OnOk result ((check : TheCheck) (slot : List TheFrame) →
             HoldsFrames self.old check slot → Appends (K.written sink.old) (K.written sink.new)
-            (frame_text (text_of self.old) check mark.now (slot_more slot frame.now) frame.now)) }
+            (tuned_frame_text (tuned_text_of self.old) check mark.now (slot_more slot frame.now)
+            frame.now)) }
         ensures err { OnErr result ((check : TheCheck) (slot : List TheFrame) →
             HoldsFrames self.old check slot →
             AppendsPrefix (K.written sink.old) (K.written sink.new)
-            (frame_text (text_of self.old) check mark.now (slot_more slot frame.now) frame.now)) }
+            (tuned_frame_text (tuned_text_of self.old) check mark.now (slot_more slot frame.now)
+            frame.now)) }
         ensures cause { HasCause (K.faults sink.old) (K.faults sink.new) result }
     {
         match self {
@@ -168,16 +171,16 @@ pub(crate) fn hear_frames<K: Sink>(
     ensures room { OnOk result (samples_left tuner.new + length samples.now
         ≡ samples_left tuner.old) }
     ensures ready { IsReady writer.new }
-    ensures text { text_of writer.new ≡ text_of writer.old }
+    ensures text { tuned_text_of writer.new ≡ tuned_text_of writer.old }
     ensures ok { OnOk result ((t : Tuning) (channel : TheChannel) (heard : List TheSample) →
         IsTunedTo t channel mark.now tuner.old heard →
         HoldsFrames writer.old t.check30 (slot_behind [] (soft_frames t channel mark.now heard)) →
-        WritesFrames t channel mark.now (text_of writer.old) tuner.new writer.new heard
+        WritesFrames t channel mark.now (tuned_text_of writer.old) tuner.new writer.new heard
         (heard ++ samples.now) (K.written sink.old) (K.written sink.new)) }
     ensures err { OnErr result ((t : Tuning) (channel : TheChannel) (heard : List TheSample) →
         IsTunedTo t channel mark.now tuner.old heard →
         HoldsFrames writer.old t.check30 (slot_behind [] (soft_frames t channel mark.now heard)) →
-        WritesFramesPart t channel mark.now (text_of writer.old) heard (heard ++ samples.now)
+        WritesFramesPart t channel mark.now (tuned_text_of writer.old) heard (heard ++ samples.now)
         (K.written sink.old) (K.written sink.new)) }
     ensures cause { HasCause (K.faults sink.old) (K.faults sink.new) result }
 {

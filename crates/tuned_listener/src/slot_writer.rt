@@ -9,7 +9,7 @@ ghost use Rattle.event_tap.specs.PagingLines.{paging_line};
 ghost use Rattle.reception.specs.Softs.{frame_most};
 ghost use Rattle.heard_events.specs.SoundMarks.{IsSoundMark};
 ghost use Rattle.heard_events.specs.declared.soft_frame.SoftFrame.{SoftFrame as TheFrame};
-ghost use Rattle.paging_message.specs.HalfFrames.{IsPagingRate, StandsFor};
+ghost use Rattle.paging_message.specs.HalfFrames.{IsPagingRate, HalfFramesStandFor};
 ghost use Rattle.event_tap.specs.SlotLines.{slot_lines, slot_pages};
 ghost use Rattle.tuned_listener.specs.SlotWriting.{HoldsSlot, IsReadyForSlots, page_list};
 ghost use Rattle.tuned_listener.specs.SlotWriting.{pages_ending};
@@ -77,9 +77,9 @@ struct Page {
 /// where it completes none, or one that has a fault.
 fn page_behind(framer: &mut HalfFramer, bit: bool, check: CheckForm) -> Option<Page>
     ensures size { framer.new.size ≡ framer.old.size }
-    ensures stands { (bits : List Bool) → StandsFor framer.old bits →
-        StandsFor framer.new (bits ++ bit ∷ []) }
-    ensures page { (bits : List Bool) → StandsFor framer.old bits →
+    ensures stands { (bits : List Bool) → HalfFramesStandFor framer.old bits →
+        HalfFramesStandFor framer.new (bits ++ bit ∷ []) }
+    ensures page { (bits : List Bool) → HalfFramesStandFor framer.old bits →
         page_list result ≡ pages_ending check framer.old.size (bits ++ bit ∷ []) }
 {
     let capsule = framer.push(bit)?;

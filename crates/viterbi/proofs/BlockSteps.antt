@@ -5,7 +5,7 @@ use Rattle.viterbi.proofs.Common.{unsigned_abs, to_z, of_z, w64, nat_lt, int_lt,
 use Rattle.viterbi.proofs.Common.{fits_signed_from_abs, and_parts, nat_tests, get_or-map, get_or-drop, get_or-take, length-map}
 use Rattle.viterbi.proofs.Common.{length-take-le, get_or-range_with_len, length-range_with_len, get_or-chunk, length-chunk}
 use Rattle.viterbi.proofs.Common.{Each1-from_get_or, Each1, Each2, chunk, bit_of, sign, low_bits, gain_of, wants, taken_of, metric_from}
-use Rattle.viterbi.proofs.Common.{metric_into, choice_into, lane_codes, patterns, gain_by, code_of, Fit, length-drop, CanStep}
+use Rattle.viterbi.proofs.Common.{metric_into, choice_into, lane_codes, patterns, gain_by, lane_code_of, Fit, length-drop, CanStep}
 use Rattle.viterbi.proofs.Common.{AreEveryOther}
 use Rattle.viterbi.proofs.Codes.{code_gains}
 use Rattle.viterbi.proofs.Blocks.{passed, kept}
@@ -47,7 +47,7 @@ pub lane_small : (j : ℕ) → j < 32 → get_or lane_codes j 0 < 4
 lane_small j b = let e = all_below small_lane 32 all_lanes j b in grind (arith, nat_tests, e)
 
 pub code_at : (k l : ℕ) → l < 8 →
-    code_of (8 * k + l) ≡ get_or lane_codes (8 * get_or patterns k 0 + l) 0
+    lane_code_of (8 * k + l) ≡ get_or lane_codes (8 * get_or patterns k 0 + l) 0
 code_at k l b =
     let block : (8 * k + l) / 8 ≡ k = omega (arith, b) in
     let lane : (8 * k + l) % 8 ≡ l = omega (arith, b) in

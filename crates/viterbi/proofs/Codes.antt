@@ -2,14 +2,14 @@
 use Rattle.viterbi.proofs.Common.{◌≡◌, ℕ, zero, suc, ◌+◌, ◌*◌, ◌<◌, Bool, true, false, List, [], ◌∷◌, length, get_or, refl, sym, ap, ◌∙◌}
 use Rattle.viterbi.proofs.Common.{arith, ℤ, pos, ◌+ℤ◌, ◌-ℤ◌, ◌*ℤ◌, not, nat_lt, ◌&&◌, list_all, range_with_len, ints, get_or-range_with_len}
 use Rattle.viterbi.proofs.Common.{length-range_with_len, and_parts, bit_of, sign, places, g0, g1, symbol, low_bits, gain_of, lane_codes}
-use Rattle.viterbi.proofs.Common.{patterns, gain_by, code_of}
+use Rattle.viterbi.proofs.Common.{patterns, gain_by, lane_code_of}
 
 abbrev eq : Bool → Bool → Bool
 eq true b = b
 eq false b = not b
 
 abbrev fits : ℕ → Bool
-fits t = let c = code_of t in nat_lt c 4
+fits t = let c = lane_code_of t in nat_lt c 4
     && (eq (bit_of c 0) (symbol g0 (low_bits 9 (2 * t + 0)) 0) &&
     (eq (bit_of c 1) (symbol g1 (low_bits 9 (2 * t + 0)) 0)
     && (eq (not (bit_of c 0)) (symbol g0 (low_bits 9 (2 * t + 1)) 0) && eq (not (bit_of c 1))
@@ -48,11 +48,11 @@ both_turned a b = omega (arith, ints)
 
 -- the gain by a state's code, and where the oldest bit is 1 the same with the sign turned
 pub code_gains : (f s : ℤ) (t : ℕ) → t < 256 →
-    (gain_of f s (low_bits 9 (2 * t + 0)) ≡ gain_by f s (code_of t))
-    × (gain_of f s (low_bits 9 (2 * t + 1)) ≡ pos 0 -ℤ gain_by f s (code_of t))
+    (gain_of f s (low_bits 9 (2 * t + 0)) ≡ gain_by f s (lane_code_of t))
+    × (gain_of f s (low_bits 9 (2 * t + 1)) ≡ pos 0 -ℤ gain_by f s (lane_code_of t))
 unfolding gain_of gain_by
 code_gains f s t b =
-    let c = code_of t in
+    let c = lane_code_of t in
     let p1 = (and_parts _ _ (fits_at t b)).1 in
     let e0 : bit_of c 0 ≡ symbol g0 (low_bits 9 (2 * t + 0)) 0 = same _ _ (and_parts _ _ p1).0 in
     let p2 = (and_parts _ _ p1).1 in

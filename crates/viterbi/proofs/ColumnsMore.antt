@@ -1,8 +1,9 @@
 -- One column more.
 use Rattle.viterbi.proofs.Common.{◌≡◌, ℕ, suc, ◌+◌, ◌*◌, ◌/◌, ◌%◌, ◌<◌, ◌≤◌, Bool, List, [], length, set, get_or, take, subst, sym, ap, ◌∙◌}
 use Rattle.viterbi.proofs.Common.{arith, ℤ, pos, ◌+ℤ◌, ◌-ℤ◌, unsigned_abs, reverse_bits_onto, get_or-set_same, get_or-set_other}
-use Rattle.viterbi.proofs.Common.{get_or-take, length-take-le, sum_by_more, IsFirstGreatest, IsBestCodeword, spelled, took, metric_into}
-use Rattle.viterbi.proofs.Common.{choice_into, forced_at, origin, path, end_count, score_of, Ends, sum_by}
+use Rattle.viterbi.proofs.Common.{get_or-take, length-take-le, sum_by_more, IsFirstGreatest, IsBestCodeword, spelled_codeword, took}
+use Rattle.viterbi.proofs.Common.{metric_into}
+use Rattle.viterbi.proofs.Common.{choice_into, forced_at, path_origin, path, end_count, score_of, Ends, sum_by}
 use Rattle.viterbi.proofs.Ended.{codeword_found}
 use Rattle.viterbi.proofs.Standing.{Stands, step_stands, stands_same, next_size}
 
@@ -63,17 +64,17 @@ pub run_codeword : (softs : List ℤ) (ends : Ends) (bit : ℕ) (taken : ℤ) (m
     length lent ≡ 576 → lent ≡ columns → held ≡ metrics → count ≡ end_count ends →
     Stands softs ends bit taken metrics columns →
     IsFirstGreatest (λ t. get_or held t (pos 0)) count end →
-    from ≡ origin (take (length softs / 2) lent) (length (take (length softs / 2) lent)) end →
+    from ≡ path_origin (take (length softs / 2) lent) (length (take (length softs / 2) lent)) end →
     start ≡ reverse_bits_onto 8 from 0 →
     bits ≡ path (take (length softs / 2) lent) (length (take (length softs / 2) lent)) end →
-    IsBestCodeword softs ends (spelled (record { start = start; bits = bits }))
+    IsBestCodeword softs ends (spelled_codeword (record { start = start; bits = bits }))
     × (get_or metrics end (pos 0) +ℤ taken
-    ≡ score_of softs (spelled (record { start = start; bits = bits })))
+    ≡ score_of softs (spelled_codeword (record { start = start; bits = bits })))
 run_codeword softs ends bit taken metrics held columns lent count end from start bits all least even most
     whole same_columns same_metrics counted h first from_is start_is bits_is =
     let n = length softs / 2 in
     let size : length (take n lent) ≡ n = length-take-le n lent (omega (arith, most, whole)) in
-    let from_end : from ≡ origin (take n lent) n end = rw size at from_is in
+    let from_end : from ≡ path_origin (take n lent) n end = rw size at from_is in
     codeword_found softs ends n taken metrics (take n lent) end start bits (omega (arith, least))
     (omega (arith, even))
     (subst (λ (r : List (List ℕ)). Stands softs ends n taken metrics (take n r)) (sym same_columns)

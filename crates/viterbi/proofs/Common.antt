@@ -40,14 +40,14 @@ pub use Rattle.conv_code.specs.ConvCode.{code_symbols, g0, g1, state_after, symb
 pub use denote.Param.{number}
 pub use lib.Lanes.{Each1, Each2, chunk, mask_l, put_chunk, sel_l, top, zip2}
 pub use mir.Val.{SFits, bits, hbits}
-pub use Rattle.viterbi.specs.Best.{HasStart, IsAllowed, IsBestCodeword, spelled}
-pub use Rattle.viterbi.specs.Lanes.{AreEveryOther, AreGreater, Fit, code_of}
+pub use Rattle.viterbi.specs.Best.{HasStart, IsAllowed, IsBestCodeword, spelled_codeword}
+pub use Rattle.viterbi.specs.Lanes.{AreEveryOther, AreGreater, Fit, lane_code_of}
 unfoldable pub use Rattle.viterbi.specs.Lanes.{gain_by, patterns, lane_codes}
 pub use Rattle.viterbi.specs.Laws.{HasSentCodewordAlone, HasSentCodewordBest, HasZeroCodewordBest, IsBestByDefinition, signed}
 pub use Rattle.viterbi.specs.Columns.{Agrees, Alive, CanStep, IsGreatest, forced_at, state_before, taken_of, wants}
-unfoldable pub use Rattle.viterbi.specs.Columns.{choice_into, metric_from, metric_into, origin, path, took}
+unfoldable pub use Rattle.viterbi.specs.Columns.{choice_into, metric_from, metric_into, path_origin, path, took}
 unfoldable pub use Rattle.viterbi.specs.States.{low_bits}
-pub use Rattle.viterbi.specs.Survivors.{HasRoom, Start, better_of, end_count, extended_by}
+pub use Rattle.viterbi.specs.Survivors.{SurvivorHasRoom, Start, better_survivor, end_count, extended_by}
 unfoldable pub use Rattle.viterbi.specs.Survivors.{first_best, gain_of, survivor_from, survivor_into}
 pub use Rattle.viterbi.specs.Codewords.{IsBetter, Codeword, correlation, rank, score_of, codeword_at, codeword_count}
 unfoldable pub use Rattle.viterbi.specs.Codewords.{best_codeword}

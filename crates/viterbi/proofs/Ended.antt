@@ -2,7 +2,8 @@
 use Rattle.viterbi.proofs.Common.{◌≡◌, ℕ, zero, suc, ◌*◌, ◌<◌, ◌≤◌, Bool, false, List, [], length, get_or, map, refl, sym, ap, subst, ◌∙◌}
 use Rattle.viterbi.proofs.Common.{arith, ℤ, pos, ◌+ℤ◌, ◌<ℤ◌, ◌≤ℤ◌, ⊎_elim, inl, inr, Option, Some, None, reverse_bits_onto, range_with_len}
 use Rattle.viterbi.proofs.Common.{ints, by_lt_z, get_or-map-range_with_len, cases_lt, eqb-true, nat_tests, binary, IsFirstGreatest}
-use Rattle.viterbi.proofs.Common.{Codeword, score_of, spelled, IsBestCodeword, low_bits, Start, end_count, origin, path, forced_at, Agrees}
+use Rattle.viterbi.proofs.Common.{Codeword, score_of, spelled_codeword, IsBestCodeword, low_bits, Start, end_count, path_origin, path}
+use Rattle.viterbi.proofs.Common.{forced_at, Agrees}
 use Rattle.viterbi.proofs.Common.{Ends, Zero, Free, Survivor}
 use Rattle.viterbi.proofs.StateBits.{binary-turned, low_first-low_bits}
 use Rattle.viterbi.proofs.Choices.{IsBest, IsBestOf, AtLeast, at_least_trans, codewords_same}
@@ -39,7 +40,7 @@ first_starts Free t b = record { begins = tt; start = binary-turned t; none = re
 
 first_agrees : (columns : List (List ℕ)) (ends : Ends) (t : ℕ) →
     Agrees columns 0 t (pos 0) (first_of ends t)
-unfolding first_of path origin
+unfolding first_of path path_origin
 first_agrees columns Zero zero = (refl, (refl, binary-turned 0))
 first_agrees columns Zero (suc t) = tt
 first_agrees columns Free t = (refl, (refl, binary-turned t))
@@ -65,7 +66,7 @@ pub record IsTraced (softs : List ℤ) (ends : Ends) (n t : ℕ) (metric : ℤ) 
   pub best : IsBest softs (Into ends n (low_bits 8 t)) s
   pub score : metric ≡ s.score
   pub bits : path columns n t ≡ s.codeword.bits
-  pub start : binary 8 s.codeword.start ≡ low_bits 8 (origin columns n t)
+  pub start : binary 8 s.codeword.start ≡ low_bits 8 (path_origin columns n t)
 
 traced_of : (softs : List ℤ) (ends : Ends) (n t : ℕ) (metric : ℤ) (columns : List (List ℕ))
     (o : Option Survivor) → forced_at ends n ≡ false →
@@ -102,7 +103,7 @@ ends_best softs ends n taken metrics columns end free h g b s = record {
   most = λ w k. against w k.state k.below k.into;
 } where
   a : Codeword
-  a = spelled s.s.codeword
+  a = spelled_codeword s.s.codeword
 
   as_good : (u : ℕ) (v : Codeword) → score_of softs v ≤ℤ score_of softs a →
       Into ends n (low_bits 8 u) v → end < u → u < 256 → AtLeast (score_of softs) a v
@@ -121,7 +122,7 @@ ends_best softs ends n taken metrics columns end free h g b s = record {
       let few = end_count_le ends in
       let small : u < 256 = omega (arith, below, few) in
       let other = traced softs ends n taken metrics columns free h u small in
-      let v = spelled other.s.codeword in
+      let v = spelled_codeword other.s.codeword in
       let score_a : get_or metrics end (pos 0) +ℤ taken ≡ score_of softs a = s.score
       ∙ s.best.score in
       let score_v : get_or metrics u (pos 0) +ℤ taken ≡ score_of softs v = other.score
@@ -148,10 +149,10 @@ pub codeword_found : (softs : List ℤ) (ends : Ends) (n : ℕ) (taken : ℤ) (m
     (columns : List (List ℕ)) (end start : ℕ) (bits : List Bool) → 8 ≤ n → 2 * n ≡ length softs →
     Stands softs ends n taken metrics columns →
     IsFirstGreatest (λ t. get_or metrics t (pos 0)) (end_count ends) end →
-    start ≡ reverse_bits_onto 8 (origin columns n end) 0 → bits ≡ path columns n end →
-    IsBestCodeword softs ends (spelled (record { start = start; bits = bits }))
+    start ≡ reverse_bits_onto 8 (path_origin columns n end) 0 → bits ≡ path columns n end →
+    IsBestCodeword softs ends (spelled_codeword (record { start = start; bits = bits }))
     × (get_or metrics end (pos 0) +ℤ taken
-    ≡ score_of softs (spelled (record { start = start; bits = bits })))
+    ≡ score_of softs (spelled_codeword (record { start = start; bits = bits })))
 codeword_found softs ends n taken metrics columns end start bits long half h g starts is =
     let few = end_count_le ends in
     let e = g.below in
@@ -160,9 +161,9 @@ codeword_found softs ends n taken metrics columns end start bits long half h g s
     let best = best_is softs ends n s.s long half
     (ends_best softs ends n taken metrics columns end (no_closed ends n long) h g b s) in
     let same_start : binary 8 start ≡ binary 8 s.s.codeword.start = ap (binary 8) starts
-    ∙ binary-turned (origin columns n end) ∙ sym s.start in
-    let same : spelled s.s.codeword ≡ spelled (record { start = start; bits = bits }) =
-    codewords_same (spelled s.s.codeword) (spelled (record { start = start; bits = bits })) (sym same_start)
+    ∙ binary-turned (path_origin columns n end) ∙ sym s.start in
+    let same : spelled_codeword s.s.codeword ≡ spelled_codeword (record { start = start; bits = bits }) =
+    codewords_same (spelled_codeword s.s.codeword) (spelled_codeword (record { start = start; bits = bits })) (sym same_start)
     (sym (is ∙ s.bits)) in (
       subst (λ (w : Codeword). IsBestCodeword softs ends w) same best,
       s.score ∙ s.best.score

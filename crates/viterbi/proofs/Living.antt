@@ -2,7 +2,8 @@
 use Rattle.viterbi.proofs.Common.{◌≡◌, ℕ, ◌+◌, ◌*◌, ◌%◌, ◌<◌, ◌≤◌, Bool, true, false, List, ◌++◌, length, take, drop, get_or, replicate}
 use Rattle.viterbi.proofs.Common.{refl, sym, ap, ◌∙◌, arith, ℤ, Option, Some, None, length-append, length-drop, nat_eq, length-replicate}
 use Rattle.viterbi.proofs.Common.{take-append-drop, take-append-le, take-replicate, length-take-le, drop_at, get_or-drop}
-use Rattle.viterbi.proofs.Common.{get_or_append_left, get_or-replicate, nat_tests, Codeword, HasStart, spelled, low_bits, forced_at, Alive}
+use Rattle.viterbi.proofs.Common.{get_or_append_left, get_or-replicate, nat_tests, Codeword, HasStart, spelled_codeword, low_bits}
+use Rattle.viterbi.proofs.Common.{forced_at, Alive}
 use Rattle.viterbi.proofs.Common.{Ends, Zero, Free, Survivor}
 use Rattle.viterbi.proofs.StateBits.{length-low_bits, low_bits-more}
 use Rattle.viterbi.proofs.Choices.{IsBestOf}
@@ -84,7 +85,7 @@ alive_of softs ends k t true o0 None f h0 h1 = tt
 alive_of softs Free k t true o0 (Some s) f h0 h1 = differ true refl (sym f)
 alive_of softs Zero k t true o0 (Some s) f h0 h1 =
     let few : k < 8 = grind (arith, nat_tests, f) in
-    differ _ (odd_is t) (oldest_zero k (2 * t + 1) (spelled s.codeword) few h1.kind)
+    differ _ (odd_is t) (oldest_zero k (2 * t + 1) (spelled_codeword s.codeword) few h1.kind)
 
 pub alive : (softs : List ℤ) (ends : Ends) (k : ℕ) (column : List (Option Survivor)) →
     Survive softs ends k column → (t : ℕ) →

@@ -2,7 +2,8 @@
 use Rattle.viterbi.proofs.Common.{◌≡◌, ℕ, zero, suc, ◌+◌, ◌*◌, ◌%◌, ◌<◌, ◌≤◌, Bool, true, false, List, [], ◌∷◌, ◌++◌, length, get_or, map}
 use Rattle.viterbi.proofs.Common.{refl, sym, ap, subst, ◌∙◌, arith, ℤ, pos, ◌+ℤ◌, ◌-ℤ◌, unsigned_abs, Option, Some, None, nat_le, int_lt}
 use Rattle.viterbi.proofs.Common.{ints, get_or-map, range_with_len, get_or-map-range_with_len, digit, low_bits, survivor_into, took}
-use Rattle.viterbi.proofs.Common.{state_before, origin, path, metric_from, metric_into, choice_into, wants, taken_of, forced_at, Agrees}
+use Rattle.viterbi.proofs.Common.{state_before, path_origin, path, metric_from, metric_into, choice_into, wants, taken_of, forced_at}
+use Rattle.viterbi.proofs.Common.{Agrees}
 use Rattle.viterbi.proofs.Common.{Ends, Survivor}
 use Rattle.viterbi.proofs.Choices.{IsBestOf}
 use Rattle.viterbi.proofs.Steps.{Into, Survive, survivor_into_best}
@@ -26,13 +27,13 @@ same_path (suc k) columns columns' t h =
     (same_path k columns columns' (state_before columns k t) (λ j b. h j (omega (arith, b))))
 
 same_origin : (k : ℕ) (columns columns' : List (List ℕ)) (t : ℕ) → Same k columns columns' →
-    origin columns' k t ≡ origin columns k t
-unfolding origin
+    path_origin columns' k t ≡ path_origin columns k t
+unfolding path_origin
 same_origin zero columns columns' t h = refl
 same_origin (suc k) columns columns' t h =
     let here : state_before columns' k t ≡ state_before columns k t =
     ap (λ (r : List ℕ). 2 * (t % 128) + digit (took r t)) (h k (omega arith)) in
-    ap (origin columns' k) here ∙ same_origin k columns columns' (state_before columns k t)
+    ap (path_origin columns' k) here ∙ same_origin k columns columns' (state_before columns k t)
     (λ j b. h j (omega (arith, b)))
 
 same_agrees : (k : ℕ) (columns columns' : List (List ℕ)) (t : ℕ) (metric : ℤ) (o : Option Survivor) →

@@ -1,7 +1,8 @@
 -- A step over columns of decisions against a step over survivors.
 use Rattle.viterbi.proofs.Common.{◌≡◌, ℕ, suc, ◌+◌, ◌*◌, ◌%◌, ◌<◌, Bool, true, false, List, [], ◌∷◌, ◌++◌, get_or, refl, ap, ◌∙◌, arith, ℤ}
-use Rattle.viterbi.proofs.Common.{pos, ◌+ℤ◌, Option, Some, None, int_lt, if◌then◌else◌, nat_le, digit, extended_by, better_of}
-use Rattle.viterbi.proofs.Common.{survivor_from, survivor_into, took, state_before, origin, path, metric_from, metric_into, choice_into}
+use Rattle.viterbi.proofs.Common.{pos, ◌+ℤ◌, Option, Some, None, int_lt, if◌then◌else◌, nat_le, digit, extended_by, better_survivor}
+use Rattle.viterbi.proofs.Common.{survivor_from, survivor_into, took, state_before, path_origin, path, metric_from, metric_into}
+use Rattle.viterbi.proofs.Common.{choice_into}
 use Rattle.viterbi.proofs.Common.{wants, taken_of, Agrees, Alive, Survivor}
 
 -- the survivor that a column's decision leads back to, with one bit more
@@ -9,7 +10,7 @@ one_more : (columns : List (List ℕ)) (k t : ℕ) (choice : Bool) (metric gain 
     took (get_or columns k []) t ≡ choice →
     Agrees columns k (2 * (t % 128) + digit choice) metric (Some s) →
     Agrees columns (suc k) t (metric +ℤ gain) (extended_by (nat_le 128 t) gain (Some s))
-unfolding path origin
+unfolding path path_origin
 one_more columns k t choice metric gain s is h =
     let before : state_before columns k t ≡ 2 * (t % 128) + digit choice =
     ap (λ (c : Bool). 2 * (t % 128) + digit c) is in
@@ -25,7 +26,7 @@ pub selected : (columns : List (List ℕ)) (k t : ℕ) (forced : Bool) (m0 m1 g0
     Alive forced o0 o1 →
     took (get_or columns k []) t ≡ wants forced (m0 +ℤ g0) (m1 +ℤ g1) →
     Agrees columns (suc k) t (taken_of (wants forced (m0 +ℤ g0) (m1 +ℤ g1)) (m0 +ℤ g0) (m1 +ℤ g1))
-    (better_of (extended_by (nat_le 128 t) g0 o0) (extended_by (nat_le 128 t) g1 o1))
+    (better_survivor (extended_by (nat_le 128 t) g0 o0) (extended_by (nat_le 128 t) g1 o1))
 selected columns k t true m0 m1 g0 g1 None None h0 h1 alive is = tt
 selected columns k t true m0 m1 g0 g1 (Some s0) None h0 h1 alive is =
     one_more columns k t false m0 g0 s0 is h0

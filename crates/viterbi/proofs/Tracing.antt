@@ -1,10 +1,10 @@
 -- One step back along the columns.
 use Rattle.viterbi.proofs.Common.{◌≡◌, ℕ, suc, ◌+◌, ◌-◌, ◌<◌, ◌≤◌, Bool, List, [], ◌∷◌, ◌++◌, length, drop, set, refl, sym, arith}
-use Rattle.viterbi.proofs.Common.{append_assoc, append-nil, nat_le, drop-set, drop_all, state_before, origin, path}
+use Rattle.viterbi.proofs.Common.{append_assoc, append-nil, nat_le, drop-set, drop_all, state_before, path_origin, path}
 
 pub origin-back : (columns : List (List ℕ)) (n j t before : ℕ) → n ≡ suc j →
-    before ≡ state_before columns j t → origin columns j before ≡ origin columns n t
-unfolding origin
+    before ≡ state_before columns j t → path_origin columns j before ≡ path_origin columns n t
+unfolding path_origin
 origin-back columns n j t before size is = rw (size, is) refl
 
 pub path-back : (columns : List (List ℕ)) (n j t before : ℕ) (bits : List Bool) → n ≡ suc j →
@@ -23,8 +23,8 @@ path-none : (columns : List (List ℕ)) (t : ℕ) → path columns 0 t ≡ []
 unfolding path
 path-none columns t = refl
 
-origin-none : (columns : List (List ℕ)) (t : ℕ) → origin columns 0 t ≡ t
-unfolding origin
+origin-none : (columns : List (List ℕ)) (t : ℕ) → path_origin columns 0 t ≡ t
+unfolding path_origin
 origin-none columns t = refl
 
 -- before the first step back
@@ -36,7 +36,7 @@ pub all_left : (columns : List (List ℕ)) (n m t : ℕ) (bits : List Bool) → 
 all_left columns n m t bits is few = rw (is, drop_all n bits few) (append-nil (path columns n t))
 
 -- after the last
-pub origin_left : (columns : List (List ℕ)) (n t : ℕ) → n ≡ 0 → t ≡ origin columns n t
+pub origin_left : (columns : List (List ℕ)) (n t : ℕ) → n ≡ 0 → t ≡ path_origin columns n t
 origin_left columns n t is = rw is (sym (origin-none columns t))
 
 pub none_left : (columns : List (List ℕ)) (n t : ℕ) (bits : List Bool) → n ≡ 0 →

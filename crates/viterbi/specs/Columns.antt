@@ -20,9 +20,9 @@ abbrev pub state_before : List (List ℕ) → ℕ → ℕ → ℕ
 state_before columns k t = 2 * (t % 128) + digit (took (get_or columns k []) t)
 
 -- the state before the first of k bits
-unfoldable pub origin : List (List ℕ) → ℕ → ℕ → ℕ
-origin columns zero t = t
-origin columns (suc k) t = origin columns k (state_before columns k t)
+unfoldable pub path_origin : List (List ℕ) → ℕ → ℕ → ℕ
+path_origin columns zero t = t
+path_origin columns (suc k) t = path_origin columns k (state_before columns k t)
 
 -- the k bits that lead into a state
 unfoldable pub path : List (List ℕ) → ℕ → ℕ → List Bool
@@ -61,7 +61,7 @@ Agrees columns k t metric None = Unit {0}
 Agrees columns k t metric (Some s) =
     (metric ≡ s.score)
     × ((path columns k t ≡ s.codeword.bits) × (binary 8 s.codeword.start
-    ≡ low_bits 8 (origin columns k t)))
+    ≡ low_bits 8 (path_origin columns k t)))
 
 -- where the state with oldest bit 1 may not be taken it has no survivor, and else both have one
 abbrev pub Alive : Bool → Option Survivor → Option Survivor → Type 0
@@ -96,7 +96,7 @@ pub record CanStep (column : List ℤ) (top first second : ℤ) : Type 0 where
 
 -- what it makes: all metrics of one bit more, less the greatest before, whether each state came
 -- from the one with oldest bit 1, and the greatest now
-pub record IsStep (forced : Bool) (column : List ℤ) (top first second : ℤ) (next : List ℤ)
+pub record IsColumnStep (forced : Bool) (column : List ℤ) (top first second : ℤ) (next : List ℤ)
     (decisions : List ℕ) (most : ℤ) : Type 0 where
   pub whole : length next ≡ 256
   pub metrics : (t : ℕ) → t < 256 →

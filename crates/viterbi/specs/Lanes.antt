@@ -25,8 +25,8 @@ patterns =
     ∷ 3 ∷ 1 ∷ 0 ∷ 2 ∷ 0 ∷ 2 ∷ 3 ∷ 1 ∷ 2 ∷ 0 ∷ 1 ∷ 3 ∷ 1 ∷ 3 ∷ 2 ∷ 0 ∷ []
 
 -- a state's code
-abbrev pub code_of : ℕ → ℕ
-code_of t = get_or lane_codes (8 * get_or patterns (t / 8) 0 + t % 8) 0
+abbrev pub lane_code_of : ℕ → ℕ
+lane_code_of t = get_or lane_codes (8 * get_or patterns (t / 8) 0 + t % 8) 0
 
 -- three numbers of 64 bits: two and what is made of them
 abbrev pub Fit : ℤ → ℤ → ℤ → Type 0

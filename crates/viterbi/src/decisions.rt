@@ -2,7 +2,7 @@
 
 ghost use Rattle.std.specs.Prelude.{◌≡◌, ◌<◌, ◌≤◌, ◌+◌, ◌*◌, ◌%◌, ◌^◌, ℕ, length};
 ghost use Rattle.chip_core.specs.Bits.{digit};
-ghost use Rattle.viterbi.specs.Columns.{took, path, origin};
+ghost use Rattle.viterbi.specs.Columns.{took, path, path_origin};
 
 use crate::codeword::MOST_BITS;
 use chip_core::Bits;
@@ -29,7 +29,7 @@ fn state_before(decisions: &Decisions, state: u8) -> u8
 /// before them.
 fn trace_back(columns: &[Decisions], end: u8, bits: &mut [bool]) -> u8
     requires { length bits.old ≡ length columns.now }
-    ensures start { result ≡ origin columns.now (length columns.now) end }
+    ensures start { result ≡ path_origin columns.now (length columns.now) end }
     ensures bits { bits.new ≡ path columns.now (length columns.now) end }
 {
     let mut state = end;
@@ -57,7 +57,7 @@ pub fn bits_of(path: &[bool]) -> Bits
 /// bits.
 pub fn traced(columns: &[Decisions], end: u8) -> (u8, Bits)
     requires { length columns.now ≤ 576 }
-    ensures start { result.0 ≡ origin columns.now (length columns.now) end }
+    ensures start { result.0 ≡ path_origin columns.now (length columns.now) end }
     ensures bits { result.1 ≡ path columns.now (length columns.now) end }
 {
     let mut path = [false; MOST_BITS];

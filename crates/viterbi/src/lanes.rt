@@ -10,7 +10,8 @@ ghost use lib.Lanes.{Each1, Each2, zip2};
 ghost use Rattle.chip_core.specs.Bits.{bit_of};
 ghost use Rattle.viterbi.specs.Lanes.{Fit, sum_at, difference_at, gain_by, lane_codes, patterns};
 ghost use Rattle.viterbi.specs.Lanes.{AreEveryOther, AreGreater};
-ghost use Rattle.viterbi.specs.Columns.{CanStep, IsStep, taken_of, wants, metric_into, choice_into};
+ghost use Rattle.viterbi.specs.Columns.{CanStep, IsColumnStep, taken_of, wants, metric_into};
+ghost use Rattle.viterbi.specs.Columns.{choice_into};
 
 use crate::decisions::Decisions;
 use crate::metrics::greatest;
@@ -163,7 +164,7 @@ fn step_all<const FORCED: bool>(
 ) -> i64
     requires column { CanStep column.now top first second }
     requires next { length next.old ≡ 256 }
-    ensures { IsStep FORCED column.now top first second next.new choices.new result }
+    ensures { IsColumnStep FORCED column.now top first second next.new choices.new result }
 {
     let gains = lane_gains(first, second);
     let mut most = i64x8::splat(i64::MIN);
@@ -198,7 +199,7 @@ pub fn step(
 ) -> i64
     requires column { CanStep column.now top first second }
     requires next { length next.old ≡ 256 }
-    ensures { IsStep forced column.now top first second next.new choices.new result }
+    ensures { IsColumnStep forced column.now top first second next.new choices.new result }
 {
     if forced {
         step_all::<true>(column, top, first, second, next, choices)

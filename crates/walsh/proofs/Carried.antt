@@ -11,7 +11,7 @@ use Rattle.chip_core.specs.Complex.{origin, plus}
 use Rattle.chip_core.specs.declared.sample.Pair.{Pair}
 use Rattle.chip_core.proofs.Places.{get_or-map-places, map-places-all}
 use Rattle.walsh.specs.Walsh.{IsWithin, in_phase, quadrature, transform, walsh_sum_from}
-use Rattle.walsh.specs.Butterfly.{minus, entry, butterfly, IsStage, AreWithin}
+use Rattle.walsh.specs.Butterfly.{minus, entry, butterfly, IsStage, EntriesAreWithin}
 use Rattle.walsh.proofs.Partial.{partial, partial-none, partial-same, partial-more, partial-all}
 
 -- the entries after the stages of the lowest bits
@@ -19,7 +19,7 @@ pub record IsCarried (bits : ℕ) (old new : List Pair) : Type 0 where
   pub long : length new ≡ 64
   pub i_is : (n : ℕ) → n < 64 → (entry new n).i ≡ partial bits (λ k. (entry old k).i) n
   pub q_is : (n : ℕ) → n < 64 → (entry new n).q ≡ partial bits (λ k. (entry old k).q) n
-  pub small : AreWithin (2 ^ (40 + bits)) new
+  pub small : EntriesAreWithin (2 ^ (40 + bits)) new
 
 pub begins : (old : List Pair) → length old ≡ 64 → All (IsWithin (2 ^ 40)) old → IsCarried 0 old old
 begins old h within = record {
@@ -60,7 +60,7 @@ part_more part p bit n old new next few less is h =
     ap (λ (s : ℕ). partial s (λ k. part (entry old k)) n) (sym count)
 
 pub goes_on : (bit : ℕ) (old new next : List Pair) → bit < 6 → length next ≡ 64 →
-    IsCarried bit old new → IsStage bit new next → AreWithin (2 ^ (41 + bit)) next →
+    IsCarried bit old new → IsStage bit new next → EntriesAreWithin (2 ^ (41 + bit)) next →
     IsCarried (bit + 1) old next
 goes_on bit old new next p long h stage small =
     let bound : 40 + (bit + 1) ≡ 41 + bit = omega arith in

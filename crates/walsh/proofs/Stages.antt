@@ -9,7 +9,7 @@ use Rattle.chip_core.specs.Bits.{bit_of}
 use Rattle.chip_core.specs.Complex.{origin, plus}
 use Rattle.chip_core.specs.declared.sample.Pair.{Pair}
 use Rattle.walsh.specs.Walsh.{IsWithin}
-use Rattle.walsh.specs.Butterfly.{minus, entry, butterfly, IsStage, AreWithin}
+use Rattle.walsh.specs.Butterfly.{minus, entry, butterfly, IsStage, EntriesAreWithin}
 use Rattle.walsh.proofs.Pairing.{low, high, is_clear, shifted}
 
 -- the two entries of each butterfly whose lower place is below `low` are done, and the others stand
@@ -167,8 +167,8 @@ minus_within : (bound : ℕ) (x y : Pair) → IsWithin bound x → IsWithin boun
     IsWithin (2 * bound) (minus x y)
 minus_within bound x y (a, b) (c, d) = (omega (arith, ints, a, c), omega (arith, ints, b, d))
 
-stage_within : (bit bound : ℕ) (old new : List Pair) → bit < 6 → AreWithin bound old →
-    IsStage bit old new → AreWithin (2 * bound) new
+stage_within : (bit bound : ℕ) (old new : List Pair) → bit < 6 → EntriesAreWithin bound old →
+    IsStage bit old new → EntriesAreWithin (2 * bound) new
 stage_within bit bound old new p h is = λ n within. by_bit n within (bit_of n bit) refl
   where
     by_bit : (n : ℕ) → n < 64 → (b : Bool) → bit_of n bit ≡ b → IsWithin (2 * bound) (entry new n)
@@ -183,8 +183,8 @@ stage_within bit bound old new p h is = λ n within. by_bit n within (bit_of n b
         (plus_within bound (entry old n) (entry old (n + 2 ^ bit)) (h n within)
         (h (n + 2 ^ bit) (low bit n p within e).room))
 
-pub grows : (bit : ℕ) (old new : List Pair) → bit < 6 → AreWithin (2 ^ (40 + bit)) old →
-    IsStage bit old new → AreWithin (2 ^ (41 + bit)) new
+pub grows : (bit : ℕ) (old new : List Pair) → bit < 6 → EntriesAreWithin (2 ^ (40 + bit)) old →
+    IsStage bit old new → EntriesAreWithin (2 ^ (41 + bit)) new
 grows bit old new p h is =
     let place : 41 + bit ≡ suc (40 + bit) = omega arith in
     let twice : 2 ^ (suc (40 + bit)) ≡ 2 * 2 ^ (40 + bit) = omega arith in
@@ -199,7 +199,7 @@ has_room bit x y p e (a, b) =
     subst P (sym e) (omega (arith, a, most), omega (arith, b, most))
 
 pub have_room : (bit l : ℕ) (old new : List Pair) → bit < 6 → l < 64 → bit_and l (step bit) ≡ 0 →
-    IsPartway bit l old new → AreWithin (2 ^ (40 + bit)) old →
+    IsPartway bit l old new → EntriesAreWithin (2 ^ (40 + bit)) old →
     IsWithin (2 ^ 45) (entry new l) × IsWithin (2 ^ 45) (entry new (l + step bit))
 have_room bit l old new p small apart h within =
     let clear = is_clear bit l p small apart in

@@ -24,5 +24,5 @@ abbrev pub IsStage : ℕ → List Pair → List Pair → Type 0
 IsStage bit old new = (n : ℕ) → n < 64 → entry new n ≡ butterfly bit old n
 
 -- all entries are within a bound
-abbrev pub AreWithin : ℕ → List Pair → Type 0
-AreWithin bound values = (n : ℕ) → n < 64 → IsWithin bound (entry values n)
+abbrev pub EntriesAreWithin : ℕ → List Pair → Type 0
+EntriesAreWithin bound values = (n : ℕ) → n < 64 → IsWithin bound (entry values n)

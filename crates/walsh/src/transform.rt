@@ -3,7 +3,7 @@
 ghost use Rattle.std.specs.Prelude.{◌≡◌, ◌<◌, ◌+◌, ◌^◌, ℕ};
 ghost use Rattle.std.specs.List.{All};
 ghost use Rattle.walsh.specs.Walsh.{IsWithin, in_phase, quadrature, transform};
-ghost use Rattle.walsh.specs.Butterfly.{AreWithin, IsStage, minus};
+ghost use Rattle.walsh.specs.Butterfly.{EntriesAreWithin, IsStage, minus};
 ghost use Rattle.chip_core.specs.Complex.{plus};
 
 use chip_core::Pair;
@@ -31,9 +31,9 @@ pub fn transform64(values: &mut [Pair; 64])
 /// difference.
 fn stage(values: &mut [Pair; 64], bit: u32)
     requires bit { bit < 6 }
-    requires small { AreWithin (2 ^ (40 + bit)) values.old }
+    requires small { EntriesAreWithin (2 ^ (40 + bit)) values.old }
     ensures stage { IsStage bit values.old values.new }
-    ensures small { AreWithin (2 ^ (41 + bit)) values.new }
+    ensures small { EntriesAreWithin (2 ^ (41 + bit)) values.new }
 {
     let apart = 1 << bit;
     for low in 0..64usize {

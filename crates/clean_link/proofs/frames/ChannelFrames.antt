@@ -6,13 +6,13 @@ use Rattle.clean_link.proofs.Common.{length-sync_frame_bits, softs, Finger, Sync
 use Rattle.clean_link.proofs.Common.{modulo_code, sync_stream, AreZeroWithoutSync, FramesAreZeros, FramesComeBack, HaveSentSigns}
 use Rattle.clean_link.proofs.Common.{SentCodewordsAreTheOnlyBest, IsOnPath, first_sync_frame, soft_strength, AreReadBy, IsHeardBy}
 use Rattle.clean_link.proofs.Common.{path_finger, reference_finger, IsReceivable, Option, None, Sample, Width, unwrap_or, Bears, IsNear}
-use Rattle.clean_link.proofs.Common.{HearsSync, ShowsSync, NoisyPagingFramesComeBack, ◌*◌, ◌/◌, false, Bool, length, inr, ℤ, replicate}
+use Rattle.clean_link.proofs.Common.{HearsSentSync, ShowsSync, NoisyPagingFramesComeBack, ◌*◌, ◌/◌, false, Bool, length, inr, ℤ, replicate}
 use Rattle.clean_link.proofs.Common.{Contains, length-map, All-contains, places, xor, zip_with, length-places, after, long_chip}
 use Rattle.clean_link.proofs.Common.{paging_mask, scrambling, data_shape, repeats_of, Rate, R9600, Cycle, cycle_frame_bits, cycle_symbols}
 use Rattle.clean_link.proofs.Common.{cycled, frame_scrambling, paging_frame_size, IsLawfulPlan, IsPagingPlan, cycle_of, paging_carrier}
 use Rattle.clean_link.proofs.Common.{PagingPlan, Data, paging_stream, descrambled, unscrambled, Stream, Mark, IsTrueMark}
 use Rattle.clean_link.proofs.Common.{PagingFramesComeBack, PagingHaveSentSigns, PagingCodewordsAreTheOnlyBest, SilentPagingFramesAreZeros}
-use Rattle.clean_link.proofs.Common.{SilentPagingIsZero, ordered_symbols, scrambled, mul-pos, lt-ltb, norm, symbol_chips, window_chips}
+use Rattle.clean_link.proofs.Common.{SilentPagingIsZero, ordered_symbols, scrambled_with, mul-pos, lt-ltb, norm, symbol_chips, window_chips}
 use Rattle.clean_link.proofs.Common.{Form, Carrier, carriers, level, IsAligned, frame_softs, NoisyChannelsHaveSentSigns}
 use Rattle.clean_link.proofs.Common.{NoisyCodewordsAreTheOnlyBest, NoisyFramesComeBack, NoisyStreamsShowSymbols}
 use Rattle.clean_link.proofs.signal.CarriersApart.{sync_sent, sync_silent, paging_sent, paging_silent, plan_apart}
@@ -214,7 +214,7 @@ sync_shown width plan sync t e samples is sends on near bears =
     (sync_read plan sync t) near bears)
 
 pub heard_sync : (width : Width) (plan : CellPlan) (sync : SyncPlan) (e : ℕ)
-    (samples : List Sample) → HearsSync width plan sync e samples → ShowsSync width plan samples
+    (samples : List Sample) → HearsSentSync width plan sync e samples → ShowsSync width plan samples
 heard_sync width plan sync e samples is = record {
   receivable = is.receivable;
   back = λ other t k sends on here.
@@ -255,13 +255,13 @@ clean_sync width plan is = record {
 -- ---- scrambling
 
 pub length-scrambling : (state mask : ℕ) → length (scrambling state mask) ≡ 384
-unfolding codes.symbol_chips
+unfolding codes.scrambling_chips
 length-scrambling state mask =
     length-map (places 384) (λ i. long_chip state mask (64 * i)) ∙ length-places 384
 
 -- where there are scrambling bits, each symbol is added to its own
 scrambled_some : (bits symbols : List Bool) → 0 < length bits →
-    zip_with xor symbols bits ≡ scrambled bits symbols
+    zip_with xor symbols bits ≡ scrambled_with bits symbols
 scrambled_some [] symbols some = absurd (omega (arith, some))
 scrambled_some (b ∷ bits) symbols some = refl
 
@@ -295,8 +295,8 @@ paging_heard plan p t m superframes on at = record {
 
 -- the rate that the mark tells is that of the cell's channels
 rates_agree : (plan : CellPlan) (sync : SyncPlan) (m : Mark) → plan.sync ≡ Some sync →
-    m.prat ≡ sync.message.prat → pages.paging_rate plan.sync ≡ paging_rate m.prat
-rates_agree plan sync m is told = ap pages.paging_rate is ∙ sym (ap paging_rate told)
+    m.prat ≡ sync.message.prat → pages.sent_paging_rate plan.sync ≡ paging_rate m.prat
+rates_agree plan sync m is told = ap pages.sent_paging_rate is ∙ sym (ap paging_rate told)
 
 frame_size-is : (rate : Rate) → paging_frame_size rate ≡ 192 / repeats_of rate
 frame_size-is R9600 = refl
@@ -324,14 +324,14 @@ same_scrambling plan p m superframes k at =
     ∙ ap (λ (pn : ℕ). scrambling (after m.state (24576 * k)) (paging_mask p.number pn)) (sym at.pn)
 
 paging_read : (plan : CellPlan) (p : PagingPlan) (t : Tuning) (m : Mark) (superframes : ℕ) →
-    IsTrueMark plan m superframes → pages.paging_rate plan.sync ≡ paging_rate m.prat →
+    IsTrueMark plan m superframes → pages.sent_paging_rate plan.sync ≡ paging_rate m.prat →
     AreReadBy (paging_carrier plan p) (paging_stream t p.number m)
     (cycle_frame_bits (cycle_of plan p)) (4 * superframes)
 paging_read plan p t m superframes at same = record {
   whole = whole_frames (kinds.TheVariants.Paging (paging_rate m.prat));
   each = λ k. length-cycled (cycle_of plan p).bits
-      (paging_frame_size (pages.paging_rate plan.sync)) k
-      ∙ frame_size-is (pages.paging_rate plan.sync)
+      (paging_frame_size (pages.sent_paging_rate plan.sync)) k
+      ∙ frame_size-is (pages.sent_paging_rate plan.sync)
       ∙ ap (λ (rate : Rate). 192 / repeats_of rate) same;
   scrambles = λ k. inr
       (length-scrambling (after m.state (24576 * k)) (paging_mask p.number m.pilot));
@@ -342,7 +342,7 @@ paging_read plan p t m superframes at same = record {
       let long = length-scrambling (after m.state (24576 * k)) (paging_mask p.number m.pilot) in
       symbols_are (cycle_of plan p) frame
       ∙ ap
-      (zip_with xor (sent data_shape (repeats_of (pages.paging_rate plan.sync)) code))
+      (zip_with xor (sent data_shape (repeats_of (pages.sent_paging_rate plan.sync)) code))
       (same_scrambling plan p m superframes k at)
       ∙ ap (λ (rate : Rate). zip_with xor (sent data_shape (repeats_of rate) code) bits) same
       ∙ scrambled_some bits (sent data_shape (repeats_of (paging_rate m.prat)) code)
@@ -353,7 +353,7 @@ paging_read plan p t m superframes at same = record {
 paging_gain : (width : Width) (plan : CellPlan) (p : PagingPlan) → IsLawfulPlan width plan →
     Contains plan.paging p → 0 < p.gain
 paging_gain width plan p lawful has =
-    (All-contains (IsPagingPlan (pages.paging_rate plan.sync)) plan.paging p lawful.paging has).gain
+    (All-contains (IsPagingPlan (pages.sent_paging_rate plan.sync)) plan.paging p lawful.paging has).gain
 
 -- ---- the laws
 

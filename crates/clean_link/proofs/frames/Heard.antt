@@ -6,7 +6,8 @@ use Rattle.clean_link.proofs.Common.{mul-le-mul_left, replicate-append-replicate
 use Rattle.clean_link.proofs.Common.{symbols, Finger, Form, Sync, Data, sent, length-sent, IsAllowed, Codeword, Free, own_bits, frames-none}
 use Rattle.clean_link.proofs.Common.{frames-more, length-frames, CellPlan, continued_symbols, Carrier, phase_at, Scrambles, Stream}
 use Rattle.clean_link.proofs.Common.{frame_own_bits, frame_softs, frame_start, is_in_file, span_first, span_frames, flat_map_ext_places}
-use Rattle.clean_link.proofs.Common.{AreReadBy, IsOnlyBest, IsWholeChannel, scrambled, span_softs, span_codeword, IsFrameOf, IsHeardBy}
+use Rattle.clean_link.proofs.Common.{AreReadBy, IsOnlyBest, IsWholeChannel, scrambled_with, span_frame_softs, span_codeword, IsFrameOf}
+use Rattle.clean_link.proofs.Common.{IsHeardBy}
 use Rattle.clean_link.proofs.Common.{if◌then◌else◌, cases_eq}
 use Rattle.clean_link.proofs.frames.Scores.{ShowCodeword, shown_codeword_alone, shown_codeword_own, silent_own, frame_at, length-before}
 use Rattle.clean_link.proofs.frames.Scores.{sent_as_one}
@@ -79,7 +80,7 @@ length-descrambled (a ∷ bits) (b ∷ symbols) long =
     ap suc (length-descrambled bits symbols (omega (arith, long)))
 
 pub length-scrambled : (n : ℕ) (bits symbols : List Bool) → Scrambles bits n → length symbols ≡ n →
-    length (scrambled bits symbols) ≡ n
+    length (scrambled_with bits symbols) ≡ n
 length-scrambled n [] symbols scrambles long = long
 length-scrambled n (b ∷ bits) symbols scrambles long = ⊎_elim
     (λ (none : b ∷ bits ≡ []). absurd (cc))
@@ -110,7 +111,7 @@ sent_codeword count s bits_of base k =
 own-is : (count : ℕ) (samples : List Sample) (s : Stream) (k : ℕ) →
     frame_own_bits count samples s k ≡
     own_bits s.channel (span_frames count s k) (k - span_first count s k)
-    (span_softs count samples s k)
+    (span_frame_softs count samples s k)
 unfolding frame_own_bits
 own-is count samples s k = refl
 
@@ -124,10 +125,10 @@ module _ {count : ℕ} {samples : List Sample} {s : Stream} {bits_of : ℕ → L
 
   -- the soft values of the span have the signs of the sent codeword's symbols
   span_shows : ShowCodeword s.channel frames (sent_codeword count s bits_of base k)
-      (span_softs count samples s k)
+      (span_frame_softs count samples s k)
   span_shows =
       let at = in_span count s k here in
-      subst (λ (xs : List Bool). HaveSigns xs (span_softs count samples s k))
+      subst (λ (xs : List Bool). HaveSigns xs (span_frame_softs count samples s k))
       (sym (sent_as_one s.channel bits_of (base + first) frames is.whole.enough is.each))
       (zipped_frames HasSign (λ j. order_of s bits_of (base + first + j))
       (λ j. frame_softs samples s (first + j)) frames
@@ -152,7 +153,7 @@ module _ {count : ℕ} {samples : List Sample} {s : Stream} {bits_of : ℕ → L
       let place : base + first + (k - first) ≡ base + k = omega (arith, at.from) in
       own-is count samples s k
       ∙ shown_codeword_own s.channel (symbols s.form) frames (k - first)
-      (sent_codeword count s bits_of base k) (span_softs count samples s k) is.whole span_shows at.to
+      (sent_codeword count s bits_of base k) (span_frame_softs count samples s k) is.whole span_shows at.to
       codeword_allowed
       ∙ frame_at (λ j. bits_of (base + first + j)) s.channel.bits frames (k - first)
       (λ j. is.each (base + first + j)) at.to
@@ -166,7 +167,7 @@ module _ {count : ℕ} {samples : List Sample} {s : Stream} {bits_of : ℕ → L
         allowed = codeword_allowed;
         lesser = λ w q other.
             shown_codeword_alone s.channel (symbols s.form) frames
-            (sent_codeword count s bits_of base k) w (span_softs count samples s k) is.whole
+            (sent_codeword count s bits_of base k) w (span_frame_softs count samples s k) is.whole
             (at_least s.channel.bits frames is.whole.enough (omega (arith, at.to))) span_shows
             codeword_allowed q other;
       }
@@ -253,7 +254,7 @@ module _ (R : Bool → ℤ → Type 0) (turns : Turns R) {plan : CellPlan} {c : 
       ∙ length-scrambled (symbols s.form) bits order (read.scrambles k) long in
       unscrambled_related R turns (symbols s.form) bits order (softs samples s.fingers s.form u)
       (read.scrambles k) long
-      (subst (λ (fs : List Finger). AllZip R (scrambled bits order) (softs samples fs s.form u))
+      (subst (λ (fs : List Finger). AllZip R (scrambled_with bits order) (softs samples fs s.form u))
       (sym heard.alone)
       (subst (λ (xs : List Bool). AllZip R xs (softs samples (path_finger plan c.row ∷ []) s.form u))
       (read.sent k) (relates u (base + k) (heard_frame plan c s base k heard here) all)))

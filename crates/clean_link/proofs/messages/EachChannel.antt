@@ -8,7 +8,8 @@ use Rattle.clean_link.proofs.Common.{power_bits_at, decoded_at, frame_event, fra
 use Rattle.clean_link.proofs.Common.{Traffic, by_one_mark, sync_sent, IsNotDirected, IsOnPath, is_frame, is_message, is_page, is_sync}
 use Rattle.clean_link.proofs.Common.{AreEventsOf, AreFramesBehind, AreMessagesBehind, EachChannelComesBack, FollowsOne, IsEventOf}
 use Rattle.clean_link.proofs.Common.{frame_ends, is_received, received_frames, AreDistinct, IsDistinctFrame, SendsSetOne}
-use Rattle.clean_link.proofs.Common.{messages_of_channel, paging_sent, told_with_sync, HearsTraffic, IsHeardAs, NoisyEachChannelComesBack}
+use Rattle.clean_link.proofs.Common.{messages_of_channel, paging_sent, told_with_sync, HearsSentTraffic, IsHeardAs}
+use Rattle.clean_link.proofs.Common.{NoisyEachChannelComesBack}
 use Rattle.clean_link.proofs.Common.{ShowsSync, ShowsTraffic, IsUndirected, NoEventIsDirectedByNoise, ◌++◌, All-weaker, ◌≢◌, All-append}
 use Rattle.clean_link.proofs.Common.{All-cons, All-nil, All-same, sets_events_at, messages_sent, FollowsSent, NoEventIsDirected}
 use Rattle.clean_link.proofs.Common.{signaling_sent}
@@ -29,7 +30,7 @@ use Rattle.heard_events.specs.declared.event.Event.TheVariants.{Traffic as OnTra
 -- ---- frames after a true mark
 
 module _ {width : Width} {plan : CellPlan} {p : TrafficPlan} {t : Tuning} {traffic : Traffic}
-    {m : Mark} {superframes : ℕ} (is : HearsTraffic width plan p t traffic m superframes)
+    {m : Mark} {superframes : ℕ} (is : HearsSentTraffic width plan p t traffic m superframes)
     (samples : List Sample) (shows : ShowsTraffic plan p t traffic m superframes samples) where
   abbrev legs : ℕ → List Leg
   legs = first_legs traffic m
@@ -84,7 +85,7 @@ module _ {width : Width} {plan : CellPlan} {t : Tuning} {all_samples : List Samp
     (not_directed : All IsNotDirected (events t all_samples))
     (p : TrafficPlan) (f : FollowsOne plan t.traffic p)
     (shows : (m : Mark) (superframes : ℕ) →
-    HearsTraffic width plan p t f.traffic m superframes →
+    HearsSentTraffic width plan p t f.traffic m superframes →
     ShowsTraffic plan p t f.traffic m superframes all_samples) where
   abbrev last : Option Mark
   last = mark t all_samples t.count
@@ -97,7 +98,7 @@ module _ {width : Width} {plan : CellPlan} {t : Tuning} {all_samples : List Samp
       ≡ if_followed (heard n) t.traffic last) →
       ((es : List Event) → es ≡ [] → Are None es) →
       ((m : Mark) (superframes : ℕ) → last ≡ Some m →
-      HearsTraffic width plan p t f.traffic m superframes →
+      HearsSentTraffic width plan p t f.traffic m superframes →
       Are (Some superframes)
       (flat_map (λ n. heard n f.traffic m) (places (plan.link.samples + 1)))) →
       Are (told_with_sync plan plan.sync)
@@ -132,7 +133,7 @@ module _ {width : Width} {plan : CellPlan} {t : Tuning} {all_samples : List Samp
 
   -- its frames
   frames_behind : (m : Mark) (superframes : ℕ) → last ≡ Some m →
-      HearsTraffic width plan p t f.traffic m superframes →
+      HearsSentTraffic width plan p t f.traffic m superframes →
       AreEventsOf plan p superframes
       (flat_map (frames_at t f.traffic m all_samples) (places (plan.link.samples + 1)))
   frames_behind m superframes set hears =
@@ -162,7 +163,7 @@ module _ {width : Width} {plan : CellPlan} {t : Tuning} {all_samples : List Samp
 
   -- and its messages
   messages_behind : (m : Mark) (superframes : ℕ) → last ≡ Some m →
-      HearsTraffic width plan p t f.traffic m superframes →
+      HearsSentTraffic width plan p t f.traffic m superframes →
       AreDistinct plan p (98304 * superframes) →
       flat_map (messages_at t f.traffic m all_samples) (places (plan.link.samples + 1))
       ≡ messages_of_channel plan p (98304 * superframes)
@@ -233,7 +234,7 @@ module _ {width : Width} {plan : CellPlan} {t : Tuning} {samples : List Sample}
   module _ (not_directed : All IsNotDirected (events t samples)) (p : TrafficPlan)
       (follows : FollowsOne plan t.traffic p)
       (shows : (m : Mark) (superframes : ℕ) →
-      HearsTraffic width plan p t follows.traffic m superframes →
+      HearsSentTraffic width plan p t follows.traffic m superframes →
       ShowsTraffic plan p t follows.traffic m superframes samples) where
     frames_back : AreFramesBehind plan p (told_with_sync plan plan.sync)
         (filter is_frame (events t samples))
@@ -313,7 +314,7 @@ none_of_kind kind es other are =
 abbrev UndirectedWhereSent : Width → CellPlan → Tuning → List Sample → Type 0
 UndirectedWhereSent width plan t samples = (p : TrafficPlan) (traffic : Traffic) (m : Mark)
     (superframes : ℕ) → t.traffic ≡ Some traffic →
-    HearsTraffic width plan p t traffic m superframes → SendsSetOne p →
+    HearsSentTraffic width plan p t traffic m superframes → SendsSetOne p →
     AreDistinct plan p (plan.link.start + m.sample) →
     All IsNotDirected (messages_of_channel plan p (plan.link.start + m.sample)) →
     IsUndirected t traffic m samples plan.link.samples

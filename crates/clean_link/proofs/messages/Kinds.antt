@@ -4,7 +4,8 @@ use Rattle.clean_link.proofs.Common.{None, Some, nat_eq, if◌then◌else◌, Al
 use Rattle.clean_link.proofs.Common.{All-tail, filter-append, Plain, Sample, Standing, SetChange, events_at, frame_events_at}
 use Rattle.clean_link.proofs.Common.{message_events_at, paging_events_at, sets_events_at, mark, changed, frames_at, heard_from, kept_to}
 use Rattle.clean_link.proofs.Common.{legs_at, messages_at, moment_events, moment_place, moments_before, passed, sets_at, page_event}
-use Rattle.clean_link.proofs.Common.{pages_behind, message_at, message_events, message_heard, messages_by, signal_in, known_now, events_of}
+use Rattle.clean_link.proofs.Common.{pages_behind, signaling_message_at, message_events, message_heard, messages_by, signal_in, known_now}
+use Rattle.clean_link.proofs.Common.{events_of}
 use Rattle.clean_link.proofs.Common.{heard_at, sync_events_at, with_message, frame_heard, frames_by, if_followed, frames_now, Tuning}
 use Rattle.clean_link.proofs.Common.{sync_bound, sync_stream, all_each, Event, Leg, Mark, Traffic, is_frame, is_message, is_page, is_sync}
 use Rattle.clean_link.proofs.Common.{type_within}
@@ -81,7 +82,7 @@ messages_kind : (t : Tuning) (traffic : Traffic) (m : Mark) (legs : ℕ → List
 unfolding messages_by
 messages_kind t traffic m legs samples n =
     all_each (IsKind 4) (message_heard t traffic m legs samples n) (frames_now t traffic m legs n)
-    (λ k. signal_kind n (message_at t traffic m legs samples k))
+    (λ k. signal_kind n (signaling_message_at t traffic m legs samples k))
 
 message_kind : (t : Tuning) (samples : List Sample) (n : ℕ) →
     All (IsKind 4) (message_events_at t samples n)

@@ -7,11 +7,13 @@ use Rattle.clean_link.proofs.Common.{map-append, places, CheckForm, Sample, Widt
 use Rattle.clean_link.proofs.Common.{SyncPlan, events, events_at, frame_events_at, heard_within, message_events_at, paging_events_at}
 use Rattle.clean_link.proofs.Common.{sets_events_at, mark, page_event, pages_at, pages_behind, sync_events_at, Tuning, Event, Pilot, Mark}
 use Rattle.clean_link.proofs.Common.{AreAt, IsAt, all_at, by_one_mark, pages_from_mark, flat_map_ext_places, IsNotDirected, IsOnPath}
-use Rattle.clean_link.proofs.Common.{IsTunedTo, sync_sent, tuning_to, whole_sendings, IsReceivable, ReadPage, known_page, pages_sent}
+use Rattle.clean_link.proofs.Common.{IsTunedToPlan, sync_sent, tuning_to, whole_sendings, IsReceivable, ReadPage, known_page, pages_sent}
 use Rattle.clean_link.proofs.Common.{pages_within, FollowsSent, WholeMessagesComeBack, known_event, paging_sent, pages_behind_mark}
 use Rattle.clean_link.proofs.Common.{pages_with_sync, sent_events, by_places, sets_heard, signaling_sent, subst, told_by_first}
-use Rattle.clean_link.proofs.Common.{traffic_sent, ◌<◌, All-contains, Contains, IsStatedPaging, IsTrueMark, PagingPlan, paging_rate, Bears}
-use Rattle.clean_link.proofs.Common.{HearsSync, ShowsSync, zero, suc, ◌≤◌, filter, range_with_len, cases_order, eq-eqb, ne_eqb, append-nil}
+use Rattle.clean_link.proofs.Common.{traffic_sent, ◌<◌, All-contains, Contains, IsStatedPaging, IsTrueMark, PagingPlan, sent_paging_rate}
+use Rattle.clean_link.proofs.Common.{Bears}
+use Rattle.clean_link.proofs.Common.{HearsSentSync, ShowsSync, zero, suc, ◌≤◌, filter, range_with_len, cases_order, eq-eqb, ne_eqb}
+use Rattle.clean_link.proofs.Common.{append-nil}
 use Rattle.clean_link.proofs.Common.{filter-append, at_of, All-head, All-tail, is_at}
 use Rattle.clean_link.proofs.traffic.Steady.{events_at_all, right_all, left_all}
 use Rattle.clean_link.proofs.marks.MarksTrue.{first_in, unset_in, marks_in, rate_in, time_of, unmarked_in}
@@ -219,13 +221,13 @@ module _ {width : Width} {plan : CellPlan} {t : Tuning} {samples : List Sample}
 
 -- of a clean link
 pub clean_pages : (width : Width) (plan : CellPlan) (t : Tuning) → IsReceivable width plan →
-    IsTunedTo plan t → PagesShown plan t (made_samples plan)
+    IsTunedToPlan plan t → PagesShown plan t (made_samples plan)
 clean_pages width plan t is tuned sync m superframes sends rate low true_mark =
     pages_back width plan sync t t.paging m superframes is is.pages tuned.path tuned.first_channel
     tuned.last_channel tuned.free sends rate low true_mark
 
 pages_all : (width : Width) (plan : CellPlan) (t : Tuning) → IsReceivable width plan →
-    IsTunedTo plan t →
+    IsTunedToPlan plan t →
     flat_map (paging_events_at t (made_samples plan)) (places (plan.link.samples + 1))
     ≡ paging_sent plan t.paging
 pages_all width plan t is tuned =
@@ -233,12 +235,12 @@ pages_all width plan t is tuned =
 
 -- and of near samples
 pub noisy_pages_shown : (width : Width) (plan : CellPlan) (sync : SyncPlan) (e : ℕ)
-    (samples : List Sample) (t : Tuning) (q : PagingPlan) → HearsSync width plan sync e samples →
+    (samples : List Sample) (t : Tuning) (q : PagingPlan) → HearsSentSync width plan sync e samples →
     IsOnPath plan t → Contains plan.paging q → q.number ≡ t.paging → Bears plan q.gain e →
     PagesShown plan t samples
 noisy_pages_shown width plan sync e samples t q is tuned has numbered bears other m superframes
     sends rate low true_mark =
-    let stated = All-contains (IsStatedPaging (paging_rate plan.sync)) plan.paging q
+    let stated = All-contains (IsStatedPaging (sent_paging_rate plan.sync)) plan.paging q
     is.receivable.pages has in
     subst
     (λ (channel : ℕ). pages_within t channel (Some m) samples plan.link.samples ≡
@@ -286,7 +288,7 @@ sets_all plan t tuned =
 -- ---- all channels
 
 module _ (width : Width) (plan : CellPlan) (t : Tuning) (is : IsReceivable width plan)
-    (tuned : IsTunedTo plan t) (follows : FollowsSent plan t.traffic)
+    (tuned : IsTunedToPlan plan t) (follows : FollowsSent plan t.traffic)
     (not_directed : All IsNotDirected (events t (made_samples plan))) where
   abbrev samples : List Sample
   samples = made_samples plan

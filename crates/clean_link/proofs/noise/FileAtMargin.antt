@@ -4,10 +4,13 @@ use Rattle.clean_link.proofs.Common.{arith, rules, subst, replicate, Option, Som
 use Rattle.clean_link.proofs.Common.{negsuc, unsigned_abs, ◌+ℤ◌, ◌-ℤ◌, ◌*ℤ◌, ints, sign, point, times, Pair, Sample, get_or, places}
 use Rattle.clean_link.proofs.Common.{binary, capsule, check_bits, sync_body, sync_capsule, M30, R9600, Sixteen, FillsCapsule, HasMessage}
 use Rattle.clean_link.proofs.Common.{no_sample, sample_with, scaled, made_samples, samples_of, sample_of, carriers, amplitudes, amplitude}
-use Rattle.clean_link.proofs.Common.{signal_of_carriers, code_point, pilot_chip, pilot_carrier, paging_carrier, sync_carrier, level_of, walsh}
-use Rattle.clean_link.proofs.Common.{Carrier, CellPlan, PagingPlan, SyncPlan, TrafficPlan, IsSyncPlan, IsPagingPlan, IsTrafficPlan, IsFreeOf}
-use Rattle.clean_link.proofs.Common.{IsStatedPaging, IsReceivable, AreSendable, paging_rate, loudness, with_added, Bears, IsNear, Plain}
-use Rattle.clean_link.proofs.Common.{IsCloseSample, IsOnPath, HearsSync, zipped_at, page_cycle, fill, whole_sendings, sending_ends}
+use Rattle.clean_link.proofs.Common.{signal_of_carriers, code_point, pilot_chip, pilot_carrier, paging_carrier, sync_carrier, level_of}
+use Rattle.clean_link.proofs.Common.{walsh}
+use Rattle.clean_link.proofs.Common.{Carrier, CellPlan, PagingPlan, SyncPlan, TrafficPlan, IsSyncPlan, IsPagingPlan, IsTrafficPlan}
+use Rattle.clean_link.proofs.Common.{IsFreeOf}
+use Rattle.clean_link.proofs.Common.{IsStatedPaging, IsReceivable, AreSendable, sent_paging_rate, loudness, with_added, Bears, IsNear}
+use Rattle.clean_link.proofs.Common.{Plain}
+use Rattle.clean_link.proofs.Common.{IsCloseSample, IsOnPath, HearsSentSync, zipped_at, page_cycle, fill, whole_sendings, sending_ends}
 use Rattle.clean_link.proofs.Common.{sending_event, heard_behind, sync_sent, paging_sent, pages_sent, tuning_to, IsNotDirected, Sync}
 use Rattle.clean_link.proofs.Common.{signaling_sent, signed, sync_shape, sync_symbols, length, length-sent, take}
 use Rattle.chip_core.specs.Bits.{number}
@@ -22,8 +25,9 @@ use Rattle.paging_message.specs.Messages.{message_body}
 use Rattle.paging_message.specs.Reading.{message_at}
 use Rattle.clean_link.specs.BoundedNoise.{IsMargin, added_sample}
 use Rattle.clean_link.specs.HeardEach.{HearsBearing}
-use Rattle.clean_link.specs.NoisyFile.{ComesBackAtItsMargin, against, cell, cell_beside, channels, file, file_with, first_softs, heard}
-use Rattle.clean_link.specs.NoisyFile.{paging_channel, sync_event, sync_with}
+use Rattle.clean_link.specs.NoisyFile.{ComesBackAtItsMargin, against, cell, cell_beside, channel_list_message, file, file_with, first_softs}
+use Rattle.clean_link.specs.NoisyFile.{heard}
+use Rattle.clean_link.specs.NoisyFile.{noisy_paging_plan, sync_event, sync_with}
 use Rattle.clean_link.proofs.frames.ChannelFrames.{channel_signs, silent_rows}
 use Rattle.clean_link.proofs.messages.EachChannel.{noisy_each_channel, noisy_no_event}
 use Rattle.clean_link.proofs.noise.Rounding.{other_cells}
@@ -32,23 +36,23 @@ use Rattle.clean_link.proofs.traffic.DistinctPlan.{told_lawful}
 
 -- ---- the cell
 
-body_fills : FillsCapsule M30 (message_body channels)
+body_fills : FillsCapsule M30 (message_body channel_list_message)
 unfolding message_body spelling binary
 body_fills = record { whole = refl; least = omega arith; most = omega arith }
 
-page_admitted : admits (number (take 8 (message_body channels))) (length (message_body channels))
+page_admitted : admits (number (take 8 (message_body channel_list_message))) (length (message_body channel_list_message))
     ≡ true
 unfolding admits message_body spelling binary
 page_admitted = refl
 
-page_heard : HasMessage (message_body channels)
-page_heard = admits_message (message_body channels) body_fills page_admitted
+page_heard : HasMessage (message_body channel_list_message)
+page_heard = admits_message (message_body channel_list_message) body_fills page_admitted
 
-page_sendable : AreSendable 95 0 paging_channel.pages
+page_sendable : AreSendable 95 0 noisy_paging_plan.pages
 unfolding message_body spelling binary fill
 page_sendable = (body_fills, omega arith, tt)
 
-paging_lawful : IsPagingPlan R9600 paging_channel
+paging_lawful : IsPagingPlan R9600 noisy_paging_plan
 paging_lawful = record {
   first = omega arith;
   last = omega arith;
@@ -57,7 +61,7 @@ paging_lawful = record {
   pages = page_sendable;
 }
 
-paging_stated : IsStatedPaging R9600 paging_channel
+paging_stated : IsStatedPaging R9600 noisy_paging_plan
 paging_stated = record {
   first = omega arith;
   last = omega arith;
@@ -67,7 +71,7 @@ paging_stated = record {
 }
 
 -- beside any sync channel that can be sent, of 9,600 bits a second
-lawful_beside : (sync : Option SyncPlan) → IsSyncPlan sync → paging_rate sync ≡ R9600 →
+lawful_beside : (sync : Option SyncPlan) → IsSyncPlan sync → sent_paging_rate sync ≡ R9600 →
     loudness (cell_beside sync) ≤ 32767 → IsReceivable Sixteen (cell_beside sync)
 lawful_beside sync is rate loud = record {
   lawful = record {
@@ -79,21 +83,21 @@ lawful_beside sync is rate loud = record {
     pilot = omega arith;
     sync = is;
     few = omega arith;
-    paging = rw (rate) (All-cons (IsPagingPlan R9600) paging_channel [] paging_lawful
+    paging = rw (rate) (All-cons (IsPagingPlan R9600) noisy_paging_plan [] paging_lawful
         (All-nil (IsPagingPlan R9600)));
     apart = (All-nil (λ (q : PagingPlan). q.number ≢ 1), tt);
     traffic = record {
       few = omega arith;
       are = All-nil IsTrafficPlan;
       apart = tt;
-      free = All-cons (λ (p : PagingPlan). IsFreeOf [] p.number) paging_channel []
+      free = All-cons (λ (p : PagingPlan). IsFreeOf [] p.number) noisy_paging_plan []
           (All-nil (λ (t : TrafficPlan). t.row ≢ 1))
           (All-nil (λ (p : PagingPlan). IsFreeOf [] p.number));
     };
     loud = loud;
   };
   link = omega arith;
-  pages = rw (rate) (All-cons (IsStatedPaging R9600) paging_channel [] paging_stated
+  pages = rw (rate) (All-cons (IsStatedPaging R9600) noisy_paging_plan [] paging_stated
       (All-nil (IsStatedPaging R9600)));
 }
 
@@ -204,7 +208,7 @@ abbrev sync_symbol : ℕ → Option Bool
 sync_symbol chip = symbol_of (sync_carrier cell (sync_with 30)) chip
 
 abbrev paging_at : ℕ → ℤ
-paging_at chip = amplitude chip (paging_carrier cell paging_channel)
+paging_at chip = amplitude chip (paging_carrier cell noisy_paging_plan)
 
 is_quiet : IsLeft (Some (sync_with 12)) 18
 unfolding carriers
@@ -289,9 +293,9 @@ lost_softs =
     ap first_softs (file_left None 30 is_silent)
     ∙ silent_rows Sixteen silent 32 Sync 32704
     (lawful_beside None tt refl (omega arith)) (omega arith)
-    (All-cons (λ (c : Carrier). c.row ≢ 32) (pilot_carrier silent) (paging_carrier silent paging_channel ∷ [])
+    (All-cons (λ (c : Carrier). c.row ≢ 32) (pilot_carrier silent) (paging_carrier silent noisy_paging_plan ∷ [])
     (omega arith)
-    (All-cons (λ (c : Carrier). c.row ≢ 32) (paging_carrier silent paging_channel) [] (omega arith)
+    (All-cons (λ (c : Carrier). c.row ≢ 32) (paging_carrier silent noisy_paging_plan) [] (omega arith)
     (All-nil (λ (c : Carrier). c.row ≢ 32))))
     (record { room = omega arith; aligned = refl })
 
@@ -300,7 +304,7 @@ lost_softs =
 bears : (gain : ℕ) → 30 ≤ gain → Bears cell gain 54
 bears gain least = omega (arith, least)
 
-hears : HearsSync Sixteen cell (sync_with 30) 54 file
+hears : HearsSentSync Sixteen cell (sync_with 30) 54 file
 hears = record {
   receivable = receivable;
   sends = refl;
@@ -343,7 +347,7 @@ sync_told =
     ∙ rw (whole_are.1, whole_are.2) refl
 
 pages_told : paging_sent cell 1 ≡
-    replicate 4 (Paging 737280 (capsule M30 Plain (message_body channels)) channels)
+    replicate 4 (Paging 737280 (capsule M30 Plain (message_body channel_list_message)) channel_list_message)
 unfolding paging_sent pages_sent page_cycle half_frames_of framed laid_on fill message_at
     message_body spelling sync_capsule sync_body capsule check_bits places binary
 pages_told = refl
@@ -367,6 +371,6 @@ comes_back = record {
   lost = lost_softs;
   sync = λ energy. (each energy).sync ∙ sync_told;
   pages = λ energy.
-      (each energy).pages paging_channel (0, omega arith, refl) refl (bears 60 (omega arith))
+      (each energy).pages noisy_paging_plan (0, omega arith, refl) refl (bears 60 (omega arith))
       ∙ pages_told;
 }

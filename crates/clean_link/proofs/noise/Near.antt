@@ -8,7 +8,7 @@ use Rattle.clean_link.proofs.Common.{cases_order, mul-le-mul_right, mul-le, lt_o
 use Rattle.clean_link.proofs.Common.{HasSign, ◌/◌, ap, ◌∙◌, negsuc, diff-plus, diff-same, diff-times, split, soft, turned_part, Sync, Data}
 use Rattle.clean_link.proofs.Common.{soft_is, scaled, unsigned_abs-mul, mul-lt-mul_of_pos_left, turned_part-is, sym, xor, zip_with}
 use Rattle.clean_link.proofs.Common.{frames-none, frames-more, signed, symbols, flat_map, places, Scrambles, descrambled, unscrambled}
-use Rattle.clean_link.proofs.Common.{scrambled, softs, CellPlan, Carrier, IsFrameOf, path_finger, AllZip, AllZip-map, zipped_append}
+use Rattle.clean_link.proofs.Common.{scrambled_with, softs, CellPlan, Carrier, IsFrameOf, path_finger, AllZip, AllZip-map, zipped_append}
 use Rattle.clean_link.specs.BoundedNoise as laws
 
 -- ---- near lists
@@ -438,7 +438,7 @@ descrambled_related R turns (a ∷ bits) (b ∷ symbols) (z ∷ zs) long all =
     (turns a b z all.0, descrambled_related R turns bits symbols zs (omega (arith, long)) all.1)
 
 pub unscrambled_related : (R : Bool → ℤ → Type 0) → Turns R → (n : ℕ) (bits symbols : List Bool)
-    (zs : List ℤ) → Scrambles bits n → length symbols ≡ n → AllZip R (scrambled bits symbols) zs →
+    (zs : List ℤ) → Scrambles bits n → length symbols ≡ n → AllZip R (scrambled_with bits symbols) zs →
     AllZip R symbols (unscrambled bits zs)
 unscrambled_related R turns n [] symbols zs scrambles long all = all
 unscrambled_related R turns n (b ∷ bits) symbols zs scrambles long all = ⊎_elim

@@ -4,14 +4,15 @@ use Rattle.clean_link.proofs.Common.{◌==◌, ⊎_elim, Bool, true, false, List
 use Rattle.clean_link.proofs.Common.{subst, Option, Some, All, Contains, flat_map, option_to_list, cases_Bool, eqb-true, eqb-false}
 use Rattle.clean_link.proofs.Common.{false_from_ne_true, All-cons, All-contains, All-contains_itself, All-head, All-nil, All-tail}
 use Rattle.clean_link.proofs.Common.{All-weaker, places, CheckForm, Width, capsule, M30, Rate, half_frame_body, rate_large}
-use Rattle.clean_link.proofs.Common.{cycle_frame_bits, paging_rate, made_samples, IsStatedPaging, cycle_of, CellPlan, PagingPlan, SyncPlan}
+use Rattle.clean_link.proofs.Common.{cycle_frame_bits, sent_paging_rate, made_samples, IsStatedPaging, cycle_of, CellPlan, PagingPlan}
+use Rattle.clean_link.proofs.Common.{SyncPlan}
 use Rattle.clean_link.proofs.Common.{page_in, frame_own_bits, is_in_file, known_at, Stream, IsTimed, Tuning, Mark, flat_map_ext_places}
 use Rattle.clean_link.proofs.Common.{heard_behind, IsOnPath, IsTrueMark, IsReceivable, end_chip, known_page, KnownPage, message_in}
 use Rattle.clean_link.proofs.Common.{page_told, pages_numbered, pages_of_channel, pages_sent, pages_within, PagesComeBack, placed_pages}
 use Rattle.clean_link.proofs.Common.{ReadPage, round_sent, AreWholePages, capsules_with_frames, cycle_half_frames, is_whole_page, Placed}
 use Rattle.clean_link.proofs.Common.{sending_of, Sample, NoisyPagesComeBack, ◌++◌, nat_le, if◌then◌else◌, mul-div-le, and_parts, leb-true}
 use Rattle.clean_link.proofs.Common.{le-div, length-capsule, HasMessage, laid_behind, AreHeard, Page, placed, None, paging_capsule}
-use Rattle.clean_link.proofs.Common.{body_reading, is_body, paging_reading, PagingMessage, reads_body, reads_capsule, with_page, take}
+use Rattle.clean_link.proofs.Common.{body_reading, is_body, paging_reading, PagingMessage, reads_body, reads_capsule, as_spelled_page, take}
 use Rattle.clean_link.proofs.Common.{range_with_len, lt-ltb, append-nil, map-append, flat_map-map, flat_map-append, frame_chips}
 use Rattle.clean_link.proofs.Common.{half_frame_capsule_ending, bits_up_to, page_at, pages_at, pages_behind, pages_from, paging_bound}
 use Rattle.clean_link.proofs.Common.{paging_stream, known_now, known_between, known_le, filter_enough, filter_ext_places}
@@ -21,7 +22,7 @@ use Rattle.clean_link.proofs.pages.CyclesBack.{stated_pages, whole_pages_back}
 use Rattle.clean_link.proofs.frames.ChannelFrames.{noisy_paging_back, paging_borne, silent_paging_back}
 use Rattle.clean_link.proofs.noise.Near.{near-self}
 use Rattle.clean_link.proofs.frames.Times.{paging_file_from, paging_file_to, paging_known_is, paging_timed}
-use Rattle.heard_events.specs.PagingEvents.{bits_before}
+use Rattle.heard_events.specs.PagingEvents.{paging_bits_before}
 use Rattle.clean_link.proofs.sendings.Order.{all_kept, at_key, below_key, in_order, IsRising}
 use Rattle.heard_events.specs.PagingStreams as streams
 
@@ -176,8 +177,8 @@ module _ (t : Tuning) (channel : ℕ) (m : Mark) (samples : List Sample) (own : 
     frame_own_bits t.count samples (paging_stream t channel m) k ≡ own k) where
   -- the bits of the frames before one of them
   before_is : (k : ℕ) → k < frames →
-      bits_before t.count samples (paging_stream t channel m) k ≡ flat_map own (places k)
-  unfolding bits_before
+      paging_bits_before t.count samples (paging_stream t channel m) k ≡ flat_map own (places k)
+  unfolding paging_bits_before
   before_is k below =
       let inside = is_in_file t.count (paging_stream t channel m) in
       flat_map_ext_filter_places inside
@@ -296,7 +297,7 @@ message_read body m e = given_one (is_body body) (message_in body) m e
 -- and so its capsule is read
 pub page_read : (form : CheckForm) (body : List Bool) → HasMessage body →
     page_in form (Some (capsule M30 form body)) ≡
-    with_page (capsule M30 form body) (Some (message_in body))
+    as_spelled_page (capsule M30 form body) (Some (message_in body))
 unfolding paging_capsule
 page_read form body has =
     let m = has.message in
@@ -306,7 +307,7 @@ page_read form body has =
     let spelled : c ≡ paging_capsule form m = ap (capsule M30 form) has.same in
     let read : paging_reading form c ≡ Some m =
     ap (paging_reading form) spelled ∙ reads_capsule form m has.spelled in
-    ap (with_page c) (read ∙ ap Some (sym same))
+    ap (as_spelled_page c) (read ∙ ap Some (sym same))
 
 -- ---- where a page lies
 
@@ -425,8 +426,8 @@ module _ {width : Width} {plan : CellPlan} {sync : SyncPlan} {t : Tuning} (chann
   at_frame = omega (arith, is.marked.place)
 
   -- the handset takes the channels to have the cell's rate
-  same_rate : streams.paging_rate m.prat ≡ paging_rate plan.sync
-  same_rate = ap streams.paging_rate is.rate ∙ sym (ap paging_rate is.sends)
+  same_rate : streams.paging_rate m.prat ≡ sent_paging_rate plan.sync
+  same_rate = ap streams.paging_rate is.rate ∙ sym (ap sent_paging_rate is.sends)
 
   -- which frames of the channel are in the file
   has_frames : HasFrames t.count (streams.paging_stream t channel m)
@@ -446,7 +447,7 @@ module _ {width : Width} {plan : CellPlan} {sync : SyncPlan} {t : Tuning} (chann
       frame_own_bits t.count samples (streams.paging_stream t channel m) k ≡ own k) →
       pages_within t channel (Some m) samples plan.link.samples ≡
       flat_map (told_of t channel m)
-      (capsules_with_frames (half_frame_body (paging_rate plan.sync)) own
+      (capsules_with_frames (half_frame_body (sent_paging_rate plan.sync)) own
       (frames_behind plan superframes))
   by_capsules samples own bits =
       ap (pages_within t channel (Some m) samples) (sym is.tuned.count)
@@ -483,21 +484,21 @@ module _ {width : Width} {plan : CellPlan} {sync : SyncPlan} {t : Tuning} (chann
       tells ∷ []) when
 
   -- of a round of a channel
-  round_tells : (p : PagingPlan) (r : ℕ) → AreWholePages (paging_rate plan.sync) p.pages →
+  round_tells : (p : PagingPlan) (r : ℕ) → AreWholePages (sent_paging_rate plan.sync) p.pages →
       flat_map (told_of t channel m)
       (map
       (sending_of plan.cell.check30 (4 * superframes)
-      (cycle_half_frames (paging_rate plan.sync) plan.cell.check30 p.pages * r))
+      (cycle_half_frames (sent_paging_rate plan.sync) plan.cell.check30 p.pages * r))
       (filter
       (is_whole_page (24576 * (4 * superframes)) (end_chip plan)
-      (cycle_half_frames (paging_rate plan.sync) plan.cell.check30 p.pages * r))
+      (cycle_half_frames (sent_paging_rate plan.sync) plan.cell.check30 p.pages * r))
       (placed_pages plan p)))
       ≡ round_sent plan p (24576 * (4 * superframes)) r
   round_tells p r whole =
       let form = plan.cell.check30 in
-      let size = half_frame_body (paging_rate plan.sync) in
-      let large : 0 < size = omega (arith, rate_large (paging_rate plan.sync)) in
-      let h = cycle_half_frames (paging_rate plan.sync) form p.pages * r in
+      let size = half_frame_body (sent_paging_rate plan.sync) in
+      let large : 0 < size = omega (arith, rate_large (sent_paging_rate plan.sync)) in
+      let h = cycle_half_frames (sent_paging_rate plan.sync) form p.pages * r in
       told_each IsPlaced (told_of t channel m) (sending_of form (4 * superframes) h)
       (page_told plan h) (is_whole_page (24576 * (4 * superframes)) (end_chip plan) h)
       (placed_pages plan p)
@@ -505,15 +506,15 @@ module _ {width : Width} {plan : CellPlan} {sync : SyncPlan} {t : Tuning} (chann
       (λ q there kept. page_tells h q there kept)
 
   -- and of all rounds
-  channel_tells : (p : PagingPlan) → AreWholePages (paging_rate plan.sync) p.pages →
+  channel_tells : (p : PagingPlan) → AreWholePages (sent_paging_rate plan.sync) p.pages →
       flat_map (told_of t channel m)
-      (capsules_with_frames (half_frame_body (paging_rate plan.sync))
+      (capsules_with_frames (half_frame_body (sent_paging_rate plan.sync))
       (λ k. cycle_frame_bits (cycle_of plan p) (4 * superframes + k))
       (frames_behind plan superframes))
       ≡ pages_of_channel plan p (plan.link.start + m.sample)
   channel_tells p whole =
       let first = 4 * superframes in
-      let rate = paging_rate plan.sync in
+      let rate = sent_paging_rate plan.sync in
       let form = plan.cell.check30 in
       let cycle = cycle_half_frames rate form p.pages in
       let rounds = end_chip plan / 12288 + 1 in
@@ -568,7 +569,7 @@ noisy_pages width plan sync p t m superframes e samples receivable has stated tu
     (λ k. cycle_frame_bits (cycle_of plan p) (4 * superframes + k))
     (λ k there. noisy_paging_back width plan sync p t m superframes k e samples receivable sends has tuned
     marked rate there near bears)
-    ∙ channel_tells p.number is time p (stated_pages (paging_rate plan.sync) p stated)
+    ∙ channel_tells p.number is time p (stated_pages (sent_paging_rate plan.sync) p stated)
 
 -- of a clean link, on whatever row
 pub pages_back : PagesComeBack
@@ -586,7 +587,7 @@ pages_back width plan sync t channel m superframes receivable stated tuned first
     let samples = made_samples plan in
     let mark_chip = plan.link.start + m.sample in
     let pages = pages_within t channel (Some m) samples plan.link.samples in
-    let size = half_frame_body (paging_rate plan.sync) in
+    let size = half_frame_body (sent_paging_rate plan.sync) in
     let bits = (streams.paging_stream t channel m).channel.bits in
     found plan channel mark_chip pages plan.paging
     (All-weaker (Contains plan.paging)
@@ -596,7 +597,7 @@ pages_back width plan sync t channel m superframes receivable stated tuned first
     (λ (c : ℕ). pages_within t c (Some m) samples plan.link.samples ≡ pages_of_channel plan p mark_chip)
     numbered
     (noisy_pages width plan sync p t m superframes 0 samples receivable has
-    (All-contains (IsStatedPaging (paging_rate plan.sync)) plan.paging p stated has) tuned sends rate low
+    (All-contains (IsStatedPaging (sent_paging_rate plan.sync)) plan.paging p stated has) tuned sends rate low
     marked (near-self 0 samples) (paging_borne width plan p receivable has)))
     plan.paging (All-contains_itself plan.paging))
     (λ others.

@@ -316,13 +316,13 @@ first_laid : (size : ℕ) (c : List Bool) (follow : Bool) → 0 < size → follo
     laying.laid_on size laying.nothing_laid follow c ≡ under_way [] 0 [] c
 unfolding laying.laid_on
 first_laid size c follow large f =
-    let none : laying.padded size [] ≡ [] =
-    nil_from_length (laying.padded size [])
+    let none : laying.padded_to size [] ≡ [] =
+    nil_from_length (laying.padded_to size [])
     (length-padded size [] large ∙ ap (λ (n : ℕ). size * n) (no_width size large) ∙ omega arith) in
-    let rows : length (laying.padded size []) / size ≡ 0 =
-    whole_rows size 0 (length (laying.padded size [])) large (ap length none ∙ omega arith) in
+    let rows : length (laying.padded_to size []) / size ≡ 0 =
+    whole_rows size 0 (length (laying.padded_to size [])) large (ap length none ∙ omega arith) in
     rw f (ap (λ (k : ℕ). let x : laying.Laid =
-    record { body = laying.padded size [] ++ c; starts = k ∷ [] } in x) rows
+    record { body = laying.padded_to size [] ++ c; starts = k ∷ [] } in x) rows
     ∙ ap (λ (l : List Bool). let x : laying.Laid =
     record { body = l ++ c; starts = 0 ∷ [] } in x) none)
 

@@ -178,7 +178,7 @@ pages_placed size form (page ∷ pages) run o at large e =
 
 -- padding, after whole half-frames
 padded_behind : (size n : ℕ) (front bits : List Bool) → length front ≡ size * n →
-    laying.padded size (front ++ bits) ≡ front ++ laying.padded size bits
+    laying.padded_to size (front ++ bits) ≡ front ++ laying.padded_to size bits
 unfolding laying.fill
 padded_behind size n front bits long =
     let count = length bits in
@@ -265,16 +265,16 @@ laid-follows size starts n front bits c follow t =
 
 laid-begins : (size : ℕ) (starts : List ℕ) (n w : ℕ) (front bits c : List Bool) (follow : Bool) →
     0 < size → follow ≡ false → length front ≡ size * n →
-    length (laying.padded size bits) ≡ size * w →
+    length (laying.padded_to size bits) ≡ size * w →
     laying.laid_on size (under_way starts n front bits) follow c
-    ≡ under_way (starts ++ n ∷ []) (n + w) (front ++ laying.padded size bits) c
+    ≡ under_way (starts ++ n ∷ []) (n + w) (front ++ laying.padded_to size bits) c
 unfolding laying.laid_on
 laid-begins size starts n w front bits c follow large f long own =
-    let padded' = front ++ laying.padded size bits in
+    let padded' = front ++ laying.padded_to size bits in
     let same = padded_behind size n front bits long in
     let rows : length padded' / size ≡ n + w =
     whole_rows size (n + w) (length padded') large
-    (omega (arith, length-append front (laying.padded size bits), long, own)) in
+    (omega (arith, length-append front (laying.padded_to size bits), long, own)) in
     rw f (ap (λ (l : List Bool). let x : laying.Laid =
     record { body = l ++ c; starts = (starts ++ n ∷ []) ++ length l / size ∷ [] } in x) same
     ∙ ap (λ (k : ℕ). let x : laying.Laid =

@@ -2,9 +2,11 @@
 use Rattle.clean_link.proofs.Common.{◌≡◌, ◌≢◌, ℕ, ◌%◌, ◌≤◌, All, List, [], ◌∷◌, ◌++◌, map, refl, sym, ap, subst, ◌∙◌, arith, ℤ, pos, Bool}
 use Rattle.clean_link.proofs.Common.{Option, Some, None, ◌+ℤ◌, ◌*ℤ◌, Contains, +ℤ_idr, ints, length-map, All-append, All-cons, All-head}
 use Rattle.clean_link.proofs.Common.{All-map, All-nil, All-tail, All-weaker, Contains-append_left, Contains-append_right, sign, Width, Rate}
-use Rattle.clean_link.proofs.Common.{paging_rate, HaveOwnNumbers, HaveOwnTrafficRows, IsFreeOf, IsLawfulPlan, IsPagingPlan, IsTrafficPlan}
+use Rattle.clean_link.proofs.Common.{sent_paging_rate, HaveOwnNumbers, HaveOwnTrafficRows, IsFreeOf, IsLawfulPlan, IsPagingPlan}
+use Rattle.clean_link.proofs.Common.{IsTrafficPlan}
 use Rattle.clean_link.proofs.Common.{Carrier, carriers, level, paging_carrier, pilot_carrier, sync_carrier, sync_carriers, traffic_carrier}
-use Rattle.clean_link.proofs.Common.{CellPlan, PagingPlan, SyncPlan, TrafficPlan, pilot_amplitude, walsh-pilot, AreApart, HaveOwnRows}
+use Rattle.clean_link.proofs.Common.{CellPlan, PagingPlan, SyncPlan, TrafficPlan, pilot_amplitude, walsh-pilot, CarriersAreApart}
+use Rattle.clean_link.proofs.Common.{HaveOwnRows}
 use Rattle.clean_link.proofs.Common.{IsAligned, get_or-map}
 use Rattle.clean_link.proofs.signal.Rows.{level_at-none}
 
@@ -138,7 +140,7 @@ paging_rows plan (p ∷ paging) own = (
 
 -- the pilot and channels on other rows
 with_pilot : (plan : CellPlan) (cs : List Carrier) → All IsAligned cs → HaveOwnRows cs →
-    All (λ (c : Carrier). c.row ≢ 0) cs → AreApart plan.pilot.gain (pilot_carrier plan ∷ cs)
+    All (λ (c : Carrier). c.row ≢ 0) cs → CarriersAreApart plan.pilot.gain (pilot_carrier plan ∷ cs)
 with_pilot plan cs aligned own others = record {
   aligned = All-cons IsAligned (pilot_carrier plan) cs (pilot_aligned plan) aligned;
   own_rows = (others, own);
@@ -165,7 +167,7 @@ others_all P width plan sync lawful each paging traffic =
     All-append P (continued plan sync) (map (traffic_carrier plan) plan.traffic)
     (All-append P (sync_carriers plan sync) (map (paging_carrier plan) plan.paging)
     (sync_all P plan sync each)
-    (paging_all P plan (paging_rate plan.sync) plan.paging paging lawful.paging))
+    (paging_all P plan (sent_paging_rate plan.sync) plan.paging paging lawful.paging))
     (traffic_all P plan plan.traffic traffic lawful.traffic.are)
 
 continued_rows : (width : Width) (plan : CellPlan) → IsLawfulPlan width plan →
@@ -175,7 +177,7 @@ continued_rows width plan lawful =
     own_rows-append (sync_carriers plan plan.sync) paging (sync_rows plan plan.sync)
     (paging_rows plan plan.paging lawful.apart)
     (sync_all (λ (c : Carrier). All (λ (d : Carrier). d.row ≢ c.row) paging) plan plan.sync
-    (λ s. paging_all (λ (d : Carrier). d.row ≢ 32) plan (paging_rate plan.sync) plan.paging
+    (λ s. paging_all (λ (d : Carrier). d.row ≢ 32) plan (sent_paging_rate plan.sync) plan.paging
     (λ p first last e. omega (arith, last, e)) lawful.paging))
 
 others_rows : (width : Width) (plan : CellPlan) → IsLawfulPlan width plan →
@@ -192,7 +194,7 @@ others_rows width plan lawful =
     (traffic_free plan plan.paging plan.traffic lawful.traffic.free))
 
 pub plan_apart : (width : Width) (plan : CellPlan) → IsLawfulPlan width plan →
-    AreApart plan.pilot.gain (carriers plan)
+    CarriersAreApart plan.pilot.gain (carriers plan)
 unfolding carriers
 plan_apart width plan lawful =
     with_pilot plan (others plan plan.sync)
@@ -246,7 +248,7 @@ without_sync width plan lawful =
     let traffic = map (traffic_carrier plan) plan.traffic in
     All-cons Other (pilot_carrier plan) (paging ++ traffic) (λ e. omega (arith, e))
     (All-append Other paging traffic
-    (paging_all Other plan (paging_rate plan.sync) plan.paging
+    (paging_all Other plan (sent_paging_rate plan.sync) plan.paging
     (λ p first last e. omega (arith, last, e)) lawful.paging)
     (traffic_all Other plan plan.traffic (λ t is. is.other) lawful.traffic.are))
 

@@ -2,7 +2,8 @@
 use Rattle.clean_link.proofs.Common.{◌≡◌, ℕ, ◌+◌, ◌*◌, ◌/◌, ◌%◌, ◌<◌, ◌≤◌, Bool, false, [], ◌∷◌, get_or, replicate, sym, ap, ◌∙◌, arith}
 use Rattle.clean_link.proofs.Common.{pos, ◌*ℤ◌, Contains, All-contains, sign, norm, mul_assoc_ℤ, frame_chips, soft, softs, symbol_chips}
 use Rattle.clean_link.proofs.Common.{symbols, window_chips, Form, Sync, Data, CellPlan, made_samples, Carrier, carriers, soft_strength}
-use Rattle.clean_link.proofs.Common.{AreApart, IsAligned, IsFrameAt, IsFrameOf, level_at, path_finger, List, Sample, HasSign, Bears, IsNear}
+use Rattle.clean_link.proofs.Common.{CarriersAreApart, IsAligned, IsFrameAt, IsFrameOf, level_at, path_finger, List, Sample, HasSign, Bears}
+use Rattle.clean_link.proofs.Common.{IsNear}
 use Rattle.clean_link.proofs.Common.{length, map, refl, ℤ, negsuc, unsigned_abs, ◌+ℤ◌, ◌-ℤ◌, neg_ℤ, +ℤ_idr, ints, length-replicate}
 use Rattle.clean_link.proofs.Common.{get_or-replicate, sum_of, square, Pair, sum_same, map-places-all, distrib, swap_products, neg_times}
 use Rattle.clean_link.proofs.Common.{split, diff-times, diff-same, walsh, covered_from, despread_at, pilot_sum, symbol_sum, turned_part}
@@ -49,7 +50,7 @@ in_file : (start place b k : ℕ) → start + place ≡ 64 * b → start + (plac
 in_file start place b k at = omega (arith, at)
 
 blocks_total : (plan : CellPlan) (row place b m : ℕ) (l : ℤ) → plan.cell.pn < 512 →
-    AreApart plan.pilot.gain (carriers plan) → row < 64 →
+    CarriersAreApart plan.pilot.gain (carriers plan) → row < 64 →
     place + 64 * m ≤ plan.link.samples → plan.link.start + place ≡ 64 * b →
     ((i : ℕ) → i < m → level_at row (carriers plan) (64 * (b + i)) ≡ l) →
     sum_of (covered_from row 0
@@ -65,7 +66,7 @@ blocks_total plan row place b m l low apart below room at each =
 
 -- for a number of chips
 chips_total : (n : ℕ) (plan : CellPlan) (row place b m : ℕ) (l : ℤ) → n ≡ 64 * m →
-    plan.cell.pn < 512 → AreApart plan.pilot.gain (carriers plan) → row < 64 →
+    plan.cell.pn < 512 → CarriersAreApart plan.pilot.gain (carriers plan) → row < 64 →
     place + n ≤ plan.link.samples → plan.link.start + place ≡ 64 * b →
     ((i : ℕ) → i < m → level_at row (carriers plan) (64 * (b + i)) ≡ l) →
     sum_of (covered_from row 0
@@ -91,7 +92,7 @@ window_begins Data start u b w at = omega (arith, at)
 
 -- the pilot's sum over a window
 pub window_total : (plan : CellPlan) (form : Form) (row u b w : ℕ) → plan.cell.pn < 512 →
-    AreApart plan.pilot.gain (carriers plan) → plan.link.start + u ≡ 64 * b →
+    CarriersAreApart plan.pilot.gain (carriers plan) → plan.link.start + u ≡ 64 * b →
     u + (window_chips form * w + window_chips form) ≤ plan.link.samples →
     pilot_sum (made_samples plan) (path_finger plan row) form u w ≡
     scaled (pos 2 *ℤ (pos (window_chips form) *ℤ pos plan.pilot.gain)) plan.link.factor
@@ -105,7 +106,7 @@ window_total plan form row u b w low apart at room =
 
 -- and the row's over a symbol
 pub symbol_total : (plan : CellPlan) (form : Form) (row u b j : ℕ) (l : ℤ) → plan.cell.pn < 512 →
-    AreApart plan.pilot.gain (carriers plan) → row < 64 → plan.link.start + u ≡ 64 * b →
+    CarriersAreApart plan.pilot.gain (carriers plan) → row < 64 → plan.link.start + u ≡ 64 * b →
     u + (symbol_chips form * j + symbol_chips form) ≤ plan.link.samples →
     ((i : ℕ) → i < symbol_blocks form →
     level_at row (carriers plan) (64 * (b + symbol_blocks form * j + i)) ≡ l) →
@@ -153,7 +154,7 @@ strength_is n g v c l =
 -- The soft value of symbol j of a frame that begins at sample u and with a block, where the row has
 -- one level over the symbol's blocks.
 pub soft_at : (plan : CellPlan) (form : Form) (row u b j : ℕ) (l : ℤ) → plan.cell.pn < 512 →
-    AreApart plan.pilot.gain (carriers plan) → row < 64 → plan.link.start + u ≡ 64 * b →
+    CarriersAreApart plan.pilot.gain (carriers plan) → row < 64 → plan.link.start + u ≡ 64 * b →
     u + frame_chips form ≤ plan.link.samples → j < symbols form →
     ((i : ℕ) → i < symbol_blocks form →
     level_at row (carriers plan) (64 * (b + symbol_blocks form * j + i)) ≡ l) →
@@ -253,7 +254,7 @@ joined n g gain v c s =
 
 -- one symbol's level on the channel's row
 pub channel_level : (plan : CellPlan) (c : Carrier) (form : Form) (u frame j b : ℕ) →
-    AreApart plan.pilot.gain (carriers plan) → Contains (carriers plan) c →
+    CarriersAreApart plan.pilot.gain (carriers plan) → Contains (carriers plan) c →
     IsFrameOf plan c form u frame → j < symbols form → plan.link.start + u ≡ 64 * b → (i : ℕ) →
     i < symbol_blocks form →
     level_at c.row (carriers plan) (64 * (b + symbol_blocks form * j + i)) ≡
@@ -271,7 +272,7 @@ channel_level plan c form u frame j b apart has is few at i lt =
 
 -- and its soft value
 pub channel_soft : (plan : CellPlan) (c : Carrier) (form : Form) (u frame j : ℕ) →
-    plan.cell.pn < 512 → AreApart plan.pilot.gain (carriers plan) → Contains (carriers plan) c →
+    plan.cell.pn < 512 → CarriersAreApart plan.pilot.gain (carriers plan) → Contains (carriers plan) c →
     IsFrameOf plan c form u frame → j < symbols form →
     soft (made_samples plan) (path_finger plan c.row) form u j ≡
     pos (soft_strength plan form c.gain) *ℤ sign (get_or (c.symbols frame) j false)
@@ -288,7 +289,7 @@ channel_soft plan c form u frame j low apart has is few =
     bit
 
 pub clean_relates : (plan : CellPlan) (c : Carrier) (form : Form) → plan.cell.pn < 512 →
-    AreApart plan.pilot.gain (carriers plan) → Contains (carriers plan) c →
+    CarriersAreApart plan.pilot.gain (carriers plan) → Contains (carriers plan) c →
     Relates (IsSigned (soft_strength plan form c.gain)) plan c form (made_samples plan)
 clean_relates plan c form low apart has u frame is long =
     softs_related (IsSigned (soft_strength plan form c.gain)) (made_samples plan)
@@ -301,7 +302,7 @@ nothing : (n : ℕ) → pos n *ℤ pos 0 ≡ pos 0
 nothing n = ap pos (omega arith)
 
 pub silent_softs : (plan : CellPlan) (row : ℕ) (form : Form) (u : ℕ) → plan.cell.pn < 512 →
-    AreApart plan.pilot.gain (carriers plan) → row < 64 → IsFrameAt plan form u →
+    CarriersAreApart plan.pilot.gain (carriers plan) → row < 64 → IsFrameAt plan form u →
     ((chip : ℕ) → plan.link.start + u ≤ chip → chip < plan.link.start + u + frame_chips form →
     level_at row (carriers plan) chip ≡ pos 0) →
     softs (made_samples plan) (path_finger plan row ∷ []) form u ≡ replicate (symbols form) (pos 0)
@@ -320,7 +321,7 @@ silent_softs plan row form u low apart below is silent =
 -- ---- a frame over a link with bounded noise
 
 pub noisy_sign : (plan : CellPlan) (c : Carrier) (form : Form) (u frame j e : ℕ)
-    (samples : List Sample) → plan.cell.pn < 512 → AreApart plan.pilot.gain (carriers plan) →
+    (samples : List Sample) → plan.cell.pn < 512 → CarriersAreApart plan.pilot.gain (carriers plan) →
     Contains (carriers plan) c → IsFrameOf plan c form u frame →
     IsNear e samples (made_samples plan) → Bears plan c.gain e → j < symbols form →
     HasSign (get_or (c.symbols frame) j false) (soft samples (path_finger plan c.row) form u j)
@@ -345,7 +346,7 @@ noisy_sign plan c form u frame j e samples low apart has is near bears few =
     bears
 
 pub noisy_relates : (plan : CellPlan) (c : Carrier) (form : Form) (e : ℕ) (samples : List Sample) →
-    plan.cell.pn < 512 → AreApart plan.pilot.gain (carriers plan) → Contains (carriers plan) c →
+    plan.cell.pn < 512 → CarriersAreApart plan.pilot.gain (carriers plan) → Contains (carriers plan) c →
     IsNear e samples (made_samples plan) → Bears plan c.gain e → Relates HasSign plan c form samples
 noisy_relates plan c form e samples low apart has near bears u frame is long =
     softs_related HasSign samples (path_finger plan c.row) form u (c.symbols frame) long

@@ -5,9 +5,10 @@ use Rattle.clean_link.proofs.Common.{Option, None, Some, ◌≢◌, All, Contain
 use Rattle.clean_link.proofs.Common.{HaveOwnTrafficRows, made_samples, told_superframes, CellPlan, SyncPlan, TrafficPlan, events}
 use Rattle.clean_link.proofs.Common.{frame_events_at, message_events_at, mark, AreNear, frames_at, messages_at, if_followed, Tuning}
 use Rattle.clean_link.proofs.Common.{sync_stream, Event, Mark, Traffic, by_one_mark, flat_map_ext_places, IsNotDirected, IsOnPath}
-use Rattle.clean_link.proofs.Common.{IsReceivable, frames_of_channel, frames_sent, told_on, AreDistinct, SendsSetOne, messages_of_channel}
+use Rattle.clean_link.proofs.Common.{IsReceivable, frames_of_channel, frames_sent, told_on_row, AreDistinct, SendsSetOne}
+use Rattle.clean_link.proofs.Common.{messages_of_channel}
 use Rattle.clean_link.proofs.Common.{messages_sent, signaling_sent, told_by_first, told_followed, told_with_sync, traffic_sent, FollowsSent}
-use Rattle.clean_link.proofs.Common.{HearsTraffic, IsUndirected, IsAssigned, Sample, ShowsSync}
+use Rattle.clean_link.proofs.Common.{HearsSentTraffic, IsUndirected, IsAssigned, Sample, ShowsSync}
 use Rattle.clean_link.proofs.traffic.Steady.{frames_from_mark, messages_from_mark, undirected_behind}
 use Rattle.clean_link.proofs.marks.MarksTrue.{first_in, unset_in, marks_in, time_of, unmarked_in}
 use Rattle.clean_link.proofs.frames.ChannelFrames.{clean_sync}
@@ -24,7 +25,7 @@ one_near t plan tuned = rw tuned.alone refl
 -- no other channel has the row of the one that stands at a place
 row_at : (told : TrafficPlan → List Event) (traffic : List TrafficPlan) (p : TrafficPlan)
     (row i : ℕ) → HaveOwnTrafficRows traffic → i < length traffic → get_or traffic i p ≡ p →
-    p.row ≡ row → told_on told traffic row ≡ told p
+    p.row ≡ row → told_on_row told traffic row ≡ told p
 row_at told [] p row i own below is on = absurd (omega (arith, below))
 row_at told (q ∷ traffic) p row zero own below is on =
     let here = eq-eqb q.row row (ap (λ (x : TrafficPlan). x.row) is ∙ on) in
@@ -38,7 +39,7 @@ row_at told (q ∷ traffic) p row (suc i) own below is on =
 
 on_row : (width : Width) (plan : CellPlan) (p : TrafficPlan) (row : ℕ)
     (told : TrafficPlan → List Event) → IsReceivable width plan → Contains plan.traffic p →
-    p.row ≡ row → told_on told plan.traffic row ≡ told p
+    p.row ≡ row → told_on_row told plan.traffic row ≡ told p
 on_row width plan p row told is has on =
     row_at told plan.traffic p row has.0 is.lawful.traffic.apart has.1 has.2 on
 
@@ -54,7 +55,7 @@ record ComesBack (width : Width) (plan : CellPlan) (t : Tuning) (samples : List 
       ≡ if_followed (heard n) t.traffic (mark t samples t.count)
   pub back : (p : TrafficPlan) (traffic : Traffic) (m : Mark) (superframes : ℕ) →
       t.traffic ≡ Some traffic → mark t samples t.count ≡ Some m →
-      HearsTraffic width plan p t traffic m superframes → SendsSetOne p →
+      HearsSentTraffic width plan p t traffic m superframes → SendsSetOne p →
       AreDistinct plan p (plan.link.start + m.sample) →
       flat_map (λ n. heard n traffic m) (places (plan.link.samples + 1))
       ≡ told p (plan.link.start + m.sample)
@@ -63,7 +64,7 @@ record ComesBack (width : Width) (plan : CellPlan) (t : Tuning) (samples : List 
 pub record HearsBehind (width : Width) (plan : CellPlan) (p : TrafficPlan) (t : Tuning)
     (traffic : Traffic) (m : Mark) : Type 0 where
   pub superframes : ℕ
-  pub hears : HearsTraffic width plan p t traffic m superframes
+  pub hears : HearsSentTraffic width plan p t traffic m superframes
   pub told : told_with_sync plan plan.sync ≡ Some superframes
 
 -- and it follows the channel, each of whose frames from there on is distinct
@@ -76,7 +77,7 @@ pub record IsHeardBehind (width : Width) (plan : CellPlan) (t : Tuning) (traffic
 
 -- what the channel on a row tells after a local chip
 abbrev pub told_behind : CellPlan → (TrafficPlan → ℕ → List Event) → ℕ → ℕ → List Event
-told_behind plan told row chip = told_on (λ (p : TrafficPlan). told p chip) plan.traffic row
+told_behind plan told row chip = told_on_row (λ (p : TrafficPlan). told p chip) plan.traffic row
 
 module _ {width : Width} {plan : CellPlan} {t : Tuning} {samples : List Sample}
     (is : ShowsSync width plan samples) (tuned : IsOnPath plan t) where

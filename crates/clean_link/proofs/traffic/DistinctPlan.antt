@@ -5,9 +5,10 @@ use Rattle.clean_link.proofs.Common.{and_parts, cases_eq, leb-true, All-cons, Al
 use Rattle.clean_link.proofs.Common.{after-after, IsState-before, capsule, check_bits, traffic_codeword, Rate, R9600, R4800}
 use Rattle.clean_link.proofs.Common.{R2400, R1200, codeword_bits, power_places, Rate2, R14400, R7200, R3600, R1800, on_again, sync_body}
 use Rattle.clean_link.proofs.Common.{sync_capsule, IsSyncMessage, split_9600, loudness, AreLawfulBeside, IsFreeOf, IsLawfulPlan}
-use Rattle.clean_link.proofs.Common.{IsPagingPlan, IsTrafficPlan, paging_rate, IsStatedPaging, IsReceivable, frames_of, cycled_frame}
+use Rattle.clean_link.proofs.Common.{IsPagingPlan, IsTrafficPlan, sent_paging_rate, IsStatedPaging, IsReceivable, frames_of, cycled_frame}
 use Rattle.clean_link.proofs.Common.{IsTrafficFrame, IsTrafficFrame2, PagingPlan, TrafficPlan, TrafficFrame, TrafficFrame2, lost_symbols}
-use Rattle.clean_link.proofs.Common.{bits_of, bits_of2, distinct_plan, rules, first_channel, frame2_at, frame_at, on_row, second_channel}
+use Rattle.clean_link.proofs.Common.{distinct_bits_of, bits_of2, distinct_plan, rules, first_channel, frame2_at, frame_at, on_row}
+use Rattle.clean_link.proofs.Common.{second_channel}
 use Rattle.clean_link.proofs.Common.{told_message, HasMark, HasSetOne, HasSetTwo, frame_chip, is_received, received_frames, replaced_of}
 use Rattle.clean_link.proofs.Common.{AreDistinct, IsDistinctFrame, end_chip, messages_sent, cycled_frame2, IsDistinctFrame2, signaling_sent}
 use Rattle.clean_link.proofs.Common.{told_with_sync, lost_symbols2, sharing, sharing2, codewords_giving, AreTrafficFrames, frame_count}
@@ -19,7 +20,7 @@ use Rattle.sync_message.proofs.Bodies.{admitted}
 use Rattle.message_layout.specs.Spelling.{spelling}
 use Rattle.traffic_message.specs.Multiplex.{split}
 use Rattle.clean_link.proofs.traffic.SharedFrames.{distinct_by_sharing, distinct_by_sharing2}
-use Rattle.symbol_path.specs.Scrambling.{symbol_chips}
+use Rattle.symbol_path.specs.Scrambling.{scrambling_chips}
 
 -- ---- states
 
@@ -65,7 +66,7 @@ starts mask (suc n) v = group_start mask v ∷ starts mask n (walked 1536 v)
 -- a scrambling bit
 bit_is : (mask v i : ℕ) → i < 24 →
     chip_of mask (after v (64 * i)) ≡ get_or (group_scrambling v mask) i false
-unfolding symbol_chips long_chip
+unfolding scrambling_chips long_chip
 bit_is mask v i low = sym (get_or-map-places (λ i. long_chip v mask (64 * i)) 24 i false low)
 
 group_start_is : (mask v : ℕ) → v < 2 ^ 42 →
@@ -275,14 +276,14 @@ starts_of2 R1800 = starts_3
 -- the codewords of rate r that share the symbols of that frame
 abbrev shared : Rate → Rate → List (List Bool)
 shared rate r =
-    sharing (lost_symbols (pairs_by (starts_of rate))) rate (traffic_codeword rate (bits_of rate)) r
+    sharing (lost_symbols (pairs_by (starts_of rate))) rate (traffic_codeword rate (distinct_bits_of rate)) r
 
 abbrev shared2 : Rate2 → Rate2 → List (List Bool)
 shared2 rate r =
     sharing2 (lost_symbols2 (pairs_by (starts_of2 rate))) rate (codeword_bits rate (bits_of2 rate)) r
 
 -- its own,
-own : (rate : Rate) → shared rate rate ≡ traffic_codeword rate (bits_of rate) ∷ []
+own : (rate : Rate) → shared rate rate ≡ traffic_codeword rate (distinct_bits_of rate) ∷ []
 unfolding binary places check_bits codewords_giving
 own R9600 = refl
 own rate = refl
@@ -322,7 +323,7 @@ distinct_at : (rate : Rate) (chip : ℕ) → places_in chip ≡ pairs_by (starts
     All (IsDistinctFrame (places_in chip)) (frame_at rate ∷ [])
 distinct_at =
     one_frame IsDistinctFrame starts_of frame_at
-    (λ rate. distinct_by_sharing (pairs_by (starts_of rate)) rate (bits_of rate)
+    (λ rate. distinct_by_sharing (pairs_by (starts_of rate)) rate (distinct_bits_of rate)
     (record { own = own rate; others = apart rate }))
 
 distinct2_at : (rate : Rate2) (chip : ℕ) → places_in chip ≡ pairs_by (starts_of2 rate) →
@@ -462,7 +463,7 @@ plan_lawful = record {
   pilot = omega arith;
   sync = (omega arith, told_lawful);
   few = omega arith;
-  paging = All-nil (IsPagingPlan (paging_rate distinct_plan.sync));
+  paging = All-nil (IsPagingPlan (sent_paging_rate distinct_plan.sync));
   apart = tt;
   traffic = channels_lawful;
   loud = omega (arith, loud_is);
@@ -472,7 +473,7 @@ receivable : IsReceivable Sixteen distinct_plan
 receivable = record {
   lawful = plan_lawful;
   link = omega (arith, norm_is);
-  pages = All-nil (IsStatedPaging (paging_rate distinct_plan.sync));
+  pages = All-nil (IsStatedPaging (sent_paging_rate distinct_plan.sync));
 }
 
 told_is : told_with_sync distinct_plan distinct_plan.sync ≡ Some 7

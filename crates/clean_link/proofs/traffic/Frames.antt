@@ -10,9 +10,10 @@ use Rattle.clean_link.proofs.Common.{frame_state, frames_bound, frames_now, repl
 use Rattle.clean_link.proofs.Common.{filter_enough, flat_map_ext_filter_places, flat_map_ext_places, soft_strength, frame_chip, frame_ends}
 use Rattle.clean_link.proofs.Common.{frame_told, frames_of_channel, is_received, received_frames, replaced_of, sent_power_bits}
 use Rattle.clean_link.proofs.Common.{sent_frame_event, AreDistinct, IsDistinctFrame, IsOnePilot, SendsSetOne, end_chip, EachFrameIsHeard}
-use Rattle.clean_link.proofs.Common.{HearsTraffic, IsHeardAs, IsUndirected, SentFramesComeBack, TrafficFramesComeBack, ℤ, signs_frame}
+use Rattle.clean_link.proofs.Common.{HearsSentTraffic, IsHeardAs, IsUndirected, SentFramesComeBack, TrafficFramesComeBack, ℤ, signs_frame}
 use Rattle.clean_link.proofs.Common.{Bears, IsNear, NoisyEachFrameIsHeard, NoisySentFramesComeBack, NoisyTrafficFramesComeBack}
-use Rattle.clean_link.proofs.Common.{ShowsTraffic, Option, option_to_list, append-nil, CheckForm, messages_at, capsule_with, message_at}
+use Rattle.clean_link.proofs.Common.{ShowsTraffic, Option, option_to_list, append-nil, CheckForm, messages_at, capsule_with}
+use Rattle.clean_link.proofs.Common.{signaling_message_at}
 use Rattle.clean_link.proofs.Common.{message_events, message_heard, messages_by, signal_at, signal_in, signal_of, signals_before, has_frame}
 use Rattle.clean_link.proofs.Common.{filter_ext_places, message_told, messages_of_channel, signal_sent, signals_in, signals_received}
 use Rattle.clean_link.proofs.Common.{SentMessagesComeBack, NoisySentMessagesComeBack, IsNotDirected, NoneIsDirected, NoneIsDirectedByNoise}
@@ -55,7 +56,7 @@ one_each {A} {B} f (x ∷ xs) = ap (λ (ys : List B). f x ∷ ys) (one_each f xs
 -- it has as many information bits as its rate
 pub sized : {width : Width} {plan : CellPlan} {p : TrafficPlan} {t : Tuning} {traffic : Traffic}
     {m : Mark} {legs : ℕ → List Leg} {superframes k : ℕ} {f : TrafficFrame} →
-    HearsTraffic width plan p t traffic m superframes →
+    HearsSentTraffic width plan p t traffic m superframes →
     IsHeardAs plan p t traffic m legs superframes k f → IsTrafficFrame f
 sized {width} {plan} {p} {superframes = superframes} {k = k} {f = f} is heard =
     let frames = set_one p.frames in
@@ -96,7 +97,7 @@ pub bound_enough : (t : Tuning) (traffic : Traffic) (m : Mark) →
 bound_enough t traffic m n k ends = omega (arith, ends)
 
 module _ {width : Width} {plan : CellPlan} {p : TrafficPlan} {t : Tuning} {traffic : Traffic}
-    {m : Mark} {superframes : ℕ} (is : HearsTraffic width plan p t traffic m superframes) where
+    {m : Mark} {superframes : ℕ} (is : HearsSentTraffic width plan p t traffic m superframes) where
   latest : p.offset ≤ 15
   latest = (lawful_traffic width plan p is.receivable.lawful is.sent).latest
 
@@ -357,7 +358,7 @@ noisy_frame_back width plan p t traffic m legs superframes k e f samples is hear
 
 pub noisy_traffic : {width : Width} {plan : CellPlan} {p : TrafficPlan} {t : Tuning}
     {traffic : Traffic} {m : Mark} {superframes : ℕ} →
-    HearsTraffic width plan p t traffic m superframes → (e : ℕ) (samples : List Sample) →
+    HearsSentTraffic width plan p t traffic m superframes → (e : ℕ) (samples : List Sample) →
     IsNear e samples (made_samples plan) → Bears plan p.gain e →
     ShowsTraffic plan p t traffic m superframes samples
 noisy_traffic {width} {plan} {p} {t} {traffic} {m} {superframes} is e samples near bears = record {
@@ -372,7 +373,7 @@ noisy_traffic {width} {plan} {p} {t} {traffic} {m} {superframes} is e samples ne
 -- so do those of a clean link
 pub clean_traffic : {width : Width} {plan : CellPlan} {p : TrafficPlan} {t : Tuning}
     {traffic : Traffic} {m : Mark} {superframes : ℕ} →
-    HearsTraffic width plan p t traffic m superframes →
+    HearsSentTraffic width plan p t traffic m superframes →
     ShowsTraffic plan p t traffic m superframes (made_samples plan)
 clean_traffic {plan = plan} is =
     noisy_traffic is 0 (made_samples plan) (near-self 0 (made_samples plan)) (traffic_borne is)
@@ -405,7 +406,7 @@ of_one : {A B : Type 0} (f : A → List B) (xs : List A) (x : A) → xs ≡ x �
 of_one f xs x is = ap (flat_map f) is ∙ append-nil (f x)
 
 module _ {width : Width} {plan : CellPlan} {p : TrafficPlan} {t : Tuning} {traffic : Traffic}
-    {m : Mark} {superframes : ℕ} (is : HearsTraffic width plan p t traffic m superframes)
+    {m : Mark} {superframes : ℕ} (is : HearsSentTraffic width plan p t traffic m superframes)
     (some : SendsSetOne p)
     (distinct : AreDistinct plan p (plan.link.start + m.sample)) (legs : ℕ → List Leg)
     (one : (k : ℕ) → IsOnePilot traffic (legs k)) (samples : List Sample)
@@ -457,7 +458,7 @@ module _ {width : Width} {plan : CellPlan} {p : TrafficPlan} {t : Tuning} {traff
   message_is : (k : ℕ) → is_in_file t.count channel k ≡ true →
       message_heard t traffic m legs samples (known_at t.count channel k) k
       ≡ message_told plan p first_chip (4 * superframes + k)
-  unfolding message_at
+  unfolding signaling_message_at
   message_is k there =
       let number = 4 * superframes + k in
       let (f, frame) = frame_there is some k in
@@ -530,7 +531,7 @@ noisy_messages width plan p t traffic m superframes e samples is near bears some
     (noisy_traffic is e samples near bears) undirected
 
 module _ {width : Width} {plan : CellPlan} {p : TrafficPlan} {t : Tuning} {traffic : Traffic}
-    {m : Mark} {superframes : ℕ} (is : HearsTraffic width plan p t traffic m superframes)
+    {m : Mark} {superframes : ℕ} (is : HearsSentTraffic width plan p t traffic m superframes)
     (some : SendsSetOne p)
     (distinct : AreDistinct plan p (plan.link.start + m.sample))
     (none : All IsNotDirected (messages_of_channel plan p (plan.link.start + m.sample)))

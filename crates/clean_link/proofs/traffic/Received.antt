@@ -7,7 +7,8 @@ use Rattle.clean_link.proofs.Common.{frames_within, soft_frame, soft_frames, raw
 use Rattle.clean_link.proofs.Common.{replaced_in, Tuning, Mark, Traffic, PowerControl, SoftFrame, soft_strength, IsOnPath, IsReceivable}
 use Rattle.clean_link.proofs.Common.{is_received, received_frames, replaced_of, sent_bits, IsAssigned, SendsSetTwo, SendsSymbols, ShowFrame}
 use Rattle.clean_link.proofs.Common.{ShowPowerBits, cycled_frame2, codeword_symbols2, AreReceived, IsReceivedAs, EachFrameIsReceived}
-use Rattle.clean_link.proofs.Common.{FramesBehindMark, FramesShowPowerBits, FramesShowSymbols, SetTwoBehindMark, IsSentFrame2, HearsTraffic}
+use Rattle.clean_link.proofs.Common.{FramesBehindMark, FramesShowPowerBits, FramesShowSymbols, SetTwoBehindMark, IsSentFrame2}
+use Rattle.clean_link.proofs.Common.{HearsSentTraffic}
 use Rattle.clean_link.proofs.Common.{SetTwoFramesComeBack, Bears, IsNear, IsReceivedBySigns, IsSentFrame2BySigns, NoisyFramesAreReceived}
 use Rattle.clean_link.proofs.Common.{NoisyFramesBehindMark, NoisySetTwoBehindMark, NoisySetTwoFramesComeBack, HavePowerSigns, NoisyFrame}
 use Rattle.clean_link.proofs.Common.{IsReceived, ShowsSync, ◌<ℤ◌}
@@ -16,7 +17,7 @@ use Rattle.clean_link.proofs.Common.{unreplaced, frame_softs, stream_of, HeardAr
 use Rattle.clean_link.proofs.Common.{ReceivedAreTheOnlyBest, SetTwoAreTheOnlyBest, by_lt_z, codeword_symbols, KeepSigns}
 use Rattle.clean_link.proofs.Common.{NoisyReceivedAreTheOnlyBest, NoisySetTwoAreTheOnlyBest, NoisyFramesAreTheOnlyBest, agree_left}
 use Rattle.clean_link.proofs.Common.{shown_keep}
-use Rattle.cell_plan.specs.TrafficFrames.{frame_state}
+use Rattle.cell_plan.specs.TrafficFrames.{sent_frame_state}
 use Rattle.clean_link.proofs.frames.ChannelFrames.{clean_sync, heard_sync}
 use Rattle.clean_link.proofs.noise.Near.{none_borne, length-near, near-self}
 use Rattle.clean_link.proofs.signal.Samples.{length-made}
@@ -104,7 +105,7 @@ noisy_received_only_best plan p frame f soft size received distinct =
 
 pub noisy_set_two_only_best : NoisySetTwoAreTheOnlyBest
 noisy_set_two_only_best plan p frame f soft size received distinct =
-    signs_only_best second.format_of (replaced_of plan p frame) soft.descrambled f.rate f.information size received.shown
+    signs_only_best second.format_of2 (replaced_of plan p frame) soft.descrambled f.rate f.information size received.shown
     distinct
 
 pub received_only_best : ReceivedAreTheOnlyBest
@@ -120,7 +121,7 @@ set_two_only_best plan p frame f soft size received distinct =
 -- ---- after a true mark
 
 module _ {width : Width} {plan : CellPlan} {p : TrafficPlan} {t : Tuning} {traffic : Traffic}
-    {m : Mark} {superframes : ℕ} (is : HearsTraffic width plan p t traffic m superframes) where
+    {m : Mark} {superframes : ℕ} (is : HearsSentTraffic width plan p t traffic m superframes) where
   abbrev stream : Stream
   stream = one_stream t traffic m
 
@@ -264,7 +265,7 @@ frames_show_power_bits width plan p t traffic m superframes frame symbols power_
 
 pub set_two_back : SetTwoFramesComeBack
 set_two_back plan p frame f soft sized received =
-    let few = (power_pairs (frame_state (frames_of plan p) frame) (traffic_mask p.esn)).long in
+    let few = (power_pairs (sent_frame_state (frames_of plan p) frame) (traffic_mask p.esn)).long in
     let shown = received.shown in
     record {
       received = received;
@@ -277,7 +278,7 @@ set_two_back plan p frame f soft sized received =
 -- by the signs of their symbols alone
 pub noisy_set_two_back : NoisySetTwoFramesComeBack
 noisy_set_two_back plan p frame f soft sized received =
-    let few = (power_pairs (frame_state (frames_of plan p) frame) (traffic_mask p.esn)).long in
+    let few = (power_pairs (sent_frame_state (frames_of plan p) frame) (traffic_mask p.esn)).long in
     let shown = received.shown in
     record {
       received = received;
@@ -297,7 +298,7 @@ module _ {width : Width} {plan : CellPlan} {p : TrafficPlan} {t : Tuning} {traff
     (set : mark t samples (length samples) ≡ Some m) where
   -- What is so of each frame after a true mark is so of those after the mark that is set.
   behind_mark : (Is : ℕ → SoftFrame → Type 0) →
-      ((superframes : ℕ) → HearsTraffic width plan p t traffic m superframes → (frame : ℕ) →
+      ((superframes : ℕ) → HearsSentTraffic width plan p t traffic m superframes → (frame : ℕ) →
       is_received plan p (plan.link.start + m.sample) frame ≡ true →
       Is frame (soft_frame t (traffic_channel traffic) m samples (frame - 4 * superframes))) →
       AreReceived plan p Is (soft_frames t (traffic_channel traffic) m samples)

@@ -5,7 +5,7 @@ use Rattle.clean_link.proofs.Common.{cases_Bool, eq-eqb, eqb-true, not-true, or_
 use Rattle.clean_link.proofs.Common.{state_after, repeats_of, traffic_codeword, Rate, R9600, R4800, R2400, R1200, data_shape, sent}
 use Rattle.clean_link.proofs.Common.{codeword_bits, is_dropped, repeated_symbol, sent2, Rate2, R14400, R7200, R3600, R1800, kept_once}
 use Rattle.clean_link.proofs.Common.{get_or-sent2, IsAllowed, Codeword, Zero, codewords_same, frame_codeword, AgreeElsewhere, frame_bits}
-use Rattle.clean_link.proofs.Common.{frame_symbols, is_replaced, is_kept, lost_symbols, is_known2, lost_symbols2, shown_of}
+use Rattle.clean_link.proofs.Common.{frame_symbols, is_replaced, is_kept, lost_symbols, is_known2, lost_symbols2, symbols_known_of}
 use Rattle.clean_link.proofs.Common.{codewords_giving, AreDistinctBySharing, AreDistinctBySharing2, bits_least, zero, suc, ◌&&◌, ◌||◌, map}
 use Rattle.clean_link.proofs.Common.{filter, if◌then◌else◌, flat_map, list_all, range_with_len, booleans_Decides, pointwise}
 use Rattle.clean_link.proofs.Common.{pointwise_decides, beq, and_from, list_all-append, list_all-map, g0, g1, symbol, before, behind, pair}
@@ -266,7 +266,7 @@ same_rate r s = inr (λ e. cc)
 giving_codeword : (replaced : List ℕ) (rate r : Rate) (information : List Bool) (v : Codeword) →
     IsAllowed Zero (frame_bits r) v →
     AgreeElsewhere replaced (frame_symbols rate (frame_codeword rate information)) (frame_symbols r v) →
-    AreGiving (shown_of (is_kept (lost_symbols replaced))
+    AreGiving (symbols_known_of (is_kept (lost_symbols replaced))
     (code_symbols (replicate 8 false) (traffic_codeword rate information)) (repeats_of rate)
     (repeats_of r)) 0 (replicate 8 false) v.bits
 giving_codeword replaced rate r information v allowed agree =
@@ -283,7 +283,7 @@ giving_codeword replaced rate r information v allowed agree =
 pub distinct_by_sharing : AreDistinctBySharing
 distinct_by_sharing replaced rate information none r v allowed agree =
     one_codeword
-    (λ (q : Rate). shown_of (is_kept (lost_symbols replaced))
+    (λ (q : Rate). symbols_known_of (is_kept (lost_symbols replaced))
     (code_symbols (replicate 8 false) (traffic_codeword rate information)) (repeats_of rate)
     (repeats_of q)) frame_bits rate r (traffic_codeword rate information) v
     (frame_codeword rate information) (same_rate r rate) (bits_least r) allowed
@@ -292,13 +292,13 @@ distinct_by_sharing replaced rate information none r v allowed agree =
 
 -- ---- rate set 2
 
-copies_of2 : (rate : Rate2) (c k : ℕ) → c < 2 * rates_two.frame_bits rate →
-    rates_two.repeats_of rate * c ≤ k → k < rates_two.repeats_of rate * c + rates_two.repeats_of rate →
-    (k < 576) × (k / rates_two.repeats_of rate ≡ c)
+copies_of2 : (rate : Rate2) (c k : ℕ) → c < 2 * rates_two.frame_bits2 rate →
+    rates_two.repeats_of2 rate * c ≤ k → k < rates_two.repeats_of2 rate * c + rates_two.repeats_of2 rate →
+    (k < 576) × (k / rates_two.repeats_of2 rate ≡ c)
 copies_of2 R14400 c k low least most = (omega (arith, low, least, most), omega (arith, least, most))
 copies_of2 rate c k low least most = (omega (arith, low, least, most), omega (arith, least, most))
 
-enough_bits2 : (rate : Rate2) → 8 ≤ rates_two.frame_bits rate
+enough_bits2 : (rate : Rate2) → 8 ≤ rates_two.frame_bits2 rate
 enough_bits2 R14400 = omega arith
 enough_bits2 rate = omega arith
 
@@ -328,7 +328,7 @@ replaced_lost2 (q ∷ places) i out =
 known_agree : (replaced : List ℕ) (xs ys : List Bool) (r s : Rate2) (k : ℕ) → k < 576 →
     is_known2 (lost_symbols2 replaced) k ≡ true →
     AgreeElsewhere replaced (sent2 r xs) (sent2 s ys) →
-    get_or xs (k / rates_two.repeats_of r) false ≡ get_or ys (k / rates_two.repeats_of s) false
+    get_or xs (k / rates_two.repeats_of2 r) false ≡ get_or ys (k / rates_two.repeats_of2 s) false
 known_agree replaced xs ys r s k low known agree =
     let lost = lost_symbols2 replaced in
     let both = and_parts (not (is_dropped k)) (is_kept lost k) known in
@@ -343,35 +343,35 @@ known_agree replaced xs ys r s k low known agree =
     (λ (in_place : is_replaced replaced i ≡ false). in_place)
     (cases_Bool (is_replaced replaced i)) in
     sym (get_or-sent2 r xs i once.below
-    ∙ ap (λ (n : ℕ). get_or xs (n / rates_two.repeats_of r) false) once.is)
+    ∙ ap (λ (n : ℕ). get_or xs (n / rates_two.repeats_of2 r) false) once.is)
     ∙ agree i once.below left
     ∙ get_or-sent2 s ys i once.below
-    ∙ ap (λ (n : ℕ). get_or ys (n / rates_two.repeats_of s) false) once.is
+    ∙ ap (λ (n : ℕ). get_or ys (n / rates_two.repeats_of2 s) false) once.is
 
 giving_codeword2 : (replaced : List ℕ) (rate r : Rate2) (information : List Bool) (v : Codeword) →
-    IsAllowed Zero (rates_two.frame_bits r) v →
-    AgreeElsewhere replaced (frames_two.frame_symbols rate (frames_two.frame_codeword rate information))
-    (frames_two.frame_symbols r v) →
-    AreGiving (shown_of (is_known2 (lost_symbols2 replaced))
-    (code_symbols (replicate 8 false) (codeword_bits rate information)) (rates_two.repeats_of rate)
-    (rates_two.repeats_of r)) 0 (replicate 8 false) v.bits
+    IsAllowed Zero (rates_two.frame_bits2 r) v →
+    AgreeElsewhere replaced (frames_two.frame_symbols2 rate (frames_two.frame_codeword2 rate information))
+    (frames_two.frame_symbols2 r v) →
+    AreGiving (symbols_known_of (is_known2 (lost_symbols2 replaced))
+    (code_symbols (replicate 8 false) (codeword_bits rate information)) (rates_two.repeats_of2 rate)
+    (rates_two.repeats_of2 r)) 0 (replicate 8 false) v.bits
 giving_codeword2 replaced rate r information v allowed agree =
     let xs = code_symbols (replicate 8 false) (codeword_bits rate information) in
     let from_zeros : AgreeElsewhere replaced (sent2 rate xs)
     (sent2 r (code_symbols (replicate 8 false) v.bits)) =
     subst (λ (s : List Bool). AgreeElsewhere replaced (sent2 rate xs)
     (sent2 r (code_symbols s v.bits))) allowed.begins agree in
-    agreeing_give (is_known2 (lost_symbols2 replaced)) xs (rates_two.repeats_of rate)
-    (rates_two.repeats_of r) (rates_two.frame_bits r) 576 v.bits allowed.bits_long (copies_of2 r)
+    agreeing_give (is_known2 (lost_symbols2 replaced)) xs (rates_two.repeats_of2 rate)
+    (rates_two.repeats_of2 r) (rates_two.frame_bits2 r) 576 v.bits allowed.bits_long (copies_of2 r)
     (λ k low known. known_agree replaced xs (code_symbols (replicate 8 false) v.bits) rate r k low
     known from_zeros)
 
 pub distinct_by_sharing2 : AreDistinctBySharing2
 distinct_by_sharing2 replaced rate information none r v allowed agree =
     one_codeword
-    (λ (q : Rate2). shown_of (is_known2 (lost_symbols2 replaced))
-    (code_symbols (replicate 8 false) (codeword_bits rate information)) (rates_two.repeats_of rate)
-    (rates_two.repeats_of q)) rates_two.frame_bits rate r (codeword_bits rate information) v
-    (frames_two.frame_codeword rate information) (same_rate2 r rate) (enough_bits2 r) allowed
+    (λ (q : Rate2). symbols_known_of (is_known2 (lost_symbols2 replaced))
+    (code_symbols (replicate 8 false) (codeword_bits rate information)) (rates_two.repeats_of2 rate)
+    (rates_two.repeats_of2 q)) rates_two.frame_bits2 rate r (codeword_bits rate information) v
+    (frames_two.frame_codeword2 rate information) (same_rate2 r rate) (enough_bits2 r) allowed
     (giving_codeword2 replaced rate r information v allowed agree) none.own none.others
-    (λ same. codewords_same v (frames_two.frame_codeword rate information) allowed.begins (sym same))
+    (λ same. codewords_same v (frames_two.frame_codeword2 rate information) allowed.begins (sym same))

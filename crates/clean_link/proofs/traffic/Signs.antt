@@ -7,7 +7,7 @@ use Rattle.clean_link.proofs.Common.{IsTrafficPlan, made_samples, frames_of, tra
 use Rattle.clean_link.proofs.Common.{SetTwo, TrafficFrame, TrafficFrame2, descrambled, frame_softs, frame_start, is_in_file, Stream}
 use Rattle.clean_link.proofs.Common.{raw_softs, frame_state, replaced_in, stream_of, traffic_start, traffic_stream, Tuning, fingers_of, Leg}
 use Rattle.clean_link.proofs.Common.{Mark, Traffic, IsTrueMark, soft_strength, codeword_symbols, IsAssigned, SendsSymbols, ShowPowerBits}
-use Rattle.clean_link.proofs.Common.{ShowFrame, IsFrameOf, path_finger, SetOneSends, SetTwoSends, HearsTraffic, IsHeardAs}
+use Rattle.clean_link.proofs.Common.{ShowFrame, IsFrameOf, path_finger, SetOneSends, SetTwoSends, HearsSentTraffic, IsHeardAs}
 use Rattle.clean_link.proofs.Common.{TrafficHaveSentSigns, ◌<◌, AllZip, AreKept, HasSign, Sample, AllZip-long, Bears, IsNear, ArePowered}
 use Rattle.clean_link.proofs.Common.{HavePowerSigns, NoisyFrame, NoisyTrafficHasSentSigns, ◌/◌, get_or, nat_eq, ⊎_elim, ◌⊎◌, pos, list_any}
 use Rattle.clean_link.proofs.Common.{cases_order, eq-eqb, ne_eqb, get_or-map-places, length-map-places, power_places, symbol_or_power_bit}
@@ -148,13 +148,13 @@ none_taken (suc n) = refl
 
 -- and so is no frame
 none_cycled : {F : Type 0} (k : ℕ) (f : F) →
-    ◌≡◌ {A = List F} (sends.cycled [] k) (f ∷ []) → ⊥
+    ◌≡◌ {A = List F} (sends.frames_in_turn [] k) (f ∷ []) → ⊥
 none_cycled {F} k f is =
     let none : ◌≡◌ {A = List F} [] (f ∷ []) = sym (none_taken (k % 0)) ∙ is in absurd (cc none)
 
 -- frames one of which is of rate set 1
 of_set_one : (state mask k : ℕ) (frames : FrameList) (f : TrafficFrame) →
-    sends.cycled (sends.set_one frames) k ≡ f ∷ [] →
+    sends.frames_in_turn (sends.set_one frames) k ≡ f ∷ [] →
     sends.symbols_from state mask k frames ≡ sends.traffic_symbols state mask f
 of_set_one state mask k (SetOne frames) f is =
     let made = sends.traffic_symbols state mask in ap (flat_map made) is ∙ append-nil (made f)
@@ -162,7 +162,7 @@ of_set_one state mask k (SetTwo frames) f is = absurd (none_cycled k f is)
 
 -- and of rate set 2
 of_set_two : (state mask k : ℕ) (frames : FrameList) (f : TrafficFrame2) →
-    sends.cycled (sends.set_two frames) k ≡ f ∷ [] →
+    sends.frames_in_turn (sends.set_two frames) k ≡ f ∷ [] →
     sends.symbols_from state mask k frames ≡ sends.traffic_symbols2 state mask f
 of_set_two state mask k (SetOne frames) f is = absurd (none_cycled k f is)
 of_set_two state mask k (SetTwo frames) f is =
@@ -175,7 +175,7 @@ set_one_sends plan p frame f is = record {
       length-sent data_shape (repeats_of f.rate)
       (code_symbols (replicate 8 false) (traffic_codeword f.rate f.information));
   given =
-      of_set_one (sends.frame_state (frames_of plan p) frame) (traffic_mask p.esn) frame p.frames f
+      of_set_one (sends.sent_frame_state (frames_of plan p) frame) (traffic_mask p.esn) frame p.frames f
       is;
 }
 
@@ -186,7 +186,7 @@ set_two_sends plan p frame f is = record {
       length-sent2 f.rate
       (code_symbols (replicate 8 false) (second.codeword_bits f.rate f.information));
   given =
-      of_set_two (sends.frame_state (frames_of plan p) frame) (traffic_mask p.esn) frame p.frames f
+      of_set_two (sends.sent_frame_state (frames_of plan p) frame) (traffic_mask p.esn) frame p.frames f
       is;
 }
 
@@ -202,7 +202,7 @@ scrambled_are state mask power_bits symbols = refl
 -- the mark tells the long code's state at a frame
 pub same_state : (plan : CellPlan) (p : TrafficPlan) (traffic : Traffic) (m : Mark)
     (superframes k : ℕ) → IsTrueMark plan m superframes → IsAssigned p traffic →
-    frame_state traffic m k ≡ sends.frame_state (frames_of plan p) (4 * superframes + k)
+    frame_state traffic m k ≡ sends.sent_frame_state (frames_of plan p) (4 * superframes + k)
 same_state plan p traffic m superframes k at is =
     let same = is.offset in
     let chips : 98304 * superframes + (1536 * traffic.offset + 24576 * k)
@@ -216,7 +216,7 @@ lawful_traffic width plan p lawful has =
     All-contains IsTrafficPlan plan.traffic p lawful.traffic.are has
 
 module _ {width : Width} {plan : CellPlan} {p : TrafficPlan} {t : Tuning} {traffic : Traffic}
-    {m : Mark} {superframes : ℕ} (is : HearsTraffic width plan p t traffic m superframes) where
+    {m : Mark} {superframes : ℕ} (is : HearsSentTraffic width plan p t traffic m superframes) where
   gain_some : 0 < p.gain
   gain_some = (lawful_traffic width plan p is.receivable.lawful is.sent).gain
 
@@ -241,7 +241,7 @@ module _ {width : Width} {plan : CellPlan} {p : TrafficPlan} {t : Tuning} {traff
       (plan_apart width plan is.receivable.lawful) (traffic_sent plan p is.sent) near bears
 
 module _ {width : Width} {plan : CellPlan} {p : TrafficPlan} {t : Tuning} {traffic : Traffic}
-    {m : Mark} {superframes : ℕ} (is : HearsTraffic width plan p t traffic m superframes) (k : ℕ)
+    {m : Mark} {superframes : ℕ} (is : HearsSentTraffic width plan p t traffic m superframes) (k : ℕ)
     {symbols power_bits : List Bool}
     (sent : SendsSymbols plan p (4 * superframes + k) symbols power_bits)
     (here : is_in_file t.count (one_stream t traffic m) k ≡ true) where
@@ -362,7 +362,7 @@ module _ {width : Width} {plan : CellPlan} {p : TrafficPlan} {t : Tuning} {traff
 
 module _ {width : Width} {plan : CellPlan} {p : TrafficPlan} {t : Tuning} {traffic : Traffic}
     {m : Mark} {legs : ℕ → List Leg} {superframes k : ℕ} {f : TrafficFrame}
-    (is : HearsTraffic width plan p t traffic m superframes)
+    (is : HearsSentTraffic width plan p t traffic m superframes)
     (heard : IsHeardAs plan p t traffic m legs superframes k f) where
   here : is_in_file t.count (one_stream t traffic m) k ≡ true
   here =

@@ -14,7 +14,8 @@ use Rattle.clean_link.proofs.Common.{paging_events_at, sets_events_at, mark, fra
 use Rattle.clean_link.proofs.Common.{Pilot, frames_sooner, by_one_mark, messages_sooner, IsUndirected, append_assoc, append-nil, sets_at}
 use Rattle.clean_link.proofs.Common.{frames_later, messages_later, opens_followed, OpensBehind, told_behind, option_map, ◌&&◌, ℤ}
 use Rattle.clean_link.proofs.Common.{option_to_list, power_bit, decoded, group_sums, Decoded, softs, Finger, Data, AreClose, all_fingers}
-use Rattle.clean_link.proofs.Common.{subchannels, capsule_with, message_at, message_events, message_heard, signal_at, signal_in, signal_of}
+use Rattle.clean_link.proofs.Common.{subchannels, capsule_with, signaling_message_at, message_events, message_heard, signal_at, signal_in}
+use Rattle.clean_link.proofs.Common.{signal_of}
 use Rattle.clean_link.proofs.Common.{signals_before, frame_softs, is_in_file, known_at, known_now, Stream, all_sums, power_bits_at}
 use Rattle.clean_link.proofs.Common.{decoded_at, frame_event, subchannel_sums, raw_by, raw_softs, ends_now, frames_bound, has_frame}
 use Rattle.clean_link.proofs.Common.{replaced_in, stream_of, traffic_start, traffic_stream, fingers_of, AreCloseAll, map_same, pilot_alone}
@@ -155,7 +156,7 @@ module _ (t : Tuning) (traffic : Traffic) (m : Mark) (legs legs' : ℕ → List 
 
   same_message : (samples : List Sample) (n k : ℕ) →
       message_heard t traffic m legs samples n k ≡ message_heard t traffic m legs' samples n k
-  unfolding message_at
+  unfolding signaling_message_at
   same_message samples n k =
       let of : List (List Bool) → Option (List Bool) → List Event =
       λ before signal. message_events n (signal_in t.check16 (capsule_with before signal)) in

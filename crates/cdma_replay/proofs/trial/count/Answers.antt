@@ -1,5 +1,5 @@
 use Rattle.cdma_replay.proofs.Common.{◌≡◌, ◌+◌, ◌-◌, ◌≤◌, ◌++◌, List, length, take, Option, None, Some, sym, ap, ◌∙◌, subst, append-nil}
-use Rattle.cdma_replay.proofs.Common.{rules, arith, take_rest, Sample, listed, StandsFor, steps_left, Event, LeavesRoom, counts_with}
+use Rattle.cdma_replay.proofs.Common.{rules, arith, take_rest, Sample, event_list, StandsFor, steps_left, Event, LeavesRoom, counts_with}
 use Rattle.cdma_replay.proofs.Common.{Counts, events}
 use Rattle.cdma_replay.proofs.Counting.{counted_all, counted_more, room_behind, room_for_one, room_left}
 use Rattle.cdma_replay.proofs.Hearings.{step_stands}
@@ -42,7 +42,7 @@ pub add-requires : goal.add-requires
 add-requires c =
     let something : c.step-step.result.event ≡ Some c.in-Some.event = search rules in
     let fewer : steps_left c.step-step.new.self + 1 ≤ steps_left c.loop-event.mobile =
-    subst (λ (e : Option Event). steps_left c.step-step.new.self + length (listed e)
+    subst (λ (e : Option Event). steps_left c.step-step.new.self + length (event_list e)
     ≤ steps_left c.loop-event.mobile) something c.step-step.ensures.steps.fewer in
     room_for_one c.loop-event.counts (steps_left c.loop-event.mobile) c.loop-event.invariant.few
     (omega (arith, fewer))
@@ -55,7 +55,7 @@ loop-event-preserved c =
     let event = c.in-Some.event in
     let something : c.step-step.result.event ≡ Some event = search rules in
     let fewer : steps_left c.step-step.new.self + 1 ≤ steps_left c.loop-event.mobile =
-    subst (λ (e : Option Event). steps_left c.step-step.new.self + length (listed e)
+    subst (λ (e : Option Event). steps_left c.step-step.new.self + length (event_list e)
     ≤ steps_left c.loop-event.mobile) something c.step-step.ensures.steps.fewer in
     let added : c.add.new.self ≡ counts_with c.loop-event.counts event = search rules in
     record {

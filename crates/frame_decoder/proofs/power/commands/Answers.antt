@@ -1,4 +1,5 @@
-use Rattle.frame_decoder.proofs.Common.{◌<◌, ◌∙◌, ap, ℕ, length, not, false, arith, take, length-set, map-places-all, subchannels, is_up}
+use Rattle.frame_decoder.proofs.Common.{◌<◌, ◌∙◌, ap, ℕ, length, not, false, arith, take, length-set, map-places-all, summed_subchannels}
+use Rattle.frame_decoder.proofs.Common.{is_up}
 use Rattle.frame_decoder.proofs.Common.{power_bit}
 use Rattle.frame_decoder.proofs.PowerSums.{set_more}
 use Rattle.frame_decoder.proofs.power.commands.Goals as goal
@@ -12,7 +13,7 @@ loop-group-preserved c =
     omega (arith, had.long, c.loop-group-test.true) in
     record {
       long = length-set c.loop-group.bits g _ ∙ had.long;
-      each = set_more (power_bit (subchannels p)) c.loop-group.bits g _ false room
+      each = set_more (power_bit (summed_subchannels p)) c.loop-group.bits g _ false room
           (ap not c.is_up.ensures
           ∙ ap (λ (n : ℕ). not (is_up g (take n p.sums))) c.from.ensures)
           had.each;
@@ -21,5 +22,5 @@ loop-group-preserved c =
 pub returns : goal.returns
 returns c =
     let had = c.loop-group.invariant in
-    map-places-all (power_bit (subchannels c.args.softs.now)) c.loop-group.bits 16 false had.long
+    map-places-all (power_bit (summed_subchannels c.args.softs.now)) c.loop-group.bits 16 false had.long
     (λ k lt. had.each k (omega (arith, lt)))

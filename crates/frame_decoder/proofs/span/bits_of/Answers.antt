@@ -1,4 +1,5 @@
-use Rattle.frame_decoder.proofs.Common.{◌≡◌, ◌*◌, ℕ, length, take, drop, ap, ◌∙◌, arith, rules, IsBestCodeword, spelled, Codeword, Free}
+use Rattle.frame_decoder.proofs.Common.{◌≡◌, ◌*◌, ℕ, length, take, drop, ap, ◌∙◌, arith, rules, IsBestCodeword, spelled_codeword, Codeword}
+use Rattle.frame_decoder.proofs.Common.{Free}
 use Rattle.frame_decoder.proofs.Common.{channel_of, gathered_span, length-take-le, length-drop}
 use Rattle.frame_decoder.proofs.Gathered.{length-gathered_span}
 use Rattle.frame_decoder.proofs.BestCodewords.{own_within, own_is}
@@ -23,7 +24,7 @@ pub part-requires : goal.part-requires
 part-requires c =
     let l = c.args.span_format in
     let softs = c.args.softs.now in
-    let codeword : Codeword = spelled c.best_codeword-codeword.result in
+    let codeword : Codeword = spelled_codeword c.best_codeword-codeword.result in
     let best : IsBestCodeword (gathered_span (channel_of l) c.args.frames softs) Free codeword =
     rw c.gather_span.ensures.value at c.best_codeword-codeword.ensures.best in
     rw c.from-2.ensures
@@ -34,7 +35,7 @@ pub returns-clause-value : goal.returns-clause-value
 returns-clause-value c =
     let l = c.args.span_format in
     let softs = c.args.softs.now in
-    let codeword : Codeword = spelled c.best_codeword-codeword.result in
+    let codeword : Codeword = spelled_codeword c.best_codeword-codeword.result in
     let best : IsBestCodeword (gathered_span (channel_of l) c.args.frames softs) Free codeword =
     rw c.gather_span.ensures.value at c.best_codeword-codeword.ensures.best in
     c.part.ensures
@@ -46,7 +47,7 @@ pub returns-clause-count : goal.returns-clause-count
 returns-clause-count c =
     let l = c.args.span_format in
     let softs = c.args.softs.now in
-    let codeword : Codeword = spelled c.best_codeword-codeword.result in
+    let codeword : Codeword = spelled_codeword c.best_codeword-codeword.result in
     let best : IsBestCodeword (gathered_span (channel_of l) c.args.frames softs) Free codeword =
     rw c.gather_span.ensures.value at c.best_codeword-codeword.ensures.best in
     let room = own_within l.kind l.bits l.repeats c.args.frames c.args.own softs codeword

@@ -1,4 +1,4 @@
-use Rattle.list_viterbi.proofs.Common.{◌∙◌, arith, w64, to_z-of_z, length-set, SFits, code_of, HasPicks, picks_into}
+use Rattle.list_viterbi.proofs.Common.{◌∙◌, arith, w64, to_z-of_z, length-set, SFits, lane_code_of, HasPicks, picks_into}
 use Rattle.list_viterbi.proofs.StateCodes.{code_small, gain_passed, gain_size}
 use Rattle.list_viterbi.proofs.PickSteps.{gain_room, each_more}
 use Rattle.list_viterbi.proofs.picking.step.Goals as goal
@@ -6,7 +6,7 @@ use Rattle.list_viterbi.proofs.picking.step.Goals as goal
 pub picked_into-requires-clause-small : goal.picked_into-requires-clause-small
 picked_into-requires-clause-small c =
     let gain = c.gain_at-gain.result in
-    let is = gain_passed c.args.first c.args.second gain (code_of c.loop-state.state) c.ranges.first
+    let is = gain_passed c.args.first c.args.second gain (lane_code_of c.loop-state.state) c.ranges.first
     c.ranges.second (c.gain_at-gain.ensures
     ∙ c.gains-gains.ensures _ (code_small c.loop-state.state (omega arith))) in
     let size = gain_size c.args.first c.args.second gain _ is in
@@ -16,7 +16,7 @@ picked_into-requires-clause-small c =
 pub picked_into-requires-clause-room : goal.picked_into-requires-clause-room
 picked_into-requires-clause-room c =
     let gain = c.gain_at-gain.result in
-    let is = gain_passed c.args.first c.args.second gain (code_of c.loop-state.state) c.ranges.first
+    let is = gain_passed c.args.first c.args.second gain (lane_code_of c.loop-state.state) c.ranges.first
     c.ranges.second (c.gain_at-gain.ensures
     ∙ c.gains-gains.ensures _ (code_small c.loop-state.state (omega arith))) in
     let size = gain_size c.args.first c.args.second gain _ is in
@@ -32,7 +32,7 @@ loop-state-preserved c =
     let inv = c.loop-state.invariant in
     let fits : SFits w64 f = c.ranges.first in
     let fits' : SFits w64 s = c.ranges.second in
-    let is = gain_passed f s gain (code_of t) fits fits'
+    let is = gain_passed f s gain (lane_code_of t) fits fits'
     (c.gain_at-gain.ensures ∙ c.gains-gains.ensures _ (code_small t (omega arith))) in
     let scores = c.picked_into.new.scores in
     let chosen = c.picked_into.result in

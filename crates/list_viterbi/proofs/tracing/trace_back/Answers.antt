@@ -1,5 +1,5 @@
-use Rattle.list_viterbi.proofs.Common.{◌≡◌, ◌+◌, ◌-◌, ◌*◌, ◌/◌, ◌%◌, ℕ, suc, length, arith, sym, ap, ◌∙◌, rules, back_of, state_before}
-use Rattle.list_viterbi.proofs.Common.{place_before, origin, less_none}
+use Rattle.list_viterbi.proofs.Common.{◌≡◌, ◌+◌, ◌-◌, ◌*◌, ◌/◌, ◌%◌, ℕ, suc, length, arith, sym, ap, ◌∙◌, rules, back_of, list_state_before}
+use Rattle.list_viterbi.proofs.Common.{place_before, list_origin, less_none}
 use Rattle.list_viterbi.proofs.Tracings.{origin-back, path-back, origin_left, all_left, none_left}
 use Rattle.list_viterbi.proofs.tracing.trace_back.Goals as goal
 
@@ -8,7 +8,7 @@ loop-back-init c = record {
   long = c.requires;
   small = search rules;
   rank_small = search rules;
-  start = ap (λ (k : ℕ). origin c.args.columns.now k c.args.end c.args.place)
+  start = ap (λ (k : ℕ). list_origin c.args.columns.now k c.args.end c.args.place)
       (less_none (length c.args.columns.now));
   whole = all_left c.args.columns.now (length c.args.columns.now) (length c.args.columns.now - 0) c.args.end
       c.args.place c.args.bits.now (less_none (length c.args.columns.now)) (omega (arith, c.requires));
@@ -27,7 +27,7 @@ loop-back-preserved c =
     let pointer : c.pointer_at-pointer.result ≡ back_of columns j state rank =
     rw same at c.pointer_at-pointer.ensures in
     let before : 2 * (state % 128) + c.pointer_at-pointer.result % 2
-    ≡ state_before columns j state rank =
+    ≡ list_state_before columns j state rank =
     ap (λ (b : ℕ). 2 * (state % 128) + b % 2) pointer in
     let place : c.pointer_at-pointer.result / 2 ≡ place_before columns j state rank =
     ap (λ (b : ℕ). b / 2) pointer in

@@ -1,4 +1,4 @@
-use Rattle.list_viterbi.proofs.Common.{◌≡◌, ◌-◌, ◌<◌, ◌++◌, length, drop, path, origin}
+use Rattle.list_viterbi.proofs.Common.{◌≡◌, ◌-◌, ◌<◌, ◌++◌, length, drop, list_path, list_origin}
 use Rattle.list_viterbi.proofs.tracing.trace_back.Given as goal
 
 abbrev pub invariant-loop-back : goal.invariant-loop-back
@@ -6,9 +6,9 @@ invariant-loop-back l = record {
   long : length l.bits ≡ length l.columns;
   small : l.state < 256;
   rank_small : l.rank < 256;
-  start : origin l.columns (length l.columns - l.back) l.state l.rank
-      ≡ origin l.columns (length l.columns) l.end l.place;
-  whole : path l.columns (length l.columns - l.back) l.state l.rank
+  start : list_origin l.columns (length l.columns - l.back) l.state l.rank
+      ≡ list_origin l.columns (length l.columns) l.end l.place;
+  whole : list_path l.columns (length l.columns - l.back) l.state l.rank
       ++ drop (length l.columns - l.back) l.bits
-      ≡ path l.columns (length l.columns) l.end l.place;
+      ≡ list_path l.columns (length l.columns) l.end l.place;
 }

@@ -1,5 +1,5 @@
 use Rattle.pilot_search.proofs.Common.{◌≡◌, ◌≤◌, ◌<◌, ◌+◌, ◌∙◌, ℕ, List, arith, ap, sym, drop, length, map, drop-map, take_all, All-drop}
-use Rattle.pilot_search.proofs.Common.{IsUnit, pilot_signs, Sample, across, both, subst, All, correlation_with, correlation}
+use Rattle.pilot_search.proofs.Common.{IsUnit, pilot_signs, Sample, across, both, subst, All, correlation_with, phase_correlation}
 use Rattle.pilot_search.proofs.CorrelationSums.{all_before, units}
 use Rattle.pilot_search.proofs.correlation.correlation_by.Goals as goal
 
@@ -42,7 +42,7 @@ returns-clause-value c =
   where
     whole : (samples : List Sample) (phase from : ℕ) → from ≡ phase → phase < 32768 →
         length samples ≤ 32768 → phase + length samples ≤ 32768 →
-        correlation_with samples (drop from pilot_signs) ≡ correlation samples phase
+        correlation_with samples (drop from pilot_signs) ≡ phase_correlation samples phase
     whole samples phase from e low few room =
         rw e (ap (λ (xs : List Sample). correlation_with xs (drop phase pilot_signs))
         (sym (take_all (length samples) samples (omega arith)))

@@ -1,4 +1,4 @@
-use Rattle.pilot_search.proofs.Common.{◌≡◌, ◌+◌, ◌-◌, ◌/◌, ◌≤◌, ◌<◌, ℕ, arith, subst, sym, Option, IsFound, start_of, Best}
+use Rattle.pilot_search.proofs.Common.{◌≡◌, ◌+◌, ◌-◌, ◌/◌, ◌≤◌, ◌<◌, ℕ, arith, subst, sym, Option, IsFound, worker_start, Best}
 use Rattle.pilot_search.proofs.FoundLemmas.{both_found, start_up, start_most}
 use Rattle.pilot_search.proofs.searching.+fn-run-join+arg2+fn-run-join+arg3+run.Goals as goal
 
@@ -13,14 +13,14 @@ returns-clause-found g t c =
     let most : end ≤ c.args.workers = omega arith in
     let all : middle + (c.args.count - few) ≡ end = omega arith in
     let right =
-    subst (λ (n : ℕ). IsFound c.args.samples.now (start_of middle c.args.workers)
-    (start_of n c.args.workers) c.join-left.result.1.0) all c.join-left.ensures.second.0 in
+    subst (λ (n : ℕ). IsFound c.args.samples.now (worker_start middle c.args.workers)
+    (worker_start n c.args.workers) c.join-left.result.1.0) all c.join-left.ensures.second.0 in
     let both =
-    both_found c.args.samples.now (start_of c.args.first c.args.workers)
-    (start_of middle c.args.workers) (start_of end c.args.workers) c.join-left.result.0.0
+    both_found c.args.samples.now (worker_start c.args.first c.args.workers)
+    (worker_start middle c.args.workers) (worker_start end c.args.workers) c.join-left.result.0.0
     c.join-left.result.1.0
     (start_up c.args.first middle c.args.workers some low)
     (start_up middle end c.args.workers some high) (start_most end c.args.workers some most)
     c.join-left.ensures.first.0 right in
-    subst (λ (o : Option Best). IsFound c.args.samples.now (start_of c.args.first c.args.workers)
-    (start_of end c.args.workers) o) (sym c.better.ensures) both
+    subst (λ (o : Option Best). IsFound c.args.samples.now (worker_start c.args.first c.args.workers)
+    (worker_start end c.args.workers) o) (sym c.better.ensures) both

@@ -1,5 +1,5 @@
 use Rattle.pilot_search.proofs.Common.{◌≡◌, ◌<◌, ◌+◌, ◌*◌, ◌-◌, ◌/◌, ◌%◌, ◌∙◌, ℕ, List, arith, rules, ap, drop, length, common_steps}
-use Rattle.pilot_search.proofs.Common.{Sample, correlation, bound, magnitudes}
+use Rattle.pilot_search.proofs.Common.{Sample, phase_correlation, bound, magnitudes}
 use Rattle.pilot_search.proofs.BoundLemmas.{bound_is, none_left, none_below, sum_whole}
 use Rattle.pilot_search.proofs.trying.energy_unless_below.Goals as goal
 
@@ -24,10 +24,10 @@ returns c =
     let back : c.split_at.result.1.now ≡ drop (64 * last) xs =
     c.split_at.ensures.back ∙ ap (λ (n : ℕ). drop (64 * n) xs) from in
     let part : c.correlation_by-part.result ≡
-    correlation (drop (64 * last) xs) ((c.args.phase + 64 * last) % 32768) =
+    phase_correlation (drop (64 * last) xs) ((c.args.phase + 64 * last) % 32768) =
     c.correlation_by-part.ensures.value
-    ∙ ap (λ (ys : List Sample). correlation ys c.later.result) back
-    ∙ ap (correlation (drop (64 * last) xs)) c.later.ensures in (
+    ∙ ap (λ (ys : List Sample). phase_correlation ys c.later.result) back
+    ∙ ap (phase_correlation (drop (64 * last) xs)) c.later.ensures in (
       c.norm_of.ensures.value ∙
           sum_whole xs c.args.phase (64 * last) sum c.correlation_by-part.result c.joined.result
           c.in_ok-sum.ensures part c.joined.ensures.value,

@@ -1,5 +1,5 @@
 use Rattle.pilot_search.proofs.Common.{◌≡◌, ◌≤◌, ◌+◌, ◌*◌, ◌-◌, ◌%◌, ◌∙◌, ℕ, List, arith, ap, refl, take, drop, length, ints}
-use Rattle.pilot_search.proofs.Common.{length-drop, length-take-le, drop-drop, Sample, correlation}
+use Rattle.pilot_search.proofs.Common.{length-drop, length-take-le, drop-drop, Sample, phase_correlation}
 use Rattle.pilot_search.proofs.BoundLemmas.{none_added, sum_more}
 use Rattle.pilot_search.proofs.trying.sum_unless_below.Goals as goal
 
@@ -30,10 +30,10 @@ loop-j-preserved c =
     let size : length c.split_at.result.0.now ≡ 64 * chunks =
     ap (λ (ys : List Sample). length ys) front ∙ length-take-le (64 * chunks) rest room in
     let part : c.correlation_by-part.result ≡
-    correlation (take (64 * chunks) rest) ((c.args.phase + 64 * j) % 32768) =
+    phase_correlation (take (64 * chunks) rest) ((c.args.phase + 64 * j) % 32768) =
     c.correlation_by-part.ensures.value
-    ∙ ap (λ (ys : List Sample). correlation ys c.later-first.result) front
-    ∙ ap (correlation (take (64 * chunks) rest)) c.later-first.ensures in
+    ∙ ap (λ (ys : List Sample). phase_correlation ys c.later-first.result) front
+    ∙ ap (phase_correlation (take (64 * chunks) rest)) c.later-first.ensures in
     let place : 64 * j + 64 * chunks ≡ 64 * (j + chunks) = omega arith in
     let after : length c.split_at.result.1.now ≡ length rest - 64 * chunks =
     ap (λ (ys : List Sample). length ys) back ∙ length-drop (64 * chunks) rest in

@@ -1,5 +1,5 @@
 use Rattle.std.proofs.Common.{◌≡◌, ◌+◌, ◌-◌, ◌/◌, ℕ, length, rules}
-use Rattle.pilot_survey.specs.Survey.{surveyed, start_of}
+use Rattle.pilot_survey.specs.Survey.{surveyed, survey_start}
 use Rattle.pilot_survey.proofs.Parts.{both}
 use Rattle.pilot_survey.proofs.surveying.+fn-run-join_mut+arg2+fn-run-join_mut+arg3+run.Goals as goal
 
@@ -7,9 +7,9 @@ pub returns : goal.returns
 returns g t c =
     let m = length c.split_at_mut-left.result.0.now in
     let n = length c.split_at_mut-left.result.1.now in
-    let first : ℕ = start_of c.args.first c.args.workers in
+    let first : ℕ = survey_start c.args.first c.args.workers in
     let half : ℕ = c.args.first + (c.args.end - c.args.first) / 2 in
-    let middle : ℕ = start_of half c.args.workers in
+    let middle : ℕ = survey_start half c.args.workers in
     let whole : m + n ≡ length c.args.ranks.now = search rules in
     let cut : first + m ≡ middle = search rules in
     both (surveyed c.args.samples.now c.args.base c.args.width) first m n middle

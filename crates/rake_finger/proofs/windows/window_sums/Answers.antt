@@ -4,7 +4,7 @@ use Rattle.std.proofs.lemmas.List.{length-set}
 use Rattle.chip_core.specs.Complex.{origin, sum_of}
 use Rattle.chip_core.specs.declared.sample.Pair.{Pair}
 use Rattle.walsh.specs.Walsh.{IsWithin}
-use Rattle.rake_finger.specs.InRing.{IsHeld}
+use Rattle.rake_finger.specs.InRing.{IsHeldInRing}
 use Rattle.rake_finger.specs.Soft.{symbol_chips, window_chips, window_symbols, finger_place, despread_at, symbol_sum}
 use Rattle.rake_finger.proofs.SoftValues.{symbol_is}
 use Rattle.rake_finger.proofs.WindowSums.{bound_kept, chips_more, entry_more, most_symbols, pilot_more, pilot_whole, sum_fits, sum_kept}
@@ -40,7 +40,7 @@ loop-k-preserved c =
     let at : place ≡ first + symbol_chips form * k = omega (arith, far) in
     let few : k < window_symbols form =
     omega (arith, c.loop-k-test.true, c.window_symbols-k-end.ensures) in
-    let held_all : IsHeld ring place (symbol_chips form) =
+    let held_all : IsHeldInRing ring place (symbol_chips form) =
     symbol_held ring finger form start window k place c.requires.ring c.requires.window few
     (omega (arith, at, begun)) in
     let plain_i : unsigned_abs sums.result.plain.i ≤ 65536 * symbol_chips form =

@@ -4,7 +4,7 @@ use Rattle.chip_core.specs.Bits.{places}
 use Rattle.chip_core.proofs.Ranges.{flat_map-places-more}
 use Rattle.frame_decoder.specs.Spans.{paging_channel}
 use Rattle.frame_decoder.proofs.Parts.{frames-none}
-use Rattle.slot_mode.specs.Frames.{frame_bits, slot_bits}
+use Rattle.slot_mode.specs.Frames.{slot_frame_bits, slot_bits}
 use Rattle.slot_mode.proofs.frames.slot_bits.Goals as goal
 
 pub loop-frame-init : goal.loop-frame-init
@@ -12,14 +12,14 @@ loop-frame-init c =
     let size = (paging_channel c.args.rate).bits in
     let none : 0 ≡ size * 0 = omega arith in
     record {
-      value = c.empty-bits.ensures ∙ sym (frames-none (frame_bits c.args.rate c.args.softs.now));
+      value = c.empty-bits.ensures ∙ sym (frames-none (slot_frame_bits c.args.rate c.args.softs.now));
       long = ap length c.empty-bits.ensures ∙ none;
       kept = refl;
     }
 
 pub loop-frame-preserved : goal.loop-frame-preserved
 loop-frame-preserved c =
-    let f = frame_bits c.args.rate c.args.softs.now in
+    let f = slot_frame_bits c.args.rate c.args.softs.now in
     let size = (paging_channel c.args.rate).bits in
     let frame = c.loop-frame.frame in
     let one = c.frame_bits.result in
@@ -43,4 +43,4 @@ unfolding slot_bits
 returns-clause-value c =
     let four : c.loop-frame.frame ≡ 4 = search rules in
     c.loop-frame.invariant.value
-    ∙ ap (λ (n : ℕ). flat_map (frame_bits c.args.rate c.args.softs.now) (places n)) four
+    ∙ ap (λ (n : ℕ). flat_map (slot_frame_bits c.args.rate c.args.softs.now) (places n)) four

@@ -1,4 +1,4 @@
-use Rattle.traffic_message.proofs.Common.{ap, ◌∙◌, body_reading, traffic_reading}
+use Rattle.traffic_message.proofs.Common.{ap, ◌∙◌, traffic_body_reading, traffic_reading}
 use Rattle.traffic_message.proofs.Bodies.{message_again, message_there}
 use Rattle.traffic_message.proofs.Readings.{capsule_is_read, reads_capsule}
 use Rattle.traffic_message.proofs.laws.reading_turns_spelling_back.Goals as goal
@@ -12,5 +12,5 @@ returns-clause-capsule c form capsule m = (
 pub returns-clause-body : goal.returns-clause-body
 returns-clause-body c body m = (
   λ read. message_there body m read,
-  λ is. ap body_reading is.1 ∙ message_again m is.0,
+  λ is. ap traffic_body_reading is.1 ∙ message_again m is.0,
 )

@@ -1,4 +1,5 @@
-use Rattle.trial_link.proofs.Common.{◌≡◌, ◌++◌, ℕ, List, sym, ap, ◌∙◌, arith, append-nil, frame_text, behind_frame, behind_frames, ended}
+use Rattle.trial_link.proofs.Common.{◌≡◌, ◌++◌, ℕ, List, sym, ap, ◌∙◌, arith, append-nil, frame_text, behind_frame, behind_frames}
+use Rattle.trial_link.proofs.Common.{with_line_feed}
 use Rattle.trial_link.proofs.Common.{frame_drawn, frame_lines, frames_drawn}
 use Rattle.trial_link.proofs.TrialDraws.{frames_more, lines_more, no_frames, no_lines, text_more}
 use Rattle.trial_link.proofs.trial.add_frames.Goals as goal
@@ -19,7 +20,7 @@ loop-frame-preserved c =
       text =
           text_more c.args.script.now.items c.loop-frame.script.items _
           (frame_lines (frames_drawn s k))
-          (ended (frame_text (frame_drawn (behind_frames s k)))) _ inv.text
+          (with_line_feed (frame_text (frame_drawn (behind_frames s k)))) _ inv.text
           (rw (← inv.state, ← c.frame.ensures.value) c.in_ok-add_frame.ensures) (lines_more s k);
       state = c.frame.ensures.state ∙ ap behind_frame inv.state ∙ sym (frames_more s k);
     }

@@ -1,4 +1,4 @@
-use Rattle.trial_link.proofs.Common.{◌++◌, ◌∙◌, List, ℕ, ap, IfOk-weaker, Page, page_text, ended}
+use Rattle.trial_link.proofs.Common.{◌++◌, ◌∙◌, List, ℕ, ap, IfOk-weaker, Page, page_text, with_line_feed}
 use Rattle.trial_link.proofs.TrialDraws.{head_whole}
 use Rattle.trial_link.proofs.trial.add_head.Goals as goal
 
@@ -8,11 +8,11 @@ returns c =
     (λ done last. head_whole c.args.cell.now c.args.script.now.items c.add_line.new.script.items
     c.extend_from_slice.new.self.items c.extend_from_slice-2.new.self.items _
     (c.in_ok-add_line.ensures
-    ∙ ap (λ (t : List ℕ). c.args.script.now.items ++ ended t) c.append_cell.ensures.value)
+    ∙ ap (λ (t : List ℕ). c.args.script.now.items ++ with_line_feed t) c.append_cell.ensures.value)
     c.in_ok-extend_from_slice.ensures.items c.in_ok-extend_from_slice-2.ensures.items
     (last
-    ∙ ap (λ (t : List ℕ). c.extend_from_slice-2.new.self.items ++ ended t)
+    ∙ ap (λ (t : List ℕ). c.extend_from_slice-2.new.self.items ++ with_line_feed t)
     c.append_page.ensures.value
-    ∙ ap (λ (p : Page). c.extend_from_slice-2.new.self.items ++ ended (page_text p))
+    ∙ ap (λ (p : Page). c.extend_from_slice-2.new.self.items ++ with_line_feed (page_text p))
     c.channel_list.ensures))
     c.add_line-2.ensures

@@ -1,4 +1,5 @@
-use Rattle.trial_link.proofs.Common.{◌≡◌, ◌++◌, ◌∙◌, List, ℕ, ap, traffic_text, behind_draw, behind_draws, drawn, ended, followed_line}
+use Rattle.trial_link.proofs.Common.{◌≡◌, ◌++◌, ◌∙◌, List, ℕ, ap, traffic_text, behind_draw, behind_draws, drawn, with_line_feed}
+use Rattle.trial_link.proofs.Common.{followed_line}
 use Rattle.trial_link.proofs.Common.{frame_lines, frames_drawn, head_text, trial_serial_number, TrafficLine}
 use Rattle.trial_link.proofs.TrialDraws.{fifth_draw, script_whole, serial_number_drawn}
 use Rattle.trial_link.proofs.trial.trial_script.Goals as goal
@@ -18,7 +19,7 @@ returns c =
     ∙ ap (λ (t : List ℕ). t ++ head_text c.cell-cell.result) c.new-script.ensures.items
     ∙ ap head_text c.cell-cell.ensures.value)
     (c.in_ok-add_traffic.ensures
-    ∙ ap (λ (l : TrafficLine). c.add_head.new.script.items ++ ended (traffic_text l)) line)
+    ∙ ap (λ (l : TrafficLine). c.add_head.new.script.items ++ with_line_feed (traffic_text l)) line)
     (c.in_ok-add_frames.ensures
     ∙ ap (λ (s : ℕ). c.add_traffic.new.script.items ++ frame_lines (frames_drawn s 100)) state)
     (c.in_ok-add_others.ensures)

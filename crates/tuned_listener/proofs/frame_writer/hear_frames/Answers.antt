@@ -1,6 +1,6 @@
 use Rattle.tuned_listener.proofs.Common.{◌≡◌, ◌++◌, [], List, None, Some, arith, rules, subst, take, Appends, take_rest}
 use Rattle.tuned_listener.proofs.Common.{err_from_is_err_and, AppendsPrefix, Sample, soft_frames, IsTunedTo, Tuning, Channel, HoldsFrames}
-use Rattle.tuned_listener.proofs.Common.{text_of, slot_behind, slot_more, frame_text, TunedText}
+use Rattle.tuned_listener.proofs.Common.{tuned_text_of, slot_behind, slot_more, tuned_frame_text, TunedText}
 use Rattle.tuned_listener.proofs.TunedFrames.{frame_cut, frame_kept, frame_written, none_kept, none_written, writes_all, writes_more}
 use Rattle.tuned_listener.proofs.TunedFrames.{writes_part}
 use Rattle.tuned_listener.proofs.frame_writer.hear_frames.Goals as goal
@@ -11,7 +11,7 @@ loop-taken-preserved-in-Continue-1 g c =
     let taken = c.loop-taken.taken in
     let samples = c.args.samples.now in
     let m = c.args.mark.now in
-    let form = text_of c.args.writer.now in
+    let form = tuned_text_of c.args.writer.now in
     let frame = c.in-Some.frame in
     let some : c.step-step.result.frame ≡ Some frame = search rules in
     record {
@@ -32,7 +32,7 @@ loop-taken-preserved-in-Continue-1 g c =
           (frame_written t channel m form now c.step-step.result.frame frame _ _ some
           (subst (λ (f : TunedText). Appends (g.K.Sink.written c.loop-taken.sink)
           (g.K.Sink.written c.write.new.sink)
-          (frame_text f t.check30 m (slot_more slot frame) frame)) inv.text
+          (tuned_frame_text f t.check30 m (slot_more slot frame) frame)) inv.text
           (c.in_ok-write.ensures.ok t.check30 slot so_far.holds)))
           (frame_kept t channel m form now c.step-step.result.frame frame c.write.new.self some
           (c.write.ensures.holds t.check30 slot so_far.holds));
@@ -45,7 +45,7 @@ loop-taken-preserved g c =
     let taken = c.loop-taken.taken in
     let samples = c.args.samples.now in
     let m = c.args.mark.now in
-    let form = text_of c.args.writer.now in
+    let form = tuned_text_of c.args.writer.now in
     let none : c.step-step.result.frame ≡ None = search rules in
     record {
       most = search rules;
@@ -73,7 +73,7 @@ returns-in_err-write-clause-err g c =
     let taken = c.loop-taken.taken in
     let samples = c.args.samples.now in
     let m = c.args.mark.now in
-    let form = text_of c.args.writer.now in
+    let form = tuned_text_of c.args.writer.now in
     let frame = c.in-Some.frame in
     let some : c.step-step.result.frame ≡ Some frame = search rules in
     let p = err_from_is_err_and c.from_residual.result c.from_residual.ensures.1 in
@@ -90,11 +90,11 @@ returns-in_err-write-clause-err g c =
     (frame_cut t channel m form now c.step-step.result.frame frame _ _ some
     (subst (λ (f : TunedText). AppendsPrefix (g.K.Sink.written c.loop-taken.sink)
     (g.K.Sink.written c.write.new.sink)
-    (frame_text f t.check30 m (slot_more slot frame) frame)) inv.text
+    (tuned_frame_text f t.check30 m (slot_more slot frame) frame)) inv.text
     (c.in_err-write.ensures.err t.check30 slot so_far.holds))))
 
 pub returns-clause-ok : goal.returns-clause-ok
 returns-clause-ok g c t channel heard tuned holds =
-    writes_all t channel c.args.mark.now (text_of c.args.writer.now) c.loop-taken.tuner
+    writes_all t channel c.args.mark.now (tuned_text_of c.args.writer.now) c.loop-taken.tuner
     c.loop-taken.writer heard c.args.samples.now c.loop-taken.taken _ _
     (omega (arith, c.loop-taken-test.false)) (c.loop-taken.invariant.writes t channel heard tuned holds)

@@ -1,5 +1,5 @@
 use Rattle.tuned_listener.proofs.Common.{◌≡◌, ◌≤◌, ◌+◌, ◌-◌, ◌++◌, [], List, length, take, Sample, soft_frames, IsTunedTo, samples_left}
-use Rattle.tuned_listener.proofs.Common.{Tuning, Channel, HoldsFrames, IsReady, WritesFrames, text_of, slot_behind}
+use Rattle.tuned_listener.proofs.Common.{Tuning, Channel, HoldsFrames, IsReady, WritesFrames, tuned_text_of, slot_behind}
 use Rattle.tuned_listener.proofs.frame_writer.hear_frames.Given as goal
 
 abbrev pub invariant-loop-taken : goal.invariant-loop-taken
@@ -7,11 +7,11 @@ invariant-loop-taken g l = record {
   most : l.taken ≤ length l.samples;
   room : samples_left l.tuner + l.taken ≡ samples_left l.fn.tuner;
   ready : IsReady l.writer;
-  text : text_of l.writer ≡ text_of l.fn.writer;
+  text : tuned_text_of l.writer ≡ tuned_text_of l.fn.writer;
   writes : (t : Tuning) (channel : Channel) (heard : List Sample) →
       IsTunedTo t channel l.mark l.fn.tuner heard →
       HoldsFrames l.fn.writer t.check30 (slot_behind [] (soft_frames t channel l.mark heard)) →
-      WritesFrames t channel l.mark (text_of l.fn.writer) l.tuner l.writer heard
+      WritesFrames t channel l.mark (tuned_text_of l.fn.writer) l.tuner l.writer heard
       (heard ++ take l.taken l.samples) (g.K.Sink.written l.fn.sink) (g.K.Sink.written l.sink);
   later : g.K.Sink.faults l.fn.sink ≤ g.K.Sink.faults l.sink;
 }

@@ -1,4 +1,4 @@
-use Rattle.tuned_listener.proofs.Common.{◌∙◌, ap, arith, length, rules, subst, sym, take, taken_more, StandsFor}
+use Rattle.tuned_listener.proofs.Common.{◌∙◌, ap, arith, length, rules, subst, sym, take, taken_more, HalfFramesStandFor}
 use Rattle.tuned_listener.proofs.SlotPages.{count_more, pages_all, pages_none}
 use Rattle.tuned_listener.proofs.slot_writer.count_pages.Goals as goal
 
@@ -17,7 +17,7 @@ loop-i-preserved c =
     let page = c.page_behind-page in
     record {
       size = page.ensures.size ∙ inv.size;
-      stands = subst (StandsFor page.new.framer)
+      stands = subst (HalfFramesStandFor page.new.framer)
           (sym (taken_more c.args.bits.now c.loop-i.i c.get.result c.get.ensures))
           (page.ensures.stands before inv.stands);
       count = rw (c.from-count.ensures, c.is_some.ensures)

@@ -1,5 +1,5 @@
 use Rattle.tuned_listener.proofs.Common.{◌∙◌, List, arith, rules, subst, sym, take, Appends, Appends-nil, err_from_is_err_and, taken_more}
-use Rattle.tuned_listener.proofs.Common.{paging_line, StandsFor, PagingMessage}
+use Rattle.tuned_listener.proofs.Common.{paging_line, HalfFramesStandFor, PagingMessage}
 use Rattle.std.specs.List.{flat_map}
 use Rattle.tuned_listener.proofs.SlotPages.{lines_cut, lines_more, pages_all, pages_none}
 use Rattle.tuned_listener.proofs.slot_writer.write_pages.Goals as goal
@@ -25,7 +25,7 @@ loop-i-preserved g c =
     let page = c.page_behind-page in
     record {
       size = page.ensures.size ∙ inv.size;
-      stands = subst (StandsFor page.new.framer) (sym (taken_more bits i bit c.get.ensures))
+      stands = subst (HalfFramesStandFor page.new.framer) (sym (taken_more bits i bit c.get.ensures))
           (page.ensures.stands (take i bits) inv.stands);
       written =
           lines_more c.args.check c.args.rate bits i bit c.get.ensures page.result _ inv.size

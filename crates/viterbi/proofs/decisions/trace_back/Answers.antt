@@ -1,4 +1,4 @@
-use Rattle.viterbi.proofs.Common.{◌≡◌, ◌+◌, ◌-◌, ℕ, suc, length, arith, sym, ap, ◌∙◌, rules, state_before, origin}
+use Rattle.viterbi.proofs.Common.{◌≡◌, ◌+◌, ◌-◌, ℕ, suc, length, arith, sym, ap, ◌∙◌, rules, state_before, path_origin}
 use Rattle.viterbi.proofs.Tracing.{origin-back, path-back, origin_left, all_left, less_none, none_left}
 use Rattle.viterbi.proofs.decisions.trace_back.Goals as goal
 
@@ -6,7 +6,7 @@ pub loop-back-init : goal.loop-back-init
 loop-back-init c = record {
   long = c.requires;
   small = search rules;
-  start = ap (λ (k : ℕ). origin c.args.columns.now k c.args.end) (less_none (length c.args.columns.now));
+  start = ap (λ (k : ℕ). path_origin c.args.columns.now k c.args.end) (less_none (length c.args.columns.now));
   whole = all_left c.args.columns.now (length c.args.columns.now) (length c.args.columns.now - 0) c.args.end
       c.args.bits.now (less_none (length c.args.columns.now)) (omega (arith, c.requires));
 }

@@ -1,4 +1,5 @@
-use Rattle.cdma_replay.proofs.Common.{[], sym, subst, on_err, on_ok, AppendsPrefix, BeginsBehind, IsFresh, Listening, told, Listener}
+use Rattle.cdma_replay.proofs.Common.{[], sym, subst, on_err, on_ok, AppendsPrefix, BeginsBehind, IsFreshListener, Listening, told}
+use Rattle.cdma_replay.proofs.Common.{Listener}
 use Rattle.std.specs.Box.{with_value}
 use Rattle.cdma_replay.proofs.Hearings.{nobody_begins, on_fresh, tuned_begins}
 use Rattle.cdma_replay.specs.declared.listener.Listener.TheVariants as by
@@ -13,7 +14,7 @@ returns-in-Handset-clause-ok g c =
     (λ (l : Listening). BeginsBehind [] l (by.Handset mobile)
     (g.T.KeepsTaps.kept c.tell_pilot.new.taps) (g.K.Sink.written c.args.sink.now)
     (g.K.Sink.written c.tell_pilot.new.sink)) l c.in-Handset.mobile kept
-    (subst (λ (h : Listener). IsFresh l h kept) c.in-Handset.is fresh)
+    (subst (λ (h : Listener). IsFreshListener l h kept) c.in-Handset.is fresh)
     (λ t stands.
     let (written, gives) = begins t (rw c.deref_mut.ensures.value stands) in
     record { written = written; listens = gives }))
@@ -26,7 +27,7 @@ returns-in-Handset-clause-err g c =
     (λ part l samples fresh. on_fresh
     (λ (l : Listening). AppendsPrefix (g.K.Sink.written c.args.sink.now)
     (g.K.Sink.written c.tell_pilot.new.sink) (told l samples)) l c.in-Handset.mobile kept
-    (subst (λ (h : Listener). IsFresh l h kept) c.in-Handset.is fresh)
+    (subst (λ (h : Listener). IsFreshListener l h kept) c.in-Handset.is fresh)
     (λ t stands. part t samples (rw c.deref_mut.ensures.value stands)))
     c.tell_pilot.ensures.err
 
@@ -35,7 +36,7 @@ returns-in-Nobody-clause-ok g c l fresh =
     let kept = g.T.KeepsTaps.kept c.args.taps.now in
     let held = g.K.Sink.written c.args.sink.now in
     subst (λ (h : Listener). BeginsBehind [] l h kept held held) (sym c.in-Nobody.is)
-    (nobody_begins l kept held (subst (λ (h : Listener). IsFresh l h kept) c.in-Nobody.is fresh))
+    (nobody_begins l kept held (subst (λ (h : Listener). IsFreshListener l h kept) c.in-Nobody.is fresh))
 
 pub returns-in-Tuned-clause-ok : goal.returns-in-Tuned-clause-ok
 returns-in-Tuned-clause-ok g c l fresh =
@@ -43,4 +44,4 @@ returns-in-Tuned-clause-ok g c l fresh =
     let held = g.K.Sink.written c.args.sink.now in
     subst (λ (h : Listener). BeginsBehind [] l h kept held held) (sym c.in-Tuned.is)
     (tuned_begins l c.in-Tuned.field-0 kept held
-    (subst (λ (h : Listener). IsFresh l h kept) c.in-Tuned.is fresh))
+    (subst (λ (h : Listener). IsFreshListener l h kept) c.in-Tuned.is fresh))

@@ -1,4 +1,4 @@
-use Rattle.cdma_replay.proofs.Common.{◌++◌, subst, sym, on_err, on_ok, Listening, Listens, Tells, TellsPart, Listener}
+use Rattle.cdma_replay.proofs.Common.{◌++◌, subst, sym, on_err, on_ok, Listening, Listens, ListenerTells, TellsPart, Listener}
 use Rattle.std.specs.Box.{with_value}
 use Rattle.cdma_replay.proofs.Hearings.{hears_nobody, on_handset, on_tuned, room_some, room_tuned, tuned_part, tuned_tells}
 use Rattle.cdma_replay.specs.declared.listener.Listener.TheVariants as by
@@ -17,7 +17,7 @@ returns-in-Handset-clause-ok g c =
     let mobile = with_value c.in-Handset.mobile c.tell.new.mobile in
     on_ok c.tell.result _ _
     (λ tells l heard is. on_handset
-    (λ (l : Listening). Tells l (by.Handset mobile)
+    (λ (l : Listening). ListenerTells l (by.Handset mobile)
     (g.T.KeepsTaps.kept c.tell.new.taps) heard (heard ++ c.args.samples.now)
     (g.K.Sink.written c.args.sink.now) (g.K.Sink.written c.tell.new.sink)) l c.in-Handset.mobile kept heard
     (subst (λ (h : Listener). Listens l h kept heard) c.in-Handset.is is)
@@ -48,7 +48,7 @@ returns-in-Tuned-clause-ok g c =
     let tuned = with_value c.in-Tuned.tuned c.hear.new.self in
     on_ok c.hear.result _ _
     (λ tells l heard is. on_tuned
-    (λ (l : Listening). Tells l (by.Tuned tuned) kept heard (heard ++ c.args.samples.now)
+    (λ (l : Listening). ListenerTells l (by.Tuned tuned) kept heard (heard ++ c.args.samples.now)
     (g.K.Sink.written c.args.sink.now) (g.K.Sink.written c.hear.new.sink)) l c.in-Tuned.tuned kept heard
     (subst (λ (h : Listener). Listens l h kept heard) c.in-Tuned.is is)
     (λ t channel text listens.
@@ -71,7 +71,7 @@ pub returns-in-Nobody-clause-ok : goal.returns-in-Nobody-clause-ok
 returns-in-Nobody-clause-ok g c l heard is =
     let kept = g.T.KeepsTaps.kept c.args.taps.now in
     let held = g.K.Sink.written c.args.sink.now in
-    subst (λ (h : Listener). Tells l h kept heard (heard ++ c.args.samples.now) held held)
+    subst (λ (h : Listener). ListenerTells l h kept heard (heard ++ c.args.samples.now) held held)
     (sym c.in-Nobody.is)
     (hears_nobody l kept heard c.args.samples.now held
     (subst (λ (h : Listener). Listens l h kept heard) c.in-Nobody.is is))

@@ -1,4 +1,4 @@
-use Rattle.cell_samples.proofs.Common.{◌≡◌, ℕ, ap, ◌∙◌, sent, shape_of, Kind, FrameSource, kind_of, repeats_in, scrambled_by}
+use Rattle.cell_samples.proofs.Common.{◌≡◌, ℕ, ap, ◌∙◌, sent, shape_of, Kind, FrameSource, symbol_kind_of, repeats_in, scrambled_by}
 use Rattle.cell_samples.proofs.SentFrames.{symbols_are}
 use Rattle.cell_samples.proofs.continued.ContinuedEncoder.symbols.Goals as goal
 
@@ -8,11 +8,11 @@ returns-clause-value c =
     let code = c.code-code in
     let same : c.self.inside.source ≡ source = c.self.view_is ∙ code.ensures.same in
     let placed : c.place_into.new.out
-    ≡ sent (shape_of (kind_of source)) (repeats_in source) code.result =
+    ≡ sent (shape_of (symbol_kind_of source)) (repeats_in source) code.result =
     c.place_into.ensures.value
     ∙ ap (λ (k : Kind). sent (shape_of k) c.repeats.result code.result)
-    (c.kind.ensures ∙ ap kind_of same)
-    ∙ ap (λ (n : ℕ). sent (shape_of (kind_of source)) n code.result)
+    (c.kind.ensures ∙ ap symbol_kind_of same)
+    ∙ ap (λ (n : ℕ). sent (shape_of (symbol_kind_of source)) n code.result)
     (c.repeats.ensures ∙ ap repeats_in same) in
     symbols_are source c.args.frame code.result c.scrambled.result code.ensures.value
     (c.scrambled.ensures.value

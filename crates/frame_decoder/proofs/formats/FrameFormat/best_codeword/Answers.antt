@@ -1,5 +1,5 @@
 use Rattle.frame_decoder.proofs.Common.{◌≡◌, ◌≤◌, ap, ◌∙◌, length, rules, List, ℤ, FitsSigned, w64, to_z-of_z, Codeword, score_of}
-use Rattle.frame_decoder.proofs.Common.{IsBestCodeword, spelled, Zero, gathered_in, codeword_in}
+use Rattle.frame_decoder.proofs.Common.{IsBestCodeword, spelled_codeword, Zero, gathered_in, codeword_in}
 use Rattle.frame_decoder.proofs.Unreplaced.{first_zeros_read}
 use Rattle.frame_decoder.proofs.FormatCodewords.{best_is, gathered_score, length-codeword_in}
 use Rattle.frame_decoder.proofs.formats.FrameFormat.best_codeword.Goals as goal
@@ -13,7 +13,7 @@ pub returns-clause-bits : goal.returns-clause-bits
 returns-clause-bits g c =
     let softs = c.args.softs.now in
     let format = c.args.self.now in
-    let codeword : Codeword = spelled c.best_into-score.new.out in
+    let codeword : Codeword = spelled_codeword c.best_into-score.new.out in
     let long : length softs ≡ 384 = search rules in
     let best : IsBestCodeword (gathered_in format softs) Zero codeword =
     rw (← c.gather_into.ensures.value) c.best_into-score.ensures.best in
@@ -23,7 +23,7 @@ pub returns-clause-score : goal.returns-clause-score
 returns-clause-score g c =
     let softs = c.args.softs.now in
     let format = c.args.self.now in
-    let codeword : Codeword = spelled c.best_into-score.new.out in
+    let codeword : Codeword = spelled_codeword c.best_into-score.new.out in
     let values = gathered_in format softs in
     let long : length softs ≡ 384 = search rules in
     let best : IsBestCodeword values Zero codeword =

@@ -1,4 +1,4 @@
-use Rattle.mobile_core.proofs.Common.{◌≡◌, ◌∙◌, ◌∷◌, ◌++◌, Some, IfSome, rules, length, subst, sym, at_of, listed, HearsFrames, WaitsAt}
+use Rattle.mobile_core.proofs.Common.{◌≡◌, ◌∙◌, ◌∷◌, ◌++◌, Some, IfSome, rules, length, subst, sym, at_of, event_list, HearsFrames, WaitsAt}
 use Rattle.mobile_core.proofs.Common.{Event, IsSoundHandoff, SetsKeeper, SoftHandoff, ap, noted_by}
 use Rattle.heard_events.specs.SetsKeeping.{IsSoundKeeper}
 use Rattle.mobile_core.proofs.FramesFollowed.{frames_noted, noted_waits}
@@ -35,5 +35,5 @@ returns-in-Some-traffic-clause-hears c = λ t assigned mark heard pages ends st.
     let told : c.args.event.now ≡ Some c.in-Some.event = search rules in
     let here = subst (λ e. IfSome e (λ event. at_of event ≡ length heard)) told ends in
     let behind = subst (λ o. HearsFrames t assigned mark o heard (c.in-Some.event ∷ pages)) is
-    (subst (λ e. HearsFrames t assigned mark c.args.traffic.now heard (listed e ++ pages)) told st) in
+    (subst (λ e. HearsFrames t assigned mark c.args.traffic.now heard (event_list e ++ pages)) told st) in
     rw (is, c.note.ensures.value) (frames_noted c.in-Some.event behind here)

@@ -1,4 +1,4 @@
-use Rattle.mobile_core.proofs.Common.{ℕ, ◌≡◌, ◌∙◌, refl, subst, sym, append_assoc, None, IfSome, IsSomeAnd, IsDueAt, at_of, listed}
+use Rattle.mobile_core.proofs.Common.{ℕ, ◌≡◌, ◌∙◌, refl, subst, sym, append_assoc, None, IfSome, IsSomeAnd, IsDueAt, at_of, event_list}
 use Rattle.mobile_core.proofs.Common.{HearsFrames, paging_events_left, traffic_events_left}
 use Rattle.mobile_core.proofs.ChannelsFollowed.{heard_other, moved}
 use Rattle.heard_events.proofs.GoesOn.{joined}
@@ -30,6 +30,6 @@ returns-clause-hears c = λ t _ mark heard holds check count st.
     let frames = c.note.ensures.hears t t.traffic mark heard left ends
     (subst (HearsFrames t t.traffic mark c.args.self.now.traffic heard) (sym pages.1) st.traffic) in (
       moved st paging traffic mark heard left refl pages.0 frames.0,
-      sym (append_assoc (listed event) left (traffic_events_left t t.traffic mark heard traffic))
+      sym (append_assoc (event_list event) left (traffic_events_left t t.traffic mark heard traffic))
           ∙ joined pages.1 frames.1,
     )

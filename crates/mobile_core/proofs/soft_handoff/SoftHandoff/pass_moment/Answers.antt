@@ -1,4 +1,4 @@
-use Rattle.mobile_core.proofs.Common.{◌∙◌, ◌++◌, ◌+◌, ◌*◌, [], sym, ap, arith, listed, traffic_left_of, Mark, SetsKeeper, SoftHandoff}
+use Rattle.mobile_core.proofs.Common.{◌∙◌, ◌++◌, ◌+◌, ◌*◌, [], sym, ap, arith, event_list, traffic_left_of, Mark, SetsKeeper, SoftHandoff}
 use Rattle.mobile_core.proofs.MomentPassed.{hears_passed}
 use Rattle.mobile_core.proofs.SoundFrames.{passed_close}
 use Rattle.heard_events.specs.Moments.{sets_events, passed as passed_of}
@@ -22,5 +22,5 @@ returns-clause-hears c = λ t traffic m heard holds st.
     tuned.some tuned.close) event
     (passes.1 ∙ ap (λ (x : Mark). sets_events x heard (r.sets.passed + 1) r.sets.sets) mark) in (
       tuned.hears t traffic m heard [] on.0,
-      ap (λ (x : SoftHandoff). listed event ++ traffic_left_of t traffic m heard x) tuned.same ∙ on.1,
+      ap (λ (x : SoftHandoff). event_list event ++ traffic_left_of t traffic m heard x) tuned.same ∙ on.1,
     )

@@ -1,4 +1,4 @@
-use Rattle.mobile_core.proofs.Common.{◌∙◌, [], ◌∷◌, listed, noted_by}
+use Rattle.mobile_core.proofs.Common.{◌∙◌, [], ◌∷◌, event_list, noted_by}
 use Rattle.mobile_core.proofs.FramesFollowed.{tells_first}
 use Rattle.mobile_core.proofs.FramesTold.{hears_noted}
 use Rattle.mobile_core.specs.TrafficReceiving.{beside}
@@ -18,4 +18,4 @@ returns-clause-hears c = λ t _ mark heard holds check count behind.
 pub returns-then-not-has_told-clause-hears : goal.returns-then-not-has_told-clause-hears
 returns-then-not-has_told-clause-hears c = λ t _ mark heard holds check count behind.
     let on = c.pass_moment.ensures.hears t behind.traffic behind.set heard holds behind.hears in
-    tells_first behind c.pass_moment.new.self (listed c.pass_moment.result) [] on
+    tells_first behind c.pass_moment.new.self (event_list c.pass_moment.result) [] on

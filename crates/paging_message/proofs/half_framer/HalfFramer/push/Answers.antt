@@ -1,13 +1,13 @@
 use Rattle.paging_message.proofs.Common.{◌≡◌, ◌+◌, ◌-◌, ◌%◌, ◌++◌, ◌∷◌, [], length, sym, ap, ◌∙◌, arith, rules, Option, List, Bool, IsTrue}
 use Rattle.paging_message.proofs.Common.{IsSome, ◌↔◌, completed, Framing, half_frame_capsule_ending, half_under_way}
-use Rattle.paging_message.specs.HalfFrames.{StandsFor}
+use Rattle.paging_message.specs.HalfFrames.{HalfFramesStandFor}
 use Rattle.paging_message.proofs.Chains.{after}
 use Rattle.paging_message.proofs.Cutting.{sci_opens, sci_ends, body_step, place_more, place_over, after_is}
 use Rattle.paging_message.proofs.half_framer.HalfFramer.push.Goals.{then-left-eq0, else-left-eq0}
 use Rattle.paging_message.proofs.half_framer.HalfFramer.push.Goals as goal
 
 -- what the framer's own numbers say of the bits that it stands for
-own_numbers : {f g : Framing} {bits : List Bool} → f ≡ g → StandsFor g bits →
+own_numbers : {f g : Framing} {bits : List Bool} → f ≡ g → HalfFramesStandFor g bits →
     (f.place ≡ length bits % (f.size + 1)) × (f.open_bits ≡ half_under_way f.size bits)
 own_numbers same stood = rw same (stood.placed, stood.under_way)
 

@@ -1,4 +1,4 @@
-use Rattle.paging_message.proofs.Common.{◌≡◌, ◌≤◌, None, Some, drop, length, subst, sym, ap, ◌∙◌, count_in, Shape}
+use Rattle.paging_message.proofs.Common.{◌≡◌, ◌≤◌, None, Some, drop, length, subst, sym, ap, ◌∙◌, count_in, MessageShape}
 use Rattle.paging_message.proofs.ByLayout.{few_records, lawful}
 use Rattle.paging_message.proofs.Messages.{no_body, no_type, told, told_is, typed_length}
 use Rattle.paging_message.proofs.message.PagingMessage.read.Goals as goal
@@ -19,7 +19,7 @@ pub read_from-requires-clause-room : goal.read_from-requires-clause-room
 read_from-requires-clause-room c =
     let body = c.args.body.now in
     let behind = drop c.in_ok-kind.from body in
-    subst (λ (s : Shape). count_in s.records (length behind) ≤ 128) (sym c.layout_of.ensures)
+    subst (λ (s : MessageShape). count_in s.records (length behind) ≤ 128) (sym c.layout_of.ensures)
     (few_records c.in_ok-kind.kind (length behind)
     (typed_length body behind c.in_ok-kind.kind
     (c.fills_capsule.ensures.0 c.if-not-fills_capsule.false) c.in_ok-kind.ensures.kind))

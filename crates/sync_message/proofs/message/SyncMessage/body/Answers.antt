@@ -4,7 +4,7 @@ use Rattle.chip_core.proofs.FieldLists.{length-binary}
 use Rattle.message_layout.specs.Spelling.{spelling, IsOf}
 use Rattle.quality_bits.specs.Capsules.{FillsCapsule}
 use Rattle.quality_bits.specs.declared.kind.Kind.TheVariants.{M30}
-use Rattle.sync_message.specs.Layouts.{sync_shape}
+use Rattle.sync_message.specs.Layouts.{sync_message_shape}
 use Rattle.sync_message.specs.SyncMessage.{sync_body}
 use Rattle.sync_message.proofs.ByLayout.{body_room, body_written, sync_lawful}
 use Rattle.sync_message.proofs.message.SyncMessage.body.Goals as goal
@@ -14,7 +14,7 @@ append-requires-clause-lawful c = sync_lawful
 
 pub append-requires-clause-contents : goal.append-requires-clause-contents
 append-requires-clause-contents c =
-    subst (IsOf sync_shape) (sym c.contents_of.ensures)
+    subst (IsOf sync_message_shape) (sym c.contents_of.ensures)
     c.self.invariant.said
 
 pub append-requires-clause-room : goal.append-requires-clause-room
@@ -25,7 +25,7 @@ append-requires-clause-room c =
       arith,
       ap length one,
       length-binary 8 1,
-      ap (λ said. length (spelling sync_shape said)) c.contents_of.ensures,
+      ap (λ said. length (spelling sync_message_shape said)) c.contents_of.ensures,
       body_room c.self.inside.fields c.self.invariant,
     )
 
@@ -34,7 +34,7 @@ returns-clause-value c =
     let one : c.append_number.new.self ≡ binary 8 1 =
     c.append_number.ensures ∙ ap (λ (r : List Bool). r ++ binary 8 1) c.empty-body.ensures in
     body_written c.self.inside.fields c.append_number.new.self c.append.new.body one
-    (c.append.ensures ∙ ap (λ said. c.append_number.new.self ++ spelling sync_shape said)
+    (c.append.ensures ∙ ap (λ said. c.append_number.new.self ++ spelling sync_message_shape said)
     c.contents_of.ensures) ∙ ap sync_body c.self.view_is
 
 pub returns-clause-fills : goal.returns-clause-fills

@@ -1,7 +1,7 @@
 use Rattle.std.proofs.Common.{rules, refl, sym, ap, ◌∙◌, Ok}
 use Rattle.quality_bits.proofs.Decoded.{decoded, fault_read, uncapsuled, undecoded, whole_checked, IsDecoded, IsNone}
 use Rattle.quality_bits.specs.declared.kind.Kind.TheVariants.{M30}
-use Rattle.sync_message.specs.Layouts.{body_reading}
+use Rattle.sync_message.specs.Layouts.{sync_body_reading}
 use Rattle.sync_message.specs.Reading.{sync_reading}
 use Rattle.sync_message.specs.SyncMessage.{sync_body, sync_capsule, IsSyncMessage}
 use Rattle.sync_message.proofs.Readings.{are_read}
@@ -12,7 +12,7 @@ use Rattle.sync_message.proofs.message.SyncMessage.decode.Goals.{After-from_resi
 uncapsuled_at : (c : After-from_residual) →
     IsNone M30 c.args.form IsSyncMessage sync_body (sync_reading c.args.form) c.args.capsule.now
 uncapsuled_at c =
-    uncapsuled M30 c.args.form IsSyncMessage sync_body body_reading (sync_reading c.args.form)
+    uncapsuled M30 c.args.form IsSyncMessage sync_body sync_body_reading (sync_reading c.args.form)
     c.args.capsule.now (are_read c.args.form)
     (λ inside fills spelled. cc (c.in_err-count.ensures.only inside fills spelled))
 
@@ -20,14 +20,14 @@ read_at : (c : In-Some) →
     IsDecoded M30 c.args.form IsSyncMessage sync_body (sync_reading c.args.form) c.args.capsule.now
     c.in-Some.fields
 read_at c =
-    decoded M30 c.args.form IsSyncMessage sync_body body_reading (sync_reading c.args.form)
+    decoded M30 c.args.form IsSyncMessage sync_body sync_body_reading (sync_reading c.args.form)
     c.args.capsule.now c.of-body.result c.in-Some.fields (are_read c.args.form)
     (rw c.of-body.ensures c.in_ok-count.ensures.found) c.in-Some.ensures
 
 unread_at : (c : In-None) →
     IsNone M30 c.args.form IsSyncMessage sync_body (sync_reading c.args.form) c.args.capsule.now
 unread_at c =
-    undecoded M30 c.args.form IsSyncMessage sync_body body_reading (sync_reading c.args.form)
+    undecoded M30 c.args.form IsSyncMessage sync_body sync_body_reading (sync_reading c.args.form)
     c.args.capsule.now c.of-body.result (are_read c.args.form) (rw c.of-body.ensures c.in_ok-count.ensures.found)
     c.in-None.ensures
 

@@ -1,29 +1,31 @@
-use Rattle.traffic_message.proofs.Common.{rules, refl, sym, ap, ◌∙◌, Ok, M16, IsDecoded, IsNone, fault_read, whole_checked, message_body}
-use Rattle.traffic_message.proofs.Common.{IsTrafficMessage, traffic_capsule, traffic_reading, body_reading, decoded, uncapsuled, undecoded}
+use Rattle.traffic_message.proofs.Common.{rules, refl, sym, ap, ◌∙◌, Ok, M16, IsDecoded, IsNone, fault_read, whole_checked}
+use Rattle.traffic_message.proofs.Common.{traffic_message_body}
+use Rattle.traffic_message.proofs.Common.{IsTrafficMessage, traffic_capsule, traffic_reading, traffic_body_reading, decoded, uncapsuled}
+use Rattle.traffic_message.proofs.Common.{undecoded}
 use Rattle.traffic_message.proofs.Readings.{are_read}
 use Rattle.traffic_message.proofs.message.TrafficMessage.decode.Goals as goal
 use Rattle.traffic_message.proofs.message.TrafficMessage.decode.Goals.{After-from_residual, In-None, In-Some}
 
 -- what is known at the three exits
 uncapsuled_at : (c : After-from_residual) →
-    IsNone M16 c.args.form IsTrafficMessage message_body (traffic_reading c.args.form) c.args.capsule.now
+    IsNone M16 c.args.form IsTrafficMessage traffic_message_body (traffic_reading c.args.form) c.args.capsule.now
 uncapsuled_at c =
-    uncapsuled M16 c.args.form IsTrafficMessage message_body body_reading (traffic_reading c.args.form)
+    uncapsuled M16 c.args.form IsTrafficMessage traffic_message_body traffic_body_reading (traffic_reading c.args.form)
     c.args.capsule.now (are_read c.args.form)
     (λ inside fills spelled. cc (c.in_err-count.ensures.only inside fills spelled))
 
 read_at : (c : In-Some) →
-    IsDecoded M16 c.args.form IsTrafficMessage message_body (traffic_reading c.args.form)
+    IsDecoded M16 c.args.form IsTrafficMessage traffic_message_body (traffic_reading c.args.form)
     c.args.capsule.now c.in-Some.message
 read_at c =
-    decoded M16 c.args.form IsTrafficMessage message_body body_reading (traffic_reading c.args.form)
+    decoded M16 c.args.form IsTrafficMessage traffic_message_body traffic_body_reading (traffic_reading c.args.form)
     c.args.capsule.now c.of-body.result c.in-Some.message (are_read c.args.form)
     (rw c.of-body.ensures c.in_ok-count.ensures.found) c.in-Some.ensures
 
 unread_at : (c : In-None) →
-    IsNone M16 c.args.form IsTrafficMessage message_body (traffic_reading c.args.form) c.args.capsule.now
+    IsNone M16 c.args.form IsTrafficMessage traffic_message_body (traffic_reading c.args.form) c.args.capsule.now
 unread_at c =
-    undecoded M16 c.args.form IsTrafficMessage message_body body_reading (traffic_reading c.args.form)
+    undecoded M16 c.args.form IsTrafficMessage traffic_message_body traffic_body_reading (traffic_reading c.args.form)
     c.args.capsule.now c.of-body.result (are_read c.args.form) (rw c.of-body.ensures c.in_ok-count.ensures.found)
     c.in-None.ensures
 

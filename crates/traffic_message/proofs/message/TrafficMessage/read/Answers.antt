@@ -1,11 +1,11 @@
 use Rattle.traffic_message.proofs.Common.{◌≡◌, ℕ, true, Option, None, Some, drop, length, get_or, sym, ap, ◌∙◌, arith}
-use Rattle.traffic_message.proofs.Common.{length-drop, is_body, body_reading, mapped, part_reading, TrafficBody}
+use Rattle.traffic_message.proofs.Common.{length-drop, is_traffic_body, traffic_body_reading, mapped, part_reading, TrafficBody}
 use Rattle.traffic_message.proofs.Bodies.{AreParts, are_parts, is_body_parts, message, message_there, no_body, no_head, part_read}
 use Rattle.traffic_message.proofs.message.TrafficMessage.read.Goals as goal
 use Rattle.traffic_message.proofs.message.TrafficMessage.read.Goals.{After-head_from-head}
 
 -- what is known after the head
-tested : (c : After-head_from-head) → is_body c.args.body.now ≡ true
+tested : (c : After-head_from-head) → is_traffic_body c.args.body.now ≡ true
 tested c = sym c.fills_capsule.ensures ∙ c.if-not-fills_capsule.false
 
 parts : (c : After-head_from-head) →
@@ -18,7 +18,7 @@ behind : (c : After-head_from-head) (k : ℕ) (read : Option TrafficBody) →
     k ≡ get_or c.in_ok-values.values 0 0 →
     read ≡ part_reading k c.head_from-head.result.encryption
     (drop c.in_ok-values.from c.args.body.now) →
-    mapped (message c.head_from-head.result) read ≡ body_reading c.args.body.now
+    mapped (message c.head_from-head.result) read ≡ traffic_body_reading c.args.body.now
 behind c k read typed e =
     part_read c.args.body.now c.in_ok-values.values (drop c.in_ok-values.from c.args.body.now) k
     c.head_from-head.result read (tested c) (parts c) typed c.head_from-head.ensures e

@@ -1,5 +1,5 @@
 use Rattle.traffic_message.proofs.Common.{◌≡◌, ◌+◌, ◌≤◌, ◌++◌, List, ◌∷◌, Bool, length, refl, sym, ap, subst, ◌∙◌, arith, FillsCapsule, M16}
-use Rattle.traffic_message.proofs.Common.{bits_of, head_contents, head_shape, head_values, kind_of, length-in_widths, message_body}
+use Rattle.traffic_message.proofs.Common.{bits_of, head_contents, head_shape, head_values, kind_of, length-in_widths, traffic_message_body}
 use Rattle.traffic_message.proofs.Common.{spelling, typed_widths, Message}
 use Rattle.traffic_message.proofs.Bodies.{length-message, message_written}
 use Rattle.traffic_message.proofs.ByLayout.{head_lawful, head_written}
@@ -24,7 +24,7 @@ head_alone c =
     ∙ ap (λ (r : List Bool). r ++ spelling head_shape c.contents.result) c.empty-body.ensures
 
 -- a body has at most 1,160 bits
-most : (m : Message) → FillsCapsule M16 (message_body m) → 17 + length (bits_of m.body) ≤ 1160
+most : (m : Message) → FillsCapsule M16 (traffic_message_body m) → 17 + length (bits_of m.body) ≤ 1160
 most m fills = omega (arith, fills.whole, fills.most, length-message m)
 
 pub append-requires-clause-lawful : goal.append-requires-clause-lawful
@@ -51,10 +51,10 @@ returns-clause-value c =
     message_written (record { head = c.self.inside.head; body = c.self.inside.body })
     c.contents.result c.append.new.body c.append_to.new.body c.self.invariant
     (head_is (goal.at.returns-clause-value c).After-contents) (head_alone d) c.append_to.ensures
-    ∙ ap message_body c.self.view_is
+    ∙ ap traffic_message_body c.self.view_is
 
 pub returns-clause-fills : goal.returns-clause-fills
 returns-clause-fills c =
     subst (FillsCapsule M16)
     (sym (returns-clause-value c
-    ∙ ap message_body (sym c.self.view_is))) c.self.invariant.fills
+    ∙ ap traffic_message_body (sym c.self.view_is))) c.self.invariant.fills
