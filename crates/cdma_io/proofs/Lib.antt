@@ -1,3 +1,4 @@
+-- The modules of lemmas of `cdma_io`.
 pub mod ByteNumbers
 pub mod Files
 pub mod Moves

@@ -1,3 +1,4 @@
+-- The modules of lemmas of `cdma_replay`.
 pub mod Broken
 pub mod Common
 pub mod Faults

@@ -1,3 +1,4 @@
+-- The modules of lemmas of `cell_plan`.
 pub mod Amplitudes
 pub mod CarriedPages
 pub mod Common

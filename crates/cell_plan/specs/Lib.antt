@@ -1,3 +1,4 @@
+-- The modules of definitions of `cell_plan`.
 pub mod Pages
 pub mod PageCycles
 pub mod Plan

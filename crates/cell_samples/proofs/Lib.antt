@@ -1,3 +1,4 @@
+-- The modules of lemmas of `cell_samples`.
 pub mod Blocks
 pub mod Common
 pub mod KeptBlocks

@@ -1,3 +1,4 @@
+-- The modules of definitions of `cell_samples`.
 pub mod Blocks
 pub mod Channels
 pub mod Continued

@@ -1,3 +1,4 @@
+-- The modules of lemmas of `cell_script`.
 pub mod Common
 pub mod NamedPages
 pub mod NamedPlans

@@ -1,3 +1,4 @@
+-- The modules of definitions of `cell_script`.
 pub mod Rows
 pub mod Script
 pub mod ScriptDrafts

@@ -1,3 +1,4 @@
+-- The modules of lemmas of `chip_core`.
 pub mod BitLists
 pub mod CommonParity
 pub mod Counted

@@ -1,3 +1,4 @@
+-- The modules of definitions of `chip_core`.
 pub mod Bits
 pub mod Complex
 pub mod Fields

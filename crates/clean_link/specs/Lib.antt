@@ -1,3 +1,4 @@
+-- The modules of definitions of `clean_link`.
 pub mod Common
 pub mod BoundedNoise
 pub mod ChannelLaws

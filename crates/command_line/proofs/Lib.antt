@@ -1,3 +1,4 @@
+-- The modules of lemmas of `command_line`.
 pub mod Common
 mod ArgApps
 mod ArgJobs

@@ -1,1 +1,2 @@
+-- The modules of definitions of `command_line`.
 pub mod Args

@@ -1,3 +1,4 @@
+-- The modules of lemmas of `conv_code`.
 pub mod Common
 pub mod Parities
 pub mod Solved

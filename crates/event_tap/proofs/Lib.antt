@@ -1,3 +1,4 @@
+-- The modules of lemmas of `event_tap`.
 mod PartTexts
 mod PagingTexts
 mod TrafficTexts

@@ -1,3 +1,4 @@
+-- The modules of lemmas of `frame_decoder`.
 pub mod Common
 pub mod Parts
 pub mod Gathered

@@ -1,3 +1,4 @@
+-- The modules of lemmas of `heard_events`.
 pub mod Common
 pub mod Arrivals
 pub mod GoesOn

@@ -1,2 +1,3 @@
+-- The modules of lemmas of `line_text`.
 pub mod Digits
 mod BinaryDigits

@@ -1,1 +1,2 @@
+-- The modules of definitions of `line_text`.
 pub mod Texts

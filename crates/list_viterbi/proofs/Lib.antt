@@ -1,3 +1,4 @@
+-- The modules of lemmas of `list_viterbi`.
 pub mod Common
 pub mod Firsts
 pub mod Merges

@@ -1,3 +1,4 @@
+-- The modules of definitions of `list_viterbi`.
 pub mod First
 pub mod Laws
 pub mod Merging

@@ -1,3 +1,4 @@
+-- The modules of definitions of `listed_frame`.
 pub mod Laws
 pub mod ListedFrames
 mod Worked

@@ -1,3 +1,4 @@
+-- The modules of lemmas of `long_code`.
 pub mod After
 pub mod Before
 pub mod BitPairs

@@ -1,3 +1,4 @@
+-- The modules of lemmas of `message_layout`.
 pub mod Columns
 pub mod Common
 pub mod Lawful

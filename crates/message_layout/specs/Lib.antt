@@ -1,3 +1,4 @@
+-- The modules of definitions of `message_layout`.
 pub mod Contents
 pub mod Plain
 pub mod Reading

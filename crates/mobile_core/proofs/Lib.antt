@@ -1,3 +1,4 @@
+-- The modules of lemmas of `mobile_core`.
 pub mod Common
 pub mod ChannelsOpened
 pub mod SyncHeard

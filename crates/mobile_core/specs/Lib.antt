@@ -1,3 +1,4 @@
+-- The modules of definitions of `mobile_core`.
 pub mod SyncReceiving
 pub mod PagingReceiving
 pub mod TrafficReceiving

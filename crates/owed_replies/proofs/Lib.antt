@@ -1,3 +1,4 @@
+-- The modules of lemmas of `owed_replies`.
 pub mod BorneFiles
 pub mod Bounds
 pub mod CleanLinks

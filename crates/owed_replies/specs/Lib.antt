@@ -1,3 +1,4 @@
+-- The modules of definitions of `owed_replies`.
 pub mod Broken
 pub mod CleanFiles
 pub mod CleanLinks

@@ -1,3 +1,4 @@
+-- The modules of lemmas of `paging_message`.
 pub mod ByLayout
 pub mod Carried
 pub mod Chains

@@ -1,3 +1,4 @@
+-- The modules of definitions of `paging_message`.
 pub mod Admitted
 pub mod Channels
 pub mod HalfFrames

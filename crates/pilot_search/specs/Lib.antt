@@ -1,3 +1,4 @@
+-- The modules of definitions of `pilot_search`.
 pub mod BestIn
 pub mod Bounds
 pub mod BySigns

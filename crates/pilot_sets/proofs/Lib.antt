@@ -1,3 +1,4 @@
+-- The modules of lemmas of `pilot_sets`.
 pub mod ActionTimes
 pub mod Common
 pub mod Firsts

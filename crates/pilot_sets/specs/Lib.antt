@@ -1,3 +1,4 @@
+-- The modules of definitions of `pilot_sets`.
 pub mod Directions
 pub mod Filled
 pub mod Filling

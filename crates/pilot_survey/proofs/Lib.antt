@@ -1,3 +1,4 @@
+-- The modules of lemmas of `pilot_survey`.
 pub mod FirstPlaces
 pub mod Orders
 pub mod Parts

@@ -1,3 +1,4 @@
+-- The modules of lemmas of `quality_bits`.
 pub mod Pushed
 pub mod Decoded
 pub mod Digits

@@ -1,3 +1,4 @@
+-- The modules of definitions of `quality_bits`.
 pub mod Capsules
 pub mod Faults
 pub mod Kinds

@@ -1,3 +1,4 @@
+-- The modules of lemmas of `reception`.
 pub mod Common
 pub mod SoftSums
 pub mod Descrambled

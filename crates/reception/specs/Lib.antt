@@ -1,3 +1,4 @@
+-- The modules of definitions of `reception`.
 pub mod Progress
 pub mod Softs
 pub mod Clocks

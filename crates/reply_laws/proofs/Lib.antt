@@ -1,3 +1,4 @@
+-- The modules of lemmas of `reply_laws`.
 pub mod Common
 pub mod MadeLinks
 pub mod NearPaths

@@ -1,3 +1,4 @@
+-- The modules of definitions of `reply_laws`.
 pub mod MadeLaws
 pub mod NoisyReplies
 pub mod OneCodeword

@@ -1,3 +1,4 @@
+-- The modules of lemmas of `short_code`.
 pub mod Despreading
 pub mod RegisterChips
 pub mod Signs

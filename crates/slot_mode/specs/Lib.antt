@@ -1,3 +1,4 @@
+-- The modules of definitions of `slot_mode`.
 pub mod Frames
 pub mod Laws
 pub mod Slots

@@ -1,3 +1,4 @@
+-- The modules of lemmas of `symbol_path`.
 pub mod Agreement
 pub mod Common
 pub mod Interleaving

@@ -1,3 +1,4 @@
+-- The modules of definitions of `symbol_path`.
 pub mod Scrambling
 pub mod SentOrder
 pub mod RatesTwo

@@ -1,3 +1,4 @@
+-- The modules of lemmas of `traffic_message`.
 pub mod Admitting
 pub mod Bodies
 pub mod Common

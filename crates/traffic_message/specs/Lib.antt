@@ -1,3 +1,4 @@
+-- The modules of definitions of `traffic_message`.
 pub mod Admitted
 pub mod Handoff
 pub mod InTraffic

@@ -1,3 +1,4 @@
+-- The modules of lemmas of `trial_link`.
 pub mod Common
 pub mod SpelledBytes
 pub mod SpelledFields

@@ -1,3 +1,4 @@
+-- The modules of lemmas of `tuned_listener`.
 pub mod Common
 pub mod FrameTexts
 pub mod FramesGiven

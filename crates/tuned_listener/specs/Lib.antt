@@ -1,3 +1,4 @@
+-- The modules of definitions of `tuned_listener`.
 pub mod FrameReceiving
 pub mod FrameWriting
 pub mod Marking

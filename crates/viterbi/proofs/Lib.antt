@@ -1,3 +1,4 @@
+-- The modules of lemmas of `viterbi`.
 pub mod Common
 pub mod Ranks
 pub mod StateBits

@@ -1,3 +1,4 @@
+-- The modules of definitions of `viterbi`.
 pub mod Codewords
 pub mod Best
 pub mod Signs

@@ -1,3 +1,4 @@
+-- The modules of lemmas of `walsh`.
 pub mod Carried
 pub mod Pairing
 pub mod Partial

@@ -1,3 +1,4 @@
+-- Why `fill` of `filling` keeps its contract.
 use Rattle.std.proofs.Common.{◌≡◌, ◌-◌, subst, rules, length}
 use Rattle.std.specs.Io.KnownBytes.{Consumes}
 use Rattle.std.proofs.KnownBytes.{Consumes-trans}

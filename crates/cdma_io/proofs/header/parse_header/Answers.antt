@@ -1,3 +1,4 @@
+-- Why `parse_header` of `header` keeps its contract.
 use Rattle.std.proofs.Common.{sym, ap, ◌∙◌, arith, rules}
 use Rattle.cdma_io.specs.SampleFile.{most_samples}
 use Rattle.cdma_io.proofs.ByteNumbers.{AreBytes}

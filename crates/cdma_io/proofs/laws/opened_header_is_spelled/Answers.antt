@@ -1,3 +1,4 @@
+-- Why the law `opened_header_is_spelled` holds.
 use Rattle.std.proofs.Common.{drop}
 use Rattle.cdma_io.proofs.ByteNumbers.{AreBytes-from_all}
 use Rattle.cdma_io.proofs.Opening.{opening-ok}

@@ -1,3 +1,4 @@
+-- Why `narrow_bytes` of `sample_bytes` keeps its contract.
 use Rattle.std.proofs.Common.{◌<◌, ap, ◌∙◌, arith, rules}
 use Rattle.std.specs.Int.{w8, w16, cast_unsigned}
 use Rattle.std.proofs.lemmas.Int.{to_z-of_z}

@@ -1,3 +1,4 @@
+-- Why `wide_bytes` of `sample_bytes` keeps its contract.
 use Rattle.std.proofs.Common.{refl, rules}
 use Rattle.std.specs.Int.{w16}
 use Rattle.std.proofs.lemmas.Int.{to_z-of_z}

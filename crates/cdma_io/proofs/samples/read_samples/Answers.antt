@@ -1,3 +1,4 @@
+-- Why `read_samples` of `samples` keeps its contract.
 use Rattle.std.proofs.Common.{◌≡◌, ◌+◌, ◌-◌, ◌*◌, ◌≤◌, ℕ, length, take, drop, sym, ap, ◌∙◌, rules}
 use Rattle.cdma_io.specs.SampleFile.{sample_len}
 use Rattle.std.proofs.lemmas.List.{length-take-le}

@@ -1,3 +1,4 @@
+-- What each pass of the loops in `read_samples` of `samples` keeps, and why they end.
 use Rattle.std.proofs.Common.{◌-◌, ◌≤◌, take, length, All}
 use Rattle.std.specs.List.{flat_map}
 use Rattle.std.specs.Io.KnownBytes.{Consumes}

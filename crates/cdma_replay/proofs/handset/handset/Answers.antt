@@ -1,3 +1,4 @@
+-- Why `handset` of `handset` keeps its contract.
 use Rattle.cdma_replay.proofs.Common.{rules, refl, length, ◌≡◌, [], merely}
 use Rattle.cdma_replay.proofs.Hearings.{fresh_given}
 use Rattle.cdma_replay.proofs.handset.handset.Goals as goal

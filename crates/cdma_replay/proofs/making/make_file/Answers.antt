@@ -1,3 +1,4 @@
+-- Why `make_file` of `making` keeps its contract.
 use Rattle.cdma_replay.proofs.Common.{[], inl, inr, refl, rules, arith, Appends-nil, IfSome_then}
 use Rattle.owed_replies.proofs.Files.{ended_by}
 use Rattle.cdma_replay.proofs.MadeFiles.{writes_part, writes_whole}

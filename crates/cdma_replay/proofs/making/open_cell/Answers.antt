@@ -1,3 +1,4 @@
+-- Why `open_cell` of `making` keeps its contract.
 use Rattle.cdma_replay.proofs.Common.{IfSome, ◌≡◌, ◌≢◌, sym, ap, ◌∙◌, subst, rules, Ok, Err, take, length, plan_named, ScriptFault}
 use Rattle.cdma_replay.proofs.Common.{OutOfMemory, script_status}
 use Rattle.owed_replies.proofs.Files.{ended_by}

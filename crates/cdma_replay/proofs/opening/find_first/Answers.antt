@@ -1,3 +1,4 @@
+-- Why `find_first` of `opening` keeps its contract.
 use Rattle.cdma_replay.proofs.Common.{rules}
 use Rattle.cdma_replay.proofs.Lines.{followed_shows, found_shows, ranks_show}
 use Rattle.cdma_replay.proofs.opening.find_first.Goals as goal

@@ -1,3 +1,4 @@
+-- Why `listener_for` of `opening` keeps its contract.
 use Rattle.cdma_replay.proofs.Common.{refl, rules, AreNearTo, waiting}
 use Rattle.cdma_replay.proofs.opening.listener_for.Goals as goal
 

@@ -1,3 +1,4 @@
+-- Why `tell_first` of `opening` keeps its contract.
 use Rattle.cdma_replay.proofs.Common.{ap, subst, Appends, AppendsPrefix, event_line, Event, on_err, on_ok, pilot_event, shown_text}
 use Rattle.cdma_replay.proofs.Lines.{alone_begins, alone_part, silent_err, silent_ok}
 use Rattle.cdma_replay.proofs.opening.tell_first.Goals as goal

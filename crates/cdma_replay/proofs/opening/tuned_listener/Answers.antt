@@ -1,3 +1,4 @@
+-- Why `tuned_listener` of `opening` keeps its contract.
 use Rattle.cdma_replay.proofs.Common.{◌≡◌, length, refl, rules, sym, best_phase-only, tuning_for, waiting}
 use Rattle.cdma_replay.proofs.Hearings.{near_taken}
 use Rattle.cdma_replay.proofs.opening.tuned_listener.Goals as goal

@@ -1,3 +1,4 @@
+-- What each pass of the loops in `write_ranks` of `ranks` keeps, and why they end.
 use Rattle.cdma_replay.proofs.Common.{◌≤◌, take, Appends, ranks_text}
 use Rattle.cdma_replay.proofs.ranks.write_ranks.Given as goal
 

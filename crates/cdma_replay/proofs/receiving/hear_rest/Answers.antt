@@ -1,3 +1,4 @@
+-- Why `hear_rest` of `receiving` keeps its contract.
 use Rattle.cdma_replay.proofs.Common.{◌≡◌, ◌≤◌, ◌+◌, ◌-◌, ◌*◌, ℕ, min, IfSome, IsNone, length, length-take-le, take, ap, ◌∙◌, refl, subst}
 use Rattle.cdma_replay.proofs.Common.{arith, rules, Reading, width_of, sample_len, FileFault, ConsumesAtMost, Header, sample_len-mono}
 use Rattle.cdma_replay.proofs.Common.{IsLong, IsRestFault, file_status, HasRoom}

@@ -1,3 +1,4 @@
+-- Why `open_span` of `receiving` keeps its contract.
 use Rattle.cdma_replay.proofs.Common.{length, rules, ◌≡◌, ◌≤◌, IsNone, None, ap, refl, err_from_is_err_and, Reading}
 use Rattle.cdma_replay.proofs.Broken.{no_long_cut, opening_few, span_few, unopened}
 use Rattle.cdma_replay.proofs.Faults.{fault_of_opening, fault_of_count, fault_of_span}

@@ -1,3 +1,4 @@
+-- Why `receive_file` of `receiving` keeps its contract.
 use Rattle.cdma_replay.proofs.Common.{◌≡◌, ◌+◌, ℕ, List, [], IfSome, inr, length, ap, refl, ◌∙◌, subst, rules, arith, Sample, FileFault}
 use Rattle.cdma_replay.proofs.Common.{IsCut, IsLong, IsEnd, IsFault, IsFaultIn, IsOfFiles, ended, Listening, Listens, end_when, listening}
 use Rattle.cdma_replay.proofs.Common.{file_status, Status}

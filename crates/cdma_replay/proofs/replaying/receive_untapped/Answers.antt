@@ -1,3 +1,4 @@
+-- Why `receive_untapped` of `replaying` keeps its contract.
 use Rattle.cdma_replay.proofs.Common.{◌∙◌, [], ◌∷◌, None}
 use Rattle.owed_replies.proofs.Replies.{none_kept}
 use Rattle.owed_replies.proofs.TaskRuns.{file_run, with_taps}

@@ -1,3 +1,4 @@
+-- Why `replay` of `replaying` keeps its contract.
 use Rattle.owed_replies.proofs.Commands.{command_run}
 use Rattle.cdma_replay.proofs.replaying.replay.Goals as goal
 

@@ -1,3 +1,4 @@
+-- What each pass of the loops in `count_rest` of `trial` keeps, and why they end.
 use Rattle.cdma_replay.proofs.Common.{◌≡◌, ◌-◌, ◌+◌, length, take, made_samples, events, StandsFor, has_room, steps_left, Tuning}
 use Rattle.cdma_replay.proofs.Common.{LeavesRoom, counts_of}
 use Rattle.cdma_replay.proofs.trial.count_rest.Given as goal

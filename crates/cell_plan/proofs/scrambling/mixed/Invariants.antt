@@ -1,3 +1,4 @@
+-- What each pass of the loops in `mixed` of `scrambling` keeps, and why they end.
 use Rattle.cell_plan.proofs.Common.{◌≡◌, length, take, xor, zip_with}
 use Rattle.cell_plan.proofs.scrambling.mixed.Given as goal
 

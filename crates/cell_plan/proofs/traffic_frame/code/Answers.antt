@@ -1,3 +1,4 @@
+-- Why `code` of `traffic_frame` keeps its contract.
 use Rattle.cell_plan.proofs.Common.{arith, binary, traffic_codeword, repeated_most}
 use Rattle.cell_plan.proofs.TrafficFrames.{code_fills}
 use Rattle.symbol_path.proofs.CodewordsTwo.{coded_from_zero}

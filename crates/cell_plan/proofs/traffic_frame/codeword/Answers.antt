@@ -1,3 +1,4 @@
+-- Why `codeword` of `traffic_frame` keeps its contract.
 use Rattle.cell_plan.proofs.Common.{◌*◌, List, Bool, length, ap, ◌∙◌, arith, repeats_of, checked_most, codeword_fills}
 use Rattle.cell_plan.proofs.TrafficFrames.{tailed}
 use Rattle.cell_plan.proofs.traffic_frame.codeword.Goals as goal

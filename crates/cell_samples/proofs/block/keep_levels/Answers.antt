@@ -1,3 +1,4 @@
+-- Why `keep_levels` of `block` keeps its contract.
 use Rattle.cell_samples.proofs.Common.{◌≡◌, ◌<◌, List, length, map, get_or, set, refl, sym, ap, ◌∙◌, arith, rules, get_or-map, read64}
 use Rattle.cell_samples.proofs.Common.{ChannelState, carrier_of}
 use Rattle.std.proofs.lemmas.List as lists

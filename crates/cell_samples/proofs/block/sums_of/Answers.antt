@@ -1,3 +1,4 @@
+-- Why `sums_of` of `block` keeps its contract.
 use Rattle.cell_samples.proofs.Common.{◌≡◌, ◌≤◌, ◌<◌, ◌*◌, ◌^◌, length, map, get_or, refl, sym, ap, ◌∙◌, ◌+◌, arith, ℤ, pos, to_z, of_z}
 use Rattle.cell_samples.proofs.Common.{unsigned_abs, get_or-map, All-get_or, origin, plus, IsWithin, IsLevel, ChannelState, carrier_of}
 use Rattle.cell_samples.proofs.Common.{level, scaled, read64}

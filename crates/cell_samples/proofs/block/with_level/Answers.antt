@@ -1,3 +1,4 @@
+-- Why `with_level` of `block` keeps its contract.
 use Rattle.cell_samples.proofs.Common.{refl, level_added}
 use Rattle.cell_samples.proofs.block.with_level.Goals as goal
 

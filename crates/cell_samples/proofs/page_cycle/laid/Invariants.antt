@@ -1,3 +1,4 @@
+-- What each pass of the loops in `laid` of `page_cycle` keeps, and why they end.
 use Rattle.cell_samples.proofs.Common.{half_frame_body, IsLaying}
 use Rattle.cell_samples.proofs.page_cycle.laid.Given as goal
 

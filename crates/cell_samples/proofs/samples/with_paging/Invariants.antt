@@ -1,3 +1,4 @@
+-- What each pass of the loops in `with_paging` of `samples` keeps, and why they end.
 use Rattle.cell_samples.proofs.Common.{◌≡◌, ◌++◌, map, take, carrier_of, paging_carrier}
 use Rattle.cell_samples.proofs.samples.with_paging.Given as goal
 

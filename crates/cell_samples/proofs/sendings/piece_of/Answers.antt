@@ -1,3 +1,4 @@
+-- Why `piece_of` of `sendings` keeps its contract.
 use Rattle.cell_samples.proofs.Common.{◌==◌, ◌∷◌, [], length, ap, ◌∙◌, arith, length-append, piece_more}
 use Rattle.cell_samples.proofs.sendings.piece_of.Goals as goal
 

@@ -1,3 +1,4 @@
+-- Why `symbols_of_one` of `traffic_cycle` keeps its contract.
 use Rattle.cell_samples.proofs.Common.{traffic_symbols, made_of}
 use Rattle.cell_samples.proofs.traffic_cycle.symbols_of_one.Goals as goal
 

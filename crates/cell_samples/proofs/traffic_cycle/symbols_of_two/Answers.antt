@@ -1,3 +1,4 @@
+-- Why `symbols_of_two` of `traffic_cycle` keeps its contract.
 use Rattle.cell_samples.proofs.Common.{traffic_symbols2, made_of}
 use Rattle.cell_samples.proofs.traffic_cycle.symbols_of_two.Goals as goal
 

@@ -1,3 +1,4 @@
+-- Why `add_frame` of `build` keeps its contract.
 use Rattle.cell_script.proofs.Common.{with_one}
 use Rattle.cell_script.proofs.ScriptFrames.{push_changed}
 use Rattle.cell_script.proofs.build.add_frame.Goals as goal

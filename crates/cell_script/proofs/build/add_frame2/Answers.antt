@@ -1,3 +1,4 @@
+-- Why `add_frame2` of `build` keeps its contract.
 use Rattle.cell_script.proofs.Common.{with_two}
 use Rattle.cell_script.proofs.ScriptFrames.{push_changed}
 use Rattle.cell_script.proofs.build.add_frame2.Goals as goal

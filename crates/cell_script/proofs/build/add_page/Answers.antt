@@ -1,3 +1,4 @@
+-- Why `add_page` of `build` keeps its contract.
 use Rattle.cell_script.proofs.ScriptPages.{push_added}
 use Rattle.cell_script.proofs.build.add_page.Goals as goal
 

@@ -1,3 +1,4 @@
+-- Why the law `line_fault_is_the_first_that_no_script_has` holds.
 use Rattle.cell_script.proofs.ScriptLaws.{counted, least, missing, refused}
 use Rattle.cell_script.proofs.laws.line_fault_is_the_first_that_no_script_has.Goals as goal
 

@@ -1,3 +1,4 @@
+-- Why the law `named_pages_are_carried` holds.
 use Rattle.cell_script.proofs.NamedPages.{pages_are_carried, pages_are_messages}
 use Rattle.cell_script.proofs.laws.named_pages_are_carried.Goals as goal
 

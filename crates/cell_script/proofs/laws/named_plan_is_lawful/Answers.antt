@@ -1,3 +1,4 @@
+-- Why the law `named_plan_is_lawful` holds.
 use Rattle.cell_script.proofs.NamedPages.{named_receivable}
 use Rattle.cell_script.proofs.NamedPlans.{named_plan}
 use Rattle.cell_script.proofs.laws.named_plan_is_lawful.Goals as goal

@@ -1,3 +1,4 @@
+-- Why the law `numbers_have_one_spelling` holds.
 use Rattle.cell_script.proofs.ScriptNumerals.{one_numeral, one_signed_numeral}
 use Rattle.cell_script.proofs.laws.numbers_have_one_spelling.Goals as goal
 

@@ -1,3 +1,4 @@
+-- What each pass of the loops in `judged` of `reading` keeps, and why they end.
 use Rattle.cell_script.proofs.Common.{length}
 use Rattle.cell_script.proofs.ScriptReading.{HasRead}
 use Rattle.cell_script.proofs.reading.judged.Given as goal

@@ -1,3 +1,4 @@
+-- Why `traffic_in` of `statements` keeps its contract.
 use Rattle.cell_script.proofs.Common.{refl, sym, ap, ◌∙◌, traffic_in}
 use Rattle.cell_script.proofs.ScriptTables.{traffic_read}
 use Rattle.cell_script.proofs.statements.traffic_in.Goals as goal

@@ -1,3 +1,4 @@
+-- Why `bits_of` of `values` keeps its contract.
 use Rattle.cell_script.proofs.Common.{ℕ, ◌++◌, ap, ◌∙◌, binary}
 use Rattle.cell_script.proofs.ScriptTexts.{octet_added, octet_longer}
 use Rattle.cell_script.proofs.values.bits_of.Goals as goal

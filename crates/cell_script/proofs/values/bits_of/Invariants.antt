@@ -1,3 +1,4 @@
+-- What each pass of the loops in `bits_of` of `values` keeps, and why they end.
 use Rattle.cell_script.proofs.Common.{◌≡◌, ◌*◌, ◌++◌, length, drop, flat_map, binary}
 use Rattle.cell_script.proofs.values.bits_of.Given as goal
 

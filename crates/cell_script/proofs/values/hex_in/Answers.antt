@@ -1,3 +1,4 @@
+-- Why `hex_in` of `values` keeps its contract.
 use Rattle.cell_script.proofs.Common.{sym, ◌∙◌, arith}
 use Rattle.cell_script.proofs.ScriptTexts.{hex_missing, hex_digit_more, hex_read, hex_read_all, few_hex_digits}
 use Rattle.cell_script.proofs.values.hex_in.Goals as goal

@@ -1,3 +1,4 @@
+-- What each pass of the loops in `hex_in` of `values` keeps, and why they end.
 use Rattle.cell_script.proofs.Common.{◌≡◌, ◌<◌, ◌≤◌, ◌^◌, drop, length, hex_from}
 use Rattle.cell_script.proofs.values.hex_in.Given as goal
 

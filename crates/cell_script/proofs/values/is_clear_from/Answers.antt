@@ -1,3 +1,4 @@
+-- Why `is_clear_from` of `values` keeps its contract.
 use Rattle.cell_script.proofs.Common.{false, ◌∙◌, arith, get_or_from_slice_get}
 use Rattle.cell_script.proofs.ScriptTexts.{clear_bit, set_bit}
 use Rattle.cell_script.proofs.values.is_clear_from.Goals as goal

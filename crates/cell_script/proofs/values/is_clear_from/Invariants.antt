@@ -1,3 +1,4 @@
+-- What each pass of the loops in `is_clear_from` of `values` keeps, and why they end.
 use Rattle.cell_script.proofs.Common.{◌≡◌, drop, all_clear}
 use Rattle.cell_script.proofs.values.is_clear_from.Given as goal
 

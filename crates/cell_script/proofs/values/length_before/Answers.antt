@@ -1,3 +1,4 @@
+-- Why `length_before` of `values` keeps its contract.
 use Rattle.cell_script.proofs.Common.{◌∙◌, arith}
 use Rattle.cell_script.proofs.ScriptTexts.{mark_found, mark_later, mark_missing}
 use Rattle.cell_script.proofs.values.length_before.Goals as goal

@@ -1,3 +1,4 @@
+-- What each pass of the loops in `length_before` of `values` keeps, and why they end.
 use Rattle.cell_script.proofs.Common.{◌≡◌, ◌+◌, drop, length_before}
 use Rattle.cell_script.proofs.values.length_before.Given as goal
 

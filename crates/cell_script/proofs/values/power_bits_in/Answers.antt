@@ -1,3 +1,4 @@
+-- Why `power_bits_in` of `values` keeps its contract.
 use Rattle.cell_script.proofs.Common.{sym, ◌∙◌, arith, length-set}
 use Rattle.cell_script.proofs.ScriptTexts.{digit_missing, digit_read, digits_read, not_sixteen, sixteen}
 use Rattle.cell_script.proofs.values.power_bits_in.Goals as goal

@@ -1,3 +1,4 @@
+-- What each pass of the loops in `power_bits_in` of `values` keeps, and why they end.
 use Rattle.cell_script.proofs.Common.{◌≡◌, length}
 use Rattle.cell_script.proofs.ScriptTexts.{AreBits}
 use Rattle.cell_script.proofs.values.power_bits_in.Given as goal

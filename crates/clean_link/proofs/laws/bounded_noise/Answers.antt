@@ -1,3 +1,4 @@
+-- Why the law `bounded_noise` holds.
 use Rattle.clean_link.proofs.noise.Near.{least_bears, less_borne, none_borne, one_margin}
 use Rattle.clean_link.proofs.noise.Rounding.{other_cells}
 use Rattle.clean_link.proofs.frames.ChannelFrames.{noisy_codewords, noisy_frames, noisy_signs, noisy_streams}

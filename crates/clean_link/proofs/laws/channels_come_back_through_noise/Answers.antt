@@ -1,3 +1,4 @@
+-- Why the law `channels_come_back_through_noise` holds.
 use Rattle.clean_link.proofs.frames.ChannelFrames.{noisy_paging_back}
 use Rattle.clean_link.proofs.marks.MarksTrue.{noisy_marked, noisy_marks}
 use Rattle.clean_link.proofs.sendings.Heard.{noisy_sendings}

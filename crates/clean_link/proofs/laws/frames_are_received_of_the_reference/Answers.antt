@@ -1,3 +1,4 @@
+-- Why the law `frames_are_received_of_the_reference` holds.
 use Rattle.clean_link.proofs.traffic.Received.{each_frame_received, frames_behind_mark, frames_show_power_bits, frames_show_symbols}
 use Rattle.clean_link.proofs.traffic.Received.{set_two_back, set_two_behind_mark}
 use Rattle.clean_link.proofs.traffic.Signs.{set_one_sends, set_two_sends}

@@ -1,3 +1,4 @@
+-- Why the law `noisy_frames_are_received` holds.
 use Rattle.clean_link.proofs.traffic.Received.{noisy_received_only_best, noisy_set_two_only_best, noisy_frames_behind_mark}
 use Rattle.clean_link.proofs.traffic.Received.{noisy_frames_received, noisy_set_two_back, noisy_set_two_behind_mark}
 use Rattle.clean_link.proofs.laws.noisy_frames_are_received.Goals as goal

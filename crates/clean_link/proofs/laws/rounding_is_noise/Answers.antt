@@ -1,3 +1,4 @@
+-- Why the law `rounding_is_noise` holds.
 use Rattle.clean_link.proofs.noise.Near.{near-near}
 use Rattle.clean_link.proofs.noise.Rounding.{louder_links, none_same, other_paths, rounding}
 use Rattle.clean_link.proofs.laws.rounding_is_noise.Goals as goal

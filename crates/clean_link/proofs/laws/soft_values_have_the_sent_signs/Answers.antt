@@ -1,3 +1,4 @@
+-- Why the law `soft_values_have_the_sent_signs` holds.
 use Rattle.clean_link.proofs.frames.ChannelFrames.{channel_signs, early_frames, silent_rows, stream_symbols, strength_some, sent_signs}
 use Rattle.clean_link.proofs.frames.ChannelFrames.{zero_without_sync, paging_signs, silent_paging_zero}
 use Rattle.clean_link.proofs.laws.soft_values_have_the_sent_signs.Goals as goal

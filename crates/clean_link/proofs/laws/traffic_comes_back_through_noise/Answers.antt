@@ -1,3 +1,4 @@
+-- Why the law `traffic_comes_back_through_noise` holds.
 use Rattle.clean_link.proofs.traffic.Frames.{noisy_each_frame, noisy_frame_back, noisy_sent_frames, noisy_none_directed, noisy_messages}
 use Rattle.clean_link.proofs.laws.traffic_comes_back_through_noise.Goals as goal
 

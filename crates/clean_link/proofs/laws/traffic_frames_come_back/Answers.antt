@@ -1,3 +1,4 @@
+-- Why the law `traffic_frames_come_back` holds.
 use Rattle.clean_link.proofs.traffic.Signs.{power_bits_back, sixteen_sent, traffic_signs}
 use Rattle.clean_link.proofs.traffic.Frames.{each_frame_heard, frame_back, sent_frames_back, none_directed, sent_messages_back}
 use Rattle.clean_link.proofs.traffic.Steady.{one_pilot_heard}

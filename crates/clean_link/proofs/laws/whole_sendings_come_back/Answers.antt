@@ -1,3 +1,4 @@
+-- Why the law `whole_sendings_come_back` holds.
 use Rattle.clean_link.proofs.sendings.Heard.{sendings_back}
 use Rattle.clean_link.proofs.laws.whole_sendings_come_back.Goals as goal
 

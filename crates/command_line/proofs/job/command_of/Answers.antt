@@ -1,3 +1,4 @@
+-- Why `command_of` of `job` keeps its contract.
 use Rattle.command_line.proofs.Common.{◌≡◌, ◌∙◌, Option, ap, map, option_and_then, refl, string_bytes, sym, IfOk-weaker, CommandEntry}
 use Rattle.command_line.proofs.Common.{command_entry, job_behind, job_by}
 use Rattle.command_line.proofs.job.command_of.Goals as goal

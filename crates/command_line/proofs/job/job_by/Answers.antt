@@ -1,3 +1,4 @@
+-- Why `job_by` of `job` keeps its contract.
 use Rattle.command_line.proofs.Common.{◌≡◌, ◌∙◌, List, [], Option, Some, Err, ap, is_some, map, refl, not, ok_or, rules, string_bytes, sym}
 use Rattle.command_line.proofs.Common.{found_of, Job, Bad, OutOfMemory, OptionEntry, command_entry, given_behind, job_by}
 use Rattle.clap.specs.Words.{first_value}

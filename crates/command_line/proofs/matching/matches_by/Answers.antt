@@ -1,3 +1,4 @@
+-- Why `matches_by` of `matching` keeps its contract.
 use Rattle.command_line.proofs.Common.{◌≡◌, ◌∙◌, map, ap, string_bytes, IfErr-weaker, IfOk-weaker, is_simple, matches_of, App, app_of}
 use Rattle.command_line.proofs.Common.{found_of, entry_of}
 use Rattle.clap.specs.Words.{takes}

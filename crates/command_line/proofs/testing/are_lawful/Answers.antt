@@ -1,3 +1,4 @@
+-- Why `are_lawful` of `testing` keeps its contract.
 use Rattle.command_line.proofs.Common.{◌≡◌, ◌∙◌, ◌<◌, ◌≤◌, None, Some, arith, ap, drop, length, map, refl, string_bytes, sym}
 use Rattle.command_line.proofs.Common.{length-drop, length-map, is_named_in, part_of, entry_of}
 use Rattle.command_line.proofs.ArgTests.{Part, stands_last, stands_missing, stands_next, stands_refused, stands_twice, texts_before}

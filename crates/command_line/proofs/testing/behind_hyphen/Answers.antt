@@ -1,3 +1,4 @@
+-- Why `behind_hyphen` of `testing` keeps its contract.
 use Rattle.command_line.proofs.Common.{arith, strip_prefix_char, strip_byte-from}
 use Rattle.command_line.proofs.testing.behind_hyphen.Goals as goal
 

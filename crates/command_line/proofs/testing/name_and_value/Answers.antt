@@ -1,3 +1,4 @@
+-- Why `name_and_value` of `testing` keeps its contract.
 use Rattle.command_line.proofs.Common.{None, arith, sym, split_parts, name_and_value-without}
 use Rattle.command_line.proofs.testing.name_and_value.Goals as goal
 

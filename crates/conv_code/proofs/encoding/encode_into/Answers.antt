@@ -1,3 +1,4 @@
+-- Why `encode_into` of `encoding` keeps its contract.
 use Rattle.conv_code.proofs.Common.{◌≡◌, ◌+◌, ◌++◌, [], ◌∷◌, take, length, length-append, sym, ap, ◌∙◌, arith, binary, code_symbols}
 use Rattle.conv_code.proofs.Common.{state_after, taken_more}
 use Rattle.conv_code.proofs.Continued.{code_symbols-none, state_after-none}

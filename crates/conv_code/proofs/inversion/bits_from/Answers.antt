@@ -1,3 +1,4 @@
+-- Why `bits_from` of `inversion` keeps its contract.
 use Rattle.conv_code.proofs.Common.{◌≡◌, ◌*◌, ◌+◌, ◌<◌, ◌++◌, Bool, List, false, [], ◌∷◌, take, length, get_or, sym, ap, ◌∙◌, arith}
 use Rattle.conv_code.proofs.Common.{length_push, take_more, get_or_from_slice_get, binary, g0, g1, symbol, code_symbols, state_after}
 use Rattle.conv_code.proofs.Continued.{code_symbols-none, state_after-none}

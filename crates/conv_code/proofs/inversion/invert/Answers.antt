@@ -1,3 +1,4 @@
+-- Why `invert` of `inversion` keeps its contract.
 use Rattle.conv_code.proofs.Common.{◌≡◌, ◌∙◌, ap, sym, List, Bool, binary, length-binary, code_symbols}
 use Rattle.conv_code.proofs.inversion.invert.Goals as goal
 

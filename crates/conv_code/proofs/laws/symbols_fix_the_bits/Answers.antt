@@ -1,3 +1,4 @@
+-- Why the law `symbols_fix_the_bits` holds.
 use Rattle.conv_code.proofs.Distinct.{distinct}
 use Rattle.conv_code.proofs.laws.symbols_fix_the_bits.Goals as goal
 

@@ -1,3 +1,4 @@
+-- Why `append_items` of `items` keeps its contract.
 use Rattle.std.proofs.Common.{◌<◌, ◌++◌, length, get_or, take, [], sym, ap, ◌∙◌, arith}
 use Rattle.std.proofs.lemmas.List.{length-take-le, take_more}
 use Rattle.event_tap.specs.Parts.{commas}

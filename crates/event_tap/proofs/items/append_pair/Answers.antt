@@ -1,3 +1,4 @@
+-- Why `append_pair` of `items` keeps its contract.
 use Rattle.std.proofs.Common.{arith}
 use Rattle.event_tap.proofs.items.append_pair.Goals as goal
 

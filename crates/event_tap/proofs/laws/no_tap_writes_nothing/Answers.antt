@@ -1,3 +1,4 @@
+-- Why the law `no_tap_writes_nothing` holds.
 use Rattle.event_tap.proofs.Runs.{run_text-no_taps}
 use Rattle.event_tap.proofs.laws.no_tap_writes_nothing.Goals as goal
 

@@ -1,3 +1,4 @@
+-- Why `append_channels` of `paging` keeps its contract.
 use Rattle.std.proofs.Common.{length, ap, arith, ◌+◌, ◌≤◌}
 use Rattle.event_tap.proofs.PagingTexts.{small_freqs, most_freqs}
 use Rattle.event_tap.proofs.paging.append_channels.Goals.{After-append_items}

@@ -1,3 +1,4 @@
+-- Why `append_neighbors` of `paging` keeps its contract.
 use Rattle.std.proofs.Common.{length, ap, arith, ◌+◌, ◌≤◌}
 use Rattle.event_tap.proofs.PagingTexts.{most_neighbors}
 use Rattle.event_tap.proofs.paging.append_neighbors.Goals.{After-append_items}

@@ -1,3 +1,4 @@
+-- Why `append_system` of `paging` keeps its contract.
 use Rattle.std.proofs.Common.{List, ℕ, ap, ◌++◌, ◌∙◌}
 use Rattle.std.specs.Prelude.{codes, decimal}
 use Rattle.paging_message.specs.System.{system_names, system_values}

@@ -1,3 +1,4 @@
+-- Why `append_values` of `parts` keeps its contract.
 use Rattle.std.proofs.Common.{length, map, sym, ap, subst, arith}
 use Rattle.std.proofs.lemmas.List.{length-map}
 use Rattle.std.specs.Str.{IsAscii}

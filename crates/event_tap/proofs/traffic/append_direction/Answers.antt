@@ -1,3 +1,4 @@
+-- Why `append_direction` of `traffic` keeps its contract.
 use Rattle.traffic_message.proofs.ByLayout.{search_fits}
 use Rattle.event_tap.proofs.traffic.append_direction.Goals as goal
 

@@ -1,3 +1,4 @@
+-- Why `append_in_traffic` of `traffic` keeps its contract.
 use Rattle.std.proofs.Common.{List, ℕ, ap, append_assoc, codes, ◌++◌, ◌∙◌}
 use Rattle.traffic_message.specs.InTraffic.{in_traffic_values}
 use Rattle.traffic_message.specs.Widths.{in_traffic_names}

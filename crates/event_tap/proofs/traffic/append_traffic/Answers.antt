@@ -1,3 +1,4 @@
+-- Why `append_traffic` of `traffic` keeps its contract.
 use Rattle.std.proofs.Common.{sym, ◌∙◌}
 use Rattle.event_tap.proofs.TrafficTexts.{most_records}
 use Rattle.event_tap.proofs.traffic.append_traffic.Goals as goal

@@ -1,3 +1,4 @@
+-- Why `append_update` of `traffic` keeps its contract.
 use Rattle.event_tap.proofs.TrafficTexts.{small_pilots}
 use Rattle.event_tap.proofs.traffic.append_update.Goals as goal
 

@@ -1,3 +1,4 @@
+-- What each pass of the loops in `best_candidate` of `choice` keeps, and why they end.
 use Rattle.frame_decoder.proofs.Common.{◌≡◌, drop, map, None, candidate_in, rising_choice}
 use Rattle.frame_decoder.proofs.choice.best_candidate.Given as goal
 

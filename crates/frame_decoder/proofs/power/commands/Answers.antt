@@ -1,3 +1,4 @@
+-- Why `commands` of `power` keeps its contract.
 use Rattle.frame_decoder.proofs.Common.{◌<◌, ◌∙◌, ap, ℕ, length, not, false, arith, take, length-set, map-places-all, summed_subchannels}
 use Rattle.frame_decoder.proofs.Common.{is_up}
 use Rattle.frame_decoder.proofs.Common.{power_bit}

@@ -1,3 +1,4 @@
+-- What each pass of the loops in `is_up` of `power` keeps, and why they end.
 use Rattle.frame_decoder.proofs.Common.{◌≡◌, take, is_up}
 use Rattle.frame_decoder.proofs.power.is_up.Given as goal
 

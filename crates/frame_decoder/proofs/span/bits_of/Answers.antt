@@ -1,3 +1,4 @@
+-- Why `bits_of` of `span` keeps its contract.
 use Rattle.frame_decoder.proofs.Common.{◌≡◌, ◌*◌, ℕ, length, take, drop, ap, ◌∙◌, arith, rules, IsBestCodeword, spelled_codeword, Codeword}
 use Rattle.frame_decoder.proofs.Common.{Free}
 use Rattle.frame_decoder.proofs.Common.{channel_of, gathered_span, length-take-le, length-drop}

@@ -1,3 +1,4 @@
+-- Why `gather_span` of `span` keeps its contract.
 use Rattle.frame_decoder.proofs.Common.{rules, ◌≡◌, ◌<◌, ◌≤◌, ◌+◌, ◌*◌, ℕ, length, sym, ap, ◌∙◌, arith, shape_of, size, channel_of}
 use Rattle.frame_decoder.proofs.Parts.{within}
 use Rattle.frame_decoder.proofs.Gathered.{none_gathered, none_small, frame_is, frame_small, one_gathered, one_small}

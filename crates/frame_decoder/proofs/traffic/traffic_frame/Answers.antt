@@ -1,3 +1,4 @@
+-- Why `traffic_frame` of `traffic` keeps its contract.
 use Rattle.frame_decoder.proofs.Common.{rules, to_z-of_z, w64, as_decoded, decoded}
 use Rattle.frame_decoder.proofs.Chosen.{by_formats}
 use Rattle.frame_decoder.proofs.traffic.traffic_frame.Goals as goal

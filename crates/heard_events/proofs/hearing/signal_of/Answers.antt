@@ -1,3 +1,4 @@
+-- Why `signal_of` of `hearing` keeps its contract.
 use Rattle.heard_events.proofs.SignalParts.{signal_long}
 use Rattle.heard_events.proofs.hearing.signal_of.Goals as goal
 

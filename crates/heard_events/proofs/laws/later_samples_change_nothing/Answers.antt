@@ -1,3 +1,4 @@
+-- Why the law `later_samples_change_nothing` holds.
 use Rattle.heard_events.proofs.Causality.{same_events, same_mark}
 use Rattle.heard_events.proofs.laws.later_samples_change_nothing.Goals as goal
 

@@ -1,3 +1,4 @@
+-- Why `power_softs` of `leg_softs` keeps its contract.
 use Rattle.heard_events.proofs.Common.{◌≡◌, ◌∙◌, ℕ, ℤ, List, true, false, take, sym, ap, arith, group_sums, sums_on, has_subchannel}
 use Rattle.heard_events.proofs.Common.{places, Sample}
 use Rattle.heard_events.proofs.LegSubsets.{sums_more, sums_same}

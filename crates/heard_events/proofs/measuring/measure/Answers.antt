@@ -1,3 +1,4 @@
+-- Why `measure` of `measuring` keeps its contract.
 use Rattle.heard_events.proofs.Common.{◌≡◌, ◌<◌, ◌≤◌, ◌++◌, ◌∷◌, [], ◌∙◌, sym, ap, arith, List, map, take, length-append, rules}
 use Rattle.heard_events.proofs.Common.{unsigned_abs, map-append, Strength, pilot_strength, All-push}
 use Rattle.heard_events.proofs.LegLists.{all_at, map_at}

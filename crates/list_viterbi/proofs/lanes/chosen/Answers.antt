@@ -1,3 +1,4 @@
+-- Why `chosen` of `lanes` keeps its contract.
 use Rattle.list_viterbi.proofs.LaneChoices.{chosen_lanes}
 use Rattle.list_viterbi.proofs.lanes.chosen.Goals as goal
 

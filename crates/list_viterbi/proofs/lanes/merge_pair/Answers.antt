@@ -1,3 +1,4 @@
+-- Why `merge_pair` of `lanes` keeps its contract.
 use Rattle.list_viterbi.proofs.Common.{◌≡◌, ℕ, ◌+◌, ◌*◌, List, ℤ, ◌+ℤ◌, ◌-ℤ◌, arith, Heads, four_choices, four_scores, put_choices}
 use Rattle.list_viterbi.proofs.Common.{put_heads}
 use Rattle.list_viterbi.proofs.LaneBlocks.{with_both, chosen_both, pair_lower, pair_upper, pair_others, plus_size, minus_size}

@@ -1,3 +1,4 @@
+-- Why `put` of `lanes` keeps its contract.
 use Rattle.list_viterbi.proofs.Common.{refl, kept}
 use Rattle.list_viterbi.proofs.lanes.put.Goals as goal
 

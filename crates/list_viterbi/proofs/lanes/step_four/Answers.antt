@@ -1,3 +1,4 @@
+-- Why `step_four` of `lanes` keeps its contract.
 use Rattle.list_viterbi.proofs.Common.{◌≡◌, get_or, sym, subst, w64, to_z-of_z, SFits, lane_codes, passed, gain_fits, PairPicked}
 use Rattle.list_viterbi.proofs.LaneGains.{pair_more}
 use Rattle.list_viterbi.proofs.LanePairs.{two_gains, gains_kept, gains_room}

@@ -1,3 +1,4 @@
+-- Why `step` of `picking` keeps its contract.
 use Rattle.list_viterbi.proofs.Common.{◌∙◌, arith, w64, to_z-of_z, length-set, SFits, lane_code_of, HasPicks, picks_into}
 use Rattle.list_viterbi.proofs.StateCodes.{code_small, gain_passed, gain_size}
 use Rattle.list_viterbi.proofs.PickSteps.{gain_room, each_more}

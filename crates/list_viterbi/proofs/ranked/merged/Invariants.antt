@@ -1,3 +1,4 @@
+-- What each pass of the loops in `merged` of `ranked` keeps, and why they end.
 use Rattle.list_viterbi.proofs.Common.{◌≤◌, length}
 use Rattle.list_viterbi.proofs.Walks.{IsPart}
 use Rattle.list_viterbi.proofs.ranked.merged.Given as goal

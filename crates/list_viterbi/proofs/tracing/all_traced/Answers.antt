@@ -1,3 +1,4 @@
+-- Why `all_traced` of `tracing` keeps its contract.
 use Rattle.list_viterbi.proofs.Common.{◌++◌, ◌∷◌, [], ap, ◌∙◌, arith, Entry, entry_at}
 use Rattle.list_viterbi.proofs.Walks.{map_more}
 use Rattle.list_viterbi.proofs.tracing.all_traced.Goals as goal

@@ -1,3 +1,4 @@
+-- Why `ones_below` of `tracing` keeps its contract.
 use Rattle.list_viterbi.proofs.Common.{◌≡◌, ◌∙◌, sym, arith, digit}
 use Rattle.list_viterbi.proofs.BoolBytes.{byte_digit}
 use Rattle.list_viterbi.proofs.Masks.{ones_none, ones_next, digit_most}

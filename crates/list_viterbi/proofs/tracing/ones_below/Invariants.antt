@@ -1,3 +1,4 @@
+-- What each pass of the loops in `ones_below` of `tracing` keeps, and why they end.
 use Rattle.list_viterbi.proofs.Common.{◌≡◌, ◌≤◌, ones_below}
 use Rattle.list_viterbi.proofs.tracing.ones_below.Given as goal
 

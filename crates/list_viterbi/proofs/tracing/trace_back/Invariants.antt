@@ -1,3 +1,4 @@
+-- What each pass of the loops in `trace_back` of `tracing` keeps, and why they end.
 use Rattle.list_viterbi.proofs.Common.{◌≡◌, ◌-◌, ◌<◌, ◌++◌, length, drop, list_path, list_origin}
 use Rattle.list_viterbi.proofs.tracing.trace_back.Given as goal
 

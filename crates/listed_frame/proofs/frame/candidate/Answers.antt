@@ -1,3 +1,4 @@
+-- Why `candidate` of `frame` keeps its contract.
 use Rattle.std.proofs.Common.{◌<◌, Some, sym, ap, ◌∙◌, arith, length, rules, FitsSigned}
 use Rattle.std.specs.Int.{w64}
 use Rattle.std.proofs.lemmas.Int.{to_z-of_z}

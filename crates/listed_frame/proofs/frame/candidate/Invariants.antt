@@ -1,3 +1,4 @@
+-- What each pass of the loops in `candidate` of `frame` keeps, and why they end.
 use Rattle.std.proofs.Common.{◌≡◌, drop}
 use Rattle.std.specs.List.{find}
 use Rattle.frame_decoder.specs.Formats.{is_right}

@@ -1,3 +1,4 @@
+-- Why the law `chips_follow` holds.
 use Rattle.long_code.proofs.Chips.{long_chip-after}
 use Rattle.long_code.proofs.laws.chips_follow.Goals as goal
 

@@ -1,3 +1,4 @@
+-- Why the law `division_goes_back` holds.
 use Rattle.long_code.proofs.Before.{after-before}
 use Rattle.long_code.proofs.Period.{IsState-before}
 use Rattle.long_code.proofs.laws.division_goes_back.Goals as goal

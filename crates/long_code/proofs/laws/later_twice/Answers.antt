@@ -1,3 +1,4 @@
+-- Why the law `later_twice` holds.
 use Rattle.long_code.proofs.After.{after-after}
 use Rattle.long_code.proofs.laws.later_twice.Goals as goal
 

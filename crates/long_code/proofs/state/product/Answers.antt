@@ -1,3 +1,4 @@
+-- Why `product` of `state` keeps its contract.
 use Rattle.long_code.proofs.Common.{◌≡◌, ◌-◌, ◌/◌, ◌^◌, ℕ, true, false, sym, ap, ◌∙◌, arith, eq-eqb, bit_and, bit_xor, ne_eqb, xor_lt}
 use Rattle.long_code.proofs.Common.{after}
 use Rattle.long_code.proofs.Product.{after-zero, product_more}

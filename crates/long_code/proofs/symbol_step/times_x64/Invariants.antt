@@ -1,3 +1,4 @@
+-- What each pass of the loops in `times_x64` of `symbol_step` keeps, and why they end.
 use Rattle.long_code.proofs.Common.{◌≡◌, ◌*◌, ◌/◌, ◌%◌, ◌^◌, after}
 use Rattle.long_code.proofs.symbol_step.times_x64.Given as goal
 

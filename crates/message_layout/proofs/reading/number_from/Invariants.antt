@@ -1,3 +1,4 @@
+-- What each pass of the loops in `number_from` of `reading` keeps, and why they end.
 use Rattle.message_layout.proofs.Common.{◌≡◌, ◌<◌, ◌^◌, take, drop, number}
 use Rattle.message_layout.proofs.reading.number_from.Given as goal
 

@@ -1,3 +1,4 @@
+-- Why `read_parts` of `reading` keeps its contract.
 use Rattle.message_layout.proofs.Common.{drop, length, arith, length-map, shape}
 use Rattle.message_layout.proofs.Lawful.{count_below, lawful}
 use Rattle.message_layout.proofs.Parts.{octets_left}

@@ -1,3 +1,4 @@
+-- Why `read_places` of `reading` keeps its contract.
 use Rattle.message_layout.proofs.Common.{◌+◌, length, refl, arith}
 use Rattle.message_layout.proofs.Loops.{place_within, places_few, places_more}
 use Rattle.message_layout.proofs.reading.read_places.Goals as goal

@@ -1,3 +1,4 @@
+-- Why `read_records` of `reading` keeps its contract.
 use Rattle.message_layout.proofs.Common.{map, refl, arith}
 use Rattle.message_layout.proofs.Loops.{records_end}
 use Rattle.message_layout.proofs.reading.read_records.Goals as goal

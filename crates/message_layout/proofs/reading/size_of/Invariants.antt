@@ -1,3 +1,4 @@
+-- What each pass of the loops in `size_of` of `reading` keeps, and why they end.
 use Rattle.message_layout.proofs.Common.{map}
 use Rattle.message_layout.proofs.Loops.{Summed}
 use Rattle.message_layout.proofs.reading.size_of.Given as goal

@@ -1,3 +1,4 @@
+-- Why `append` of `writing` keeps its contract.
 use Rattle.message_layout.proofs.Common.{arith, length-map, shape}
 use Rattle.message_layout.proofs.Lawful.{lawful}
 use Rattle.message_layout.proofs.Written.{fixed_bits, group_bits, length-spelling, longer, octets_of, record_bits, written}

@@ -1,3 +1,4 @@
+-- Why `append_group` of `writing` keeps its contract.
 use Rattle.message_layout.proofs.Common.{length, map}
 use Rattle.message_layout.proofs.Written.{flagged_room}
 use Rattle.message_layout.proofs.writing.append_group.Goals as goal

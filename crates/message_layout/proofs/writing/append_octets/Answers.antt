@@ -1,3 +1,4 @@
+-- Why `append_octets` of `writing` keeps its contract.
 use Rattle.message_layout.proofs.Common.{length, ap, arith, length-append, binary, length-binary}
 use Rattle.message_layout.proofs.Parts.{length-octets}
 use Rattle.message_layout.proofs.writing.append_octets.Goals as goal

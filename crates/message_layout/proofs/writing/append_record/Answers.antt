@@ -1,3 +1,4 @@
+-- Why `append_record` of `writing` keeps its contract.
 use Rattle.message_layout.proofs.Common.{◌≡◌, ◌≤◌, ◌++◌, length, get_or, map, take, sym, ap, ◌∙◌, arith, length-append, length-map, binary}
 use Rattle.message_layout.proofs.Common.{spelled, in_widths, fit_value, written_more, height, record_at}
 use Rattle.message_layout.proofs.Columns.{number_in_record, number_room, sent_all, three_long}

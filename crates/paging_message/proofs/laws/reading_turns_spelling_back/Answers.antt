@@ -1,3 +1,4 @@
+-- Why the law `reading_turns_spelling_back` holds.
 use Rattle.paging_message.proofs.Common.{ap, ◌∙◌, body_reading, paging_reading}
 use Rattle.paging_message.proofs.Readings.{body_is_read, capsule_is_read, reads_body, reads_capsule}
 use Rattle.paging_message.proofs.laws.reading_turns_spelling_back.Goals as goal

@@ -1,3 +1,4 @@
+-- Why the law `spelling_has_one_message` holds.
 use Rattle.paging_message.proofs.Common.{◌≡◌, Some, sym, ap, ◌∙◌, paging_reading}
 use Rattle.paging_message.proofs.Readings.{reads_capsule}
 use Rattle.paging_message.proofs.laws.spelling_has_one_message.Goals as goal

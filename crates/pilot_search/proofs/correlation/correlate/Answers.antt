@@ -1,3 +1,4 @@
+-- Why `correlate` of `correlation` keeps its contract.
 use Rattle.pilot_search.proofs.Common.{◌∙◌, arith, ap, List, ℤ, ints, plus, Sample, correlation_with}
 use Rattle.pilot_search.proofs.CorrelationSums.{plus_is}
 use Rattle.pilot_search.proofs.correlation.correlate.Goals as goal

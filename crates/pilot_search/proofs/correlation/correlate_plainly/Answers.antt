@@ -1,3 +1,4 @@
+-- Why `correlate_plainly` of `correlation` keeps its contract.
 use Rattle.pilot_search.proofs.Common.{rules, ◌<◌, arith, length, ◌∙◌, sym, ints}
 use Rattle.pilot_search.proofs.CorrelationSums.{correlation_with-more, correlation_with-all}
 use Rattle.pilot_search.proofs.correlation.correlate_plainly.Goals as goal

@@ -1,3 +1,4 @@
+-- Why `correlation_at` of `correlation` keeps its contract.
 use Rattle.pilot_search.proofs.Common.{◌≡◌, ◌≤◌, ◌∙◌, arith, rules, ap, take, drop, length, ints, All-drop, plus, Pair, pilot_signs}
 use Rattle.pilot_search.proofs.Common.{correlation_with, IsUnit, List, ℕ, ℤ, Sample}
 use Rattle.pilot_search.proofs.CorrelationSums.{all_before, parted, plus_is, units}

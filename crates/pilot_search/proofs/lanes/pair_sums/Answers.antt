@@ -1,3 +1,4 @@
+-- Why `pair_sums` of `lanes` keeps its contract.
 use Rattle.pilot_search.proofs.Common.{eight}
 use Rattle.pilot_search.proofs.LaneLemmas.{lane}
 use Rattle.pilot_search.proofs.lanes.pair_sums.Goals as goal

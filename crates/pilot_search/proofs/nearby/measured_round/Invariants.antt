@@ -1,3 +1,4 @@
+-- What each pass of the loops in `measured_round` of `nearby` keeps, and why they end.
 use Rattle.pilot_search.proofs.Common.{IsRound}
 use Rattle.pilot_search.proofs.nearby.measured_round.Given as goal
 

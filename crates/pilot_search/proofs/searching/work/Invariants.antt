@@ -1,3 +1,4 @@
+-- What each pass of the loops in `work` of `searching` keeps, and why they end.
 use Rattle.pilot_search.proofs.Common.{◌≡◌, ◌+◌, ◌≤◌, IsFound, greatest, IsHeld}
 use Rattle.pilot_search.proofs.searching.work.Given as goal
 

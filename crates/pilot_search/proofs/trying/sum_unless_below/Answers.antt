@@ -1,3 +1,4 @@
+-- Why `sum_unless_below` of `trying` keeps its contract.
 use Rattle.pilot_search.proofs.Common.{◌≡◌, ◌≤◌, ◌+◌, ◌*◌, ◌-◌, ◌%◌, ◌∙◌, ℕ, List, arith, ap, refl, take, drop, length, ints}
 use Rattle.pilot_search.proofs.Common.{length-drop, length-take-le, drop-drop, Sample, phase_correlation}
 use Rattle.pilot_search.proofs.BoundLemmas.{none_added, sum_more}

@@ -1,3 +1,4 @@
+-- What each pass of the loops in `sum_unless_below` of `trying` keeps, and why they end.
 use Rattle.pilot_search.proofs.Common.{◌≡◌, ◌+◌, ◌*◌, ◌-◌, ◌≤◌, length, drop, IsSumOf}
 use Rattle.pilot_search.proofs.trying.sum_unless_below.Given as goal
 

@@ -1,3 +1,4 @@
+-- Why `named_pilots` of `directing` keeps its contract.
 use Rattle.pilot_sets.proofs.Common.{◌<◌, length, arith}
 use Rattle.pilot_sets.proofs.NamedPilots.{named_more, length_more}
 use Rattle.pilot_sets.proofs.directing.named_pilots.Goals as goal

@@ -1,3 +1,4 @@
+-- Why `repeated` of `directing` keeps its contract.
 use Rattle.pilot_sets.proofs.Common.{◌+◌, ◌∷◌, [], drop, sym, ◌∙◌, arith, ap, length-append, first_repeated}
 use Rattle.pilot_sets.proofs.Firsts.{repeated_here, repeated_more}
 use Rattle.pilot_sets.specs.Pilots.{has as has_pilot}

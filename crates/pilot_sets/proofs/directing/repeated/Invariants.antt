@@ -1,3 +1,4 @@
+-- What each pass of the loops in `repeated` of `directing` keeps, and why they end.
 use Rattle.pilot_sets.proofs.Common.{◌≡◌, [], drop, length, first_repeated}
 use Rattle.pilot_sets.proofs.directing.repeated.Given as goal
 

@@ -1,3 +1,4 @@
+-- Why `unknown_row` of `directing` keeps its contract.
 use Rattle.pilot_sets.proofs.Common.{sym, ◌∙◌, arith, is_unknown_row}
 use Rattle.pilot_sets.proofs.Firsts.{find_here, find_more}
 use Rattle.pilot_sets.proofs.directing.unknown_row.Goals as goal

@@ -1,3 +1,4 @@
+-- What each pass of the loops in `named_pilots` of `handoff` keeps, and why they end.
 use Rattle.pilot_sets.proofs.Common.{◌≡◌, take, pilots_named}
 use Rattle.pilot_sets.proofs.handoff.named_pilots.Given as goal
 

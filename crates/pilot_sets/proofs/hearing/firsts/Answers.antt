@@ -1,3 +1,4 @@
+-- Why `firsts` of `hearing` keeps its contract.
 use Rattle.pilot_sets.proofs.Common.{◌<◌, ◌∷◌, [], length, sym, ◌∙◌, arith, ap, length-append}
 use Rattle.pilot_sets.proofs.Firsts.{firsts_new, firsts_old}
 use Rattle.pilot_sets.proofs.hearing.firsts.Goals.{then-not-has, else-not-has}

@@ -1,3 +1,4 @@
+-- Why `free_pilots` of `hearing` keeps its contract.
 use Rattle.pilot_sets.proofs.Common.{sym, ◌∙◌, ap, not, lacks, timed_pilots}
 use Rattle.pilot_sets.proofs.Within.{filtered_hit, filtered_miss}
 use Rattle.pilot_sets.proofs.hearing.free_pilots.Goals.{then-not-has_timer, else-not-has_timer}

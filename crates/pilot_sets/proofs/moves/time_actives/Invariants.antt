@@ -1,3 +1,4 @@
+-- What each pass of the loops in `time_actives` of `moves` keeps, and why they end.
 use Rattle.pilot_sets.proofs.Common.{◌≡◌, take, map, energy_in, active_timed}
 use Rattle.pilot_sets.proofs.moves.time_actives.Given as goal
 

@@ -1,3 +1,4 @@
+-- What each pass of the loops in `energy_of` of `strengths` keeps, and why they end.
 use Rattle.pilot_sets.proofs.Common.{◌≡◌, drop, energy_in}
 use Rattle.pilot_sets.proofs.strengths.energy_of.Given as goal
 

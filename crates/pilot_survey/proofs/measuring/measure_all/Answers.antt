@@ -1,3 +1,4 @@
+-- Why `measure_all` of `measuring` keeps its contract.
 use Rattle.std.proofs.Common.{length, arith}
 use Rattle.pilot_survey.specs.Survey.{surveyed}
 use Rattle.pilot_survey.proofs.Parts.{filled}

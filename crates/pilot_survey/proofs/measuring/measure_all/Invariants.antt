@@ -1,3 +1,4 @@
+-- What each pass of the loops in `measure_all` of `measuring` keeps, and why they end.
 use Rattle.std.proofs.Common.{◌≡◌, ◌+◌, ◌<◌, ℕ, length, get_or}
 use Rattle.pilot_survey.specs.Survey.{surveyed}
 use Rattle.pilot_survey.specs.declared.rank.Rank.{Rank}

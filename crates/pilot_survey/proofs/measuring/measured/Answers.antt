@@ -1,3 +1,4 @@
+-- Why `measured` of `measuring` keeps its contract.
 use Rattle.std.proofs.Common.{◌≡◌, ◌+◌, ◌*◌, ℕ, ℤ, pos, ◌-ℤ◌, to_z, of_z, w8, arith, subst}
 use Rattle.std.proofs.lemmas.Int.{ints}
 use Rattle.chip_core.specs.Sums.{IsFirstGreatest}

@@ -1,3 +1,4 @@
+-- What each pass of the loops in `measured` of `measuring` keeps, and why they end.
 use Rattle.std.proofs.Common.{◌≡◌, ℕ, pos}
 use Rattle.chip_core.specs.Sums.{IsFirstGreatest}
 use Rattle.pilot_search.specs.Search.{energy}

@@ -1,3 +1,4 @@
+-- Why `body_count` of `capsule` keeps its contract.
 use Rattle.std.proofs.Common.{◌≡◌, ◌-◌, Ok, length, ap, subst, sym, ◌∙◌, take, drop, ℕ, arith}
 use Rattle.chip_core.specs.Bits.{number}
 use Rattle.quality_bits.specs.Kinds.{generator_of, IsChecked}

@@ -1,3 +1,4 @@
+-- Why `body_of` of `capsule` keeps its contract.
 use Rattle.std.proofs.Common.{◌≡◌, ◌-◌, Ok, length, ap, ◌∙◌, take, drop, ℕ, arith}
 use Rattle.quality_bits.specs.Kinds.{generator_of}
 use Rattle.quality_bits.proofs.Wholes.{inner, inner-capsule, length-capsule}

@@ -1,3 +1,4 @@
+-- Why `capsule_of` of `capsule` keeps its contract.
 use Rattle.std.proofs.Common.{◌≡◌, ◌++◌, ap, ◌∙◌, List, Bool, arith, length-append, rules}
 use Rattle.chip_core.specs.Bits.{binary}
 use Rattle.chip_core.proofs.FieldLists.{length-binary}

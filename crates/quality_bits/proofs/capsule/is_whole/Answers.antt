@@ -1,3 +1,4 @@
+-- Why `is_whole` of `capsule` keeps its contract.
 use Rattle.std.proofs.Common.{sym, ◌∙◌}
 use Rattle.std.proofs.lemmas.Bool.{eqb-true, eq-eqb}
 use Rattle.quality_bits.proofs.Opened.{stated_bounds, stated_from}

@@ -1,3 +1,4 @@
+-- Why `append_check` of `checking` keeps its contract.
 use Rattle.std.proofs.Common.{◌≡◌, ◌++◌, take, ap, ◌∙◌, List, Bool, arith}
 use Rattle.std.proofs.lemmas.List.{take_all}
 use Rattle.chip_core.specs.Bits.{number}

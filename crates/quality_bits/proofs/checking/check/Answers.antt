@@ -1,3 +1,4 @@
+-- Why `check` of `checking` keeps its contract.
 use Rattle.std.proofs.Common.{◌≡◌, ◌-◌, take, drop, length, ap, ◌∙◌, arith, ℕ}
 use Rattle.std.proofs.lemmas.List.{length-drop}
 use Rattle.chip_core.specs.Bits.{number}

@@ -1,3 +1,4 @@
+-- Why `number_from` of `checking` keeps its contract.
 use Rattle.std.proofs.Common.{◌≡◌, ◌+◌, ◌-◌, ◌*◌, ◌<◌, ◌^◌, Some, sym, ap, ◌∙◌, arith}
 use Rattle.std.specs.List.{slice_get}
 use Rattle.chip_core.specs.Bits.{digit}

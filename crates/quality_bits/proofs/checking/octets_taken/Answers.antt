@@ -1,3 +1,4 @@
+-- Why `octets_taken` of `checking` keeps its contract.
 use Rattle.std.proofs.Common.{◌≡◌, ◌+◌, ◌*◌, take, arith}
 use Rattle.quality_bits.proofs.checking.octets_taken.Goals as goal
 

@@ -1,3 +1,4 @@
+-- Why `sent_after` of `checking` keeps its contract.
 use Rattle.std.proofs.Common.{◌≡◌, ◌+◌, ◌≤◌, ◌<◌, ◌^◌, take, length, sym, ◌∙◌, arith, map, not}
 use Rattle.std.proofs.Math.Pow.{pow_mono}
 use Rattle.chip_core.specs.Bits.{number}

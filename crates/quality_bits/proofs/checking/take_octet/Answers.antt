@@ -1,3 +1,4 @@
+-- Why `take_octet` of `checking` keeps its contract.
 use Rattle.std.proofs.Common.{◌≡◌, ◌+◌, take, arith}
 use Rattle.chip_core.proofs.BitLists.{taken_more}
 use Rattle.quality_bits.proofs.checking.take_octet.Goals as goal

@@ -1,3 +1,4 @@
+-- Why `taken` of `checking` keeps its contract.
 use Rattle.std.proofs.Common.{take}
 use Rattle.chip_core.proofs.BitLists.{taken_more}
 use Rattle.quality_bits.proofs.checking.taken.Goals as goal

@@ -1,3 +1,4 @@
+-- Why `combine_into` of `combining` keeps its contract.
 use Rattle.std.proofs.Common.{length, arith}
 use Rattle.std.proofs.lemmas.List.{take_all}
 use Rattle.rake_finger.proofs.Adding.{IsSummed-more, softs_are, sum_within}

@@ -1,3 +1,4 @@
+-- What each pass of the loops in `combine_into` of `combining` keeps, and why they end.
 use Rattle.rake_finger.proofs.Adding.{IsSummed}
 use Rattle.rake_finger.proofs.combining.combine_into.Given as goal
 

@@ -1,3 +1,4 @@
+-- Why `sums_on_lanes` of `lanes` keeps its contract.
 use Rattle.std.proofs.Common.{◌≤◌, ◌+◌, ◌*◌, ◌/◌, arith, length}
 use Rattle.pilot_search.proofs.LaneLemmas.{kept}
 use Rattle.pilot_search.proofs.LaneSums.{kept_near, products_kept, products_near, sums_kept, sums_whole}

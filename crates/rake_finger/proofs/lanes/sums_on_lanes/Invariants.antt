@@ -1,3 +1,4 @@
+-- What each pass of the loops in `sums_on_lanes` of `lanes` keeps, and why they end.
 use Rattle.std.proofs.Common.{map, to_z, w32}
 use Rattle.pilot_search.specs.Lanes.{AreSums}
 use Rattle.rake_finger.specs.RowSigns.{covered_signs}

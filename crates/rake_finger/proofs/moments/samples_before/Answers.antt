@@ -1,3 +1,4 @@
+-- Why `samples_before` of `moments` keeps its contract.
 use Rattle.std.proofs.Common.{◌≡◌, ◌+◌, ◌-◌, ◌<◌, length, get_or, drop, refl, ◌∙◌, arith, length-drop, pos}
 use Rattle.std.proofs.lemmas.Int.{ints}
 use Rattle.std.proofs.lemmas.List.{get_or-drop, length-replicate, length-set}

@@ -1,3 +1,4 @@
+-- What each pass of the loops in `samples_before` of `moments` keeps, and why they end.
 use Rattle.std.proofs.Common.{◌≡◌, ◌+◌, ◌-◌, ◌%◌, ◌<◌, List, length, take, drop}
 use Rattle.std.specs.List.{All}
 use Rattle.chip_core.specs.declared.sample.Sample.{Sample}

@@ -1,3 +1,4 @@
+-- Why `strength` of `strengths` keeps its contract.
 use Rattle.std.proofs.Common.{◌≡◌, ◌+◌, ◌-◌, ◌/◌, ◌<◌, List, ap, ◌∙◌, arith, pos, ◌-ℤ◌, to_z, of_z, w16}
 use Rattle.std.proofs.lemmas.Int.{ints}
 use Rattle.chip_core.specs.declared.sample.Sample.{Sample}

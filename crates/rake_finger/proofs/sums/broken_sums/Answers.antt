@@ -1,3 +1,4 @@
+-- Why `broken_sums` of `sums` keeps its contract.
 use Rattle.std.proofs.Common.{ap, ◌∙◌}
 use Rattle.chip_core.specs.Complex.{sum_of}
 use Rattle.rake_finger.specs.Soft.{despread_at}

@@ -1,3 +1,4 @@
+-- Why `covered_sum` of `sums` keeps its contract.
 use Rattle.std.proofs.Common.{◌≡◌, ◌+◌, ◌%◌, ℕ, Bool, ap, ◌∙◌, arith, pos}
 use Rattle.std.proofs.lemmas.Int.{ints}
 use Rattle.chip_core.specs.Bits.{sign}

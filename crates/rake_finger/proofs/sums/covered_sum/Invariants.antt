@@ -1,3 +1,4 @@
+-- What each pass of the loops in `covered_sum` of `sums` keeps, and why they end.
 use Rattle.std.proofs.Common.{◌≡◌, ◌+◌, ◌*◌, ◌%◌, ◌<◌, ◌≤◌, List, take, drop}
 use Rattle.std.specs.Prelude.{unsigned_abs}
 use Rattle.chip_core.specs.Complex.{sum_of}

@@ -1,3 +1,4 @@
+-- Why `symbol_sums` of `sums` keeps its contract.
 use Rattle.std.proofs.Common.{arith}
 use Rattle.rake_finger.proofs.sums.symbol_sums.Goals as goal
 

@@ -1,3 +1,4 @@
+-- Why `unbroken_sums` of `sums` keeps its contract.
 use Rattle.std.proofs.Common.{◌≡◌, ◌+◌, ◌≤◌, ◌∙◌, ap, arith, drop, length, take}
 use Rattle.std.proofs.lemmas.List.Elements.{All-drop}
 use Rattle.short_code.specs.Despread.{IsUnit}

@@ -1,3 +1,4 @@
+-- Why `product` of `values` keeps its contract.
 use Rattle.rake_finger.proofs.SoftValues.{product_is, product_most}
 use Rattle.rake_finger.proofs.values.product.Goals as goal
 

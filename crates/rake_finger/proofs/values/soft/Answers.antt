@@ -1,3 +1,4 @@
+-- Why `soft` of `values` keeps its contract.
 use Rattle.std.proofs.Common.{◌≡◌, ◌+◌, ◌*◌, ◌/◌, ◌≤◌, ℕ, ap, ◌∙◌, arith, to_z, of_z, w64, unsigned_abs}
 use Rattle.std.proofs.lemmas.Int.{ints}
 use Rattle.chip_core.specs.declared.sample.Pair.{Pair}

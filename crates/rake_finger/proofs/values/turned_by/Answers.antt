@@ -1,3 +1,4 @@
+-- Why `turned_by` of `values` keeps its contract.
 use Rattle.std.proofs.Common.{◌≡◌, ◌*◌, ◌∙◌, arith, ◌*ℤ◌, unsigned_abs}
 use Rattle.std.proofs.lemmas.Int.{ints, to_z-of_z}
 use Rattle.rake_finger.proofs.SoftValues.{turned_part-is}

@@ -1,3 +1,4 @@
+-- What each pass of the loops in `window_sums` of `windows` keeps, and why they end.
 use Rattle.std.proofs.Common.{◌≡◌, ◌+◌, ◌*◌, ◌<◌, ◌≤◌, ℕ, List, get_or, length}
 use Rattle.std.specs.Prelude.{unsigned_abs}
 use Rattle.chip_core.specs.Complex.{origin}

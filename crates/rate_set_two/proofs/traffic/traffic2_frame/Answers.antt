@@ -1,3 +1,4 @@
+-- Why `traffic2_frame` of `traffic` keeps its contract.
 use Rattle.std.proofs.Common.{rules}
 use Rattle.std.specs.Int.{w64}
 use Rattle.std.proofs.lemmas.Int.{to_z-of_z}

@@ -1,3 +1,4 @@
+-- What each pass of the loops in `decode` of `decoder_timing_tests` keeps, and why they end.
 use Rattle.std.proofs.Common.{◌≡◌}
 use Rattle.receiver_tests.proofs.decoder_timing_tests.decode.Given as goal
 

@@ -1,3 +1,4 @@
+-- Why `reference_fingers` of `fingers` keeps its contract.
 use Rattle.reception.proofs.Common.{◌≡◌, ◌<◌, ◌++◌, ◌∷◌, [], ◌∙◌, sym, ap, arith, rules, length, length-append, pos, take, get_or, ℤ}
 use Rattle.reception.proofs.Common.{to_z-of_z, SFits, w8, all_near, has_reference, have_rows, finger_of, fingers_of}
 use Rattle.reception.proofs.FingerLists.{near_more, reference_more, rows_more, fingers_more}

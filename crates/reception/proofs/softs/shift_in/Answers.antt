@@ -1,3 +1,4 @@
+-- Why `shift_in` of `softs` keeps its contract.
 use Rattle.reception.proofs.Common.{◌≡◌, ◌≤◌, ℕ, [], ◌++◌, ◌-◌, length, take, drop, refl, ap, subst, sym, ◌∙◌, arith, length-drop}
 use Rattle.reception.proofs.Common.{length-append, length-take, take_at, drop_all, post_of, AreSmall}
 use Rattle.std.proofs.lemmas.List.{append-nil}

@@ -1,3 +1,4 @@
+-- Why `unscramble` of `softs` keeps its contract.
 use Rattle.reception.proofs.Common.{◌≡◌, ◌<◌, ℕ, ◌∙◌, ap, arith, rules, ℤ, length, get_or, pos, false, ◌*ℤ◌, unsigned_abs, to_z-of_z}
 use Rattle.reception.proofs.Common.{sum_by-set, SFits, w64, sign}
 use Rattle.reception.proofs.Descrambled.{descrambled_more}

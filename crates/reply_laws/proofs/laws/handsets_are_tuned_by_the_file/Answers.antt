@@ -1,3 +1,4 @@
+-- Why the law `handsets_are_tuned_by_the_file` holds.
 use Rattle.owed_replies.proofs.TuningLaw.{handsets_tuned, on_plans_path}
 use Rattle.reply_laws.proofs.laws.handsets_are_tuned_by_the_file.Goals as goal
 

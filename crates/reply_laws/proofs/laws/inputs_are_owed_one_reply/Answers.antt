@@ -1,3 +1,4 @@
+-- Why the law `inputs_are_owed_one_reply` holds.
 use Rattle.owed_replies.proofs.Replies.{one_reply}
 use Rattle.reply_laws.proofs.laws.inputs_are_owed_one_reply.Goals as goal
 

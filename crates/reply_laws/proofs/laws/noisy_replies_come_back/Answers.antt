@@ -1,3 +1,4 @@
+-- Why the law `noisy_replies_come_back` holds.
 use Rattle.reply_laws.proofs.NoisyReplies.{noisy_follow, noisy_idle, noisy_list, noisy_rate2, noisy_undirected}
 use Rattle.reply_laws.proofs.laws.noisy_replies_come_back.Goals as goal
 

@@ -1,3 +1,4 @@
+-- Why the law `rate2_owes_the_frames` holds.
 use Rattle.reply_laws.proofs.Owed.{rate2_owes}
 use Rattle.reply_laws.proofs.laws.rate2_owes_the_frames.Goals as goal
 

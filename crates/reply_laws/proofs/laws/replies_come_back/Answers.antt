@@ -1,3 +1,4 @@
+-- Why the law `replies_come_back` holds.
 use Rattle.reply_laws.proofs.SentReplies.{list_replies, rate2_replies}
 use Rattle.reply_laws.proofs.SlotReplies.{idle_replies}
 use Rattle.reply_laws.proofs.laws.replies_come_back.Goals as goal

@@ -1,3 +1,4 @@
+-- Why `append_all` of `frames` keeps its contract.
 use Rattle.std.proofs.Common.{append_assoc}
 use Rattle.chip_core.proofs.FieldLists.{bits_more}
 use Rattle.slot_mode.proofs.frames.append_all.Goals as goal

@@ -1,3 +1,4 @@
+-- Why `codeword` of `encoding_two` keeps its contract.
 use Rattle.symbol_path.proofs.Common.{◌++◌, length, ap, ◌∙◌, arith, Plain, sent_check}
 use Rattle.quality_bits.specs.declared.kind.Kind.{Kind}
 use Rattle.symbol_path.proofs.CodewordsTwo.{bits_most, length-checked, length-codeword_bits, tailed}

@@ -1,3 +1,4 @@
+-- Why `encode2_into` of `encoding_two` keeps its contract.
 use Rattle.symbol_path.proofs.Common.{length, ap, ◌∙◌, arith, binary, sent2, codeword_bits}
 use Rattle.symbol_path.proofs.CodewordsTwo.{bits_most, length-codeword_symbols, coded_from_zero}
 use Rattle.symbol_path.proofs.encoding_two.encode2_into.Goals as goal

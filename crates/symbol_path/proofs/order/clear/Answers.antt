@@ -1,3 +1,4 @@
+-- Why `clear` of `order` keeps its contract.
 use Rattle.symbol_path.proofs.Common.{pos, arith, ⊎_elim, cases_lt, get_or_past}
 use Rattle.symbol_path.proofs.Gathering.{sizes_none}
 use Rattle.symbol_path.proofs.order.clear.Goals as goal

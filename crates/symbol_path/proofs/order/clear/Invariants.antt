@@ -1,3 +1,4 @@
+-- What each pass of the loops in `clear` of `order` keeps, and why they end.
 use Rattle.symbol_path.proofs.Common.{◌≡◌, pos, ℕ, ◌<◌, get_or}
 use Rattle.symbol_path.proofs.order.clear.Given as goal
 

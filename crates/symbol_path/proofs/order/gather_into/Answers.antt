@@ -1,3 +1,4 @@
+-- Why `gather_into` of `order` keeps its contract.
 use Rattle.symbol_path.proofs.Common.{◌≡◌, ◌<◌, ◌*◌, ◌/◌, ℕ, arith, pos, get_or, length, sym, ap, ◌∙◌, shape_of, size, address, code_symbol}
 use Rattle.symbol_path.proofs.Interleaving.{symbol_lt, size_some, count_is}
 use Rattle.symbol_path.proofs.Gathering.{part-none, part, turn, turn_sizes, sum_has_room, added_fits, gathered_all}

@@ -1,3 +1,4 @@
+-- What each pass of the loops in `gather_into` of `order` keeps, and why they end.
 use Rattle.symbol_path.proofs.Common.{◌≡◌, ◌≤◌, ◌/◌, ℕ, get_or, take, pos, sum_by, unsigned_abs, shape_of, address}
 use Rattle.symbol_path.proofs.Gathering.{part}
 use Rattle.symbol_path.proofs.order.gather_into.Given as goal

@@ -1,3 +1,4 @@
+-- Why `place_into` of `order` keeps its contract.
 use Rattle.symbol_path.proofs.Common.{◌≡◌, ◌/◌, ℕ, arith, get_or, false, map, length, sym, ap, ◌∙◌, get_or_from_slice_get, places}
 use Rattle.symbol_path.proofs.Common.{places-none, map-places-more, length-map-places, shape_of, size, address, sent_by}
 use Rattle.symbol_path.proofs.Interleaving.{size_most}

@@ -1,3 +1,4 @@
+-- What each pass of the loops in `place_into` of `order` keeps, and why they end.
 use Rattle.symbol_path.proofs.Common.{◌≡◌, ◌/◌, map, get_or, false, places, shape_of, address}
 use Rattle.symbol_path.proofs.order.place_into.Given as goal
 

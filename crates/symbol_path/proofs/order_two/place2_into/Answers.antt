@@ -1,3 +1,4 @@
+-- Why `place2_into` of `order_two` keeps its contract.
 use Rattle.symbol_path.proofs.Common.{◌≡◌, ℕ, Bool, arith, get_or, false, map, length, sym, ap, ◌∙◌, get_or_from_slice_get, places}
 use Rattle.symbol_path.proofs.Common.{places-none, map-places-more, length-map-places, place2, sent_by}
 use Rattle.symbol_path.proofs.order_two.place2_into.Goals as goal

@@ -1,3 +1,4 @@
+-- What each pass of the loops in `place2_into` of `order_two` keeps, and why they end.
 use Rattle.symbol_path.proofs.Common.{◌≡◌, map, get_or, false, places, place2}
 use Rattle.symbol_path.proofs.order_two.place2_into.Given as goal
 

@@ -1,3 +1,4 @@
+-- Why the law `reading_turns_spelling_back` holds.
 use Rattle.std.proofs.Common.{ap, ◌∙◌}
 use Rattle.sync_message.specs.Reading.{sync_reading}
 use Rattle.sync_message.proofs.Readings.{reads_capsule, reading_is_message}

@@ -1,3 +1,4 @@
+-- Why the law `spelling_has_one_message` holds.
 use Rattle.std.proofs.Common.{◌≡◌, Some, sym, ap, ◌∙◌}
 use Rattle.sync_message.specs.Reading.{sync_reading}
 use Rattle.sync_message.proofs.Readings.{reads_capsule}

@@ -1,3 +1,4 @@
+-- Why `read_body` of `layout` keeps its contract.
 use Rattle.sync_message.proofs.ByLayout.{fields_fit, sync_lawful}
 use Rattle.sync_message.proofs.layout.read_body.Goals as goal
 

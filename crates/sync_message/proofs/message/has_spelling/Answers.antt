@@ -1,3 +1,4 @@
+-- Why `has_spelling` of `message` keeps its contract.
 use Rattle.std.proofs.Common.{subst, ◌∙◌, arith}
 use Rattle.chip_core.specs.Fields.{in_widths, FieldsFit}
 use Rattle.sync_message.specs.Rows.{sync_widths}

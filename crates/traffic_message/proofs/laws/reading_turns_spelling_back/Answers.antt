@@ -1,3 +1,4 @@
+-- Why the law `reading_turns_spelling_back` holds.
 use Rattle.traffic_message.proofs.Common.{ap, ◌∙◌, traffic_body_reading, traffic_reading}
 use Rattle.traffic_message.proofs.Bodies.{message_again, message_there}
 use Rattle.traffic_message.proofs.Readings.{capsule_is_read, reads_capsule}

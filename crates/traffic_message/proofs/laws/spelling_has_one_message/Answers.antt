@@ -1,3 +1,4 @@
+-- Why the law `spelling_has_one_message` holds.
 use Rattle.traffic_message.proofs.Common.{◌≡◌, Some, sym, ap, ◌∙◌, traffic_reading}
 use Rattle.traffic_message.proofs.Readings.{reads_capsule}
 use Rattle.traffic_message.proofs.laws.spelling_has_one_message.Goals as goal

@@ -1,3 +1,4 @@
+-- Why `add_frames` of `trial` keeps its contract.
 use Rattle.trial_link.proofs.Common.{◌≡◌, ◌++◌, ℕ, List, sym, ap, ◌∙◌, arith, append-nil, frame_text, behind_frame, behind_frames}
 use Rattle.trial_link.proofs.Common.{with_line_feed}
 use Rattle.trial_link.proofs.Common.{frame_drawn, frame_lines, frames_drawn}

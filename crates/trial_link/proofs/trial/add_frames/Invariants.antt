@@ -1,3 +1,4 @@
+-- What each pass of the loops in `add_frames` of `trial` keeps, and why they end.
 use Rattle.trial_link.proofs.Common.{◌≡◌, ◌++◌, behind_frames, frame_lines, frames_drawn}
 use Rattle.trial_link.proofs.trial.add_frames.Given as goal
 

@@ -1,3 +1,4 @@
+-- Why `add_head` of `trial` keeps its contract.
 use Rattle.trial_link.proofs.Common.{◌++◌, ◌∙◌, List, ℕ, ap, IfOk-weaker, Page, page_text, with_line_feed}
 use Rattle.trial_link.proofs.TrialDraws.{head_whole}
 use Rattle.trial_link.proofs.trial.add_head.Goals as goal

@@ -1,3 +1,4 @@
+-- Why `trial_script` of `trial` keeps its contract.
 use Rattle.trial_link.proofs.Common.{◌≡◌, ◌++◌, ◌∙◌, List, ℕ, ap, traffic_text, behind_draw, behind_draws, drawn, with_line_feed}
 use Rattle.trial_link.proofs.Common.{followed_line}
 use Rattle.trial_link.proofs.Common.{frame_lines, frames_drawn, head_text, trial_serial_number, TrafficLine}

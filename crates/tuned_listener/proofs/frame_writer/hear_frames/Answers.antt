@@ -1,3 +1,4 @@
+-- Why `hear_frames` of `frame_writer` keeps its contract.
 use Rattle.tuned_listener.proofs.Common.{◌≡◌, ◌++◌, [], List, None, Some, arith, rules, subst, take, Appends, take_rest}
 use Rattle.tuned_listener.proofs.Common.{err_from_is_err_and, AppendsPrefix, Sample, soft_frames, IsTunedTo, Tuning, Channel, HoldsFrames}
 use Rattle.tuned_listener.proofs.Common.{tuned_text_of, slot_behind, slot_more, tuned_frame_text, TunedText}

@@ -1,3 +1,4 @@
+-- Why `count_pages` of `slot_writer` keeps its contract.
 use Rattle.tuned_listener.proofs.Common.{◌∙◌, ap, arith, length, rules, subst, sym, take, taken_more, HalfFramesStandFor}
 use Rattle.tuned_listener.proofs.SlotPages.{count_more, pages_all, pages_none}
 use Rattle.tuned_listener.proofs.slot_writer.count_pages.Goals as goal

@@ -1,3 +1,4 @@
+-- Why `write_lines` of `slot_writer` keeps its contract.
 use Rattle.tuned_listener.proofs.Common.{ℕ, length, subst, Appends, paging_line, slot_line, slot_pages}
 use Rattle.std.specs.List.{flat_map}
 use Rattle.event_tap.proofs.Prefixes.{on_err, prefix_behind}

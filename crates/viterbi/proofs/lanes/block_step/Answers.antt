@@ -1,3 +1,4 @@
+-- Why `block_step` of `lanes` keeps its contract.
 use Rattle.viterbi.proofs.Common.{get_or, lane_codes, pos}
 use Rattle.viterbi.proofs.BlockSteps.{BlockLanes, block_chosen, block_lanes, block_metric, gain_fits}
 use Rattle.viterbi.proofs.lanes.block_step.Given.{Over}

@@ -1,3 +1,4 @@
+-- Why `step_all` of `lanes` keeps its contract.
 use Rattle.viterbi.proofs.Common.{◌≡◌, ◌+◌, ◌*◌, ◌/◌, ◌%◌, ◌<◌, ◌-ℤ◌, ◌∙◌, ℕ, get_or, pos, rules, w64, map, to_z, arith, to_z-of_z}
 use Rattle.viterbi.proofs.Common.{length-put_chunk, bit_of, metric_into, choice_into, number, AreGreater}
 use Rattle.viterbi.proofs.ColumnSteps.{metric_fits, metrics_lanes, wings_more, choices_more}

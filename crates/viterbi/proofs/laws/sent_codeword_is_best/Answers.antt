@@ -1,3 +1,4 @@
+-- Why the law `sent_codeword_is_best` holds.
 use Rattle.viterbi.proofs.Sent.{sent_codeword_best, sent_codeword_alone}
 use Rattle.viterbi.proofs.laws.sent_codeword_is_best.Goals as goal
 

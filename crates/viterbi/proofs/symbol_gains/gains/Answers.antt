@@ -1,3 +1,4 @@
+-- Why `gains` of `symbol_gains` keeps its contract.
 use Rattle.viterbi.proofs.Gains.{gains_are}
 use Rattle.viterbi.proofs.symbol_gains.gains.Goals as goal
 

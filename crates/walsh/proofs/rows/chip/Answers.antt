@@ -1,3 +1,4 @@
+-- Why `chip` of `rows` keeps its contract.
 use Rattle.walsh.proofs.RowTable.{walsh-ones}
 use Rattle.walsh.proofs.rows.chip.Goals as goal
 

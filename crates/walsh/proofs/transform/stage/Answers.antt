@@ -1,3 +1,4 @@
+-- Why `stage` of `transform` keeps its contract.
 use Rattle.std.proofs.Common.{◌≡◌, ◌<◌, ◌+◌, ℕ, bit_and, sym, subst, arith}
 use Rattle.walsh.proofs.Pairing.{low, is_clear, is_set, shifted}
 use Rattle.walsh.proofs.Stages.{IsPartway, step, starts, moves_at, skips, ends, grows, have_room}

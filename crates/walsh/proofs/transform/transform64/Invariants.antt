@@ -1,3 +1,4 @@
+-- What each pass of the loops in `transform64` of `transform` keeps, and why they end.
 use Rattle.walsh.proofs.Carried.{IsCarried}
 use Rattle.walsh.proofs.transform.transform64.Given as goal
 

@@ -1,3 +1,4 @@
+-- Why `take` of `memory_source::MemorySourceSource` keeps its contract.
 use Rattle.std.proofs.Common.{◌≡◌, ◌≤◌, ◌+◌, ◌-◌, ◌++◌, take, drop, length, ap, sym, ◌∙◌, length-append, length-drop, List, ℕ, rules}
 use Rattle.std.proofs.lemmas.List.{drop_all}
 use Rattle.cdma_io.specs.Memory.{SourceState}

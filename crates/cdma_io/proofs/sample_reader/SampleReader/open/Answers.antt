@@ -1,3 +1,4 @@
+-- Why `open` of `sample_reader::SampleReader` keeps its contract.
 use Rattle.std.proofs.Common.{◌≡◌, ◌≤◌, length, sym, Err, Ok, rules}
 use Rattle.std.proofs.lemmas.Result.{err_from_is_err_and}
 use Rattle.cdma_io.specs.SampleFile.{fresh_reading}

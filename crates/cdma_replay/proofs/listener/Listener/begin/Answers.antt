@@ -1,3 +1,4 @@
+-- Why `begin` of `listener::Listener` keeps its contract.
 use Rattle.cdma_replay.proofs.Common.{[], sym, subst, on_err, on_ok, AppendsPrefix, BeginsBehind, IsFreshListener, Listening, told}
 use Rattle.cdma_replay.proofs.Common.{Listener}
 use Rattle.std.specs.Box.{with_value}

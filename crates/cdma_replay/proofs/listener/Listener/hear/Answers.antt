@@ -1,3 +1,4 @@
+-- Why `hear` of `listener::Listener` keeps its contract.
 use Rattle.cdma_replay.proofs.Common.{◌++◌, subst, sym, on_err, on_ok, Listening, Listens, ListenerTells, TellsPart, Listener}
 use Rattle.std.specs.Box.{with_value}
 use Rattle.cdma_replay.proofs.Hearings.{hears_nobody, on_handset, on_tuned, room_some, room_tuned, tuned_part, tuned_tells}

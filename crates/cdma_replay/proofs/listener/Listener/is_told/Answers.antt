@@ -1,3 +1,4 @@
+-- Why `is_told` of `listener::Listener` keeps its contract.
 use Rattle.cdma_replay.proofs.Common.{◌≡◌, subst, Listening, Listens, is_told, Listener}
 use Rattle.cdma_replay.proofs.Hearings.{nobody_told, on_handset, on_tuned}
 use Rattle.cdma_replay.proofs.listener.Listener.is_told.Goals as goal

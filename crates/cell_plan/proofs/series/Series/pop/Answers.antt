@@ -1,3 +1,4 @@
+-- Why `pop` of `series::Series` keeps its contract.
 use Rattle.cell_plan.proofs.Common.{◌≡◌, ℕ, ◌+◌, ◌++◌, List, [], ◌∷◌, length, refl, sym, ◌∙◌, arith, Option, None, Some, MatchOption}
 use Rattle.cell_plan.proofs.Common.{option_to_list}
 use Rattle.cell_plan.proofs.series.Series.pop.Goals as goal

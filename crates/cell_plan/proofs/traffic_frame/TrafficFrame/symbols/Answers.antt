@@ -1,3 +1,4 @@
+-- Why `symbols` of `traffic_frame::TrafficFrame` keeps its contract.
 use Rattle.cell_plan.proofs.Common.{ℕ, ap, ◌∙◌, scrambling, with_power_bits, data_shape, sent, repeats_of, scrambled, traffic_symbols}
 use Rattle.cell_plan.proofs.traffic_frame.TrafficFrame.symbols.Goals as goal
 

@@ -1,3 +1,4 @@
+-- Why `new` of `block::Block` keeps its contract.
 use Rattle.cell_samples.proofs.KeptBlocks.{fresh_block}
 use Rattle.cell_samples.proofs.block.Block.new.Goals as goal
 

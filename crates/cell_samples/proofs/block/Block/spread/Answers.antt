@@ -1,3 +1,4 @@
+-- Why `spread` of `block::Block` keeps its contract.
 use Rattle.cell_samples.proofs.Common.{◌+◌, ◌-◌, ◌%◌, List, length, map, sym, ap, ◌∙◌, arith, refl, subst, AreChips, AreLevels, BlockState}
 use Rattle.cell_samples.proofs.Common.{IsQuiet, chip_at, ChannelState, carrier_of}
 use Rattle.cell_samples.proofs.KeptBlocks.{block_after, chip_kept, turned_at}

@@ -1,3 +1,4 @@
+-- Why `new` of `page_cycle::PageCycle` keeps its contract.
 use Rattle.cell_samples.proofs.Common.{◌≡◌, ℕ, ◌+◌, ◌/◌, Bool, List, ap, arith, Rate, half_frame_body, CellIdentity, Cycle, page_cycle}
 use Rattle.cell_samples.proofs.Common.{cycle_is, frame_bits-is}
 use Rattle.cell_samples.proofs.page_cycle.PageCycle.new.Goals as goal

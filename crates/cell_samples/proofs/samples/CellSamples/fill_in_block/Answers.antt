@@ -1,3 +1,4 @@
+-- Why `fill_in_block` of `samples::CellSamples` keeps its contract.
 use Rattle.cell_samples.proofs.Common.{◌≡◌, ◌+◌, ◌%◌, ◌≤◌, length, take, drop, sym, ap, ◌∙◌, rules, subst, ℕ, pilot_signs, HasBits}
 use Rattle.cell_samples.proofs.Common.{samples_of, CellState}
 use Rattle.std.specs.List.{All}

@@ -1,3 +1,4 @@
+-- Why `new` of `sendings::Sendings` keeps its contract.
 use Rattle.cell_samples.proofs.Common.{◌≡◌, ap, ◌∙◌, superframes_of, sync_capsule, SyncFields, superframes_a_sending, superframes_some}
 use Rattle.cell_samples.proofs.Common.{superframes_few}
 use Rattle.cell_samples.proofs.sendings.Sendings.new.Goals as goal

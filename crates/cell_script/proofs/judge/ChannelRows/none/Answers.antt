@@ -1,3 +1,4 @@
+-- Why `none` of `judge::ChannelRows` keeps its contract.
 use Rattle.cell_script.proofs.Common.{refl}
 use Rattle.cell_script.proofs.ScriptRows.{first_rows}
 use Rattle.cell_script.proofs.judge.ChannelRows.none.Goals as goal

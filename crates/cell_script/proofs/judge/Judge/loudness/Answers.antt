@@ -1,3 +1,4 @@
+-- Why `loudness` of `judge::Judge` keeps its contract.
 use Rattle.cell_script.proofs.Common.{◌≤◌, ◌+◌, ◌^◌, ◌∙◌, ap, arith, unsigned_abs, ℤ, mul-le, read64}
 use Rattle.cell_script.proofs.judge.Judge.loudness.Goals as goal
 

@@ -1,3 +1,4 @@
+-- Why `with` of `judge::Judge` keeps its contract.
 use Rattle.cell_script.proofs.Common.{sym, subst, with_one, with_two, with_statement, HasJudged, Statement}
 use Rattle.cell_script.proofs.ScriptRows.{judged_frames, judged_page}
 use Rattle.cell_script.proofs.judge.Judge.with.Goals as goal

@@ -1,3 +1,4 @@
+-- Why `append_number` of `bit_list::Bits` keeps its contract.
 use Rattle.std.proofs.Common.{append_assoc, arith}
 use Rattle.std.proofs.lemmas.Grind.{common_steps}
 use Rattle.chip_core.proofs.Numerals.{binary_more}

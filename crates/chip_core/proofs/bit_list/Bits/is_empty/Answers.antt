@@ -1,3 +1,4 @@
+-- Why `is_empty` of `bit_list::Bits` keeps its contract.
 use Rattle.std.proofs.Common.{length, ap, sym, ◌∙◌}
 use Rattle.std.proofs.lemmas.Bool.{eqb-true, eq-eqb}
 use Rattle.std.proofs.lemmas.List.{nil_from_length}

@@ -1,3 +1,4 @@
+-- Why `part` of `bit_list::Bits` keeps its contract.
 use Rattle.std.proofs.Common.{◌≡◌, drop, slice_get, Some}
 use Rattle.chip_core.proofs.FieldLists.{bits_more, slice_get-drop}
 use Rattle.chip_core.proofs.bit_list.Bits.part.Goals as goal

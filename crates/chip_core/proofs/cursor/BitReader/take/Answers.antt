@@ -1,3 +1,4 @@
+-- Why `take` of `cursor::BitReader` keeps its contract.
 use Rattle.std.proofs.Common.{◌≡◌, ◌≤◌, ◌+◌, ◌++◌, ap, sym, ◌∙◌, Some, rules, arith, take, drop, length, length-drop}
 use Rattle.std.proofs.lemmas.List.{drop-drop}
 use Rattle.chip_core.specs.Bits.{number, binary}

@@ -1,3 +1,4 @@
+-- Why `push` of `encoding::Register` keeps its contract.
 use Rattle.conv_code.proofs.Common.{refl, ◌∙◌, ap, map, ◌+◌, ◌*◌, ℕ, ◌≡◌, ◌%◌, ◌^◌, parity, bit_of, binary, g0, g1}
 use Rattle.conv_code.proofs.Windows.{window, window_is, window_symbol, window_state, low_eight}
 use Rattle.conv_code.proofs.encoding.Register.push.Goals as goal

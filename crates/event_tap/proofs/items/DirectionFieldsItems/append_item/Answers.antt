@@ -1,3 +1,4 @@
+-- Why `append_item` of `items::DirectionFieldsItems` keeps its contract.
 use Rattle.std.proofs.Common.{◌++◌, sym, ap, ◌∙◌, arith}
 use Rattle.traffic_message.proofs.ByLayout.{combs_paired, rows_paired}
 use Rattle.event_tap.proofs.TrafficTexts.{record_at}

@@ -1,3 +1,4 @@
+-- Why `append_item` of `items::NeighborFieldsItems` keeps its contract.
 use Rattle.std.proofs.Common.{◌++◌, sym, ap, ◌∙◌, arith}
 use Rattle.paging_message.proofs.ByLayout.{neighbors_paired}
 use Rattle.event_tap.proofs.PagingTexts.{neighbor_at}

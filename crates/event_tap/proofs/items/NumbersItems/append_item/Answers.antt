@@ -1,3 +1,4 @@
+-- Why `append_item` of `items::NumbersItems` keeps its contract.
 use Rattle.std.proofs.Common.{◌^◌, arith}
 use Rattle.event_tap.proofs.PartTexts.{below_of_all}
 use Rattle.event_tap.proofs.items.NumbersItems.append_item.Goals as goal

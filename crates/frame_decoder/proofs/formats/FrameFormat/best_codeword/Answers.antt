@@ -1,3 +1,4 @@
+-- Why `best_codeword` of `formats::FrameFormat` keeps its contract.
 use Rattle.frame_decoder.proofs.Common.{◌≡◌, ◌≤◌, ap, ◌∙◌, length, rules, List, ℤ, FitsSigned, w64, to_z-of_z, Codeword, score_of}
 use Rattle.frame_decoder.proofs.Common.{IsBestCodeword, spelled_codeword, Zero, gathered_in, codeword_in}
 use Rattle.frame_decoder.proofs.Unreplaced.{first_zeros_read}

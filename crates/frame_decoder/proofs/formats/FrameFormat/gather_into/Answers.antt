@@ -1,3 +1,4 @@
+-- Why `gather_into` of `formats::FrameFormat` keeps its contract.
 use Rattle.frame_decoder.proofs.Common.{◌≡◌, ◌<◌, ◌*◌, ℕ, arith, pos, get_or, length, sym, ap, ◌∙◌, rules, part-none, part, turn}
 use Rattle.frame_decoder.proofs.Common.{turn_sizes, sum_has_room, added_fits, sizes_none, place_in, bits_in, gathered_all}
 use Rattle.frame_decoder.proofs.formats.FrameFormat.gather_into.Goals as goal

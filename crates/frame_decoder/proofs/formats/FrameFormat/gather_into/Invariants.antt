@@ -1,3 +1,4 @@
+-- What each pass of the loops in `gather_into` of `formats::FrameFormat` keeps, and why they end.
 use Rattle.frame_decoder.proofs.Common.{◌≡◌, ◌≤◌, ℕ, get_or, take, pos, sum_by, unsigned_abs, part, place_in}
 use Rattle.frame_decoder.proofs.formats.FrameFormat.gather_into.Given as goal
 

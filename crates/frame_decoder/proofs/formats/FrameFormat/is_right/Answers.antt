@@ -1,3 +1,4 @@
+-- Why `is_right` of `formats::FrameFormat` keeps its contract.
 use Rattle.frame_decoder.proofs.Common.{◌-◌, ap, ℕ}
 use Rattle.frame_decoder.proofs.FormatCodewords.{always_right, check_fits, right_is}
 use Rattle.frame_decoder.proofs.formats.FrameFormat.is_right.Goals as goal

@@ -1,3 +1,4 @@
+-- What each pass of the loops in `of` of `values::FieldValues` keeps, and why they end.
 use Rattle.message_layout.proofs.Common.{◌≡◌, take}
 use Rattle.message_layout.proofs.values.FieldValues.of.Given as goal
 

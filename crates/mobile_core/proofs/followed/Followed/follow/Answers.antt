@@ -1,3 +1,4 @@
+-- Why `follow` of `followed::Followed` keeps its contract.
 use Rattle.mobile_core.proofs.Common.{◌≡◌, ◌∙◌, rules, Some, sym, arith}
 use Rattle.mobile_core.proofs.ChannelsFollowed.{opened, unassigned}
 use Rattle.mobile_core.proofs.FramesFollowed.{frames_opened}

@@ -1,3 +1,4 @@
+-- Why `note` of `followed::Followed` keeps its contract.
 use Rattle.mobile_core.proofs.Common.{◌≡◌, ◌∙◌, ◌∷◌, ◌++◌, Some, IfSome, rules, length, subst, sym, at_of, event_list, HearsFrames, WaitsAt}
 use Rattle.mobile_core.proofs.Common.{Event, IsSoundHandoff, SetsKeeper, SoftHandoff, ap, noted_by}
 use Rattle.heard_events.specs.SetsKeeping.{IsSoundKeeper}

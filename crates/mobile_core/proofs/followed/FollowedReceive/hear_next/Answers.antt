@@ -1,3 +1,4 @@
+-- Why `hear_next` of `followed::FollowedReceive` keeps its contract.
 use Rattle.mobile_core.proofs.Common.{ℕ, ◌≡◌, ◌∙◌, refl, subst, sym, append_assoc, None, IfSome, IsSomeAnd, IsDueAt, at_of, event_list}
 use Rattle.mobile_core.proofs.Common.{HearsFrames, paging_events_left, traffic_events_left}
 use Rattle.mobile_core.proofs.ChannelsFollowed.{heard_other, moved}

@@ -1,3 +1,4 @@
+-- Why `take_ended` of `followed::FollowedReceive` keeps its contract.
 use Rattle.mobile_core.proofs.Common.{[], inl, inr, sym, paging_events_left}
 use Rattle.mobile_core.proofs.ChannelsFollowed.{moved}
 use Rattle.heard_events.proofs.GoesOn.{joined}

@@ -1,3 +1,4 @@
+-- Why `hear_due` of `mobile::Mobile` keeps its contract.
 use Rattle.mobile_core.proofs.Common.{None, Some}
 use Rattle.mobile_core.proofs.StepJoins.{told_on}
 use Rattle.mobile_core.proofs.mobile.Mobile.hear_due.Goals as goal

@@ -1,3 +1,4 @@
+-- Why `hear_sync` of `mobile::Mobile` keeps its contract.
 use Rattle.mobile_core.proofs.Common.{◌≡◌, ◌∙◌, ap, arith, length, subst, sym, refl, Option, HearsFollowed, followed_events_left, SetsMark}
 use Rattle.mobile_core.proofs.Common.{FrameClock, Mark}
 use Rattle.mobile_core.proofs.StepJoins.{ends_here, one_or_none}

@@ -1,3 +1,4 @@
+-- Why `least_end` of `mobile::Mobile` keeps its contract.
 use Rattle.mobile_core.proofs.Common.{arith}
 use Rattle.mobile_core.proofs.mobile.Mobile.least_end.Goals as goal
 

@@ -1,3 +1,4 @@
+-- Why `new` of `mobile::Mobile` keeps its contract.
 use Rattle.mobile_core.proofs.Common.{[], refl, tuning_by}
 use Rattle.mobile_core.proofs.Stood.{stands_new}
 use Rattle.mobile_core.proofs.mobile.Mobile.new.Goals as goal

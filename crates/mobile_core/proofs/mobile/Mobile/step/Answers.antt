@@ -1,3 +1,4 @@
+-- Why `step` of `mobile::Mobile` keeps its contract.
 use Rattle.mobile_core.proofs.Common.{◌≡◌, ◌+◌, ◌++◌, List, arith, drop, subst, take, None, Some, append-nil, take_all, take_rest, Sample}
 use Rattle.mobile_core.proofs.Common.{refl, Steps}
 use Rattle.mobile_core.specs.Standing.{StandsFor}

@@ -1,3 +1,4 @@
+-- Why `tell_pilot` of `mobile::Mobile` keeps its contract.
 use Rattle.mobile_core.proofs.Common.{◌≡◌, ◌++◌, ◌∷◌, [], Option, Some, ap, arith, length, refl, subst, sym, Best, ℕ, pilot_left, Stands}
 use Rattle.mobile_core.proofs.Common.{Event, Pilot}
 use Rattle.mobile_core.proofs.Stood.{stands_told}

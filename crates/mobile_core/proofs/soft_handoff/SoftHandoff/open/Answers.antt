@@ -1,3 +1,4 @@
+-- Why `open` of `soft_handoff::SoftHandoff` keeps its contract.
 use Rattle.mobile_core.proofs.soft_handoff.SoftHandoff.open.Goals as goal
 
 pub returns-clause-hears : goal.returns-clause-hears

@@ -1,3 +1,4 @@
+-- Why `pass_moment` of `soft_handoff::SoftHandoff` keeps its contract.
 use Rattle.mobile_core.proofs.Common.{◌∙◌, ◌++◌, ◌+◌, ◌*◌, [], sym, ap, arith, event_list, traffic_left_of, Mark, SetsKeeper, SoftHandoff}
 use Rattle.mobile_core.proofs.MomentPassed.{hears_passed}
 use Rattle.mobile_core.proofs.SoundFrames.{passed_close}

@@ -1,3 +1,4 @@
+-- Why `take_frame` of `soft_handoff::SoftHandoff` keeps its contract.
 use Rattle.mobile_core.proofs.Common.{ap, arith, frame_chips, TrafficReceiver}
 use Rattle.rake_finger.proofs.CloseFingers.{close_ends}
 use Rattle.mobile_core.proofs.soft_handoff.SoftHandoff.take_frame.Goals as goal

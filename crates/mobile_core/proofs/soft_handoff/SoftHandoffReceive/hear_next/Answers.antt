@@ -1,3 +1,4 @@
+-- Why `hear_next` of `soft_handoff::SoftHandoffReceive` keeps its contract.
 use Rattle.mobile_core.proofs.Common.{◌∙◌, [], ◌∷◌, event_list, noted_by}
 use Rattle.mobile_core.proofs.FramesFollowed.{tells_first}
 use Rattle.mobile_core.proofs.FramesTold.{hears_noted}

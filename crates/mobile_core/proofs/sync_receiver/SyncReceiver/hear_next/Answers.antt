@@ -1,3 +1,4 @@
+-- Why `hear_next` of `sync_receiver::SyncReceiver` keeps its contract.
 use Rattle.mobile_core.proofs.Common.{◌≡◌, ℕ, ◌+◌, ◌-◌, ◌++◌, ◌∷◌, ◌∙◌, ◌||◌, [], ap, refl, sym, arith, is_some, length, list_any, map}
 use Rattle.mobile_core.proofs.Common.{frames_with, frame_start, frames_before, frames_open, heard_in, events_of, sync_stream, piece}
 use Rattle.mobile_core.proofs.Common.{frame_own_bits, capsule_ending, first_of, marks_of, marks_at, heard_at, sync_capsule_at, option_or}

@@ -1,3 +1,4 @@
+-- Why `new` of `sync_receiver::SyncReceiver` keeps its contract.
 use Rattle.mobile_core.proofs.Common.{◌≡◌, ℕ, ◌+◌, ◌-◌, ◌*◌, ◌%◌, ◌∙◌, [], sym, ap, refl, arith, frame_chips, Sync, first_frame, frame_end}
 use Rattle.mobile_core.proofs.Common.{sync_stream, FrameClock}
 use Rattle.reception.proofs.ClockSteps.{first_end}

@@ -1,3 +1,4 @@
+-- Why `open` of `traffic_receiver::TrafficReceiver` keeps its contract.
 use Rattle.mobile_core.proofs.Common.{◌≡◌, ◌+◌, ◌*◌, ◌∙◌, ℕ, ℤ, List, true, false, ap, sym, subst, arith, refl, take, length-take, pos}
 use Rattle.mobile_core.proofs.Common.{new_standing, AreClose, all_begun, all_close, all_fingers, legs_of, FrameClock, Leg, Scrambling}
 use Rattle.mobile_core.proofs.Common.{clock_from, Data, if◌then◌else◌}

@@ -1,3 +1,4 @@
+-- Why `take_softs` of `traffic_receiver::TrafficReceiver` keeps its contract.
 use Rattle.mobile_core.proofs.Common.{◌≤◌, ◌*◌, ◌^◌, ◌∙◌, ℕ, ap, arith, sym, power_places, length, sum_by, unsigned_abs}
 use Rattle.heard_events.proofs.LegFingers.{fingers_few}
 use Rattle.heard_events.proofs.LegSubsets.{eight_small}

@@ -1,3 +1,4 @@
+-- Why `push` of `half_framer::HalfFramer` keeps its contract.
 use Rattle.paging_message.proofs.Common.{◌≡◌, ◌+◌, ◌-◌, ◌%◌, ◌++◌, ◌∷◌, [], length, sym, ap, ◌∙◌, arith, rules, Option, List, Bool, IsTrue}
 use Rattle.paging_message.proofs.Common.{IsSome, ◌↔◌, completed, Framing, half_frame_capsule_ending, half_under_way}
 use Rattle.paging_message.specs.HalfFrames.{HalfFramesStandFor}

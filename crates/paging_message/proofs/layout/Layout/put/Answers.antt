@@ -1,3 +1,4 @@
+-- Why `put` of `layout::Layout` keeps its contract.
 use Rattle.paging_message.proofs.Common.{◌≡◌, ◌+◌, ◌%◌, ◌≤◌, ◌++◌, ◌∷◌, [], false, not, length, take, ap, ◌∙◌, arith, subst, bits_more}
 use Rattle.paging_message.proofs.Common.{HasLaid, Laid, bit_on, way_for, laid_on}
 use Rattle.paging_message.proofs.Layings.{capsule_first, capsule_next, way_whole}

@@ -1,3 +1,4 @@
+-- What each pass of the loops in `put` of `layout::Layout` keeps, and why they end.
 use Rattle.paging_message.proofs.Common.{◌≡◌, ◌+◌, ◌*◌, ◌≤◌, length, take, Laid, laid_on, HasLaid}
 use Rattle.paging_message.proofs.layout.Layout.put.Given as goal
 

@@ -1,3 +1,4 @@
+-- Why `contents` of `message::PagingMessage` keeps its contract.
 use Rattle.paging_message.proofs.Common.{subst, sym, IsPagingMessage}
 use Rattle.paging_message.proofs.message.PagingMessage.contents.Goals as goal
 

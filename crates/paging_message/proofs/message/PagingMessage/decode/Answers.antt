@@ -1,3 +1,4 @@
+-- Why `decode` of `message::PagingMessage` keeps its contract.
 use Rattle.paging_message.proofs.Common.{rules, refl, sym, ap, ◌∙◌, Ok, M30, IsDecoded, IsNone, fault_read, whole_checked, message_body}
 use Rattle.paging_message.proofs.Common.{IsPagingMessage, paging_capsule, paging_reading, body_reading, decoded, uncapsuled, undecoded}
 use Rattle.paging_message.proofs.Readings.{are_read}

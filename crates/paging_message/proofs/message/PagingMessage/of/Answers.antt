@@ -1,3 +1,4 @@
+-- Why `of` of `message::PagingMessage` keeps its contract.
 use Rattle.paging_message.proofs.Common.{subst, rules, IsPagingMessage, message_from}
 use Rattle.paging_message.proofs.ByLayout.{other_is}
 use Rattle.paging_message.proofs.message.PagingMessage.of.Goals as goal

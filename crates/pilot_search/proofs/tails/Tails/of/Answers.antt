@@ -1,3 +1,4 @@
+-- Why `of` of `tails::Tails` keeps its contract.
 use Rattle.pilot_search.proofs.Common.{◌≡◌, ◌≤◌, ◌+◌, ◌*◌, ℕ, arith, rules, sym, ap, subst, get_or, ◌∙◌, common_steps}
 use Rattle.pilot_search.proofs.Common.{get_or-replicate, drop_all, magnitudes}
 use Rattle.pilot_search.proofs.tails.Tails.of.Goals as goal

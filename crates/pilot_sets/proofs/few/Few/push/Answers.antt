@@ -1,3 +1,4 @@
+-- Why `push` of `few::Few` keeps its contract.
 use Rattle.pilot_sets.proofs.Common.{length, ap, arith, filled_more, length-filled}
 use Rattle.pilot_sets.proofs.few.Few.push.Goals as goal
 

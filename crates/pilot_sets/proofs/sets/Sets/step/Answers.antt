@@ -1,3 +1,4 @@
+-- Why `step` of `sets::Sets` keeps its contract.
 use Rattle.pilot_sets.proofs.Common.{subst, sym, energy_in, IsOrderly}
 use Rattle.pilot_sets.proofs.Orders.{measured_orderly}
 use Rattle.pilot_sets.proofs.sets.Sets.step.Goals as goal

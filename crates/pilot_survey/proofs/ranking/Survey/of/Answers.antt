@@ -1,3 +1,4 @@
+-- Why `of` of `ranking::Survey` keeps its contract.
 use Rattle.std.proofs.Common.{rules, arith}
 use Rattle.std.proofs.lemmas.List.Sorted.{answers_always}
 use Rattle.pilot_survey.specs.declared.rank.Rank.{Rank}

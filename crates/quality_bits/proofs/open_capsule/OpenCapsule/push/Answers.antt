@@ -1,3 +1,4 @@
+-- Why `push` of `open_capsule::OpenCapsule` keeps its contract.
 use Rattle.std.proofs.Common.{◌≡◌, ◌++◌, ◌∷◌, [], true, false, sym, ap, ◌∙◌, Some, List, Bool, Option}
 use Rattle.quality_bits.specs.Capsules.{awaits_more, continued}
 use Rattle.quality_bits.proofs.Opened.{awaits_short, still_open-awaits, still_open-over}

@@ -1,3 +1,4 @@
+-- Why `push_all` of `open_capsule::OpenCapsule` keeps its contract.
 use Rattle.std.proofs.Common.{◌≡◌, ◌-◌, ◌∷◌, [], take, drop, ap, ◌∙◌, arith, List, Bool, Option}
 use Rattle.std.specs.Option.{option_or}
 use Rattle.quality_bits.specs.Capsules.{continued, completed}

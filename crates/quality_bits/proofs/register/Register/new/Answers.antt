@@ -1,3 +1,4 @@
+-- Why `new` of `register::Register` keeps its contract.
 use Rattle.std.proofs.Common.{◌≡◌, ◌^◌, ◌≤◌, ◌<◌, ◌+◌, [], refl, arith}
 use Rattle.chip_core.specs.Bits.{number}
 use Rattle.quality_bits.specs.Quality.{check_bits}

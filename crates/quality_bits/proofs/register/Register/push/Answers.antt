@@ -1,3 +1,4 @@
+-- Why `push` of `register::Register` keeps its contract.
 use Rattle.std.proofs.Common.{◌≡◌, ℕ, ◌<◌, ◌^◌, ◌++◌, [], ◌∷◌, ap, sym, ◌∙◌, arith}
 use Rattle.chip_core.specs.Bits.{number}
 use Rattle.quality_bits.specs.Quality.{check_bits}

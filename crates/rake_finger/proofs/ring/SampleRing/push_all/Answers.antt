@@ -1,3 +1,4 @@
+-- Why `push_all` of `ring::SampleRing` keeps its contract.
 use Rattle.std.proofs.Common.{◌<◌, ◌++◌, List, length, take, sym, subst, ap, ◌∙◌, arith}
 use Rattle.std.proofs.lemmas.List.{append_assoc, take_more}
 use Rattle.chip_core.specs.declared.sample.Sample.{Sample}

@@ -1,3 +1,4 @@
+-- What each pass of the loops in `push_all` of `ring::SampleRing` keeps, and why they end.
 use Rattle.std.proofs.Common.{◌≡◌, ◌+◌, ◌%◌, ◌<◌, ◌++◌, List, take}
 use Rattle.chip_core.specs.declared.sample.Sample.{Sample}
 use Rattle.rake_finger.specs.Held.{HoldsLast}

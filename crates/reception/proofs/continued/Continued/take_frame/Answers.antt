@@ -1,3 +1,4 @@
+-- Why `take_frame` of `continued::Continued` keeps its contract.
 use Rattle.reception.proofs.Common.{◌≡◌, ℕ, ◌+◌, length, List, ℤ, ◌∙◌, sym, ap, refl, rules, frame_chips, softs, symbols, unscrambled}
 use Rattle.reception.proofs.Common.{frame_softs, frame_start}
 use Rattle.rake_finger.proofs.FingerTimes.{in_ring, ends_step, begun_on}

@@ -1,3 +1,4 @@
+-- Why `from_frame` of `frame_clock::FrameClock` keeps its contract.
 use Rattle.reception.proofs.Common.{ℕ, ◌+◌, ◌*◌, arith}
 use Rattle.rake_finger.proofs.CloseFingers.{ends_high, ends_low, some_chips, most_chips}
 use Rattle.rake_finger.proofs.FingerTimes.{times_one}

@@ -1,3 +1,4 @@
+-- Why `advance` of `frame_receiver::FrameReceiver` keeps its contract.
 use Rattle.reception.proofs.Common.{◌∙◌, ◌+◌, ap, sym, frame_chips}
 use Rattle.rake_finger.proofs.CloseFingers.{later_by}
 use Rattle.rake_finger.proofs.FingerTimes.{begun_on}

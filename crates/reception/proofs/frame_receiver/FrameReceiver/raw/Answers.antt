@@ -1,3 +1,4 @@
+-- Why `raw` of `frame_receiver::FrameReceiver` keeps its contract.
 use Rattle.reception.proofs.Common.{◌∙◌, Data}
 use Rattle.rake_finger.proofs.CloseFingers.{begun_in_ring}
 use Rattle.reception.proofs.frame_receiver.FrameReceiver.raw.Goals as goal

@@ -1,3 +1,4 @@
+-- Why `tune` of `frame_receiver::FrameReceiver` keeps its contract.
 use Rattle.reception.proofs.Common.{◌*◌, ◌≤◌, arith, Data}
 use Rattle.rake_finger.proofs.CloseFingers.{close_begun, ends_high, ends_low}
 use Rattle.reception.proofs.frame_receiver.FrameReceiver.tune.Goals as goal

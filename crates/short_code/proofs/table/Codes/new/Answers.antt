@@ -1,3 +1,4 @@
+-- Why `new` of `table::Codes` keeps its contract.
 use Rattle.std.proofs.Common.{◌≡◌, ◌+◌, Bool, List, [], ◌∷◌, ◌++◌, length, refl, ap, ◌∙◌, arith, ℤ, pos, rules}
 use Rattle.std.proofs.lemmas.List.{length_push}
 use Rattle.short_code.specs.ShortCode.{pilot_chip, chip_signs, chips_to, i_lags, q_lags, code_chip}

@@ -1,3 +1,4 @@
+-- Why `body` of `message::SyncMessage` keeps its contract.
 use Rattle.std.proofs.Common.{◌≡◌, ◌++◌, List, Bool, length, sym, ap, subst, ◌∙◌, arith}
 use Rattle.chip_core.specs.Bits.{binary}
 use Rattle.chip_core.proofs.FieldLists.{length-binary}

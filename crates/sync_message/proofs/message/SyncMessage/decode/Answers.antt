@@ -1,3 +1,4 @@
+-- Why `decode` of `message::SyncMessage` keeps its contract.
 use Rattle.std.proofs.Common.{rules, refl, sym, ap, ◌∙◌, Ok}
 use Rattle.quality_bits.proofs.Decoded.{decoded, fault_read, uncapsuled, undecoded, whole_checked, IsDecoded, IsNone}
 use Rattle.quality_bits.specs.declared.kind.Kind.TheVariants.{M30}

@@ -1,3 +1,4 @@
+-- Why `append_to` of `body::TrafficBody` keeps its contract.
 use Rattle.traffic_message.proofs.Common.{◌++◌, length, ap, ◌∙◌, arith}
 use Rattle.traffic_message.proofs.ByLayout.{lawful, written}
 use Rattle.traffic_message.proofs.body.TrafficBody.append_to.Goals as goal

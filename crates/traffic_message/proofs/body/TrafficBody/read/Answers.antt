@@ -1,3 +1,4 @@
+-- Why `read` of `body::TrafficBody` keeps its contract.
 use Rattle.traffic_message.proofs.Common.{◌≡◌, Some, None, drop, ap, ◌∙◌}
 use Rattle.traffic_message.proofs.ByLayout.{lawful, told, told_is}
 use Rattle.traffic_message.proofs.body.TrafficBody.read.Goals as goal

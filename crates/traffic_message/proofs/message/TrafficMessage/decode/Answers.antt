@@ -1,3 +1,4 @@
+-- Why `decode` of `message::TrafficMessage` keeps its contract.
 use Rattle.traffic_message.proofs.Common.{rules, refl, sym, ap, ◌∙◌, Ok, M16, IsDecoded, IsNone, fault_read, whole_checked}
 use Rattle.traffic_message.proofs.Common.{traffic_message_body}
 use Rattle.traffic_message.proofs.Common.{IsTrafficMessage, traffic_capsule, traffic_reading, traffic_body_reading, decoded, uncapsuled}

@@ -1,3 +1,4 @@
+-- Why `encode` of `message::TrafficMessage` keeps its contract.
 use Rattle.traffic_message.proofs.Common.{ap, ◌∙◌, capsule, M16, traffic_capsule}
 use Rattle.traffic_message.proofs.message.TrafficMessage.encode.Goals as goal
 

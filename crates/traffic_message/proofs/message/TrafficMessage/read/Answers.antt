@@ -1,3 +1,4 @@
+-- Why `read` of `message::TrafficMessage` keeps its contract.
 use Rattle.traffic_message.proofs.Common.{◌≡◌, ℕ, true, Option, None, Some, drop, length, get_or, sym, ap, ◌∙◌, arith}
 use Rattle.traffic_message.proofs.Common.{length-drop, is_traffic_body, traffic_body_reading, mapped, part_reading, TrafficBody}
 use Rattle.traffic_message.proofs.Bodies.{AreParts, are_parts, is_body_parts, message, message_there, no_body, no_head, part_read}

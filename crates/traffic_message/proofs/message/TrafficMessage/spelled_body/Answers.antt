@@ -1,3 +1,4 @@
+-- Why `spelled_body` of `message::TrafficMessage` keeps its contract.
 use Rattle.traffic_message.proofs.Common.{◌≡◌, ◌+◌, ◌≤◌, ◌++◌, List, ◌∷◌, Bool, length, refl, sym, ap, subst, ◌∙◌, arith, FillsCapsule, M16}
 use Rattle.traffic_message.proofs.Common.{bits_of, head_contents, head_shape, head_values, kind_of, length-in_widths, traffic_message_body}
 use Rattle.traffic_message.proofs.Common.{spelling, typed_widths, Message}

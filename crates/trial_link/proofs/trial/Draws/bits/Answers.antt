@@ -1,3 +1,4 @@
+-- Why `bits` of `trial::Draws` keeps its contract.
 use Rattle.trial_link.proofs.Common.{◌≡◌, ◌+◌, ◌%◌, ◌==◌, ◌++◌, ◌∷◌, [], length, sym, ap, ◌∙◌, arith, List, Bool, ℕ, behind_draw}
 use Rattle.trial_link.proofs.Common.{behind_draws, bits_drawn, drawn}
 use Rattle.trial_link.proofs.TrialDraws.{bits_more, draws_more, length-bits_drawn, no_bits_drawn, no_draws}

@@ -1,3 +1,4 @@
+-- What each pass of the loops in `bits` of `trial::Draws` keeps, and why they end.
 use Rattle.trial_link.proofs.Common.{◌≡◌, length, behind_draws, bits_drawn}
 use Rattle.trial_link.proofs.trial.Draws.bits.Given as goal
 

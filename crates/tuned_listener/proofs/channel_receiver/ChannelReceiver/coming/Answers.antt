@@ -1,3 +1,4 @@
+-- Why `coming` of `channel_receiver::ChannelReceiver` keeps its contract.
 use Rattle.tuned_listener.proofs.Common.{arith}
 use Rattle.tuned_listener.proofs.FramesGiven.{frame_is}
 use Rattle.reception.proofs.SoftSums.{frame_small}

@@ -1,3 +1,4 @@
+-- Why `open` of `channel_receiver::ChannelReceiver` keeps its contract.
 use Rattle.tuned_listener.proofs.Common.{◌≡◌, ◌∙◌, ℕ, ◌+◌, ◌*◌, ◌≤◌, ap, arith, false, refl, subst, Data, channel_stream, clock_from}
 use Rattle.tuned_listener.proofs.Common.{first_frame, AreNear, FrameClock, Scrambling, after}
 use Rattle.heard_events.proofs.ChannelFrames.{first_by}

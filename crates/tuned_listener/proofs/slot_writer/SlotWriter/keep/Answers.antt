@@ -1,3 +1,4 @@
+-- Why `keep` of `slot_writer::SlotWriter` keeps its contract.
 use Rattle.tuned_listener.proofs.Common.{◌≡◌, ◌⊎◌, ◌≤◌, ◌+◌, ◌*◌, ◌∙◌, ℕ, ap, length, refl, rules, sym}
 use Rattle.tuned_listener.proofs.SlotFrames.{holds_put, ready_put}
 use Rattle.tuned_listener.proofs.slot_writer.SlotWriter.keep.Goals.{After-copy_from_slice}

@@ -1,3 +1,4 @@
+-- Why `write_slot` of `slot_writer::SlotWriter` keeps its contract.
 use Rattle.tuned_listener.proofs.Common.{◌≡◌, true, length, rules, arith, sym, subst, Some, None, nat_lt, if◌then◌else◌, Appends, List}
 use Rattle.tuned_listener.proofs.Common.{SoftFrame, HoldsSlot, AppendsPrefix, paging_rate, is_monitored}
 use Rattle.tuned_listener.proofs.HeardSlots.{slot_told, spans_small}

@@ -1,3 +1,4 @@
+-- Why `hear` of `tuned::TunedListener` keeps its contract.
 use Rattle.tuned_listener.proofs.Common.{◌++◌, take, take_rest}
 use Rattle.event_tap.proofs.Prefixes.{on_err, on_ok}
 use Rattle.tuned_listener.proofs.TunedListeners.{cut_after, tells_after}

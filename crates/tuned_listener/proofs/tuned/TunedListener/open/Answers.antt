@@ -1,3 +1,4 @@
+-- Why `open` of `tuned::TunedListener` keeps its contract.
 use Rattle.tuned_listener.proofs.Common.{[], refl}
 use Rattle.tuned_listener.proofs.TunedListeners.{holds_nothing}
 use Rattle.heard_events.proofs.MarkGrowth.{none_marked}

@@ -1,3 +1,4 @@
+-- Why `reach_mark` of `tuned::TunedListener` keeps its contract.
 use Rattle.tuned_listener.proofs.Common.{Tuning, Channel, TunedText, ListensTuned, ◌≡◌, ◌++◌, List, None, refl, rules, subst, sym, take}
 use Rattle.tuned_listener.proofs.Common.{Sample, Mobile}
 use Rattle.mobile_core.specs.Standing.{StandsFor}

@@ -1,3 +1,4 @@
+-- Why `write_frames` of `tuned::TunedListener` keeps its contract.
 use Rattle.tuned_listener.proofs.Common.{refl, Behind}
 use Rattle.event_tap.proofs.Prefixes.{on_err, on_ok}
 use Rattle.tuned_listener.proofs.TunedListeners.{ready_writer, tells_behind, tells_cut, tells_nothing}

@@ -1,3 +1,4 @@
+-- Why `step` of `tuner::Tuner` keeps its contract.
 use Rattle.tuned_listener.proofs.Common.{◌≡◌, ◌∙◌, ℕ, ◌-◌, ◌++◌, ◌∷◌, [], List, append-nil, ap, arith, length, length-take, refl, subst}
 use Rattle.tuned_listener.proofs.Common.{sym, take, take_all, HasGiven, IsTunedTo, soft_frames, Channel, ChannelReceiver, Mark, Sample}
 use Rattle.tuned_listener.proofs.Common.{SoftFrame, Tuning}
