@@ -1,7 +1,8 @@
 """The crates of a repository, as crates.txt lists them: which stands on which, and in which layers they lie.
 
 `python3 -m cdma_tools.repository.crate_list` writes the picture of the layers; with --write it puts the picture at
-the head of docs/ARCHITECTURE.md, and what each crate stands on into the table after it.
+the head of docs/ARCHITECTURE.md, what each crate stands on into the table after it, and whose the crates of each
+layer are into crates.txt.
 """
 
 from __future__ import annotations
@@ -9,7 +10,7 @@ from __future__ import annotations
 import os
 import re
 import sys
-from collections.abc import Mapping, Sequence
+from collections.abc import Callable, Mapping, Sequence
 
 from cdma_tools.places import TOP
 
@@ -118,17 +119,35 @@ def with_picture(text: str, below: Mapping[str, Sequence[str]]) -> str:
     )
 
 
-def main() -> None:
-    """Writes the picture, or puts it into its place."""
-    below = crates_below(TOP)
-    if sys.argv[1:] != ["--write"]:
-        print(picture(below), end="")
-        return
-    path = os.path.join(TOP, "docs", "ARCHITECTURE.md")
+def with_sides(text: str, below: Mapping[str, Sequence[str]]) -> str:
+    """crates.txt with a line before the crates of each of its groups for each column that has any: whose they are."""
+    groups = []
+    for group in text.split("\n\n"):
+        lines = [line for line in group.splitlines() if not line.startswith(tuple(f"# {side}: " for side in SIDES))]
+        names = [line.split(":")[0].split()[0] for line in lines if not line.startswith("#")]
+        told = [(side, [name for name in names if side_of(below, name) == side]) for side in SIDES]
+        at = next((place for place, line in enumerate(lines) if not line.startswith("#")), len(lines))
+        lines[at:at] = [f"# {side}: {' '.join(those)}" for side, those in told if those]
+        groups.append("\n".join(lines))
+    return "\n\n".join(groups) + "\n"
+
+
+def rewrite(path: str, change: Callable[[str, Mapping[str, Sequence[str]]], str]) -> None:
+    """Puts what a change makes of a file of this checkout in its place."""
+    path = os.path.join(TOP, path)
     with open(path, encoding="utf-8") as file:
-        text = file.read()
+        text = change(file.read(), crates_below(TOP))
     with open(path, "w", encoding="utf-8") as file:
-        file.write(with_picture(text, below))
+        file.write(text)
+
+
+def main() -> None:
+    """Writes the picture, or puts all that is made into its place."""
+    if sys.argv[1:] != ["--write"]:
+        print(picture(crates_below(TOP)), end="")
+        return
+    rewrite(os.path.join("docs", "ARCHITECTURE.md"), with_picture)
+    rewrite("crates.txt", with_sides)
 
 
 if __name__ == "__main__":

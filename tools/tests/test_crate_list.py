@@ -6,7 +6,16 @@ import os
 import re
 import unittest
 
-from cdma_tools.repository.crate_list import NoList, chains, crates_below, longest_chain, picture, right_below, with_picture
+from cdma_tools.repository.crate_list import (
+    NoList,
+    chains,
+    crates_below,
+    longest_chain,
+    picture,
+    right_below,
+    with_picture,
+    with_sides,
+)
 from tools.tests.helping import ROOT
 
 MOST_COLUMNS = 100
@@ -50,7 +59,7 @@ class Layers(unittest.TestCase):
 
 
 class Architecture(unittest.TestCase):
-    """docs/ARCHITECTURE.md beside crates.txt: `python3 -m tools.crate_list --write` makes it so."""
+    """docs/ARCHITECTURE.md beside crates.txt: `python3 -m cdma_tools.repository.crate_list --write` makes it so."""
 
     def setUp(self) -> None:
         self.below = crates_below(ROOT)
@@ -71,6 +80,21 @@ class Architecture(unittest.TestCase):
         text = "    old\n\n| `cell` | does | has | none |\n| `find` | of | memory |\n"
         wanted = "".join(f"    {line}\n" for line in PICTURE.splitlines())
         self.assertEqual(with_picture(text, BELOW), wanted + "\n| `cell` | does | has | `codes` |\n| `find` | of | memory |\n")
+
+
+class Sides(unittest.TestCase):
+    """Whose the crates of each layer are, as crates.txt says in comments."""
+
+    def test_the_list_says_whose_its_crates_are(self) -> None:
+        with open(os.path.join(ROOT, "crates.txt"), encoding="utf-8") as file:
+            text = file.read()
+        self.assertEqual(text, with_sides(text, crates_below(ROOT)))
+
+    def test_old_lines_go_and_the_order_stays(self) -> None:
+        text = "# A list.\n\n# first\n# tests: none\ncodes:\npilot_survey:\n\n# second\ncell: codes\n"
+        wanted = "# A list.\n\n# first\n# both: codes\n# handset: pilot_survey\ncodes:\npilot_survey:\n\n"
+        wanted += "# second\n# base station: cell\ncell: codes\n"
+        self.assertEqual(with_sides(text, BELOW), wanted)
 
 
 if __name__ == "__main__":
