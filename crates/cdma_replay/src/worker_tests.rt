@@ -48,7 +48,7 @@ impl Meeting {
 impl Gate for Meeting {
     fn arrive(&self, worker: u8) {
         self.arrived.fetch_add(flag_of(worker), Ordering::SeqCst);
-        for _ in 0..100_000_000u32 {
+        for _ in 0..2_000_000_000u32 {
             if self.arrived.load(Ordering::SeqCst) == self.all {
                 self.met.fetch_add(flag_of(worker), Ordering::SeqCst);
                 break;

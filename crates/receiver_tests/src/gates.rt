@@ -99,7 +99,7 @@ impl Meeting {
 impl Gate for Meeting {
     fn arrive(&self, worker: u8) {
         self.arrived.fetch_add(flag_of(worker), Ordering::SeqCst);
-        for _ in 0..100_000_000u32 {
+        for _ in 0..2_000_000_000u32 {
             if self.arrived.load(Ordering::SeqCst) == self.all {
                 self.met.fetch_add(flag_of(worker), Ordering::SeqCst);
                 break;
@@ -186,7 +186,7 @@ impl Gate for Watch {
             return;
         }
         self.there.store(1, Ordering::SeqCst);
-        for _ in 0..100_000_000u32 {
+        for _ in 0..2_000_000_000u32 {
             if self.gone.load(Ordering::SeqCst) == 1 {
                 break;
             }
