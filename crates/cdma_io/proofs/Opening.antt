@@ -102,6 +102,8 @@ record IsDue (header : Header) (version flags count : ℕ) : Type 0 where
   flags_are : flags_of header ≡ flags
   count_is : header.count ≡ count
 
+-- A header that is answered is lawful and has just these numbers: each of the three tests that were
+-- passed gives one bound, and flags below 4 are spelled by their two bits.
 header_due-ok : (version flags count : ℕ) (header : Header) →
     header_due version flags count ≡ Ok header → IsDue header version flags count
 header_due-ok version flags count header h =

@@ -87,6 +87,9 @@ count_more size q r some low =
     let e : size * q + r + size - 1 ≡ (q + 1) * size + (r - 1) = omega (arith, some) in
     ap (λ (n : ℕ). n / size) e ∙ div-mul-add (q + 1) size (r - 1) (omega (arith, low))
 
+-- The half-frames of a laid body have its n bits and an SCI bit each: n / size of them are full,
+-- and where r bits are left one half-frame more has these, so the SCI bits are (n + size - 1) /
+-- size.
 pub length-framed : (size : ℕ) (l : laying.Laid) → 0 < size →
     length (laying.framed size l) ≡ specs.half_frame_bits size (length l.body)
 unfolding laying.framed
@@ -164,6 +167,9 @@ behind_most : (size count : ℕ) (follows : Bool) (bits : ℕ) →
 behind_most size count true bits = omega arith
 behind_most size count false bits = omega arith
 
+-- One page more is laid as the definition lays it: its capsule comes after what was laid, the body
+-- is then as long as the count of the plan's check says, and so that check covers the pages that
+-- are left and the length of the cycle.
 pub laid_next : (size : ℕ) (form : CheckForm) (pages : List Page) (k : ℕ)
     (layout next : laying.Place) (bits more : List Bool) → 0 < size → k < length pages →
     IsLaying size form pages k layout bits → next.size ≡ layout.size →

@@ -10,6 +10,8 @@ use Rattle.std.proofs.lemmas.List.{length-drop}
 abbrev pub refilled : SyncFields → ℕ → ℕ → ℕ → SyncFields
 refilled m pn time lc = record m { pn = pn; time = time; lc = lc }
 
+-- A sync message stays one when its PILOT_PN, SYS_TIME and LC_STATE are filled in: the three values
+-- fit into their fields, and all others are the ones that it had.
 pub refilled_is : (m : SyncFields) (pn time lc : ℕ) → IsSyncMessage m → pn < 512 → time < 2 ^ 36 →
     lc < 2 ^ 42 → IsSyncMessage (refilled m pn time lc)
 refilled_is m pn time lc is offset early below =

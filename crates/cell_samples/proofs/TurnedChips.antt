@@ -62,6 +62,9 @@ sum_fits chip signs a b quiet first second =
     rw (read16 a (omega (arith, small)), read16 b (omega (arith, small)))
     (fits_signed_from_abs w16 (a +ℤ b) (omega (arith, small, more_most a b)))
 
+-- A chip times a point of the codes fits into 16 bits: the point's parts are 1 or -1, so each
+-- product is one part of the chip or its negative, and the sum or the difference of two is at most
+-- as large as both parts together, which is 32,767.
 pub turned_is : (chip : Sample) (signs : ℤ × ℤ) (a b d e : ℤ) →
     unsigned_abs chip.i + unsigned_abs chip.q ≤ 32767 → IsPoint signs →
     IsSigned chip.i signs.0 a → IsSigned chip.q signs.1 b →

@@ -10,6 +10,9 @@ pub record AreAt (symbols : List Bool) (j : ℕ) (first second : Bool) : Type 0 
   pub even : get_or symbols (2 * j) false ≡ first
   pub odd : get_or symbols (2 * j + 1) false ≡ second
 
+-- In a list with the pair f j, g j for each number j, that pair stands at places 2 j and 2 j + 1.
+-- By induction over the numbers: a pair that is put at the end stands after two values for each
+-- number before it, and those keep their places.
 pub pairs_at : (f g : ℕ → Bool) (n j : ℕ) → j < n →
     AreAt (flat_map (λ j. f j ∷ g j ∷ []) (places n)) j (f j) (g j)
 pairs_at f g zero j lt = absurd (omega (arith, lt))

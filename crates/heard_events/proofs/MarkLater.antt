@@ -83,6 +83,8 @@ ends_late bits before capsule e =
           omega (arith, length-take size bits, long, leb-false size before late, fits)
     ]
 
+-- The frames of a message but its last carry fewer bits than the capsule that ends with it: each
+-- carries 31, and the capsule's last bit comes after all of them.
 frames_few : (t : Tuning) (samples : List Sample) (k : ℕ) (capsule : List Bool) →
     sync_capsule_at t samples k ≡ Some capsule →
     31 * (frames_open t samples (k + 1) - 1) < length capsule

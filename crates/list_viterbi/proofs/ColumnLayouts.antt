@@ -10,6 +10,8 @@ use Rattle.list_viterbi.proofs.LanePicks.{column_read}
 abbrev pub four_set : List ℤ → ℕ → ℤ → ℤ → ℤ → ℤ → List ℤ
 four_set ranks t a b c d = set (set (set (set ranks t a) (256 + t) b) (512 + t) c) (768 + t) d
 
+-- The four scores that are set for a state are read again as they were set: their places lie 256
+-- apart, so none overwrites another.
 pub four_here : (ranks : List ℤ) (t : ℕ) (a b c d : ℤ) → length ranks ≡ 1024 → t < 256 →
     four_of (four_set ranks t a b c d) t ≡ a ∷ b ∷ c ∷ d ∷ []
 four_here ranks t a b c d whole below =

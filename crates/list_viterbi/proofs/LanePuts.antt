@@ -16,6 +16,8 @@ pub four_are : {a b c d a' b' c' d' : ℤ} → a ≡ a' → b ≡ b' → c ≡ c
     (a ∷ b ∷ c ∷ d ∷ []) ≡ (a' ∷ b' ∷ c' ∷ d' ∷ [])
 four_are p q r s = λ i. p i ∷ q i ∷ r i ∷ s i ∷ []
 
+-- The four parts that are put at places 256 apart are read again lane by lane: each is two places
+-- long, so a later one overwrites nothing of an earlier one.
 pub put_read : (at l : ℕ) (next : List ℤ) (h : Heads) → length next ≡ 1024 → at + 2 ≤ 256 →
     HeadsLong h → l < 2 → four_of (put_heads at next h) (at + l) ≡ lane_of l h
 put_read at l next h whole room long b =
@@ -58,6 +60,8 @@ beside i k xs ys two side = ⊎_elim
 moved : (n t at : ℕ) → (t < at) ⊎ (at + 2 ≤ t) → (n + t < n + at) ⊎ (n + at + 2 ≤ n + t)
 moved n t at side = ⊎_elim (λ low. inl (omega (arith, low))) (λ high. inr (omega (arith, high))) side
 
+-- The four values of any other state stay: each part that is put covers two places, and the state's
+-- own places lie beside them in all four quarters of the list.
 pub put_others : (at t : ℕ) (next : List ℤ) (h : Heads) → at + 2 ≤ 256 → t < 256 → HeadsLong h →
     (t < at) ⊎ (at + 2 ≤ t) → four_of (put_heads at next h) t ≡ four_of next t
 put_others at t next h room b long side =

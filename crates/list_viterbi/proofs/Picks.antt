@@ -120,6 +120,9 @@ picked_more k xs ys i j n i' j' scores choices new value b pick p part value_is 
       chosen = chosen_more choices new m b p.taken pick refl p.small is back_is p.chosen;
     }
 
+-- A pick from the odd state's list is the next step of the merge: its score is the list's at place
+-- j with the gain added, and the choice is told by the bit of the next weight, which is 2 to the
+-- number of picks so far.
 pub picked_odd : (k i j n : ℕ) (even odd : List ℤ) (g h : ℤ) (scores : List ℤ)
     (choices new weight : ℕ) (value : ℤ) → weight ≡ 2 ^ length scores → j < length odd →
     second_is_next pick_score (drop i (picks_from 0 g 0 even)) (drop j (picks_from 1 h 0 odd))
@@ -143,6 +146,8 @@ picked_odd k i j n even odd g h scores choices new weight value power within nex
     (omega (arith, within, long)) here next p.part)
     value_is (omega (arith, is, size)) refl (omega arith) refl
 
+-- A pick from the even state's list is the next step of the merge: its score is the list's at place
+-- i with the gain added, and the choices stay as they are, since the bit of an even pick is 0.
 pub picked_even : (k i j n : ℕ) (even odd : List ℤ) (g h : ℤ) (scores : List ℤ) (choices : ℕ)
     (value : ℤ) → i < length even →
     second_is_next pick_score (drop i (picks_from 0 g 0 even)) (drop j (picks_from 1 h 0 odd))

@@ -205,6 +205,9 @@ contains_map g ps i h = (
   get_or-map g ps h.0 i (g i) h.1 ∙ ap g h.2,
 )
 
+-- The codewords at the first places of the ordering by number are the first ones by the decoder's
+-- own order: each allowed codeword has one number, and of two numbers the one with the greater
+-- score, or at a tie the lesser one, has the better codeword.
 pub places_first : (softs : List ℤ) (ends : Ends) (n k : ℕ) (ps : List ℕ) → 8 ≤ n →
     ArePlaces (λ r. score_of softs (codeword_at ends n r)) (codeword_count ends n) k ps →
     AreFirst (score_of softs) (IsAllowed ends n) k (map (codeword_at ends n) ps)

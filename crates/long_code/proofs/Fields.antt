@@ -95,6 +95,9 @@ first_bits_lt esn i h =
     pow_mono {j = 42} (omega (arith, long esn i h, h)) in
     omega (arith, number_lt (first_bits esn i), most)
 
+-- One bit more of a private mask is its next bit in order: the mask so far is below 2^42, so
+-- nothing is lost when it is shifted up by one, and the bit put below is that of the serial number
+-- at the next permuted place.
 pub first_bits-more : (esn mask bit i : ℕ) → i < 32 → mask ≡ number (first_bits esn i) →
     bit ≡ bit_and (esn / 2 ^ get_or permuted i 0) 1 →
     bit_or (mask * 2 % 18446744073709551616) bit ≡ number (first_bits esn (i + 1))

@@ -35,6 +35,8 @@ pub record Parts (s : MessageShape) : Type 0 where
   pub few : length s.records ≤ 3
   pub last : ends s.records s.most ≡ true
 
+-- A layout that passes the test has ten properties: the test joins them by `and`, and they are
+-- taken off it one after another.
 pub lawful : (s : MessageShape) → is_lawful s ≡ true → Parts s
 unfolding is_lawful
 lawful s h =

@@ -197,6 +197,8 @@ octets_again z w octets rest whole counted =
       number_again w n behind counted,
     ) (ap (λ (k : ℕ). part_at k behind) all ∙ part_again octets rest)
 
+-- Octets that were read are spelled by the bits that they were read from: the zeros, the count and
+-- the octets were read one after another, and each of the three spells the bits that it took.
 pub octets_there : (z w : ℕ) (bits octets after : List Bool) →
     octets_at z w bits ≡ Some (octets, after) →
     (length octets % 8 ≡ 0) × (length octets / 8 < 2 ^ w)
@@ -266,6 +268,9 @@ RecordsThere ws least bits read =
     × FieldsFit (record_fields ws (height read.0) read.0) × (least ≤ height read.0)
     × (bits ≡ spelled (record_fields ws (height read.0) read.0) ++ read.1)
 
+-- Records that were read are spelled by the bits that they were read from: as many were read as
+-- have room in the bits, each spells its own, the columns are as long as there are records, and
+-- there are at least as many as the layout asks for.
 pub records_part_there : (ws : List ℕ) (least : ℕ) (bits : List Bool) (columns : List (List ℕ))
     (after : List Bool) → length ws ≤ 3 → records_at ws least bits ≡ Some (columns, after) →
     RecordsThere ws least bits (columns, after)

@@ -36,6 +36,9 @@ reading_again s c h is =
 abbrev Spells : MessageShape → List Bool → Contents → Type 0
 Spells s bits c = IsOf s c × (bits ≡ spelling s c)
 
+-- What a lawful layout reads is spelled by the bits that it was read from: the fixed fields, the
+-- group, the octets, the records and the rest are read one after another, and each spells the bits
+-- that it took from where the one before it ended.
 pub reading_there : (s : MessageShape) (bits : List Bool) (c : Contents) → is_lawful s ≡ true →
     reading s bits ≡ Some c → IsOf s c × (bits ≡ spelling s c)
 unfolding reading spelling

@@ -97,6 +97,9 @@ module _ {t : Tuning} {traffic : Traffic} {m : Mark} {r : SoftHandoff} {heard : 
   abbrev next : ℕ
   next = r.receiver.frames.clock.next
 
+  -- A frame that is heard is the first of the events that were left: it is the next frame in the
+  -- file, with its own power control bits, the message that it ends is kept to be told next, and
+  -- what is left then is what was left without the frame.
   pub hears_heard : (frame : Decoded) (told : List Bool) (framer : Option (List Bool))
       (message : Option SpelledSignal) → frame ≡ decoded_at t traffic m legs heard next →
       told ≡ power_bits_at t traffic m legs heard next →

@@ -146,6 +146,8 @@ nearer a b all some left h e =
     let w : unsigned_abs (a +ℤ b) + left ≤ unsigned_abs a + all = omega (arith, ints, h, e) in
     mul-le-mul w w
 
+-- The bound on an energy never rises as more samples are taken into the sum: what they add to
+-- either part of it is at most their magnitudes, by which the bound's other term falls.
 bound_falls : (samples : List Sample) (phase k n : ℕ) → k ≤ length samples →
     bound samples phase (k + n) ≤ bound samples phase k
 bound_falls samples phase k n le =

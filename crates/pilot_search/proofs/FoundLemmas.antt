@@ -23,6 +23,9 @@ left_out samples phase limit has low = record {
       absurd (omega arith);
 }
 
+-- The better of what was found in two ranges is what is found in both together: no phase of either
+-- range has a greater energy, and at a tie the left one's phase is taken, which comes before any of
+-- the right.
 pub both_found : (samples : List Sample) (from middle to : ℕ) (left right : Option Best) →
     from ≤ middle → middle ≤ to → to ≤ 32768
     → IsFound samples from middle left → IsFound samples middle to right →

@@ -324,6 +324,8 @@ with_eight samples signs t sum =
     (plus (plus (plus (plus (plus (plus sum (p t)) (p (t + 1))) (p (t + 2))) (p (t + 3)))
     (p (t + 4))) (p (t + 5))) (p (t + 6))) (p (t + 7))
 
+-- Eight products more are eight single steps of the correlation, in each of which one sample's
+-- product goes from what is left into the sum.
 eight_more : (samples : List Sample) (signs : List (ℤ × ℤ)) (t : ℕ) (sum : Pair) →
     t + 8 ≤ length samples → t + 8 ≤ length signs →
     plus (with_eight samples signs t sum)

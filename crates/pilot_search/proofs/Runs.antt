@@ -38,6 +38,9 @@ parts_set from to zero (x ∷ ws) w w' at a b parts =
 parts_set from to (suc k) (x ∷ ws) w w' at a b parts =
     (parts.0, parts.1, parts_set x.to to k ws w w' at a b parts.2)
 
+-- Each step of a worker keeps the state sound: an energy that is evaluated or published is that of
+-- a phase and no more than the greatest, an energy that is read was published before, and a phase
+-- that is skipped has less energy than one that was seen.
 step_sound : (samples : List Sample) (old : State) (step : Step) (new : State) →
     Goes samples old step new → IsSoundState samples old → IsSoundState samples new
 step_sound samples old (Evaluate k phase) new g h =

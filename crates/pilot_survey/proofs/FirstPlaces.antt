@@ -97,6 +97,8 @@ next_greatest e n ps k is lt = record {
       (own_or_behind e n ps k q is lt (let b = is.below k 0 lt in omega (arith, b, under)) free);
 }
 
+-- The first k numbers of an ordering by falling value are its first places. By induction over k:
+-- the number that comes next has the greatest value of those that aren't among them.
 first_taken : (e : ℕ → ℕ) (n : ℕ) (ps : List ℕ) (k : ℕ) → IsOrdering e n ps → k ≤ n →
     first_places k (λ (p : ℕ). pos (e p)) n ≡ take k ps
 first_taken e n ps zero is le = first_places-none (λ (p : ℕ). pos (e p)) n

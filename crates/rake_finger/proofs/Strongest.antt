@@ -109,6 +109,9 @@ magnitudes_most (s ∷ samples) h =
     let rest = magnitudes_most samples (All-tail IsNarrow s samples h) in
     omega (arith, here, rest)
 
+-- Up to 512 samples of 16 bits have an energy of at most 2^51: it is at most the bound that holds
+-- before any sample is summed, twice the square of the sum of all magnitudes, and that sum is at
+-- most 2^25.
 pub energy_most : (samples : List Sample) (phase : ℕ) → length samples ≤ 512 →
     All IsNarrow samples → energy samples phase ≤ 2 ^ 51
 energy_most samples phase few h =

@@ -66,6 +66,8 @@ module _ {C : Type 0} {count : ℕ} {s : StreamOf C} {c : Continued} {heard : Li
             sym (frame_softs_sooner s is.timed heard more k inside (omega (arith, ended))));
       }
 
+  -- After a frame's soft values came in, the last m frames' are those of the m frames up to this
+  -- one: the m - 1 before it were the last ones that stood there, and it comes after them.
   shifted : (fresh : List ℤ) → fresh ≡ frame_softs heard s c.clock.have →
       length c.softs ≡ 1152 → length fresh ≡ symbols s.form → (m : ℕ) → m ≤ 3 →
       c.clock.low + m ≤ c.clock.have + 1 →

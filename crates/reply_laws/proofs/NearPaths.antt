@@ -65,6 +65,9 @@ module _ (samples : List Sample) (best : ℕ) where
     rank place =
         soon (is_out second place) (energy samples (near_phase_at best place)) (near_phase_at best place)
 
+    -- A next path is always found: of the 65 places round the best phase those that are taken rank
+    -- below all others, and one is free, so the first place of the greatest rank is a free one,
+    -- with the greatest energy of those.
     next_found : (place : ℕ) × IsNext round 32 second 65 place
     next_found =
         let place = first_greatest rank 65 in

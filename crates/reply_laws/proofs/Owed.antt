@@ -40,6 +40,8 @@ has_bits width bytes = record {
   quadrature = read_sfits (integer_width_of width) _;
 }
 
+-- Any bytes that are as long as n samples spell n samples. By induction: each sample's bytes spell
+-- the one that is read from them, and the rest spell the others.
 spells : (width : Width) (n : ℕ) (bytes : List ℕ) → AreBytes bytes →
     length bytes ≡ sample_len width * n → Spells width n bytes
 spells width zero bytes small long = record {

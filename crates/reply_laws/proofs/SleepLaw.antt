@@ -60,6 +60,9 @@ owed_too taps r bytes changed both reply here there owed =
 
 -- ---- the law
 
+-- Two files that agree in what a sleeping handset hears have the same reply: the first samples
+-- agree, so it is tuned alike in both, the mark is the same, each slot in which it is awake has the
+-- same text, and so have the whole reply and its end.
 pub sleep_changes_no_reply : SleepChangesNoReply
 sleep_changes_no_reply r fingers number key cycle header one other bytes changed reply purpose most few
     file file' agree =

@@ -287,6 +287,9 @@ page_told form first half_frames p there =
 
 -- ---- the law
 
+-- In a slot that lies whole in a file, a handset hears just the pages that the cycle has there: the
+-- slot's four frames hold eight half-frames, whose capsules are those of the pages that begin and
+-- end within them, in the rounds of the cycle up to there.
 pub slot_pages_back : SlotPagesComeBack
 unfolding pages_in_slot
 slot_pages_back rate form pages first whole =
@@ -411,6 +414,8 @@ module _ (plan : CellPlan) (t : Tuning) (number : ℕ) (m : Mark) (superframes :
         frame_there slot 3 inside (omega arith),
       ) refl
 
+  -- A slot after the last one that ends in the file isn't in it: all four of its frames would have
+  -- to be, but the last of them ends after the file does.
   slot_outside : (slot : ℕ) → slots_to_end plan superframes ≤ slot →
       is_slot_within t.count stream (length samples) slot ≡ false
   unfolding places

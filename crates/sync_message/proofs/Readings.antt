@@ -24,6 +24,9 @@ reads_capsule form m is =
     let most = le-leb (length c) 1184 (omega (arith, long, is.fills.whole, is.fills.most)) in
     rw (whole, most) (if_spelled-again M30 form sync_body sync_body_reading 38 m refl (body_again m is))
 
+-- A capsule that is read as a sync message is that message's capsule: reading it tests that
+-- spelling the message gives these very bits, and a capsule of whole octets and of at most 148 of
+-- them has a body that fills it.
 pub reading_is_message : (form : CheckForm) (bits : List Bool) (m : SyncFields) →
     sync_reading form bits ≡ Some m → IsSyncMessage m × (bits ≡ sync_capsule form m)
 unfolding sync_reading sync_capsule

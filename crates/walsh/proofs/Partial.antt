@@ -175,6 +175,9 @@ sum_more s n x f is here there =
     block (2 ^ s + 2 ^ s) (n - r) r x = rw (is.in_block, doubled s) in
     rw (here, there_is, all) (sym (block_sum s r (n - r) x small))
 
+-- At a place whose number has bit s the next stage of the fast transform is a difference: over the
+-- doubled block a row with this bit has the signs of the row without it in the lower half, and the
+-- opposite ones in the upper half.
 difference_more : (s n : ℕ) (x f : ℕ → ℤ) → IsHigh s n → f n ≡ partial s x n →
     f (n - 2 ^ s) ≡ partial s x (n - 2 ^ s) → f (n - 2 ^ s) -ℤ f n ≡ partial (suc s) x n
 unfolding partial

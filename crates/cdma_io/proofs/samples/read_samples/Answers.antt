@@ -7,6 +7,9 @@ use Rattle.std.proofs.lemmas.Result.{err_from_is_err_and}
 use Rattle.cdma_io.proofs.Reading.{cuts_short_whole, pieces_in_range, pieces_more, samples_taken, samples_taken_fewer, fewer_at_most}
 use Rattle.cdma_io.proofs.samples.read_samples.Goals as goal
 
+-- A fault in one piece is one of the whole reading: the piece begins right after the samples that
+-- were taken, and these and the piece's own are no more than were asked for, so its place and the
+-- bytes that were consumed are those of the whole.
 pub returns-in_err-read_piece-clause-fault : goal.returns-in_err-read_piece-clause-fault
 returns-in_err-read_piece-clause-fault g c =
     let inv = c.loop-done.invariant in
@@ -27,6 +30,8 @@ returns-in_err-read_piece-clause-fault g c =
     (length (take (done + count - done) (drop done out))) _ _ _ few here inv.taken
     c.in_err-read_piece.ensures.fault)
 
+-- Where a piece fails, fewer bytes were consumed than all samples have: those taken before fill
+-- their part of the output, and of the piece, which fits into what is left of it, not all came.
 pub returns-in_err-read_piece-clause-fewer : goal.returns-in_err-read_piece-clause-fewer
 returns-in_err-read_piece-clause-fewer g c =
     let inv = c.loop-done.invariant in

@@ -14,6 +14,9 @@ loop-n-init c = record {
   kept = λ e. refl;
 }
 
+-- The level of one channel more is kept: asking for it changes no channel, the list has it at the
+-- channel's number, and the answer says whether this and all levels before it are those that were
+-- kept already.
 pub loop-n-preserved : goal.loop-n-preserved
 loop-n-preserved c =
     let inv = c.loop-n.invariant in

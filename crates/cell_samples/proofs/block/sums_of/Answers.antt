@@ -25,6 +25,9 @@ with_level-requires-clause-sum c =
     inside inv.small in
     (omega (arith, here.0, few), omega (arith, here.1, few))
 
+-- One channel more is in the sums: its level times the link's factor is added at its own row, so
+-- each row has the sum over the channels so far that are sent on it, and no sum outgrows that many
+-- channels of the greatest level.
 pub loop-n-preserved : goal.loop-n-preserved
 loop-n-preserved c =
     let inv = c.loop-n.invariant in

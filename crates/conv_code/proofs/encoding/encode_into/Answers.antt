@@ -12,6 +12,8 @@ loop-i-init c = record {
   state = ap (binary 8) c.new-register.ensures ∙ sym (state_after-none (binary 8 c.args.start));
 }
 
+-- One bit more is encoded: the register holds the eight bits before it, so the two symbols that it
+-- gives are the definition's next two, and it then holds the eight bits up to this one.
 pub loop-i-preserved : goal.loop-i-preserved
 loop-i-preserved c =
     let inv = c.loop-i.invariant in

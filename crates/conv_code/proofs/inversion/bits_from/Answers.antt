@@ -16,6 +16,8 @@ loop-i-init c = record {
   only = λ codeword gives. c.empty-bits.ensures;
 }
 
+-- One bit more is recovered: it gives the two symbols at its place, and any codeword that gives all
+-- symbols has this bit there, since of the two bits only one gives the first symbol in this state.
 pub loop-i-preserved : goal.loop-i-preserved
 loop-i-preserved c =
     let inv = c.loop-i.invariant in
@@ -59,6 +61,9 @@ loop-i-preserved c =
           ∙ sym (take_more codeword i false within);
     }
 
+-- Where the bit's symbols aren't those at its place no codeword gives them all: in this state its
+-- next bit would have to be the one that gives the first symbol, and that one gives another second
+-- symbol.
 pub returns-then-ne-clause-none : goal.returns-then-ne-clause-none
 returns-then-ne-clause-none c codeword gives =
     let inv = c.loop-i.invariant in

@@ -12,6 +12,8 @@ loop-subchannel-init c = record {
   few = omega (arith, c.empty-sums.ensures.count);
 }
 
+-- One subchannel more is looked at: where a leg has it, the sums over the groups of its soft values
+-- are put at the end of the list, as in the definition, and where none has it nothing is put there.
 pub loop-subchannel-preserved : goal.loop-subchannel-preserved
 loop-subchannel-preserved c =
     let had = c.loop-subchannel.invariant in

@@ -4,6 +4,8 @@ use Rattle.heard_events.proofs.Common.{unsigned_abs, map-append, Strength, pilot
 use Rattle.heard_events.proofs.LegLists.{all_at, map_at}
 use Rattle.heard_events.proofs.measuring.measure.Goals as goal
 
+-- One pilot more is measured: its strength is put at the end of the list, its offset is below 512
+-- as that of every pilot to be measured, and it was found at most 226 chips from where it is due.
 pub loop-i-preserved : goal.loop-i-preserved
 loop-i-preserved c =
     let had = c.loop-i.invariant in

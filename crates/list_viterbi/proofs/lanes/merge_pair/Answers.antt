@@ -53,6 +53,9 @@ merge_block-requires-2-clause-odd_fit c =
     (omega (arith, c.requires.block)) c.requires.room plus_size c.heads_at.ensures.odd
     c.raised-upper_odd.ensures
 
+-- A pair of blocks gives four lanes of states their picks: to the lower states the even state comes
+-- with the gain added and the odd one with it taken off, to the upper states the other way round,
+-- and all other states keep what they had.
 pub returns-clause-pair : goal.returns-clause-pair
 returns-clause-pair c =
     let ranks = c.args.ranks.now in

@@ -3,6 +3,8 @@ use Rattle.list_viterbi.proofs.Common.{◌∙◌, rules, w64, to_z-of_z, SFits}
 use Rattle.list_viterbi.proofs.ColumnLayouts.{four_here, four_read}
 use Rattle.list_viterbi.proofs.lanes.put_scores.Goals as goal
 
+-- The four scores of a state are put as they were given: each fits into 64 bits, and each is read
+-- again from its own place.
 pub returns-clause-here : goal.returns-clause-here
 returns-clause-here c =
     let first = c.get.result.now in

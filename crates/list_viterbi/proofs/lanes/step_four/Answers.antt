@@ -23,6 +23,8 @@ merge_pair-requires-clause-room c =
     (gains_room c.args.ranks.now lanes c.args.first c.args.second c.loop-block.block
     c.requires.room are)
 
+-- One block of states more has its picks: the gains in its lanes are those that the two soft values
+-- give these states, and the states of the blocks before it keep theirs.
 pub loop-block-preserved : goal.loop-block-preserved
 loop-block-preserved c =
     let f = c.args.first in

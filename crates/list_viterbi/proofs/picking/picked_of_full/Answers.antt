@@ -18,6 +18,9 @@ loop-n-init c =
       picked = picked_none c.args.k _ _;
     })
 
+-- One pick more out of lists that are long enough is one step of their merge: the greater of both
+-- heads is taken, the even one at a tie, and of n picks those that weren't the odd list's were the
+-- even one's, so its place is n - j.
 pub loop-n-preserved : goal.loop-n-preserved
 loop-n-preserved c =
     let inv = c.loop-n.invariant in

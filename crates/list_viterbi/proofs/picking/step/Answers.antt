@@ -24,6 +24,8 @@ picked_into-requires-clause-room c =
     rw (to_z-of_z w64 gain (record { sfits = c.gain_at-gain.type_inv }))
     (λ u b. gain_room c.args.first c.args.second gain _ size (c.requires.room u b))
 
+-- One state more has its picks: the gain is the one that the state's code and the two soft values
+-- give, so what was picked is the definition's, and the states before it keep theirs.
 pub loop-state-preserved : goal.loop-state-preserved
 loop-state-preserved c =
     let f = c.args.first in

@@ -15,6 +15,9 @@ loop-back-init c = record {
       c.args.place c.args.bits.now (less_none (length c.args.columns.now)) (omega (arith, c.requires));
 }
 
+-- One step further back is one step of the definition's path: the pointer of the column tells the
+-- state before and the place in its list, and the bit that is found there is put before those that
+-- were found.
 pub loop-back-preserved : goal.loop-back-preserved
 loop-back-preserved c =
     let columns = c.args.columns.now in

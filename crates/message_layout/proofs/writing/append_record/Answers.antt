@@ -4,6 +4,8 @@ use Rattle.message_layout.proofs.Common.{spelled, in_widths, fit_value, written_
 use Rattle.message_layout.proofs.Columns.{number_in_record, number_room, sent_all, three_long}
 use Rattle.message_layout.proofs.writing.append_record.Goals as goal
 
+-- The next number of a record fits into its width: it is the one that the record has in that
+-- column, and all fields of the record fit into theirs.
 pub append_number-requires-clause-fits : goal.append_number-requires-clause-fits
 append_number-requires-clause-fits c =
     let rows = c.args.fields.now in
@@ -20,6 +22,8 @@ append_number-requires-clause-fits c =
     (fit_value ws vs c.loop-j.j c.requires.fit (omega (arith, long, c.loop-j-test.true))
     (omega (arith, wide, three, c.loop-j-test.true, c.requires.few)))
 
+-- There is room for the next number of a record: the numbers before it and this one are the first
+-- fields of a record that has room as a whole.
 pub append_number-requires-clause-room : goal.append_number-requires-clause-room
 append_number-requires-clause-room c =
     let rows = c.args.fields.now in
@@ -40,6 +44,8 @@ append_number-requires-clause-room c =
       c.requires.room,
     )
 
+-- One number more of a record is written: it is the one in column j, in the width of row j, so the
+-- body ends with the first j + 1 fields of the record.
 pub loop-j-preserved : goal.loop-j-preserved
 loop-j-preserved c =
     let rows = c.args.fields.now in

@@ -21,6 +21,8 @@ append_number-requires-clause-fits c =
     (fit_value ws c.args.values.now c.loop-i.i c.requires.values.fit lt
     (omega (arith, c.requires.values.all, lt)))
 
+-- There is room for the next value: the values before it and this one are the first fields of a
+-- list that has room as a whole.
 pub append_number-requires-clause-room : goal.append_number-requires-clause-room
 append_number-requires-clause-room c =
     let rows = c.args.rows.now in

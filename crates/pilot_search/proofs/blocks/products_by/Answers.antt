@@ -4,6 +4,9 @@ use Rattle.pilot_search.proofs.LaneLemmas.{all_units, are_products, keep, kept16
 use Rattle.pilot_search.proofs.LaneLemmas.{units_across}
 use Rattle.pilot_search.proofs.blocks.products_by.Goals as goal
 
+-- The sums are those of the products: the samples' parts are kept as numbers of 16 bits, the signs
+-- are 1 or -1, and pair by pair these and the turned signs give the real parts and the imaginary
+-- ones.
 pub returns : goal.returns
 returns c =
     let first = c.args.at in

@@ -4,6 +4,8 @@ use Rattle.pilot_search.proofs.Common.{to_z, of_z, w32, w64, unsigned_abs, to_z-
 use Rattle.pilot_search.proofs.LaneLemmas.{total_more, kept_lanes, wide_sum, far_sum}
 use Rattle.pilot_search.proofs.lanes.total_of.Goals as goal
 
+-- One lane more is added to the total: its value is read as it was written, since it is below 2^31
+-- in size, and the total of eight such values stays far below 2^63.
 pub loop-lane-preserved : goal.loop-lane-preserved
 loop-lane-preserved c =
     let inv = c.loop-lane.invariant in

@@ -3,6 +3,8 @@ use Rattle.pilot_search.proofs.Common.{◌≡◌, ◌+◌, ◌-◌, ◌/◌, ◌
 use Rattle.pilot_search.proofs.FoundLemmas.{both_found, start_up, start_most}
 use Rattle.pilot_search.proofs.searching.+fn-run-join+arg2+fn-run-join+arg3+run.Goals as goal
 
+-- What both halves of the workers found is found in the whole range: the ranges of the two halves
+-- meet where the second begins, and the better of the two is the best of both.
 pub returns-clause-found : goal.returns-clause-found
 returns-clause-found g t c =
     let few : ℕ = c.args.count / 2 in

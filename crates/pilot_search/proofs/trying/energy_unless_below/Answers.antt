@@ -10,6 +10,9 @@ returns-then-is_empty c =
     (first_of (search rules, grind (arith, common_steps))) in
     none_left c.args.samples.now c.args.phase c.args.limit none
 
+-- The energy that is answered is the phase's, and no bound is below the limit: the sum before the
+-- last chunk and that chunk's correlation make the whole, and since bounds never rise the one
+-- before the last chunk tells of all.
 pub returns : goal.returns
 returns c =
     let xs = c.args.samples.now in

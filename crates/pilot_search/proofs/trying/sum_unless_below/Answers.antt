@@ -12,6 +12,8 @@ loop-j-init c = record {
   left = omega arith;
 }
 
+-- Some chunks more are in the sum: they are the next samples that were left, correlated with the
+-- code from their own phase on, and the sum stays within what so many samples can give.
 pub loop-j-preserved : goal.loop-j-preserved
 loop-j-preserved c =
     let inv = c.loop-j.invariant in

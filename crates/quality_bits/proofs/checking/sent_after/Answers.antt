@@ -8,6 +8,8 @@ use Rattle.quality_bits.proofs.Digits.{number-inverted}
 use Rattle.quality_bits.proofs.Steps.{length-check_bits}
 use Rattle.quality_bits.proofs.checking.sent_after.Goals as goal
 
+-- A complemented check is what is answered: a check and its complement add up to 2 to the number of
+-- its bits, less 1, so taking the plain check off that number turns each of its bits.
 pub returns-in-Complemented : goal.returns-in-Complemented
 returns-in-Complemented c =
     let g = generator_of c.args.kind in

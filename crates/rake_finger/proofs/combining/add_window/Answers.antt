@@ -12,6 +12,8 @@ use Rattle.rake_finger.proofs.Adding.{window_of, symbol_within, soft_bound-most,
 use Rattle.rake_finger.proofs.SoftValues.{soft_is, value_small}
 use Rattle.rake_finger.proofs.combining.add_window.Goals as goal
 
+-- Adding a symbol's value to the soft value that the other fingers gave doesn't overflow: what
+-- stands there leaves room for one value of the form's greatest size, and this value is no greater.
 pub overflow_add-out : goal.overflow_add-out
 overflow_add-out c =
     let form = c.args.form in
@@ -31,6 +33,9 @@ overflow_add-out c =
     let most = soft_bound-most form in
     rw at (fits_signed_from_abs w64 _ (omega (arith, ints, rest, small, bound, most)))
 
+-- One symbol more of the window is added up: its value is made of the window's pilot sum and the
+-- symbol's own sum, which are those of the definition, and the soft values of all later symbols
+-- stay as they were.
 pub loop-symbol-preserved : goal.loop-symbol-preserved
 loop-symbol-preserved c =
     let ring = c.args.ring.now in

@@ -32,6 +32,8 @@ with_products-requires-in-loop-k-clause-more c =
     made.result.0 made.result.1 (omega (arith, c.loop-k-test.true, c.requires.room))
     c.requires.row_units c.products.ensures made.ensures.real made.ensures.imaginary)
 
+-- Eight chips more are added on the lanes, as they are and with the row's signs: the signs of a
+-- group are those of the row at its place in the symbol, and up to 4,096 groups no lane overflows.
 pub loop-k-preserved : goal.loop-k-preserved
 loop-k-preserved c =
     let xs = c.args.samples.now in

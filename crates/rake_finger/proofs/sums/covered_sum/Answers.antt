@@ -8,6 +8,8 @@ use Rattle.rake_finger.proofs.CoveredSums.{row_sign, covered_step}
 use Rattle.rake_finger.proofs.Rings.{held_sample, next_cell}
 use Rattle.rake_finger.proofs.sums.covered_sum.Goals as goal
 
+-- One chip more is added: its sample is still in the ring, the code's point is that of the phase at
+-- the sample's place, and so their product, with the row's sign, is the definition's next term.
 pub loop-k-preserved : goal.loop-k-preserved
 loop-k-preserved c =
     let inv = c.loop-k.invariant in

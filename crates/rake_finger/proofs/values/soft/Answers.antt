@@ -6,6 +6,9 @@ use Rattle.rake_finger.specs.Soft.{finger_place, pilot_sum, symbol_sum, symbol_c
 use Rattle.rake_finger.proofs.SoftValues.{pilot_is, soft_bounded, soft_is, symbol_is}
 use Rattle.rake_finger.proofs.values.soft.Goals as goal
 
+-- The soft value is the definition's: the pilot's sum is that of the window in which the symbol
+-- lies, the symbol's sum is that of its own chips, and the second turned by the first is what is
+-- answered.
 pub returns-clause-value : goal.returns-clause-value
 returns-clause-value c = λ samples held.
     let finger = c.args.finger.now in
@@ -32,6 +35,8 @@ returns-clause-value c = λ samples held.
     (symbol_sum samples finger form c.args.start c.args.symbol)) pilot
     ∙ rw (chips.ensures, wide.ensures) (soft_is samples finger form c.args.start c.args.symbol)
 
+-- A soft value is within its form's bound: both parts of the pilot's sum and of the symbol's are at
+-- most 65,536 for each chip, and the value is a sum of two products of these.
 pub returns-clause-bound : goal.returns-clause-bound
 returns-clause-bound c =
     let p = c.covered_sum-pilot in

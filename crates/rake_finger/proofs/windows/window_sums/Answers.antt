@@ -21,6 +21,9 @@ overflow_add-pilot-in-loop-k c =
     (omega (arith, c.loop-k-test.true, c.window_symbols-k-end.ensures))
     c.loop-k.invariant.pilot_q (omega (arith, chips, sums.ensures.small.plain.1))
 
+-- One symbol more of the window is summed: its chips follow those of the symbols before it and are
+-- still in the ring, its plain sum goes on with the pilot's, and the sum with the row's signs is
+-- stored as the symbol's own, each within its bound.
 pub loop-k-preserved : goal.loop-k-preserved
 loop-k-preserved c =
     let inv = c.loop-k.invariant in

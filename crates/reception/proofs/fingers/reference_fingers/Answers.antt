@@ -4,6 +4,9 @@ use Rattle.reception.proofs.Common.{to_z-of_z, SFits, w8, all_near, has_referenc
 use Rattle.reception.proofs.FingerLists.{near_more, reference_more, rows_more, fingers_more}
 use Rattle.reception.proofs.fingers.reference_fingers.Goals as goal
 
+-- One path more has its finger: the finger is the one that the definition gives for the path's
+-- delay, so the list so far is the definition's, is near the reference, and has the reference's own
+-- finger first.
 pub loop-i-preserved : goal.loop-i-preserved
 loop-i-preserved c =
     let had = c.loop-i.invariant in

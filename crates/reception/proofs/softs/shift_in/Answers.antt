@@ -5,6 +5,8 @@ use Rattle.std.proofs.lemmas.List.{append-nil}
 use Rattle.reception.proofs.SoftSums.{shifted_small}
 use Rattle.reception.proofs.softs.shift_in.Goals as goal
 
+-- The fresh soft values come in at the end: the list is turned by their number, so that the oldest
+-- ones stand last, and these are then overwritten.
 pub returns-clause-value : goal.returns-clause-value
 returns-clause-value c =
     let xs = c.args.softs.now in

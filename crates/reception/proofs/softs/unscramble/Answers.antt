@@ -4,6 +4,8 @@ use Rattle.reception.proofs.Common.{sum_by-set, SFits, w64, sign}
 use Rattle.reception.proofs.Descrambled.{descrambled_more}
 use Rattle.reception.proofs.softs.unscramble.Goals as goal
 
+-- One soft value more is unscrambled: it is the value times the sign of its bit, which fits since
+-- it is no greater than before, and neither the values before it nor the sum of all sizes changes.
 pub loop-i-preserved : goal.loop-i-preserved
 loop-i-preserved c =
     let bits = c.args.bits.now in

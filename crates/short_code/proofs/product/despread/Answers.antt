@@ -8,6 +8,8 @@ use Rattle.short_code.proofs.product.despread.Goals as goal
 pub overflow_sub-signed : goal.overflow_sub-signed
 overflow_sub-signed c = fits_signed_from_abs w32 _ (omega (arith, ints))
 
+-- A despread sample is the product by the definition: each of its four products is a part of the
+-- sample times a sign, and the two sums of them fit into what holds them.
 pub returns-clause-value : goal.returns-clause-value
 returns-clause-value c =
     let s = c.args.sample in

@@ -18,6 +18,8 @@ loop-frame-init c =
       kept = refl;
     }
 
+-- One frame more of a slot has its bits: they are those that the definition decodes for the frame,
+-- and they come after those of the frames before it.
 pub loop-frame-preserved : goal.loop-frame-preserved
 loop-frame-preserved c =
     let f = slot_frame_bits c.args.rate c.args.softs.now in

@@ -12,6 +12,8 @@ loop-back-init c = record {
       c.args.bits.now (less_none (length c.args.columns.now)) (omega (arith, c.requires));
 }
 
+-- One step further back is one step of the definition's path: the column's choice tells the state
+-- before, and the bit that is found there is put before those that were found.
 pub loop-back-preserved : goal.loop-back-preserved
 loop-back-preserved c =
     let columns = c.args.columns.now in

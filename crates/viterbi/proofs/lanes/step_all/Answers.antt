@@ -48,6 +48,9 @@ greater-most-requires-clause-other_fit g c =
     rw (kept c.greater.result c.greater.ensures.fit)
     c.greater.ensures.fit
 
+-- Two blocks of eight states more, one in the lower half and one in the upper, have their metrics
+-- and choices: each lane has the definition's for its state, and the greatest metric of each lane
+-- so far is kept.
 pub loop-k-preserved : goal.loop-k-preserved
 loop-k-preserved g c =
     let forced = FORCED-type (number g.row.FORCED) in
@@ -96,6 +99,8 @@ loop-k-preserved g c =
           (rw (et, ef, es) at c.loop-k.invariant.tops) wings all lower.each upper.each);
     }
 
+-- After all sixteen pairs of blocks every state has its metric and its choice, and the greatest of
+-- the eight lanes' greatest metrics is that of the column.
 pub returns : goal.returns
 returns g c =
     let forced = FORCED-type (number g.row.FORCED) in

@@ -5,6 +5,8 @@ use Rattle.std.specs.List.{All}
 use Rattle.cell_samples.proofs.Running.{bits_joined, samples_joined}
 use Rattle.cell_samples.proofs.samples.CellSamples.fill.Goals as goal
 
+-- One part more is filled with the plan's next samples: the state has gone on by just as many
+-- samples as the parts before it have, and all of them have the width's bits.
 pub loop-done-preserved : goal.loop-done-preserved
 loop-done-preserved c =
     let inv = c.loop-done.invariant in

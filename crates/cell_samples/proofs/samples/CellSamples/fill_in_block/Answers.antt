@@ -30,6 +30,9 @@ spread-requires-clause-points c =
     running.points_ahead c.from.result c.split_at.result.1.now
     (c.split_at.ensures.back ∙ ap (drop c.from.result) c.table.ensures.value)
 
+-- The samples of one call are the plan's next ones: the block's chips are turned by the codes from
+-- the first sample's own phase on, as the definition turns them, and a plan that is not too loud
+-- keeps them within the width's bits.
 pub returns : goal.returns
 returns c =
     let s = c.self.inside in

@@ -5,6 +5,9 @@ use Rattle.heard_events.proofs.Common.{power_at, strengths_at, Mark}
 use Rattle.heard_events.proofs.ActiveLegs.{deltas_close, due_deltas}
 use Rattle.heard_events.proofs.sets_keeper.SetsKeeper.pass.Goals as goal
 
+-- A moment leaves the pilot sets and tells the event of the definition: the strengths and the power
+-- are those of the samples heard, at the moment's own place, and the sets before it are those that
+-- directions due by then have left.
 pub returns-clause-passes : goal.returns-clause-passes
 unfolding passed changed
 returns-clause-passes c = λ heard holds.

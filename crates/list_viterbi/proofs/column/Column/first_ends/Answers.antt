@@ -4,6 +4,8 @@ use Rattle.list_viterbi.proofs.LanePicks.{column_read}
 use Rattle.list_viterbi.proofs.ColumnLayouts.{scores_by_place, codewords_of, same_finds}
 use Rattle.list_viterbi.proofs.column.Column.first_ends.Goals as goal
 
+-- Where scores are kept by place the finishes are those of the same scores kept by state: each
+-- state that a codeword may end in has the same list in both.
 pub returns-then-self : goal.returns-then-self
 returns-then-self c =
     let inside = c.self.inside in

@@ -15,6 +15,9 @@ step_four-requires-clause-room c =
     (each_rank (λ z. unsigned_abs z + (unsigned_abs f + unsigned_abs s) ≤ 2 ^ 62)
     inside.ranks.items (rw scores at c.requires.room))
 
+-- A step over scores that are kept by place gives each state the definition's picks: it is taken
+-- with lists of four, the column that is swapped in holds what the step gave, and read state by
+-- state these are the picks out of the column before.
 pub returns-then-self-clause-each : goal.returns-then-self-clause-each
 returns-then-self-clause-each c t b =
     let f = c.args.first in
@@ -38,6 +41,8 @@ returns-then-self-clause-each c t b =
     at (c.step_four.ensures.each t b) in
     rw (c.if-self.true, items, codewords) (places_stepped ranks next value.scores f s choices t b scores each)
 
+-- A step over scores that are kept by state gives each state the definition's picks: the column
+-- that is swapped in holds what the step gave, and laying it out changes no state's list.
 pub returns-clause-each : goal.returns-clause-each
 returns-clause-each c t b =
     let f = c.args.first in

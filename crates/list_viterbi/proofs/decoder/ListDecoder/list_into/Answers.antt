@@ -30,6 +30,8 @@ step-requires-clause-room c =
     c.loop-bit.self-inside.columns.items (omega (arith, c.loop-bit-test.true)) c.requires.softs.bound few
     c.loop-bit.invariant.stands)
 
+-- The column stands for one bit more: the step was given the bit's own two soft values and the
+-- column that stood for the bits before it, so each state has the definition's picks for this bit.
 pub loop-bit-preserved : goal.loop-bit-preserved
 loop-bit-preserved c =
     let softs = c.args.softs.now in

@@ -14,6 +14,8 @@ loop-left-init c =
       chips = (1, sym (after_one 1), rw once (ap (λ (s : ℕ). after s c.args.chips) c.self.view_is));
     }
 
+-- One halving of what is left of a jump keeps its length: the power then stands for twice as many
+-- chips, and where what was left was odd the power's own chips are taken into the value first.
 pub loop-left-preserved : goal.loop-left-preserved
 loop-left-preserved c =
     let inv = c.loop-left.invariant in

@@ -5,6 +5,8 @@ use Rattle.mobile_core.proofs.FramesFollowed.{frames_opened}
 use Rattle.mobile_core.proofs.PagesFollowed.{pages_opened}
 use Rattle.mobile_core.proofs.followed.Followed.follow.Goals as goal
 
+-- From its mark on a handset without a traffic channel hears the paging channel: its receiver was
+-- opened before any frame after the mark could have ended, and there is no other channel to open.
 pub returns-in_default-assigned-clause-hears : goal.returns-in_default-assigned-clause-hears
 returns-in_default-assigned-clause-hears c = λ t before heard taken within sets st.
     let m = c.in-Some.mark in
@@ -21,6 +23,8 @@ returns-in_default-assigned-clause-hears c = λ t before heard taken within sets
     (opened st c.open-self.result f.traffic m opens.1.0 opens.1.1 pages
     (unassigned st m opens.1.1 (search rules)))
 
+-- From its mark on a handset with a traffic channel hears both channels: each receiver was opened
+-- on the handset's own phase and paths, before any frame after the mark could have ended.
 pub returns-clause-hears : goal.returns-clause-hears
 returns-clause-hears c = λ t before heard taken within sets st.
     let m = c.in-Some.mark in

@@ -19,6 +19,9 @@ returns-clause-waits c = record {
   traffic = c.note.ensures.waits c.args.ring.now.taken c.requires.waits.traffic;
 }
 
+-- The event that is heard next is the first of those that were left of the paging channel; the
+-- traffic channel takes note of it, and what is then left of both channels is what was left without
+-- it.
 pub returns-clause-hears : goal.returns-clause-hears
 returns-clause-hears c = λ t _ mark heard holds check count st.
     let event = c.hear_next-event.result in

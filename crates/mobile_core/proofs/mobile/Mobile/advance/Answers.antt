@@ -17,6 +17,9 @@ take_ended-requires-2-clause-ended c =
       length-take c.min-count.result c.args.samples.now,
     ))
 
+-- Samples are taken up to the end of the next frame of any channel, or all of them: no frame ends
+-- before that, so all channels stand for the samples that came, and a frame that ends there is
+-- taken by its own channel.
 pub returns-clause-steps : goal.returns-clause-steps
 returns-clause-steps c =
     let m = c.args.self.now in

@@ -5,6 +5,9 @@ use Rattle.mobile_core.proofs.StepJoins.{ends_here, one_or_none}
 use Rattle.mobile_core.proofs.Stood.{heard_sets, stands_heard}
 use Rattle.mobile_core.proofs.mobile.Mobile.hear_sync.Goals as goal
 
+-- A frame of the sync channel that is due is told first: a mark that it sets lies after all samples
+-- that were taken, so the receivers of the other channels are opened in time, and what is left to
+-- tell is theirs and the sync channel's.
 pub returns-clause-steps : goal.returns-clause-steps
 returns-clause-steps c =
     let m = c.args.self.now in

@@ -5,6 +5,9 @@ use Rattle.mobile_core.proofs.SoundFrames.{passed_close}
 use Rattle.heard_events.specs.Moments.{sets_events, passed as passed_of}
 use Rattle.mobile_core.proofs.soft_handoff.SoftHandoff.pass_moment.Goals as goal
 
+-- A moment at which nothing else is due is told next: the sets and the event are the definition's
+-- for the samples heard, and the receiver's fingers are set to the pilots that the moment leaves
+-- active.
 pub returns-clause-hears : goal.returns-clause-hears
 returns-clause-hears c = λ t traffic m heard holds st.
     let r = c.args.self.now in

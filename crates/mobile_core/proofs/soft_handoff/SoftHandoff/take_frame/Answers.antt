@@ -3,6 +3,9 @@ use Rattle.mobile_core.proofs.Common.{ap, arith, frame_chips, TrafficReceiver}
 use Rattle.rake_finger.proofs.CloseFingers.{close_ends}
 use Rattle.mobile_core.proofs.soft_handoff.SoftHandoff.take_frame.Goals as goal
 
+-- After a frame that ended at these samples was taken, the receiver waits for the next one: that
+-- one begins where this one ended for the reference, and no finger is further than 226 chips from
+-- there, so it ends after all samples that were taken.
 pub returns-clause-waits : goal.returns-clause-waits
 returns-clause-waits c =
     let frames = c.requires.sound.receiver.frames in

@@ -11,6 +11,9 @@ use Rattle.heard_events.proofs.MarkTold.{noted_event}
 use Rattle.mobile_core.proofs.SyncHeard.{either, starts_is}
 use Rattle.mobile_core.proofs.sync_receiver.SyncReceiver.hear_next.Goals as goal
 
+-- The next frame of the sync channel is heard as it is defined: its bits come after those of the
+-- frames before it, the capsule that they end is read as a message, the mark counts from the frame
+-- in which the message began, and the event is the first of those that were left.
 pub returns-clause-hears : goal.returns-clause-hears
 unfolding frame_own_bits heard_at sync_capsule_at marks_at
 returns-clause-hears c = λ t heard at' check d st.

@@ -27,6 +27,9 @@ first_clock c =
     ∙ ap {B = FrameClock} (λ b. clock_from c.leg_fingers-fingers.result Data false start
     (if b then 0 else 1)) begun
 
+-- A receiver that was just opened is sound: its fingers are those of the one pilot that is active
+-- at first, its first frame begins at the mark or by the frame offset later, its soft values are 0
+-- and its subchannels empty.
 pub returns-clause-sound : goal.returns-clause-sound
 returns-clause-sound c =
     let here = (goal.at.returns-clause-sound c).After-new-frames in
@@ -66,6 +69,9 @@ returns-clause-sound c =
       subchannels = omega (arith, c.empty.ensures.count);
     }
 
+-- A receiver that was just opened stands for the channel before its first frame: its fingers are
+-- those of the first active pilot on the handset's phase and paths, and its scrambling has the
+-- state and the mask of that frame.
 pub returns-clause-hears : goal.returns-clause-hears
 returns-clause-hears c = λ t heard phase deltas within early.
     let here = (goal.at.returns-clause-hears c).After-new-frames in

@@ -22,6 +22,9 @@ invariant_of-self c =
     rw (moved, ← c.divisor-divisor.ensures.degree)
     (next_lt d.degree d.below c.self.inside.value c.args.bit d.fits)
 
+-- One bit more through the register is one step of the division: the register holds the remainder
+-- of the bits before, and whether its highest bit is set or not the next value is the remainder of
+-- these bits and the new one.
 pub returns : goal.returns
 returns c kind bits stands =
     let here = c.self.inside.kind in

@@ -6,6 +6,8 @@ use Rattle.rake_finger.specs.Held.{HoldsLast}
 use Rattle.rake_finger.proofs.Rings.{cell_further}
 use Rattle.rake_finger.proofs.ring.SampleRing.push_all.Goals as goal
 
+-- One sample more is in the ring: it was put into the cell after the last one's, so the ring holds
+-- the last of all samples that were given so far.
 pub loop-sample-preserved : goal.loop-sample-preserved
 loop-sample-preserved c =
     let inv = c.loop-sample.invariant in

@@ -31,6 +31,9 @@ returns-clause-sound c =
       small = rw many at c.shift_in.ensures.small;
     })
 
+-- A frame whose last sample has come is taken as the definition has it: the soft values of its
+-- symbols over all fingers, unscrambled by the frame's own bits, come after those of the frames
+-- before it.
 pub returns-clause-stands : goal.returns-clause-stands
 returns-clause-stands c = λ count s heard holds bits none r.
     let k = c.args.self.now in

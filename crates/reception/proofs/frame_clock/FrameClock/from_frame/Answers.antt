@@ -4,6 +4,8 @@ use Rattle.rake_finger.proofs.CloseFingers.{ends_high, ends_low, some_chips, mos
 use Rattle.rake_finger.proofs.FingerTimes.{times_one}
 use Rattle.reception.proofs.frame_clock.FrameClock.from_frame.Goals as goal
 
+-- A clock that begins at a frame is sound: close fingers end the frame at most some chips away from
+-- where the reference path does, so the end lies after the start, and below 2^30.
 pub returns-clause-sound : goal.returns-clause-sound
 returns-clause-sound c =
     let form = c.args.form in

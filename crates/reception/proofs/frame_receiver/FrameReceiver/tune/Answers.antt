@@ -3,6 +3,9 @@ use Rattle.reception.proofs.Common.{◌*◌, ◌≤◌, arith, Data}
 use Rattle.rake_finger.proofs.CloseFingers.{close_begun, ends_high, ends_low}
 use Rattle.reception.proofs.frame_receiver.FrameReceiver.tune.Goals as goal
 
+-- Other fingers leave the receiver sound: the clock's numbers stay, by the new fingers the frame
+-- under way ends after its start and below 2^30, and as it starts at sample 226 or later no finger
+-- has it begin before sample 0.
 pub returns-clause-sound : goal.returns-clause-sound
 returns-clause-sound c =
     let r = c.args.self.now in
