@@ -202,6 +202,8 @@ message_bounds m message fixed freq e =
     let told = cond_some (has_lawful_rest m.freq m.rest) m message e in
     subst IsSyncMessage told.1 (admitted m fixed (is_tail m.freq m.rest freq told.0))
 
+-- Each field of a sync line fits into its bits, since the line was read with the field's greatest
+-- value as its bound; PILOT_PN, SYS_TIME and LC_STATE are 0 until they are filled in.
 fields_fit : (network local : List ℕ) (freq : Option ℕ) (rest : List Bool) →
     AreUpTo network_rows network → AreUpTo local_rows local →
     FieldsFit (fixed_fields (sync_fields network local freq rest))

@@ -16,6 +16,9 @@ sent_one c symbols long =
     ∙ ap (λ (k : ℕ). sent c.shape c.repeats (take (2 * c.bits) (drop k symbols))) none
     ∙ ap (sent c.shape c.repeats) (take_all (2 * c.bits) symbols (omega (arith, long)))
 
+-- A span of one frame has that frame's code symbols and no others, so each codeword scores the same
+-- over the span as over the frame, the best one is the same, and all of its bits are the frame's
+-- own.
 pub one_frame : IsOneFrame
 one_frame c softs =
     let none : c.bits * 0 ≡ 0 = omega arith in

@@ -139,6 +139,10 @@ feed_to size place next left l out o b large within placed some room way done pl
           ∙ ap option_to_list (sym known.0);
     }
 
+-- A framer takes a body bit inside a half-frame as the layout lays it: after the half-frame's last
+-- bit both stand at the beginning of the next one, and after any other both stand one place
+-- further. A capsule can't begin here, since the bits before it fill no whole number of
+-- half-frames.
 feed_inside : (size : ℕ) (l : laying.Laid) (out : List Bool) (o : Option (List Bool))
     (sci b : Bool) → 2 ≤ size → (f : Feeding size l out o) →
     (IsTrue sci → length l.body % size ≡ 0) → 0 < f.place →
@@ -389,6 +393,9 @@ feed_follows size l out b c large whole fits f =
     let state : behind_capsule size l ≡ Some [] = ap (λ (t : Bool). cond t (Some []) None) room in
     feed_rest size l out (b ∷ c) [] c b large whole refl (subst (Feeding size l out) state f)
 
+-- A framer takes a capsule that begins at a half-frame as the layout lays it: the zeros that fill
+-- up the half-frame before it end no capsule, the SCI bit and the first bit open it, and its other
+-- bits continue it until it is whole.
 feed_begins : (size : ℕ) (l : laying.Laid) (out : List Bool) (b : Bool) (c : List Bool) →
     2 ≤ size → IsWhole (b ∷ c) → Feeding size l out (behind_capsule size l) →
     Fed size (laying.laid_on size l false (b ∷ c)) out

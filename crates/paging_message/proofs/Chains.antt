@@ -204,6 +204,10 @@ step-none : (size count : ℕ) (o : Option (List Bool)) (b : Bool) → o ≡ Non
     step size count o b ≡ None
 step-none size count o b e = ap (λ (p : Option (List Bool)). step size count p b) e
 
+-- What is open after one bit more follows from what was open before it. Where a whole capsule
+-- stands at the front the rest is a shorter chain, for which this holds by induction. Else the bit
+-- ends the open capsule, continues it, or comes after a length that no capsule has, and nothing is
+-- open.
 pub open_more : (fuel size count : ℕ) (bits : List Bool) (b : Bool) →
     length (bits ++ b ∷ []) < fuel →
     open_chain fuel size count (bits ++ b ∷ [])

@@ -271,6 +271,9 @@ begun_long size false (q ∷ message) before are is = (
       ∙ length-bodies size (q ∷ message) are,
 )
 
+-- One bit more of a half-frame's body ends the capsule that one step of the open capsule ends, and
+-- leaves open what that step leaves open: the bits since the capsules' start and the body are one
+-- chain, of which the bit is the next.
 chain_more : (size left : ℕ) (x : Option (List Bool)) (body : List Bool) (b : Bool) →
     ((before : List Bool) → x ≡ Some before →
     halves.bits_left size (length before + suc (length body)) ≡ left) →

@@ -43,6 +43,9 @@ pub record IsTyped (body : List Bool) : Type 0 where
   pub kind : number (take 8 body) < 2 ^ 8
   pub same : body ≡ binary 8 (number (take 8 body)) ++ drop 8 body
 
+-- A body that passes the test has a type and is as long as a capsule may be: each part of the test
+-- gives one bound, and the eight bits of the type are there, since no type admits a body that is
+-- shorter.
 pub typed_from : (body : List Bool) → is_body body ≡ true → IsTyped body
 unfolding is_body
 typed_from body h =

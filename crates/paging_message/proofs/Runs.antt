@@ -199,6 +199,8 @@ chain_ends (c ∷ cs) (suc fuel) size at pads m chained enough room =
 abbrev pub width : ℕ → ℕ → ℕ
 width size count = (count + size - 1) / size
 
+-- The zeros after a run fill its last half-frame: where r bits of one are taken they are the other
+-- size - r and one half-frame more is counted, and where none is taken there are no zeros.
 fills_from : (size count q r : ℕ) → count ≡ q * size + r → r < size →
     count + fill size count ≡ size * width size count
 unfolding fill

@@ -73,6 +73,8 @@ dropped i h =
     let a = address data_shape i in
     not_true (is_dropped (kept_symbol a)) (and_parts _ _ (kept_back a (address_lt Data i h))).1
 
+-- A repeated symbol that isn't dropped is sent at just one place of a frame: it is kept as one of
+-- 384, by a map that is one to one, and the interleaver sends each of these at a place of its own.
 pub kept_once : IsKeptOnce
 kept_once k h e =
     let both = and_parts _ _ (repeated_there k h e) in

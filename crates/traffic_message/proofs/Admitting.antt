@@ -9,6 +9,8 @@ there : {A : Type 0} (o : Option A) → is_some o ≡ true → (x : A) × (o ≡
 there None h = absurd (cc)
 there (Some x) h = (x, refl)
 
+-- A body that is admitted has a message: it is long enough for the head, its remaining bits can be
+-- read as a part of its type, and what was read spells the bits that it was read from.
 pub admitted_has : (body : List Bool) → FillsCapsule M16 body → traffic_admits body ≡ true →
     HasTrafficMessage body
 unfolding traffic_admits

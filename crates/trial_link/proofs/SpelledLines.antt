@@ -114,6 +114,9 @@ time_part cell = codes " time=" ++ (decimal cell.time ++ lc_part cell)
 abbrev pn_part : CellIdentity → List ℕ
 pn_part cell = codes "cell pn=" ++ (decimal cell.pn ++ time_part cell)
 
+-- The line of a cell is read back as that cell: each value's text ends at the space or the end
+-- after it, a number that was written in decimal and is within its bound is read as itself, and so
+-- is the long code's state from its digits.
 cell_back : (cell : CellIdentity) → IsStatedCell cell → cell_in (pn_part cell) ≡ Some cell
 cell_back cell is =
     let checks = bits_of_forms cell.check30 cell.check16 in

@@ -129,6 +129,9 @@ module _ (key cycle : ℕ) (check : CheckForm) (m : Mark) where
         lines_of_four slot (frame (4 * slot + 0)) (frame (4 * slot + 1)) (frame (4 * slot + 2))
         (frame (4 * slot + 3))
 
+    -- The text of frames in a row, from the first one of a slot on, is that of the whole slots in
+    -- which the handset is awake. By induction over the slots: the fourth frame completes a slot,
+    -- and the one to three frames that may be left at the end complete none.
     slot_by_slot : (kept : List SoftFrame) (k n slot slots more : ℕ) → k ≡ 4 * slot →
         n ≡ 4 * slots + more → more < 4 →
         texts kept (map frame (range_with_len k n))

@@ -347,6 +347,8 @@ module _ {width : Width} {plan : CellPlan} {t : Tuning} {samples : List Sample}
         (omega arith) (messages_from_mark t (one_near t plan tuned) t.traffic samples n))
         (behind_last t.traffic (mark t samples t.count) refl refl follows none n most)
 
+    -- No event of any number of samples directs a handoff: only a message of the traffic channel
+    -- can, the other four kinds of events never do, and of the messages it is given.
     all_undirected : (n : ℕ) → n ≤ plan.link.samples → All IsNotDirected (events_at t samples n)
     all_undirected n most =
         let sync = sync_events_at t samples n in

@@ -587,6 +587,9 @@ none_whole first end_chip x (p ∷ ps) past are =
 
 -- ---- the law
 
+-- From frame `first` on a handset hears just the transmissions of pages that are whole. Where the
+-- file ends before that frame there are none. Else the half-frames that it holds end the capsules
+-- that lie between the first and the last of them, and these are the whole ones.
 pub whole_pages_back : WholePagesComeBack
 whole_pages_back rate form pages first end_chip are =
     let size = half_frame_body rate in

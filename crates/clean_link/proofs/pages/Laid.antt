@@ -130,6 +130,8 @@ placed_next size form at run o count page pages large f e =
     placed-begins size form at run next page pages f start
     (turned_back size ((at + size - 1) / size) large ∙ quotient)
 
+-- The pages lie where their runs lie, by induction over the pages: one that follows the page before
+-- it makes the run longer, and any other ends the run and begins the next one at a half-frame.
 pub pages_placed : (size : ℕ) (form : CheckForm) (pages run : List Page) (o at : ℕ) → 0 < size →
     at ≡ size * o + length (spelled (page_capsule form) run) →
     placed_run size (page_capsule form) o (size * o) run ++ placed size form at o pages
@@ -410,6 +412,9 @@ next_begins size o count at bits large e =
 
 -- ---- runs
 
+-- Each run of a lawful cycle is a chain of capsules and not empty, by induction over the pages: one
+-- that follows has the eight bits that it needs left in its half-frame and goes on with the chain,
+-- and any other is a whole capsule that begins a chain of its own.
 pub runs_lawful : (size : ℕ) (form : CheckForm) (pages run : List Page) (o at : ℕ) → 0 < size →
     at ≡ size * o + length (spelled (page_capsule form) run) → AreSendable size at pages →
     AreHeard size at pages → AreChained size 0 (map (page_capsule form) run) →

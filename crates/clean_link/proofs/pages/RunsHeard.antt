@@ -248,6 +248,9 @@ take-long f n w more le =
     ap (λ (k : ℕ). take k (map f (places w) ++ more)) e
     ∙ take-append-add (map f (places w)) more (n - w)
 
+-- A scan of n half-frames from the beginning of a run on tells the capsules of the pages that end
+-- in them, by induction over the runs: a run that is scanned whole tells all of its pages, and one
+-- that is cut tells those at its front, after which no later run has ended.
 pub from_start : (size : ℕ) (spell : Page → List Bool) (runs : List (List Page))
     (before : List Piece) (o n low : ℕ) → 0 < size → AreRuns size spell runs → low ≤ o →
     scan size before o (take n (pieces_of size spell runs))

@@ -237,6 +237,9 @@ sent_capsule plan m k q w =
     if nat_le w k && nat_lt (31 * w) size && nat_le size (31 * (w + 1))
     then Some (sync_capsule plan.cell.check30 (message_of plan.cell m q)) else None
 
+-- A frame ends its transmission's capsule where the capsule's last bit is in it. A transmission
+-- that began before frame 0 has nothing open. Of any other the bits since its start are the first
+-- of the message's, 31 for each frame, and the length that they state tells where the capsule ends.
 pub pieces_end : (plan : CellPlan) (m : SyncFields) (base k q w : ℕ) →
     FillsCapsule M30 (sync_body m) → IsSentAt plan m base k q w →
     capsule_ending (run (piece_of plan m base) 0 (suc k)) ≡ sent_capsule plan m k q w

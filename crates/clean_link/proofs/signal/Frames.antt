@@ -320,6 +320,9 @@ silent_softs plan row form u low apart below is silent =
 
 -- ---- a frame over a link with bounded noise
 
+-- Noise that a channel bears changes no soft value's sign: without noise the sums over the pilot
+-- and over the symbol are the link's factor times their levels, and noise within the bound changes
+-- the product of both by less than its size.
 pub noisy_sign : (plan : CellPlan) (c : Carrier) (form : Form) (u frame j e : ℕ)
     (samples : List Sample) → plan.cell.pn < 512 → CarriersAreApart plan.pilot.gain (carriers plan) →
     Contains (carriers plan) c → IsFrameOf plan c form u frame →

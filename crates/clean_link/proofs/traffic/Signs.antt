@@ -465,6 +465,9 @@ listed_place replaced j below =
     let place = get_or replaced j 0 in
     list_any_at (nat_eq place) replaced j 0 below (eq-eqb place place refl)
 
+-- The two places that a power control bit replaces lie in its own group of 24 symbols: they are
+-- neighbours in the list of all 32, and the first of them lies in that group, with room for the
+-- second.
 pair_at : (state mask g : ℕ) → g < 16 →
     IsPairAt (power_places state mask) g (get_or (power_places state mask) (2 * g) 0)
     (get_or (power_places state mask) (2 * g + 1) 0)

@@ -63,6 +63,8 @@ hear-requires g c =
       kept = c.loop-reader.invariant.kept;
     }
 
+-- Hearing one piece more keeps what the loop promises: the handset has heard the samples that were
+-- read before, and then this piece's, and has as much less room as the piece has samples.
 pub loop-reader-preserved : goal.loop-reader-preserved
 loop-reader-preserved g c =
     let inv = c.loop-reader.invariant in

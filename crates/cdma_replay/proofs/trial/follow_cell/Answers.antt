@@ -22,6 +22,9 @@ count-requires-clause-room g c =
       c.requires.span,
     ))
 
+-- The line is the one of the trial's number: the samples that were searched are the link's first
+-- 2,048, so the handset is tuned as the trial's is, and the counts of these samples and of the rest
+-- together are those of all its events.
 pub returns : goal.returns
 returns g c =
     let number = c.args.number in

@@ -8,6 +8,9 @@ use Rattle.event_tap.proofs.taps.hear_all.Goals as goal
 pub loop-place-init : goal.loop-place-init
 loop-place-init g c = (hearing_none _ _ _ _ _ c.requires, omega arith)
 
+-- One tap more has heard the event: its line is written after the text so far, and it stays where
+-- it has events left to hear, and is removed where it has none. The taps that are still to hear are
+-- then those after it.
 pub loop-place-preserved : goal.loop-place-preserved
 loop-place-preserved g c =
     let inv = c.loop-place.invariant in
@@ -33,6 +36,8 @@ loop-place-preserved g c =
       )
     ]
 
+-- Where writing a tap's line fails, every tap in the list still has events left to hear: which taps
+-- stay depends on the event alone and not on what was written.
 pub returns-in_err-gave-clause-kept : goal.returns-in_err-gave-clause-kept
 returns-in_err-gave-clause-kept g c =
     let inv = c.loop-place.invariant in

@@ -17,6 +17,9 @@ overflow_add-sums c =
     c.from-second.ensures c.loop-group-test.true many long c.requires.below c.requires.rising
     c.requires.bound)
 
+-- The sum of one group more is the sum of the soft values at the two places of its power control
+-- bit; it fits into 64 bits, since the sizes of all soft values of the frame add up to at most
+-- 2^62.
 pub loop-group-preserved : goal.loop-group-preserved
 loop-group-preserved c =
     let softs = c.args.softs.now in

@@ -7,6 +7,8 @@ pub loop-place-init : goal.loop-place-init
 loop-place-init c =
     record { value = none_replaced c.args.softs.now; bound = omega arith }
 
+-- One place more is set to 0: clearing it in the values that are 0 at all earlier places gives
+-- those that are 0 at this one too, and makes no sum of sizes greater.
 pub loop-place-preserved : goal.loop-place-preserved
 loop-place-preserved c =
     let softs = c.args.softs.now in

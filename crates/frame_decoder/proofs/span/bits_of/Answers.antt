@@ -44,6 +44,8 @@ returns-clause-value c =
     ∙ own_is l.kind l.bits l.repeats c.args.frames c.args.own softs codeword c.requires.least
     c.requires.sent c.requires.softs c.requires.own best
 
+-- The frame's own part has as many bits as a frame: the best codeword has the bits of all frames of
+-- the span, and after those of the frames before this one a whole frame's are left.
 pub returns-clause-count : goal.returns-clause-count
 returns-clause-count c =
     let l = c.args.span_format in

@@ -38,6 +38,9 @@ gather_into-requires-clause-bounded c =
     rw (frame_is symbols.result count frame softs symbols.ensures.value)
     (omega (arith, bound, small))
 
+-- The code symbols of one frame more are gathered after those of the frames before it, so the first
+-- part of the output is what the definition gathers of that many frames, and its values are bounded
+-- as theirs are.
 pub loop-frame-preserved : goal.loop-frame-preserved
 loop-frame-preserved c =
     let l = c.args.span_format in

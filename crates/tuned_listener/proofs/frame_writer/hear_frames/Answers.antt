@@ -6,6 +6,8 @@ use Rattle.tuned_listener.proofs.TunedFrames.{frame_cut, frame_kept, frame_writt
 use Rattle.tuned_listener.proofs.TunedFrames.{writes_part}
 use Rattle.tuned_listener.proofs.frame_writer.hear_frames.Goals as goal
 
+-- A step that gave a frame keeps what the loop promises: the frame's text is written after the text
+-- so far, and the writer holds the frame as one of its slot.
 pub loop-taken-preserved-in-Continue-1 : goal.loop-taken-preserved-in-Continue-1
 loop-taken-preserved-in-Continue-1 g c =
     let inv = c.loop-taken.invariant in
@@ -40,6 +42,8 @@ loop-taken-preserved-in-Continue-1 g c =
       later = search rules;
     }
 
+-- A step that gave no frame keeps what the loop promises: the text of no frame is empty, and the
+-- writer holds the frames that it held.
 pub loop-taken-preserved : goal.loop-taken-preserved
 loop-taken-preserved g c =
     let inv = c.loop-taken.invariant in
@@ -68,6 +72,8 @@ loop-taken-preserved g c =
       later = search rules;
     }
 
+-- Where writing fails, what is written is a beginning of the text of all samples: the text of the
+-- earlier frames is written whole, and of this frame's text a beginning.
 pub returns-in_err-write-clause-err : goal.returns-in_err-write-clause-err
 returns-in_err-write-clause-err g c =
     let inv = c.loop-taken.invariant in

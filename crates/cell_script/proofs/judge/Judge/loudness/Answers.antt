@@ -2,6 +2,8 @@
 use Rattle.cell_script.proofs.Common.{◌≤◌, ◌+◌, ◌^◌, ◌∙◌, ap, arith, unsigned_abs, ℤ, mul-le, read64}
 use Rattle.cell_script.proofs.judge.Judge.loudness.Goals as goal
 
+-- The product stays below 2^64: each part of the link is at most 2^15 in size, so both together are
+-- at most 2^16, and the gains of all channels add up to at most 2^41.
 pub overflow_mul-result : goal.overflow_mul-result
 overflow_mul-result c =
     let link = c.requires.link in

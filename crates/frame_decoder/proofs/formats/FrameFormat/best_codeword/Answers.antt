@@ -20,6 +20,9 @@ returns-clause-bits g c =
     rw (← c.gather_into.ensures.value) c.best_into-score.ensures.best in
     ap (λ (w : Codeword). w.bits) (best_is softs format codeword c.requires.format long best)
 
+-- The score that is returned is that of the frame's best codeword: the decoder's codeword is the
+-- best for the gathered values, and the sum over gathered values is the sum over the soft values as
+-- they were sent.
 pub returns-clause-score : goal.returns-clause-score
 returns-clause-score g c =
     let softs = c.args.softs.now in

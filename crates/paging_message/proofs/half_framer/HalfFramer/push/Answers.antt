@@ -30,6 +30,9 @@ returns-then-self-eq0-clause-capsule c bits stood =
     (sym c.if-self-eq0.true ∙ own.0)
     ∙ ap (λ (f : Framing). half_frame_capsule_ending f.size (bits ++ c.args.bit ∷ [])) c.self.view_is
 
+-- The framer stands for its bits and this one: the bit makes one step of the half-frame under way,
+-- and the place is moved on by one, or set to 0 at the half-frame's end, as the number of bits
+-- modulo size + 1 is.
 pub returns-clause-stands : goal.returns-clause-stands
 returns-clause-stands c bits stood =
     let size = c.self.inside.size in

@@ -4,6 +4,9 @@ use Rattle.paging_message.proofs.Common.{HasLaid, Laid, bit_on, way_for, laid_on
 use Rattle.paging_message.proofs.Layings.{capsule_first, capsule_next, way_whole}
 use Rattle.paging_message.proofs.layout.Layout.put.Goals as goal
 
+-- The first bit of a capsule is laid where way was made for it: in the half-frame under way where
+-- the capsule follows another one, and else at the beginning of a half-frame, whose SCI bit is then
+-- 1.
 pub loop-i-init : goal.loop-i-init
 loop-i-init c =
     let size = c.args.self.now.size in
@@ -26,6 +29,8 @@ loop-i-init c =
           ∙ capsule_first size was follow bit capsule first) done;
     }
 
+-- One bit more of a capsule is laid right after those before it. It begins no capsule, so it asks
+-- for no SCI bit of 1, and what is laid is what the definition lays of one bit more.
 pub loop-i-preserved : goal.loop-i-preserved
 loop-i-preserved c =
     let size = c.args.self.now.size in

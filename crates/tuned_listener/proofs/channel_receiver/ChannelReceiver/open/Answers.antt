@@ -10,6 +10,9 @@ pub new-frames-requires-clause-close : goal.new-frames-requires-clause-close
 new-frames-requires-clause-close c =
     near_are_close c.reference_fingers-fingers.result c.reference_fingers-fingers.ensures.near
 
+-- A receiver that was just opened has given no frame yet: its fingers, its first frame, its clock
+-- and its scrambling are those of the channel's stream, and the samples that were taken end no
+-- later than the first frame.
 pub returns-clause-given : goal.returns-clause-given
 returns-clause-given c = λ t taken phase deltas within early.
     let m = c.args.mark.now in

@@ -30,6 +30,9 @@ pub open-tuner-requires-clause-lawful : goal.open-tuner-requires-clause-lawful
 open-tuner-requires-clause-lawful c =
     lawful_channel c.args.self.now.channel c.args.self.now.sound.lawful
 
+-- Once the handset tells a mark, a receiver that is opened from its ring takes its place: the ring
+-- holds the samples that were heard, and the receiver has given no frame of them, so there is still
+-- no text, and what follows is that of the channel after this mark.
 pub returns-in-Some-take : goal.returns-in-Some-take
 returns-in-Some-take c =
     let l = c.args.self.now in

@@ -5,6 +5,9 @@ use Rattle.tuned_listener.proofs.Common.{SoftFrame, Tuning}
 use Rattle.tuned_listener.proofs.FramesGiven.{step_frame, step_none}
 use Rattle.tuned_listener.proofs.tuner.Tuner.step.Goals as goal
 
+-- Where the samples end before the frame under way does, all of them are taken and no frame is
+-- given: no frame of the channel ends within them, so those that were given are still all there
+-- are.
 pub returns-then-samples-left : goal.returns-then-samples-left
 returns-then-samples-left c =
     let r = c.args.self.now in
@@ -38,6 +41,9 @@ returns-then-samples-left c =
           rw (whole, append-nil (soft_frames t channel m heard)) (step t channel m heard st).1;
     }
 
+-- Where the frame under way ends within the samples, those up to its end are taken and it is given:
+-- it is the channel's next frame, with the soft values of the samples in the ring, so what was
+-- given is what the definition lists, with this frame at its end.
 pub returns : goal.returns
 returns c =
     let r = c.args.self.now in
