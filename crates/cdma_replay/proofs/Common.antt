@@ -42,7 +42,7 @@ pub use Rattle.chip_core.specs.declared.assignment.Traffic.{Traffic}
 pub use Rattle.chip_core.specs.declared.sample.Sample.{Sample}
 pub use Rattle.chip_core.specs.declared.width.Width.{Width}
 pub use Rattle.chip_core.specs.declared.width.Width.TheVariants.{Eight, Sixteen}
-pub use Rattle.clean_link.proofs.signal.Samples.{length-made}
+pub use Rattle.clean_signal.proofs.signal.Samples.{length-made}
 pub use Rattle.clean_link.specs.HeardEach.{is_frame, is_page, is_sync}
 pub use Rattle.event_tap.proofs.Runs.{run_taps-append, run_taps-more, run_text-append, run_text-more, run_text-none}
 unfoldable pub use Rattle.event_tap.specs.EventLines.{event_line}

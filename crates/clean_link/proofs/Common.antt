@@ -1,54 +1,44 @@
 -- What the proofs of this crate cite of what lies below, and of its own definitions, passed on from one place.
-pub use Rattle.std.proofs.Common.{All, Bool, List, None, Option, Some, [], add-one, ap, append_assoc, arith, cond, drop, false, filter}
-pub use Rattle.std.proofs.Common.{get_or, inl, inr, length, length-append, length-drop, map, max, nat_eq, nat_le, nat_lt, negsuc, not, pos}
-pub use Rattle.std.proofs.Common.{refl, replicate, rules, subst, suc, sym, take, true, unsigned_abs, zero, ℕ, ℤ, ⊎_elim, ◌%◌, ◌&&◌, ◌*◌}
-pub use Rattle.std.proofs.Common.{◌++◌, ◌+◌, ◌-◌, ◌/◌, ◌<◌, ◌==◌, ◌^◌, ◌||◌, ◌∙◌, ◌∷◌, ◌≡◌, ◌≢◌, ◌≤◌, ◌⊎◌}
+pub use Rattle.std.proofs.Common.{All, Bool, List, None, Option, Some, [], ap, append_assoc, arith, cond, drop, false, filter, get_or, inl}
+pub use Rattle.std.proofs.Common.{inr, length, length-append, map, nat_eq, nat_le, nat_lt, negsuc, not, pos, refl, replicate, rules, subst}
+pub use Rattle.std.proofs.Common.{suc, sym, take, true, unsigned_abs, zero, ℕ, ℤ, ⊎_elim, ◌%◌, ◌&&◌, ◌*◌, ◌++◌, ◌+◌, ◌-◌, ◌/◌, ◌<◌, ◌==◌}
+pub use Rattle.std.proofs.Common.{◌^◌, ◌||◌, ◌∙◌, ◌∷◌, ◌≡◌, ◌≢◌, ◌≤◌, ◌⊎◌}
 pub use Rattle.std.proofs.Math.Bool.{beq}
-pub use Rattle.std.proofs.Math.IntN.{+ℤ_idl, +ℤ_idr}
-pub use Rattle.std.proofs.Math.Nat.{div-add-mod, div-add-mod', div-div-eq-div-mul, div-eq_of_eq-mul_left, lt_of_mul-lt-mul_left}
-pub use Rattle.std.proofs.Math.Nat.{mod-eq-sub-mul-div, mod_self, mul-add-div, mul-add-mod_self_left, mul-div-le, mul-le-mul_left}
-pub use Rattle.std.proofs.Math.Nat.{mul-le-mul_right, mul-lt-mul_of_pos_left, mul-pos}
-pub use Rattle.std.proofs.Math.Seq.{take-add, take-append-add, take-nil}
-pub use Rattle.std.proofs.lemmas.Bool.{and_from, and_left, and_parts, and_right, cases_Bool, cases_eq, cases_lt, cases_order, eq-eqb}
-pub use Rattle.std.proofs.lemmas.Bool.{eqb-false, eqb-true, false_from_ne_true, le-leb, le-ltb, leb-true, lt-leb, lt-ltb, ltb-true, ne_eqb}
-pub use Rattle.std.proofs.lemmas.Bool.{not-true, or_cases, or_left, or_right}
+pub use Rattle.std.proofs.Math.Nat.{mul-div-le, mul-le-mul_left}
+pub use Rattle.std.proofs.lemmas.Bool.{and_from, and_parts, and_right, cases_Bool, cases_eq, cases_lt, cases_order, eq-eqb, eqb-false}
+pub use Rattle.std.proofs.lemmas.Bool.{eqb-true, false_from_ne_true, le-leb, le-ltb, leb-true, lt-leb, lt-ltb, ltb-true, ne_eqb, not-true}
+pub use Rattle.std.proofs.lemmas.Bool.{or_cases, or_left, or_right}
 pub use Rattle.std.proofs.lemmas.Grind.{flat_map-append}
-pub use Rattle.std.proofs.lemmas.Int.{by_lt_z, int_rem_euclid_is, ints, unsigned_abs-mul}
-pub use Rattle.std.proofs.lemmas.List.{get_or-append-add, get_or-replicate, get_or_append_left, nil_from_length, replicate-append-replicate}
-pub use Rattle.std.proofs.lemmas.List.{drop-append-le, drop-replicate, length-replicate, length-take-le, take-append-drop, take-append-le}
-pub use Rattle.std.proofs.lemmas.List.{append-nil, ext_get_or, get_or-drop, get_or-map, length-map, length-take, map-append, take-replicate}
-pub use Rattle.std.proofs.lemmas.List.{drop-drop, drop_at, take-take, take_all, take_at}
-pub use Rattle.std.proofs.lemmas.List.Elements.{All-append, All-cons, All-contains, All-contains_itself, All-get_or, All-head, All-map}
-pub use Rattle.std.proofs.lemmas.List.Elements.{All-nil, All-same, All-tail, All-weaker, Contains-append_left, Contains-append_right}
-pub use Rattle.std.proofs.lemmas.List.Elements.{filter-append, length_all_zip}
+pub use Rattle.std.proofs.lemmas.Int.{by_lt_z, int_rem_euclid_is, ints}
+pub use Rattle.std.proofs.lemmas.List.{length-take-le, take-append-drop, append-nil, length-map, map-append, drop-drop, drop_at, take-take}
+pub use Rattle.std.proofs.lemmas.List.Elements.{All-append, All-cons, All-contains, All-contains_itself, All-head, All-map, All-nil}
+pub use Rattle.std.proofs.lemmas.List.Elements.{All-same, All-tail, All-weaker, filter-append}
 pub use Rattle.std.proofs.lemmas.List.Folds.{flat_map-map, list_all-append, list_all-map, list_all_at, list_any-append, list_any_at}
-pub use Rattle.std.proofs.lemmas.Nat.{div-mul-add, div_below, le-div, mod-mul-add, mod_below, mul-le}
+pub use Rattle.std.proofs.lemmas.Nat.{le-div}
 pub use Rattle.std.proofs.lemmas.Simd.{map-map}
-pub use Rattle.std.proofs.lemmas.Slice.Zip.{AllZip-long, AllZip-map}
+pub use Rattle.std.proofs.lemmas.Slice.Zip.{AllZip-long}
 pub use Rattle.std.specs.Cmp.{booleans_Decides}
 pub use Rattle.std.specs.Cmp.Lexicographic.{pointwise, pointwise_decides}
 pub use Rattle.std.specs.List.{AllZip, Contains, flat_map, list_all, list_any, range_with_len}
 pub use Rattle.std.specs.Option.{option_map, option_to_list}
-pub use Rattle.std.specs.Prelude.{if◌then◌else◌, int_le, int_lt, is_some, neg_ℤ, unwrap_or, ◌*ℤ◌, ◌+ℤ◌, ◌-ℤ◌, ◌<ℤ◌}
+pub use Rattle.std.specs.Prelude.{if◌then◌else◌, int_lt, is_some, unwrap_or, ◌*ℤ◌, ◌+ℤ◌, ◌-ℤ◌, ◌<ℤ◌}
 pub use Rattle.cdma_io.specs.SampleFile.{most_samples}
-pub use Rattle.cell_plan.proofs.Amplitudes.{chip_most, pilot_amplitude, signal_of_carriers, walsh-pilot}
-pub use Rattle.cell_plan.proofs.LaidPages.{size_large}
+pub use Rattle.cell_plan.proofs.Amplitudes.{signal_of_carriers}
 pub use Rattle.cell_plan.proofs.Pieces.{no_sample}
-pub use Rattle.cell_plan.proofs.SentBits.{continued_is, last_eight}
 pub use Rattle.cell_plan.proofs.SentMessages.{length-sending, length-sync, refilled_is, superframes_few, superframes_some, told_early}
 pub use Rattle.cell_plan.proofs.SyncFrames.{length-sync_frame_bits}
 pub use Rattle.cell_plan.specs.PageCycles.{Cycle, cycle_frame_bits, frame_scrambling, paging_frame_size}
 unfoldable pub use Rattle.cell_plan.specs.PageCycles.{cycle_symbols, cycled}
-pub use Rattle.cell_plan.specs.Pages.{AreSendable, laid_behind, laid_pages, sent_paging_rate, put_of}
+pub use Rattle.cell_plan.specs.Pages.{AreSendable, laid_behind, sent_paging_rate}
 unfoldable pub use Rattle.cell_plan.specs.Pages.{page_cycle}
 pub use Rattle.cell_plan.specs.Plan.{AreLawfulBeside, HaveOwnNumbers, HaveOwnTrafficRows, IsFreeOf, IsLawfulPlan, IsPagingPlan, IsSyncPlan}
 pub use Rattle.cell_plan.specs.Plan.{IsTrafficPlan, loudness}
 pub use Rattle.cell_plan.specs.Sampled.{sample_with}
 unfoldable pub use Rattle.cell_plan.specs.Sampled.{made_samples}
-pub use Rattle.cell_plan.specs.Sendings.{padded_sending, superframes_a_sending, told_superframes}
-unfoldable pub use Rattle.cell_plan.specs.Sendings.{bits_before, continued_symbols, message_of, sync_frame_bits, sync_symbols}
-pub use Rattle.cell_plan.specs.Signal.{Carrier, amplitude, amplitudes, cycle_of, frames_of, level, level_of, paging_carrier, pilot_carrier}
-pub use Rattle.cell_plan.specs.Signal.{scaled, symbol_at, sync_carrier, sync_carriers, traffic_carrier}
+pub use Rattle.cell_plan.specs.Sendings.{superframes_a_sending, told_superframes}
+unfoldable pub use Rattle.cell_plan.specs.Sendings.{continued_symbols, message_of, sync_frame_bits, sync_symbols}
+pub use Rattle.cell_plan.specs.Signal.{Carrier, amplitude, amplitudes, cycle_of, frames_of, level_of, paging_carrier, pilot_carrier, scaled}
+pub use Rattle.cell_plan.specs.Signal.{sync_carrier, traffic_carrier}
 unfoldable pub use Rattle.cell_plan.specs.Signal.{carriers, sample_of, samples_of}
 pub use Rattle.cell_plan.specs.Stated.{AreHeard, IsReceivable, IsStatedPaging}
 pub use Rattle.cell_plan.specs.TrafficFrames.{AreTrafficFrames, IsTrafficFrame, IsTrafficFrame2, cycled_frame, frame_count, set_one}
@@ -64,20 +54,14 @@ pub use Rattle.cell_plan.specs.declared.plan.TrafficPlan.{TrafficPlan}
 pub use Rattle.cell_plan.specs.declared.traffic_frame.TrafficFrame.{TrafficFrame}
 pub use Rattle.cell_plan.specs.declared.traffic_frame2.TrafficFrame2.{TrafficFrame2}
 pub use Rattle.chip_core.proofs.BitLists.{add, length_add}
-pub use Rattle.chip_core.proofs.Counted.{flat_map-add, flat_map-next, flat_map-nothing, flat_map-zero, map-add, map-next, map-zero}
-pub use Rattle.chip_core.proofs.Counted.{take-map-places}
-pub use Rattle.chip_core.proofs.IndexSums.{sum_append, sum_none, sum_same}
+pub use Rattle.chip_core.proofs.Counted.{flat_map-next, flat_map-zero}
 pub use Rattle.chip_core.proofs.Places.{get_or-map-places, get_or-places, length-map-places, length-places, map-places-all, places-more}
 pub use Rattle.chip_core.proofs.Places.{places-none}
 pub use Rattle.chip_core.proofs.Ranges.{filter_enough, filter_ext_places, filter_none_places, flat_map_ext_filter}
 pub use Rattle.chip_core.proofs.Ranges.{flat_map_ext_filter_places, flat_map_ext_places, map_ext_filter_places, map_ext_places}
-pub use Rattle.chip_core.proofs.Repeated.{flat_map-repeated, length-repeated, repeated, repeated-part}
-pub use Rattle.chip_core.proofs.Ring.{diff-plus, diff-same, diff-times, distrib, mul_assoc_ℤ, neg_times, split, swap_products, times_neg}
-pub use Rattle.chip_core.specs.Bits.{common_parity, digit, number, sign, xor, zip_with}
+pub use Rattle.chip_core.specs.Bits.{common_parity, digit, sign, xor, zip_with}
 unfoldable pub use Rattle.chip_core.specs.Bits.{binary, places}
-pub use Rattle.chip_core.specs.Complex.{conjugate, norm, of_sample, origin, plus, point, sum_of, times}
-pub use Rattle.chip_core.specs.Sums.{square}
-unfoldable pub use Rattle.chip_core.specs.Sums.{sum_below}
+pub use Rattle.chip_core.specs.Complex.{norm, point, times}
 pub use Rattle.chip_core.specs.declared.assignment.Traffic.{Traffic}
 pub use Rattle.chip_core.specs.declared.check_form.CheckForm.{CheckForm}
 pub use Rattle.chip_core.specs.declared.check_form.CheckForm.TheVariants.{Plain}
@@ -85,26 +69,17 @@ pub use Rattle.chip_core.specs.declared.sample.Pair.{Pair}
 pub use Rattle.chip_core.specs.declared.sample.Sample.{Sample}
 pub use Rattle.chip_core.specs.declared.width.Width.{Width}
 pub use Rattle.chip_core.specs.declared.width.Width.TheVariants.{Eight, Sixteen}
-pub use Rattle.conv_code.proofs.Continued.{before, behind, code_symbols-none, continued, length-code_symbols, length-state_after, pair}
-pub use Rattle.conv_code.proofs.Continued.{state_after-append, state_after-none}
-pub use Rattle.conv_code.proofs.Distinct.{distinct}
+pub use Rattle.conv_code.proofs.Continued.{before, behind, length-state_after, pair, state_after-append, state_after-none}
 pub use Rattle.conv_code.proofs.Pairs.{symbols_at}
 pub use Rattle.conv_code.specs.ConvCode.{code_symbols, g0, g1, state_after, symbol}
-pub use Rattle.frame_decoder.proofs.BestCodewords.{best_codeword-same, own_is}
-pub use Rattle.frame_decoder.proofs.Gathered.{length-gathered_span}
-pub use Rattle.frame_decoder.proofs.Parts.{frames-more, frames-none, length-frames, take-frames, within}
 pub use Rattle.frame_decoder.proofs.RateCodewords.{bits_least}
-pub use Rattle.frame_decoder.proofs.Scores.{score_is}
 pub use Rattle.frame_decoder.proofs.SentFrames.{sent_frame, signs_frame}
 pub use Rattle.frame_decoder.proofs.ShownSymbols.{le_false, lt_true}
 pub use Rattle.frame_decoder.proofs.SignedScores.{agree_left, shown_keep}
 pub use Rattle.frame_decoder.specs.Laws.{AgreeElsewhere, IsUnshared, frame_codeword}
 pub use Rattle.frame_decoder.specs.Signs.{AreKept, KeepSigns}
-pub use Rattle.frame_decoder.specs.Spans.{Channel, channel_for, gathered_span, own_bits, score, sending, sent_symbols}
 pub use Rattle.frame_decoder.specs.TrafficFrames.{decoded, frame_bits, frame_symbols, group_sum, group_sums, is_replaced, power_bit}
 pub use Rattle.frame_decoder.specs.TrafficFrames.{unreplaced}
-pub use Rattle.frame_decoder.specs.declared.span_format.FrameKind.{FrameKind}
-pub use Rattle.frame_decoder.specs.declared.span_format.FrameKind.TheVariants.{Paging}
 pub use Rattle.frame_decoder.specs.declared.traffic.Decoded.{Decoded}
 pub use Rattle.heard_events.proofs.EventPlaces.{AreAt, IsAt, all_at, all_each}
 pub use Rattle.heard_events.proofs.FrameBounds.{AreCloseAll}
@@ -153,11 +128,10 @@ pub use Rattle.long_code.proofs.Period.{IsState-after, IsState-before, after-inj
 pub use Rattle.long_code.specs.LongCode.{IsState, after, paging_mask}
 unfoldable pub use Rattle.long_code.specs.LongCode.{long_chip, traffic_mask}
 pub use Rattle.paging_message.proofs.Carried.{rate_large}
-pub use Rattle.paging_message.proofs.Layings.{any_other, below_more, below_push, framed_whole, half_front, not_begun}
 pub use Rattle.paging_message.proofs.Readings.{reads_body, reads_capsule}
 pub use Rattle.paging_message.specs.Admitted.{HasMessage}
 pub use Rattle.paging_message.specs.HalfFrames.{half_frame_body}
-unfoldable pub use Rattle.paging_message.specs.HalfFrames.{bits_left, half_frame_capsule_ending}
+unfoldable pub use Rattle.paging_message.specs.HalfFrames.{half_frame_capsule_ending}
 unfoldable pub use Rattle.paging_message.specs.Laying.{fill}
 unfoldable pub use Rattle.paging_message.specs.Messages.{paging_capsule}
 pub use Rattle.paging_message.specs.Reading.{is_body, paging_reading}
@@ -172,38 +146,30 @@ pub use Rattle.pilot_sets.specs.declared.standing.ActivePilot.{ActivePilot}
 pub use Rattle.pilot_sets.specs.declared.strengths.Strength.{Strength}
 pub use Rattle.pilot_sets.specs.declared.thresholds.Thresholds.{Thresholds}
 pub use Rattle.quality_bits.proofs.TrafficCodewords.{codeword_fills}
-pub use Rattle.quality_bits.proofs.Wholes.{length-capsule, whole-capsule}
-pub use Rattle.quality_bits.specs.Capsules.{FillsCapsule, IsWhole, octets, stated_bits}
-unfoldable pub use Rattle.quality_bits.specs.Capsules.{capsule, front_capsule, is_stated}
+pub use Rattle.quality_bits.proofs.Wholes.{length-capsule}
+pub use Rattle.quality_bits.specs.Capsules.{FillsCapsule}
+unfoldable pub use Rattle.quality_bits.specs.Capsules.{capsule}
 pub use Rattle.quality_bits.specs.Kinds.{quality_indicator}
-pub use Rattle.quality_bits.specs.Pieces.{Piece, bodies, but_last, from_last_start, piece}
+pub use Rattle.quality_bits.specs.Pieces.{Piece, from_last_start, piece}
 unfoldable pub use Rattle.quality_bits.specs.Pieces.{capsule_ending}
 unfoldable pub use Rattle.quality_bits.specs.Quality.{check_bits}
-pub use Rattle.quality_bits.specs.TrafficCodewords.{information_of, quality_of, repeats_of, traffic_codeword}
+pub use Rattle.quality_bits.specs.TrafficCodewords.{quality_of, repeats_of, traffic_codeword}
 pub use Rattle.quality_bits.specs.declared.kind.Kind.TheVariants.{M30}
 pub use Rattle.quality_bits.specs.declared.rate.Rate.{Rate}
 pub use Rattle.quality_bits.specs.declared.rate.Rate.TheVariants.{R1200, R2400, R4800, R9600}
-pub use Rattle.rake_finger.proofs.CoveredSums.{covered_sum-more, row_sign, same_parts}
-pub use Rattle.rake_finger.proofs.FingerTimes.{timed_in}
 pub use Rattle.rake_finger.proofs.FrameTimes.{known_between, known_le}
-pub use Rattle.rake_finger.proofs.SoftValues.{pilot_is, soft_is, symbol_is, turned_part-is}
 pub use Rattle.rake_finger.specs.Near.{AreClose, AreNear}
 pub use Rattle.rake_finger.specs.Paths.{fingers_of, modulo_code}
-pub use Rattle.rake_finger.specs.Scrambled.{Scrambles, descrambled, unscrambled}
-pub use Rattle.rake_finger.specs.Soft.{covered_from, despread_at, finger_place, frame_chips, pilot_sum, soft, symbol_chips, symbol_sum}
-pub use Rattle.rake_finger.specs.Soft.{symbols, turned_part, window_chips}
+pub use Rattle.rake_finger.specs.Scrambled.{descrambled, unscrambled}
+pub use Rattle.rake_finger.specs.Soft.{frame_chips, symbols}
 unfoldable pub use Rattle.rake_finger.specs.Soft.{softs}
-pub use Rattle.rake_finger.specs.Streams.{frame_end, frame_softs, frame_start, is_in_file, is_within, known_at, known_by, known_now}
-pub use Rattle.rake_finger.specs.Streams.{span_first, span_frames}
+pub use Rattle.rake_finger.specs.Streams.{frame_end, frame_softs, frame_start, is_in_file, known_at, known_by, known_now}
 pub use Rattle.rake_finger.specs.Timing.{IsTimed}
 pub use Rattle.rake_finger.specs.declared.finger.Finger.{Finger}
-pub use Rattle.rake_finger.specs.declared.form.Form.{Form}
 pub use Rattle.rake_finger.specs.declared.form.Form.TheVariants.{Data, Sync}
-pub use Rattle.short_code.specs.Despread.{code_point, despread}
+pub use Rattle.short_code.specs.Despread.{code_point}
 pub use Rattle.short_code.specs.ShortCode.{pilot_chip}
 pub use Rattle.symbol_path.proofs.Agreement.{get_or-sent, length-sent}
-pub use Rattle.symbol_path.proofs.CodewordsTwo.{length-codeword_bits}
-pub use Rattle.symbol_path.proofs.Interleaving.{repeats_some, size_some}
 pub use Rattle.symbol_path.proofs.Permutation.{address-place, place_lt}
 pub use Rattle.symbol_path.proofs.PowerPlaces.{ArePairs, pairs_below, pairs_in_groups, pairs_neighbours, power_place_in_groups}
 pub use Rattle.symbol_path.proofs.SentOnceTwo.{kept_once}
@@ -212,43 +178,38 @@ pub use Rattle.symbol_path.proofs.SymbolChips.{on_again}
 pub use Rattle.symbol_path.specs.FramesTwo.{codeword_bits}
 pub use Rattle.symbol_path.specs.Scrambling.{group_scrambling, power_place, power_start, scrambling, symbol_or_power_bit}
 unfoldable pub use Rattle.symbol_path.specs.Scrambling.{power_places, with_power_bits}
-pub use Rattle.symbol_path.specs.SentOrder.{Shape, address, data_shape, place, shape_of, size, sync_shape}
-pub use Rattle.symbol_path.specs.SentOrder.{sent}
+pub use Rattle.symbol_path.specs.SentOrder.{address, data_shape, place, sync_shape, sent}
 unfoldable pub use Rattle.symbol_path.specs.SentOrder.{sent_by}
 pub use Rattle.symbol_path.specs.SentOrderTwo.{is_dropped, repeated_symbol, sent2}
-pub use Rattle.symbol_path.specs.declared.kinds.Kind.{Kind}
 pub use Rattle.symbol_path.specs.declared.rate_two.Rate2.{Rate2}
 pub use Rattle.symbol_path.specs.declared.rate_two.Rate2.TheVariants.{R14400, R1800, R3600, R7200}
-pub use Rattle.sync_message.proofs.Bodies.{length-body}
 pub use Rattle.sync_message.specs.Framing.{superframes_of}
 pub use Rattle.sync_message.specs.SyncMessage.{IsSyncMessage}
 unfoldable pub use Rattle.sync_message.specs.SyncMessage.{sync_body, sync_capsule}
 pub use Rattle.sync_message.specs.declared.fields.SyncFields.{SyncFields}
 unfoldable pub use Rattle.traffic_message.specs.Multiplex.{split_9600}
 pub use Rattle.traffic_message.specs.declared.body.TrafficBody.{TrafficBody}
-pub use Rattle.viterbi.proofs.Agreement.{signs_agree_alone}
 pub use Rattle.viterbi.proofs.Choices.{codewords_same}
-pub use Rattle.viterbi.proofs.Sent.{zero_codeword_best, zeros_score}
-pub use Rattle.viterbi.proofs.Unique.{by_definition}
-pub use Rattle.viterbi.proofs.Zipped.{zipped_append, zipped_at, zipped_by_place}
-pub use Rattle.viterbi.specs.Best.{IsAllowed, IsBestCodeword}
-pub use Rattle.viterbi.specs.Codewords.{Codeword, best_codeword, correlation, score_of}
+pub use Rattle.viterbi.proofs.Zipped.{zipped_at}
+pub use Rattle.viterbi.specs.Best.{IsAllowed}
+pub use Rattle.viterbi.specs.Codewords.{Codeword, correlation}
 pub use Rattle.viterbi.specs.Laws.{signed}
-pub use Rattle.viterbi.specs.Signs.{HasSign, HaveSigns}
-pub use Rattle.viterbi.specs.declared.codeword.Ends.TheVariants.{Free, Zero}
-pub use Rattle.walsh.proofs.RowTable.{orthogonal}
+pub use Rattle.viterbi.specs.Signs.{HasSign}
+pub use Rattle.viterbi.specs.declared.codeword.Ends.TheVariants.{Zero}
 pub use Rattle.walsh.specs.Walsh.{walsh}
-unfoldable pub use Rattle.walsh.specs.Walsh.{row_sum}
-pub use Rattle.clean_link.specs.BoundedNoise.{NoisyChannelsHaveSentSigns, NoisyCodewordsAreTheOnlyBest, NoisyStreamsShowSymbols, with_added}
-pub use Rattle.clean_link.specs.BoundedNoise.{AllBear, Bears, IsClosePair, IsCloseSample, IsNear, NoisyFramesComeBack, OtherCellsAreNoise}
-pub use Rattle.clean_link.specs.CleanLaws.{PagingCodewordsAreTheOnlyBest, SentCodewordsAreTheOnlyBest, SilentPagingFramesAreZeros}
-pub use Rattle.clean_link.specs.CleanLaws.{NoisyIsMarkedWhereHeard, NoisyPagingFramesComeBack, NoisySendingsComeBack, WholeSendingsComeBack}
-pub use Rattle.clean_link.specs.CleanLaws.{AreZeroWithoutSync, MarksAreTrue, PagingFramesComeBack, PagingHaveSentSigns, UnmarkedWithoutSync}
-pub use Rattle.clean_link.specs.CleanLaws.{IsMarkedWhereHeard, MarksTellTheRate, NoisyMarksAreTrue, NoisyPagesComeBack, SilentPagingIsZero}
-pub use Rattle.clean_link.specs.CleanLaws.{FramesAreZeros, FramesComeBack, HaveSentSigns, HearsSentSync, ShowsSync, ordered_symbols}
+pub use Rattle.clean_signal.specs.BoundedNoise.{with_added, Bears, IsCloseSample, IsNear}
+pub use Rattle.clean_link.specs.CleanLaws.{ChannelFramesComeBack, NoisyFramesComeBack, PagingCodewordsAreTheOnlyBest}
+pub use Rattle.clean_link.specs.CleanLaws.{SentCodewordsAreTheOnlyBest}
+pub use Rattle.clean_link.specs.CleanLaws.{SilentPagingFramesAreZeros, NoisyIsMarkedWhereHeard, NoisyPagingFramesComeBack}
+pub use Rattle.clean_link.specs.CleanLaws.{NoisySendingsComeBack, WholeSendingsComeBack, AreZeroWithoutSync, MarksAreTrue}
+pub use Rattle.clean_link.specs.CleanLaws.{PagingFramesComeBack, PagingHaveSentSigns, UnmarkedWithoutSync, IsMarkedWhereHeard}
+pub use Rattle.clean_link.specs.CleanLaws.{MarksTellTheRate, NoisyMarksAreTrue, NoisyPagesComeBack, SilentPagingIsZero, FramesAreZeros}
+pub use Rattle.clean_link.specs.CleanLaws.{FramesComeBack, HaveSentSigns, HearsSentSync, ShowsSync, ordered_symbols}
 pub use Rattle.clean_link.specs.CleanLink.{IsNoDirection, IsNotDirected, IsOnPath, IsTrueMark, IsTunedToPlan, events_of_channel}
-pub use Rattle.clean_link.specs.CleanLink.{first_sync_frame, heard_behind, is_whole, sending_begins, sending_ends, sending_event}
-pub use Rattle.clean_link.specs.CleanLink.{soft_strength, tuning_to, whole_sendings}
+pub use Rattle.clean_link.specs.CleanLink.{sending_event, tuning_to}
+pub use Rattle.clean_frames.specs.WholeSendings.{first_sync_frame, heard_behind, is_whole, sending_begins, sending_ends, whole_sendings}
+pub use Rattle.clean_frames.specs.WholeSendings.{told_by_first, told_with_sync}
+pub use Rattle.clean_signal.specs.Signals.{soft_strength, path_finger, reference_finger, AreReadBy, IsFrameOf, IsHeardBy, scrambled_with}
 unfoldable pub use Rattle.clean_link.specs.CleanLink.{sync_sent}
 pub use Rattle.clean_link.specs.DistinctFrames.{AFullRateFrameIsDistinct, AreDistinctBySharing, AreDistinctBySharing2}
 pub use Rattle.clean_link.specs.DistinctFrames.{FullRateFramesAreDistinct, ZerosAreShared, full_rate_symbols, gives, is_hidden, is_kept}
@@ -256,21 +217,21 @@ pub use Rattle.clean_link.specs.DistinctFrames.{is_known2, is_seen, lost_symbols
 pub use Rattle.clean_link.specs.DistinctFrames.{symbols_known_of, shows_full_rate, some_information, tells_all_bits}
 unfoldable pub use Rattle.clean_link.specs.DistinctFrames.{codewords_giving, stays_apart}
 pub use Rattle.clean_link.specs.DistinctPlan.{HasMark, HasSetOne, HasSetTwo, distinct_bits_of, bits_of2, channel_on, distinct_plan}
-pub use Rattle.clean_link.specs.DistinctPlan.{first_channel}
-pub use Rattle.clean_link.specs.DistinctPlan.{frame2_at, frame_at, on_row, second_channel, told_message}
+pub use Rattle.clean_link.specs.DistinctPlan.{first_channel, frame2_at, frame_at, on_row, second_channel, told_message}
 pub use Rattle.clean_link.specs.HeardEach.{AreEventsOf, AreFramesBehind, AreMessagesBehind, EachChannelComesBack, FollowsOne, IsEventOf}
 pub use Rattle.clean_link.specs.HeardEach.{NoEventIsDirectedByNoise, NoisyEachChannelComesBack, is_frame, is_message, is_page, is_sync}
-pub use Rattle.clean_link.specs.HeardFrames.{codeword_symbols, frames_of_channel, messages_of_channel, sent_frame_event, signals_received}
-pub use Rattle.clean_link.specs.HeardFrames.{IsDistinctFrame, SendsSymbols, ShowPowerBits, message_told, received_frames, sent_power_bits}
-pub use Rattle.clean_link.specs.HeardFrames.{AreDistinct, IsAssigned, SendsSetOne, SendsSetTwo, is_received, replaced_of, signal_sent}
-pub use Rattle.clean_link.specs.HeardFrames.{IsOnePilot, ShowFrame, frame_chip, frame_ends, frame_told, signals_in, told_on_row}
-unfoldable pub use Rattle.clean_link.specs.HeardFrames.{frames_sent, messages_sent, sent_bits}
-pub use Rattle.clean_link.specs.HeardPages.{AreWholePages, KnownPage, PageSendingsComeBack, PagesComeBack, Placed, ReadPage}
-pub use Rattle.clean_link.specs.HeardPages.{WholePagesComeBack, capsules_with_frames, cycle_half_frames, end_chip, frame_capsules}
-pub use Rattle.clean_link.specs.HeardPages.{is_between, is_whole_page, known_page, message_in, page_told, pages_numbered, pages_of_channel}
-pub use Rattle.clean_link.specs.HeardPages.{pages_within, placed, placed_pages, round_sent, sending_of, type_within}
-unfoldable pub use Rattle.clean_link.specs.HeardPages.{pages_sent}
-pub use Rattle.clean_link.specs.NearFiles.{AreRounded, IsRounded, louder, louder_sample, over_link}
+pub use Rattle.clean_frames.specs.SentFrames.{codeword_symbols, signals_received, IsDistinctFrame, SendsSymbols, ShowPowerBits}
+pub use Rattle.clean_frames.specs.SentFrames.{received_frames, sent_power_bits, AreDistinct, IsAssigned, SendsSetOne, SendsSetTwo}
+pub use Rattle.clean_frames.specs.SentFrames.{is_received, replaced_of, signal_sent, ShowFrame, frame_chip, frame_ends, signals_in}
+pub use Rattle.clean_link.specs.HeardFrames.{frames_of_channel, messages_of_channel, sent_frame_event, message_told, IsOnePilot, frame_told}
+pub use Rattle.clean_link.specs.HeardFrames.{told_on_row}
+unfoldable pub use Rattle.clean_link.specs.HeardFrames.{frames_sent, messages_sent}
+unfoldable pub use Rattle.clean_frames.specs.SentFrames.{sent_bits}
+pub use Rattle.clean_frames.specs.WholePages.{AreWholePages, KnownPage, Placed, capsules_with_frames, cycle_half_frames, end_chip}
+pub use Rattle.clean_frames.specs.WholePages.{frame_capsules, is_whole_page, message_in, page_told, pages_numbered, pages_of_channel}
+pub use Rattle.clean_frames.specs.WholePages.{placed, placed_pages, round_sent, sending_of}
+pub use Rattle.clean_link.specs.HeardPages.{PagesComeBack, ReadPage, known_page, pages_within, type_within}
+unfoldable pub use Rattle.clean_frames.specs.WholePages.{pages_sent}
 pub use Rattle.clean_link.specs.ReceivedFrames.{AreReceived, IsDistinctFrame2, IsReceived, IsReceivedAs, IsSentFrame2, codeword_symbols2}
 pub use Rattle.clean_link.specs.ReceivedFrames.{cycled_frame2}
 pub use Rattle.clean_link.specs.ReceivedLaws.{EachFrameIsReceived, FramesBehindMark, FramesShowPowerBits, FramesShowSymbols}
@@ -278,17 +239,13 @@ pub use Rattle.clean_link.specs.ReceivedLaws.{IsReceivedBySigns, IsSentFrame2ByS
 pub use Rattle.clean_link.specs.ReceivedLaws.{NoisyReceivedAreTheOnlyBest, NoisySetTwoAreTheOnlyBest, NoisySetTwoBehindMark}
 pub use Rattle.clean_link.specs.ReceivedLaws.{NoisySetTwoFramesComeBack, SetOneSends, SetTwoBehindMark, SetTwoFramesComeBack, SetTwoSends}
 pub use Rattle.clean_link.specs.SentEvents.{FollowsSent, NoEventIsDirected, WholeMessagesComeBack, by_places, is_at, known_event}
-pub use Rattle.clean_link.specs.SentEvents.{pages_behind_mark, pages_with_sync, told_by_first, told_followed, told_with_sync}
+pub use Rattle.clean_link.specs.SentEvents.{pages_behind_mark, pages_with_sync, told_followed}
 unfoldable pub use Rattle.clean_link.specs.SentEvents.{frame_events_at, message_events_at, paging_events_at, paging_sent, sent_events}
 unfoldable pub use Rattle.clean_link.specs.SentEvents.{sets_events_at, sets_heard, signaling_sent, traffic_sent}
-pub use Rattle.clean_link.specs.Signals.{HaveOwnRows, IsOnlyBest, IsWholeChannel, path_finger, reference_finger, span_codeword}
-pub use Rattle.clean_link.specs.Signals.{span_frame_softs}
-pub use Rattle.clean_link.specs.Signals.{CarriersAreApart, AreReadBy, IsAligned, IsFrameAt, IsFrameOf, IsHeardBy, level_at, row_level}
-pub use Rattle.clean_link.specs.Signals.{scrambled_with}
 pub use Rattle.clean_link.specs.TrafficLaws.{ArePowered, EachFrameIsHeard, HavePowerSigns, HeardAreTheOnlyBest, HearsSentTraffic, IsHeardAs}
-pub use Rattle.clean_link.specs.TrafficLaws.{IsOnlyBestFrame, IsOnlyBestFrame2, IsUndirected, NoisyEachFrameIsHeard, NoisyFrame}
-pub use Rattle.clean_link.specs.TrafficLaws.{NoisyFramesAreTheOnlyBest, NoisyPowerBitsComeBack, NoisySentFramesComeBack}
-pub use Rattle.clean_link.specs.TrafficLaws.{NoisySentMessagesComeBack, NoisyTrafficFramesComeBack, NoisyTrafficHasSentSigns}
-pub use Rattle.clean_link.specs.TrafficLaws.{NoneIsDirected, NoneIsDirectedByNoise, OnePilotIsHeard, PowerBitsComeBack}
-pub use Rattle.clean_link.specs.TrafficLaws.{ReceivedAreTheOnlyBest, SentFramesComeBack, SentMessagesComeBack, SetTwoAreTheOnlyBest}
-pub use Rattle.clean_link.specs.TrafficLaws.{ShowsTraffic, SixteenPowerBitsAreSent, TrafficFramesComeBack, TrafficHaveSentSigns}
+pub use Rattle.clean_link.specs.TrafficLaws.{IsUndirected, NoisyEachFrameIsHeard, NoisyFrame, NoisyFramesAreTheOnlyBest}
+pub use Rattle.clean_link.specs.TrafficLaws.{NoisyPowerBitsComeBack, NoisySentFramesComeBack, NoisySentMessagesComeBack}
+pub use Rattle.clean_link.specs.TrafficLaws.{NoisyTrafficFramesComeBack, NoisyTrafficHasSentSigns, NoneIsDirected, NoneIsDirectedByNoise}
+pub use Rattle.clean_link.specs.TrafficLaws.{OnePilotIsHeard, PowerBitsComeBack, ReceivedAreTheOnlyBest, SentFramesComeBack}
+pub use Rattle.clean_link.specs.TrafficLaws.{SentMessagesComeBack, SetTwoAreTheOnlyBest, ShowsTraffic, SixteenPowerBitsAreSent}
+pub use Rattle.clean_link.specs.TrafficLaws.{TrafficFramesComeBack, TrafficHaveSentSigns}

@@ -9,13 +9,33 @@ use Rattle.clean_link.specs.Common.{frame_softs, is_in_file, span_first, span_fr
 use Rattle.clean_link.specs.Common.{sync_events_at, Tuning, sync_stream, Mark, IsReceivable, Sample}
 use Rattle.clean_link.specs.Common.{cycle_frame_bits, sent_paging_rate, cycle_of, IsStatedPaging}
 use Rattle.clean_link.specs.Common.{PagingPlan, paging_stream, Data, data_shape, sent, repeats_of}
-use Rattle.clean_link.specs.Common.{Cycle, IsFreeOf, continued_symbols}
+use Rattle.clean_link.specs.Common.{Cycle, IsFreeOf, continued_symbols, Carrier, carriers, Stream}
 use Rattle.rake_finger.specs.declared.form.Form.TheVariants.{Sync}
-use Rattle.clean_link.specs.Signals.{IsOnlyBest, span_codeword}
-use Rattle.clean_link.specs.CleanLink.{IsOnPath, IsTrueMark, first_sync_frame, soft_strength}
-use Rattle.clean_link.specs.CleanLink.{sync_sent}
-use Rattle.clean_link.specs.BoundedNoise.{Bears, IsNear}
-use Rattle.clean_link.specs.HeardPages.{pages_of_channel, pages_within}
+use Rattle.clean_signal.specs.Signals.{IsOnlyBest, span_codeword, soft_strength, AreReadBy}
+use Rattle.clean_signal.specs.Signals.{IsHeardBy}
+use Rattle.clean_link.specs.CleanLink.{IsOnPath, IsTrueMark, sync_sent}
+use Rattle.clean_frames.specs.WholeSendings.{first_sync_frame}
+use Rattle.clean_signal.specs.BoundedNoise.{Bears, IsNear, HoldsOfStreams}
+use Rattle.clean_frames.specs.WholePages.{pages_of_channel}
+use Rattle.clean_link.specs.HeardPages.{pages_within}
+
+-- ---- any channel
+
+-- The own bits of a frame of any stream that hears a sent channel are the ones that the channel
+-- sends in it.
+abbrev pub ChannelFramesComeBack : Type 0
+ChannelFramesComeBack = (width : Width) (plan : CellPlan) (c : Carrier) (s : Stream)
+    (bits_of : ℕ → List Bool) (base k : ℕ) →
+    IsReceivable width plan → Contains (carriers plan) c → 0 < c.gain → IsHeardBy plan c s base →
+    AreReadBy c s bits_of base → is_in_file plan.link.samples s k ≡ true →
+    frame_own_bits plan.link.samples (made_samples plan) s k ≡ bits_of (base + k)
+
+-- So are those of any stream that hears a channel which bears the noise of a file.
+abbrev pub NoisyFramesComeBack : Type 0
+NoisyFramesComeBack = HoldsOfStreams (λ plan s bits_of base k samples.
+    frame_own_bits plan.link.samples samples s k ≡ bits_of (base + k))
+
+-- ---- the sync channel
 
 -- the soft values of a received sync frame are one positive number times the signs of the symbols
 -- that were sent
@@ -98,7 +118,7 @@ pub record ShowsSync (width : Width) (plan : CellPlan) (samples : List Sample) :
       is_in_file t.count (sync_stream t) k ≡ true →
       frame_own_bits t.count samples (sync_stream t) k ≡ replicate 32 false
 
--- ---- the sync channel
+-- ---- the sync channel through noise
 
 -- A file's samples are near, within e, to those of a cell that can be received and sends a sync
 -- channel, and the sync channel bears noise of that size.

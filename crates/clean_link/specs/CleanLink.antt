@@ -1,14 +1,13 @@
 -- A clean link: a file that holds what one cell sends over one path, without noise, and what a
 -- handset has to hear in it.
-use Rattle.std.specs.Prelude.{ℕ, ◌+◌, ◌-◌, ◌*◌, ◌/◌, ◌%◌, ◌≤◌, ◌≡◌, ◌&&◌, Bool, if◌then◌else◌}
-use Rattle.std.specs.Prelude.{nat_le, List, [], ◌∷◌, length, map, filter, pos, Option, None, Some}
-use Rattle.clean_link.specs.Common.{superframe_chips}
-use Rattle.clean_link.specs.Common.{places, norm, after, symbol_chips, window_chips, Form}
-use Rattle.clean_link.specs.Common.{sync_capsule, SyncFields, IsFreeOf, message_of}
-use Rattle.clean_link.specs.Common.{superframes_a_sending, phase_at, CellPlan, SyncPlan}
-use Rattle.clean_link.specs.Common.{TrafficBody, Tuning, Event, Sync, Mark, Traffic}
-use Rattle.traffic_message.specs.declared.body.TrafficBody.TheVariants as bodies
+use Rattle.std.specs.Prelude.{ℕ, ◌+◌, ◌-◌, ◌*◌, ◌≤◌, ◌≡◌, List, [], ◌∷◌, map, pos, Option, None}
+use Rattle.std.specs.Prelude.{Some}
+use Rattle.clean_link.specs.Common.{superframe_chips, after, sync_capsule, SyncFields, IsFreeOf}
+use Rattle.clean_link.specs.Common.{message_of, phase_at, CellPlan, SyncPlan, TrafficBody, Tuning}
+use Rattle.clean_link.specs.Common.{Event, Sync, Mark, Traffic}
+use Rattle.clean_frames.specs.WholeSendings.{heard_behind, sending_ends, whole_sendings}
 use Rattle.heard_events.specs.declared.event.Event.TheVariants.{Traffic as OnTraffic}
+use Rattle.traffic_message.specs.declared.body.TrafficBody.TheVariants as bodies
 
 -- ---- handoff
 
@@ -54,45 +53,7 @@ pub record IsTunedToPlan (plan : CellPlan) (t : Tuning) : Type 0 where
   pub last_channel : t.paging ≤ 7
   pub free : IsFreeOf plan.traffic t.paging
 
--- ---- channels as they are received
-
--- the strength of a channel's soft values: four times the link's square, the gains of the pilot and
--- of the channel, and the chips of a window and of a symbol
-abbrev pub soft_strength : CellPlan → Form → ℕ → ℕ
-soft_strength plan form gain =
-    4 * norm plan.link.factor * (plan.pilot.gain * gain) *
-    (window_chips form * symbol_chips form)
-
--- A frame is known at the end of the next one, or where that isn't in the file, at its own.
-abbrev pub heard_behind : ℕ → ℕ → ℕ → ℕ
-heard_behind frame count ends = if nat_le (ends + frame) count then ends + frame else ends
-
--- which of the cell's sync frames is the first one that begins in the file
-abbrev pub first_sync_frame : CellPlan → ℕ
-first_sync_frame plan =
-    (plan.link.start + (32768 - phase_at plan plan.link.start) % 32768 - 64 * plan.cell.pn) / 32768
-
 -- ---- whole transmissions
-
--- the local chips of a transmission: the first chip of its first frame, and the end of the frame
--- that holds its capsule's last bit
-abbrev pub sending_begins : CellPlan → SyncFields → ℕ → ℕ
-sending_begins plan m sending =
-    64 * plan.cell.pn + superframe_chips * (sending * superframes_a_sending plan.cell m)
-
-abbrev pub sending_ends : CellPlan → SyncFields → ℕ → ℕ
-sending_ends plan m sending =
-    sending_begins plan m sending + 32768 * ((length (sync_capsule plan.cell.check30 m) + 30) / 31)
-
--- whether all of it lies in the file
-abbrev pub is_whole : CellPlan → SyncFields → ℕ → Bool
-is_whole plan m sending =
-    nat_le plan.link.start (sending_begins plan m sending) &&
-    nat_le (sending_ends plan m sending) (plan.link.start + plan.link.samples)
-
-abbrev pub whole_sendings : CellPlan → SyncFields → List ℕ
-whole_sendings plan m =
-    filter (is_whole plan m) (places ((plan.link.start + plan.link.samples) / superframe_chips + 1))
 
 -- what a handset tells of a transmission, when it knows the last of its frames
 abbrev pub sending_event : CellPlan → SyncFields → ℕ → Event

@@ -1,49 +1,41 @@
 -- What the definitions of this crate cite of what lies below, and of its own types, passed on from
 -- one place.
-pub use Rattle.cdma_io.specs.declared.header.Header.{Header}
-pub use Rattle.cell_plan.specs.PageCycles.{Cycle, cycle_frame_bits, cycled, paging_frame_size}
-pub use Rattle.cell_plan.specs.Pages.{AreSendable, sent_paging_rate}
+pub use Rattle.cell_plan.specs.PageCycles.{Cycle, cycle_frame_bits}
+pub use Rattle.cell_plan.specs.Pages.{sent_paging_rate}
 unfoldable pub use Rattle.cell_plan.specs.Pages.{page_cycle}
-pub use Rattle.cell_plan.specs.Plan.{IsFreeOf, gain_sum, loudness}
+pub use Rattle.cell_plan.specs.Plan.{IsFreeOf}
 pub use Rattle.cell_plan.specs.Sampled.{made_samples}
-pub use Rattle.cell_plan.specs.Sendings.{continued_symbols, superframes_a_sending, told_superframes}
-pub use Rattle.cell_plan.specs.Sendings.{bits_before, message_of, sync_frame_bits, sync_symbols}
-pub use Rattle.cell_plan.specs.Signal.{Carrier, carriers, cycle_of, frames_of, level, scaled}
+pub use Rattle.cell_plan.specs.Sendings.{continued_symbols, message_of, sync_frame_bits}
+pub use Rattle.cell_plan.specs.Sendings.{sync_symbols}
+pub use Rattle.cell_plan.specs.Signal.{Carrier, carriers, cycle_of, frames_of}
 pub use Rattle.cell_plan.specs.SomeMessage.{some_message, some_sync}
-pub use Rattle.cell_plan.specs.Stated.{AreHeard, IsReceivable, IsStatedPaging}
+pub use Rattle.cell_plan.specs.Stated.{IsReceivable, IsStatedPaging}
 pub use Rattle.cell_plan.specs.TrafficFrames.{FrameCycle, IsTrafficFrame, IsTrafficFrame2}
-pub use Rattle.cell_plan.specs.TrafficFrames.{cycled_frame, sent_frame_state, sent_with, set_one}
-pub use Rattle.cell_plan.specs.TrafficFrames.{set_two, traffic_frame_symbols}
+pub use Rattle.cell_plan.specs.TrafficFrames.{cycled_frame, set_two}
 pub use Rattle.cell_plan.specs.Transmitter.{phase_at}
 pub use Rattle.cell_plan.specs.declared.frame_list.FrameList.{FrameList}
 pub use Rattle.cell_plan.specs.declared.frame_list.FrameList.TheVariants.{SetOne, SetTwo}
 pub use Rattle.cell_plan.specs.declared.plan.CellPlan.{CellPlan}
-pub use Rattle.cell_plan.specs.declared.plan.LinkPlan.{LinkPlan}
 pub use Rattle.cell_plan.specs.declared.plan.Page.{Page}
 pub use Rattle.cell_plan.specs.declared.plan.PagingPlan.{PagingPlan}
 pub use Rattle.cell_plan.specs.declared.plan.SyncPlan.{SyncPlan}
 pub use Rattle.cell_plan.specs.declared.plan.TrafficPlan.{TrafficPlan}
 pub use Rattle.cell_plan.specs.declared.traffic_frame.TrafficFrame.{TrafficFrame}
 pub use Rattle.cell_plan.specs.declared.traffic_frame2.TrafficFrame2.{TrafficFrame2}
-pub use Rattle.chip_core.specs.Air.{data_frame_chips, frame_offset_chips, superframe_chips}
-pub use Rattle.chip_core.specs.Bits.{sign, xor, zip_with}
+pub use Rattle.chip_core.specs.Air.{superframe_chips}
+pub use Rattle.chip_core.specs.Bits.{xor}
 unfoldable pub use Rattle.chip_core.specs.Bits.{binary, places}
-pub use Rattle.chip_core.specs.Complex.{norm}
 pub use Rattle.chip_core.specs.declared.assignment.Traffic.{Traffic}
-pub use Rattle.chip_core.specs.declared.check_form.CheckForm.{CheckForm}
 pub use Rattle.chip_core.specs.declared.check_form.CheckForm.TheVariants.{Complemented, Plain}
-pub use Rattle.chip_core.specs.declared.sample.Pair.{Pair}
 pub use Rattle.chip_core.specs.declared.sample.Sample.{Sample}
 pub use Rattle.chip_core.specs.declared.width.Width.{Width}
 pub use Rattle.chip_core.specs.declared.width.Width.TheVariants.{Sixteen}
 pub use Rattle.conv_code.specs.ConvCode.{code_symbols, g0, g1, symbol}
 pub use Rattle.frame_decoder.specs.Laws.{IsUnshared, ShowSymbols, frame_codeword, kept_count}
 pub use Rattle.frame_decoder.specs.Signs.{KeepSigns}
-pub use Rattle.frame_decoder.specs.Spans.{Channel, score, sending}
 pub use Rattle.frame_decoder.specs.Formats.{bits_in, format_of, score_in}
 pub use Rattle.frame_decoder.specs.declared.formats.FrameFormat.{FrameFormat}
-pub use Rattle.frame_decoder.specs.TrafficFrames.{frame_bits, frame_symbols}
-pub use Rattle.frame_decoder.specs.TrafficFrames.{is_replaced, unreplaced}
+pub use Rattle.frame_decoder.specs.TrafficFrames.{frame_bits, is_replaced, unreplaced}
 pub use Rattle.frame_decoder.specs.declared.traffic.Decoded.{Decoded}
 pub use Rattle.heard_events.specs.Events.{events}
 pub use Rattle.heard_events.specs.FramesAlone.{traffic_channel}
@@ -61,20 +53,16 @@ pub use Rattle.heard_events.specs.TrafficEvents.{power_bits_at, raw_softs}
 pub use Rattle.heard_events.specs.TrafficStreams.{has_frame, replaced_in, stream_of}
 pub use Rattle.heard_events.specs.Tuning.{Tuning, sync_stream}
 pub use Rattle.heard_events.specs.declared.event.Event.{Event}
-pub use Rattle.heard_events.specs.declared.event.Event.TheVariants.{Frame, Paging, Pilot}
-pub use Rattle.heard_events.specs.declared.event.Event.TheVariants.{Sync}
+pub use Rattle.heard_events.specs.declared.event.Event.TheVariants.{Frame, Paging, Pilot, Sync}
 pub use Rattle.heard_events.specs.declared.leg.Leg.{Leg}
 pub use Rattle.heard_events.specs.declared.mark.Mark.{Mark}
 pub use Rattle.heard_events.specs.declared.soft_frame.SoftFrame.{SoftFrame}
-pub use Rattle.long_code.specs.LongCode.{after, before, traffic_mask}
+pub use Rattle.long_code.specs.LongCode.{after, before}
 unfoldable pub use Rattle.message_layout.specs.Reading.{fields_at, group_at, number_part, octets_at}
 unfoldable pub use Rattle.message_layout.specs.Reading.{part_at, presence_at, reading, records_at}
 unfoldable pub use Rattle.message_layout.specs.Spelling.{spelling}
-pub use Rattle.paging_message.specs.HalfFrames.{half_frame_body, half_frame_capsule_ending}
 unfoldable pub use Rattle.paging_message.specs.Laying.{fill, framed, half_frames_of, laid_on}
-pub use Rattle.paging_message.specs.Reading.{message_at, number_at}
-pub use Rattle.paging_message.specs.declared.message.PagingMessage.{PagingMessage}
-pub use Rattle.pilot_search.specs.Search.{best_phase}
+pub use Rattle.paging_message.specs.Reading.{number_at}
 unfoldable pub use Rattle.quality_bits.specs.Capsules.{capsule, front_capsule, is_stated}
 unfoldable pub use Rattle.quality_bits.specs.Pieces.{capsule_ending}
 unfoldable pub use Rattle.quality_bits.specs.Quality.{check_bits}
@@ -82,21 +70,16 @@ pub use Rattle.quality_bits.specs.TrafficCodewords.{repeats_of, traffic_codeword
 pub use Rattle.quality_bits.specs.declared.kind.Kind.TheVariants.{M30}
 pub use Rattle.quality_bits.specs.declared.rate.Rate.{Rate}
 pub use Rattle.quality_bits.specs.declared.rate.Rate.TheVariants.{R1200, R2400, R4800, R9600}
-pub use Rattle.rake_finger.specs.Scrambled.{Scrambles}
-pub use Rattle.rake_finger.specs.Soft.{frame_chips, softs, symbol_chips, symbols, window_chips}
+pub use Rattle.rake_finger.specs.Soft.{softs}
 pub use Rattle.rake_finger.specs.Streams.{frame_softs, is_in_file, span_first, span_frames}
 pub use Rattle.rake_finger.specs.declared.finger.Finger.{Finger}
-pub use Rattle.rake_finger.specs.declared.form.Form.{Form}
 pub use Rattle.rake_finger.specs.declared.form.Form.TheVariants.{Data}
 pub use Rattle.rate_set_two.specs.Laws.{good_frame2}
 pub use Rattle.rate_set_two.specs.TrafficFrames.{decoded2}
 pub use Rattle.rate_set_two.specs.declared.traffic.Decoded2.{Decoded2}
 pub use Rattle.symbol_path.specs.FramesTwo.{codeword_bits}
-pub use Rattle.symbol_path.specs.Scrambling.{power_places}
-pub use Rattle.symbol_path.specs.SentOrder.{address, data_shape, shape_of, size}
-pub use Rattle.symbol_path.specs.SentOrder.{sent}
+pub use Rattle.symbol_path.specs.SentOrder.{address, data_shape, sent}
 pub use Rattle.symbol_path.specs.SentOrderTwo.{is_dropped, repeated_symbol}
-pub use Rattle.symbol_path.specs.declared.kinds.Kind.{Kind}
 pub use Rattle.symbol_path.specs.declared.rate_two.Rate2.{Rate2}
 pub use Rattle.symbol_path.specs.declared.rate_two.Rate2.TheVariants.{R14400, R1800, R3600, R7200}
 unfoldable pub use Rattle.sync_message.specs.SyncMessage.{sync_body, sync_capsule}
@@ -105,12 +88,12 @@ pub use Rattle.traffic_message.specs.Messages.{Message}
 unfoldable pub use Rattle.traffic_message.specs.Messages.{traffic_message_body, traffic_capsule}
 unfoldable pub use Rattle.traffic_message.specs.Multiplex.{split, split_9600}
 unfoldable pub use Rattle.traffic_message.specs.Reading.{traffic_body_reading, head_at, head_of}
-unfoldable pub use Rattle.traffic_message.specs.Reading.{is_traffic_body}
-unfoldable pub use Rattle.traffic_message.specs.Reading.{part_reading, traffic_reading}
+unfoldable pub use Rattle.traffic_message.specs.Reading.{is_traffic_body, part_reading}
+unfoldable pub use Rattle.traffic_message.specs.Reading.{traffic_reading}
 pub use Rattle.traffic_message.specs.declared.body.TrafficBody.{TrafficBody}
 pub use Rattle.traffic_message.specs.declared.body.TrafficBody.TheVariants.{Other}
 pub use Rattle.viterbi.specs.Best.{IsAllowed}
 pub use Rattle.viterbi.specs.Codewords.{Codeword}
 pub use Rattle.viterbi.specs.Laws.{signed}
-pub use Rattle.viterbi.specs.Signs.{HasSign, HaveSigns}
-pub use Rattle.viterbi.specs.declared.codeword.Ends.TheVariants.{Free, Zero}
+pub use Rattle.viterbi.specs.Signs.{HasSign}
+pub use Rattle.viterbi.specs.declared.codeword.Ends.TheVariants.{Zero}

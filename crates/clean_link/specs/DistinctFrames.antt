@@ -9,10 +9,10 @@ use Rattle.clean_link.specs.Common.{traffic_codeword, R9600, frame_codeword, IsU
 use Rattle.clean_link.specs.Common.{is_replaced, repeats_of, Rate, codeword_bits, is_dropped}
 use Rattle.clean_link.specs.Common.{repeated_symbol, Rate2, frame_bits, binary, R2400, R1200}
 use Rattle.clean_link.specs.Common.{TrafficFrame}
+use Rattle.clean_frames.specs.SentFrames.{IsDistinctFrame}
 use Rattle.symbol_path.specs.RatesTwo as rates_two
 use Rattle.rate_set_two.specs.Laws as laws_two
 use Rattle.rate_set_two.specs.TrafficFrames as frames_two
-use Rattle.clean_link.specs.HeardFrames.{IsDistinctFrame}
 
 -- the code symbols that are sent at these places
 abbrev pub lost_symbols : List ℕ → List ℕ

@@ -8,10 +8,11 @@ use Rattle.clean_link.specs.Common.{frames_of, some_message, some_sync, cycled_f
 use Rattle.clean_link.specs.Common.{SetOne, SetTwo, CellPlan, TrafficPlan, TrafficFrame}
 use Rattle.clean_link.specs.Common.{TrafficFrame2, Traffic, IsReceivable}
 use Rattle.clean_link.specs.DistinctFrames.{distinct_frame_with}
-use Rattle.clean_link.specs.HeardFrames.{is_received, received_frames, replaced_of, IsAssigned}
-use Rattle.clean_link.specs.HeardFrames.{SendsSetTwo}
+use Rattle.clean_frames.specs.SentFrames.{is_received, received_frames, replaced_of, IsAssigned}
+use Rattle.clean_frames.specs.SentFrames.{SendsSetTwo}
 use Rattle.clean_link.specs.ReceivedFrames.{cycled_frame2, IsDistinctFrame2}
-use Rattle.clean_link.specs.SentEvents.{signaling_sent, told_with_sync, IsFollowed}
+use Rattle.clean_link.specs.SentEvents.{signaling_sent, IsFollowed}
+use Rattle.clean_frames.specs.WholeSendings.{told_with_sync}
 
 -- ---- the cell
 

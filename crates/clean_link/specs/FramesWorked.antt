@@ -2,8 +2,9 @@
 use Rattle.std.specs.Prelude.{◌≡◌, ℕ, refl, true, false, List, [], ◌∷◌, length, map, replicate}
 use Rattle.clean_link.specs.Common.{places, Plain, R1200, R2400, CellPlan, TrafficFrame, at_of}
 use Rattle.clean_link.specs.Common.{Event, Frame}
-use Rattle.clean_link.specs.HeardFrames.{frames_sent, sent_bits, sent_power_bits}
-use Rattle.clean_link.specs.WorkedCells.{cell_of_frames}
+use Rattle.clean_link.specs.HeardFrames.{frames_sent}
+use Rattle.clean_frames.specs.SentFrames.{sent_bits, sent_power_bits}
+use Rattle.clean_signal.specs.WorkedCells.{cell_of_frames}
 
 -- two frames, whose power control bits tell a handset to raise its power, and to lower it
 slow : TrafficFrame

@@ -3,18 +3,19 @@
 use Rattle.std.specs.Prelude.{◌≡◌, ◌≤◌, ℕ, ◌*◌, true, false, All, Bool, List, [], ◌∷◌, map, filter}
 use Rattle.std.specs.Prelude.{None, Option, Some}
 use Rattle.std.specs.List.{Contains}
-use Rattle.clean_link.specs.Common.{superframe_chips}
-use Rattle.clean_link.specs.Common.{Width, Decoded, IsFreeOf, made_samples, frames_of, cycled_frame}
-use Rattle.clean_link.specs.Common.{CellPlan, PagingPlan, TrafficPlan, TrafficFrame, events}
-use Rattle.clean_link.specs.Common.{frame_event, Tuning, Event, Frame, Paging, Sync, Traffic}
-use Rattle.clean_link.specs.Common.{IsReceivable, Sample, SyncPlan}
+use Rattle.clean_link.specs.Common.{superframe_chips, Width, Decoded, IsFreeOf, made_samples}
+use Rattle.clean_link.specs.Common.{frames_of, cycled_frame, CellPlan, PagingPlan, TrafficPlan}
+use Rattle.clean_link.specs.Common.{TrafficFrame, events, frame_event, Tuning, Event, Frame, Paging}
+use Rattle.clean_link.specs.Common.{Sync, Traffic, IsReceivable, Sample, SyncPlan}
 use Rattle.heard_events.specs.declared.event.Event.TheVariants.{Traffic as OnTraffic}
 use Rattle.clean_link.specs.CleanLink.{IsNotDirected, IsOnPath, sync_sent}
-use Rattle.clean_link.specs.HeardFrames.{frame_ends, is_received, received_frames, replaced_of}
-use Rattle.clean_link.specs.HeardFrames.{sent_power_bits, sent_frame_event, AreDistinct, IsAssigned}
-use Rattle.clean_link.specs.HeardFrames.{IsDistinctFrame, SendsSetOne, messages_of_channel}
-use Rattle.clean_link.specs.SentEvents.{paging_sent, told_with_sync, FollowsSent, signaling_sent}
-use Rattle.clean_link.specs.BoundedNoise.{Bears}
+use Rattle.clean_frames.specs.SentFrames.{frame_ends, is_received, received_frames, replaced_of}
+use Rattle.clean_frames.specs.SentFrames.{sent_power_bits, AreDistinct, IsAssigned, IsDistinctFrame}
+use Rattle.clean_frames.specs.SentFrames.{SendsSetOne}
+use Rattle.clean_link.specs.HeardFrames.{sent_frame_event, messages_of_channel}
+use Rattle.clean_link.specs.SentEvents.{paging_sent, FollowsSent, signaling_sent}
+use Rattle.clean_frames.specs.WholeSendings.{told_with_sync}
+use Rattle.clean_signal.specs.BoundedNoise.{Bears}
 use Rattle.clean_link.specs.CleanLaws.{HearsSentSync}
 
 -- ---- events of a kind

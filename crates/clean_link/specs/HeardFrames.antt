@@ -1,33 +1,12 @@
--- The frames of a traffic channel that a clean link gives back: those that the cell sends from the
--- mark on, as a handset hears them (TIA/EIA-95-B, 7.1.3.5).
-use Rattle.std.specs.Prelude.{ℕ, ◌+◌, ◌-◌, ◌*◌, ◌/◌, ◌<◌, ◌≤◌, ◌≡◌, ◌==◌, ◌&&◌, Bool, true, false}
-use Rattle.std.specs.Prelude.{if◌then◌else◌, nat_le, List, [], ◌∷◌, map, filter, length, get_or, ℤ}
-use Rattle.std.specs.Prelude.{pos, ◌*ℤ◌, All, Option}
+-- The frames of a traffic channel that a clean link gives back, and the messages in them, as a
+-- handset hears them (TIA/EIA-95-B, 7.1.3.5).
+use Rattle.std.specs.Prelude.{ℕ, ◌≡◌, ◌==◌, true, if◌then◌else◌, List, [], ◌∷◌, map}
 use Rattle.std.specs.List.{flat_map}
-use Rattle.std.specs.Option.{option_to_list}
-use Rattle.clean_link.specs.Common.{data_frame_chips, frame_offset_chips}
-use Rattle.clean_link.specs.Common.{places, sign, traffic_mask, power_places, frame_codeword}
-use Rattle.clean_link.specs.Common.{IsUnshared, ShowSymbols, frame_symbols, is_replaced, frames_of}
-use Rattle.clean_link.specs.Common.{cycled_frame, sent_frame_state, sent_with, set_one, set_two}
-use Rattle.clean_link.specs.Common.{traffic_frame_symbols, CellPlan, TrafficPlan, TrafficFrame}
-use Rattle.clean_link.specs.Common.{Finger, Event, Frame, Leg, Traffic, split, capsule_with}
+use Rattle.clean_link.specs.Common.{frames_of, cycled_frame, CellPlan, TrafficPlan, TrafficFrame}
+use Rattle.clean_link.specs.Common.{Finger, Event, Frame, Leg, Traffic, capsule_with}
 use Rattle.clean_link.specs.Common.{message_events, signal_in}
-use Rattle.clean_link.specs.HeardPages.{end_chip}
-
--- ---- a channel that is followed
-
--- a channel that is sent is the one that a handset was assigned
-pub record IsAssigned (p : TrafficPlan) (traffic : Traffic) : Type 0 where
-  pub row : p.row ≡ traffic.row
-  pub esn : p.esn ≡ traffic.esn
-  pub offset : p.offset ≡ traffic.offset
-
--- a channel whose frames are of rate set 1, and one whose frames are of rate set 2
-abbrev pub SendsSetOne : TrafficPlan → Type 0
-SendsSetOne p = 1 ≤ length (set_one p.frames)
-
-abbrev pub SendsSetTwo : TrafficPlan → Type 0
-SendsSetTwo p = 1 ≤ length (set_two p.frames)
+use Rattle.clean_frames.specs.SentFrames.{sent_power_bits, received_frames, frame_ends, signal_sent}
+use Rattle.clean_frames.specs.SentFrames.{signals_received}
 
 -- The pilots that a frame is heard from are the reference's alone, with the channel's row: it has
 -- all of the handset's fingers, and the one power control subchannel.
@@ -36,79 +15,7 @@ pub record IsOnePilot (traffic : Traffic) (legs : List Leg) : Type 0 where
   pub row : finger.row ≡ traffic.row
   pub alone : legs ≡ record { reference = true; finger = finger; subchannel = 0 } ∷ []
 
--- ---- what a frame sends
-
--- the 384 symbols of a frame before scrambling, in the order in which they are sent
-abbrev pub codeword_symbols : TrafficFrame → List Bool
-codeword_symbols f = frame_symbols f.rate (frame_codeword f.rate f.information)
-
--- the power control bit of each of its 16 groups, of a list of them
-unfoldable pub sent_bits : List Bool → List Bool
-sent_bits power_bits = map (λ g. get_or power_bits g false) (places 16)
-
-abbrev pub sent_power_bits : TrafficFrame → List Bool
-sent_power_bits f = sent_bits f.power_bits
-
--- At the places that power control bits replace, the soft values, which no scrambling turns, are a
--- number times the sign of the group's bit.
-abbrev pub ShowPowerBits : List ℕ → ℕ → List Bool → List ℤ → Type 0
-ShowPowerBits replaced strength power_bits softs =
-    (i : ℕ) → i < 384 → is_replaced replaced i ≡ true →
-    get_or softs i (pos 0) ≡ pos strength *ℤ sign (get_or power_bits (i / 24) false)
-
--- A frame whose symbols at the places that no power control bit replaces are those of no other
--- codeword, at none of the four rates, whether that codeword's quality bits are right or not.
-abbrev pub IsDistinctFrame : List ℕ → TrafficFrame → Type 0
-IsDistinctFrame replaced f = IsUnshared replaced f.rate (frame_codeword f.rate f.information)
-
--- What frame `frame` of a channel of any rate set sends: these 384 symbols before scrambling, in
--- the order in which they are sent, some of which these power control bits replace.
-pub record SendsSymbols (plan : CellPlan) (p : TrafficPlan) (frame : ℕ)
-    (symbols power_bits : List Bool) : Type 0 where
-  pub all : length symbols ≡ 384
-  pub given : traffic_frame_symbols (frames_of plan p) frame
-      ≡ sent_with (sent_frame_state (frames_of plan p) frame) (traffic_mask p.esn) power_bits
-      symbols
-
--- Soft values of a frame that show what it sends: descrambled by its scrambling they are, at the
--- places that no power control bit replaces, one positive number times the signs of its symbols.
-pub record ShowFrame (replaced : List ℕ) (strength : ℕ) (symbols : List Bool)
-    (descrambled : List ℤ) : Type 0 where
-  pub strong : 0 < strength
-  pub long : length descrambled ≡ 384
-  pub shows : ShowSymbols replaced strength symbols descrambled
-
--- ---- the frames of a channel
-
--- the places in frame `frame` of the symbols that power control bits replace
-abbrev pub replaced_of : CellPlan → TrafficPlan → ℕ → List ℕ
-replaced_of plan p frame = power_places (sent_frame_state (frames_of plan p) frame)
-    (traffic_mask p.esn)
-
--- the local chip at which frame `frame` begins
-abbrev pub frame_chip : TrafficPlan → ℕ → ℕ
-frame_chip p frame = frame_offset_chips * p.offset + data_frame_chips * frame
-
--- whether it begins at the mark or after it, and lies in the file; the mark is at this local chip
-abbrev pub is_received : CellPlan → TrafficPlan → ℕ → ℕ → Bool
-is_received plan p mark_chip frame =
-    nat_le mark_chip (frame_chip p frame) && nat_le (frame_chip p (frame + 1)) (end_chip plan)
-
--- the frames of which that is so, in order
-abbrev pub received_frames : CellPlan → TrafficPlan → ℕ → List ℕ
-received_frames plan p mark_chip =
-    filter (is_received plan p mark_chip) (places (end_chip plan / data_frame_chips + 1))
-
--- each of them is distinct
-abbrev pub AreDistinct : CellPlan → TrafficPlan → ℕ → Type 0
-AreDistinct plan p mark_chip = (frame : ℕ) → is_received plan p mark_chip frame ≡ true →
-    All (IsDistinctFrame (replaced_of plan p frame)) (cycled_frame (frames_of plan p) frame)
-
--- ---- what is told of them
-
--- the number of samples at which frame `frame` ends
-abbrev pub frame_ends : CellPlan → TrafficPlan → ℕ → ℕ
-frame_ends plan p frame = frame_chip p (frame + 1) - plan.link.start
+-- ---- what is told of the frames of a channel
 
 -- what a handset tells of a frame that ends at so many samples
 abbrev pub sent_frame_event : ℕ → TrafficFrame → Event
@@ -135,22 +42,6 @@ frames_sent plan row mark_chip =
     told_on_row (λ (p : TrafficPlan). frames_of_channel plan p mark_chip) plan.traffic row
 
 -- ---- the messages that the signaling spells (TIA/EIA-95-B, 7.1.3.5.11 and 7.7.3)
-
--- a frame's signaling, where it has any
-abbrev pub signal_sent : TrafficFrame → Option (List Bool)
-signal_sent f = (split f.rate f.information).signal
-
--- that of the one that is sent as frame `frame`
-abbrev pub signals_in : CellPlan → TrafficPlan → ℕ → List (List Bool)
-signals_in plan p frame =
-    flat_map (λ (f : TrafficFrame). option_to_list (signal_sent f))
-    (cycled_frame (frames_of plan p) frame)
-
--- the signaling parts of the received frames before frame `frame`, in order, where the mark is at
--- this local chip
-abbrev pub signals_received : CellPlan → TrafficPlan → ℕ → ℕ → List (List Bool)
-signals_received plan p mark_chip frame =
-    flat_map (signals_in plan p) (filter (is_received plan p mark_chip) (places frame))
 
 -- what a handset tells, at the end of frame `frame`, of a capsule whose last bit lies in that
 -- frame, where the capsule spells a message

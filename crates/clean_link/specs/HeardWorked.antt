@@ -5,9 +5,9 @@ use Rattle.std.specs.Prelude.{None}
 use Rattle.clean_link.specs.Common.{binary, places, Plain, capsule, check_bits, fill, framed}
 use Rattle.clean_link.specs.Common.{half_frames_of, laid_on, number_at, page_cycle, CellPlan, Page}
 use Rattle.clean_link.specs.Common.{M30, R9600}
-use Rattle.clean_link.specs.HeardPages.{KnownPage, pages_sent}
-use Rattle.clean_link.specs.WorkedCells.{cell_with}
-use Rattle.clean_link.specs.HeardPages.{cycle_half_frames, sendings_between, whole_page_sendings}
+use Rattle.clean_frames.specs.WholePages.{KnownPage, pages_sent, cycle_half_frames}
+use Rattle.clean_frames.specs.WholePages.{sendings_between, whole_page_sendings}
+use Rattle.clean_signal.specs.WorkedCells.{cell_with}
 
 -- nine octets with a message type
 page : Bool → ℕ → Page

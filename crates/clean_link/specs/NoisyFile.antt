@@ -1,19 +1,19 @@
 -- A file with noise of the size of its margin, and what a handset hears of it.
-use Rattle.std.specs.Prelude.{◌≡◌, ℕ, false, List, [], ◌∷◌, filter, replicate, pos}
-use Rattle.std.specs.Prelude.{Option, Some, None, ℤ}
+use Rattle.std.specs.Prelude.{◌≡◌, ℕ, false, List, [], ◌∷◌, filter, replicate, pos, Option, Some}
+use Rattle.std.specs.Prelude.{None, ℤ}
 use Rattle.clean_link.specs.Common.{Plain, Sixteen, M30, Sample, Event, Paging, Sync, SyncFields}
-use Rattle.clean_link.specs.Common.{CellPlan, PagingPlan, SyncPlan, IsReceivable, signed}
-use Rattle.clean_link.specs.Common.{capsule, events, made_samples, message_of, softs, some_message}
+use Rattle.clean_link.specs.Common.{CellPlan, PagingPlan, SyncPlan, IsReceivable, signed, capsule}
+use Rattle.clean_link.specs.Common.{events, made_samples, message_of, softs, some_message}
 use Rattle.clean_link.specs.Common.{sync_capsule, sync_symbols}
 use Rattle.paging_message.specs.Messages.{message_body}
 use Rattle.paging_message.specs.declared.message.PagingMessage.{PagingMessage}
 use Rattle.paging_message.specs.declared.message.PagingMessage.TheVariants.{Channels}
-use Rattle.rake_finger.specs.declared.form.Form.TheVariants as forms
-use Rattle.clean_link.specs.BoundedNoise.{IsMargin, IsNear, with_added}
+use Rattle.clean_signal.specs.BoundedNoise.{IsMargin, IsNear, with_added}
 use Rattle.clean_link.specs.CleanLink.{tuning_to}
 use Rattle.clean_link.specs.HeardEach.{is_page, is_sync}
-use Rattle.clean_link.specs.Signals.{path_finger}
-use Rattle.clean_link.specs.WorkedCells.{cell_with}
+use Rattle.clean_signal.specs.Signals.{path_finger}
+use Rattle.clean_signal.specs.WorkedCells.{cell_with}
+use Rattle.rake_finger.specs.declared.form.Form.TheVariants as forms
 
 -- ---- the cell
 

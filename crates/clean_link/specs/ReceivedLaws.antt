@@ -8,17 +8,18 @@ use Rattle.clean_link.specs.Common.{IsTrafficFrame, TrafficFrame, Width, cycled_
 use Rattle.clean_link.specs.Common.{IsReceivable, TrafficPlan, good_frame2, soft_frame, soft_frames}
 use Rattle.clean_link.specs.Common.{CellPlan, Decoded2, SoftFrame, SyncPlan, decoded2, frames_of}
 use Rattle.clean_link.specs.Common.{Data, Mark, Sample, Traffic, Tuning, mark, raw_at}
-use Rattle.clean_link.specs.CleanLink.{IsOnPath, soft_strength}
-use Rattle.clean_link.specs.HeardFrames.{is_received, received_frames, codeword_symbols, IsAssigned}
-use Rattle.clean_link.specs.HeardFrames.{replaced_of, SendsSetTwo, SendsSymbols, ShowPowerBits}
-use Rattle.clean_link.specs.HeardFrames.{IsDistinctFrame}
+use Rattle.clean_link.specs.CleanLink.{IsOnPath}
+use Rattle.clean_signal.specs.Signals.{soft_strength}
+use Rattle.clean_frames.specs.SentFrames.{is_received, received_frames, codeword_symbols}
+use Rattle.clean_frames.specs.SentFrames.{IsAssigned, replaced_of, SendsSetTwo, SendsSymbols}
+use Rattle.clean_frames.specs.SentFrames.{ShowPowerBits, IsDistinctFrame}
 use Rattle.clean_link.specs.ReceivedFrames.{IsDistinctFrame2, codeword_symbols2, cycled_frame2}
 use Rattle.clean_link.specs.ReceivedFrames.{AreReceived, IsReceived, IsReceivedAs, IsSentFrame2}
 use Rattle.clean_link.specs.TrafficLaws.{HavePowerSigns, IsOnlyBestFrame, IsOnlyBestFrame2}
 use Rattle.clean_link.specs.TrafficLaws.{HearsSentTraffic, HoldsOfBearing, NoisyFrame}
-use Rattle.rate_set_two.specs.TrafficFrames as second
-use Rattle.clean_link.specs.BoundedNoise.{Bears}
+use Rattle.clean_signal.specs.BoundedNoise.{Bears}
 use Rattle.clean_link.specs.CleanLaws.{HearsSentSync}
+use Rattle.rate_set_two.specs.TrafficFrames as second
 
 -- ---- what is sent
 

@@ -2,17 +2,15 @@
 use Rattle.std.specs.Prelude.{ℕ, ◌+◌, ◌*◌, ◌==◌, ◌≡◌, Bool, if◌then◌else◌, nat_lt, List, [], ◌∷◌}
 use Rattle.std.specs.Prelude.{◌++◌, map, filter, All, Option, None, Some}
 use Rattle.std.specs.List.{Contains, flat_map}
-use Rattle.clean_link.specs.Common.{superframe_chips}
-use Rattle.clean_link.specs.Common.{places, Width, SyncFields, made_samples, told_superframes}
-use Rattle.clean_link.specs.Common.{phase_at, CellPlan, SyncPlan, TrafficPlan, events, at_of}
-use Rattle.clean_link.specs.Common.{Tuning, Event, Paging, Pilot, Traffic, IsReceivable, Sample}
-use Rattle.clean_link.specs.Common.{mark, frames_at, messages_at, sets_at, page_event, pages_behind}
-use Rattle.clean_link.specs.Common.{if_followed}
+use Rattle.clean_link.specs.Common.{superframe_chips, places, Width, made_samples, phase_at}
+use Rattle.clean_link.specs.Common.{CellPlan, SyncPlan, TrafficPlan, events, at_of, Tuning, Event}
+use Rattle.clean_link.specs.Common.{Paging, Pilot, Traffic, IsReceivable, Sample, mark, frames_at}
+use Rattle.clean_link.specs.Common.{messages_at, sets_at, page_event, pages_behind, if_followed}
 use Rattle.clean_link.specs.CleanLink.{sync_sent, IsNotDirected, IsOnPath, IsTunedToPlan, tuning_to}
-use Rattle.clean_link.specs.CleanLink.{whole_sendings}
-use Rattle.clean_link.specs.HeardFrames.{frames_sent, AreDistinct, IsAssigned, SendsSetOne}
-use Rattle.clean_link.specs.HeardPages.{KnownPage, pages_sent}
-use Rattle.clean_link.specs.HeardFrames.{messages_sent}
+use Rattle.clean_frames.specs.WholeSendings.{whole_sendings, told_by_first, told_with_sync}
+use Rattle.clean_link.specs.HeardFrames.{frames_sent, messages_sent}
+use Rattle.clean_frames.specs.SentFrames.{AreDistinct, IsAssigned, SendsSetOne}
+use Rattle.clean_frames.specs.WholePages.{KnownPage, pages_sent}
 
 -- those of the paging channel that end when just n samples have been taken
 unfoldable pub paging_events_at : Tuning → List Sample → ℕ → List Event
@@ -40,12 +38,6 @@ sets_events_at t samples n =
 abbrev pub known_event : KnownPage → Event
 known_event page = Paging page.at page.capsule page.message
 
--- the superframes from local chip 0 up to the mark, which the first of the whole transmissions
--- tells
-abbrev pub told_by_first : CellPlan → SyncFields → List ℕ → Option ℕ
-told_by_first plan m [] = None
-told_by_first plan m (sending ∷ sendings) = Some (told_superframes plan.cell m sending)
-
 -- what it tells of the whole pages of a channel after the mark, where one is set
 abbrev pub pages_behind_mark : CellPlan → ℕ → Option ℕ → List Event
 pages_behind_mark plan channel None = []
@@ -65,12 +57,6 @@ unfoldable pub paging_sent : CellPlan → ℕ → List Event
 paging_sent plan channel = pages_with_sync plan channel plan.sync
 
 -- ---- the traffic channel
-
--- the superframes up to the mark, where the cell sends a sync channel
-abbrev pub told_with_sync : CellPlan → Option SyncPlan → Option ℕ
-told_with_sync plan None = None
-told_with_sync plan (Some sync) =
-    told_by_first plan sync.message (whole_sendings plan sync.message)
 
 -- what it tells of the channel that it follows, by the channel's row and the mark's local chip,
 -- where a mark is set

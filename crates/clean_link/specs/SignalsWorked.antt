@@ -6,12 +6,11 @@ use Rattle.clean_link.specs.Common.{octets_at, part_at, presence_at, reading, re
 use Rattle.clean_link.specs.Common.{front_capsule, is_stated, capsule_ending, check_bits, R1200}
 use Rattle.clean_link.specs.Common.{R9600, Message, traffic_message_body, traffic_capsule, split}
 use Rattle.clean_link.specs.Common.{split_9600, traffic_body_reading, head_at, head_of}
-use Rattle.clean_link.specs.Common.{is_traffic_body}
-use Rattle.clean_link.specs.Common.{part_reading, spelling, traffic_reading, Other, CellPlan}
-use Rattle.clean_link.specs.Common.{TrafficFrame}
+use Rattle.clean_link.specs.Common.{is_traffic_body, part_reading, spelling, traffic_reading, Other}
+use Rattle.clean_link.specs.Common.{CellPlan, TrafficFrame}
 use Rattle.heard_events.specs.declared.event.Event.TheVariants.{Traffic}
 use Rattle.clean_link.specs.HeardFrames.{messages_sent}
-use Rattle.clean_link.specs.WorkedCells.{cell_of_frames}
+use Rattle.clean_signal.specs.WorkedCells.{cell_of_frames}
 
 -- a message of twelve octets, whose capsule has 120 bits
 message : Message

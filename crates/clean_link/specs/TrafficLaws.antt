@@ -10,17 +10,17 @@ use Rattle.clean_link.specs.Common.{power_bits_at, decoded_at, frame_heard, raw_
 use Rattle.clean_link.specs.Common.{replaced_in, stream_of, Tuning, Leg, Mark, Traffic}
 use Rattle.clean_link.specs.Common.{IsReceivable, Decoded, Rate, Rate2, IsAllowed, Codeword, Zero}
 use Rattle.clean_link.specs.Common.{frame_codeword, unreplaced, FrameFormat, bits_in, format_of}
-use Rattle.clean_link.specs.Common.{score_in}
-use Rattle.clean_link.specs.Common.{IsTrafficFrame, IsTrafficFrame2, TrafficFrame2, SoftFrame}
-use Rattle.clean_link.specs.Common.{HasSign, KeepSigns, is_replaced}
-use Rattle.clean_link.specs.CleanLink.{IsNotDirected, IsOnPath, IsTrueMark, soft_strength}
-use Rattle.clean_link.specs.HeardFrames.{frame_ends, frames_of_channel, received_frames}
-use Rattle.clean_link.specs.HeardFrames.{sent_power_bits, codeword_symbols, AreDistinct, IsAssigned}
-use Rattle.clean_link.specs.HeardFrames.{IsDistinctFrame, IsOnePilot, SendsSetOne, ShowPowerBits}
-use Rattle.clean_link.specs.HeardFrames.{messages_of_channel, replaced_of}
-use Rattle.rate_set_two.specs.TrafficFrames as second
+use Rattle.clean_link.specs.Common.{score_in, IsTrafficFrame, IsTrafficFrame2, TrafficFrame2}
+use Rattle.clean_link.specs.Common.{SoftFrame, HasSign, KeepSigns, is_replaced}
+use Rattle.clean_link.specs.CleanLink.{IsNotDirected, IsOnPath, IsTrueMark}
+use Rattle.clean_signal.specs.Signals.{soft_strength}
+use Rattle.clean_frames.specs.SentFrames.{frame_ends, received_frames, sent_power_bits}
+use Rattle.clean_frames.specs.SentFrames.{codeword_symbols, AreDistinct, IsAssigned}
+use Rattle.clean_frames.specs.SentFrames.{IsDistinctFrame, SendsSetOne, ShowPowerBits, replaced_of}
+use Rattle.clean_link.specs.HeardFrames.{frames_of_channel, IsOnePilot, messages_of_channel}
 use Rattle.clean_link.specs.ReceivedFrames.{codeword_symbols2, IsDistinctFrame2, IsReceivedAs}
-use Rattle.clean_link.specs.BoundedNoise.{Bears, IsNear}
+use Rattle.clean_signal.specs.BoundedNoise.{Bears, IsNear}
+use Rattle.rate_set_two.specs.TrafficFrames as second
 
 -- A handset after a true mark, which was assigned a traffic channel that the cell sends.
 pub record HearsSentTraffic (width : Width) (plan : CellPlan) (p : TrafficPlan) (t : Tuning)

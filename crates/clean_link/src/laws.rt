@@ -1,19 +1,10 @@
 //! Laws of the definitions: each function does nothing, and its contract is the law.
 //!
-//! Those of any channel hold of what is sent on any Walsh row, to any stream with one finger on the
-//! path; those of the sync channel are their first case, and those of the paging channels after a
-//! mark their second. Soft values of a traffic channel after a mark are a third. Those of a cycle
-//! of pages speak of bits alone.
+//! Those of any channel, of `clean_signal`, hold of what is sent on any Walsh row, to any stream with
+//! one finger on the path; those of the sync channel are their first case, and those of the paging
+//! channels after a mark their second. Soft values of a traffic channel after a mark are a third.
 
-ghost use Rattle.clean_link.specs.BoundedNoise.{LessIsBorne, MarginsAreOne, NoNoiseIsBorne};
-ghost use Rattle.clean_link.specs.BoundedNoise.{NoisyChannelsHaveSentSigns, NoisyFramesComeBack};
-ghost use Rattle.clean_link.specs.BoundedNoise.{NoisyCodewordsAreTheOnlyBest, OtherCellsAreNoise};
-ghost use Rattle.clean_link.specs.BoundedNoise.{NoisyStreamsShowSymbols, TheLeastBearsForAll};
-ghost use Rattle.clean_link.specs.ChannelLaws.{ChannelFramesComeBack};
-ghost use Rattle.clean_link.specs.ChannelLaws.{ChannelCodewordsAreTheOnlyBest};
-ghost use Rattle.clean_link.specs.ChannelLaws.{ChannelsHaveSentSigns, EarlyFramesAreZero};
-ghost use Rattle.clean_link.specs.ChannelLaws.{SilentRowsAreZero, StreamsShowSymbols};
-ghost use Rattle.clean_link.specs.ChannelLaws.{StrengthsArePositive};
+ghost use Rattle.clean_link.specs.CleanLaws.{ChannelFramesComeBack, NoisyFramesComeBack};
 ghost use Rattle.clean_link.specs.CleanLaws.{AreZeroWithoutSync, FramesAreZeros, FramesComeBack};
 ghost use Rattle.clean_link.specs.CleanLaws.{HaveSentSigns, IsMarkedWhereHeard, MarksAreTrue};
 ghost use Rattle.clean_link.specs.CleanLaws.{SentCodewordsAreTheOnlyBest, WholeSendingsComeBack};
@@ -31,9 +22,6 @@ ghost use Rattle.clean_link.specs.DistinctPlan.{HasMark, HasSetOne, HasSetTwo};
 ghost use Rattle.clean_link.specs.HeardEach.{EachChannelComesBack, NoEventIsDirectedByNoise};
 ghost use Rattle.clean_link.specs.HeardEach.{NoisyEachChannelComesBack};
 ghost use Rattle.clean_link.specs.HeardPages.{PagesComeBack};
-ghost use Rattle.clean_link.specs.NearFiles.{NearWithinNoneIsSame, NoiseAddsUp};
-ghost use Rattle.clean_link.specs.NearFiles.{LouderLinksAreLouder, OtherPathsAreNoise};
-ghost use Rattle.clean_link.specs.NearFiles.{RoundingIsNoise};
 ghost use Rattle.clean_link.specs.NoisyFile.{ComesBackAtItsMargin};
 ghost use Rattle.clean_link.specs.ReceivedLaws.{NoisyFramesAreReceived, NoisyFramesBehindMark};
 ghost use Rattle.clean_link.specs.ReceivedLaws.{NoisyReceivedAreTheOnlyBest};
@@ -52,28 +40,20 @@ ghost use Rattle.clean_link.specs.TrafficLaws.{PowerBitsComeBack, EachFrameIsHea
 ghost use Rattle.clean_link.specs.TrafficLaws.{OnePilotIsHeard, SentFramesComeBack};
 ghost use Rattle.clean_link.specs.TrafficLaws.{SentMessagesComeBack, SixteenPowerBitsAreSent};
 ghost use Rattle.clean_link.specs.TrafficLaws.{TrafficFramesComeBack, TrafficHaveSentSigns};
-ghost use Rattle.clean_link.specs.HeardPages.{PageSendingsComeBack, WholePagesComeBack};
 ghost use Rattle.clean_link.specs.SentEvents.{NoEventIsDirected, WholeMessagesComeBack};
 
-/// On a clean link the soft values of each frame in the file are `4 |h|^2 g0 g V C` times the signs
-/// of the symbols that the channel sends in it, where h is the link, g0 and g are the gains of the
-/// pilot and of the channel, and V and C the chips of a window and of a symbol: 1,024 and 256 on
-/// the sync channel, 1,536 and 64 on the others. They are 0 on a row that no channel has, and
-/// before the channel's first frame. Descrambled by a stream's scrambling, they show the symbols
-/// before it.
+/// On a clean link the soft values of each frame that a handset hears of the sync channel, and of a
+/// paging channel after a mark, are one positive number times the signs of the symbols that the
+/// channel sends in it, and 0 where nothing is sent.
 pub fn soft_values_have_the_sent_signs()
-    ensures channel { ChannelsHaveSentSigns }
-    ensures silent { SilentRowsAreZero }
-    ensures early { EarlyFramesAreZero }
-    ensures descrambled { StreamsShowSymbols }
-    ensures positive { StrengthsArePositive }
     ensures sent { HaveSentSigns }
     ensures none { AreZeroWithoutSync }
     ensures paging { PagingHaveSentSigns }
     ensures silent_paging { SilentPagingIsZero }
 {}
 
-/// So the bits of each frame come back, and zeros where nothing is sent.
+/// So the bits of each frame come back, of any stream that hears a channel, and zeros where nothing
+/// is sent.
 pub fn frames_come_back()
     ensures channel { ChannelFramesComeBack }
     ensures sent { FramesComeBack }
@@ -82,10 +62,10 @@ pub fn frames_come_back()
     ensures silent_paging { SilentPagingFramesAreZeros }
 {}
 
-/// The frames of a span are one codeword, whose start bits are the last eight of the frame before
-/// it. Of all codewords of its length, with any start bits, it alone has the greatest score.
+/// The frames of a span of either channel are one codeword, whose start bits are the last eight of
+/// the frame before it. Of all codewords of its length, with any start bits, it alone has the
+/// greatest score.
 pub fn sent_codewords_are_the_only_best()
-    ensures channel { ChannelCodewordsAreTheOnlyBest }
     ensures sent { SentCodewordsAreTheOnlyBest }
     ensures paging { PagingCodewordsAreTheOnlyBest }
 {}
@@ -115,14 +95,10 @@ pub fn marks_are_true()
     ensures none { UnmarkedWithoutSync }
 {}
 
-/// Heard from any of its frames on, a paging channel's half-frames end just the capsules of the
-/// pages whose run begins there or later, once for each round of the cycle, in order, each in the
-/// frame of its last bit. So after a mark a handset hears the pages that the file holds whole from
-/// there on, each with its message, when it knows that frame, and nothing else; of a channel that
-/// isn't sent it hears nothing.
+/// After a mark a handset hears of a paging channel the pages that the file holds whole from there
+/// on, each with its message, when it knows the frame of its last bit, and nothing else; of a
+/// channel that isn't sent it hears nothing.
 pub fn whole_pages_come_back()
-    ensures frames { PageSendingsComeBack }
-    ensures file { WholePagesComeBack }
     ensures heard { PagesComeBack }
 {}
 
@@ -213,38 +189,12 @@ pub fn frames_of_each_rate_are_distinct()
     ensures set_two { HasSetTwo }
 {}
 
-/// A channel bears noise of the size e where an inequality of the gains, the link and e holds, by
-/// which no noise turns the sign of one of its symbols that changes each sample of a file by at
-/// most e in I and by at most e in Q. A lesser noise is borne too, and so is it by a louder
-/// channel: the margin of several channels, the greatest noise that all of them bear, is that of
-/// the least gain. Noise of the size 0 is borne by each channel with a gain of a cell that can be
-/// received, and another cell, or another path, is noise of the size of its loudness.
-///
-/// In such a file the soft values of each frame of a channel that bears the noise have the signs
-/// of the symbols that were sent, and none is 0. So the frame's bits come back, and of all
-/// codewords of its span the sent one alone has the greatest score. So do the power control bits
-/// of a traffic frame that is heard from the reference's pilot alone, and where the frame is
-/// distinct its codeword alone has the greatest score among those of all rates.
-pub fn bounded_noise()
-    ensures less { LessIsBorne }
-    ensures least { TheLeastBearsForAll }
-    ensures one { MarginsAreOne }
-    ensures none { NoNoiseIsBorne }
-    ensures other { OtherCellsAreNoise }
-    ensures channel { NoisyChannelsHaveSentSigns }
-    ensures descrambled { NoisyStreamsShowSymbols }
-    ensures frames { NoisyFramesComeBack }
-    ensures codewords { NoisyCodewordsAreTheOnlyBest }
-    ensures traffic { NoisyTrafficHasSentSigns }
-    ensures power_bits { NoisyPowerBitsComeBack }
-    ensures distinct { NoisyFramesAreTheOnlyBest }
-{}
-
-/// Where the sync channel bears the noise of a file, a handset hears of it just the whole
-/// transmissions, and the mark is true and tells the paging channels' rate. After such a mark the
-/// frames of a paging channel that bears the noise come back, and so the handset hears of it just
-/// the whole pages.
+/// Where a channel bears the noise of a file, the bits of its frames come back, of any stream that
+/// hears it. Where the sync channel does, a handset hears of it just the whole transmissions, and
+/// the mark is true and tells the paging channels' rate. After such a mark the frames of a paging
+/// channel that bears the noise come back, and so the handset hears of it just the whole pages.
 pub fn channels_come_back_through_noise()
+    ensures channel { NoisyFramesComeBack }
     ensures sendings { NoisySendingsComeBack }
     ensures marks { NoisyMarksAreTrue }
     ensures marked { NoisyIsMarkedWhereHeard }
@@ -252,12 +202,18 @@ pub fn channels_come_back_through_noise()
     ensures pages { NoisyPagesComeBack }
 {}
 
-/// Where a traffic channel bears the noise of a file, its distinct frames come back, with their
-/// rates and their information bits, as good ones. In a file in which no handoff is directed one
+/// Where a traffic channel bears the noise of a file, the soft values of each frame that is heard
+/// from the reference's pilot alone have the signs of its symbols and of its power control bits, so
+/// these come back. Where the frame is distinct, its codeword alone has the greatest score among
+/// those of all rates, and it comes back, with its rate and its information bits, as a good one. In
+/// a file in which no handoff is directed one
 /// frame is heard for each that begins at the mark or later. Where each of these is distinct, they
 /// are the frames that were sent, and the messages are those that the signaling in them spells;
 /// and no handoff is directed where none is sent.
 pub fn traffic_comes_back_through_noise()
+    ensures signs { NoisyTrafficHasSentSigns }
+    ensures power_bits { NoisyPowerBitsComeBack }
+    ensures distinct { NoisyFramesAreTheOnlyBest }
     ensures frames { NoisyTrafficFramesComeBack }
     ensures each { NoisyEachFrameIsHeard }
     ensures sent { NoisySentFramesComeBack }
@@ -291,20 +247,6 @@ pub fn noisy_frames_are_received()
     ensures decoded { NoisySetTwoFramesComeBack }
     ensures behind { NoisyFramesBehindMark }
     ensures file { NoisySetTwoBehindMark }
-{}
-
-/// Samples that are near to others within 0 are the others, and noise upon noise is noise of the
-/// sum of both sizes. A second path to the cell is noise, as another cell is: it differs by at most
-/// the sum of its link's absolute parts, times the sum of the cell's gains. So is rounding. Over a
-/// link d times as strong the cell's samples are d times as large; samples that differ from those
-/// by at most e times d, divided by d and rounded, up, down or to the nearest, differ from the
-/// cell's by at most e. A file of 16 bits can be brought to 8 so.
-pub fn rounding_is_noise()
-    ensures none { NearWithinNoneIsSame }
-    ensures sum { NoiseAddsUp }
-    ensures path { OtherPathsAreNoise }
-    ensures louder { LouderLinksAreLouder }
-    ensures rounded { RoundingIsNoise }
 {}
 
 /// Of one cell the sync channel bears noise of 54 in I and in Q of each sample and no more, where

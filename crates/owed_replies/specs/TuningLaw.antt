@@ -7,7 +7,7 @@ use Rattle.pilot_search.specs.Near.{near_deltas}
 use Rattle.pilot_search.specs.Search.{best_phase}
 use Rattle.cell_plan.specs.declared.plan.CellPlan.{CellPlan}
 use Rattle.clean_link.specs.CleanLink.{IsOnPath}
-use Rattle.clean_link.specs.NearFiles.{IsNearFile}
+use Rattle.clean_signal.specs.NearFiles.{IsNearFile}
 use Rattle.owed_replies.specs.Hearing.{tuning_for}
 use Rattle.owed_replies.specs.declared.handset_options.HandsetOptions.{HandsetOptions}
 

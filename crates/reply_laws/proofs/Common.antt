@@ -52,18 +52,19 @@ pub use Rattle.chip_core.specs.declared.sample.Sample.{Sample}
 pub use Rattle.chip_core.specs.declared.width.Width.{Width}
 pub use Rattle.chip_core.specs.declared.width.Width.TheVariants.{Eight, Sixteen}
 pub use Rattle.clean_link.proofs.messages.EachChannel.{noisy_each_channel, no_event_directed, noisy_no_event}
-pub use Rattle.clean_link.proofs.signal.Samples.{length-made, made_at}
+pub use Rattle.clean_signal.proofs.signal.Samples.{length-made, made_at}
 pub use Rattle.clean_link.proofs.traffic.Back.{one_near, untold_in}
 pub use Rattle.clean_link.proofs.traffic.Signs.{power_pairs, lawful_traffic, set_one_sends}
 pub use Rattle.clean_link.proofs.traffic.Frames.{one_taken, one_there}
 pub use Rattle.clean_link.proofs.traffic.Received.{noisy_frames_behind_mark, noisy_set_two_behind_mark}
-pub use Rattle.clean_link.specs.BoundedNoise.{Bears}
+pub use Rattle.clean_signal.specs.BoundedNoise.{Bears}
 pub use Rattle.clean_link.specs.CleanLink.{IsNotDirected, IsOnPath, tuning_to}
-pub use Rattle.clean_link.specs.HeardFrames.{IsAssigned, SendsSetOne, SendsSetTwo, SendsSymbols, frame_ends, received_frames, replaced_of}
-pub use Rattle.clean_link.specs.HeardFrames.{sent_bits, sent_power_bits, codeword_symbols}
+pub use Rattle.clean_frames.specs.SentFrames.{IsAssigned, SendsSetOne, SendsSetTwo, SendsSymbols, frame_ends, received_frames, replaced_of}
+pub use Rattle.clean_frames.specs.SentFrames.{sent_bits, sent_power_bits, codeword_symbols}
 pub use Rattle.clean_link.specs.ReceivedLaws.{HoldsBehindMark, IsReceivedBySigns, IsSentFrame2BySigns}
 pub use Rattle.clean_link.specs.ReceivedFrames.{AreReceived, cycled_frame2}
-pub use Rattle.clean_link.specs.SentEvents.{FollowsSent, signaling_sent, told_with_sync}
+pub use Rattle.clean_link.specs.SentEvents.{FollowsSent, signaling_sent}
+pub use Rattle.clean_frames.specs.WholeSendings.{told_with_sync}
 unfoldable pub use Rattle.event_tap.specs.EventLines.{event_line}
 unfoldable pub use Rattle.event_tap.specs.FrameLines.{frame2_line}
 pub use Rattle.event_tap.specs.SlotLines.{lines_of_slots}

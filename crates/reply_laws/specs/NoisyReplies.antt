@@ -13,10 +13,10 @@ use Rattle.cell_plan.specs.declared.plan.SyncPlan.{SyncPlan}
 use Rattle.cell_plan.specs.declared.plan.TrafficPlan.{TrafficPlan}
 use Rattle.heard_events.specs.Events.{events}
 use Rattle.event_tap.specs.Taps.{kept_by, run_text}
-use Rattle.clean_link.specs.BoundedNoise.{Bears}
+use Rattle.clean_signal.specs.BoundedNoise.{Bears}
 use Rattle.clean_link.specs.CleanLink.{IsNotDirected}
-use Rattle.clean_link.specs.HeardFrames.{IsAssigned, SendsSetOne, SendsSetTwo}
-use Rattle.clean_link.specs.NearFiles.{IsNearFile}
+use Rattle.clean_frames.specs.SentFrames.{IsAssigned, SendsSetOne, SendsSetTwo}
+use Rattle.clean_signal.specs.NearFiles.{IsNearFile}
 use Rattle.clean_link.specs.HeardEach.{HearsBearing}
 use Rattle.clean_link.specs.SentEvents.{FollowsSent, signaling_sent}
 use Rattle.slot_link.specs.Laws.{slots_sent}

@@ -20,11 +20,12 @@ use Rattle.heard_events.specs.FramesAlone.{traffic_channel}
 use Rattle.heard_events.specs.TrafficEvents.{frame_event}
 use Rattle.chip_core.specs.declared.assignment.Traffic.{Traffic}
 use Rattle.owed_replies.specs.CleanFiles.{IsCellFile}
-use Rattle.clean_link.specs.HeardFrames.{frame_ends, is_received, received_frames, replaced_of}
-use Rattle.clean_link.specs.HeardFrames.{sent_bits, sent_power_bits, sent_frame_event, IsAssigned}
-use Rattle.clean_link.specs.HeardFrames.{IsDistinctFrame, SendsSetOne, SendsSetTwo}
+use Rattle.clean_frames.specs.SentFrames.{frame_ends, is_received, received_frames, replaced_of}
+use Rattle.clean_frames.specs.SentFrames.{sent_bits, sent_power_bits, IsAssigned}
+use Rattle.clean_link.specs.HeardFrames.{sent_frame_event}
+use Rattle.clean_frames.specs.SentFrames.{IsDistinctFrame, SendsSetOne, SendsSetTwo}
 use Rattle.clean_link.specs.ReceivedFrames.{cycled_frame2, sent_decoded2, IsDistinctFrame2}
-use Rattle.clean_link.specs.SentEvents.{told_with_sync}
+use Rattle.clean_frames.specs.WholeSendings.{told_with_sync}
 use Rattle.event_tap.specs.TunedTexts.{tuned_text}
 use Rattle.event_tap.specs.declared.tuned_text.TunedText.{TunedText}
 use Rattle.event_tap.specs.declared.tuned_text.TunedText.TheVariants.{Listed, RateSetTwo}

@@ -12,8 +12,8 @@ use Rattle.command_line.specs.declared.job.Job.{Job}
 use Rattle.command_line.specs.declared.job.Job.TheVariants as jobs
 use Rattle.chip_core.specs.declared.assignment.Traffic.{Traffic}
 use Rattle.owed_replies.specs.CleanFiles.{IsCellFile}
-use Rattle.clean_link.specs.HeardFrames.{IsAssigned, SendsSetOne, SendsSetTwo}
-use Rattle.clean_link.specs.SentEvents.{told_with_sync}
+use Rattle.clean_frames.specs.SentFrames.{IsAssigned, SendsSetOne, SendsSetTwo}
+use Rattle.clean_frames.specs.WholeSendings.{told_with_sync}
 use Rattle.owed_replies.specs.Hearing.{clean_end}
 use Rattle.owed_replies.specs.Replies.{IsReply, Reply}
 use Rattle.reply_laws.specs.SentLines.{IsLineOfSetOne, IsLineOfSetTwo, IsSentText}

@@ -9,7 +9,7 @@ use Rattle.cdma_io.specs.declared.header.Header.{Header}
 use Rattle.cell_plan.specs.declared.plan.CellPlan.{CellPlan}
 use Rattle.cell_plan.specs.declared.plan.PagingPlan.{PagingPlan}
 use Rattle.heard_events.specs.declared.channel.Channel.TheVariants.{Paging}
-use Rattle.clean_link.specs.NearFiles.{IsPlanFile}
+use Rattle.clean_signal.specs.NearFiles.{IsPlanFile}
 use Rattle.slot_link.specs.Laws.{slots_sent}
 use Rattle.event_tap.specs.TunedTexts.{tuned_text}
 use Rattle.event_tap.specs.declared.tuned_text.TunedText.TheVariants.{Slots}

@@ -24,15 +24,16 @@ use Rattle.heard_events.specs.declared.channel.Channel.TheVariants.{Paging}
 use Rattle.heard_events.specs.declared.mark.Mark.{Mark}
 use Rattle.event_tap.specs.SlotLines.{frame_of_slot, frame_of_slot_end, is_heard, is_slot_within, lines_behind, lines_by_times}
 use Rattle.event_tap.specs.SlotLines.{lines_of_slot, lines_of_slots, slot_bound, slot_lines, slot_softs, slot_pages}
-use Rattle.clean_link.specs.BoundedNoise.{Bears, IsNear}
+use Rattle.clean_signal.specs.BoundedNoise.{Bears, IsNear}
 use Rattle.clean_link.specs.CleanLink.{IsOnPath, IsTrueMark}
-use Rattle.clean_link.specs.SentEvents.{told_with_sync}
+use Rattle.clean_frames.specs.WholeSendings.{told_with_sync}
 use Rattle.clean_link.specs.CleanLaws.{ShowsSync}
-use Rattle.clean_link.proofs.frames.Times.{paging_alone, paging_file_from, paging_file_to, known_at_once, IsAlone}
+use Rattle.clean_link.proofs.frames.Times.{paging_alone, paging_file_from, paging_file_to, known_at_once}
+use Rattle.clean_signal.proofs.frames.Times.{IsAlone}
 use Rattle.clean_link.proofs.frames.ChannelFrames.{clean_sync, heard_sync, paging_borne, paging_shown}
 use Rattle.clean_link.proofs.marks.MarksTrue.{marks_in, rate_in, unmarked_in}
-use Rattle.clean_link.proofs.noise.Near.{length-near, near-self, zipped_frames}
-use Rattle.clean_link.proofs.signal.Samples.{length-made}
+use Rattle.clean_signal.proofs.noise.Near.{length-near, near-self, zipped_frames}
+use Rattle.clean_signal.proofs.signal.Samples.{length-made}
 use Rattle.clean_link.proofs.traffic.Back.{told_behind_mark_in, untold_in}
 use Rattle.slot_link.specs.Laws.{HearsSlots, NoisySlotTextsComeBack, SlotTextsComeBack, AreSlotPages, NoisySlotsComeBack, SlotsComeBack}
 use Rattle.slot_link.specs.Laws.{sent_in_span, SlotBitsComeBack, SlotBitsComeBackBySigns, SpansComeBack, SpansComeBackBySigns}
@@ -47,8 +48,8 @@ use Rattle.cell_plan.specs.PageCycles.{cycle_frame_bits, cycled, paging_frame_si
 use Rattle.cell_plan.specs.Stated.{IsStatedPaging}
 use Rattle.cell_plan.specs.Signal.{cycle_of}
 use Rattle.heard_events.specs.PagingStreams as streams
-use Rattle.clean_link.proofs.frames.Heard.{order_of}
-use Rattle.clean_link.proofs.pages.CyclesBack.{stated_pages, cycle_some, page_sendings_back}
+use Rattle.clean_signal.proofs.frames.Heard.{order_of}
+use Rattle.clean_frames.proofs.pages.CyclesBack.{stated_pages, cycle_some, page_sendings_back}
 use Rattle.std.proofs.lemmas.List.{drop_at, take_at, take-append-le}
 use Rattle.chip_core.proofs.Counted.{flat_map-add, flat_map-next, flat_map-zero}
 use Rattle.symbol_path.specs.SentOrder.{data_shape, sent}
@@ -61,8 +62,8 @@ use Rattle.frame_decoder.specs.Spans.{own_bits, paging_channel, Channel}
 use Rattle.frame_decoder.specs.declared.span_format.FrameKind.TheVariants as kinds
 use Rattle.frame_decoder.proofs.Parts.{length-frames}
 use Rattle.cell_plan.specs.Sendings.{continued_symbols}
-use Rattle.clean_link.specs.Signals.{span_codeword}
-use Rattle.clean_link.proofs.frames.Scores.{ShowCodeword, shown_codeword_own, whole_frames, frame_at, length-before, sent_as_one}
+use Rattle.clean_signal.specs.Signals.{span_codeword}
+use Rattle.clean_signal.proofs.frames.Scores.{ShowCodeword, shown_codeword_own, whole_frames, frame_at, length-before, sent_as_one}
 use Rattle.viterbi.proofs.Agreement.{signed_have}
 use Rattle.std.specs.Option.{option_to_list}
 use Rattle.std.proofs.Math.Nat.{mul-le-mul_right}
@@ -76,7 +77,7 @@ use Rattle.paging_message.specs.declared.message.PagingMessage.{PagingMessage}
 use Rattle.cell_plan.proofs.LaidPages.{size_large}
 use Rattle.heard_events.specs.PagingEvents.{as_spelled_page}
 use Rattle.clean_link.specs.HeardPages.{ReadPage}
-use Rattle.clean_link.specs.HeardPages.{capsules_with_frames, cycle_half_frames, frame_capsules, is_between, placed, sending_of, Placed}
+use Rattle.clean_frames.specs.WholePages.{capsules_with_frames, cycle_half_frames, frame_capsules, is_between, placed, sending_of, Placed}
 use Rattle.clean_link.proofs.pages.Back.{flat_map-flat_map, pages_placed, told_each, IsPlaced, page_read}
 
 -- ---- any span

@@ -10,7 +10,7 @@ use Rattle.clean_link.proofs.Common.{filter, flat_map, map-append, flat_map-appe
 use Rattle.clean_link.proofs.Common.{events_of, Event, events_of_channel, sending_event, sync_sent, whole_sendings, NoisyIsMarkedWhereHeard}
 use Rattle.clean_link.proofs.frames.ChannelFrames.{clean_sync, heard_sync}
 use Rattle.paging_message.proofs.Pieces.{length-run}
-use Rattle.clean_link.proofs.sendings.Capsules.{IsSentAt, begun, is_at, piece_of, sending_frames}
+use Rattle.clean_frames.proofs.sendings.Capsules.{IsSentAt, begun, is_at, piece_of, sending_frames}
 use Rattle.clean_link.proofs.frames.Times.{frames_begin, sync_timed}
 use Rattle.clean_link.proofs.sendings.Order.{first_among, in_file, known, first_there, frame_events, frames_of, mark_of_all}
 use Rattle.clean_link.proofs.sendings.Heard.{ends_sending, heard_nothing, heard_sending, none_heard, heard_pieces, ends_tells, threefold}

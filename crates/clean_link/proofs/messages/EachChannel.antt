@@ -9,19 +9,18 @@ use Rattle.clean_link.proofs.Common.{Traffic, by_one_mark, sync_sent, IsNotDirec
 use Rattle.clean_link.proofs.Common.{AreEventsOf, AreFramesBehind, AreMessagesBehind, EachChannelComesBack, FollowsOne, IsEventOf}
 use Rattle.clean_link.proofs.Common.{frame_ends, is_received, received_frames, AreDistinct, IsDistinctFrame, SendsSetOne}
 use Rattle.clean_link.proofs.Common.{messages_of_channel, paging_sent, told_with_sync, HearsSentTraffic, IsHeardAs}
-use Rattle.clean_link.proofs.Common.{NoisyEachChannelComesBack}
-use Rattle.clean_link.proofs.Common.{ShowsSync, ShowsTraffic, IsUndirected, NoEventIsDirectedByNoise, ◌++◌, All-weaker, ◌≢◌, All-append}
-use Rattle.clean_link.proofs.Common.{All-cons, All-nil, All-same, sets_events_at, messages_sent, FollowsSent, NoEventIsDirected}
-use Rattle.clean_link.proofs.Common.{signaling_sent}
+use Rattle.clean_link.proofs.Common.{NoisyEachChannelComesBack, ShowsSync, ShowsTraffic, IsUndirected, NoEventIsDirectedByNoise, ◌++◌}
+use Rattle.clean_link.proofs.Common.{All-weaker, ◌≢◌, All-append, All-cons, All-nil, All-same, sets_events_at, messages_sent, FollowsSent}
+use Rattle.clean_link.proofs.Common.{NoEventIsDirected, signaling_sent}
 use Rattle.clean_link.proofs.traffic.Steady.{frames_from_mark, messages_from_mark, first_legs, first_pilot, events_at_all, gathered_all}
 use Rattle.clean_link.proofs.traffic.Steady.{one_stream}
 use Rattle.clean_link.proofs.frames.ChannelFrames.{clean_sync, heard_sync}
-use Rattle.clean_link.proofs.noise.Near.{length-near}
+use Rattle.clean_signal.proofs.noise.Near.{length-near}
 use Rattle.clean_link.proofs.messages.Kinds.{frames_of_all, messages_of_all, pages_of_all, sync_of_all, IsKind, frame_kind, paging_kind}
 use Rattle.clean_link.proofs.messages.Kinds.{sets_kind, sync_kind}
 use Rattle.clean_link.proofs.messages.MessagesBack.{PagesShown, clean_pages, noisy_pages_shown, pages_shown}
 use Rattle.clean_link.proofs.sendings.Heard.{sendings_in, none_known}
-use Rattle.clean_link.proofs.signal.Samples.{length-made}
+use Rattle.clean_signal.proofs.signal.Samples.{length-made}
 use Rattle.clean_link.proofs.traffic.Back.{hears_behind, one_near, undirected, untold_in, heard_behind_mark, told_there}
 use Rattle.clean_link.proofs.traffic.Frames.{clean_traffic, each_heard, frame_there, heard_as, heard_there, inside_at, noisy_traffic}
 use Rattle.clean_link.proofs.traffic.Frames.{same_places, messages_heard, noisy_none_directed, none_directed}

@@ -5,10 +5,9 @@ use Rattle.clean_link.proofs.Common.{All-tail, filter-append, Plain, Sample, Sta
 use Rattle.clean_link.proofs.Common.{message_events_at, paging_events_at, sets_events_at, mark, changed, frames_at, heard_from, kept_to}
 use Rattle.clean_link.proofs.Common.{legs_at, messages_at, moment_events, moment_place, moments_before, passed, sets_at, page_event}
 use Rattle.clean_link.proofs.Common.{pages_behind, signaling_message_at, message_events, message_heard, messages_by, signal_in, known_now}
-use Rattle.clean_link.proofs.Common.{events_of}
-use Rattle.clean_link.proofs.Common.{heard_at, sync_events_at, with_message, frame_heard, frames_by, if_followed, frames_now, Tuning}
-use Rattle.clean_link.proofs.Common.{sync_bound, sync_stream, all_each, Event, Leg, Mark, Traffic, is_frame, is_message, is_page, is_sync}
-use Rattle.clean_link.proofs.Common.{type_within}
+use Rattle.clean_link.proofs.Common.{events_of, heard_at, sync_events_at, with_message, frame_heard, frames_by, if_followed, frames_now}
+use Rattle.clean_link.proofs.Common.{Tuning, sync_bound, sync_stream, all_each, Event, Leg, Mark, Traffic, is_frame, is_message, is_page}
+use Rattle.clean_link.proofs.Common.{is_sync, type_within}
 use Rattle.clean_link.proofs.traffic.Steady.{events_at_all}
 use Rattle.heard_events.specs.declared.event.Event.TheVariants.{Frame, Paging, Pilot, Sets, Sync, Traffic as OnTraffic}
 

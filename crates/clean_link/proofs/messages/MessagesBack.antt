@@ -11,16 +11,14 @@ use Rattle.clean_link.proofs.Common.{IsTunedToPlan, sync_sent, tuning_to, whole_
 use Rattle.clean_link.proofs.Common.{pages_within, FollowsSent, WholeMessagesComeBack, known_event, paging_sent, pages_behind_mark}
 use Rattle.clean_link.proofs.Common.{pages_with_sync, sent_events, by_places, sets_heard, signaling_sent, subst, told_by_first}
 use Rattle.clean_link.proofs.Common.{traffic_sent, ◌<◌, All-contains, Contains, IsStatedPaging, IsTrueMark, PagingPlan, sent_paging_rate}
-use Rattle.clean_link.proofs.Common.{Bears}
-use Rattle.clean_link.proofs.Common.{HearsSentSync, ShowsSync, zero, suc, ◌≤◌, filter, range_with_len, cases_order, eq-eqb, ne_eqb}
-use Rattle.clean_link.proofs.Common.{append-nil}
-use Rattle.clean_link.proofs.Common.{filter-append, at_of, All-head, All-tail, is_at}
+use Rattle.clean_link.proofs.Common.{Bears, HearsSentSync, ShowsSync, zero, suc, ◌≤◌, filter, range_with_len, cases_order, eq-eqb, ne_eqb}
+use Rattle.clean_link.proofs.Common.{append-nil, filter-append, at_of, All-head, All-tail, is_at}
 use Rattle.clean_link.proofs.traffic.Steady.{events_at_all, right_all, left_all}
 use Rattle.clean_link.proofs.marks.MarksTrue.{first_in, unset_in, marks_in, rate_in, time_of, unmarked_in}
 use Rattle.clean_link.proofs.frames.ChannelFrames.{clean_sync}
 use Rattle.clean_link.proofs.pages.Back.{noisy_pages, pages_back, sent_of_number}
 use Rattle.clean_link.proofs.sendings.Heard.{sendings_back}
-use Rattle.clean_link.proofs.signal.Samples.{length-made}
+use Rattle.clean_signal.proofs.signal.Samples.{length-made}
 use Rattle.clean_link.proofs.traffic.Back.{frames_all, messages_all, one_near}
 
 -- ---- events of one number of samples

@@ -1,18 +1,15 @@
 -- A file with noise of the size of its margin, and what a handset hears of it.
-use Rattle.clean_link.proofs.Common.{◌≡◌, ◌≢◌, ℕ, ◌+◌, ◌-◌, ◌*◌, ◌%◌, ◌<◌, ◌≤◌, Bool, true, false, List, [], ◌∷◌, map, refl, ap, ◌∙◌}
-use Rattle.clean_link.proofs.Common.{arith, rules, subst, replicate, Option, Some, None, All, All-cons, All-head, All-nil, ℤ, pos}
-use Rattle.clean_link.proofs.Common.{negsuc, unsigned_abs, ◌+ℤ◌, ◌-ℤ◌, ◌*ℤ◌, ints, sign, point, times, Pair, Sample, get_or, places}
-use Rattle.clean_link.proofs.Common.{binary, capsule, check_bits, sync_body, sync_capsule, M30, R9600, Sixteen, FillsCapsule, HasMessage}
-use Rattle.clean_link.proofs.Common.{no_sample, sample_with, scaled, made_samples, samples_of, sample_of, carriers, amplitudes, amplitude}
+use Rattle.clean_link.proofs.Common.{◌≡◌, ◌≢◌, ℕ, ◌+◌, ◌-◌, ◌*◌, ◌%◌, ◌<◌, ◌≤◌, Bool, true, false, List, [], ◌∷◌, map, refl, ap, ◌∙◌, arith}
+use Rattle.clean_link.proofs.Common.{rules, subst, replicate, Option, Some, None, All, All-cons, All-head, All-nil, ℤ, pos, negsuc}
+use Rattle.clean_link.proofs.Common.{unsigned_abs, ◌+ℤ◌, ◌-ℤ◌, ◌*ℤ◌, ints, sign, point, times, Pair, Sample, get_or, places, binary}
+use Rattle.clean_link.proofs.Common.{capsule, check_bits, sync_body, sync_capsule, M30, R9600, Sixteen, FillsCapsule, HasMessage, no_sample}
+use Rattle.clean_link.proofs.Common.{sample_with, scaled, made_samples, samples_of, sample_of, carriers, amplitudes, amplitude}
 use Rattle.clean_link.proofs.Common.{signal_of_carriers, code_point, pilot_chip, pilot_carrier, paging_carrier, sync_carrier, level_of}
-use Rattle.clean_link.proofs.Common.{walsh}
-use Rattle.clean_link.proofs.Common.{Carrier, CellPlan, PagingPlan, SyncPlan, TrafficPlan, IsSyncPlan, IsPagingPlan, IsTrafficPlan}
-use Rattle.clean_link.proofs.Common.{IsFreeOf}
-use Rattle.clean_link.proofs.Common.{IsStatedPaging, IsReceivable, AreSendable, sent_paging_rate, loudness, with_added, Bears, IsNear}
-use Rattle.clean_link.proofs.Common.{Plain}
-use Rattle.clean_link.proofs.Common.{IsCloseSample, IsOnPath, HearsSentSync, zipped_at, page_cycle, fill, whole_sendings, sending_ends}
-use Rattle.clean_link.proofs.Common.{sending_event, heard_behind, sync_sent, paging_sent, pages_sent, tuning_to, IsNotDirected, Sync}
-use Rattle.clean_link.proofs.Common.{signaling_sent, signed, sync_shape, sync_symbols, length, length-sent, take}
+use Rattle.clean_link.proofs.Common.{walsh, Carrier, CellPlan, PagingPlan, SyncPlan, TrafficPlan, IsSyncPlan, IsPagingPlan, IsTrafficPlan}
+use Rattle.clean_link.proofs.Common.{IsFreeOf, IsStatedPaging, IsReceivable, AreSendable, sent_paging_rate, loudness, with_added, Bears}
+use Rattle.clean_link.proofs.Common.{IsNear, Plain, IsCloseSample, IsOnPath, HearsSentSync, zipped_at, page_cycle, fill, whole_sendings}
+use Rattle.clean_link.proofs.Common.{sending_ends, sending_event, heard_behind, sync_sent, paging_sent, pages_sent, tuning_to}
+use Rattle.clean_link.proofs.Common.{IsNotDirected, Sync, signaling_sent, signed, sync_shape, sync_symbols, length, length-sent, take}
 use Rattle.chip_core.specs.Bits.{number}
 use Rattle.cell_plan.specs.Signal.{symbol_of}
 use Rattle.cell_plan.specs.SomeMessage.{some_message}
@@ -23,15 +20,14 @@ use Rattle.paging_message.specs.Admitted.{admits}
 use Rattle.paging_message.specs.Laying.{framed, half_frames_of, laid_on}
 use Rattle.paging_message.specs.Messages.{message_body}
 use Rattle.paging_message.specs.Reading.{message_at}
-use Rattle.clean_link.specs.BoundedNoise.{IsMargin, added_sample}
+use Rattle.clean_signal.specs.BoundedNoise.{IsMargin, added_sample}
 use Rattle.clean_link.specs.HeardEach.{HearsBearing}
 use Rattle.clean_link.specs.NoisyFile.{ComesBackAtItsMargin, against, cell, cell_beside, channel_list_message, file, file_with, first_softs}
-use Rattle.clean_link.specs.NoisyFile.{heard}
-use Rattle.clean_link.specs.NoisyFile.{noisy_paging_plan, sync_event, sync_with}
-use Rattle.clean_link.proofs.frames.ChannelFrames.{channel_signs, silent_rows}
+use Rattle.clean_link.specs.NoisyFile.{heard, noisy_paging_plan, sync_event, sync_with}
+use Rattle.clean_signal.proofs.frames.ChannelSigns.{channel_signs, silent_rows}
 use Rattle.clean_link.proofs.messages.EachChannel.{noisy_each_channel, noisy_no_event}
-use Rattle.clean_link.proofs.noise.Rounding.{other_cells}
-use Rattle.clean_link.proofs.signal.Samples.{length-made, made_at}
+use Rattle.clean_signal.proofs.noise.Rounding.{other_cells}
+use Rattle.clean_signal.proofs.signal.Samples.{length-made, made_at}
 use Rattle.clean_link.proofs.traffic.DistinctPlan.{told_lawful}
 
 -- ---- the cell

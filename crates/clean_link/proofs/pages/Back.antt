@@ -5,22 +5,21 @@ use Rattle.clean_link.proofs.Common.{subst, Option, Some, All, Contains, flat_ma
 use Rattle.clean_link.proofs.Common.{false_from_ne_true, All-cons, All-contains, All-contains_itself, All-head, All-nil, All-tail}
 use Rattle.clean_link.proofs.Common.{All-weaker, places, CheckForm, Width, capsule, M30, Rate, half_frame_body, rate_large}
 use Rattle.clean_link.proofs.Common.{cycle_frame_bits, sent_paging_rate, made_samples, IsStatedPaging, cycle_of, CellPlan, PagingPlan}
-use Rattle.clean_link.proofs.Common.{SyncPlan}
-use Rattle.clean_link.proofs.Common.{page_in, frame_own_bits, is_in_file, known_at, Stream, IsTimed, Tuning, Mark, flat_map_ext_places}
-use Rattle.clean_link.proofs.Common.{heard_behind, IsOnPath, IsTrueMark, IsReceivable, end_chip, known_page, KnownPage, message_in}
-use Rattle.clean_link.proofs.Common.{page_told, pages_numbered, pages_of_channel, pages_sent, pages_within, PagesComeBack, placed_pages}
-use Rattle.clean_link.proofs.Common.{ReadPage, round_sent, AreWholePages, capsules_with_frames, cycle_half_frames, is_whole_page, Placed}
-use Rattle.clean_link.proofs.Common.{sending_of, Sample, NoisyPagesComeBack, ◌++◌, nat_le, if◌then◌else◌, mul-div-le, and_parts, leb-true}
-use Rattle.clean_link.proofs.Common.{le-div, length-capsule, HasMessage, laid_behind, AreHeard, Page, placed, None, paging_capsule}
-use Rattle.clean_link.proofs.Common.{body_reading, is_body, paging_reading, PagingMessage, reads_body, reads_capsule, as_spelled_page, take}
-use Rattle.clean_link.proofs.Common.{range_with_len, lt-ltb, append-nil, map-append, flat_map-map, flat_map-append, frame_chips}
-use Rattle.clean_link.proofs.Common.{half_frame_capsule_ending, bits_up_to, page_at, pages_at, pages_behind, pages_from, paging_bound}
-use Rattle.clean_link.proofs.Common.{paging_stream, known_now, known_between, known_le, filter_enough, filter_ext_places}
+use Rattle.clean_link.proofs.Common.{SyncPlan, page_in, frame_own_bits, is_in_file, known_at, Stream, IsTimed, Tuning, Mark}
+use Rattle.clean_link.proofs.Common.{flat_map_ext_places, heard_behind, IsOnPath, IsTrueMark, IsReceivable, end_chip, known_page, KnownPage}
+use Rattle.clean_link.proofs.Common.{message_in, page_told, pages_numbered, pages_of_channel, pages_sent, pages_within, PagesComeBack}
+use Rattle.clean_link.proofs.Common.{placed_pages, ReadPage, round_sent, AreWholePages, capsules_with_frames, cycle_half_frames}
+use Rattle.clean_link.proofs.Common.{is_whole_page, Placed, sending_of, Sample, NoisyPagesComeBack, ◌++◌, nat_le, if◌then◌else◌, mul-div-le}
+use Rattle.clean_link.proofs.Common.{and_parts, leb-true, le-div, length-capsule, HasMessage, laid_behind, AreHeard, Page, placed, None}
+use Rattle.clean_link.proofs.Common.{paging_capsule, body_reading, is_body, paging_reading, PagingMessage, reads_body, reads_capsule}
+use Rattle.clean_link.proofs.Common.{as_spelled_page, take, range_with_len, lt-ltb, append-nil, map-append, flat_map-map, flat_map-append}
+use Rattle.clean_link.proofs.Common.{frame_chips, half_frame_capsule_ending, bits_up_to, page_at, pages_at, pages_behind, pages_from}
+use Rattle.clean_link.proofs.Common.{paging_bound, paging_stream, known_now, known_between, known_le, filter_enough, filter_ext_places}
 use Rattle.clean_link.proofs.Common.{flat_map_ext_filter, flat_map_ext_filter_places, frame_capsules}
-use Rattle.clean_link.proofs.pages.Scans.{zero_frames_end_none}
-use Rattle.clean_link.proofs.pages.CyclesBack.{stated_pages, whole_pages_back}
+use Rattle.clean_frames.proofs.pages.Scans.{zero_frames_end_none}
+use Rattle.clean_frames.proofs.pages.CyclesBack.{stated_pages, whole_pages_back}
 use Rattle.clean_link.proofs.frames.ChannelFrames.{noisy_paging_back, paging_borne, silent_paging_back}
-use Rattle.clean_link.proofs.noise.Near.{near-self}
+use Rattle.clean_signal.proofs.noise.Near.{near-self}
 use Rattle.clean_link.proofs.frames.Times.{paging_file_from, paging_file_to, paging_known_is, paging_timed}
 use Rattle.heard_events.specs.PagingEvents.{paging_bits_before}
 use Rattle.clean_link.proofs.sendings.Order.{all_kept, at_key, below_key, in_order, IsRising}

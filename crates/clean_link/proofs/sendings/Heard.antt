@@ -13,7 +13,7 @@ use Rattle.clean_link.proofs.Common.{flat_map_ext_filter, WholeSendingsComeBack,
 use Rattle.clean_link.proofs.Common.{NoisySendingsComeBack}
 use Rattle.sync_message.proofs.Readings.{reads_capsule}
 use Rattle.paging_message.proofs.Pieces.{run, run-places, none_starts}
-use Rattle.clean_link.proofs.sendings.Capsules.{IsSentAt, piece_of, pieces_end, sending_frames}
+use Rattle.clean_frames.proofs.sendings.Capsules.{IsSentAt, piece_of, pieces_end, sending_frames}
 use Rattle.clean_link.proofs.frames.Times.{frames_begin, in_file_from, in_file_to, one_path, end_of_frame, known_is, sync_timed}
 use Rattle.clean_link.proofs.sendings.Order.{in_file, all_kept, blocks, given_where, flat_map-filter, map-filter, moved_up, quiet}
 use Rattle.clean_link.proofs.sendings.Order.{events_by_frames, frame_events, frames_of, known}

@@ -1,14 +1,13 @@
 -- A cell with a distinct frame of each rate.
-use Rattle.clean_link.proofs.Common.{◌≡◌, ◌≢◌, ℕ, ◌+◌, ◌*◌, ◌^◌, ◌<◌, ◌≤◌, Bool, true, List, [], ◌∷◌, map, refl, sym, ap, ◌∙◌}
-use Rattle.clean_link.proofs.Common.{set_one, set_two, FrameList, channel_on, arith, subst, nat_le, inl, inr, Some, All, flat_map}
-use Rattle.clean_link.proofs.Common.{and_parts, cases_eq, leb-true, All-cons, All-nil, binary, places, norm, Sixteen, after, traffic_mask}
-use Rattle.clean_link.proofs.Common.{after-after, IsState-before, capsule, check_bits, traffic_codeword, Rate, R9600, R4800}
-use Rattle.clean_link.proofs.Common.{R2400, R1200, codeword_bits, power_places, Rate2, R14400, R7200, R3600, R1800, on_again, sync_body}
-use Rattle.clean_link.proofs.Common.{sync_capsule, IsSyncMessage, split_9600, loudness, AreLawfulBeside, IsFreeOf, IsLawfulPlan}
-use Rattle.clean_link.proofs.Common.{IsPagingPlan, IsTrafficPlan, sent_paging_rate, IsStatedPaging, IsReceivable, frames_of, cycled_frame}
-use Rattle.clean_link.proofs.Common.{IsTrafficFrame, IsTrafficFrame2, PagingPlan, TrafficPlan, TrafficFrame, TrafficFrame2, lost_symbols}
-use Rattle.clean_link.proofs.Common.{distinct_bits_of, bits_of2, distinct_plan, rules, first_channel, frame2_at, frame_at, on_row}
-use Rattle.clean_link.proofs.Common.{second_channel}
+use Rattle.clean_link.proofs.Common.{◌≡◌, ◌≢◌, ℕ, ◌+◌, ◌*◌, ◌^◌, ◌<◌, ◌≤◌, Bool, true, List, [], ◌∷◌, map, refl, sym, ap, ◌∙◌, set_one}
+use Rattle.clean_link.proofs.Common.{set_two, FrameList, channel_on, arith, subst, nat_le, inl, inr, Some, All, flat_map, and_parts}
+use Rattle.clean_link.proofs.Common.{cases_eq, leb-true, All-cons, All-nil, binary, places, norm, Sixteen, after, traffic_mask, after-after}
+use Rattle.clean_link.proofs.Common.{IsState-before, capsule, check_bits, traffic_codeword, Rate, R9600, R4800, R2400, R1200, codeword_bits}
+use Rattle.clean_link.proofs.Common.{power_places, Rate2, R14400, R7200, R3600, R1800, on_again, sync_body, sync_capsule, IsSyncMessage}
+use Rattle.clean_link.proofs.Common.{split_9600, loudness, AreLawfulBeside, IsFreeOf, IsLawfulPlan, IsPagingPlan, IsTrafficPlan}
+use Rattle.clean_link.proofs.Common.{sent_paging_rate, IsStatedPaging, IsReceivable, frames_of, cycled_frame, IsTrafficFrame}
+use Rattle.clean_link.proofs.Common.{IsTrafficFrame2, PagingPlan, TrafficPlan, TrafficFrame, TrafficFrame2, lost_symbols, distinct_bits_of}
+use Rattle.clean_link.proofs.Common.{bits_of2, distinct_plan, rules, first_channel, frame2_at, frame_at, on_row, second_channel}
 use Rattle.clean_link.proofs.Common.{told_message, HasMark, HasSetOne, HasSetTwo, frame_chip, is_received, received_frames, replaced_of}
 use Rattle.clean_link.proofs.Common.{AreDistinct, IsDistinctFrame, end_chip, messages_sent, cycled_frame2, IsDistinctFrame2, signaling_sent}
 use Rattle.clean_link.proofs.Common.{told_with_sync, lost_symbols2, sharing, sharing2, codewords_giving, AreTrafficFrames, frame_count}

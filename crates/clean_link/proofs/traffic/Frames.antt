@@ -13,16 +13,16 @@ use Rattle.clean_link.proofs.Common.{sent_frame_event, AreDistinct, IsDistinctFr
 use Rattle.clean_link.proofs.Common.{HearsSentTraffic, IsHeardAs, IsUndirected, SentFramesComeBack, TrafficFramesComeBack, ℤ, signs_frame}
 use Rattle.clean_link.proofs.Common.{Bears, IsNear, NoisyEachFrameIsHeard, NoisySentFramesComeBack, NoisyTrafficFramesComeBack}
 use Rattle.clean_link.proofs.Common.{ShowsTraffic, Option, option_to_list, append-nil, CheckForm, messages_at, capsule_with}
-use Rattle.clean_link.proofs.Common.{signaling_message_at}
-use Rattle.clean_link.proofs.Common.{message_events, message_heard, messages_by, signal_at, signal_in, signal_of, signals_before, has_frame}
-use Rattle.clean_link.proofs.Common.{filter_ext_places, message_told, messages_of_channel, signal_sent, signals_in, signals_received}
-use Rattle.clean_link.proofs.Common.{SentMessagesComeBack, NoisySentMessagesComeBack, IsNotDirected, NoneIsDirected, NoneIsDirectedByNoise}
+use Rattle.clean_link.proofs.Common.{signaling_message_at, message_events, message_heard, messages_by, signal_at, signal_in, signal_of}
+use Rattle.clean_link.proofs.Common.{signals_before, has_frame, filter_ext_places, message_told, messages_of_channel, signal_sent}
+use Rattle.clean_link.proofs.Common.{signals_in, signals_received, SentMessagesComeBack, NoisySentMessagesComeBack, IsNotDirected}
+use Rattle.clean_link.proofs.Common.{NoneIsDirected, NoneIsDirectedByNoise}
 use Rattle.clean_link.proofs.pages.Back.{given_in_order, IsBound}
 use Rattle.clean_link.proofs.sendings.Order.{flat_map-filter, given_where, moved_up}
-use Rattle.clean_link.proofs.noise.Near.{length-near, near-self}
+use Rattle.clean_signal.proofs.noise.Near.{length-near, near-self}
 use Rattle.clean_link.proofs.traffic.Signs.{noisy_power_bits, power_pairs, lawful_traffic, noisy_traffic_signs, same_state, traffic_borne}
 use Rattle.clean_link.proofs.traffic.Signs.{traffic_signs}
-use Rattle.clean_link.proofs.signal.Samples.{length-made}
+use Rattle.clean_signal.proofs.signal.Samples.{length-made}
 use Rattle.clean_link.proofs.traffic.Steady.{one_now, one_stream, one_stream_is, traffic_file_from, traffic_file_to, traffic_known_is}
 use Rattle.clean_link.proofs.traffic.Steady.{traffic_timed, one_pilot_heard, first_legs, first_pilot, frames_of_one, each_of_all}
 use Rattle.clean_link.proofs.traffic.Steady.{one_pilot_before, messages_of_one}

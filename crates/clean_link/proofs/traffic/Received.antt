@@ -8,32 +8,29 @@ use Rattle.clean_link.proofs.Common.{replaced_in, Tuning, Mark, Traffic, PowerCo
 use Rattle.clean_link.proofs.Common.{is_received, received_frames, replaced_of, sent_bits, IsAssigned, SendsSetTwo, SendsSymbols, ShowFrame}
 use Rattle.clean_link.proofs.Common.{ShowPowerBits, cycled_frame2, codeword_symbols2, AreReceived, IsReceivedAs, EachFrameIsReceived}
 use Rattle.clean_link.proofs.Common.{FramesBehindMark, FramesShowPowerBits, FramesShowSymbols, SetTwoBehindMark, IsSentFrame2}
-use Rattle.clean_link.proofs.Common.{HearsSentTraffic}
-use Rattle.clean_link.proofs.Common.{SetTwoFramesComeBack, Bears, IsNear, IsReceivedBySigns, IsSentFrame2BySigns, NoisyFramesAreReceived}
-use Rattle.clean_link.proofs.Common.{NoisyFramesBehindMark, NoisySetTwoBehindMark, NoisySetTwoFramesComeBack, HavePowerSigns, NoisyFrame}
-use Rattle.clean_link.proofs.Common.{IsReceived, ShowsSync, ◌<ℤ◌}
-use Rattle.clean_link.proofs.Common.{correlation, AgreeElsewhere}
-use Rattle.clean_link.proofs.Common.{unreplaced, frame_softs, stream_of, HeardAreTheOnlyBest}
-use Rattle.clean_link.proofs.Common.{ReceivedAreTheOnlyBest, SetTwoAreTheOnlyBest, by_lt_z, codeword_symbols, KeepSigns}
-use Rattle.clean_link.proofs.Common.{NoisyReceivedAreTheOnlyBest, NoisySetTwoAreTheOnlyBest, NoisyFramesAreTheOnlyBest, agree_left}
-use Rattle.clean_link.proofs.Common.{shown_keep}
+use Rattle.clean_link.proofs.Common.{HearsSentTraffic, SetTwoFramesComeBack, Bears, IsNear, IsReceivedBySigns, IsSentFrame2BySigns}
+use Rattle.clean_link.proofs.Common.{NoisyFramesAreReceived, NoisyFramesBehindMark, NoisySetTwoBehindMark, NoisySetTwoFramesComeBack}
+use Rattle.clean_link.proofs.Common.{HavePowerSigns, NoisyFrame, IsReceived, ShowsSync, ◌<ℤ◌, correlation, AgreeElsewhere, unreplaced}
+use Rattle.clean_link.proofs.Common.{frame_softs, stream_of, HeardAreTheOnlyBest, ReceivedAreTheOnlyBest, SetTwoAreTheOnlyBest, by_lt_z}
+use Rattle.clean_link.proofs.Common.{codeword_symbols, KeepSigns, NoisyReceivedAreTheOnlyBest, NoisySetTwoAreTheOnlyBest}
+use Rattle.clean_link.proofs.Common.{NoisyFramesAreTheOnlyBest, agree_left, shown_keep}
 use Rattle.cell_plan.specs.TrafficFrames.{sent_frame_state}
 use Rattle.clean_link.proofs.frames.ChannelFrames.{clean_sync, heard_sync}
-use Rattle.clean_link.proofs.noise.Near.{none_borne, length-near, near-self}
-use Rattle.clean_link.proofs.signal.Samples.{length-made}
+use Rattle.clean_signal.proofs.noise.Near.{none_borne, length-near, near-self}
+use Rattle.clean_signal.proofs.signal.Samples.{length-made}
 use Rattle.clean_link.proofs.traffic.Back.{hears_behind}
 use Rattle.clean_link.proofs.traffic.Signs.{heard_power_bits, power_pairs, frame_powered, frame_shown, lawful_traffic, noisy_powered}
 use Rattle.clean_link.proofs.traffic.Signs.{noisy_shown, set_two_sends, noisy_traffic_signs, traffic_borne}
 use Rattle.clean_link.proofs.traffic.Frames.{by_marks_frames, inside_at, known_is, one_each, one_taken, one_there, same_places, sized}
 use Rattle.clean_link.proofs.traffic.Steady.{one_stream, traffic_file_to, traffic_known_is}
-use Rattle.rate_set_two.proofs.SentFrames as second_back
-use Rattle.heard_events.specs.TrafficStreams as heard
 use Rattle.clean_link.specs.TrafficLaws.{IsOnlyBestIn}
 use Rattle.frame_decoder.proofs.FormatCodewords.{length-symbols_in}
 use Rattle.frame_decoder.proofs.SentFormats.{codeword_allowed}
 use Rattle.frame_decoder.specs.Formats.{format_of, symbols_in}
 use Rattle.frame_decoder.specs.Laws.{IsUnsharedIn, sent_codeword}
 use Rattle.frame_decoder.specs.declared.formats.FrameFormat.{FrameFormat}
+use Rattle.rate_set_two.proofs.SentFrames as second_back
+use Rattle.heard_events.specs.TrafficStreams as heard
 use Rattle.rate_set_two.specs.TrafficFrames as second
 
 -- ---- any symbols

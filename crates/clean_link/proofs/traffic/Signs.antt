@@ -15,11 +15,12 @@ use Rattle.clean_link.proofs.Common.{is_replaced, unscrambled, zipped_at, not, m
 use Rattle.clean_link.proofs.Common.{places, map-places-all, power_place, power_place_in_groups, pairs_below, pairs_in_groups}
 use Rattle.clean_link.proofs.Common.{pairs_neighbours, ArePairs, power_bit, group_sum, group_sums, map_ext_places, power_bits_at, sent_bits}
 use Rattle.clean_link.proofs.Common.{PowerBitsComeBack, SixteenPowerBitsAreSent, NoisyPowerBitsComeBack, le_false, lt_true}
-use Rattle.clean_link.proofs.signal.CarriersApart.{plan_apart, traffic_sent}
-use Rattle.clean_link.proofs.frames.ChannelFrames.{strength_some, length-scrambling, fingers_are}
-use Rattle.clean_link.proofs.signal.Frames.{clean_relates, noisy_relates}
+use Rattle.clean_signal.proofs.signal.CarriersApart.{plan_apart, traffic_sent}
+use Rattle.clean_signal.proofs.frames.ChannelSigns.{strength_some}
+use Rattle.clean_link.proofs.frames.ChannelFrames.{length-scrambling, fingers_are}
+use Rattle.clean_signal.proofs.signal.Frames.{clean_relates, noisy_relates}
 use Rattle.clean_link.proofs.traffic.Steady.{one_fingers, one_stream, one_stream_is, traffic_file_to, one_sums}
-use Rattle.clean_link.proofs.noise.Near.{none_borne, near-self, IsSigned, Relates, Turns, signed_turn, signs_turn}
+use Rattle.clean_signal.proofs.noise.Near.{none_borne, near-self, IsSigned, Relates, Turns, signed_turn, signs_turn}
 use Rattle.symbol_path.specs.FramesTwo as second
 use Rattle.cell_plan.specs.PageCycles as cycles
 use Rattle.cell_plan.specs.TrafficFrames as sends

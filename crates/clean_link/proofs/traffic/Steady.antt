@@ -15,17 +15,18 @@ use Rattle.clean_link.proofs.Common.{Pilot, frames_sooner, by_one_mark, messages
 use Rattle.clean_link.proofs.Common.{frames_later, messages_later, opens_followed, OpensBehind, told_behind, option_map, ◌&&◌, ℤ}
 use Rattle.clean_link.proofs.Common.{option_to_list, power_bit, decoded, group_sums, Decoded, softs, Finger, Data, AreClose, all_fingers}
 use Rattle.clean_link.proofs.Common.{subchannels, capsule_with, signaling_message_at, message_events, message_heard, signal_at, signal_in}
-use Rattle.clean_link.proofs.Common.{signal_of}
-use Rattle.clean_link.proofs.Common.{signals_before, frame_softs, is_in_file, known_at, known_now, Stream, all_sums, power_bits_at}
-use Rattle.clean_link.proofs.Common.{decoded_at, frame_event, subchannel_sums, raw_by, raw_softs, ends_now, frames_bound, has_frame}
-use Rattle.clean_link.proofs.Common.{replaced_in, stream_of, traffic_start, traffic_stream, fingers_of, AreCloseAll, map_same, pilot_alone}
-use Rattle.clean_link.proofs.Common.{filter_ext_places, flat_map_ext_filter, flat_map_ext_filter_places, ◌*◌, ◌+ℤ◌, IsTimed, modulo_code}
+use Rattle.clean_link.proofs.Common.{signal_of, signals_before, frame_softs, is_in_file, known_at, known_now, Stream, all_sums}
+use Rattle.clean_link.proofs.Common.{power_bits_at, decoded_at, frame_event, subchannel_sums, raw_by, raw_softs, ends_now, frames_bound}
+use Rattle.clean_link.proofs.Common.{has_frame, replaced_in, stream_of, traffic_start, traffic_stream, fingers_of, AreCloseAll, map_same}
+use Rattle.clean_link.proofs.Common.{pilot_alone, filter_ext_places, flat_map_ext_filter, flat_map_ext_filter_places, ◌*◌, ◌+ℤ◌, IsTimed}
+use Rattle.clean_link.proofs.Common.{modulo_code}
 use Rattle.pilot_sets.specs.Standing.{stepped}
-use Rattle.clean_link.proofs.frames.Times.{one_path, IsAlone, inside_alone, known_at_once, room_alone, timed_alone}
+use Rattle.clean_link.proofs.frames.Times.{one_path, known_at_once}
+use Rattle.clean_signal.proofs.frames.Times.{IsAlone, inside_alone, room_alone, timed_alone}
+use Rattle.heard_events.specs.declared.channel.Channel.TheVariants.{Paging, Traffic as OnTraffic}
 use Rattle.paging_message.specs.declared.message.PagingMessage.TheVariants as pages
 use Rattle.traffic_message.specs.declared.body.TrafficBody.TheVariants as bodies
 use Rattle.heard_events.specs.declared.event.Event.TheVariants as kinds
-use Rattle.heard_events.specs.declared.channel.Channel.TheVariants.{Paging, Traffic as OnTraffic}
 
 -- ---- one frame
 

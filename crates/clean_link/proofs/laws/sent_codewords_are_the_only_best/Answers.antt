@@ -1,10 +1,9 @@
 -- Why the law `sent_codewords_are_the_only_best` holds.
-use Rattle.clean_link.proofs.frames.ChannelFrames.{channel_codewords, codewords_alone, paging_codewords_alone}
+use Rattle.clean_link.proofs.frames.ChannelFrames.{codewords_alone, paging_codewords_alone}
 use Rattle.clean_link.proofs.laws.sent_codewords_are_the_only_best.Goals as goal
 
 pub returns : goal.returns
 returns c = record {
-  channel = channel_codewords;
   sent = codewords_alone;
   paging = paging_codewords_alone;
 }

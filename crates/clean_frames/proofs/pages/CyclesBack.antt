@@ -1,0 +1,633 @@
+-- What is heard of a cycle of pages that goes round, from any frame on.
+use Rattle.clean_frames.proofs.Common.{◌≡◌, ℕ, suc, ◌+◌, ◌-◌, ◌*◌, ◌/◌, ◌<◌, ◌≤◌, Bool, false, List, [], ◌∷◌, ◌++◌, length, map, take, drop}
+use Rattle.clean_frames.proofs.Common.{refl, sym, ap, ◌∙◌, subst, arith, inl, inr, length-append, length-drop, flat_map, cases_Bool}
+use Rattle.clean_frames.proofs.Common.{append-nil, length-take-le, nil_from_length, map-map, mul-le-mul_left, places, length-map-places}
+use Rattle.clean_frames.proofs.Common.{CheckForm, Piece, Rate, half_frame_body, cycled, laid_pages, page_cycle, put_of, AreSendable}
+use Rattle.clean_frames.proofs.Common.{AreHeard, Page, size_large, PageSendingsComeBack, capsules_with_frames, cycle_half_frames}
+use Rattle.clean_frames.proofs.Common.{is_between, placed, sending_of, AreWholePages, Placed, flat_map-zero, flat_map-repeated, repeated}
+use Rattle.clean_frames.proofs.Common.{repeated-part, filter, true, nat_le, nat_lt, ◌&&◌, and_left, and_right, cases_lt, le-leb, le-ltb}
+use Rattle.clean_frames.proofs.Common.{lt-leb, lt-ltb, le-div, paging_frame_size, IsStatedPaging, PagingPlan, flat_map_ext_places}
+use Rattle.clean_frames.proofs.Common.{WholePagesComeBack, frame_capsules, is_whole_page, flat_map-nothing, zero, append_assoc, map-append}
+use Rattle.clean_frames.proofs.Common.{filter-append, mul-add-div, flat_map-next, length-repeated, ◌%◌, get_or, get_or-append-add}
+use Rattle.clean_frames.proofs.Common.{get_or_append_left, mod-mul-add, mod_below, div-add-mod, map-places-all, map_ext_places, map-add}
+use Rattle.paging_message.proofs.Runs.{joined, length-padded, no_width, run_bits, run_piece, run_pieces, run_width, run_width_some}
+use Rattle.paging_message.proofs.Runs.{AreChained}
+use Rattle.paging_message.proofs.Scans.{length-stream, no_piece, stream, whole-append, whole-map, AreWhole, scan, bits_of}
+use Rattle.clean_frames.proofs.pages.Scans.{frames_scanned, in_frame, AreFrames}
+use Rattle.clean_frames.proofs.pages.Laid.{length-page, page_capsule, pages_placed, placed-begins, runs-begin, runs-follow, runs_laid}
+use Rattle.clean_frames.proofs.pages.Laid.{runs_of, turned_back, under_way, whole_rows, first_begins, first_runs, placed-follows}
+use Rattle.clean_frames.proofs.pages.RunsHeard.{from_within, is_inside, pieces_of, placed_runs, selected, spelled, told, AreRuns}
+use Rattle.clean_frames.proofs.pages.RunsHeard.{placed_run}
+use Rattle.paging_message.specs.Laying as laying
+
+-- ---- a later round
+
+-- a page, so many half-frames later
+abbrev pub later : ℕ → Placed → Placed
+later x p = record { run = x + p.run; last = x + p.last; page = p.page }
+
+run_later : (size : ℕ) (spell : Page → List Bool) (x run at at' y : ℕ) (pages : List Page) →
+    0 < size → AreChained size y (map spell pages) → at' ≡ size * x + at →
+    placed_run size spell (x + run) at' pages ≡ map (later x) (placed_run size spell run at pages)
+run_later size spell x run at at' y [] large chained e = refl
+run_later size spell x run at at' y (page ∷ pages) large chained e =
+    let n = length (spell page) in
+    let whole = chained.0 in
+    let far : at' + n - 1 ≡ size * x + (at + n - 1) = omega (arith, e, whole.told) in
+    let last : (at' + n - 1) / size ≡ x + (at + n - 1) / size =
+    ap (λ (k : ℕ). k / size) far ∙ mul-add-div large x (at + n - 1) in
+    let here : Placed = record { run = x + run; last = x + (at + n - 1) / size; page = page } in
+    ap (λ (k : ℕ). let p : Placed = record { run = x + run; last = k; page = page } in
+    p ∷ placed_run size spell (x + run) (at' + n) pages) last
+    ∙ ap (λ (l : List Placed). here ∷ l)
+    (run_later size spell x run (at + n) (at' + n) (y + n) pages large chained.2
+    (omega (arith, e)))
+
+runs_later : (size : ℕ) (spell : Page → List Bool) (x o o' : ℕ) (runs : List (List Page)) →
+    0 < size → AreRuns size spell runs → o' ≡ x + o →
+    placed_runs size spell o' runs ≡ map (later x) (placed_runs size spell o runs)
+runs_later size spell x o o' [] large are e = refl
+runs_later size spell x o o' (run ∷ runs) large are e =
+    let w = run_width size (map spell run) in
+    let first = placed_run size spell o (size * o) run in
+    let rest = placed_runs size spell (o + w) runs in
+    let far : size * o' ≡ size * x + size * o =
+    ap (λ (n : ℕ). size * n) e ∙ omega arith in
+    ap (λ (l : List Placed). l ++ placed_runs size spell (o' + w) runs)
+    (ap (λ (n : ℕ). placed_run size spell n (size * o') run) e
+    ∙ run_later size spell x o (size * o) (size * o') 0 run large are.0 far)
+    ∙ ap (λ (l : List Placed). map (later x) first ++ l)
+    (runs_later size spell x (o + w) (o' + w) runs large are.2 (omega (arith, e)))
+    ∙ sym (map-append (later x) first rest)
+
+-- ---- all rounds
+
+pub runs-append : (size : ℕ) (spell : Page → List Bool) (xs ys : List (List Page)) →
+    AreRuns size spell xs → AreRuns size spell ys → AreRuns size spell (xs ++ ys)
+runs-append size spell [] ys a b = b
+runs-append size spell (x ∷ xs) ys a b = (a.0, a.1, runs-append size spell xs ys a.2 b)
+
+pub repeated_are_runs : (size : ℕ) (spell : Page → List Bool) (n : ℕ) (runs : List (List Page)) →
+    AreRuns size spell runs → AreRuns size spell (repeated n runs)
+repeated_are_runs size spell zero runs are = tt
+repeated_are_runs size spell (suc n) runs are =
+    runs-append size spell (repeated n runs) runs (repeated_are_runs size spell n runs are) are
+
+-- where the pages of more runs lie
+placed-append : (size : ℕ) (spell : Page → List Bool) (o : ℕ) (xs ys : List (List Page)) →
+    placed_runs size spell o (xs ++ ys)
+    ≡ placed_runs size spell o xs ++
+    placed_runs size spell (o + length (pieces_of size spell xs)) ys
+placed-append size spell o [] ys =
+    let e : o ≡ o + 0 = omega arith in ap (λ (n : ℕ). placed_runs size spell n ys) e
+placed-append size spell o (x ∷ xs) ys =
+    let cs = map spell x in
+    let w = run_width size cs in
+    let first = placed_run size spell o (size * o) x in
+    let own : length (run_pieces size cs) ≡ w = length-map-places (run_piece size cs) w in
+    let e : o + w + length (pieces_of size spell xs) ≡ o + length (pieces_of size spell (x ∷ xs)) =
+    omega (arith, length-append (run_pieces size cs) (pieces_of size spell xs), own) in
+    let rest = placed_runs size spell (o + w) xs in
+    ap (λ (l : List Placed). first ++ l) (placed-append size spell (o + w) xs ys)
+    ∙ sym (append_assoc first rest
+    (placed_runs size spell (o + w + length (pieces_of size spell xs)) ys))
+    ∙ ap (λ (n : ℕ). (first ++ rest) ++ placed_runs size spell n ys) e
+
+-- the pages of the rounds, round by round
+pub rounds_placed : (size : ℕ) (spell : Page → List Bool) (n : ℕ) (runs : List (List Page)) →
+    0 < size → AreRuns size spell runs →
+    placed_runs size spell 0 (repeated n runs)
+    ≡ flat_map
+    (λ r. map (later (length (pieces_of size spell runs) * r)) (placed_runs size spell 0 runs))
+    (places n)
+rounds_placed size spell zero runs large are =
+    sym (flat_map-zero (λ r. map (later (length (pieces_of size spell runs) * r))
+    (placed_runs size spell 0 runs)))
+rounds_placed size spell (suc n) runs large are =
+    let w = length (pieces_of size spell runs) in
+    let g = λ (r : ℕ). map (later (w * r)) (placed_runs size spell 0 runs) in
+    let before = length (pieces_of size spell (repeated n runs)) in
+    let long : before ≡ w * n =
+    ap (λ (l : List Piece). length l)
+    (flat_map-repeated (λ run. run_pieces size (map spell run)) n runs)
+    ∙ length-repeated n (pieces_of size spell runs) in
+    let e : 0 + before ≡ w * n + 0 = omega (arith, long) in
+    placed-append size spell 0 (repeated n runs) runs
+    ∙ ap (λ (l : List Placed). l ++ placed_runs size spell (0 + before) runs)
+    (rounds_placed size spell n runs large are)
+    ∙ ap (λ (l : List Placed). flat_map g (places n) ++ l)
+    (runs_later size spell (w * n) 0 (0 + before) runs large are e)
+    ∙ sym (flat_map-next g n)
+
+-- what is said of a round's pages that are inside
+round_said : {X : Type 0} (h : Placed → X) (low high x : ℕ) (ps : List Placed) →
+    map h (filter (is_inside low high) (map (later x) ps))
+    ≡ map (λ p. h (later x p)) (filter (is_between low high x) ps)
+round_said h low high x [] = refl
+round_said {X} h low high x (p ∷ ps) =
+    let rest = round_said h low high x ps in
+    elim (cases_Bool (is_between low high x p)) [
+      | inl t ↦ rw t (ap (λ (l : List X). h (later x p) ∷ l) rest)
+      | inr f ↦ rw f rest
+    ]
+
+-- and of those of all rounds
+pub rounds_said : {X : Type 0} (h : Placed → X) (low high n w : ℕ) (ps : List Placed) →
+    map h (filter (is_inside low high) (flat_map (λ r. map (later (w * r)) ps) (places n)))
+    ≡ flat_map
+    (λ r. map (λ p. h (later (w * r) p)) (filter (is_between low high (w * r)) ps)) (places n)
+rounds_said h low high zero w ps =
+    ap (λ (l : List Placed). map h (filter (is_inside low high) l))
+    (flat_map-zero (λ r. map (later (w * r)) ps))
+    ∙ sym (flat_map-zero (λ r. map (λ p. h (later (w * r) p))
+    (filter (is_between low high (w * r)) ps)))
+rounds_said {X} h low high (suc n) w ps =
+    let g = λ (r : ℕ). map (later (w * r)) ps in
+    let s = λ (r : ℕ). map (λ p. h (later (w * r) p)) (filter (is_between low high (w * r)) ps) in
+    let inside = filter (is_inside low high) in
+    ap (λ (l : List Placed). map h (inside l)) (flat_map-next g n)
+    ∙ ap (map h) (filter-append (is_inside low high) (flat_map g (places n)) (g n))
+    ∙ map-append h (inside (flat_map g (places n))) (inside (g n))
+    ∙ ap (λ (l : List X). l ++ map h (inside (g n))) (rounds_said h low high n w ps)
+    ∙ ap (λ (l : List X). flat_map s (places n) ++ l) (round_said h low high (w * n) ps)
+    ∙ sym (flat_map-next s n)
+
+long_at : (size : ℕ) (pieces : List Piece) (t : ℕ) → AreWhole size pieces → t < length pieces →
+    length (get_or pieces t no_piece).body ≡ size
+long_at size [] t are lt = absurd (omega (arith, lt))
+long_at size (p ∷ pieces) zero are lt = are.0
+long_at size (p ∷ pieces) (suc t) are lt = long_at size pieces t are.1 (omega (arith, lt))
+
+-- bit i of half-frame t
+bit_at : (size : ℕ) (pieces : List Piece) (t i : ℕ) → AreWhole size pieces → t < length pieces →
+    i < size + 1 →
+    get_or (stream pieces) ((size + 1) * t + i) false
+    ≡ get_or (bits_of (get_or pieces t no_piece)) i false
+bit_at size [] t i are lt low = absurd (omega (arith, lt))
+bit_at size (p ∷ pieces) zero i are lt low =
+    let e : (size + 1) * zero + i ≡ i = omega arith in
+    ap (λ (k : ℕ). get_or (stream (p ∷ pieces)) k false) e
+    ∙ get_or_append_left (bits_of p) (stream pieces) false i (omega (arith, low, are.0))
+bit_at size (p ∷ pieces) (suc t) i are lt low =
+    let own = bits_of p in
+    let rest = stream pieces in
+    let e : (size + 1) * suc t + i ≡ length own + ((size + 1) * t + i) = omega (arith, are.0) in
+    ap (λ (k : ℕ). get_or (own ++ rest) k false) e
+    ∙ get_or-append-add own rest ((size + 1) * t + i) false
+    ∙ bit_at size pieces t i are.1 (omega (arith, lt)) low
+
+-- where bit i of half-frame g lies in a cycle of so many half-frames
+place_in_cycle : (h cycle g i : ℕ) → 0 < cycle → i < h →
+    (h * g + i) % (h * cycle) ≡ h * (g % cycle) + i
+place_in_cycle h cycle g i some lt =
+    let q = g / cycle in
+    let t = g % cycle in
+    let low : t < cycle = mod_below g cycle some in
+    let room : h * suc t ≤ h * cycle = mul-le-mul_left h low in
+    let e : h * g + i ≡ q * (h * cycle) + (h * t + i) =
+    ap (λ (k : ℕ). h * k + i) (sym (div-add-mod g cycle)) ∙ turned h cycle q t i in
+    ap (λ (k : ℕ). k % (h * cycle)) e
+    ∙ mod-mul-add q (h * cycle) (h * t + i) (omega (arith, room, lt))
+  where
+    turned : (h cycle q t i : ℕ) →
+        h * (cycle * q + t) + i ≡ q * (h * cycle) + (h * t + i)
+    turned h cycle q t i = omega arith
+
+-- the bits of half-frame g
+half_frame_at : (size : ℕ) (pieces : List Piece) (g : ℕ) → AreWhole size pieces →
+    0 < length pieces →
+    map (λ i. get_or (stream pieces) (((size + 1) * g + i) % length (stream pieces)) false)
+    (places (size + 1))
+    ≡ bits_of (get_or pieces (g % length pieces) no_piece)
+half_frame_at size pieces g are some =
+    let w = length pieces in
+    let t = g % w in
+    let low : t < w = mod_below g w some in
+    let long = length-stream size pieces are in
+    let own : length (bits_of (get_or pieces t no_piece)) ≡ size + 1 =
+    omega (arith, long_at size pieces t are low) in
+    sym (map-places-all
+    (λ i. get_or (stream pieces) (((size + 1) * g + i) % length (stream pieces)) false)
+    (bits_of (get_or pieces t no_piece)) (size + 1) false own
+    (λ i lt. sym (ap (λ (k : ℕ). get_or (stream pieces) (((size + 1) * g + i) % k) false) long
+    ∙ ap (λ (k : ℕ). get_or (stream pieces) k false) (place_in_cycle (size + 1) w g i some lt)
+    ∙ bit_at size pieces t i are low lt)))
+
+-- a frame is two half-frames
+frame_at : (size : ℕ) (pieces : List Piece) (k : ℕ) → AreWhole size pieces → 0 < length pieces →
+    cycled (stream pieces) (2 * (size + 1)) k
+    ≡ bits_of (get_or pieces ((2 * k) % length pieces) no_piece) ++
+    bits_of (get_or pieces (suc (2 * k) % length pieces) no_piece)
+unfolding cycled
+frame_at size pieces k are some =
+    let h = size + 1 in
+    let bit = λ (n : ℕ). get_or (stream pieces) (n % length (stream pieces)) false in
+    let two : 2 * h ≡ h + h = omega arith in
+    ap (λ (m : ℕ). map (λ i. bit (2 * h * k + i)) (places m)) two
+    ∙ map-add (λ i. bit (2 * h * k + i)) h h
+    ∙ ap (λ (l : List Bool). l ++ map (λ i. bit (2 * h * k + (h + i))) (places h))
+    (map_ext_places (λ i. bit (2 * h * k + i)) (λ i. bit (h * (2 * k) + i)) h
+    (λ i lt. ap bit (first_place h k i))
+    ∙ half_frame_at size pieces (2 * k) are some)
+    ∙ ap (λ (l : List Bool). bits_of (get_or pieces ((2 * k) % length pieces) no_piece) ++ l)
+    (map_ext_places (λ i. bit (2 * h * k + (h + i))) (λ i. bit (h * suc (2 * k) + i)) h
+    (λ i lt. ap bit (second_place h k i))
+    ∙ half_frame_at size pieces (suc (2 * k)) are some)
+  where
+    first_place : (h k i : ℕ) → 2 * h * k + i ≡ h * (2 * k) + i
+    first_place h k i = omega arith
+
+    second_place : (h k i : ℕ) → 2 * h * k + (h + i) ≡ h * suc (2 * k) + i
+    second_place h k i = omega arith
+
+-- half-frame j after frame `first`
+abbrev pub heard_piece : List Piece → ℕ → ℕ → Piece
+heard_piece pieces first j = get_or pieces ((2 * first + j) % length pieces) no_piece
+
+-- From frame `first` on, the frames of a cycle are those of its half-frames, round and round.
+pub cycle_has_frames : (size : ℕ) (pieces : List Piece) (first : ℕ) → AreWhole size pieces →
+    0 < length pieces →
+    AreFrames size (λ k. cycled (stream pieces) (2 * (size + 1)) (first + k))
+    (heard_piece pieces first)
+cycle_has_frames size pieces first are some = record {
+  long = λ j. long_at size pieces ((2 * first + j) % length pieces) are
+      (mod_below (2 * first + j) (length pieces) some);
+  each = λ k.
+      let w = length pieces in
+      let a : 2 * (first + k) ≡ 2 * first + 2 * k = omega arith in
+      let b : suc (2 * (first + k)) ≡ 2 * first + suc (2 * k) = omega arith in
+      let second = bits_of (get_or pieces (suc (2 * (first + k)) % w) no_piece) in
+      frame_at size pieces (first + k) are some
+      ∙ ap (λ (n : ℕ). bits_of (get_or pieces (n % w) no_piece) ++ second) a
+      ∙ ap (λ (n : ℕ). bits_of (get_or pieces ((2 * first + 2 * k) % w) no_piece) ++
+      bits_of (get_or pieces (n % w) no_piece)) b;
+}
+
+-- ---- the half-frames of runs
+
+run_pieces_whole : (size : ℕ) (cs : List (List Bool)) → 0 < size →
+    AreWhole size (run_pieces size cs)
+run_pieces_whole size cs large =
+    let bits = run_bits size cs in
+    let w = run_width size cs in
+    let long = length-padded size (joined cs 0) large in
+    whole-map size (run_piece size cs) w
+    (λ j lt.
+    let room : size * suc j ≤ size * w = mul-le-mul_left size lt in
+    let e : size * suc j ≡ size * j + size = omega arith in
+    length-take-le size (drop (size * j) bits)
+    (omega (arith, room, e, long, length-drop (size * j) bits)))
+
+pieces_whole : (size : ℕ) (spell : Page → List Bool) (runs : List (List Page)) → 0 < size →
+    AreWhole size (pieces_of size spell runs)
+pieces_whole size spell [] large = tt
+pieces_whole size spell (run ∷ runs) large =
+    whole-append size (run_pieces size (map spell run)) (pieces_of size spell runs)
+    (run_pieces_whole size (map spell run) large) (pieces_whole size spell runs large)
+
+pieces_some : (size : ℕ) (spell : Page → List Bool) (runs : List (List Page)) → 0 < size →
+    0 < length runs → AreRuns size spell runs → 0 < length (pieces_of size spell runs)
+pieces_some size spell [] large some are = absurd (omega (arith, some))
+pieces_some size spell (run ∷ runs) large some are =
+    let cs = map spell run in
+    omega (
+      arith,
+      length-append (run_pieces size cs) (pieces_of size spell runs),
+      length-map-places (run_piece size cs) (run_width size cs),
+      run_width_some size cs large are.1,
+    )
+
+runs_some : (pages run : List Page) → 0 < length (runs_of run pages)
+runs_some [] run = omega arith
+runs_some (page ∷ pages) run =
+    elim (cases_Bool page.follows) [
+      | inl t ↦
+          subst (λ (runs : List (List Page)). 0 < length runs)
+          (sym (runs-follow run page pages t)) (runs_some pages (run ++ page ∷ []))
+      | inr f ↦
+          subst (λ (runs : List (List Page)). 0 < length runs)
+          (sym (runs-begin run page pages f)) (omega arith)
+    ]
+
+-- ---- a cycle
+
+first_laid : (size : ℕ) (c : List Bool) (follow : Bool) → 0 < size → follow ≡ false →
+    laying.laid_on size laying.nothing_laid follow c ≡ under_way [] 0 [] c
+unfolding laying.laid_on
+first_laid size c follow large f =
+    let none : laying.padded_to size [] ≡ [] =
+    nil_from_length (laying.padded_to size [])
+    (length-padded size [] large ∙ ap (λ (n : ℕ). size * n) (no_width size large) ∙ omega arith) in
+    let rows : length (laying.padded_to size []) / size ≡ 0 =
+    whole_rows size 0 (length (laying.padded_to size [])) large (ap length none ∙ omega arith) in
+    rw f (ap (λ (k : ℕ). let x : laying.Laid =
+    record { body = laying.padded_to size [] ++ c; starts = k ∷ [] } in x) rows
+    ∙ ap (λ (l : List Bool). let x : laying.Laid =
+    record { body = l ++ c; starts = 0 ∷ [] } in x) none)
+
+-- a cycle is the half-frames of its runs
+cycle_laid : (size : ℕ) (form : CheckForm) (page : Page) (pages : List Page) → 0 < size →
+    page.follows ≡ false →
+    laying.half_frames_of size (laid_pages size form (page ∷ pages))
+    ≡ stream (pieces_of size (page_capsule form) (runs_of (page ∷ []) pages))
+cycle_laid size form page pages large f =
+    let c = page_capsule form page in
+    let one : c ≡ spelled (page_capsule form) (page ∷ []) = sym (append-nil c) in
+    let none : 0 ≡ size * 0 = omega arith in
+    let rest = stream (pieces_of size (page_capsule form) (runs_of (page ∷ []) pages)) in
+    ap (λ (l : laying.Laid). laying.half_frames_of size
+    (laying.laid_all size l (map (put_of form) pages)))
+    (first_laid size c page.follows large f ∙ ap (under_way [] 0 []) one)
+    ∙ runs_laid size form pages (page ∷ []) [] 0 [] large
+    (omega (arith, length-page form page, ap length one)) tt none
+    ∙ ap (λ (l : List Bool). l ++ rest) (flat_map-zero (laying.half_frame size [] []))
+
+-- how many half-frames it has
+cycle_count : (size : ℕ) (form : CheckForm) (page : Page) (pages : List Page)
+    (cycle : List Bool) → 0 < size → page.follows ≡ false →
+    cycle ≡ laying.half_frames_of size (laid_pages size form (page ∷ pages)) →
+    length cycle / (size + 1)
+    ≡ length (pieces_of size (page_capsule form) (runs_of (page ∷ []) pages))
+cycle_count size form page pages cycle large f is =
+    let pieces = pieces_of size (page_capsule form) (runs_of (page ∷ []) pages) in
+    ap (λ (l : List Bool). length l / (size + 1)) (is ∙ cycle_laid size form page pages large f)
+    ∙ whole_rows (size + 1) (length pieces) (length (stream pieces)) (omega arith)
+    (length-stream size pieces
+    (pieces_whole size (page_capsule form) (runs_of (page ∷ []) pages) large))
+
+-- where its pages lie
+cycle_placed : (size : ℕ) (form : CheckForm) (page : Page) (pages : List Page) → 0 < size →
+    page.follows ≡ false →
+    placed size form 0 0 (page ∷ pages)
+    ≡ placed_runs size (page_capsule form) 0 (runs_of (page ∷ []) pages)
+cycle_placed size form page pages large f =
+    let c = page_capsule form page in
+    let none = no_width size large in
+    let start : (0 + size - 1) / size * size ≡ size * 0 =
+    ap (λ (k : ℕ). k * size) none ∙ omega arith in
+    let own : (0 + size - 1) / size * size / size ≡ 0 =
+    turned_back size ((0 + size - 1) / size) large ∙ none in
+    placed-begins size form 0 0 0 page pages f start own
+    ∙ pages_placed size form pages (page ∷ []) 0 (size * 0 + length c) large
+    (omega (arith, length-append c []))
+
+-- ---- heard from a frame on
+
+-- what is heard of runs that go round
+runs_heard : (size : ℕ) (spell : Page → List Bool) (runs : List (List Page)) (first n rounds : ℕ) →
+    0 < size → AreRuns size spell runs → 0 < length (pieces_of size spell runs) →
+    2 * first + 2 * n ≤ length (pieces_of size spell runs) * rounds →
+    capsules_with_frames size
+    (λ k. cycled (stream (pieces_of size spell runs)) (2 * (size + 1)) (first + k)) n
+    ≡ map (in_frame first)
+    (selected spell (2 * first) (2 * first + 2 * n)
+    (placed_runs size spell 0 (repeated rounds runs)))
+runs_heard size spell runs first n rounds large are some room =
+    let pieces = pieces_of size spell runs in
+    let own = λ (k : ℕ). cycled (stream pieces) (2 * (size + 1)) (first + k) in
+    let low = 2 * first in
+    let cut = λ (l : List Piece). take (2 * n) (drop low l) in
+    let all = repeated rounds runs in
+    let e : 0 + low ≡ low = omega arith in
+    frames_scanned size own (heard_piece pieces first) first n large
+    (cycle_has_frames size pieces first (pieces_whole size spell runs large) some)
+    ∙ ap (λ (l : List Piece). map (in_frame first) (scan size [] low l))
+    (repeated-part rounds pieces low (2 * n) no_piece room
+    ∙ ap cut (sym (flat_map-repeated (λ run. run_pieces size (map spell run)) rounds runs)))
+    ∙ ap (map (in_frame first))
+    (ap (λ (k : ℕ). scan size [] k (cut (pieces_of size spell all))) (sym e)
+    ∙ from_within size spell all 0 low (2 * n) large (repeated_are_runs size spell rounds runs are)
+    ∙ ap (λ (k : ℕ). selected spell k (k + 2 * n) (placed_runs size spell 0 all)) e)
+
+-- round by round
+runs_heard_by_rounds : (size : ℕ) (form : CheckForm) (runs : List (List Page))
+    (first n rounds : ℕ) →
+    0 < size → AreRuns size (page_capsule form) runs →
+    0 < length (pieces_of size (page_capsule form) runs) →
+    2 * first + 2 * n ≤ length (pieces_of size (page_capsule form) runs) * rounds →
+    capsules_with_frames size
+    (λ k. cycled (stream (pieces_of size (page_capsule form) runs)) (2 * (size + 1)) (first + k)) n
+    ≡ flat_map
+    (λ r. map (sending_of form first (length (pieces_of size (page_capsule form) runs) * r))
+    (filter (is_between (2 * first) (2 * first + 2 * n)
+    (length (pieces_of size (page_capsule form) runs) * r))
+    (placed_runs size (page_capsule form) 0 runs)))
+    (places rounds)
+runs_heard_by_rounds size form runs first n rounds large are some room =
+    let spell = page_capsule form in
+    let low = 2 * first in
+    let high = 2 * first + 2 * n in
+    let w = length (pieces_of size spell runs) in
+    let ps = placed_runs size spell 0 runs in
+    let all = flat_map (λ r. map (later (w * r)) ps) (places rounds) in
+    runs_heard size spell runs first n rounds large are some room
+    ∙ ap (λ (l : List Placed). map (in_frame first) (selected spell low high l))
+    (rounds_placed size spell rounds runs large are)
+    ∙ map-map (in_frame first) (told spell) (filter (is_inside low high) all)
+    ∙ rounds_said (λ p. in_frame first (told spell p)) low high rounds w ps
+
+-- a cycle whose half-frames are known
+cycle_heard : (size : ℕ) (form : CheckForm) (page : Page) (pages : List Page)
+    (cycle : List Bool) (first n rounds : ℕ) → 0 < size → AreSendable size 0 (page ∷ pages) →
+    AreHeard size 0 (page ∷ pages) →
+    cycle ≡ laying.half_frames_of size (laid_pages size form (page ∷ pages)) →
+    2 * (first + n) ≤ length cycle / (size + 1) * rounds →
+    capsules_with_frames size (λ k. cycled cycle (2 * (size + 1)) (first + k)) n
+    ≡ flat_map
+    (λ r. map (sending_of form first (length cycle / (size + 1) * r))
+    (filter (is_between (2 * first) (2 * (first + n)) (length cycle / (size + 1) * r))
+    (placed size form 0 0 (page ∷ pages))))
+    (places rounds)
+cycle_heard size form page pages cycle first n rounds large sent heard is room =
+    let spell = page_capsule form in
+    let runs = runs_of (page ∷ []) pages in
+    let pieces = pieces_of size spell runs in
+    let f = first_begins size page pages large heard in
+    let are = first_runs size form page pages large sent heard in
+    let some = pieces_some size spell runs large (runs_some pages (page ∷ [])) are in
+    let same : cycle ≡ stream pieces = is ∙ cycle_laid size form page pages large f in
+    let count = cycle_count size form page pages cycle large f is in
+    let e : 2 * (first + n) ≡ 2 * first + 2 * n = omega arith in
+    let enough : 2 * first + 2 * n ≤ length pieces * rounds =
+    subst (λ (k : ℕ). k ≤ length pieces * rounds) e
+    (subst (λ (k : ℕ). 2 * (first + n) ≤ k * rounds) count room) in
+    let by_rounds = λ (w high : ℕ) (ps : List Placed). flat_map
+    (λ r. map (sending_of form first (w * r)) (filter (is_between (2 * first) high (w * r)) ps))
+    (places rounds) in
+    ap (λ (l : List Bool). capsules_with_frames size
+    (λ k. cycled l (2 * (size + 1)) (first + k)) n) same
+    ∙ runs_heard_by_rounds size form runs first n rounds large are some enough
+    ∙ ap (λ (w : ℕ). by_rounds w (2 * first + 2 * n) (placed_runs size spell 0 runs)) (sym count)
+    ∙ ap (λ (high : ℕ). by_rounds (length cycle / (size + 1)) high (placed_runs size spell 0 runs))
+    (sym e)
+    ∙ ap (by_rounds (length cycle / (size + 1)) (2 * (first + n)))
+    (sym (cycle_placed size form page pages large f))
+
+cycle_is : (rate : Rate) (form : CheckForm) (pages : List Page) →
+    page_cycle rate form pages
+    ≡ laying.half_frames_of (half_frame_body rate) (laid_pages (half_frame_body rate) form pages)
+unfolding page_cycle
+cycle_is rate form pages = refl
+
+pub page_sendings_back : PageSendingsComeBack
+page_sendings_back rate form [] first n rounds are room =
+    let some = are.some in absurd (omega (arith, some))
+page_sendings_back rate form (page ∷ pages) first n rounds are room =
+    cycle_heard (half_frame_body rate) form page pages (page_cycle rate form (page ∷ pages)) first n
+    rounds (size_large rate) are.sendable are.heard (cycle_is rate form (page ∷ pages)) room
+
+-- a cycle has half-frames
+pub cycle_some : (rate : Rate) (form : CheckForm) (pages : List Page) → AreWholePages rate pages →
+    1 ≤ cycle_half_frames rate form pages
+cycle_some rate form [] are = let some = are.some in absurd (omega (arith, some))
+cycle_some rate form (page ∷ pages) are =
+    let size = half_frame_body rate in
+    let large = size_large rate in
+    let f = first_begins size page pages large are.heard in
+    let some = pieces_some size (page_capsule form) (runs_of (page ∷ []) pages) large
+    (runs_some pages (page ∷ []))
+    (first_runs size form page pages large are.sendable are.heard) in
+    let count = cycle_count size form page pages (page_cycle rate form (page ∷ pages)) large f
+    (cycle_is rate form (page ∷ pages)) in
+    omega (arith, count, some)
+
+-- ---- the two tests
+
+-- a run after a mark at the beginning of a frame
+begun_same : (first half : ℕ) → nat_le (2 * first) half ≡ nat_le (24576 * first) (12288 * half)
+begun_same first half =
+    elim (cases_lt half (2 * first)) [
+      | inl less ↦
+          lt-leb (2 * first) half less
+          ∙ sym (lt-leb (24576 * first) (12288 * half) (omega (arith, less)))
+      | inr more ↦
+          le-leb (2 * first) half more
+          ∙ sym (le-leb (24576 * first) (12288 * half) (omega (arith, more)))
+    ]
+
+-- a half-frame of a frame that is there whole
+ended_same : (half frames end_chip : ℕ) → frames ≡ end_chip / 24576 →
+    nat_lt half (2 * frames) ≡ nat_le (24576 * (half / 2 + 1)) end_chip
+ended_same half frames end_chip e =
+    elim (cases_lt half (2 * frames)) [
+      | inl less ↦
+          lt-ltb half (2 * frames) less
+          ∙ sym (le-leb (24576 * (half / 2 + 1)) end_chip (omega (arith, less, e)))
+      | inr more ↦
+          le-ltb half (2 * frames) more
+          ∙ sym (lt-leb (24576 * (half / 2 + 1)) end_chip (omega (arith, more, e)))
+    ]
+
+whole_same : (first frames end_chip x : ℕ) (p : Placed) → frames ≡ end_chip / 24576 →
+    is_between (2 * first) (2 * frames) x p ≡ is_whole_page (24576 * first) end_chip x p
+whole_same first frames end_chip x p e =
+    ap (λ (b : Bool). b && nat_lt (x + p.last) (2 * frames)) (begun_same first (x + p.run))
+    ∙ ap (λ (b : Bool). nat_le (24576 * first) (12288 * (x + p.run)) && b)
+    (ended_same (x + p.last) frames end_chip e)
+
+filter_same : (f g : Placed → Bool) (ps : List Placed) → ((p : Placed) → f p ≡ g p) →
+    filter f ps ≡ filter g ps
+filter_same f g [] same = refl
+filter_same f g (p ∷ ps) same =
+    let here = same p in
+    let rest = filter_same f g ps same in
+    elim (cases_Bool (g p)) [
+      | inl t ↦ let own : f p ≡ true = here ∙ t in
+          rw (own, t) (ap (λ (l : List Placed). p ∷ l) rest)
+      | inr n ↦ let own : f p ≡ false = here ∙ n in rw (own, n) rest
+    ]
+
+-- ---- a mark after the last whole frame
+
+-- a page ends in the half-frame in which its run begins, or later
+abbrev pub EndLater : List Placed → Type 0
+EndLater [] = Unit {0}
+EndLater (p ∷ ps) = (p.run ≤ p.last) × EndLater ps
+
+end_later : (size : ℕ) (form : CheckForm) (at run : ℕ) (pages : List Page) → 0 < size →
+    size * run ≤ at → EndLater (placed size form at run pages)
+end_later size form at run [] large begun = tt
+end_later size form at run (page ∷ pages) large begun =
+    let n = length (page_capsule form page) in
+    let some : 0 < n = omega (arith, length-page form page) in
+    elim (cases_Bool page.follows) [
+      | inl t ↦
+          subst EndLater (sym (placed-follows size form at run page pages t)) (
+            le-div run (at + n - 1) size large (omega (arith, begun, some)),
+            end_later size form (at + n) run pages large (omega (arith, begun)),
+          )
+      | inr f ↦
+          let o = (at + size - 1) / size in
+          let start : o * size ≡ size * o = omega arith in
+          subst EndLater
+          (sym (placed-begins size form at run o page pages f start (turned_back size o large))) (
+            le-div o (size * o + n - 1) size large (omega (arith, some)),
+            end_later size form (size * o + n) o pages large (omega arith),
+          )
+    ]
+
+none_whole : (first end_chip x : ℕ) (ps : List Placed) → end_chip / 24576 ≤ first → EndLater ps →
+    filter (is_whole_page (24576 * first) end_chip x) ps ≡ []
+none_whole first end_chip x [] past are = refl
+none_whole first end_chip x (p ∷ ps) past are =
+    let begun = nat_le (24576 * first) (12288 * (x + p.run)) in
+    let ended = nat_le (24576 * ((x + p.last) / 2 + 1)) end_chip in
+    let order = are.0 in
+    let out : is_whole_page (24576 * first) end_chip x p ≡ false =
+    elim (cases_lt (x + p.run) (2 * first)) [
+      | inl early ↦
+          and_left begun ended
+          (lt-leb (24576 * first) (12288 * (x + p.run)) (omega (arith, early)))
+      | inr late ↦
+          and_right begun ended
+          (lt-leb (24576 * ((x + p.last) / 2 + 1)) end_chip (omega (arith, late, order, past)))
+    ] in
+    rw out (none_whole first end_chip x ps past are.1)
+
+-- ---- the law
+
+-- From frame `first` on a handset hears just the transmissions of pages that are whole. Where the
+-- file ends before that frame there are none. Else the half-frames that it holds end the capsules
+-- that lie between the first and the last of them, and these are the whole ones.
+pub whole_pages_back : WholePagesComeBack
+whole_pages_back rate form pages first end_chip are =
+    let size = half_frame_body rate in
+    let frames = end_chip / 24576 in
+    let n = frames - first in
+    let own = λ (k : ℕ).
+    cycled (page_cycle rate form pages) (paging_frame_size rate) (first + k) in
+    let cycle = cycle_half_frames rate form pages in
+    let ps = placed size form 0 0 pages in
+    let rounds = end_chip / 12288 + 1 in
+    let whole = λ (r : ℕ). map (sending_of form first (cycle * r))
+    (filter (is_whole_page (24576 * first) end_chip (cycle * r)) ps) in
+    elim (cases_lt frames first) [
+      | inl past ↦
+          let none : n ≡ 0 = omega (arith, past) in
+          ap (capsules_with_frames size own) none
+          ∙ flat_map-zero (λ k. map (λ (c : List Bool). (k, c)) (frame_capsules size own k))
+          ∙ sym (flat_map-nothing whole rounds
+          (λ r lt. ap (map (sending_of form first (cycle * r)))
+          (none_whole first end_chip (cycle * r) ps (omega (arith, past))
+          (end_later size form 0 0 pages (size_large rate) (omega arith)))))
+      | inr inside ↦
+          let all : first + n ≡ frames = omega (arith, inside) in
+          let some : rounds * 1 ≤ rounds * cycle =
+          mul-le-mul_left rounds (cycle_some rate form pages are) in
+          let turned : rounds * cycle ≡ cycle * rounds = omega arith in
+          let room : 2 * (first + n) ≤ cycle * rounds = omega (arith, all, some, turned) in
+          page_sendings_back rate form pages first n rounds are room
+          ∙ flat_map_ext_places
+          (λ r. map (sending_of form first (cycle * r))
+          (filter (is_between (2 * first) (2 * (first + n)) (cycle * r)) ps))
+          whole rounds
+          (λ r lt. ap (map (sending_of form first (cycle * r)))
+          (filter_same (is_between (2 * first) (2 * (first + n)) (cycle * r))
+          (is_whole_page (24576 * first) end_chip (cycle * r)) ps
+          (λ p. whole_same first (first + n) end_chip (cycle * r) p all)))
+    ]
+
+-- the pages of a stated channel are such pages
+pub stated_pages : (rate : Rate) (p : PagingPlan) → IsStatedPaging rate p →
+    AreWholePages rate p.pages
+stated_pages rate p is = record { some = is.some; sendable = is.pages; heard = is.heard }

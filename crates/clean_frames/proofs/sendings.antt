@@ -1,0 +1,2 @@
+-- The transmissions of a sync channel.
+pub mod Capsules
