@@ -34,7 +34,7 @@ pub use Rattle.conv_code.specs.ConvCode.{code_symbols, g0, g1, symbol}
 pub use Rattle.frame_decoder.specs.Laws.{IsUnshared, ShowSymbols, frame_codeword, kept_count}
 pub use Rattle.frame_decoder.specs.Signs.{KeepSigns}
 pub use Rattle.frame_decoder.specs.Formats.{bits_in, format_of, score_in}
-pub use Rattle.frame_decoder.specs.declared.formats.FrameFormat.{FrameFormat}
+pub use Rattle.quality_bits.specs.declared.format.FrameFormat.{FrameFormat}
 pub use Rattle.frame_decoder.specs.TrafficFrames.{frame_bits, is_replaced, unreplaced}
 pub use Rattle.frame_decoder.specs.declared.traffic.Decoded.{Decoded}
 pub use Rattle.heard_events.specs.Events.{events}

@@ -42,8 +42,7 @@ pub use Rattle.quality_bits.specs.declared.rate.Rate.{Rate}
 pub use Rattle.quality_bits.specs.declared.rate.Rate.TheVariants.{R1200, R2400, R4800, R9600}
 pub use Rattle.symbol_path.proofs.Agreement.{agreement-gathered, agreement-gathered_by, length-gathered, length-gathered_by}
 pub use Rattle.symbol_path.proofs.Agreement.{length-sent, length-sent_by}
-pub use Rattle.symbol_path.proofs.Gathering.{added_fits, gathered_all, part, part-none, sizes_none, stored_is, sum_has_room}
-pub use Rattle.symbol_path.proofs.Gathering.{turn, turn_sizes}
+pub use Rattle.symbol_path.proofs.Gathering.{added_fits, stored_is}
 pub use Rattle.symbol_path.proofs.Interleaving.{count_is, size_some, symbol_lt}
 pub use Rattle.symbol_path.proofs.Permutation.{address_lt}
 pub use Rattle.symbol_path.proofs.SentOnceTwo.{kept_lt}
@@ -69,6 +68,6 @@ unfoldable pub use Rattle.frame_decoder.specs.Replaced.{unreplaced}
 pub use Rattle.frame_decoder.specs.TrafficFrames.{as_decoded, frame_bits, group_sum, is_up, lower_formats, lower_rates, power_bit}
 pub use Rattle.frame_decoder.specs.TrafficFrames.{summed_subchannels}
 unfoldable pub use Rattle.frame_decoder.specs.TrafficFrames.{decoded}
-pub use Rattle.frame_decoder.specs.declared.formats.FrameFormat.{FrameFormat}
+pub use Rattle.quality_bits.specs.declared.format.FrameFormat.{FrameFormat}
 pub use Rattle.frame_decoder.specs.declared.formats.DecodedFrame.{DecodedFrame}
 pub use Rattle.frame_decoder.specs.declared.traffic.Decoded.{Decoded}

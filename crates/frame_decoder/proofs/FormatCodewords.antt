@@ -10,6 +10,7 @@ use Rattle.frame_decoder.proofs.Common.{Zero, by_definition, FrameFormat, IsForm
 use Rattle.frame_decoder.proofs.Common.{score_in, codeword_in, is_right, length-take-le}
 use Rattle.frame_decoder.proofs.ZeroCodewords.{length-best_zero_codeword, best_zero_codeword-same}
 use Rattle.quality_bits.specs.declared.kind.Kind.{Kind as Check}
+pub use Rattle.quality_bits.proofs.Formats.{bits_least}
 
 -- ---- places
 repeated_lt : (drops : Bool) (i : ℕ) → i < 384 →
@@ -22,9 +23,6 @@ pub place_lt : {R : Type 0} (format : FrameFormat R) (i : ℕ) → IsFormat form
 place_lt format i h lt =
     symbol_lt (if format.drops then repeated_symbol i else address data_shape i) (2 * bits_in format)
     format.repeats (repeated_in format) h.fills (repeated_lt format.drops i lt)
-
-pub bits_least : {R : Type 0} (format : FrameFormat R) → 8 ≤ bits_in format
-bits_least format = omega arith
 
 -- ---- codewords
 pub length-gathered_in : {R : Type 0} (format : FrameFormat R) (softs : List ℤ) →

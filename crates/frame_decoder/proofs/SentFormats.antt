@@ -1,6 +1,6 @@
 -- A sent frame of any rate set comes back, and soft values of 0 give none.
 use Rattle.frame_decoder.proofs.Common.{◌≡◌, ℕ, ◌-◌, ◌*◌, ◌<◌, inl, inr, ⊎_elim, Bool, true, false, List, [], ◌∷◌, ◌++◌, length, map, take}
-use Rattle.frame_decoder.proofs.Common.{drop, replicate, refl, sym, ap, ◌∙◌, arith, ℤ, pos, length-append, append_assoc, ◌≤ℤ◌}
+use Rattle.frame_decoder.proofs.Common.{drop, replicate, refl, sym, ap, ◌∙◌, arith, ℤ, pos, append_assoc, ◌≤ℤ◌}
 use Rattle.frame_decoder.proofs.Common.{int_lt, All, get_or, None, Some, option_map, booleans_Decides, pointwise_decides, cases_Bool}
 use Rattle.frame_decoder.proofs.Common.{take_at, drop_at, length-replicate, All-cons, All-nil, code_symbols, quality_indicator}
 use Rattle.frame_decoder.proofs.Common.{quality_length, length-quality_indicator, Codeword, score_of, IsAllowed, Zero, by_definition}
@@ -8,6 +8,7 @@ use Rattle.frame_decoder.proofs.Common.{zero_codeword_best, FrameFormat, Decoded
 use Rattle.frame_decoder.proofs.Common.{bits_in, symbols_in, score_in, codeword_in, is_right, frame_in, candidate_of, rising_choice}
 use Rattle.frame_decoder.proofs.Common.{not_good, good_or, candidate_in, frame_of, shown_of, Option}
 use Rattle.frame_decoder.proofs.Common.{◌<ℤ◌, zeros_score}
+use Rattle.quality_bits.proofs.Formats.{length-checked, length-format_codeword}
 use Rattle.frame_decoder.proofs.SignedScores.{agree_left, own_some, shown_keep, shown_score}
 use Rattle.frame_decoder.specs.Signs.{DecodesBySigns, KeepSigns}
 use Rattle.frame_decoder.specs.Laws.{DecodesSentFrames, IsUnsharedIn, good_frame, sent_codeword}
@@ -56,17 +57,10 @@ pub codeword_allowed : {R : Type 0} (format : FrameFormat R) (information : List
     length information ≡ format.information →
     IsAllowed Zero (bits_in format) (sent_codeword format information)
 codeword_allowed format information long =
-    let indicator = quality_indicator format.quality information in
-    let front = information ++ indicator in
-    let size : length front ≡ bits_in format - 8 =
-    omega (
-      arith,
-      length-append information indicator,
-      length-quality_indicator format.quality information,
-      long,
-    ) in
+    let front = information ++ quality_indicator format.quality information in
+    let size : length front ≡ bits_in format - 8 = omega (arith, length-checked format information long) in
     let all : length (front ++ replicate 8 false) ≡ bits_in format =
-    length-append front (replicate 8 false) ∙ omega (arith, size, bits_least format) in
+    length-format_codeword format information long in
     record {
       start_long = refl;
       bits_long = all;

@@ -1,7 +1,7 @@
--- The frames of a traffic channel, whatever its rate set: each rate has a format that says what its
--- frames are made of. How well codewords agree with soft values, and the choice among the
--- candidates of the rates.
-use Rattle.std.specs.Prelude.{◌≡◌, ℕ, ◌+◌, ◌*◌, ◌/◌, ◌≤◌, Bool, false, if◌then◌else◌, List, [], ◌∷◌}
+-- What is decoded of the frames of a traffic channel, whatever its rate set, by the formats of its
+-- rates: how well codewords agree with soft values, and the choice among the candidates of the
+-- rates.
+use Rattle.std.specs.Prelude.{ℕ, Bool, false, if◌then◌else◌, List, [], ◌∷◌}
 use Rattle.std.specs.Prelude.{map, take, drop, ℤ, pos, int_lt, Option, None, Some}
 use Rattle.std.specs.List.{find}
 use Rattle.std.specs.Option.{option_map}
@@ -9,55 +9,20 @@ use Rattle.std.specs.Cmp.Lexicographic.{pointwise}
 use Rattle.std.proofs.Math.Bool.{beq}
 use Rattle.conv_code.specs.ConvCode.{code_symbols}
 use Rattle.quality_bits.specs.Kinds.{quality_indicator, quality_length}
-use Rattle.quality_bits.specs.TrafficCodewords.{repeats_of, information_of, quality_of}
-use Rattle.quality_bits.specs.declared.rate.Rate.{Rate}
-use Rattle.symbol_path.specs.SentOrder.{data_shape, address, sent_by, gathered_by}
-use Rattle.symbol_path.specs.SentOrderTwo.{repeated_symbol}
+use Rattle.quality_bits.specs.declared.format.FrameFormat.{FrameFormat}
+pub use Rattle.quality_bits.specs.Formats.{IsFormat, bits_in, repeated_in}
+pub use Rattle.quality_bits.specs.TrafficCodewords.{format_of}
+use Rattle.symbol_path.specs.SentOrder.{sent_by}
+pub use Rattle.symbol_path.specs.FormatSymbols.{place_in, gathered_in}
 use Rattle.viterbi.specs.Codewords.{Codeword, correlation, best_codeword}
 use Rattle.viterbi.specs.declared.codeword.Ends.TheVariants.{Zero}
 use Rattle.frame_decoder.specs.Replaced.{unreplaced}
-use Rattle.frame_decoder.specs.declared.formats.FrameFormat.{FrameFormat}
 use Rattle.frame_decoder.specs.declared.formats.DecodedFrame.{DecodedFrame}
-
--- ---- what a format's frames are made of
--- how many bits a frame has: its information, its quality indicator, and eight tail bits
-abbrev pub bits_in : {R : Type 0} → FrameFormat R → ℕ
-bits_in format = format.information + quality_length format.quality + 8
-
--- how many repeated symbols it has, before any are dropped
-abbrev pub repeated_in : {R : Type 0} → FrameFormat R → ℕ
-repeated_in format = if format.drops then 576 else 384
-
--- two code symbols a bit, each repeated so often, are all of them; and some bit is information
-pub record IsFormat {R : Type 0} (format : FrameFormat R) : Type 0 where
-  pub fills : 2 * bits_in format * format.repeats ≡ repeated_in format
-  pub some : 1 ≤ format.repeats
-  pub most : bits_in format ≤ 288
-  pub told : 1 ≤ format.information
-
--- the formats of rate set 1
-abbrev pub format_of : Rate → FrameFormat Rate
-format_of rate = record {
-  rate = rate;
-  information = information_of rate;
-  quality = quality_of rate;
-  repeats = repeats_of rate;
-  drops = false;
-}
-
--- which code symbol a frame sends as symbol i
-abbrev pub place_in : {R : Type 0} → FrameFormat R → ℕ → ℕ
-place_in format i =
-    (if format.drops then repeated_symbol i else address data_shape i) / format.repeats
 
 -- ---- codewords and soft values
 -- a codeword's symbols as a frame of the format sends them
 abbrev pub symbols_in : {R : Type 0} → FrameFormat R → Codeword → List Bool
 symbols_in format w = sent_by (place_in format) 384 (code_symbols w.start w.bits)
-
--- for each code symbol the sum of the soft values of the symbols that are sent for it
-abbrev pub gathered_in : {R : Type 0} → FrameFormat R → List ℤ → List ℤ
-gathered_in format softs = gathered_by (place_in format) 384 (2 * bits_in format) softs
 
 -- how well a codeword's symbols agree with the soft values
 abbrev pub score_in : {R : Type 0} → List ℤ → FrameFormat R → Codeword → ℤ

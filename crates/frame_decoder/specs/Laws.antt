@@ -1,17 +1,17 @@
 -- The laws of frames.
-use Rattle.std.specs.Prelude.{◌≡◌, ℕ, ◌*◌, ◌<◌, Bool, true, false, not, List, ◌++◌, length}
+use Rattle.std.specs.Prelude.{◌≡◌, ℕ, ◌*◌, ◌<◌, Bool, true, false, not, List, length}
 use Rattle.std.specs.Prelude.{filter, get_or, replicate, ℤ, pos, ◌*ℤ◌}
 use Rattle.chip_core.specs.Bits.{places, sign}
 use Rattle.conv_code.specs.ConvCode.{code_symbols}
 use Rattle.symbol_path.specs.SentOrder.{sent}
-use Rattle.quality_bits.specs.Kinds.{quality_indicator}
+use Rattle.quality_bits.specs.Formats.{format_codeword}
 use Rattle.quality_bits.specs.declared.rate.Rate.{Rate}
 use Rattle.quality_bits.specs.declared.rate.Rate.TheVariants.{R9600}
 use Rattle.viterbi.specs.Best.{IsAllowed}
 use Rattle.viterbi.specs.Codewords.{Codeword, correlation, best_codeword}
 use Rattle.viterbi.specs.declared.codeword.Ends.TheVariants.{Zero, Free}
 use Rattle.frame_decoder.specs.Spans.{Channel, own_bits}
-use Rattle.frame_decoder.specs.declared.formats.FrameFormat.{FrameFormat}
+use Rattle.quality_bits.specs.declared.format.FrameFormat.{FrameFormat}
 use Rattle.frame_decoder.specs.declared.formats.DecodedFrame.{DecodedFrame}
 use Rattle.frame_decoder.specs.Formats.{bits_in, format_of, symbols_in}
 use Rattle.frame_decoder.specs.TrafficFrames.{is_replaced, as_decoded, decoded}
@@ -34,7 +34,7 @@ IsOneFrame =
 abbrev pub sent_codeword : {R : Type 0} → FrameFormat R → List Bool → Codeword
 sent_codeword format information = record {
   start = replicate 8 false;
-  bits = information ++ quality_indicator format.quality information ++ replicate 8 false;
+  bits = format_codeword format information;
 }
 
 -- soft values that are a number times the signs of symbols at the places that aren't replaced
@@ -80,6 +80,17 @@ DecodesSentFrames {R} format_of shown decoded =
     decoded replaced softs
     ≡ shown (good_frame rate information (pos (strength * kept_count replaced)))
 
+-- where all soft values are 0, no frame is good, and the bits are zeros
+abbrev pub DecodesNothing : {R D : Type 0} → FrameFormat R → (DecodedFrame R → D) →
+    (List ℕ → List ℤ → D) → Type 0
+DecodesNothing highest shown decoded =
+    (replaced : List ℕ) → decoded replaced (replicate 384 (pos 0)) ≡ shown (record {
+      rate = highest.rate;
+      good = false;
+      bits = replicate highest.information false;
+      score = pos 0;
+    })
+
 -- ---- those of rate set 1
 abbrev pub frame_codeword : Rate → List Bool → Codeword
 frame_codeword rate information = sent_codeword (format_of rate) information
@@ -90,12 +101,5 @@ IsUnshared = IsUnsharedIn format_of
 abbrev pub IsSentFrameDecoded : Type 0
 IsSentFrameDecoded = DecodesSentFrames format_of as_decoded decoded
 
--- where all soft values are 0, no frame is good, and the bits are zeros
 abbrev pub IsNothingGood : Type 0
-IsNothingGood =
-    (replaced : List ℕ) → decoded replaced (replicate 384 (pos 0)) ≡ record {
-      rate = R9600;
-      good = false;
-      bits = replicate 172 false;
-      score = pos 0;
-    }
+IsNothingGood = DecodesNothing (format_of R9600) as_decoded decoded

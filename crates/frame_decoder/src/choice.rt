@@ -5,10 +5,10 @@ ghost use Rattle.std.specs.Prelude.{sum_by, unsigned_abs};
 ghost use Rattle.frame_decoder.specs.Formats.{IsFormat, better, bits_in, candidate_in, preferred};
 ghost use Rattle.frame_decoder.specs.Formats.{rising_choice, frame_in, frame_of, good_or, is_right};
 
-use crate::formats::{DecodedFrame, FrameFormat, ScoredCodeword};
+use crate::formats::{DecodedFrame, ScoredCodeword, best_codeword, frame_in, is_right};
 use crate::frame_softs::FrameSofts;
 use crate::replaced::without_power_bits;
-use symbol_path::PowerPlaces;
+use symbol_path::{FrameFormat, PowerPlaces};
 use viterbi::Decoder;
 
 /// The frame of the greater score, and the first where both are equal.
@@ -62,7 +62,7 @@ pub fn good_or<R: Copy>(
     DecodedFrame {
         good: false,
         score,
-        ..highest.frame(&codeword.bits, score)
+        ..frame_in(highest, &codeword.bits, score)
     }
 }
 
@@ -74,8 +74,8 @@ fn candidate<R: Copy>(format: &FrameFormat<R>, codeword: &ScoredCodeword) -> Opt
         (if is_right format.now codeword.now.bits then
         Some (frame_in format.now codeword.now.bits codeword.now.score) else None) }
 {
-    if format.is_right(&codeword.bits) {
-        Some(format.frame(&codeword.bits, codeword.score))
+    if is_right(format, &codeword.bits) {
+        Some(frame_in(format, &codeword.bits, codeword.score))
     } else {
         None
     }
@@ -95,7 +95,7 @@ fn best_candidate<R: Copy>(
 {
     let mut best = None;
     for format in formats {
-        let codeword = format.best_codeword(decoder, softs);
+        let codeword = best_codeword(format, decoder, softs);
         best = preferred(candidate(format, &codeword), best);
     }
     best
@@ -128,7 +128,7 @@ pub fn frame_of<R: Copy>(
 {
     let kept = without_power_bits(softs, places);
     let best = best_candidate(decoder, lower, &kept);
-    let codeword = highest.best_codeword(decoder, &kept);
+    let codeword = best_codeword(highest, decoder, &kept);
     let best = preferred(candidate(highest, &codeword), best);
     good_or(highest, &codeword, best)
 }

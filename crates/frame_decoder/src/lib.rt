@@ -21,10 +21,11 @@ mod span_format;
 mod traffic;
 
 pub use choice::{frame_of, good_or, preferred};
-pub use formats::{DecodedFrame, FrameFormat, ScoredCodeword};
+pub use formats::{DecodedFrame, ScoredCodeword, frame_in, is_right};
 pub use frame_softs::FrameSofts;
 pub use power::{GroupSums, PowerSofts, commands};
 pub use replaced::without_power_bits;
 pub use span::{paging_span, span_bits, sync_span};
 pub use span_format::FrameKind;
-pub use traffic::{Decoded, format_of, traffic_frame};
+pub use symbol_path::{FrameFormat, format_of};
+pub use traffic::{Decoded, traffic_frame};

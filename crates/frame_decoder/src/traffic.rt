@@ -1,14 +1,13 @@
 //! The frames of traffic channels of rate set 1.
 
 ghost use Rattle.std.specs.Prelude.{◌≡◌, ◌≤◌, ◌^◌, sum_by, unsigned_abs};
-ghost use Rattle.frame_decoder.specs.Formats.{IsFormat, format_of};
 ghost use Rattle.frame_decoder.specs.TrafficFrames.{decoded};
 
 use crate::choice::frame_of;
-use crate::formats::FrameFormat;
+use crate::formats::DecodedFrame;
 use crate::frame_softs::FrameSofts;
 use chip_core::Bits;
-use symbol_path::{PowerPlaces, Rate};
+use symbol_path::{PowerPlaces, Rate, format_of};
 use viterbi::Decoder;
 
 /// What is decoded of a traffic frame.
@@ -24,17 +23,19 @@ pub struct Decoded {
     pub score: i64,
 }
 
-/// What the frames of a rate of rate set 1 are made of (TIA/EIA-95-B, 7.1.3.1.4 and 7.1.3.5).
-pub fn format_of(rate: Rate) -> FrameFormat<Rate>
-    ensures value { result ≡ format_of rate }
-    ensures format { IsFormat result }
-{
-    FrameFormat {
-        rate,
-        information: rate.information_bits(),
-        quality: rate.quality(),
-        repeats: rate.repeats(),
-        drops: false,
+impl Decoded {
+    ghost use Rattle.frame_decoder.specs.TrafficFrames.{as_decoded};
+
+    /// A frame of rate set 1 by its format, as it is shown.
+    pub fn of_frame(frame: &DecodedFrame<Rate>) -> Decoded
+        ensures { result ≡ as_decoded frame.now }
+    {
+        Decoded {
+            rate: frame.rate,
+            good: frame.good,
+            bits: frame.bits,
+            score: frame.score,
+        }
     }
 }
 
@@ -56,16 +57,11 @@ pub fn traffic_frame(decoder: &mut Decoder, softs: &FrameSofts, places: &PowerPl
     ensures value { result ≡ decoded places.now softs.now }
     ensures kept { decoder.new ≡ decoder.old }
 {
+    let highest = format_of(Rate::R9600);
     let lower = [
         format_of(Rate::R1200),
         format_of(Rate::R2400),
         format_of(Rate::R4800),
     ];
-    let frame = frame_of(decoder, &format_of(Rate::R9600), &lower, softs, places);
-    Decoded {
-        rate: frame.rate,
-        good: frame.good,
-        bits: frame.bits,
-        score: frame.score,
-    }
+    Decoded::of_frame(&frame_of(decoder, &highest, &lower, softs, places))
 }

@@ -10,7 +10,7 @@ use Rattle.quality_bits.specs.declared.rate.Rate.{Rate}
 use Rattle.viterbi.specs.Codewords.{Codeword, score_of, codeword_count, codeword_at, best_codeword}
 use Rattle.viterbi.specs.Best.{IsAllowed}
 use Rattle.viterbi.specs.declared.codeword.Ends.TheVariants.{Zero}
-use Rattle.frame_decoder.specs.declared.formats.FrameFormat.{FrameFormat}
+use Rattle.quality_bits.specs.declared.format.FrameFormat.{FrameFormat}
 use Rattle.frame_decoder.specs.Formats.{IsFormat, bits_in, score_in, codeword_in, gathered_in}
 use Rattle.frame_decoder.proofs.FormatCodewords.{bits_least, gathered_score, length-gathered_in}
 use Rattle.list_viterbi.specs.First.{AreFirst, HaveScores, first_codewords, codeword_of}

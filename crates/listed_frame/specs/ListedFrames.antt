@@ -5,7 +5,7 @@ use Rattle.quality_bits.specs.declared.rate.Rate.{Rate}
 use Rattle.quality_bits.specs.declared.rate.Rate.TheVariants.{R9600, R4800, R2400, R1200}
 use Rattle.viterbi.specs.Codewords.{Codeword}
 use Rattle.viterbi.specs.declared.codeword.Ends.TheVariants.{Zero}
-use Rattle.frame_decoder.specs.declared.formats.FrameFormat.{FrameFormat}
+use Rattle.quality_bits.specs.declared.format.FrameFormat.{FrameFormat}
 use Rattle.frame_decoder.specs.declared.formats.DecodedFrame.{DecodedFrame}
 use Rattle.frame_decoder.specs.declared.traffic.Decoded.{Decoded}
 use Rattle.frame_decoder.specs.Formats.{format_of, bits_in, score_in, codeword_in, candidate_of}

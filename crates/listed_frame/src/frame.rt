@@ -9,11 +9,11 @@ ghost use Rattle.list_viterbi.specs.First.{codeword_of};
 ghost use Rattle.listed_frame.specs.ListedFrames.{codewords_in, listed};
 
 use frame_decoder::{
-    Decoded, DecodedFrame, FrameFormat, FrameSofts, ScoredCodeword, format_of, good_or, preferred,
+    Decoded, DecodedFrame, FrameSofts, ScoredCodeword, frame_in, good_or, is_right, preferred,
     without_power_bits,
 };
 use list_viterbi::{Codewords, ListDecoder};
-use symbol_path::{PowerPlaces, REPEATED_SYMBOLS, Rate};
+use symbol_path::{FrameFormat, PowerPlaces, REPEATED_SYMBOLS, Rate, format_of, gather_frame_into};
 use viterbi::Ends;
 
 /// The first codewords of a rate, for a frame's soft values in the sent order.
@@ -36,7 +36,7 @@ fn codewords_in(
 {
     let mut sums = [0; REPEATED_SYMBOLS];
     let code = &mut sums[..format.code_symbols()];
-    format.gather_into(softs, code);
+    gather_frame_into(format, softs, code);
     let mut codewords = Codewords::empty();
     decoder.list_into(code, Ends::Zero, k, &mut codewords);
     codewords
@@ -51,8 +51,8 @@ fn candidate(format: &FrameFormat<Rate>, codewords: &Codewords) -> Option<Decode
 {
     for i in 0..codewords.len() {
         let entry = codewords.get(i);
-        if format.is_right(&entry.word.bits) {
-            return Some(format.frame(&entry.word.bits, entry.score));
+        if is_right(format, &entry.word.bits) {
+            return Some(frame_in(format, &entry.word.bits, entry.score));
         }
     }
     None

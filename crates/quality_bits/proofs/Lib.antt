@@ -8,4 +8,5 @@ pub mod Ends
 pub mod Streams
 pub mod Wholes
 pub mod Marked
+pub mod Formats
 pub mod TrafficCodewords

@@ -1,6 +1,7 @@
 -- The modules of definitions of `quality_bits`.
 pub mod Capsules
 pub mod Faults
+pub mod Formats
 pub mod Kinds
 pub mod Pieces
 pub mod Quality

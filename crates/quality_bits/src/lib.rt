@@ -1,11 +1,13 @@
 //! Frame quality indicators and the checks of messages (TIA/EIA-95-B, 7.1.3.5 and 7.7):
 //! remainders of the bits, as a polynomial over the field of two elements, by a fixed generator.
 //! And the capsules of messages, which end with one, with the faults of messages, and the framer
-//! that cuts them out of whole frames; and the rates of frames, with what a frame of each has.
+//! that cuts them out of whole frames; and the formats of frames, a row for each rate, with those of
+//! rate set 1.
 #![tactic(auto)]
 
 mod capsule;
 mod checking;
+mod format;
 mod framer;
 mod kind;
 pub mod laws;
@@ -16,9 +18,10 @@ mod register;
 
 pub use capsule::{CapsuleFault, body_count, body_of, capsule_of, stated_length};
 pub use checking::{append_check, check};
+pub use format::{FrameFormat, REPEATED_SYMBOLS};
 pub use framer::CapsuleFramer;
 pub use kind::Kind;
 pub use message_fault::MessageFault;
 pub use open_capsule::OpenCapsule;
-pub use rate::Rate;
+pub use rate::{Rate, format_of};
 pub use register::Register;

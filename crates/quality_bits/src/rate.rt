@@ -1,7 +1,10 @@
 //! The rates of rate set 1, and what a frame of each has.
 
 ghost use Rattle.std.specs.Prelude.{◌≡◌, ◌*◌, ◌≤◌};
+ghost use Rattle.quality_bits.specs.Formats.{IsFormat};
+ghost use Rattle.quality_bits.specs.TrafficCodewords.{format_of};
 
+use crate::format::FrameFormat;
 use crate::kind::Kind;
 use chip_core::air::{DATA_SYMBOLS, FRAME_BITS};
 
@@ -23,18 +26,12 @@ pub enum Rate {
 impl Rate {
     ghost use Rattle.quality_bits.specs.TrafficCodewords.{repeats_of, information_of, quality_of};
 
-    /// How often each code symbol is sent: 1, 2, 4 or 8 times.
-    pub fn repeats(&self) -> u8
-        ensures value { result ≡ repeats_of self.now }
-        ensures some { 1 ≤ result }
-        ensures most { result ≤ 8 }
+    /// How many information bits a frame of a traffic channel has: 172, 80, 40 or 16
+    /// (TIA/EIA-95-B, 7.1.3.5).
+    pub fn information_bits(&self) -> u16
+        ensures { result ≡ information_of self.now }
     {
-        match self {
-            Rate::R9600 => 1,
-            Rate::R4800 => 2,
-            Rate::R2400 => 4,
-            Rate::R1200 => 8,
-        }
+        format_of(*self).information
     }
 
     /// How many bits a second are sent, frame quality indicators and encoder tails included.
@@ -52,6 +49,14 @@ impl Rate {
         FRAME_BITS / u16::from(self.repeats())
     }
 
+    /// The quality indicator of the frames of a traffic channel; `None` at the two lower rates,
+    /// whose frames have none (7.1.3.5).
+    pub fn quality(&self) -> Option<Kind>
+        ensures { result ≡ quality_of self.now }
+    {
+        format_of(*self).quality
+    }
+
     /// How many code symbols a frame has, two to a bit: 384, 192, 96 or 48.
     pub fn code_symbols(&self) -> u16
         ensures { result * repeats_of self.now ≡ 384 }
@@ -59,28 +64,25 @@ impl Rate {
         DATA_SYMBOLS as u16 / u16::from(self.repeats())
     }
 
-    /// How many information bits a frame of a traffic channel has: 172, 80, 40 or 16
-    /// (TIA/EIA-95-B, 7.1.3.5).
-    pub fn information_bits(&self) -> u16
-        ensures { result ≡ information_of self.now }
+    /// How often each code symbol is sent: 1, 2, 4 or 8 times.
+    pub fn repeats(&self) -> u8
+        ensures value { result ≡ repeats_of self.now }
+        ensures some { 1 ≤ result }
+        ensures most { result ≤ 8 }
     {
-        match self {
-            Rate::R9600 => 172,
-            Rate::R4800 => 80,
-            Rate::R2400 => 40,
-            Rate::R1200 => 16,
-        }
+        format_of(*self).repeats
     }
+}
 
-    /// The quality indicator of the frames of a traffic channel; `None` at the two lower rates,
-    /// whose frames have none (7.1.3.5).
-    pub fn quality(&self) -> Option<Kind>
-        ensures { result ≡ quality_of self.now }
-    {
-        match self {
-            Rate::R9600 => Some(Kind::Q12),
-            Rate::R4800 => Some(Kind::Q8),
-            Rate::R2400 | Rate::R1200 => None,
-        }
+/// What the frames of a rate of rate set 1 are made of (TIA/EIA-95-B, 7.1.3.1.4 and 7.1.3.5).
+pub fn format_of(rate: Rate) -> FrameFormat<Rate>
+    ensures value { result ≡ format_of rate }
+    ensures format { IsFormat result }
+{
+    match rate {
+        Rate::R9600 => FrameFormat::new(rate, 172, Some(Kind::Q12), 1, false),
+        Rate::R4800 => FrameFormat::new(rate, 80, Some(Kind::Q8), 2, false),
+        Rate::R2400 => FrameFormat::new(rate, 40, None, 4, false),
+        Rate::R1200 => FrameFormat::new(rate, 16, None, 8, false),
     }
 }

@@ -1,12 +1,12 @@
--- The formats of the rates.
-use Rattle.std.proofs.Common.{refl, arith}
+-- The rates of rate set 2 among one another.
+use Rattle.std.proofs.Common.{[], ◌∷◌, ◌++◌, refl}
 use Rattle.symbol_path.specs.declared.rate_two.Rate2.{Rate2}
 use Rattle.symbol_path.specs.declared.rate_two.Rate2.TheVariants.{R14400, R7200, R3600, R1800}
-use Rattle.frame_decoder.specs.Formats.{IsFormat}
-use Rattle.rate_set_two.specs.TrafficFrames.{format_of2}
+use Rattle.frame_decoder.proofs.FormatChoice.{IsAmong}
+use Rattle.rate_set_two.specs.TrafficFrames.{lower_rates2}
 
-pub is_format : (rate : Rate2) → IsFormat (format_of2 rate)
-is_format R14400 = record { fills = refl; some = omega arith; most = omega arith; told = omega arith }
-is_format R7200 = record { fills = refl; some = omega arith; most = omega arith; told = omega arith }
-is_format R3600 = record { fills = refl; some = omega arith; most = omega arith; told = omega arith }
-is_format R1800 = record { fills = refl; some = omega arith; most = omega arith; told = omega arith }
+pub among : (rate : Rate2) → IsAmong rate (lower_rates2 ++ R14400 ∷ [])
+among R14400 = record { before = R1800 ∷ R3600 ∷ R7200 ∷ []; after = []; parted = refl }
+among R7200 = record { before = R1800 ∷ R3600 ∷ []; after = R14400 ∷ []; parted = refl }
+among R3600 = record { before = R1800 ∷ []; after = R7200 ∷ R14400 ∷ []; parted = refl }
+among R1800 = record { before = []; after = R3600 ∷ R7200 ∷ R14400 ∷ []; parted = refl }

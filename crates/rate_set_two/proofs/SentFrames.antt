@@ -1,17 +1,10 @@
 -- A sent frame is decoded.
-use Rattle.std.proofs.Common.{[], ◌∷◌, ◌++◌, refl}
-use Rattle.symbol_path.specs.declared.rate_two.Rate2.{Rate2}
-use Rattle.symbol_path.specs.declared.rate_two.Rate2.TheVariants.{R14400, R7200, R3600, R1800}
-use Rattle.frame_decoder.proofs.FormatChoice.{IsAmong}
+use Rattle.std.proofs.Common.{refl}
+use Rattle.symbol_path.specs.declared.rate_two.Rate2.TheVariants.{R14400}
 use Rattle.frame_decoder.proofs.SentFormats.{shown_decoded, signs_decoded}
 use Rattle.rate_set_two.specs.TrafficFrames.{format_of2, as_decoded2, lower_rates2, decoded2}
 use Rattle.rate_set_two.specs.Laws.{IsDecodedBySigns2, IsSentFrameDecoded2}
-
-among : (rate : Rate2) → IsAmong rate (lower_rates2 ++ R14400 ∷ [])
-among R14400 = record { before = R1800 ∷ R3600 ∷ R7200 ∷ []; after = []; parted = refl }
-among R7200 = record { before = R1800 ∷ R3600 ∷ []; after = R14400 ∷ []; parted = refl }
-among R3600 = record { before = R1800 ∷ []; after = R7200 ∷ R14400 ∷ []; parted = refl }
-among R1800 = record { before = []; after = R3600 ∷ R7200 ∷ R14400 ∷ []; parted = refl }
+use Rattle.rate_set_two.proofs.RateFormats.{among}
 
 pub signs_frame : IsDecodedBySigns2
 unfolding decoded2

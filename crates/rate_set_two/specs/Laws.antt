@@ -1,8 +1,8 @@
 -- The laws of frames.
-use Rattle.std.specs.Prelude.{◌≡◌, ℕ, Bool, true, false, List, length, replicate, ℤ, pos}
+use Rattle.std.specs.Prelude.{◌≡◌, ℕ, Bool, true, List, length, ℤ}
 use Rattle.chip_core.specs.Agreement.{agreement}
 use Rattle.viterbi.specs.Codewords.{Codeword}
-use Rattle.frame_decoder.specs.Laws.{DecodesSentFrames, IsUnsharedIn}
+use Rattle.frame_decoder.specs.Laws.{DecodesNothing, DecodesSentFrames, IsUnsharedIn}
 use Rattle.frame_decoder.specs.Signs.{DecodesBySigns}
 use Rattle.symbol_path.specs.declared.rate_two.Rate2.{Rate2}
 use Rattle.symbol_path.specs.declared.rate_two.Rate2.TheVariants.{R14400}
@@ -41,10 +41,4 @@ IsDecodedBySigns2 = DecodesBySigns format_of2 as_decoded2 decoded2
 
 -- where all soft values are 0, no frame is good, and the bits are zeros
 abbrev pub IsNothingGood2 : Type 0
-IsNothingGood2 =
-    (replaced : List ℕ) → decoded2 replaced (replicate 384 (pos 0)) ≡ record {
-      rate = R14400;
-      good = false;
-      bits = replicate 268 false;
-      score = pos 0;
-    }
+IsNothingGood2 = DecodesNothing (format_of2 R14400) as_decoded2 decoded2

@@ -4,13 +4,6 @@ ghost use Rattle.symbol_path.specs.SentOrderTwo.{IsKeptOnce, IsDropped};
 ghost use Rattle.rate_set_two.specs.Laws.{IsDecodedBySigns2, IsNothingGood2, IsSentFrameDecoded2};
 ghost use Rattle.rate_set_two.specs.Laws.{KeepsAgreement};
 
-/// A frame sends each of its repeated symbols exactly once, but for the third and the fifth of each
-/// six, which it doesn't send.
-pub fn third_and_fifth_are_dropped()
-    ensures kept { IsKeptOnce }
-    ensures dropped { IsDropped }
-{}
-
 /// Gathered soft values agree with code symbols exactly as well as the soft values agree with what
 /// is sent for them.
 pub fn gathering_keeps_agreement()
@@ -24,8 +17,15 @@ pub fn sent_frame_is_decoded()
     ensures { IsSentFrameDecoded2 }
 {}
 
-/// So it does where they have the symbols' signs and none is 0, whatever their sizes: its score is
-/// what they add up to.
+/// A frame sends each of its repeated symbols exactly once, but for the third and the fifth of each
+/// six, which it doesn't send.
+pub fn third_and_fifth_are_dropped()
+    ensures kept { IsKeptOnce }
+    ensures dropped { IsDropped }
+{}
+
+/// A frame comes back too where the soft values have the symbols' signs and none is 0, whatever
+/// their sizes: its score is what they add up to.
 pub fn sent_frame_is_decoded_by_signs()
     ensures { IsDecodedBySigns2 }
 {}

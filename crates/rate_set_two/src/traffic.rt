@@ -1,12 +1,11 @@
 //! What is decoded of a frame.
 
 ghost use Rattle.std.specs.Prelude.{◌≡◌, ◌≤◌, ◌^◌, sum_by, unsigned_abs};
-ghost use Rattle.frame_decoder.specs.Formats.{IsFormat};
-ghost use Rattle.rate_set_two.specs.TrafficFrames.{format_of2, decoded2};
+ghost use Rattle.rate_set_two.specs.TrafficFrames.{decoded2};
 
 use chip_core::Bits;
-use frame_decoder::{FrameFormat, FrameSofts, frame_of};
-use symbol_path::{PowerPlaces, Rate2};
+use frame_decoder::{FrameSofts, frame_of};
+use symbol_path::{PowerPlaces, Rate2, format_of2};
 use viterbi::Decoder;
 
 /// What is decoded of a frame.
@@ -21,20 +20,6 @@ pub struct Decoded2 {
     /// How well the best candidate's symbols agree with the soft values, and where there is none
     /// those of the best codeword at 14,400 bits a second.
     pub score: i64,
-}
-
-/// What the frames of a rate are made of.
-fn format_of(rate: Rate2) -> FrameFormat<Rate2>
-    ensures value { result ≡ format_of2 rate }
-    ensures format { IsFormat result }
-{
-    FrameFormat {
-        rate,
-        information: rate.information_bits(),
-        quality: Some(rate.quality()),
-        repeats: rate.repeats(),
-        drops: true,
-    }
 }
 
 /// What is decoded of a frame of rate set 2.
@@ -53,11 +38,11 @@ pub fn traffic2_frame(decoder: &mut Decoder, softs: &FrameSofts, places: &PowerP
     ensures kept { decoder.new ≡ decoder.old }
 {
     let lower = [
-        format_of(Rate2::R1800),
-        format_of(Rate2::R3600),
-        format_of(Rate2::R7200),
+        format_of2(Rate2::R1800),
+        format_of2(Rate2::R3600),
+        format_of2(Rate2::R7200),
     ];
-    let frame = frame_of(decoder, &format_of(Rate2::R14400), &lower, softs, places);
+    let frame = frame_of(decoder, &format_of2(Rate2::R14400), &lower, softs, places);
     Decoded2 {
         rate: frame.rate,
         good: frame.good,

@@ -1,19 +1,19 @@
 -- What the proofs of this crate cite of what lies below, and of its own definitions, passed on from one place.
 pub use Rattle.std.proofs.Common.{Bool, List, Some, [], add-one, ap, arith, below_more, cond, false, get_or, inl, inr, length}
-pub use Rattle.std.proofs.Common.{length-append, map, nat_eq, nat_lt, not, pos, refl, replicate, reverse, set, subst, suc, sym, take, true}
+pub use Rattle.std.proofs.Common.{map, nat_eq, nat_lt, not, pos, refl, replicate, reverse, rules, set, subst, suc, sym, take, true}
 pub use Rattle.std.proofs.Common.{zero, zero-add, ℕ, ℤ, ⊎_elim, ◌%◌, ◌&&◌, ◌*◌, ◌++◌, ◌+ℤ◌, ◌+◌, ◌-◌, ◌/◌, ◌<◌, ◌^◌, ◌||◌, ◌∙◌, ◌∷◌, ◌≡◌}
 pub use Rattle.std.proofs.Common.{◌≢◌, ◌≤◌, ◌⊎◌}
 pub use Rattle.std.proofs.Math.Nat.{div-eq_of_eq-mul_left}
 pub use Rattle.std.proofs.lemmas.Bool.{agree_below, agree_below_at, and_parts, cases_eq, cases_lt, eq-eqb, eqb-true, ltb-true, ne_eqb}
 pub use Rattle.std.proofs.lemmas.Int.{fits_signed_from_abs, ints, to_z-of_z}
-pub use Rattle.std.proofs.lemmas.List.{get_or-set_other, get_or-set_same, get_or_past, length-replicate, length-set, map-append}
+pub use Rattle.std.proofs.lemmas.List.{get_or-set_other, get_or-set_same, get_or_past, length-set, map-append}
 pub use Rattle.std.proofs.lemmas.List.{nil_from_length, reverse-append}
 pub use Rattle.std.proofs.lemmas.List.Elements.{All-from_get_or, filter-append}
 pub use Rattle.std.proofs.lemmas.List.Sums.{get_or-le-sum_by, sum_by-cons, sum_by-set, sum_by_more, sum_by_more_le}
 pub use Rattle.std.proofs.lemmas.Nat.{div_below}
 pub use Rattle.std.proofs.lemmas.Option.{get_or_from_slice_get}
 pub use Rattle.std.specs.List.{flat_map, list_any, range_with_len, slice_get}
-pub use Rattle.std.specs.Prelude.{filter, sum_by, unsigned_abs, ◌*ℤ◌, ◌==◌}
+pub use Rattle.std.specs.Prelude.{filter, if◌then◌else◌, sum_by, unsigned_abs, ◌*ℤ◌, ◌==◌}
 pub use Rattle.chip_core.proofs.Digits.{binary-low, digit_of}
 pub use Rattle.chip_core.proofs.IndexSums.{sum_changed, sum_front, sum_none, sum_same}
 pub use Rattle.chip_core.proofs.Numerals.{digit_fits, digit_le}
@@ -25,7 +25,6 @@ pub use Rattle.chip_core.specs.Bits.{common_parity, number_from, places, sign}
 unfoldable pub use Rattle.chip_core.specs.Bits.{binary}
 pub use Rattle.chip_core.specs.Sums.{total}
 unfoldable pub use Rattle.chip_core.specs.Sums.{sum_below}
-pub use Rattle.chip_core.specs.declared.check_form.CheckForm.TheVariants.{Plain}
 pub use Rattle.conv_code.proofs.Continued.{length-code_symbols}
 pub use Rattle.conv_code.specs.ConvCode.{code_symbols}
 pub use Rattle.long_code.proofs.After.{after-after, after_none}
@@ -33,13 +32,14 @@ pub use Rattle.long_code.proofs.Before.{after-before, before_lt}
 pub use Rattle.long_code.proofs.Period.{before_is_later}
 pub use Rattle.long_code.specs.LongCode.{IsState, period}
 unfoldable pub use Rattle.long_code.specs.LongCode.{after, before, long_chip}
-pub use Rattle.quality_bits.proofs.Ends.{degree_positive}
-pub use Rattle.quality_bits.proofs.Steps.{length-check_bits}
-pub use Rattle.quality_bits.specs.Kinds.{generator_of, sent_check}
+pub use Rattle.quality_bits.proofs.Formats.{length-format_codeword, zeros}
+pub use Rattle.quality_bits.specs.Formats.{bits_in, format_codeword}
+pub use Rattle.quality_bits.specs.declared.format.FrameFormat.{FrameFormat}
 pub use mir.Syntax.{w64}
 pub use mir.Val.{SFits, of_z, to_z}
-pub use Rattle.symbol_path.specs.FramesTwo.{quality_indicator2, codeword_bits}
-pub use Rattle.symbol_path.specs.RatesTwo.{frame_bits2, information_of2, quality_length2, quality_of2, symbols_of}
+pub use Rattle.symbol_path.specs.FormatSymbols.{place_in, repeated_as, repeated_count, sent_count, sent_symbols}
+pub use Rattle.symbol_path.specs.FramesTwo.{codeword_bits}
+pub use Rattle.symbol_path.specs.RatesTwo.{format_of2, frame_bits2, information_of2, symbols_of}
 pub use Rattle.symbol_path.specs.Scrambling.{group_scrambling, power_place, power_start, symbol_or_power_bit}
 unfoldable pub use Rattle.symbol_path.specs.Scrambling.{power_places, scrambling_chips, with_power_bits}
 pub use Rattle.symbol_path.specs.SentOrder.{Shape, address, code_symbol, data_shape, gathered, place, reversed, sent, shape_of, size}
@@ -48,5 +48,7 @@ unfoldable pub use Rattle.symbol_path.specs.SentOrder.{gathered_by, sent_by}
 pub use Rattle.symbol_path.specs.SentOrderTwo.{IsDropped, IsKeptOnce, is_dropped, kept_symbol, place2, repeated_symbol, sent2}
 pub use Rattle.symbol_path.specs.declared.kinds.Kind.{Kind}
 pub use Rattle.symbol_path.specs.declared.kinds.Kind.TheVariants.{Data, Sync}
+pub use Rattle.symbol_path.specs.declared.placing.SentSymbols.{SentSymbols}
+pub use Rattle.symbol_path.specs.declared.placing.SentSymbols.TheVariants.{Every, Kept}
 pub use Rattle.symbol_path.specs.declared.rate_two.Rate2.{Rate2}
 pub use Rattle.symbol_path.specs.declared.rate_two.Rate2.TheVariants.{R14400, R1800, R3600, R7200}

@@ -1,6 +1,6 @@
 -- The code symbol that is sent as symbol i.
 use Rattle.symbol_path.proofs.Common.{◌≡◌, ℕ, zero, suc, ◌*◌, ◌/◌, ◌<◌, ◌≤◌, sym, arith, div-eq_of_eq-mul_left, div_below, Kind, Sync, Data}
-use Rattle.symbol_path.proofs.Common.{shape_of, size}
+use Rattle.symbol_path.proofs.Common.{shape_of, size, SentSymbols, Every, Kept, sent_count}
 
 pub size_some : (kind : Kind) → 0 < size (shape_of kind)
 size_some Sync = omega arith
@@ -9,6 +9,10 @@ size_some Data = omega arith
 pub size_most : (kind : Kind) → size (shape_of kind) ≤ 384
 size_most Sync = omega arith
 size_most Data = omega arith
+
+pub sent_most : (symbols : SentSymbols) → sent_count symbols ≤ 384
+sent_most (Every kind) = size_most kind
+sent_most Kept = omega arith
 
 -- each symbol is repeated at least once
 pub repeats_some : (count repeats total : ℕ) → count * repeats ≡ total → 0 < total → 0 < repeats

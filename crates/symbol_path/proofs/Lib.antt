@@ -11,3 +11,4 @@ pub mod SymbolChips
 pub mod SentOnceTwo
 pub mod SentTwo
 pub mod CodewordsTwo
+pub mod FormatSymbols

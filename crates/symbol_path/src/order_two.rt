@@ -1,14 +1,12 @@
 //! Repetition, dropping and interleaving of rate set 2: which code symbol is sent when.
 
-ghost use Rattle.std.specs.Prelude.{◌≡◌, ◌<◌, length};
+ghost use Rattle.std.specs.Prelude.{◌≡◌, ◌<◌};
 ghost use Rattle.symbol_path.specs.RatesTwo.{symbols_of};
-ghost use Rattle.symbol_path.specs.SentOrderTwo.{kept_symbol, repeated_symbol, place2, sent2};
+ghost use Rattle.symbol_path.specs.SentOrderTwo.{kept_symbol, repeated_symbol, place2};
 
 use crate::kinds::Kind;
 use crate::order::address;
 use crate::rate_two::Rate2;
-use chip_core::Bits;
-use chip_core::air::DATA_SYMBOLS;
 
 /// Which of the repeated symbols is kept as symbol `a`: of each six the third and the fifth are
 /// dropped.
@@ -44,16 +42,4 @@ pub fn place2(rate: Rate2, i: u16) -> u16
     ensures below { result < symbols_of rate }
 {
     repeated_symbol(i) / u16::from(rate.repeats())
-}
-
-/// Writes the 384 symbols that a frame with these code symbols sends.
-pub(crate) fn place2_into(rate: Rate2, code: &Bits, out: &mut Bits)
-    requires { length code.now ≡ symbols_of rate }
-    ensures value { out.new ≡ sent2 rate code.now }
-    ensures count { length out.new ≡ 384 }
-{
-    *out = Bits::empty();
-    for i in 0..DATA_SYMBOLS as u16 {
-        out.append(code.get(place2(rate, i)));
-    }
 }

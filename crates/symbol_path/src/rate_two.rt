@@ -1,11 +1,10 @@
 //! The rates of rate set 2, and what a frame of each has.
 
 ghost use Rattle.std.specs.Prelude.{◌≡◌, ◌*◌, ◌≤◌};
+ghost use Rattle.quality_bits.specs.Formats.{IsFormat};
+ghost use Rattle.symbol_path.specs.RatesTwo.{format_of2};
 
-use quality_bits::Kind;
-
-/// How many symbols a frame of rate set 2 has before some are dropped.
-pub const REPEATED_SYMBOLS: usize = 576;
+use quality_bits::{FrameFormat, Kind, REPEATED_SYMBOLS};
 
 /// A data rate of a traffic channel of rate set 2, in bits a second: the lower the rate, the more
 /// often each code symbol is repeated.
@@ -21,6 +20,19 @@ pub enum Rate2 {
     R1800,
 }
 
+/// What the frames of a rate of rate set 2 are made of, the reserved bit first.
+pub fn format_of2(rate: Rate2) -> FrameFormat<Rate2>
+    ensures format { IsFormat result }
+    ensures value { result ≡ format_of2 rate }
+{
+    match rate {
+        Rate2::R14400 => FrameFormat::new(rate, 268, Some(Kind::Q12), 1, true),
+        Rate2::R7200 => FrameFormat::new(rate, 126, Some(Kind::Q10), 2, true),
+        Rate2::R3600 => FrameFormat::new(rate, 56, Some(Kind::Q8), 4, true),
+        Rate2::R1800 => FrameFormat::new(rate, 22, Some(Kind::Q6), 8, true),
+    }
+}
+
 impl Rate2 {
     ghost use Rattle.symbol_path.specs.RatesTwo.{repeats_of2, information_of2, quality_of2};
     ghost use Rattle.symbol_path.specs.RatesTwo.{symbols_of};
@@ -31,12 +43,15 @@ impl Rate2 {
         ensures some { 1 ≤ result }
         ensures most { result ≤ 8 }
     {
-        match self {
-            Rate2::R14400 => 1,
-            Rate2::R7200 => 2,
-            Rate2::R3600 => 4,
-            Rate2::R1800 => 8,
-        }
+        format_of2(*self).repeats
+    }
+
+    /// How many code symbols a frame has, two to a bit: 576, 288, 144 or 72.
+    pub fn code_symbols(&self) -> u16
+        ensures value { result ≡ symbols_of self.now }
+        ensures most { result ≤ 576 }
+    {
+        REPEATED_SYMBOLS as u16 / u16::from(self.repeats())
     }
 
     /// How many bits a second are sent, frame quality indicators and encoder tails included.
@@ -50,31 +65,13 @@ impl Rate2 {
     pub fn information_bits(&self) -> u16
         ensures { result ≡ information_of2 self.now }
     {
-        match self {
-            Rate2::R14400 => 268,
-            Rate2::R7200 => 126,
-            Rate2::R3600 => 56,
-            Rate2::R1800 => 22,
-        }
+        format_of2(*self).information
     }
 
     /// The quality indicator of the frames, of 12, 10, 8 or 6 bits.
-    pub fn quality(&self) -> Kind
+    pub fn quality(&self) -> Option<Kind>
         ensures { result ≡ quality_of2 self.now }
     {
-        match self {
-            Rate2::R14400 => Kind::Q12,
-            Rate2::R7200 => Kind::Q10,
-            Rate2::R3600 => Kind::Q8,
-            Rate2::R1800 => Kind::Q6,
-        }
-    }
-
-    /// How many code symbols a frame has, two to a bit: 576, 288, 144 or 72.
-    pub fn code_symbols(&self) -> u16
-        ensures value { result ≡ symbols_of self.now }
-        ensures most { result ≤ 576 }
-    {
-        REPEATED_SYMBOLS as u16 / u16::from(self.repeats())
+        format_of2(*self).quality
     }
 }

@@ -28,7 +28,7 @@ use Rattle.frame_decoder.proofs.FormatCodewords.{length-symbols_in}
 use Rattle.frame_decoder.proofs.SentFormats.{codeword_allowed}
 use Rattle.frame_decoder.specs.Formats.{format_of, symbols_in}
 use Rattle.frame_decoder.specs.Laws.{IsUnsharedIn, sent_codeword}
-use Rattle.frame_decoder.specs.declared.formats.FrameFormat.{FrameFormat}
+use Rattle.quality_bits.specs.declared.format.FrameFormat.{FrameFormat}
 use Rattle.rate_set_two.proofs.SentFrames as second_back
 use Rattle.heard_events.specs.TrafficStreams as heard
 use Rattle.rate_set_two.specs.TrafficFrames as second

@@ -15,7 +15,7 @@ returns-then-is_right c =
     omega (arith, c.loop-i-test.true, c.len-i-end.ensures.value) in
     let score = c.get-entry.result.now.score in
     let fits : FitsSigned w64 score = search rules in
-    ap Some c.frame.ensures
+    ap Some c.frame_in.ensures
     ∙ ap (λ z. Some (frame_in format c.get-entry.result.now.word.bits z)) (to_z-of_z w64 score fits)
     ∙ sym
     (ap (option_map (λ e. frame_in format e.word.bits e.score))

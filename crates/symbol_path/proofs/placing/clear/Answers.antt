@@ -1,7 +1,7 @@
--- Why `clear` of `order` keeps its contract.
+-- Why `clear` of `placing` keeps its contract.
 use Rattle.symbol_path.proofs.Common.{pos, arith, ⊎_elim, cases_lt, get_or_past}
 use Rattle.symbol_path.proofs.Gathering.{sizes_none}
-use Rattle.symbol_path.proofs.order.clear.Goals as goal
+use Rattle.symbol_path.proofs.placing.clear.Goals as goal
 
 pub returns-clause-size : goal.returns-clause-size
 returns-clause-size c =

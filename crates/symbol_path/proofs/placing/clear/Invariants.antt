@@ -1,6 +1,6 @@
--- What each pass of the loops in `clear` of `order` keeps, and why they end.
+-- What each pass of the loops in `clear` of `placing` keeps, and why they end.
 use Rattle.symbol_path.proofs.Common.{◌≡◌, pos, ℕ, ◌<◌, get_or}
-use Rattle.symbol_path.proofs.order.clear.Given as goal
+use Rattle.symbol_path.proofs.placing.clear.Given as goal
 
 abbrev pub invariant-loop-value : goal.invariant-loop-value
 invariant-loop-value l = (k : ℕ) → k < l.value-index → get_or l.values k (pos 0) ≡ pos 0

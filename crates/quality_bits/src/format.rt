@@ -1,0 +1,102 @@
+//! Frames of a traffic channel, whatever its rate set: each rate has a format that says what its
+//! frames are made of.
+
+ghost use Rattle.std.specs.Prelude.{◌≡◌, ◌*◌, ◌≤◌, ◌++◌, length};
+ghost use Rattle.quality_bits.specs.Kinds.{quality_indicator};
+ghost use Rattle.quality_bits.specs.Formats.{IsFormat, bits_in, repeated_in, format_by};
+ghost use Rattle.quality_bits.specs.Formats.{format_codeword};
+
+use crate::checking::append_check;
+use crate::kind::Kind;
+use chip_core::air::{DATA_SYMBOLS, TAIL_BITS};
+use chip_core::{Bits, CheckForm};
+
+/// How many symbols a frame of rate set 2 has before some are dropped.
+pub const REPEATED_SYMBOLS: usize = 576;
+
+/// A rate of a rate set, and what its frames are made of.
+///
+/// TIA/EIA-95-B, 7.1.3.5 and 7.1.3.1.4. A frame ends with eight tail bits, whatever its rate.
+#[derive(Clone, Copy)]
+pub struct FrameFormat<R> {
+    /// The rate.
+    pub rate: R,
+    /// How many information bits a frame has.
+    pub information: u16,
+    /// The kind of its quality indicator, where it has one.
+    pub quality: Option<Kind>,
+    /// How often each code symbol is repeated.
+    pub repeats: u8,
+    /// Whether the third and the fifth of each six repeated symbols are dropped.
+    pub drops: bool,
+}
+
+impl<R: Copy> FrameFormat<R> {
+    /// The format of a rate: a row of the table of its set.
+    pub fn new(
+        rate: R,
+        information: u16,
+        quality: Option<Kind>,
+        repeats: u8,
+        drops: bool,
+    ) -> FrameFormat<R>
+        ensures { result ≡ format_by rate
+            (record { information = information; quality = quality; repeats = repeats }) drops }
+    {
+        FrameFormat {
+            rate,
+            information,
+            quality,
+            repeats,
+            drops,
+        }
+    }
+
+    /// How many repeated symbols a frame has, before any are dropped: 384 or 576.
+    fn repeated_symbols(&self) -> u16
+        ensures value { result ≡ repeated_in self.now }
+        ensures most { result ≤ 576 }
+    {
+        if self.drops {
+            REPEATED_SYMBOLS as u16
+        } else {
+            DATA_SYMBOLS as u16
+        }
+    }
+
+    /// How many code symbols a frame has, two a bit.
+    pub fn code_symbols(&self) -> usize
+        requires { IsFormat self.now }
+        ensures value { result ≡ 2 * bits_in self.now }
+        ensures most { result ≤ 576 }
+    {
+        usize::from(self.repeated_symbols() / u16::from(self.repeats))
+    }
+
+    /// Information bits, and after them the quality indicator, where frames of the rate have one.
+    fn with_quality(&self, information: &Bits) -> Bits
+        requires format { IsFormat self.now }
+        requires count { length information.now ≡ self.now.information }
+        ensures { result ≡ information.now ++ quality_indicator self.now.quality information.now }
+    {
+        let Some(kind) = self.quality else {
+            return *information;
+        };
+        let mut bits = *information;
+        append_check(kind, CheckForm::Plain, &mut bits);
+        bits
+    }
+
+    /// The bits of a frame with this information: the quality indicator stands after the
+    /// information, and the tail after both (7.1.3.5).
+    pub fn codeword(&self, information: &Bits) -> Bits
+        requires format { IsFormat self.now }
+        requires count { length information.now ≡ self.now.information }
+        ensures value { result ≡ format_codeword self.now information.now }
+        ensures count { length result ≡ bits_in self.now }
+    {
+        let mut bits = self.with_quality(information);
+        bits.append_number(TAIL_BITS, 0);
+        bits
+    }
+}
