@@ -104,8 +104,8 @@ RECIPES: Mapping[str, Recipe] = {
         (
             Variant("PagingMessage", "Channels"),
             *words("ChannelList", "ChannelFields", "CHANNEL_LIST", "CHANNEL_FIELDS", "IsChannelList"),
-            *words("channel_widths", "channel_values", "channel_contents", "channels_from", "not_channels"),
-            *words("kind == 4", "mod Channels", "channel_line", "append_channels"),
+            *words("channel_widths", "channel_values", "channel_contents", "channels_from", "channel_names"),
+            *words("channel_shape", "kind == 4", "in-4", "mod Channels"),
         ),
         ("paging_message", "event_tap"),
     ),
@@ -169,7 +169,8 @@ def listed(recipe: Recipe, files: Mapping[str, str]) -> str:
     names = ", ".join(f"`{name}`" for name in recipe.names)
     passing = sum(PASSES_ON.search(path) is not None for path in paths)
     more = f"{passing} more that only {'passes' if passing == 1 else 'pass'} names on"
-    counts = f"{len(paths) - passing} files of {len(crates)} crates, and {more}"
+    within = f"{len(crates)} crate{'' if len(crates) == 1 else 's'}"
+    counts = f"{len(paths) - passing} files of {within}, and {more}"
     lines = [f"As {recipe.example} has it ({names}), {counts}:"]
     for crate in crates:
         own = ", ".join(f"`{shown(path)}`" for path in paths if path.split("/")[0] == crate)

@@ -1,6 +1,6 @@
 -- The modules of lemmas of `event_tap`.
 mod PartTexts
-mod PagingTexts
+mod SaidTexts
 mod TrafficTexts
 pub mod Runs
 pub mod TapLists

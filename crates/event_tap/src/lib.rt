@@ -16,6 +16,7 @@ pub mod laws;
 mod line;
 mod paging;
 mod parts;
+mod said;
 mod sets;
 mod sync;
 mod tap;

@@ -2,20 +2,23 @@
 
 ghost use Rattle.std.specs.Prelude.{◌≡◌, ◌≤◌, ◌+◌, [], ◌++◌, length};
 ghost use Rattle.chip_core.specs.Fields.{FieldsFit};
-ghost use Rattle.event_tap.specs.TrafficLines.{handoff_text, kind_text, search_text, start_text};
-ghost use Rattle.event_tap.specs.TrafficLines.{system_text, traffic_line, update_text};
+ghost use Rattle.event_tap.specs.TrafficLines.{body_text, handoff_text, search_text, start_text};
+ghost use Rattle.event_tap.specs.TrafficLines.{traffic_line, HasFewRecords};
 ghost use Rattle.traffic_message.specs.Handoff.{SearchFits};
 ghost use Rattle.traffic_message.specs.Messages.{head_fields};
-ghost use Rattle.traffic_message.specs.Neighbors.{IsNeighborUpdate};
 
-use crate::items::append_items;
-use crate::parts::{append_few_bits, append_few_rest, append_rest, append_values};
-use chip_core::Bits;
+use crate::items::{Listed, append_items};
+use crate::parts::{append_few_bits, append_few_rest, append_values};
+use crate::said::append_message;
 use line_text::Text;
+use message_layout::FieldRow;
 use traffic_message::{
-    DirectionFields, HEAD_FIELDS, HandoffDirection, Head, IN_TRAFFIC_FIELDS, InTraffic,
-    SEARCH_FIELDS, Search, TIME_FIELDS, TrafficBody, TrafficMessage, UpdateFields,
+    HEAD_FIELDS, HandoffDirection, Head, SEARCH_FIELDS, Search, TIME_FIELDS, TrafficBody,
+    TrafficMessage,
 };
+
+/// The fields of a record of a handoff direction, in the order in which a line tells them.
+const RECORD_FIELDS: [FieldRow; 3] = [("pn", 9), ("row", 8), ("comb", 1)];
 
 /// Adds the line of a message to the empty text, LF at its end. No line is longer than 1,024 bytes.
 ///
@@ -27,11 +30,19 @@ pub(crate) fn append_traffic(text: &mut Text, at: u64, message: &TrafficMessage)
     ensures most { length text.new ≤ 1024 }
 {
     append_start(text, at, &message.head());
-    match message.body() {
-        TrafficBody::System(message) => append_in_traffic(text, &message),
-        TrafficBody::Neighbors(message) => append_update(text, &message.fields()),
-        TrafficBody::Handoff(message) => append_direction(text, &message),
-        TrafficBody::Other { kind, bits } => append_other(text, kind, &bits),
+    append_body(text, &message.body());
+}
+
+/// Adds what a message says after its head, and the end of the line.
+fn append_body(text: &mut Text, body: &TrafficBody)
+    requires start { length text.old ≤ 95 }
+    requires records { HasFewRecords body.now }
+    ensures value { text.new ≡ text.old ++ body_text body.now }
+    ensures most { length text.new ≤ 1024 }
+{
+    match body {
+        TrafficBody::Handoff(message) => append_direction(text, message),
+        _ => append_message(text, body.kind(), &body.layout(), &body.contents()),
     }
 }
 
@@ -45,34 +56,6 @@ fn append_start(text: &mut Text, at: u64, head: &Head)
 {
     text.append_named("traffic at=", at);
     append_values(text, &HEAD_FIELDS, &head.values());
-}
-
-/// Adds what an In-Traffic System Parameters Message says.
-#[tactic(auto, unfolding(crate::specs::TrafficLines::system_text, crate::specs::Parts::are_short))]
-fn append_in_traffic(text: &mut Text, message: &InTraffic)
-    requires { length text.old ≤ 95 }
-    ensures value { text.new ≡ text.old ++ system_text message.now }
-    ensures most { length text.new ≤ 1024 }
-{
-    let fields = message.fields();
-    text.append_str(" system");
-    append_values(text, &IN_TRAFFIC_FIELDS, &message.values());
-    append_rest(text, &fields.rest);
-}
-
-/// Adds what a Neighbor List Update Message says.
-#[tactic(auto, unfolding(crate::specs::TrafficLines::update_text))]
-fn append_update(text: &mut Text, fields: &UpdateFields)
-    requires start { length text.old ≤ 95 }
-    requires is { IsNeighborUpdate fields.now }
-    ensures value { text.new ≡ text.old ++ update_text fields.now }
-    ensures most { length text.new ≤ 1024 }
-{
-    let _most = fields.pns.len();
-    text.append_named(" neighbors inc=", fields.inc);
-    text.append_str(" pilots=");
-    append_items(text, &fields.pns);
-    append_few_rest(text, &fields.rest);
 }
 
 /// Adds what an Extended Handoff Direction Message says.
@@ -90,7 +73,14 @@ fn append_direction(text: &mut Text, message: &HandoffDirection)
     text.append_str(" extra=");
     append_few_bits(text, &fields.extra);
     text.append_str(" records=");
-    append_items(text, &fields);
+    let columns = [fields.pns, fields.rows, fields.combs];
+    append_items(
+        text,
+        &Listed {
+            fields: &RECORD_FIELDS,
+            columns: &columns,
+        },
+    );
     append_few_rest(text, &fields.rest);
 }
 
@@ -105,17 +95,4 @@ fn append_search(text: &mut Text, search: &Option<Search>)
     if let Some(search) = search {
         append_values(text, &SEARCH_FIELDS, &search.values());
     }
-}
-
-/// Adds what a message of another type says.
-#[tactic(auto, unfolding(crate::specs::TrafficLines::kind_text))]
-fn append_other(text: &mut Text, kind: u8, bits: &Bits)
-    requires { length text.old ≤ 95 }
-    ensures value { text.new ≡ text.old ++ kind_text kind bits.now }
-    ensures most { length text.new ≤ 1024 }
-{
-    text.append_named(" other type=", kind);
-    text.append_str(" bits=");
-    text.append_bits(bits);
-    text.append_str("\n");
 }

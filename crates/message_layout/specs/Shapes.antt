@@ -30,6 +30,19 @@ shape layout = record {
   most = layout.most;
 }
 
+-- the names in a line that tells of such a body: its own, those of the fixed fields, and the list's
+pub record LineNames : Type 0 where
+  pub word : List ℕ
+  pub fixed : List (List ℕ)
+  pub list : List ℕ
+
+abbrev pub line_names : Layout → LineNames
+line_names layout = record {
+  word = layout.name.now;
+  fixed = map (λ row. row.0.now) layout.fixed.now;
+  list = layout.records.name.now;
+}
+
 -- each is 1 to so many
 abbrev pub are_widths : ℕ → List ℕ → Bool
 are_widths most [] = true

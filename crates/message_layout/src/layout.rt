@@ -38,6 +38,8 @@ pub type FieldRow = (&'static str, u8);
 /// three fields in a record, of 1 to 32 bits each, and a rest that is shorter than a record.
 #[derive(Clone, Copy)]
 pub struct Layout {
+    /// The name of such a message in lines of text; empty where the line has another.
+    pub name: &'static str,
     /// The fields that each body has.
     pub fixed: &'static [FieldRow],
     /// The fields that may be there.
@@ -82,6 +84,8 @@ pub struct Octets {
 /// Records of the same fields, as many as fit.
 #[derive(Clone, Copy)]
 pub struct Records {
+    /// The name of the list of records in lines of text.
+    pub name: &'static str,
     /// The fields of a record; none where there are no records.
     pub fields: &'static [FieldRow],
     /// How many records there are at least.
@@ -99,12 +103,14 @@ pub const NO_OCTETS: Octets = Octets { zeros: 0, width: 0 };
 
 /// For a layout without records.
 pub const NO_RECORDS: Records = Records {
+    name: "",
     fields: &[],
     least: 0,
 };
 
 /// The layout without fields: all bits, as they are.
 pub const ALL_BITS: Layout = Layout {
+    name: "",
     fixed: &[],
     group: NO_GROUP,
     octets: NO_OCTETS,

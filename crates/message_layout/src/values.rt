@@ -55,6 +55,13 @@ impl FieldValues {
         self.count
     }
 
+    /// The values as a slice.
+    pub fn as_slice(&self) -> &[u64]
+        ensures { result.now ≡ self.now }
+    {
+        &self.places[..self.count as usize]
+    }
+
     /// Value `i`, counted from 0; 0 where there are fewer.
     pub fn get(&self, i: u8) -> u64
         ensures { result ≡ get_or self.now i 0 }

@@ -9,6 +9,7 @@ use std::test::Fail;
 /// Two fields, two more after a bit, octets after two bits that are 0 and their count, records of
 /// three fields, and at most 7 bits.
 const ALL_PARTS: Layout = Layout {
+    name: "all",
     fixed: &[("first", 5), ("second", 42)],
     group: Group {
         presence: Presence::Flagged,
@@ -16,6 +17,7 @@ const ALL_PARTS: Layout = Layout {
     },
     octets: Octets { zeros: 2, width: 3 },
     records: Records {
+        name: "records",
         fields: &[("pn", 9), ("comb", 1), ("row", 8)],
         least: 1,
     },

@@ -1,19 +1,17 @@
 -- What stands after the message types, by its layouts.
-use Rattle.paging_message.proofs.Common.{◌≡◌, Bool, None, Some, ap, arith, cond, false, inl, length-append, map, refl, subst, sym, true}
-use Rattle.paging_message.proofs.Common.{◌*◌, ◌+◌, ◌-◌, ◌<◌, ◌==◌, ◌^◌, ◌∙◌, ◌∷◌, ◌≢◌, ◌≤◌, eqb-false, eqb-true, le-leb, lt-leb, ne_eqb}
-use Rattle.paging_message.proofs.Common.{length-binary, map-places-all, binary, places, FieldsFit, field, total_width, both_columns}
-use Rattle.paging_message.proofs.Common.{first_column}
-use Rattle.paging_message.proofs.Common.{mapped_cond, no_columns, record_fit, has_length, list_said, plain_back, plain_length}
-use Rattle.paging_message.proofs.Common.{plain_reading, record_map, rest_back, count_in, height, plain_contents, plain_shape, mapped}
-use Rattle.paging_message.proofs.Common.{reading, is_lawful, IsOf, spelling, Contents, admits, IsChannelList, channel_contents}
-use Rattle.paging_message.proofs.Common.{channel_shape, channel_widths, channels_from, contents_of, paging_kind_of, message_from}
-use Rattle.paging_message.proofs.Common.{paging_shape_of}
-use Rattle.paging_message.proofs.Common.{IsPagingMessage, message_body, IsNeighborList, neighbor_contents, neighbor_shape, neighbor_widths}
-use Rattle.paging_message.proofs.Common.{neighbors_from, other_contents, other_from, other_shape, message_at, IsSpelled, body_of}
-use Rattle.paging_message.proofs.Common.{system_contents, system_shape, system_widths, system_of, ChannelFields, NeighborFields}
-use Rattle.paging_message.proofs.Common.{PagingMessage, List, [], get_or, inr, length, ℕ, cases_Bool, MessageShape, system_from}
-use Rattle.paging_message.proofs.Common.{system_values}
+use Rattle.paging_message.proofs.Common.{Bool, Contents, IsNeighborList, IsOf, IsPagingMessage, IsSpelled, List, MessageShape}
+use Rattle.paging_message.proofs.Common.{MessageType, NeighborFields, None, PagingMessage, Some, [], admits, and_parts, ap, arith}
+use Rattle.paging_message.proofs.Common.{body_of, both_columns, cases_Bool, channel_contents, channel_shape, channel_widths}
+use Rattle.paging_message.proofs.Common.{channels_from, cond, contents_of, count_in, eqb-true, false, first_column, get_or, has_length}
+use Rattle.paging_message.proofs.Common.{has_type, inl, inr, is_lawful, le-leb, length, list_said, lt-leb, map-places-all, mapped}
+use Rattle.paging_message.proofs.Common.{mapped_cond, message_at, message_body, message_from, ne_eqb, neighbor_contents, neighbor_shape}
+use Rattle.paging_message.proofs.Common.{neighbor_widths, neighbors_from, no_columns, not_both, other_contents, other_from, other_shape}
+use Rattle.paging_message.proofs.Common.{other_type, own_types, paging_kind_of, paging_shape_of, places, plain_back, plain_reading}
+use Rattle.paging_message.proofs.Common.{plain_shape, reading, record_fit, refl, rest_back, subst, sym, system_contents, system_from}
+use Rattle.paging_message.proofs.Common.{system_of, system_shape, system_values, system_widths, true, type_in, ℕ, ◌+◌, ◌-◌, ◌<◌, ◌==◌}
+use Rattle.paging_message.proofs.Common.{◌||◌, ◌∙◌, ◌∷◌, ◌≡◌, ◌≢◌, ◌≤◌}
 use Rattle.std.proofs.Common.{All}
+use Rattle.std.specs.List.{list_all}
 use Rattle.std.proofs.lemmas.List.{get_or_default}
 use Rattle.paging_message.specs.declared.message.PagingMessage.TheVariants as messages
 
@@ -32,16 +30,51 @@ by_type P one three four others k =
       ]
     ]
 
+-- what the table of types passes, and what any other type passes, each type does
+pub passes : (test : MessageType → Bool) → list_all test own_types ≡ true →
+    ((k : ℕ) → test (other_type k) ≡ true) → (k : ℕ) → test (type_in own_types k) ≡ true
+passes test own others k = row_passes own_types own where
+  row_passes : (types : List MessageType) → list_all test types ≡ true →
+      test (type_in types k) ≡ true
+  row_passes [] all = others k
+  row_passes (row ∷ types) all =
+      let both = and_parts (test row) (list_all test types) all in
+      elim (cases_Bool (k == row.kind)) [
+        | inl t ↦ rw t both.0
+        | inr f ↦ rw f (row_passes types both.1)
+      ]
+
+-- a type that isn't in the table
+unlisted : (types : List MessageType) (k : ℕ) → has_type types k ≡ false →
+    type_in types k ≡ other_type k
+unlisted [] k none = refl
+unlisted (row ∷ types) k none =
+    elim (cases_Bool (k == row.kind)) [
+      | inl t ↦ absurd (not_both (sym (ap (λ b. b || has_type types k) t) ∙ none) refl)
+      | inr f ↦ rw f (unlisted types k (sym (ap (λ b. b || has_type types k) f) ∙ none))
+    ]
+
+no_own_type : (k : ℕ) → (k == 1) ≡ false → (k == 3) ≡ false → (k == 4) ≡ false →
+    has_type own_types k ≡ false
+no_own_type k a b d =
+    let none : ((k == 1) || ((k == 3) || ((k == 4) || false))) ≡ false = rw (a, b, d) refl in
+    none
+
+other_row : (k : ℕ) → (k == 1) ≡ false → (k == 3) ≡ false → (k == 4) ≡ false →
+    other_type k ≡ type_in own_types k
+other_row k a b d = sym (unlisted own_types k (no_own_type k a b d))
+
 pub lawful : (k : ℕ) → is_lawful (paging_shape_of k) ≡ true
 unfolding is_lawful
-lawful k =
-    by_type (λ j. is_lawful (paging_shape_of j) ≡ true) refl refl refl (λ j a b d. rw (a, b, d) refl) k
+lawful = passes (λ row. is_lawful row.shape) refl (λ k. refl)
 
 -- a body has at most 104 records
 pub few_records : (k count : ℕ) → count ≤ 1146 → count_in (paging_shape_of k).records count ≤ 128
 few_records k count most =
     by_type (λ j. count_in (paging_shape_of j).records count ≤ 128) (omega arith) (omega (arith, most))
-    (omega (arith, most)) (λ j a b d. rw (a, b, d) (omega arith)) k
+    (omega (arith, most))
+    (λ j a b d. subst (λ (row : MessageType). count_in row.shape.records count ≤ 128)
+    (other_row j a b d) (omega arith)) k
 
 -- MESSAGES AND CONTENTS
 -- a message's contents are its type's, and those of no other message
@@ -51,10 +84,8 @@ spelled_by (messages.System m) is = is
 spelled_by (messages.Neighbors m) is = is
 spelled_by (messages.Channels m) is = is
 spelled_by (messages.Other m) is =
-    let a = ne_eqb m.kind 1 is.not_system in
-    let b = ne_eqb m.kind 3 is.not_neighbors in
-    let d = ne_eqb m.kind 4 is.not_channels in
-    rw (a, b, d) is.spelled
+    subst (λ (row : MessageType). IsSpelled m.kind row.shape (other_contents m))
+    (sym (unlisted own_types m.kind is.other)) is.spelled
 
 pub other_is : (k : ℕ) (c : Contents) → k ≢ 1 → k ≢ 3 → k ≢ 4 →
     message_from k c ≡ messages.Other (other_from k c)
@@ -64,13 +95,20 @@ other_is k c a b d =
     let z = ne_eqb k 4 d in
     rw (x, y, z) refl
 
+other_made_again : (c : Contents) (k : ℕ) → has_type own_types k ≡ false →
+    message_from k c ≡ messages.Other (other_from k c)
+other_made_again c =
+    by_type
+    (λ k. has_type own_types k ≡ false → message_from k c ≡ messages.Other (other_from k c))
+    (λ none. absurd (not_both none refl)) (λ none. absurd (not_both none refl))
+    (λ none. absurd (not_both none refl)) (λ k a b d none. rw (a, b, d) refl)
+
 pub made_again : (m : PagingMessage) → IsPagingMessage m → message_from (paging_kind_of m) (contents_of m) ≡ m
 unfolding system_of
 made_again (messages.System m) is = refl
 made_again (messages.Neighbors m) is = refl
 made_again (messages.Channels m) is = refl
-made_again (messages.Other m) is =
-    other_is m.kind (other_contents m) is.not_system is.not_neighbors is.not_channels
+made_again (messages.Other m) is = other_made_again (other_contents m) m.kind is.other
 
 -- contents of a layout are those of the message that is made of them
 system_back : (c : Contents) → IsOf system_shape c → system_contents (system_from c) ≡ c
@@ -107,17 +145,18 @@ made_so k s c own back is = (subst (IsSpelled k s) (sym back) is, ap (body_of k 
 
 other_made : (k : ℕ) → (k == 1) ≡ false → (k == 3) ≡ false → (k == 4) ≡ false → MadeOf k
 unfolding message_body
-other_made k a b d =
-    rw (a, b, d) (λ c is.
-    let made = made_so k other_shape c (other_contents (other_from k c)) (rest_back c is.said) is in (
+other_made k a b d c is =
+    let said = subst (λ (row : MessageType). IsSpelled k row.shape c) (sym (other_row k a b d)) is in
+    let back = sym (rest_back c said.said) in
+    let made : message_from k c ≡ messages.Other (other_from k c) = rw (a, b, d) refl in
+    subst (λ (m : PagingMessage). IsPagingMessage m × (body_of k (paging_shape_of k) c ≡ message_body m))
+    (sym made) (
       record {
-        spelled = made.0;
-        not_system = eqb-false k 1 a;
-        not_neighbors = eqb-false k 3 b;
-        not_channels = eqb-false k 4 d;
+        spelled = subst (IsSpelled k other_shape) back said;
+        other = no_own_type k a b d;
       },
-      rw (a, b, d) made.1,
-    ))
+      ap (body_of k (paging_shape_of k)) back,
+    )
 
 pub made_of : (k : ℕ) → MadeOf k
 unfolding message_body
@@ -136,7 +175,10 @@ plain : (k : ℕ) →
     s ≡ plain_shape s.fixed s.records s.least s.most
 plain =
     by_type (λ k. paging_shape_of k ≡ plain_shape (paging_shape_of k).fixed (paging_shape_of k).records
-    (paging_shape_of k).least (paging_shape_of k).most) refl refl refl (λ k a b d. rw (a, b, d) refl)
+    (paging_shape_of k).least (paging_shape_of k).most) refl refl refl
+    (λ k a b d. subst (λ (row : MessageType).
+    let s = row.shape in
+    s ≡ plain_shape s.fixed s.records s.least s.most) (other_row k a b d) refl)
 
 -- what is read by a layout is what stands at the places of the fields
 pub placed : (bits : List Bool) (k : ℕ) →
@@ -156,49 +198,11 @@ pub admits_short : (k count : ℕ) → count < 8 → admits k count ≡ false
 unfolding admits
 admits_short k count short = rw (lt-leb 8 count short) refl
 
--- RECORDS OF A LIST
--- as many as fit into a body
-few_records_in : (k : ℕ) (ws rs : List ℕ) (m : Contents) →
-    IsSpelled k (plain_shape ws rs 0 (Some 7)) (plain_contents m.fixed m.columns m.rest) →
-    length rs ≤ length m.columns → 8 + (total_width ws + height m.columns * total_width rs) ≤ 1146
-few_records_in k ws rs m is wide =
-    omega (
-      arith,
-      is.fills.whole,
-      is.fills.most,
-      length-append (binary 8 k) (spelling (plain_shape ws rs 0 (Some 7)) (plain_contents m.fixed m.columns m.rest)),
-      length-binary 8 k,
-      plain_length ws rs 0 (Some 7) m.fixed m.columns m.rest (sym is.said.fixed.all) wide,
-    )
-
-pub few_neighbors : (m : NeighborFields) → IsNeighborList m → 27 + 12 * length m.configs ≤ 1146
-few_neighbors m is =
-    omega (
-      arith,
-      few_records_in 3 neighbor_widths (3 ∷ 9 ∷ []) (neighbor_contents m) is (omega arith),
-    )
-
-pub few_channels : (m : ChannelFields) → IsChannelList m → 23 + 11 * length m.freqs ≤ 1146
-few_channels m is =
-    omega (arith, few_records_in 4 channel_widths (11 ∷ []) (channel_contents m) is (omega arith))
-
--- each neighbor has both parts, which fit their widths
-pub neighbors_paired : (m : NeighborFields) → IsNeighborList m → length m.configs ≡ length m.pns
-neighbors_paired m is = sym (ap (λ (ls : List ℕ). get_or ls 1 0) is.said.columns)
-
-pub neighbor_fit_at : (m : NeighborFields) (i : ℕ) → IsNeighborList m → i < length m.configs →
-    (get_or m.configs i 0 < 2 ^ 3) × (get_or m.pns i 0 < 2 ^ 9)
-neighbor_fit_at m i is h =
-    let fit = record_fit (3 ∷ 9 ∷ []) (length m.configs) i (m.configs ∷ m.pns ∷ [] ∷ []) h is.said.records in
-    (fit.0, fit.1.0)
-
+-- the offsets of neighbors
 pub pns_below : (m : NeighborFields) → IsNeighborList m → All (λ p. p < 512) m.pns
 pns_below m is k d within =
-    omega (
-      arith,
-      get_or_default m.pns k d 0 within,
-      (neighbor_fit_at m k is (omega (arith, within, neighbors_paired m is))).1,
-    )
-
-pub freqs_fit : (m : ChannelFields) → IsChannelList m → FieldsFit (map (field 11) m.freqs)
-freqs_fit m is = subst FieldsFit (record_map 11 m.freqs) is.said.records
+    let paired : length m.configs ≡ length m.pns =
+    sym (ap (λ (ls : List ℕ). get_or ls 1 0) is.said.columns) in
+    let fit = record_fit (3 ∷ 9 ∷ []) (length m.configs) k (m.configs ∷ m.pns ∷ [] ∷ [])
+    (omega (arith, within, paired)) is.said.records in
+    omega (arith, get_or_default m.pns k d 0 within, fit.1.0)

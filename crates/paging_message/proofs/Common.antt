@@ -58,8 +58,8 @@ unfoldable pub use Rattle.paging_message.specs.HalfFrames.{bits_left, capsules_i
 unfoldable pub use Rattle.paging_message.specs.HalfFrames.{open_chain}
 pub use Rattle.paging_message.specs.Laying.{HasLaid, Laid, Place, bit_on, laid_on, padded_to, way_for}
 unfoldable pub use Rattle.paging_message.specs.Laying.{fill}
-pub use Rattle.paging_message.specs.Layouts.{contents_of, paging_kind_of, message_from, paging_shape_of}
-pub use Rattle.paging_message.specs.Messages.{IsPagingMessage}
+pub use Rattle.paging_message.specs.Layouts.{paging_shape_of, MessageType, has_type, other_type, own_types, type_in}
+pub use Rattle.paging_message.specs.Messages.{IsPagingMessage, contents_of, message_from, paging_kind_of}
 unfoldable pub use Rattle.paging_message.specs.Messages.{message_body, paging_capsule}
 pub use Rattle.paging_message.specs.Neighbors.{IsNeighborList, neighbor_contents, neighbor_shape, neighbor_widths, neighbors_from}
 pub use Rattle.paging_message.specs.Others.{other_contents, other_from, other_shape}

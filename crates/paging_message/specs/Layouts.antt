@@ -1,37 +1,55 @@
--- The layouts of what stands after the message types, and what the messages say as contents of
--- these.
-use Rattle.std.specs.Prelude.{ℕ, ◌==◌, if◌then◌else◌}
-use Rattle.message_layout.specs.Shapes.{MessageShape}
-use Rattle.message_layout.specs.declared.contents.Contents.{Contents}
-use Rattle.paging_message.specs.Channels.{channel_contents, channel_shape, channels_from}
-use Rattle.paging_message.specs.Neighbors.{neighbor_contents, neighbor_shape, neighbors_from}
-use Rattle.paging_message.specs.Others.{other_contents, other_from, other_shape}
-use Rattle.paging_message.specs.System.{system_contents, system_from, system_shape}
-use Rattle.paging_message.specs.declared.message.PagingMessage.{PagingMessage}
-use Rattle.paging_message.specs.declared.message.PagingMessage.TheVariants as messages
+-- The message types that have fields of their own: the table of what stands after each.
+use Rattle.std.specs.Prelude.{ℕ, ◌≡◌, ◌==◌, if◌then◌else◌, Bool, false, List, [], ◌∷◌, codes}
+use Rattle.std.specs.List.{list_any}
+use Rattle.message_layout.specs.Shapes.{LineNames, MessageShape}
+use Rattle.paging_message.specs.Channels.{channel_names, channel_shape}
+use Rattle.paging_message.specs.Neighbors.{neighbor_names, neighbor_shape}
+use Rattle.paging_message.specs.Others.{other_contents, other_shape}
+use Rattle.paging_message.specs.Spelling.{IsSpelled}
+use Rattle.paging_message.specs.System.{system_names, system_shape}
+use Rattle.paging_message.specs.declared.fields.OtherFields.{OtherFields}
 
--- of each message type its layout
+-- a message type: its number, the names in its line, and the layout of what stands after the type
+pub record MessageType : Type 0 where
+  pub kind : ℕ
+  pub names : LineNames
+  pub shape : MessageShape
+
+abbrev message_type : ℕ → List ℕ → List (List ℕ) → List ℕ → MessageShape → MessageType
+message_type kind word fixed list shape = record {
+  kind = kind;
+  names = record { word = word; fixed = fixed; list = list };
+  shape = shape;
+}
+
+-- those with fields of their own
+abbrev pub own_types : List MessageType
+own_types =
+    message_type 1 (codes "system") system_names [] system_shape
+    ∷ message_type 3 (codes "neighbors") neighbor_names (codes "pilots") neighbor_shape
+    ∷ message_type 4 (codes "channels") channel_names (codes "freqs") channel_shape
+    ∷ []
+
+-- and any other, which has neither fields nor names
+abbrev pub other_type : ℕ → MessageType
+other_type kind = message_type kind [] [] [] other_shape
+
+-- whether a type is in a table, and its row there
+abbrev pub has_type : List MessageType → ℕ → Bool
+has_type types kind = list_any (λ row. kind == row.kind) types
+
+abbrev pub type_in : List MessageType → ℕ → MessageType
+type_in [] kind = other_type kind
+type_in (row ∷ types) kind = if kind == row.kind then row else type_in types kind
+
+-- of each message type its layout, and the names in its line
 abbrev pub paging_shape_of : ℕ → MessageShape
-paging_shape_of kind =
-    if kind == 1 then system_shape
-    else (if kind == 3 then neighbor_shape else (if kind == 4 then channel_shape else other_shape))
+paging_shape_of kind = (type_in own_types kind).shape
 
--- the type of a message, what it says, and the message that says so
-abbrev pub paging_kind_of : PagingMessage → ℕ
-paging_kind_of (messages.System m) = 1
-paging_kind_of (messages.Neighbors m) = 3
-paging_kind_of (messages.Channels m) = 4
-paging_kind_of (messages.Other m) = m.kind
+abbrev pub paging_names_of : ℕ → LineNames
+paging_names_of kind = (type_in own_types kind).names
 
-abbrev pub contents_of : PagingMessage → Contents
-contents_of (messages.System m) = system_contents m
-contents_of (messages.Neighbors m) = neighbor_contents m
-contents_of (messages.Channels m) = channel_contents m
-contents_of (messages.Other m) = other_contents m
-
-abbrev pub message_from : ℕ → Contents → PagingMessage
-message_from kind c =
-    if kind == 1 then messages.System (system_from c)
-    else (if kind == 3 then messages.Neighbors (neighbors_from c)
-    else (if kind == 4 then messages.Channels (channels_from c)
-    else messages.Other (other_from kind c)))
+-- a message without fields of its own has none of the types that have such
+pub record IsOther (m : OtherFields) : Type 0 where
+  pub spelled : IsSpelled m.kind other_shape (other_contents m)
+  pub other : has_type own_types m.kind ≡ false

@@ -1,9 +1,8 @@
 -- Messages of other types: the type, and all bits after it.
-use Rattle.std.specs.Prelude.{ℕ, ◌≢◌, [], ◌∷◌, None}
+use Rattle.std.specs.Prelude.{ℕ, [], ◌∷◌, None}
 use Rattle.message_layout.specs.Plain.{plain_contents, plain_shape}
 use Rattle.message_layout.specs.Shapes.{MessageShape}
 use Rattle.message_layout.specs.declared.contents.Contents.{Contents}
-use Rattle.paging_message.specs.Spelling.{IsSpelled}
 use Rattle.paging_message.specs.declared.fields.OtherFields.{OtherFields}
 
 abbrev pub other_shape : MessageShape
@@ -12,13 +11,6 @@ other_shape = plain_shape [] [] 0 None
 -- what the message says
 abbrev pub other_contents : OtherFields → Contents
 other_contents m = plain_contents [] ([] ∷ [] ∷ [] ∷ []) m.bits
-
--- the types 1, 3 and 4 have fields of their own
-pub record IsOther (m : OtherFields) : Type 0 where
-  pub spelled : IsSpelled m.kind other_shape (other_contents m)
-  pub not_system : m.kind ≢ 1
-  pub not_neighbors : m.kind ≢ 3
-  pub not_channels : m.kind ≢ 4
 
 -- the message of this type that says so
 abbrev pub other_from : ℕ → Contents → OtherFields

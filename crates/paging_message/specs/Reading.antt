@@ -8,8 +8,8 @@ use Rattle.message_layout.specs.Plain.{list_said}
 use Rattle.quality_bits.specs.Capsules.{if_spelled}
 pub use Rattle.quality_bits.specs.Faults.{reading_of}
 use Rattle.paging_message.specs.Admitted.{admits}
-use Rattle.paging_message.specs.Layouts.{message_from, paging_shape_of}
-use Rattle.paging_message.specs.Messages.{paging_capsule}
+use Rattle.paging_message.specs.Layouts.{paging_shape_of}
+use Rattle.paging_message.specs.Messages.{message_from, paging_capsule}
 use Rattle.paging_message.specs.declared.message.PagingMessage.{PagingMessage}
 
 -- what stands after a message type

@@ -12,8 +12,10 @@ use std::marker::Model;
 
 /// What stands after the type: the fields, and CDMA_FREQ of each channel.
 pub(crate) const CHANNEL_LIST: Layout = Layout {
+    name: "channels",
     fixed: &CHANNEL_FIELDS,
     records: Records {
+        name: "freqs",
         fields: &[("freq", 11)],
         least: 0,
     },

@@ -1,11 +1,11 @@
 //! The messages, to and from their bodies and capsules.
 
 ghost use Rattle.std.specs.Prelude.{◌≡◌, ◌↔◌, IfOk, IfSome, IsTrue, Some};
-ghost use Rattle.message_layout.specs.Shapes.{shape};
+ghost use Rattle.message_layout.specs.Shapes.{line_names, shape};
 ghost use Rattle.quality_bits.specs.Capsules.{FillsCapsule, IsWhole};
 ghost use Rattle.quality_bits.specs.Kinds.{IsChecked};
 ghost use Rattle.quality_bits.specs.declared.kind.Kind.TheVariants.{M30};
-ghost use Rattle.paging_message.specs.Layouts.{paging_shape_of};
+ghost use Rattle.paging_message.specs.Layouts.{paging_names_of, paging_shape_of};
 
 use crate::channels::{CHANNEL_LIST, ChannelList};
 use crate::neighbors::{NEIGHBOR_LIST, NeighborList};
@@ -31,7 +31,7 @@ pub enum PagingMessage {
 }
 
 impl PagingMessage {
-    ghost use Rattle.paging_message.specs.Layouts.{contents_of, paging_kind_of, message_from};
+    ghost use Rattle.paging_message.specs.Messages.{contents_of, message_from, paging_kind_of};
     ghost use Rattle.paging_message.specs.Messages.{message_body, paging_capsule, IsPagingMessage};
     ghost use Rattle.paging_message.specs.Reading.{body_reading, paging_reading, reading_of};
     ghost use Rattle.paging_message.specs.declared.message.PagingMessage.{
@@ -119,7 +119,7 @@ impl PagingMessage {
     }
 
     /// The message type.
-    fn kind(&self) -> u8
+    pub fn kind(&self) -> u8
         ensures { result ≡ paging_kind_of self.now }
     {
         match self {
@@ -130,8 +130,16 @@ impl PagingMessage {
         }
     }
 
+    /// The layout of what it says after its type.
+    pub fn layout(&self) -> Layout
+        ensures shape { shape result ≡ paging_shape_of (paging_kind_of self.now) }
+        ensures names { line_names result ≡ paging_names_of (paging_kind_of self.now) }
+    {
+        layout_of(self.kind())
+    }
+
     /// What the message says after its type, as its layout has it.
-    fn contents(&self) -> Contents
+    pub fn contents(&self) -> Contents
         ensures value { result ≡ contents_of self.now }
         ensures spelled { IsPagingMessage self.now }
     {
@@ -146,7 +154,8 @@ impl PagingMessage {
 
 /// The layout of what stands after a message type.
 fn layout_of(kind: u8) -> Layout
-    ensures { shape result ≡ paging_shape_of kind }
+    ensures shape { shape result ≡ paging_shape_of kind }
+    ensures names { line_names result ≡ paging_names_of kind }
 {
     match kind {
         1 => SYSTEM_PARAMETERS,

@@ -12,8 +12,10 @@ use std::marker::Model;
 
 /// What stands after the type: the fields, and of each neighbor NGHBR_CONFIG and NGHBR_PN.
 pub(crate) const NEIGHBOR_LIST: Layout = Layout {
+    name: "neighbors",
     fixed: &NEIGHBOR_FIELDS,
     records: Records {
+        name: "pilots",
         fields: &[("config", 3), ("pn", 9)],
         least: 0,
     },

@@ -1,7 +1,8 @@
 //! Messages of types without fields of their own.
 
 ghost use Rattle.std.specs.Prelude.{◌≡◌};
-ghost use Rattle.paging_message.specs.Others.{other_contents, other_from, IsOther};
+ghost use Rattle.paging_message.specs.Layouts.{IsOther};
+ghost use Rattle.paging_message.specs.Others.{other_contents, other_from};
 
 use crate::fields::OtherFields;
 use chip_core::{Bits, Numbers};
@@ -15,7 +16,7 @@ pub struct OtherMessage {
 }
 
 impl Model for OtherMessage {
-    ghost use Rattle.paging_message.specs.Others.{IsOther};
+    ghost use Rattle.paging_message.specs.Layouts.{IsOther};
     ghost use Rattle.paging_message.specs.declared.fields.OtherFields.{OtherFields as TheFields};
 
     ghost Value = { TheFields };

@@ -13,6 +13,7 @@ use std::marker::Model;
 
 /// What stands after the type: the fields, and all bits after them.
 pub(crate) const SYSTEM_PARAMETERS: Layout = Layout {
+    name: "system",
     fixed: &SYSTEM_FIELDS,
     ..ALL_BITS
 };

@@ -1,11 +1,11 @@
 -- The layouts of what stands after the head, and what the messages say as contents of these.
 use Rattle.std.specs.Prelude.{ℕ, ◌==◌, ◌&&◌, if◌then◌else◌, not, Bool, List, [], ◌∷◌, get_or}
-use Rattle.std.specs.Prelude.{None}
+use Rattle.std.specs.Prelude.{codes, None}
 use Rattle.chip_core.specs.Bits.{digit}
 use Rattle.chip_core.specs.Fields.{in_widths}
 use Rattle.chip_core.specs.declared.field.Field.{Field}
 use Rattle.message_layout.specs.Plain.{plain_contents, plain_shape}
-use Rattle.message_layout.specs.Shapes.{MessageShape}
+use Rattle.message_layout.specs.Shapes.{LineNames, MessageShape}
 use Rattle.message_layout.specs.Spelling.{spelling}
 use Rattle.message_layout.specs.declared.contents.Contents.{Contents}
 use Rattle.traffic_message.specs.Handoff.{direction_contents, direction_from, direction_shape}
@@ -14,7 +14,7 @@ use Rattle.traffic_message.specs.InTraffic.{in_traffic_contents, in_traffic_from
 use Rattle.traffic_message.specs.InTraffic.{IsInTraffic}
 use Rattle.traffic_message.specs.Neighbors.{update_contents, update_from, update_shape}
 use Rattle.traffic_message.specs.Neighbors.{IsNeighborUpdate}
-use Rattle.traffic_message.specs.Widths.{head_widths}
+use Rattle.traffic_message.specs.Widths.{head_widths, in_traffic_names, time_names, update_names}
 use Rattle.traffic_message.specs.declared.body.TrafficBody.{TrafficBody}
 use Rattle.traffic_message.specs.declared.body.TrafficBody.TheVariants as bodies
 use Rattle.traffic_message.specs.declared.fields.Head.{Head}
@@ -67,6 +67,25 @@ traffic_shape_of forms.Parameters = in_traffic_shape
 traffic_shape_of forms.Update = update_shape
 traffic_shape_of forms.Direction = direction_shape
 traffic_shape_of forms.Plain = plain_shape [] [] 0 None
+
+-- the names in the line
+abbrev pub traffic_names_of : Form → LineNames
+traffic_names_of forms.Parameters = record {
+  word = codes "system";
+  fixed = in_traffic_names;
+  list = [];
+}
+traffic_names_of forms.Update = record {
+  word = codes "neighbors";
+  fixed = update_names;
+  list = codes "pilots";
+}
+traffic_names_of forms.Direction = record {
+  word = codes "handoff";
+  fixed = time_names;
+  list = codes "records";
+}
+traffic_names_of forms.Plain = record { word = []; fixed = []; list = [] }
 
 abbrev pub traffic_contents_of : TrafficBody → Contents
 traffic_contents_of (bodies.System m) = in_traffic_contents m

@@ -1,8 +1,9 @@
 //! What a message says after its head.
 
 ghost use Rattle.std.specs.Prelude.{◌≡◌, ◌+◌, ◌≤◌, ◌++◌, drop, length};
+ghost use Rattle.message_layout.specs.Shapes.{line_names, shape};
 ghost use Rattle.traffic_message.specs.Layouts.{bits_of, body_from, traffic_contents_of, form_in};
-ghost use Rattle.traffic_message.specs.Layouts.{HasFields};
+ghost use Rattle.traffic_message.specs.Layouts.{traffic_names_of, traffic_shape_of, HasFields};
 ghost use Rattle.traffic_message.specs.Messages.{kind_of as type_of};
 ghost use Rattle.traffic_message.specs.Reading.{part_reading};
 
@@ -11,7 +12,7 @@ use crate::in_traffic::InTraffic;
 use crate::layouts::{Form, form_of, layout_of};
 use crate::neighbors::NeighborUpdate;
 use chip_core::{Bits, Numbers};
-use message_layout::{BitSlice, Contents, append, read_from};
+use message_layout::{BitSlice, Contents, Layout, append, read_from};
 
 /// What a message of the traffic channel says after its head.
 ///
@@ -84,7 +85,7 @@ impl TrafficBody {
         requires { length body.old + length (bits_of self.now) ≤ 1184 }
         ensures { body.new ≡ body.old ++ bits_of self.now }
     {
-        append(&layout_of(self.form()), &self.contents(), body);
+        append(&self.layout(), &self.contents(), body);
     }
 
     /// The form of what stands after the head.
@@ -99,8 +100,16 @@ impl TrafficBody {
         }
     }
 
+    /// The layout of what stands after the head.
+    pub fn layout(&self) -> Layout
+        ensures shape { shape result ≡ traffic_shape_of (form_in self.now) }
+        ensures names { line_names result ≡ traffic_names_of (form_in self.now) }
+    {
+        layout_of(self.form())
+    }
+
     /// What stands after the head, as its layout has it.
-    fn contents(&self) -> Contents
+    pub fn contents(&self) -> Contents
         ensures value { result ≡ traffic_contents_of self.now }
         ensures fields { HasFields self.now }
     {

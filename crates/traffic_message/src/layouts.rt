@@ -1,8 +1,8 @@
 //! The layouts of the type with the head, and of what stands after them.
 
 ghost use Rattle.std.specs.Prelude.{◌≡◌, ◌≤◌, drop, length};
-ghost use Rattle.message_layout.specs.Shapes.{shape};
-ghost use Rattle.traffic_message.specs.Layouts.{form_at, traffic_shape_of};
+ghost use Rattle.message_layout.specs.Shapes.{line_names, shape};
+ghost use Rattle.traffic_message.specs.Layouts.{form_at, traffic_names_of, traffic_shape_of};
 
 use crate::handoff::is_hard_handoff;
 use crate::table::{HEAD_FIELDS, IN_TRAFFIC_FIELDS, SEARCH_FIELDS, TIME_FIELDS, UPDATE_FIELDS};
@@ -42,7 +42,8 @@ pub(crate) fn form_of(kind: u8, encryption: u8, bits: &BitSlice<'_>, from: u16) 
 
 /// The layout of a form.
 pub(crate) fn layout_of(form: Form) -> Layout
-    ensures { shape result ≡ traffic_shape_of form }
+    ensures shape { shape result ≡ traffic_shape_of form }
+    ensures names { line_names result ≡ traffic_names_of form }
 {
     match form {
         Form::Parameters => IN_TRAFFIC,
@@ -54,6 +55,7 @@ pub(crate) fn layout_of(form: Form) -> Layout
 
 /// The message type, the head, and all bits after them.
 pub(crate) const HEAD: Layout = Layout {
+    name: "",
     fixed: &[
         ("type", 8),
         ("ack", HEAD_FIELDS[0].1),
@@ -69,6 +71,7 @@ pub(crate) const HEAD: Layout = Layout {
 
 /// The In-Traffic System Parameters Message: its fields, and all bits after them.
 const IN_TRAFFIC: Layout = Layout {
+    name: "system",
     fixed: &IN_TRAFFIC_FIELDS,
     group: NO_GROUP,
     octets: NO_OCTETS,
@@ -78,10 +81,12 @@ const IN_TRAFFIC: Layout = Layout {
 
 /// The Neighbor List Update Message: PILOT_INC, and NGHBR_PN of each neighbor.
 const NEIGHBOR_UPDATE: Layout = Layout {
+    name: "neighbors",
     fixed: &UPDATE_FIELDS,
     group: NO_GROUP,
     octets: NO_OCTETS,
     records: Records {
+        name: "pilots",
         fields: &[("pn", 9)],
         least: 1,
     },
@@ -92,6 +97,7 @@ const NEIGHBOR_UPDATE: Layout = Layout {
 /// additional fields after HARD_INCLUDED, which is 0, and ADD_LENGTH, and of each record PILOT_PN,
 /// PWR_COMB_IND and CODE_CHAN.
 const HANDOFF_DIRECTION: Layout = Layout {
+    name: "handoff",
     fixed: &TIME_FIELDS,
     group: Group {
         presence: Presence::Flagged,
@@ -99,6 +105,7 @@ const HANDOFF_DIRECTION: Layout = Layout {
     },
     octets: Octets { zeros: 1, width: 3 },
     records: Records {
+        name: "records",
         fields: &[("pn", 9), ("comb", 1), ("row", 8)],
         least: 1,
     },

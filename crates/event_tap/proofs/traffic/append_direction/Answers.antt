@@ -1,7 +1,12 @@
 -- Why `append_direction` of `traffic` keeps its contract.
 use Rattle.traffic_message.proofs.ByLayout.{search_fits}
+use Rattle.event_tap.proofs.TrafficTexts.{listed_records}
 use Rattle.event_tap.proofs.traffic.append_direction.Goals as goal
 
 pub append_search-requires-clause-fit : goal.append_search-requires-clause-fit
 append_search-requires-clause-fit c =
     search_fits c.fields-fields.result.search _ c.fields-fields.ensures.spelled.group
+
+pub append_items-requires-clause-fit : goal.append_items-requires-clause-fit
+append_items-requires-clause-fit c =
+    listed_records c.fields-fields.result c.fields-fields.ensures.spelled

@@ -1,9 +1,9 @@
 -- Why `append_traffic` of `traffic` keeps its contract.
-use Rattle.std.proofs.Common.{sym, ◌∙◌}
-use Rattle.event_tap.proofs.TrafficTexts.{most_records}
+use Rattle.std.proofs.Common.{sym}
+use Rattle.event_tap.proofs.TrafficTexts.{few_records_in}
 use Rattle.event_tap.proofs.traffic.append_traffic.Goals as goal
 
-pub append_direction-requires-clause-records : goal.append_direction-requires-clause-records
-append_direction-requires-clause-records c =
-    most_records c.args.message.now c.in-Handoff.message c.body.ensures.spelled
-    (sym c.body.ensures.value ∙ c.in-Handoff.is)
+pub append_body-requires-clause-records : goal.append_body-requires-clause-records
+append_body-requires-clause-records c =
+    few_records_in c.args.message.now c.body.result c.body.ensures.spelled
+    (sym c.body.ensures.value)

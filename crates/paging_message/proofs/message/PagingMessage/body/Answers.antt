@@ -6,19 +6,19 @@ use Rattle.paging_message.proofs.Messages.{written}
 use Rattle.paging_message.proofs.message.PagingMessage.body.Goals as goal
 
 pub append-requires-clause-lawful : goal.append-requires-clause-lawful
-append-requires-clause-lawful c = rw c.layout_of.ensures (lawful c.kind-kind.result)
+append-requires-clause-lawful c = rw c.layout_of.ensures.shape (lawful c.kind-kind.result)
 
 pub append-requires-clause-contents : goal.append-requires-clause-contents
 append-requires-clause-contents c =
     (written c.args.self.now c.kind-kind.result _ c.contents.result c.contents.ensures.spelled
-    c.kind-kind.ensures c.layout_of.ensures c.contents.ensures.value).is
+    c.kind-kind.ensures c.layout_of.ensures.shape c.contents.ensures.value).is
 
 pub append-requires-clause-room : goal.append-requires-clause-room
 append-requires-clause-room c =
     omega (
       arith,
       (written c.args.self.now c.kind-kind.result _ c.contents.result c.contents.ensures.spelled
-          c.kind-kind.ensures c.layout_of.ensures c.contents.ensures.value).room,
+          c.kind-kind.ensures c.layout_of.ensures.shape c.contents.ensures.value).room,
       ap length c.append_number.ensures,
       ap length c.empty-body.ensures,
       length-append c.empty-body.result (binary 8 c.from.result),
@@ -28,7 +28,7 @@ append-requires-clause-room c =
 pub returns-clause-value : goal.returns-clause-value
 returns-clause-value c =
     let w = written c.args.self.now c.kind-kind.result _ c.contents.result
-    c.contents.ensures.spelled c.kind-kind.ensures c.layout_of.ensures c.contents.ensures.value in
+    c.contents.ensures.spelled c.kind-kind.ensures c.layout_of.ensures.shape c.contents.ensures.value in
     let typed : c.append_number.new.self ≡ binary 8 c.kind-kind.result =
     c.append_number.ensures
     ∙ ap (λ (r : List Bool). r ++ binary 8 c.from.result) c.empty-body.ensures
@@ -39,4 +39,4 @@ pub returns-clause-fills : goal.returns-clause-fills
 returns-clause-fills c =
     subst (FillsCapsule M30) (sym (returns-clause-value c))
     (written c.args.self.now c.kind-kind.result _ c.contents.result c.contents.ensures.spelled
-    c.kind-kind.ensures c.layout_of.ensures c.contents.ensures.value).fills
+    c.kind-kind.ensures c.layout_of.ensures.shape c.contents.ensures.value).fills

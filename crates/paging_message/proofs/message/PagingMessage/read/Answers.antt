@@ -14,13 +14,13 @@ returns-in_err-kind c =
     none ∙ no_type c.args.body.now c.in_err-kind.ensures.kind
 
 pub read_from-requires-clause-lawful : goal.read_from-requires-clause-lawful
-read_from-requires-clause-lawful c = rw c.layout_of.ensures (lawful c.in_ok-kind.kind)
+read_from-requires-clause-lawful c = rw c.layout_of.ensures.shape (lawful c.in_ok-kind.kind)
 
 pub read_from-requires-clause-room : goal.read_from-requires-clause-room
 read_from-requires-clause-room c =
     let body = c.args.body.now in
     let behind = drop c.in_ok-kind.from body in
-    subst (λ (s : MessageShape). count_in s.records (length behind) ≤ 128) (sym c.layout_of.ensures)
+    subst (λ (s : MessageShape). count_in s.records (length behind) ≤ 128) (sym c.layout_of.ensures.shape)
     (few_records c.in_ok-kind.kind (length behind)
     (typed_length body behind c.in_ok-kind.kind
     (c.fills_capsule.ensures.0 c.if-not-fills_capsule.false) c.in_ok-kind.ensures.kind))
@@ -31,14 +31,14 @@ returns-in_err-contents c =
     let none : c.from_residual-in_err-contents.result ≡ None = cc in
     none ∙ told body (drop c.in_ok-kind.from body) c.in_ok-kind.kind _ None
     (c.fills_capsule.ensures.0 c.if-not-fills_capsule.false) c.in_ok-kind.ensures.kind
-    c.layout_of.ensures c.in_err-contents.ensures.reading
+    c.layout_of.ensures.shape c.in_err-contents.ensures.reading
 
 pub of-requires : goal.of-requires
 of-requires c =
     let body = c.args.body.now in
     told_is body (drop c.in_ok-kind.from body) c.in_ok-kind.kind _ c.in_ok-contents.contents
     (c.fills_capsule.ensures.0 c.if-not-fills_capsule.false) c.in_ok-kind.ensures.kind
-    c.layout_of.ensures c.in_ok-contents.ensures.found
+    c.layout_of.ensures.shape c.in_ok-contents.ensures.found
 
 pub returns : goal.returns
 returns c =
@@ -46,4 +46,4 @@ returns c =
     ap Some c.of.ensures
     ∙ told body (drop c.in_ok-kind.from body) c.in_ok-kind.kind _ (Some c.in_ok-contents.contents)
     (c.fills_capsule.ensures.0 c.if-not-fills_capsule.false) c.in_ok-kind.ensures.kind
-    c.layout_of.ensures c.in_ok-contents.ensures.reading
+    c.layout_of.ensures.shape c.in_ok-contents.ensures.reading

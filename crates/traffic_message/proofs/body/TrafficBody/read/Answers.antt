@@ -4,18 +4,18 @@ use Rattle.traffic_message.proofs.ByLayout.{lawful, told, told_is}
 use Rattle.traffic_message.proofs.body.TrafficBody.read.Goals as goal
 
 pub read_from-requires-clause-lawful : goal.read_from-requires-clause-lawful
-read_from-requires-clause-lawful c = rw c.layout_of.ensures (lawful c.form_of-form.result)
+read_from-requires-clause-lawful c = rw c.layout_of.ensures.shape (lawful c.form_of-form.result)
 
 pub returns-in_err-contents : goal.returns-in_err-contents
 returns-in_err-contents c =
     let behind = drop c.args.from c.args.bits.now in
     let none : c.from_residual.result ≡ None = cc in
     none ∙ told c.args.kind c.args.encryption behind c.form_of-form.result _ None
-    c.form_of-form.ensures c.layout_of.ensures c.in_err-contents.ensures.reading
+    c.form_of-form.ensures c.layout_of.ensures.shape c.in_err-contents.ensures.reading
 
 pub of-requires : goal.of-requires
 of-requires c =
-    told_is c.args.kind c.form_of-form.result _ c.in_ok-contents.contents c.layout_of.ensures
+    told_is c.args.kind c.form_of-form.result _ c.in_ok-contents.contents c.layout_of.ensures.shape
     c.in_ok-contents.ensures.found.0
 
 pub returns : goal.returns
@@ -23,5 +23,5 @@ returns c =
     let behind = drop c.args.from c.args.bits.now in
     ap Some c.of.ensures
     ∙ told c.args.kind c.args.encryption behind c.form_of-form.result _
-    (Some c.in_ok-contents.contents) c.form_of-form.ensures c.layout_of.ensures
+    (Some c.in_ok-contents.contents) c.form_of-form.ensures c.layout_of.ensures.shape
     c.in_ok-contents.ensures.reading

@@ -1,0 +1,45 @@
+-- Why `append_item` of `items::ListedItems` keeps its contract.
+use Rattle.std.proofs.Common.{◌++◌, [], length, map, get_or, decimal, sym, ap, ◌∙◌, append_assoc, arith, length-append}
+use Rattle.std.proofs.lemmas.List.{get_or_default}
+use Rattle.chip_core.proofs.Places.{get_or-map-places}
+use Rattle.message_layout.proofs.Columns.{three_long}
+use Rattle.message_layout.specs.Contents.{height}
+use Rattle.event_tap.proofs.SaidTexts.{column_number, record_short}
+use Rattle.event_tap.specs.SaidTexts.{columns_text, columns_texts, slash_text}
+use Rattle.event_tap.proofs.items.ListedItems.append_item.Goals as goal
+
+pub returns-clause-value : goal.returns-clause-value
+returns-clause-value c =
+    let widths = map (λ row. row.1) c.args.self.now.fields.now in
+    let columns = c.args.self.now.columns.now in
+    let i = c.args.i in
+    let text = c.args.text.now in
+    let three = three_long widths (height columns) columns c.requires.fit.even in
+    let number = column_number columns 0 i c.index-self-0.result c.get.result (omega (arith, three)) c.get.ensures in
+    let first = decimal (get_or (get_or columns 0 []) i 0) in
+    let second = slash_text i (get_or columns 1 []) in
+    let third = slash_text i (get_or columns 2 []) in
+    c.append_slash-2.ensures.value
+    ∙ ap (λ column. c.append_slash.new.text ++ slash_text i column)
+    (get_or_default columns 2 c.index-self-2.result [] (omega (arith, three)))
+    ∙ ap (λ xs. xs ++ third) (c.append_slash.ensures.value
+    ∙ ap (λ column. c.append_number.new.self ++ slash_text i column)
+    (get_or_default columns 1 c.index-self-1.result [] (omega (arith, three)))
+    ∙ ap (λ xs. xs ++ second) (c.append_number.ensures.value
+    ∙ ap (λ n. text ++ decimal n) (sym number))
+    ∙ append_assoc text first second)
+    ∙ append_assoc text (first ++ second) third
+    ∙ ap (λ xs. text ++ xs)
+    (sym (get_or-map-places (columns_text columns) (height columns) i [] c.requires.within))
+
+pub returns-clause-len : goal.returns-clause-len
+returns-clause-len c =
+    let widths = map (λ row. row.1) c.args.self.now.fields.now in
+    let columns = c.args.self.now.columns.now in
+    omega (
+      arith,
+      ap length (returns-clause-value c),
+      length-append c.args.text.now (get_or (columns_texts columns) c.args.i []),
+      ap length (get_or-map-places (columns_text columns) (height columns) c.args.i [] c.requires.within),
+      record_short widths columns c.args.i c.requires.fit c.requires.within,
+    )

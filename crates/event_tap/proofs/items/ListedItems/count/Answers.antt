@@ -1,0 +1,10 @@
+-- Why `count` of `items::ListedItems` keeps its contract.
+use Rattle.chip_core.proofs.Places.{length-map-places}
+use Rattle.message_layout.specs.Contents.{height}
+use Rattle.event_tap.specs.SaidTexts.{columns_text}
+use Rattle.event_tap.proofs.items.ListedItems.count.Goals as goal
+
+pub returns-clause-all : goal.returns-clause-all
+returns-clause-all c =
+    let columns = c.args.self.now.columns.now in
+    length-map-places (columns_text columns) (height columns)

@@ -1,0 +1,45 @@
+-- Why `append_records` of `said` keeps its contract.
+use Rattle.std.proofs.Common.{◌*◌, ◌≤◌, length, map, ap, arith}
+use Rattle.std.proofs.Math.Nat.{mul-le-mul_left}
+use Rattle.message_layout.proofs.Columns.{height_at}
+use Rattle.message_layout.specs.Contents.{height}
+use Rattle.event_tap.proofs.PartTexts.{length-named}
+use Rattle.event_tap.specs.SaidTexts.{record_bytes}
+use Rattle.event_tap.proofs.said.append_records.Goals as goal
+use Rattle.event_tap.proofs.said.append_records.Goals.{After-append_name}
+
+-- there are at most 128 records
+few : (c : After-append_name) →
+    record_bytes (map (λ row. row.1) c.args.records.now.fields.now) * height c.args.columns.now
+    ≤ record_bytes (map (λ row. row.1) c.args.records.now.fields.now) * 128
+few c =
+    let columns = c.args.columns.now in
+    mul-le-mul_left (record_bytes (map (λ row. row.1) c.args.records.now.fields.now))
+    (omega (
+      arith,
+      height_at columns c.index-columns-0.result (omega (arith, c.told-columns)),
+      c.len-count.ensures.value,
+      c.len-count.ensures.most,
+    ))
+
+pub append_items-requires-clause-room : goal.append_items-requires-clause-room
+append_items-requires-clause-room c =
+    omega (
+      arith,
+      few (goal.at.append_items-requires-clause-room c).After-append_name,
+      c.append_name.ensures.len,
+      length-named c.as_bytes.result.now,
+      ap length c.as_bytes.ensures.value,
+      c.requires.room,
+    )
+
+pub returns-clause-len : goal.returns-clause-len
+returns-clause-len c =
+    omega (
+      arith,
+      few (goal.at.returns-clause-len c).After-append_name,
+      c.append_items.ensures.len,
+      c.append_name.ensures.len,
+      length-named c.as_bytes.result.now,
+      ap length c.as_bytes.ensures.value,
+    )

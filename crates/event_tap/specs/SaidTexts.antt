@@ -1,0 +1,99 @@
+-- What lines tell of messages, by the names of their layouts.
+use Rattle.std.specs.Prelude.{ℕ, ◌≡◌, ◌+◌, ◌*◌, ◌/◌, ◌^◌, ◌==◌, ◌<◌, ◌≤◌, ◌&&◌, if◌then◌else◌, Bool, true}
+use Rattle.std.specs.Prelude.{List, [], ◌∷◌, ◌++◌, length, map, drop, get_or, nat_le, nat_lt, codes}
+use Rattle.std.specs.Prelude.{decimal, Option, None, Some}
+use Rattle.std.specs.List.{flat_map, list_all}
+use Rattle.chip_core.specs.Bits.{places}
+use Rattle.line_text.specs.Texts.{bit_text, spaced_key}
+use Rattle.message_layout.specs.Contents.{height, shares}
+use Rattle.message_layout.specs.Shapes.{LineNames, MessageShape}
+use Rattle.message_layout.specs.declared.contents.Contents.{Contents}
+use Rattle.event_tap.specs.Parts.{are_short, commas, named_values, rest_text}
+
+-- the number of record i in a further column, after a slash, where records have one there
+abbrev pub slash_text : ℕ → List ℕ → List ℕ
+slash_text i column =
+    if nat_lt i (length column) then codes "/" ++ decimal (get_or column i 0) else []
+
+-- the numbers of record i, joined by slashes
+abbrev pub columns_text : List (List ℕ) → ℕ → List ℕ
+columns_text columns i =
+    decimal (get_or (get_or columns 0 []) i 0) ++ slash_text i (get_or columns 1 [])
+    ++ slash_text i (get_or columns 2 [])
+
+-- the records in order
+abbrev pub columns_texts : List (List ℕ) → List (List ℕ)
+columns_texts columns = map (columns_text columns) (places (height columns))
+
+-- ` NAME=R,R,..`, where the layout has records
+abbrev pub list_text : List ℕ → List ℕ → List (List ℕ) → List ℕ
+list_text name widths columns =
+    if length widths == 0 then [] else spaced_key name ++ commas (columns_texts columns)
+
+-- ` WORD NAME=.. NAME=.. LIST=R,R,.. rest=BITS` and LF: the layout's name, each fixed field after
+-- its name, the records, and the bits that are left
+unfoldable pub said_text : LineNames → List ℕ → Contents → List ℕ
+said_text names widths c =
+    codes " " ++ names.word ++ named_values names.fixed c.fixed
+    ++ list_text names.list widths c.columns ++ rest_text c.rest
+
+-- ` other type=K bits=BITS` and LF
+unfoldable pub kind_text : ℕ → List Bool → List ℕ
+kind_text kind bits =
+    codes " other type=" ++ decimal kind ++ codes " bits=" ++ bit_text bits ++ codes "\n"
+
+-- a message whose layout has no name is told by its type and its bits
+unfoldable pub message_text : ℕ → LineNames → List ℕ → Contents → List ℕ
+message_text kind names widths c =
+    if length names.word == 0 then kind_text kind c.rest else said_text names widths c
+
+-- HOW LONG IT IS
+-- how many digits a number of so many bits has at most
+abbrev pub digits_in : ℕ → ℕ
+digits_in width = width * 3 / 10 + 1
+
+-- whether such a number is of 32 bits, and has so few digits
+abbrev pub is_short_width : ℕ → Bool
+is_short_width width =
+    nat_le (2 ^ width) (2 ^ 32) && nat_le (2 ^ width) (10 ^ digits_in width)
+
+-- how many bytes a record takes at most, with the comma before it
+abbrev pub record_bytes : List ℕ → ℕ
+record_bytes [] = 0
+record_bytes (width ∷ widths) = digits_in width + 1 + record_bytes widths
+
+-- the records of a list have each the same fields, whose numbers are that short
+pub record AreListed (widths : List ℕ) (columns : List (List ℕ)) : Type 0 where
+  pub some : 1 ≤ length widths
+  pub few : length widths ≤ 3
+  pub even : map length columns ≡ shares widths (height columns)
+  pub fit : (i j : ℕ) → i < height columns → j < length widths →
+      get_or (get_or columns j []) i 0 < 2 ^ get_or widths j 0
+  pub short : list_all is_short_width widths ≡ true
+
+-- 128 records and their name, and what stands after them
+abbrev pub list_bytes : List ℕ → List ℕ → ℕ
+list_bytes name widths =
+    if length widths == 0 then 0 else length name + 2 + 128 * record_bytes widths
+
+abbrev pub end_bytes : Option ℕ → ℕ
+end_bytes None = 309
+end_bytes (Some most) = 44
+
+abbrev pub is_short_end : Option ℕ → Bool
+is_short_end None = true
+is_short_end (Some most) = nat_le most 7
+
+abbrev pub is_ascii : List ℕ → Bool
+is_ascii name = list_all (λ byte. nat_lt byte 128) name
+
+-- what a line tells by these names of such a layout has room after 95 bytes
+unfoldable pub has_line : LineNames → MessageShape → Bool
+has_line names s =
+    (length names.fixed == length s.fixed) && (are_short names.fixed s.fixed
+    && (is_ascii names.word && (is_ascii names.list
+    && (nat_le (length s.records) 3
+    && (list_all is_short_width s.records
+    && (is_short_end s.most
+    && nat_le (96 + length names.word + 16 * length s.fixed + list_bytes names.list s.records
+    + end_bytes s.most) 1024))))))

@@ -1,0 +1,117 @@
+//! What messages say, by the names of their layouts.
+
+ghost use Rattle.std.specs.Prelude.{◌≡◌, ◌≢◌, ◌≤◌, ◌+◌, ◌*◌, ◌++◌, true, length, map, IsAscii};
+ghost use Rattle.line_text.specs.Texts.{spaced_key};
+ghost use Rattle.message_layout.specs.Shapes.{line_names, shape};
+ghost use Rattle.message_layout.specs.Spelling.{IsOf, IsRest};
+ghost use Rattle.event_tap.specs.Parts.{commas, rest_text};
+ghost use Rattle.event_tap.specs.SaidTexts.{columns_texts, end_bytes, has_line, is_short_end, kind_text};
+ghost use Rattle.event_tap.specs.SaidTexts.{list_bytes, list_text, message_text, record_bytes};
+ghost use Rattle.event_tap.specs.SaidTexts.{said_text, AreListed};
+
+use crate::items::{Listed, append_items};
+use crate::parts::{append_few_rest, append_rest, append_values};
+use chip_core::{Bits, Numbers};
+use line_text::Text;
+use message_layout::{Contents, Layout, Records};
+
+/// Adds what a line tells of a message, and its end: what it says by the names of its layout, or
+/// its type and its bits where the layout has no name.
+#[tactic(auto, unfolding(crate::specs::SaidTexts::message_text))]
+pub(crate) fn append_message(text: &mut Text, kind: u8, layout: &Layout, contents: &Contents)
+    requires start { length text.old ≤ 95 }
+    requires said { IsOf (shape layout.now) contents.now }
+    requires line { has_line (line_names layout.now) (shape layout.now) ≡ true }
+    ensures value { text.new ≡ text.old ++ message_text kind (line_names layout.now)
+        (shape layout.now).records contents.now }
+    ensures most { length text.new ≤ 1024 }
+{
+    if layout.name.is_empty() {
+        append_kind(text, kind, &contents.rest);
+    } else {
+        append_said(text, layout, contents);
+    }
+}
+
+/// Adds the type of a message and its bits, and the end of the line.
+#[tactic(auto, unfolding(crate::specs::SaidTexts::kind_text))]
+fn append_kind(text: &mut Text, kind: u8, bits: &Bits)
+    requires { length text.old ≤ 95 }
+    ensures value { text.new ≡ text.old ++ kind_text kind bits.now }
+    ensures most { length text.new ≤ 1024 }
+{
+    text.append_named(" other type=", kind);
+    text.append_str(" bits=");
+    text.append_bits(bits);
+    text.append_str("\n");
+}
+
+/// Adds what a message says by the names of its layout, and the end of the line.
+fn append_said(text: &mut Text, layout: &Layout, contents: &Contents)
+    requires start { length text.old ≤ 95 }
+    requires said { IsOf (shape layout.now) contents.now }
+    requires line { has_line (line_names layout.now) (shape layout.now) ≡ true }
+    ensures value { text.new ≡ text.old ++ said_text (line_names layout.now)
+        (shape layout.now).records contents.now }
+    ensures most { length text.new ≤ 1024 }
+{
+    text.append_str(" ");
+    text.append_str(layout.name);
+    append_values(text, layout.fixed, contents.fixed.as_slice());
+    append_list(text, &layout.records, &contents.columns);
+    append_end(text, layout.most, &contents.rest);
+}
+
+/// Adds the records of a list after its name, where the layout has any.
+fn append_list(text: &mut Text, records: &Records, columns: &[Numbers; 3])
+    requires ascii { IsAscii records.now.name.now }
+    requires listed { length records.now.fields.now ≢ 0 →
+        AreListed (map (λ row. row.1) records.now.fields.now) columns.now }
+    requires room { length text.old + list_bytes records.now.name.now
+        (map (λ row. row.1) records.now.fields.now) + 44 ≤ 1024 }
+    ensures value { text.new ≡ text.old ++ list_text records.now.name.now
+        (map (λ row. row.1) records.now.fields.now) columns.now }
+    ensures len { length text.new ≤ length text.old + list_bytes records.now.name.now
+        (map (λ row. row.1) records.now.fields.now) }
+{
+    if !records.fields.is_empty() {
+        append_records(text, records, columns);
+    }
+}
+
+/// Adds the records of a list after its name.
+fn append_records(text: &mut Text, records: &Records, columns: &[Numbers; 3])
+    requires ascii { IsAscii records.now.name.now }
+    requires listed { AreListed (map (λ row. row.1) records.now.fields.now) columns.now }
+    requires room { length text.old + length records.now.name.now + 2
+        + 128 * record_bytes (map (λ row. row.1) records.now.fields.now) + 44 ≤ 1024 }
+    ensures value { text.new ≡ text.old ++ (spaced_key records.now.name.now
+        ++ commas (columns_texts columns.now)) }
+    ensures len { length text.new ≤ length text.old + length records.now.name.now + 2
+        + 128 * record_bytes (map (λ row. row.1) records.now.fields.now) }
+{
+    let count = columns[0].len();
+    prove!(count <= 128);
+    text.append_name(records.name.as_bytes());
+    append_items(
+        text,
+        &Listed {
+            fields: records.fields,
+            columns,
+        },
+    );
+}
+
+/// Adds the bits that are left after the fields of a layout, and the end of the line.
+fn append_end(text: &mut Text, most: Option<u16>, rest: &Bits)
+    requires left { IsRest most rest.now }
+    requires short { is_short_end most ≡ true }
+    requires room { length text.old + end_bytes most ≤ 1024 }
+    ensures value { text.new ≡ text.old ++ rest_text rest.now }
+    ensures most { length text.new ≤ 1024 }
+{
+    match most {
+        None => append_rest(text, rest),
+        Some(_) => append_few_rest(text, rest),
+    }
+}
