@@ -131,20 +131,20 @@ def is_right(rate: Rate, bits: Bits) -> bool:
 # ---- the best codeword (own)
 
 REVERSED = np.array([number(spelled(8, state)[::-1]) for state in range(256)])
-"""A state's eight bits read from the newest back, as a number: how words are ordered that end in different states."""
+"""A state's eight bits read from the newest back, as a number: the order of codewords that end in different states."""
 
 BRANCH_SIGNS = np.array([[1 - 2 * parity(state & generator) for state in range(256)] for generator in GENERATORS])
 """The signs of the two symbols of a step into a state, where the bit that leaves the register is 0. Both generators
 have the power 8, so both signs turn where it is 1."""
 
 NEVER = -(1 << 62)
-"""The score of a state that no word reaches: no sum of soft values of one frame comes near it."""
+"""The score of a state that no codeword reaches: no sum of soft values of one frame comes near it."""
 
 
-def best_words(softs: NDArray[Any], zero_ends: bool) -> tuple[NDArray[Any], NDArray[Any], NDArray[Any]]:
-    """Of each row of soft values, two for each bit, the best word: scores, start states, and bits, a row for each.
+def best_codewords(softs: NDArray[Any], zero_ends: bool) -> tuple[NDArray[Any], NDArray[Any], NDArray[Any]]:
+    """Of each row of soft values, two for each bit, the best codeword: scores, start states, and bits, a row for each.
 
-    The step into a state comes from one of two states, which differ in the bit that has just left: words that meet
+    The step into a state comes from one of two states, which differ in the bit that has just left: codewords that meet
     there differ last in it, so that 0 is taken on a tie.
     """
     spans, steps = len(softs), softs.shape[1] // 2

@@ -1,4 +1,4 @@
-"""Frames: the soft values of fingers, spans of frames that are decoded as one word, and frames of traffic channels."""
+"""Frames: the soft values of fingers, spans of frames decoded as one codeword, and frames of traffic channels."""
 
 from typing import Any, Callable, Iterator, NamedTuple
 
@@ -7,7 +7,7 @@ from numpy.typing import NDArray
 
 from model.bits import Bits
 from model.codes import WALSH, despread
-from model.coding import Rate, best_words, gathered, is_right
+from model.coding import Rate, best_codewords, gathered, is_right
 from model.files import Capture
 
 
@@ -105,15 +105,15 @@ def span_of(stream: Stream, count: int, index: int) -> list[int]:
 
 
 def decoded_spans(stream: Stream, softs: dict[int, NDArray[Any]], spans: dict[int, list[int]]) -> dict[int, Bits]:
-    """Of each frame its own bits in the best word of its span, by the soft values of all frames' code symbols."""
+    """Of each frame its own bits in the best codeword of its span, by the soft values of all frames' code symbols."""
     found = {}
     for length in {len(span) for span in spans.values()}:
         alike = {index: span for index, span in spans.items() if len(span) == length}
         rows = np.array([np.concatenate([softs[frame] for frame in span]) for span in alike.values()])
-        _, _, words = best_words(rows, zero_ends=False)
-        for (index, span), word in zip(alike.items(), words):
+        _, _, codewords = best_codewords(rows, zero_ends=False)
+        for (index, span), codeword in zip(alike.items(), codewords):
             own = stream.bits * span.index(index)
-            found[index] = word[own : own + stream.bits].tolist()
+            found[index] = codeword[own : own + stream.bits].tolist()
     return found
 
 
@@ -135,7 +135,7 @@ def stream_frames(capture: Capture, stream: Stream, taken: int) -> Iterator[tupl
         yield index, stream.end(span[-1]), bits[index]
 
 
-# ---- frames of traffic channels, each a word of its own
+# ---- frames of traffic channels, each a codeword of its own
 
 
 class Decoded(NamedTuple):
@@ -160,30 +160,30 @@ def rate_softs(rate: Rate, softs: NDArray[Any]) -> NDArray[Any]:
 
 
 def best_at(rate: Rate, softs: NDArray[Any]) -> tuple[int, Bits]:
-    """The best word of a rate between eight zeros and eight zeros: its score, and all its bits."""
-    scores, _, words = best_words(rate_softs(rate, softs)[None, :], zero_ends=True)
-    return int(scores[0]), words[0].tolist()
+    """The best codeword of a rate between eight zeros and eight zeros: its score, and all its bits."""
+    scores, _, codewords = best_codewords(rate_softs(rate, softs)[None, :], zero_ends=True)
+    return int(scores[0]), codewords[0].tolist()
 
 
-def chosen(rates: tuple[Rate, ...], words: list[list[tuple[int, Bits]]]) -> Decoded:
-    """The frame that each rate's words make, best first.
+def chosen(rates: tuple[Rate, ...], codewords: list[list[tuple[int, Bits]]]) -> Decoded:
+    """The frame that each rate's codewords make, best first.
 
-    Of each rate the first word whose quality indicator is right is a candidate; the one of greatest score is the
-    frame, the higher rate on a tie, and it is good where its score is above 0. Else the first rate's best word is told.
+    Of each rate the first codeword whose quality indicator is right is a candidate; the one of greatest score is the
+    frame, the higher rate on a tie, and it is good where its score is above 0. Else it is the first rate's best codeword.
     """
     candidates = []
-    for rate, listed in zip(rates, words):
-        right = [word for word in listed if is_right(rate, word[1])]
+    for rate, listed in zip(rates, codewords):
+        right = [codeword for codeword in listed if is_right(rate, codeword[1])]
         candidates += [Decoded(rate.speed, True, bits[: rate.information], score) for score, bits in right[:1]]
     best = max(candidates, key=lambda candidate: candidate.score, default=None)
     if best and best.score > 0:
         return best
-    score, bits = words[0][0]
+    score, bits = codewords[0][0]
     return Decoded(rates[0].speed, False, bits[: rates[0].information], score)
 
 
 def traffic_frame(rates: tuple[Rate, ...], softs: NDArray[Any], places: NDArray[Any]) -> Decoded:
-    """The frame that turned soft values tell, by the best word of each rate."""
+    """The frame that turned soft values tell, by the best codeword of each rate."""
     kept = without(softs, places)
     return chosen(rates, [[best_at(rate, kept)] for rate in rates])
 

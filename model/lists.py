@@ -10,11 +10,11 @@ from model.coding import BRANCH_SIGNS, NEVER, RATE_SET_1, REVERSED, Rate
 from model.frames import Decoded, chosen, rate_softs, without
 
 
-def first_words(count: int, softs: NDArray[Any], zero_ends: bool) -> list[tuple[int, Bits]]:
-    """The first words of soft values, two for each bit, in the order of words: scores, and bits.
+def first_codewords(count: int, softs: NDArray[Any], zero_ends: bool) -> list[tuple[int, Bits]]:
+    """The first codewords of soft values, two for each bit, in the order of codewords: scores, and bits.
 
-    Of each state so many words are kept, first ones first. Those of the state before whose leaving bit is 0 come
-    before those of the other one on a tie, so a stable sort by score merges the two lists in the order of words.
+    Of each state so many codewords are kept, first ones first. Those of the state before whose leaving bit is 0 come
+    before those of the other one on a tie, so a stable sort by score merges the two lists in the order of codewords.
     """
     steps = len(softs) // 2
     scores = np.full((256, count), NEVER)
@@ -31,7 +31,7 @@ def first_words(count: int, softs: NDArray[Any], zero_ends: bool) -> list[tuple[
 
 
 def bits_back(taken: NDArray[Any], state: int, rank: int) -> Bits:
-    """The bits of the word of a rank in a last state, by which word each step took: of either state before."""
+    """The bits of the codeword of a rank in a last state, by which codeword each step took: of either state before."""
     bits = []
     for step in reversed(range(len(taken))):
         bits.append(state & 1)
@@ -40,12 +40,12 @@ def bits_back(taken: NDArray[Any], state: int, rank: int) -> Bits:
     return bits[::-1]
 
 
-def listed_words(count: int, rate: Rate, softs: NDArray[Any]) -> list[tuple[int, Bits]]:
-    """The words of a rate that are looked through: so many where it has a quality indicator, else the best one."""
-    return first_words(count if rate.check else 1, rate_softs(rate, softs), zero_ends=True)
+def listed_codewords(count: int, rate: Rate, softs: NDArray[Any]) -> list[tuple[int, Bits]]:
+    """The codewords of a rate that are looked through: so many where it has a quality indicator, else the best one."""
+    return first_codewords(count if rate.check else 1, rate_softs(rate, softs), zero_ends=True)
 
 
 def listed_frame(count: int, softs: NDArray[Any], places: NDArray[Any]) -> Decoded:
-    """The frame of rate set 1 that turned soft values tell, by so many words of each rate."""
+    """The frame of rate set 1 that turned soft values tell, by so many codewords of each rate."""
     kept = without(softs, places)
-    return chosen(RATE_SET_1, [listed_words(count, rate, kept) for rate in RATE_SET_1])
+    return chosen(RATE_SET_1, [listed_codewords(count, rate, kept) for rate in RATE_SET_1])

@@ -11,7 +11,7 @@ from the mark, which the first sync message sets. Each step is a value of docs/L
     2  the scrambling bits: chips of the long code
     3  the soft values in the order in which the symbols are sent, turned back by the scrambling bits
     4  the soft values of the code symbols, in the encoder's order: those of the rate that is shown
-    5  the best word of each rate, with its score and that of the next best
+    5  the best codeword of each rate, with its score and that of the next best
     6  the quality indicator, as sent and as computed
     7  the bits with their fields, and what they say
 
@@ -121,10 +121,10 @@ def hex_lines(bits: NDArray[Any]) -> list[str]:
 
 
 def reading_lines(steps: Steps) -> list[str]:
-    """The words of each rate."""
+    """The best codewords of each rate."""
     lines = []
     for place, reading in enumerate(steps.readings):
-        (best, _), (other, _) = reading.words[:2]
+        (best, _), (other, _) = reading.codewords[:2]
         mark = ">" if place == steps.shown and len(steps.readings) > 1 else " "
         lines.append(f" {mark} {reading.name}: score {best}, next best {other}")
     return lines
@@ -143,7 +143,7 @@ def quality_lines(steps: Steps) -> list[str]:
 
 
 def part_texts(steps: Steps) -> list[str]:
-    """The fields as words, and long ones as bits."""
+    """The fields with their values, and long ones as bits."""
     found = []
     for part in steps.parts:
         if part.value and len(part.bits) <= LONGEST_NUMBER:
@@ -169,14 +169,14 @@ def text_of(steps: Steps) -> list[str]:
     first = f"the first {complex_text(steps.turned[0])[:-3]}, the mean {np.abs(steps.turned).mean():.0f}"
     lines += [f"3 soft values as sent: {first}", *symbol_lines(steps.turned, steps.replaced)]
     lines += [f"4 soft values of the code symbols ({shown.name})", *symbol_lines(shown.softs)]
-    lines += ["5 words", *reading_lines(steps), "6 quality indicators", *quality_lines(steps)]
+    lines += ["5 codewords", *reading_lines(steps), "6 quality indicators", *quality_lines(steps)]
     lines += wrapped("7 bits:", part_texts(steps))
     if steps.commands:
         lines.append(f"  power control bits {steps.commands}: 1 lowers the handset's power")
     return lines + [f"=> {line}" for line in steps.verdict]
 
 
-# ---- the words
+# ---- the arguments
 
 
 def parser() -> argparse.ArgumentParser:

@@ -113,14 +113,14 @@ def code_panel(axes: Axes, steps: Steps) -> None:
     reading = steps.readings[steps.shown]
     bars(axes, reading.softs.astype(float), np.array([], int))
     text = f"4  soft values of the {len(reading.softs)} code symbols, in the encoder's order ({reading.name})"
-    corrected = f": the word corrects {reading.unlike}" if reading.unlike else ": all are the best word's"
+    corrected = f": the best codeword corrects {reading.unlike}" if reading.unlike else ": all are the best codeword's"
     axes.set_title(text + corrected, fontsize=10, loc="left")
 
 
 def score_panel(axes: Axes, steps: Steps) -> None:
-    """Steps 5 and 6: the scores of the two first words of each rate, and whether the quality indicator is right."""
+    """Steps 5 and 6: the scores of the two best codewords of each rate, and whether the quality indicator is right."""
     for place, reading in enumerate(steps.readings):
-        (best, _), (other, _) = reading.words[:2]
+        (best, _), (other, _) = reading.codewords[:2]
         color = ZERO if reading.is_candidate else "0.7"
         axes.barh(place - 0.18, best, height=0.34, color=color)
         axes.barh(place + 0.18, other, height=0.34, color=color, alpha=0.45)
@@ -137,7 +137,7 @@ def score_panel(axes: Axes, steps: Steps) -> None:
 
 
 def next_best(best: int, other: int) -> str:
-    """How near the next best word comes to the best one."""
+    """How near the next best codeword comes to the best one."""
     return (
         f"next best: {100 * other / best:.1f} %"
         if best > 0

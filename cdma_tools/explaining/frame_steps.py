@@ -37,7 +37,7 @@ from model.handset import (
     reference_fingers,
     sync_stream,
 )
-from model.lists import first_words
+from model.lists import first_codewords
 from model.messages import (
     FREQUENCY,
     HANDOFF_FIELDS,
@@ -76,12 +76,12 @@ class Path:
 
 @dataclass
 class Reading:
-    """A way to read the frame: its name, soft values of the code symbols, the two first words, how often the first
+    """A way to read the frame: its name, soft values of the code symbols, the two best codewords, how often the best
     one's symbols are unlike the soft values, and its quality indicator as sent and as it should be."""
 
     name: str
     softs: NDArray[Any]
-    words: list[tuple[int, Bits]]
+    codewords: list[tuple[int, Bits]]
     unlike: int
     sent: Bits = field(default_factory=list)
     right: Bits = field(default_factory=list)
@@ -244,16 +244,16 @@ def stream_steps(capture: Capture, stream: Stream, index: int, what: str) -> Ste
     turned = heard if scrambling is None else np.where(scrambling, -heard, heard)
     span = span_of(stream, capture.count, index)
     softs = np.concatenate([stream.code_softs(capture, frame) for frame in span])
-    words = first_words(2, softs, zero_ends=False)
+    codewords = first_codewords(2, softs, zero_ends=False)
     place = stream.bits * span.index(index)
     own = slice(2 * place, 2 * (place + stream.bits))
-    before = words[0][1][:place]
+    before = codewords[0][1][:place]
     start_state = number(before[-8:]) if place else None
-    bits = words[0][1][place : place + stream.bits]
+    bits = codewords[0][1][place : place + stream.bits]
     symbols = code_symbols(start_state or 0, bits)
     skipped = 0 if place else 16  # the first symbols of a span depend on its start bits too
-    name = f"frames {span[0]} to {span[-1]} as one word" if len(span) > 1 else f"frame {index} alone"
-    reading = Reading(name, softs[own], words, unlike(softs[own][skipped:], symbols[skipped:]))
+    name = f"frames {span[0]} to {span[-1]} as one codeword" if len(span) > 1 else f"frame {index} alone"
+    reading = Reading(name, softs[own], codewords, unlike(softs[own][skipped:], symbols[skipped:]))
     title = f"frame {index}, {what}: from sample {start} on, known at {stream.end(span[-1])}"
     return Steps(title, stream.form, paths_of(capture, stream.fingers, stream.form, start), scrambling,
                  np.array([], int), heard, turned, [reading], 0, bits, [], [])  # fmt: skip
@@ -341,10 +341,10 @@ def fill_half(steps: Steps, held: Bits | None, half: Bits, complemented: bool) -
 def reading_of(rate: Rate, kept: NDArray[Any]) -> Reading:
     """A frame read at a rate."""
     softs = rate_softs(rate, kept)
-    words = first_words(2, softs, zero_ends=True)
-    bits = words[0][1]
+    codewords = first_codewords(2, softs, zero_ends=True)
+    bits = codewords[0][1]
     sent = bits[rate.information : rate.bits() - TAIL]
-    return Reading(f"{rate.speed}", softs, words, unlike(softs, code_symbols(0, bits)), sent,
+    return Reading(f"{rate.speed}", softs, codewords, unlike(softs, code_symbols(0, bits)), sent,
                    quality(rate, bits[: rate.information]), is_right(rate, bits))  # fmt: skip
 
 
@@ -381,7 +381,7 @@ def traffic_steps(capture: Capture, found: Found, mark: Mark, assigned: Assigned
     end = end_of(fingers, DATA_FORM, clock.start)
     title = f"frame {index}, traffic channel on row {assigned.row}: from sample {clock.start} on, at {end}"
     steps = Steps(title, DATA_FORM, paths_of(capture, fingers, DATA_FORM, clock.start), clock.scrambling, clock.places,
-                  heard, turned, readings, shown, readings[shown].words[0][1], [], [],
+                  heard, turned, readings, shown, readings[shown].codewords[0][1], [], [],
                   power_commands(softs, clock.places))  # fmt: skip
     steps.parts = traffic_parts(rates[shown], rate_set, steps.bits)
     add_traffic_verdict(steps, frame.good)
@@ -425,16 +425,21 @@ def signalling_parts(part: Bits) -> list[Part]:
 # ---- what the steps say of the frame
 
 
+def corrections(reading: Reading) -> str:
+    """How many code symbols the best codeword corrects."""
+    return f"the best codeword corrects {reading.unlike} of {len(reading.softs)} code symbols (steps 4 and 5)"
+
+
 def add_verdict(steps: Steps) -> None:
-    """Says of a frame of the sync or a paging channel whether its word is sure."""
+    """Says of a frame of the sync or a paging channel whether its codeword is sure."""
     reading = steps.readings[0]
-    best, other = reading.words[0][0], reading.words[1][0]
+    best, other = reading.codewords[0][0], reading.codewords[1][0]
     if best == other:
-        steps.verdict.append("not sure: another word has the same score (step 5)")
+        steps.verdict.append("not sure: another codeword has the same score (step 5)")
     elif reading.unlike:
-        steps.verdict.append(f"the word corrects {reading.unlike} of {len(reading.softs)} code symbols (steps 4 and 5)")
+        steps.verdict.append(corrections(reading))
     else:
-        steps.verdict.append("all code symbols are the word's (steps 4 and 5)")
+        steps.verdict.append("all code symbols are the best codeword's (steps 4 and 5)")
 
 
 def add_traffic_verdict(steps: Steps, good: bool) -> None:
@@ -448,7 +453,7 @@ def add_traffic_verdict(steps: Steps, good: bool) -> None:
     else:
         steps.verdict.append("not good: no candidate's score is above 0 (step 5)")
     if reading.unlike:
-        steps.verdict.append(f"the word corrects {reading.unlike} of {len(reading.softs)} code symbols (steps 4 and 5)")
+        steps.verdict.append(corrections(reading))
 
 
 def found_in(capture: Capture, span: int, fingers: int) -> Found:

@@ -5,12 +5,14 @@ from __future__ import annotations
 import os
 import unittest
 from collections.abc import Sequence
+from typing import Any, ClassVar
 
 from tools.tests.helping import needs, temporary_folder
 
 needs("numpy")
 
 import numpy  # noqa: E402
+from numpy.typing import NDArray  # noqa: E402
 
 from cdma_tools.conformance import by_model, cases, explained  # noqa: E402
 from cdma_tools.explaining.frame_steps import Steps  # noqa: E402
@@ -18,14 +20,15 @@ from model.bits import text_of_bits  # noqa: E402
 from tools.tests.radio_helping import run_main  # noqa: E402
 
 NAMES = ("heard", "scrambling", "softs", "symbols", "word", "quality")
+Softs = Sequence[float] | NDArray[Any]
 
 
-def numbers(softs: Sequence[float]) -> str:
+def numbers(softs: Softs) -> str:
     """Soft values as whole numbers, of another scale than the model's."""
     return ",".join(str(int(soft) // 1_000_003) for soft in softs)
 
 
-def hard(softs: Sequence[float]) -> str:
+def hard(softs: Softs) -> str:
     """Soft values as bits."""
     return text_of_bits([int(soft < 0) for soft in softs])
 
@@ -52,11 +55,17 @@ class OfOneCase(unittest.TestCase):
     """Receivers that write one text, over a case whose samples the model makes."""
 
     case_name = "traffic_9600"
+    folder: ClassVar[str]
+    case: ClassVar[cases.Case]
+    text: ClassVar[list[str]]  # the wanted lines
+    data: ClassVar[bytes]
+    explainer: ClassVar[explained.Explainer]
 
     @classmethod
     def setUpClass(cls) -> None:
         cls.folder = temporary_folder(cls.addClassCleanup)
         cls.case = cases.Case(cls.case_name)
+        cls.text = cls.case.text or []
         cls.data = by_model.samples_of(cls.case)
         cls.explainer = explained.Explainer(cls.case.words, cls.data)
         cls.keep("made.is95", cls.data)
@@ -87,11 +96,11 @@ class OfOneCase(unittest.TestCase):
 
     def place_of(self, start: str) -> int:
         """The number of the first wanted line that begins so."""
-        return next(place for place, line in enumerate(self.case.text) if line.startswith(start))
+        return next(place for place, line in enumerate(self.text) if line.startswith(start))
 
     def wrong(self, start: str, *steps: str) -> list[str]:
         """The wanted lines, with these before the first that begins so, and that one wrong."""
-        lines, place = list(self.case.text), self.place_of(start)
+        lines, place = list(self.text), self.place_of(start)
         line = lines[place]
         return [*lines[:place], *steps, line[:-1] + ("0" if line[-1] != "0" else "1"), *lines[place + 1 :]]
 
@@ -164,15 +173,16 @@ class EachStep(OfOneCase):
 
     def test_power_control_bits_that_are_taken_for_symbols(self) -> None:
         steps = self.explainer.steps("traffic", 1)
+        assert steps.scrambling is not None
         softs = numpy.where(steps.scrambling, -steps.heard, steps.heard)
         wanted = "32 power control bits are taken for symbols, the first is number 6"
         self.differs("frame at=737280", self.told("traffic", 1, {"softs": numbers(softs)}), wanted=wanted)
 
     def test_a_rate_that_is_another(self) -> None:
-        """Code symbols of 1,200 bits a second are right for that rate; the word has another number of bits."""
+        """Code symbols of 1,200 bits a second are right for that rate; the codeword has another number of bits."""
         steps = self.explainer.steps("traffic", 1)
         slow = next(reading for reading in steps.readings if reading.name == "1200")
-        told = {"symbols": numbers(slow.softs), "word": text_of_bits(slow.words[0][1])}
+        told = {"symbols": numbers(slow.softs), "word": text_of_bits(slow.codewords[0][1])}
         wanted = "step 5, the best codeword, differs in frame 1 of the traffic channel: 24 bits, and 192 are right"
         self.differs("frame at=737280", self.told("traffic", 1, told), wanted=wanted)
 
@@ -186,7 +196,7 @@ class EachStep(OfOneCase):
 
 class Lines(OfOneCase):
     def test_steps_of_a_receiver_that_is_right_change_nothing(self) -> None:
-        lines = [*self.case.text]
+        lines = [*self.text]
         lines.insert(self.place_of("frame at=737280"), self.told("traffic", 1, {"word": "1:80"}))
         self.assertEqual(self.said(lines, "--explain"), (0, "1 cases, 0 differ\n"))
         status, said = self.said(lines)
@@ -216,7 +226,7 @@ class Lines(OfOneCase):
 
     def test_a_line_that_is_missing(self) -> None:
         """Steps of a frame whose line isn't written stand before the next line."""
-        lines, place = list(self.case.text), self.place_of("frame at=737280")
+        lines, place = list(self.text), self.place_of("frame at=737280")
         lines[place] = self.told("traffic", 1, {"word": "8:00"})
         self.assertIn("step 5, the best codeword, differs in frame 1", self.said(lines, "--explain")[1])
 
@@ -226,7 +236,7 @@ class OfRateSet2(OfOneCase):
 
     def test_a_frame(self) -> None:
         steps = self.explainer.steps("traffic", 0)
-        start = next(line for line in self.case.text if line.startswith("frame2")).partition(" rate")[0]
+        start = next(line for line in self.text if line.startswith("frame2")).partition(" rate")[0]
         told = {**values(steps), "word": flipped(values(steps)["word"])}
         wanted = "step 5, the best codeword, differs in frame 0 of the traffic channel: 1 of "
         self.differs(start, self.told("traffic", 0, told), wanted=wanted)

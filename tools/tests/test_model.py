@@ -13,6 +13,7 @@ from tools.tests.helping import EXAMPLES, PYTHON, ROOT, needs, sample_file
 needs("numpy")
 
 import numpy as np  # noqa: E402
+from numpy.typing import NDArray  # noqa: E402
 
 from model import codes, coding, frames, lists, messages, script, search, sets, slots  # noqa: E402
 from model.air import draws  # noqa: E402
@@ -86,7 +87,7 @@ class Coding(unittest.TestCase):
         self.assertEqual([rate.bits() for rate in coding.RATE_SET_2], [288, 144, 72, 36])
 
 
-def scored(softs: np.ndarray, start: int, bits: Bits) -> int:
+def scored(softs: NDArray[Any], start: int, bits: Bits) -> int:
     """The score of a word, as docs/LINK.md has it."""
     return int(np.sum(softs * (1 - 2 * coding.code_symbols(start, bits))))
 
@@ -101,7 +102,7 @@ class Words(unittest.TestCase):
 
     def test_a_worked_word(self) -> None:
         softs = np.array([[1 - 2 * symbol for symbol in ENCODED], [0] * 18])
-        scores, starts, bits = coding.best_words(softs, zero_ends=False)
+        scores, starts, bits = coding.best_codewords(softs, zero_ends=False)
         self.assertEqual((list(scores), list(starts)), ([18, 0], [0, 0]))
         self.assertEqual(bits.tolist(), [[1] + [0] * 8, [0] * 9])
 
@@ -112,9 +113,9 @@ class Words(unittest.TestCase):
             every = [(scored(softs, start, list(bits)), start, list(bits))
                      for start in range(256) for bits in itertools.product((0, 1), repeat=4)]  # fmt: skip
             first = in_order(every)[:3]
-            scores, starts, bits = coding.best_words(softs[None, :], zero_ends=False)
+            scores, starts, bits = coding.best_codewords(softs[None, :], zero_ends=False)
             self.assertEqual((scores[0], starts[0], bits[0].tolist()), first[0])
-            found = lists.first_words(3, softs, zero_ends=False)
+            found = lists.first_codewords(3, softs, zero_ends=False)
             self.assertEqual(found, [(score, bits) for score, _, bits in first])
 
     def test_the_first_of_all_words_between_zeros(self) -> None:
@@ -124,8 +125,8 @@ class Words(unittest.TestCase):
             every = [(scored(softs, 0, [*bits, *[0] * 8]), 0, [*bits, *[0] * 8])
                      for bits in itertools.product((0, 1), repeat=6)]  # fmt: skip
             first = in_order(every)[:5]
-            self.assertEqual(lists.first_words(5, softs, zero_ends=True), [(score, bits) for score, _, bits in first])
-            scores, _, bits = coding.best_words(softs[None, :], zero_ends=True)
+            self.assertEqual(lists.first_codewords(5, softs, zero_ends=True), [(score, bits) for score, _, bits in first])
+            scores, _, bits = coding.best_codewords(softs[None, :], zero_ends=True)
             self.assertEqual((scores[0], bits[0].tolist()), (first[0][0], first[0][2]))
 
 
@@ -137,16 +138,16 @@ class Words(unittest.TestCase):
             sent = [rng.randrange(2) for _ in range(bits - 8)] + ([0] * 8 if zero_ends else [1, 0] * 4)
             sizes = np.array([rng.randrange(1, 2_048) for _ in range(2 * bits)])
             softs = sizes * (1 - 2 * coding.code_symbols(start, sent))
-            scores, starts, words = coding.best_words(softs[None, :], zero_ends)
+            scores, starts, words = coding.best_codewords(softs[None, :], zero_ends)
             self.assertEqual((scores[0], starts[0], words[0].tolist()), (sizes.sum(), start, sent))
-            self.assertEqual(lists.first_words(2, softs, zero_ends)[0], (sizes.sum(), sent))
+            self.assertEqual(lists.first_codewords(2, softs, zero_ends)[0], (sizes.sum(), sent))
 
     def test_nothing_heard(self) -> None:
         """Of nine bits with eight zeros at the end there are two words, which score nothing: the lesser comes first."""
         softs = np.zeros(18, np.int64)
-        scores, _, bits = coding.best_words(softs[None, :], zero_ends=True)
+        scores, _, bits = coding.best_codewords(softs[None, :], zero_ends=True)
         self.assertEqual((scores[0], bits[0].tolist()), (0, [0] * 9))
-        self.assertEqual(lists.first_words(2, softs, zero_ends=True), [(0, [0] * 9), (0, [1] + [0] * 8)])
+        self.assertEqual(lists.first_codewords(2, softs, zero_ends=True), [(0, [0] * 9), (0, [1] + [0] * 8)])
 
 
 class Messages(unittest.TestCase):
