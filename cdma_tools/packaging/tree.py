@@ -22,6 +22,8 @@ ZSH = "share/zsh/site-functions"  # which zsh looks at below /usr/local
 PLAIN, EXECUTABLE = 0o644, 0o755
 # Folders of the checkout that are laid as they are, without what a run of Python leaves in them.
 FOLDERS = ("cdma_tools", "model", "conformance", "examples")
+# Pages outside docs/ to which those that are installed lead, each at its place in the checkout.
+PAGES = ("README.md", "CONTRIBUTING.md", "CHANGELOG.md", "conformance/README.md")
 # What a command is: it finds the package beside it, wherever the prefix lies, and leaves nothing behind.
 COMMAND = """#!/usr/bin/python3
 \"\"\"The command `{module}` of the package cdma_tools.\"\"\"
@@ -95,9 +97,8 @@ def shared_files() -> Iterator[Entry]:
 
 
 def documents() -> Iterator[Entry]:
-    """The documents, with their pictures."""
-    yield Entry(f"{DOCUMENTS}/README.md", read(os.path.join(TOP, "README.md")), PLAIN)
-    for place in files_below("docs"):
+    """The documents, with their pictures; a link from one to another leads there as it does in the checkout."""
+    for place in [*PAGES, *files_below("docs")]:
         if not place.endswith(".1"):
             yield Entry(f"{DOCUMENTS}/{place}", read(os.path.join(TOP, place)), PLAIN)
 

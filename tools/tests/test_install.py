@@ -1,6 +1,7 @@
 """tools/install: what it puts in place, and where it refuses. A script stands for the program."""
 
 import os
+import re
 import unittest
 
 from tools.tests.helping import ROOT, run_tool, temporary_folder
@@ -46,6 +47,20 @@ class Installs(unittest.TestCase):
         status, _, said = run_tool("install", "--remove", self.prefix)
         self.assertEqual((status, said, self.files()), (0, "", [other]))
         self.refused_as("nothing is installed there", "--remove", self.prefix)
+
+    def test_links_of_installed_pages_lead_to_installed_files(self) -> None:
+        self.assertEqual(run_tool("install", "--program", self.program, self.prefix)[0], 0)
+        documents = os.path.join(self.prefix, "share", "doc", "cdma-replay")
+        pages = [path for path in self.files() if path.startswith(documents) and path.endswith(".md")]
+        self.assertIn(os.path.join(documents, "CONTRIBUTING.md"), pages)
+        links = 0
+        for page in pages:
+            for name in re.findall(r"\]\((?!https?:)([^)#]+)(?:#[^)]*)?\)", self.read(page).decode()):
+                with self.subTest(page=os.path.relpath(page, documents), name=name):
+                    path = os.path.normpath(os.path.join(os.path.dirname(page), name))
+                    self.assertTrue(path.startswith(documents) and os.path.isfile(path))
+                    links += 1
+        self.assertGreater(links, 50)
 
     def test_a_list_that_leads_elsewhere_takes_nothing_away(self) -> None:
         kept = os.path.join(os.path.dirname(self.prefix), "kept")
