@@ -5,7 +5,7 @@ import io
 import os
 import subprocess
 import unittest
-from typing import Any
+from typing import Any, ClassVar
 
 import numpy
 from numpy.typing import NDArray
@@ -97,6 +97,10 @@ class Recordings(unittest.TestCase):
     """A folder with a cell of some length, and the two tools."""
 
     CHIPS = 500_000
+    folder: ClassVar[str]
+    sent: ClassVar[NDArray[numpy.complex128]]
+    cell: ClassVar[str]
+    said: str  # of the last lock
 
     @classmethod
     def setUpClass(cls) -> None:

@@ -2,8 +2,10 @@
 
 import os
 import shlex
+from typing import Any
 
 import numpy
+from numpy.typing import NDArray
 
 from cdma_tools.correlation import codes
 from tools.tests.helping import sample_file
@@ -34,12 +36,12 @@ FOLLOWED = (
 )
 
 
-def sent_symbols(count: int) -> numpy.ndarray:
+def sent_symbols(count: int) -> NDArray[Any]:
     """The signs of so many symbols of a sync channel, by a rule that repeats late."""
     return 1 - 2 * (numpy.arange(count) ** 2 // 7 % 2)
 
 
-def signal(count: int = SAMPLES, phase: int = PHASE) -> numpy.ndarray:
+def signal(count: int = SAMPLES, phase: int = PHASE) -> NDArray[Any]:
     """A pilot with a sync channel whose frames begin where the pilot's code does."""
     in_phase, quadrature = codes()
     places = (phase + numpy.arange(count)) % 32_768
@@ -49,7 +51,7 @@ def signal(count: int = SAMPLES, phase: int = PHASE) -> numpy.ndarray:
     return (PILOT + SYNC * row * symbols) * (in_phase + 1j * quadrature)[places]
 
 
-def file_of(samples: numpy.ndarray) -> bytes:
+def file_of(samples: NDArray[Any]) -> bytes:
     """The sample file of rounded samples."""
     return sample_file([(round(one.real), round(one.imag)) for one in samples])
 

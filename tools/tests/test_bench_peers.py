@@ -71,7 +71,7 @@ class Peers(unittest.TestCase):
             there_not = libraries.built(missing, self.folder)
             self.assertEqual(there_not, "")
         said = io.StringIO()
-        with mock.patch.object(libraries.shutil, "which", return_value=None), contextlib.redirect_stdout(said):
+        with mock.patch("shutil.which", return_value=None), contextlib.redirect_stdout(said):
             self.assertEqual(measuring.works_of(libraries.DECODERS, self.folder, b"", ""), {})
         self.assertRegex(said.getvalue(), r"libfec +not measured: no compiler cc: install the package build-essential\n")
         with mock.patch.object(libraries, "GNU_RADIO", "no_such_module"):

@@ -4,6 +4,7 @@ import contextlib
 import io
 import os
 import unittest
+from typing import ClassVar
 
 from tools.tests.helping import EXAMPLES, PYTHON, ROOT, needs, run_tool, sample_file, temporary_folder
 
@@ -12,6 +13,7 @@ needs("numpy")
 from cdma_tools.commands import status_of  # noqa: E402
 from cdma_tools.conformance import by_model, cases, random_case  # noqa: E402
 from cdma_tools.conformance.by_model import Draft, input_of, items_of  # noqa: E402
+from model.run import run  # noqa: E402
 
 WRITE, CHECK = "conformance_write", "conformance_check"
 DRAFT = """purpose: a pilot that turns the other way
@@ -175,12 +177,15 @@ class Agree(unittest.TestCase):
 
 
 class Explain(unittest.TestCase):
+    folder: ClassVar[str]
+    path: ClassVar[str]
+
     @classmethod
     def setUpClass(cls) -> None:
         cls.folder = temporary_folder(cls.addClassCleanup)
         cls.path = os.path.join(cls.folder, "lesson.is95")
         with open(os.path.join(EXAMPLES, "lesson.script"), "rb") as file, open(cls.path, "wb") as made:
-            made.write(by_model.run(["make"], file.read).text())
+            made.write(run(["make"], file.read).text())
 
     def lines(self, *words: object) -> list[str]:
         status, out, err = run_tool("explain", self.path, *words)
@@ -233,10 +238,10 @@ class Explain(unittest.TestCase):
             self.assertEqual(run_tool("explain", bad, "--sync")[::2], (1, f"explain: {bad}: bad file: {fault}\n"))
         with open(bad, "wb") as file:
             file.write(sample_file([(0, 0)] * 2_048))
-        for words in (["--sync"], ["--paging", 1], ["--traffic", "0000abcd", 10]):
-            status, out, err = run_tool("explain", bad, *words)
+        for words in ("--sync", "--paging 1", "--traffic 0000abcd 10"):
+            status, out, err = run_tool("explain", bad, *words.split())
             self.assertEqual((status, out, err.count("\n")), (1, b"", 1))
-        for words in ([], ["--sync", "--paging", 1], ["--paging", 8], ["--traffic", "abcd", 10], ["--sync", "--frame", -1],
-                      ["--sync", "--picture", "x.gif"], ["--traffic", "0000abcd", 64], ["--sync", "--span", 1]):  # fmt: skip
-            self.assertEqual(run_tool("explain", bad, *words)[0], 2)
+        for words in ("", "--sync --paging 1", "--paging 8", "--traffic abcd 10", "--sync --frame -1",
+                      "--sync --picture x.gif", "--traffic 0000abcd 64", "--sync --span 1"):  # fmt: skip
+            self.assertEqual(run_tool("explain", bad, *words.split())[0], 2)
         self.assertEqual(run_tool("explain", "/nowhere", "--sync")[0], 1)

@@ -3,12 +3,14 @@
 import os
 import subprocess
 import unittest
+from typing import ClassVar
 
 from tools.tests.helping import NO_PROGRAM, PROGRAM, needs, temporary_folder
 
 needs("numpy", "scipy")
 
 import numpy  # noqa: E402
+from numpy.typing import NDArray  # noqa: E402
 
 from cdma_tools.analysis import symbols  # noqa: E402
 from cdma_tools.analysis.walsh import moving  # noqa: E402
@@ -62,6 +64,8 @@ class Parts(unittest.TestCase):
 
 class Cells(Recordings):
     CHIPS = 620_000
+    chips: ClassVar[dict[int, NDArray[numpy.complex128]]]
+    files: ClassVar[list[str]]
 
     @classmethod
     def setUpClass(cls) -> None:
@@ -142,7 +146,7 @@ class Cells(Recordings):
         self.assertGreater(self.noise_of(found, OTHER_PHASE, 330_000), level - 0.4)
 
     def test_words(self) -> None:
-        path = self.recorded("--seconds", 0.1, cells=self.files[:1])
+        path = self.recorded("--seconds", 0.1, cells=(self.files[0],))
         for why, words in (
             ("not 1 to 12: '0'", ("--cell", 0)),
             ("not 0 to 511: '512'", ("--pn", 512)),
@@ -164,13 +168,13 @@ class Heard(Recordings):
         """The sample file of a cell of the bench with a pilot offset."""
         script = script_of(CELLS[name], 1_600_000, pn).encode("ascii")
         with open(self.at(f"{pn}.is95"), "wb") as file:
-            file.write(subprocess.run([PROGRAM, "make"], input=script, stdout=subprocess.PIPE, check=True).stdout)
+            file.write(subprocess.run([str(PROGRAM), "make"], input=script, stdout=subprocess.PIPE, check=True).stdout)
         return self.at(f"{pn}.is95")
 
     def heard(self, path: str) -> list[str]:
         """The lines of messages that the program hears of a file, without their places."""
         with open(path, "rb") as file:
-            text = subprocess.run([PROGRAM, "follow"], stdin=file, stdout=subprocess.PIPE, check=False).stdout.decode(
+            text = subprocess.run([str(PROGRAM), "follow"], stdin=file, stdout=subprocess.PIPE, check=False).stdout.decode(
                 "ascii"
             )
         lines = [line.split(" ", 2) for line in text.splitlines() if line.startswith(("sync ", "paging "))]

@@ -3,12 +3,14 @@
 import json
 import os
 import unittest
+from typing import Any
 
 from tools.tests.helping import needs, read_file
 
 needs("numpy", "scipy")
 
 import numpy  # noqa: E402
+from numpy.typing import NDArray  # noqa: E402
 
 from cdma_tools.radio import channel  # noqa: E402
 from tools.tests.radio_helping import (  # noqa: E402
@@ -33,14 +35,14 @@ def ratio(level: float) -> float:
 class Recorded(Recordings):
     CHIPS = 70_000
 
-    def samples(self, *words: object, kind: str = "cf32_le", rate: float = RATE) -> numpy.ndarray:
+    def samples(self, *words: object, kind: str = "cf32_le", rate: float = RATE) -> NDArray[Any]:
         """The samples of a recording in floating point, of a mean power of 1."""
         path = self.recorded("--type", kind, "--rate", rate, *words, name="in.raw")
         parts = numpy.fromfile(path, dtype="<f4").astype(float)
         samples = parts[0::2] + 1j * parts[1::2]
         return samples / numpy.sqrt(numpy.mean(numpy.abs(samples) ** 2))
 
-    def pilot(self, samples: numpy.ndarray, late: float = 0.0, count: int = 60_000) -> complex:
+    def pilot(self, samples: NDArray[Any], late: float = 0.0, count: int = 60_000) -> complex:
         """The mean of the pilot's chips at two samples a chip, `late` chips after the sent ones."""
         at = 40 + numpy.arange(count)
         got = samples[2 * at + round(2 * late)]
@@ -201,8 +203,9 @@ class Recorded(Recordings):
         self.recorded("--carrier", 900, "--clock", 20, "--delay", 0.4, "--ideal", self.at("ideal.is95"))
         self.assertEqual(read_file(self.at("ideal.is95"))[:2], (1, 0))
         chips = read_chips(self.at("ideal.is95"))
-        gain = numpy.vdot(self.sent[: len(chips)], chips) / numpy.vdot(self.sent[: len(chips)], self.sent[: len(chips)])
-        self.assertLess(float(numpy.abs(chips - gain * self.sent[: len(chips)]).max()), 2)
+        sent = self.sent[: len(chips)]
+        gain = complex(numpy.sum(sent.conj() * chips)) / float(numpy.sum(numpy.abs(sent) ** 2))
+        self.assertLess(float(numpy.abs(chips - gain * sent).max()), 2)
 
     def test_refusals(self) -> None:
         before = set(os.listdir(self.folder))

@@ -81,7 +81,8 @@ class Code(unittest.TestCase):
     @unittest.skipUnless(importlib.util.find_spec("mypy"), "no mypy: install the package mypy")
     def test_mypy(self) -> None:
         folder = temporary_folder(self.addCleanup)
-        words = [PYTHON, "-m", "mypy", "--cache-dir", folder, "cdma_tools", "model"]  # strict, by pyproject.toml
+        parts = ["cdma_tools", "model", "tools/tests"]
+        words = [PYTHON, "-m", "mypy", "--cache-dir", folder, *parts]  # strict, by pyproject.toml
         ran = subprocess.run(words, capture_output=True, text=True, cwd=ROOT, timeout=600)
         self.assertEqual(ran.returncode, 0, ran.stdout[-4_000:])
 

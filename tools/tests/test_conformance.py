@@ -45,7 +45,7 @@ class TheCases(unittest.TestCase):
     def test_there_are_enough_and_each_is_whole(self) -> None:
         names = cases.names_of_cases()
         self.assertGreaterEqual(len(names), 40)
-        purposes = {}
+        purposes: dict[str, str] = {}
         for name in names:
             with self.subTest(name):
                 case = cases.Case(name)
@@ -107,7 +107,7 @@ class TheCases(unittest.TestCase):
             self.assertIn(f"bad script: {fault}", errors)
         self.assertLessEqual({"", "no sync message", "bad words", "read fault", "write fault"}, errors)
         self.assertTrue(all(case.most_read == 0 or case.input == "dropped" for case in whole if case.status == 2))
-        taps = [line.split(" ")[0] for line in cases.Case("all_taps").text]
+        taps = [line.split(" ")[0] for line in cases.Case("all_taps").text or ()]
         self.assertEqual(set(taps), {"pilot", "sync", "paging", "frame", "traffic", "sets", "raw"})
 
 
@@ -162,7 +162,7 @@ class Asks(unittest.TestCase):
             try:
                 status = status_of("conformance", [*words, self.program("receiver", receiver)])
             except SystemExit as end:
-                status = end.code
+                status = int(end.code or 0)
         return status, said.getvalue() + faults.getvalue()
 
     def refuses(self, receiver: str, *wanted: str) -> None:

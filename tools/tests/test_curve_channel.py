@@ -13,9 +13,11 @@ needs("numpy", "scipy", "matplotlib", "distributed")
 import csv  # noqa: E402
 import subprocess  # noqa: E402
 from fractions import Fraction  # noqa: E402
+from typing import ClassVar  # noqa: E402
 from unittest import mock  # noqa: E402
 
 import numpy  # noqa: E402
+from numpy.typing import NDArray  # noqa: E402
 from scipy import integrate, special, stats  # noqa: E402
 
 from cdma_tools.commands import curve  # noqa: E402
@@ -43,6 +45,11 @@ FOUND = Locked(
 class Locks(unittest.TestCase):
     """Recordings of a cell that is made without the program."""
 
+    folder: ClassVar[str]
+    sent: ClassVar[NDArray[numpy.complex128]]
+    cell: ClassVar[bytes]
+    power: ClassVar[float]
+
     @classmethod
     def setUpClass(cls) -> None:
         cls.folder = temporary_folder(cls.addClassCleanup)
@@ -51,10 +58,16 @@ class Locks(unittest.TestCase):
             cls.cell = file.read()
         cls.power = float(numpy.mean(numpy.abs(cls.sent) ** 2))
 
-    def caught(self, radio: Radio, noise: float = 0.2, paths: tuple[Path, ...] = (Path(),)) -> antenna.Caught | Refused:
+    def tried(self, radio: Radio, noise: float = 0.2, paths: tuple[Path, ...] = (Path(),)) -> antenna.Caught | Refused:
         """What a lock makes of a recording in noise of a part of the cell's power."""
         over = antenna.Antenna("", paths, radio)
         return antenna.caught(over, [self.cell], noise * self.power, 3, 2, {1})[1]
+
+    def caught(self, radio: Radio, paths: tuple[Path, ...] = (Path(),)) -> antenna.Caught:
+        """The same of a recording that is locked to."""
+        got = self.tried(radio, paths=paths)
+        assert isinstance(got, antenna.Caught), got
+        return got
 
     def agreement(self, got: antenna.Caught, begin: int, late: int) -> float:
         """How well 2,000 chips of what a lock wrote are those that were sent so many later."""
@@ -72,7 +85,6 @@ class Locks(unittest.TestCase):
         ):
             with self.subTest(radio=radio):
                 got = self.caught(radio)
-                self.assertIsInstance(got, antenna.Caught)
                 self.assertFalse(got.is_late)
                 self.assertEqual(got.unheard[:-2], ())
                 count = got.unheard[-1][0]
@@ -94,7 +106,7 @@ class Locks(unittest.TestCase):
 
     @unittest.skipUnless(os.environ.get("EVERY_LOCK"), "EVERY_LOCK=1 searches noise for a pilot, for half a minute")
     def test_what_is_only_noise_has_no_lock(self) -> None:
-        got = self.caught(Radio(RATE, "ci16_le"), noise=3_000.0)
+        got = self.tried(Radio(RATE, "ci16_le"), noise=3_000.0)
         self.assertIsInstance(got, Refused)
         self.assertRegex(str(got), "pilot")
 
@@ -187,8 +199,10 @@ class Fading(unittest.TestCase):
             air = levels.Air((1.0,), 1e4, kind=kind)
             found[kind] = report.row_of("it", channel, Count(9), 1_500, air.sigma(channel, 7.0), air, 7)
         ratio = 10**0.7
-        self.assertAlmostEqual(found[levels.AirKind.RAYLEIGH].bound / bound.combined_bound(9_600, ratio), 1, places=4)
-        self.assertAlmostEqual(found[levels.AirKind.WHITE].bound / bound.frame_bound(9_600, ratio), 1, places=4)
+        for kind, share in ((levels.AirKind.RAYLEIGH, bound.combined_bound), (levels.AirKind.WHITE, bound.frame_bound)):
+            told = found[kind].bound
+            assert told is not None
+            self.assertAlmostEqual(told / share(9_600, ratio), 1, places=4)
         self.assertIsNone(found[levels.AirKind.FADING].bound)
         self.assertEqual([row.air for row in found.values()], ["white", "rayleigh", "fading"])
 
@@ -260,7 +274,7 @@ class Runs(unittest.TestCase):
         """At 6 dB next to none is lost without a link, and a lock costs some tenths of a decibel."""
         script = self.short_script(1_500_000)
         options = "--carrier 700 --clock 4 --delay 0.3 --type cu8"
-        status, table, lines = self.ran(script, options, "--from", 6, "--to", 6, "--frames", 60, maker=PROGRAM)
+        status, table, lines = self.ran(script, options, "--from", 6, "--to", 6, "--frames", 60, maker=str(PROGRAM))
         self.assertEqual((status, lines), (0, []))
         self.assertTrue(table[0].endswith("/good but wrong/without a lock"))
         (_, name), = self.rows()
@@ -273,8 +287,7 @@ class Runs(unittest.TestCase):
 
     def in_process(self, locks: list[Locked | Refused], *more: object) -> tuple[int, str, str]:
         """A run within this process over a radio whose locks end so, one after the other, with more arguments."""
-        words = ("--from", 6, "--to", 6, "--step", 1, "--frames", 9, "--workers", 1, "--channel", "")
-        words += ("--out", self.at("out"))
+        words = ["--from", 6, "--to", 6, "--step", 1, "--frames", 9, "--workers", 1, "--channel", "", "--out", self.at("out")]
         with mock.patch.object(antenna, "lock", side_effect=locks), warnings.catch_warnings():
             warnings.simplefilter("ignore")  # of Debian's tornado, which a test's process shows and a tool's doesn't
             return run_main("curve", self.short_script(1_000_000), "--maker", PROGRAM, *words, *more)

@@ -74,7 +74,7 @@ class Levels(unittest.TestCase):
         for traffic, rate, wanted in rows:
             with self.subTest(rate=rate, traffic=traffic):
                 total = 1e8
-                gain = math.sqrt(total * 10 ** (traffic / 10) / levels.TRAFFIC_SHARE)
+                gain = round(math.sqrt(total * 10 ** (traffic / 10) / levels.TRAFFIC_SHARE))
                 sigma = math.sqrt((2 * total * 10**0.1 - levels.ROUNDING) / 2)
                 air = levels.Air((1.0,), total)
                 found = air.decibels(levels.Channel("frame", gain, rate, levels.TRAFFIC_SHARE), sigma)
@@ -264,14 +264,14 @@ class Counting(unittest.TestCase):
             Heard("frame", 50_000, 9_600, True, "8:ab"),
             Heard("frame", 123_728, 9_600, True, "8:aa"),
         ]
-        counts = {}
+        counts: dict[str, Count] = {}
         counting.count_frames(sent, lines, counts)
         self.assertEqual(counts, {"frame 9600": Count(2, lost=1), "frame 1200": Count(1, lost=1)})
 
     def test_messages_by_text_and_place(self) -> None:
         sent = {("sync", "time=1"): [100], ("paging", "other type=1 bits=8:00"): [5_000, 10_000, 15_000]}
         found = {("sync", "time=2"): [100], ("paging", "other type=1 bits=8:00"): [5_020, 15_000, 15_001]}
-        counts = {}
+        counts: dict[str, Count] = {}
         counting.count_messages(sent, found, counts)
         self.assertEqual(counts, {"sync": Count(1, lost=1), "paging": Count(3, lost=1)})
 

@@ -5,12 +5,14 @@ import os
 import re
 import time
 import unittest
+from typing import Any
 
 from tools.tests.helping import NO_PROGRAM, PROGRAM, example, needs, run_program, run_tool
 
 needs("numpy", "scipy")
 
 import numpy  # noqa: E402
+from numpy.typing import NDArray  # noqa: E402
 
 from cdma_tools.analysis import code_domain, over_paths, pulse, row_correlation, walsh  # noqa: E402
 from cdma_tools.analysis.measuring import domain_of_file  # noqa: E402
@@ -138,7 +140,7 @@ class Correlations(unittest.TestCase):
 
 
 class Domains(unittest.TestCase):
-    def domain(self, chips: numpy.ndarray, phase: int = PHASE, **more: bool) -> code_domain.CodeDomain:
+    def domain(self, chips: NDArray[Any], phase: int = PHASE, **more: bool) -> code_domain.CodeDomain:
         """The code domain of chips that come in pieces of odd lengths."""
         chips = chips.astype(numpy.complex64)
         cuts = [0, 5, 40_000, 40_001, 300_000, len(chips)]
@@ -217,12 +219,13 @@ class Recorded(Recordings):
         super().setUpClass()
         cls.cell = write_cell(cls.at("whole.is95"), whole_cell(cls.CHIPS))
 
-    def measured(self, *words: object) -> dict[str, object]:
+    def measured(self, *words: object) -> dict[str, Any]:
         """The JSON of a run over a recording."""
         status, _, said = run_main("domain", *words, "--json", self.at("told.json"))
         self.assertEqual(status, 0, said)
         with open(self.at("told.json"), encoding="utf-8") as file:
-            return json.load(file)
+            told: dict[str, Any] = json.load(file)
+        return told
 
     def test_a_path_in_noise(self) -> None:
         for ec_io, carrier, clock, delay in ((None, 1_500, 3, 0.3), (-6.6, -700, -12, 0.75), (-10.6, 300, 20, 0.5)):

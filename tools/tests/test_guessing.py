@@ -120,7 +120,7 @@ class Flags(Recordings):
         for sent in (0, 1):
             script = example("second_of_paging.script").replace(b"checks=0", f"checks={sent}".encode())
             with open(self.at("cell.is95"), "wb") as file:
-                file.write(subprocess.run([PROGRAM, "make"], input=script, stdout=subprocess.PIPE, check=True).stdout)
+                file.write(subprocess.run([str(PROGRAM), "make"], input=script, stdout=subprocess.PIPE, check=True).stdout)
             path = self.recorded("--ec-io", -9, cells=(self.at("cell.is95"),))
             self.locked(path, "--checks", "auto", "--program", PROGRAM)
             self.assertEqual(read_file(self.at("out.is95"))[1], sent)

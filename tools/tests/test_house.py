@@ -26,7 +26,7 @@ pub fn double(n: u8) -> u16
     2 * n as u16
 }
 """
-BELOW = {
+BELOW: dict[str, list[str]] = {
     "core": [],
     "base_modulator": ["core"],
     "tuned_listener": ["core"],

@@ -193,7 +193,8 @@ class OtherRates(Imports):
     def test_resampled_as_scipy_does(self) -> None:
         draw = numpy.random.default_rng(95)
         parts = draw.integers(-2_000, 2_000, 2 * 2_000)
-        for rate, up, down in ((2_048_000, 3, 5), (2_000_000, 384, 625), ("1843200", 2, 3)):
+        rates: tuple[tuple[int | str, int, int], ...] = ((2_048_000, 3, 5), (2_000_000, 384, 625), ("1843200", 2, 3))
+        for rate, up, down in rates:
             taken = self.taken(parts.astype("<i2").tobytes(), "ci16_le", rate=rate)
             self.check_resampled(taken, parts, up, down)
 
@@ -260,8 +261,8 @@ class SigMF(Imports):
 
     def test_what_is_refused(self) -> None:
         self.keep("radio.sigmf-data", recorded(EIGHT, "ci8"))
-        good = {"core:datatype": "ci8", "core:sample_rate": CHIP_RATE}
-        for why, fields, captures in (
+        good: dict[str, object] = {"core:datatype": "ci8", "core:sample_rate": CHIP_RATE}
+        wrong: tuple[tuple[str, dict[str, object], Sequence[dict[str, object]]], ...] = (
             ("core:datatype is 'ri8', and none of ci16_le", {**good, "core:datatype": "ri8"}, ()),
             ("core:datatype is None", {"core:sample_rate": CHIP_RATE}, ()),
             ("2 channels", {**good, "core:num_channels": 2}, ()),
@@ -275,7 +276,8 @@ class SigMF(Imports):
             ("core:dataset is no file's name", {**good, "core:dataset": "../kept.bin"}, ()),
             ("its checksum isn't core:sha512", {**good, "core:sha512": "00"}, ()),
             ("lost.bin: No such file", {**good, "core:dataset": "lost.bin"}, ()),
-        ):
+        )
+        for why, fields, captures in wrong:
             with self.subTest(why):
                 self.refused(why, self.meta(fields, captures), self.out)
         path = self.meta(good)
@@ -318,7 +320,7 @@ class Refusals(Imports):
 
     def test_words(self) -> None:
         path = self.keep("in.raw", recorded(SIXTEEN, "ci16_le"))
-        for why, words in (
+        wrong: tuple[tuple[str, list[object]], ...] = (
             ("--type and --rate needed", [path]),
             ("--rate needed", ["--type", "ci8", path]),
             ("invalid choice", ["--type", "cf64_le", "--rate", CHIP_RATE, path]),
@@ -330,7 +332,8 @@ class Refusals(Imports):
             ("--skip: not 0 to 1,000,000,000,000,000", ["--type", "ci8", "--rate", CHIP_RATE, "--skip=-1", path]),
             ("--count: not 1 to", ["--type", "ci8", "--rate", CHIP_RATE, "--count", "0", path]),
             ("--version: neither 1 nor 2", ["--type", "ci8", "--rate", CHIP_RATE, "--version", "3", path]),
-        ):
+        )
+        for why, words in wrong:
             with self.subTest(why):
                 self.refused(why, *words, self.out, status=2)
         self.refused("is a folder", "--type", "ci8", "--rate", CHIP_RATE, path, self.folder, status=2)
@@ -374,8 +377,8 @@ class OfTheExample(Imports):
     def test_the_pilot_of_each_type_is_found(self) -> None:
         samples = taken_apart(example("pilot_in_noise.is95"))[2]
         for kind in ("ci16_le", "ci16_be", "ci8", "cu8", "cf32_le"):
-            for words in ([], ["--version", "2", "--scale", "fit"]):
-                self.taken(turned_into(samples, kind), kind, *words)
+            for words in ("", "--version 2 --scale fit"):
+                self.taken(turned_into(samples, kind), kind, *words.split())
                 with open(self.out, "rb") as file:
                     status, wrote = run_program("find", data=file.read())
                 self.assertEqual(status, 0)
@@ -405,11 +408,11 @@ class OfTheExample(Imports):
         twice = numpy.repeat(parts, 2, axis=0).astype("<i2").tobytes()
         faster = numpy.stack([resample_poly(parts[:, k], 5, 3) for k in (0, 1)], axis=1).astype("<f4")
         for data, kind, words, rate in (
-            (twice, "ci16_le", ["--offset", 1], 2 * CHIP_RATE),
-            (twice, "ci16_le", ["--sum"], 2 * CHIP_RATE),
-            (faster.tobytes(), "cf32_le", [], 2_048_000),
+            (twice, "ci16_le", "--offset 1", 2 * CHIP_RATE),
+            (twice, "ci16_le", "--sum", 2 * CHIP_RATE),
+            (faster.tobytes(), "cf32_le", "", 2_048_000),
         ):
-            self.taken(data, kind, *words, rate=rate)
+            self.taken(data, kind, *words.split(), rate=rate)
             with open(self.out, "rb") as file:
                 status, wrote = run_program("follow", data=file.read())
             self.assertEqual(status, 0)

@@ -4,12 +4,14 @@ tests of `receiver_tests`, which ask the search for what it tells its gate."""
 import os
 import re
 import unittest
+from typing import Any
 
 from tools.tests.helping import ROOT, needs
 
 needs("numpy")
 
 import numpy as np  # noqa: E402
+from numpy.typing import NDArray  # noqa: E402
 
 from model.codes import PERIOD, POINTS, points  # noqa: E402
 
@@ -22,7 +24,7 @@ ROW = re.compile(r"\((\d+), (\d+), (\d+)\)")
 LAST_CODE = re.compile(r"gate\.second\.load\(Ordering::SeqCst\), (\d+)\)")
 
 
-def noise(seed: int, count: int) -> np.ndarray:
+def noise(seed: int, count: int) -> NDArray[Any]:
     """The first samples of the noise of a seed, as the tests draw it."""
     state, drawn = seed, []
     for _ in range(2 * count):
@@ -31,7 +33,7 @@ def noise(seed: int, count: int) -> np.ndarray:
     return np.array(drawn[::2]) + 1j * np.array(drawn[1::2])
 
 
-def bounds_and_energies(samples: np.ndarray) -> tuple[np.ndarray, np.ndarray]:
+def bounds_and_energies(samples: NDArray[Any]) -> tuple[NDArray[Any], NDArray[Any]]:
     """Of each phase the least bound before any chunk of 64 samples, and the energy: whole numbers below 2^53."""
     starts = np.arange(0, len(samples), CHUNK)
     tails = np.array([np.sum(np.abs(samples[at:].real) + np.abs(samples[at:].imag)) for at in starts])
@@ -48,7 +50,7 @@ def bounds_and_energies(samples: np.ndarray) -> tuple[np.ndarray, np.ndarray]:
     return np.concatenate(least), np.concatenate(energies)
 
 
-def left_by_one(samples: np.ndarray, first: int = 0) -> int:
+def left_by_one(samples: NDArray[Any], first: int = 0) -> int:
     """How many phases one worker leaves that tries them in order from this one on, and is the first to publish."""
     least, energies = bounds_and_energies(samples)
     published, left = 0.0, 0

@@ -6,6 +6,8 @@ import random
 import re
 import tempfile
 import unittest
+from collections.abc import Sequence
+from typing import Any
 
 from cdma_tools.lines import (
     HEAD_FIELDS,
@@ -15,6 +17,8 @@ from cdma_tools.lines import (
     SYNC_FIELDS,
     SYSTEM_FIELDS,
     TIME_FIELDS,
+    Field,
+    Group,
     NoLine,
     Shape,
     read_line,
@@ -140,7 +144,7 @@ class Turning(unittest.TestCase):
         not_in_cases = {("trial", None), ("raw", "paging"), ("raw", "traffic")}
         self.assertLessEqual({(shape.line, shape.word) for shape in SHAPES} - kinds, not_in_cases)
 
-    def check_value(self, line: str, name: str, value: object) -> None:
+    def check_value(self, line: str, name: str, value: Any) -> None:
         """Numbers are those of the line's text, and other texts stand in it."""
         if name in ("line", "message", "channel"):
             self.assertIn(value, line.split(" "))
@@ -189,8 +193,8 @@ class Turning(unittest.TestCase):
         return line
 
     def test_objects_that_are_none(self) -> None:
-        pilot = {"line": "pilot", "phase": 1, "energy": 2}
-        for change, why in (
+        pilot: dict[str, object] = {"line": "pilot", "phase": 1, "energy": 2}
+        wrong: tuple[tuple[dict[str, object], str], ...] = (
             ({"phase": None}, "no phase"),
             ({"phase": True}, "phase: True is no whole number"),
             ({"phase": "1"}, "phase: '1' is no whole number"),
@@ -203,7 +207,8 @@ class Turning(unittest.TestCase):
             ({"message": "system"}, "has no 'message'"),
             ({"line": ["pilot"]}, "begins no line"),
             ({"line": "paging"}, "message: None names no kind of paging"),
-        ):
+        )
+        for change, why in wrong:
             with self.subTest(change), self.assertRaisesRegex(NoLine, why):
                 spell_line({**pilot, **change})
         for line, read in EXAMPLES.items():
@@ -293,13 +298,20 @@ def text_of(*names: str) -> str:
         return file.read()
 
 
+def matched(pattern: str, text: str) -> re.Match[str]:
+    """Where a pattern, whose dots are line feeds too, first matches in a text that has it."""
+    found = re.search(pattern, text, re.S)
+    assert found, pattern
+    return found
+
+
 class Documents(unittest.TestCase):
     def test_the_table_stands_in_the_formats(self) -> None:
         self.assertIn("\n\n" + "\n".join(table_rows()) + "\n\n", text_of("docs", "FORMATS.md"))
 
     def test_the_formats_show_each_kind_of_line(self) -> None:
         """Each line that docs/FORMATS.md shows has the fields of its kind in order, and each kind is shown once."""
-        shown = re.findall(r"(?m)^    (.*)$", re.search(r"\n## Lines\n(.*?)\n## ", text_of("docs", "FORMATS.md"), re.S)[1])
+        shown = re.findall(r"(?m)^    (.*)$", matched(r"\n## Lines\n(.*?)\n## ", text_of("docs", "FORMATS.md"))[1])
         kinds = []
         for text in shown:
             shape = self.shape_of(text)
@@ -323,11 +335,11 @@ class Documents(unittest.TestCase):
             wanted = wanted[:before] + wanted[len(wanted) - after :]
         self.assertEqual(names, wanted)
         optional = re.findall(r"(\w+)=", " ".join(re.findall(r"\[(.*?)\]", text)))
-        grouped = [field.name for part in shape.body if hasattr(part, "fields") for field in part.fields]
+        grouped = [field.name for part in shape.body if isinstance(part, Group) for field in part.fields]
         self.assertEqual(optional, grouped)
 
     def test_the_example_of_the_formats(self) -> None:
-        shown = re.search(r"\| tools/lines\n((?:    .*\n)+)", text_of("docs", "FORMATS.md"))[1]
+        shown = matched(r"\| tools/lines\n((?:    [^\n]*\n)+)", text_of("docs", "FORMATS.md"))[1]
         lines = [spell_line(json.loads(text)) for text in shown.splitlines()]
         self.assertEqual(len(lines), 4)
         for line in lines:
@@ -351,15 +363,15 @@ class Documents(unittest.TestCase):
 
     def rows_of(self, name: str, source: str) -> list[tuple[str, str]]:
         """The names and widths of a table, which is written out or made of a macro's list of fields."""
-        made = re.search(rf"pub const {name}: [^=]*= (?:\[(.*?)\]|(\w+)!\(field_rows\));", source, re.S)
+        made = matched(rf"pub const {name}: [^=]*= (?:\[(.*?)\]|(\w+)!\(field_rows\));", source)
         if made[2] is None:
             return re.findall(r'\("(\w+)", (\d+)\)', made[1])
-        body = re.search(rf"macro_rules! {made[2]} {{.*?\n}}", source, re.S)[0]
+        body = matched(rf"macro_rules! {made[2]} {{.*?\n}}", source)[0]
         listed = re.findall(r"(\d+) (\w+) (\d+)", body)
         self.assertEqual([int(place) for place, _, _ in listed], list(range(len(listed))))
         return [(field, width) for _, field, width in listed]
 
-    def check_rows(self, rows: list[tuple[str, str]], fields: tuple) -> None:
+    def check_rows(self, rows: list[tuple[str, str]], fields: Sequence[Field]) -> None:
         self.assertEqual([name for name, _ in rows], [field.name for field in fields])
         for (_, width), field in zip(rows, fields):
             most = 2 ** int(width) - 1

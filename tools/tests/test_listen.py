@@ -90,10 +90,13 @@ class ListenTest(unittest.TestCase):
     """One recording, heard in many ways."""
 
     folder: ClassVar[str]
+    path: ClassVar[str]  # of the recording
+    parts: ClassVar[list[str]]  # the arguments that part it
     data: ClassVar[bytes]
     sent: ClassVar[Sent]
     lines: ClassVar[bytes]  # of the recording in parts
     objects: ClassVar[bytes]  # the same as JSON
+    said: ClassVar[str]
     short: ClassVar[str]  # its first seconds
 
     @classmethod
@@ -390,7 +393,7 @@ class RefusedTest(unittest.TestCase):
     """What can't be listened to, each with a line."""
 
     def test_arguments(self) -> None:
-        for words, why in (
+        wrong: tuple[tuple[list[object], str], ...] = (
             ([], "arguments are required: SOURCE"),
             (["-"], "--type and --rate are needed"),
             (["--type", "cu8", "-"], "--type and --rate are needed"),
@@ -409,7 +412,8 @@ class RefusedTest(unittest.TestCase):
             ([*STREAM, "-", "--workers", "0"], "not 1 to 64"),
             ([*STREAM, "-", "--frequency", "5"], "goes with a server"),
             ([*STREAM, "-", "--out", "/"], "is a folder"),
-        ):
+        )
+        for words, why in wrong:
             status, wrote, said = run_main("listen", *words)
             self.assertEqual((status, wrote), (2, ""), said)
             self.assertIn(why, said.splitlines()[-1])

@@ -3,7 +3,7 @@
 import json
 import subprocess
 import unittest
-from typing import ClassVar
+from typing import Any, ClassVar
 
 import numpy
 from numpy.typing import NDArray
@@ -86,7 +86,7 @@ class LockTest(Recordings):
         with open(cls.at("shared.sigmf-data"), "rb") as file:
             cls.data = file.read()
 
-    def bytes_of(self, *words: object, **given: object) -> bytes:
+    def bytes_of(self, *words: object, **given: Any) -> bytes:
         """The samples of a recording of the cell."""
         meta = self.recorded(*words, **given)
         with open(meta.replace(".sigmf-meta", ".sigmf-data"), "rb") as file:

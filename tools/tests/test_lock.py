@@ -3,12 +3,14 @@
 import json
 import os
 import unittest
+from typing import Any
 
 from tools.tests.helping import needs, read_file
 
 needs("numpy", "scipy")
 
 import numpy  # noqa: E402
+from numpy.typing import NDArray  # noqa: E402
 
 from cdma_tools.commands.radio_bench import without_pilot  # noqa: E402
 from tools.tests.radio_helping import (  # noqa: E402
@@ -238,13 +240,13 @@ class Losses(Recordings):
 class Refusals(Recordings):
     CHIPS = 100_000
 
-    def raw(self, samples: numpy.ndarray) -> tuple[str, ...]:
+    def raw(self, samples: NDArray[Any]) -> tuple[str, ...]:
         """The arguments of a recording of these samples."""
         scaled = samples / numpy.abs(samples).max() * 20_000
         numpy.stack([scaled.real, scaled.imag], axis=1).astype("<i2").tofile(self.at("none.raw"))
         return (self.at("none.raw"), "--type", "ci16_le", "--rate", "2400000")
 
-    def noise(self, count: int = 480_000, seed: int = 1) -> numpy.ndarray:
+    def noise(self, count: int = 480_000, seed: int = 1) -> NDArray[Any]:
         draws = numpy.random.default_rng(seed)
         return draws.normal(size=count) + 1j * draws.normal(size=count)
 

@@ -14,6 +14,7 @@ import threading
 import time
 import unittest
 import unittest.mock
+from typing import Any
 
 from tools.tests.helping import EXAMPLES, PYTHON, ROOT, example, is_gone, needs, run_tool, sample_file, temporary_folder
 
@@ -210,7 +211,7 @@ class WrongInput(Folder):
 
     def test_metadata(self) -> None:
         out = self.at("out")
-        for why, told in (
+        wrong: tuple[tuple[str, dict[str, object]], ...] = (
             ("core:datatype is \\[\\]", {"core:datatype": []}),
             ("core:datatype is \\{\\}", {"core:datatype": {}}),
             ("core:sample_rate is '2457600'", {"core:sample_rate": "2457600"}),
@@ -221,17 +222,18 @@ class WrongInput(Folder):
             ("core:dataset is no file's name", {"core:dataset": "\ud800"}),
             ("core:dataset is no file's name", {"core:dataset": "a\0b"}),
             ("'2' channels", {"core:num_channels": "2"}),
-        ):
+        )
+        for why, told in wrong:
             path = self.meta("in.sigmf-meta", **told)
-            for tool, more in (("import_capture", [out]), ("scan", [])):
-                self.refused(1, why, tool, path, *more)
+            self.refused(1, why, "import_capture", path, out)
+            self.refused(1, why, "scan", path)
         for data in (b"[" * 100_000, b'{"global":' * 100_000, b"{", b"\xff", b"[]", b'{"global": {}, "captures": 3}'):
             path = self.keep("in.sigmf-meta", data)
             self.refused(1, "in.sigmf-meta: ", "import_capture", path, out)
 
     def test_files(self) -> None:
         out, none = self.at("out"), self.at("none")
-        for status, why, tool, *words in (
+        wrong: tuple[tuple[Any, ...], ...] = (
             (1, "zeros.is95: no cell: its samples have no power", "channel", self.zeros, out),
             (1, "zeros.is95: no cell", "channel", "--ec-io", -9, self.zeros, out),
             (1, "none: No such file", "channel", none, out),
@@ -249,7 +251,8 @@ class WrongInput(Folder):
             (1, "no program at .*radio.ci8", "curve", "--program", self.raw, *self.curve_words()),
             (9, "no program at .*none", "report", "--program", none, "--out", out, self.cell),
             (2, "--type needed", "report", "--program", "/bin/true", "--rate", "2457600", "--out", out, self.raw),
-        ):
+        )
+        for status, why, tool, *words in wrong:
             if "--ideal" in words:
                 continue
             self.refused(status, why, tool, *words)
@@ -331,7 +334,7 @@ class TheProgram(Folder):
         with unittest.mock.patch("cdma_tools.program.BUILT", self.at("none")), unittest.mock.patch.dict(
             os.environ, environment
         ):
-            for tool, status, *words in (
+            runs: tuple[tuple[Any, ...], ...] = (
                 ("report", 9, "--out", self.at("page"), self.cell),
                 ("curve", 1, *"--from 1 --to 1 --step 1 --frames 1".split(), script),
                 ("conformance", 2),
@@ -341,7 +344,8 @@ class TheProgram(Folder):
                 ("starve", 1),
                 ("bench", 1),
                 ("radio_bench", 1),
-            ):
+            )
+            for tool, status, *words in runs:
                 with self.subTest(tool):
                     ended, _, said = run_main(tool, *words)
                     self.assertEqual(ended, status)
@@ -373,22 +377,24 @@ class Outputs(Folder):
         self.assertTrue(os.path.exists(fifo) and not os.path.isfile(fifo))
 
     def test_a_device(self) -> None:
-        for tool, *words in (
+        runs: tuple[tuple[Any, ...], ...] = (
             ("make_capture", "--count", 64, "/dev/null"),
             ("import_capture", "--type", "ci8", "--rate", "2457600", self.raw, "/dev/null"),
             ("channel", self.cell, "/dev/null"),
             ("report", "--program", "/bin/true", self.cell, "--out", "/dev/null"),
-        ):
+        )
+        for tool, *words in runs:
             with self.subTest(tool):
                 self.assertEqual(run_main(tool, *words)[0], 0)
                 self.assertFalse(os.path.isfile("/dev/null"))
 
     def test_a_full_device(self) -> None:
-        for tool, *words in (
+        runs: tuple[tuple[Any, ...], ...] = (
             ("make_capture", "--count", 64, "/dev/full"),
             ("channel", self.cell, "/dev/full"),
             ("import_capture", "--type", "ci8", "--rate", "2457600", self.raw, "/dev/full"),
-        ):
+        )
+        for tool, *words in runs:
             with self.subTest(tool):
                 status, _, said = run_main(tool, *words)
                 self.assertEqual(

@@ -219,7 +219,7 @@ class OfTheProgram(Installed):
             "--force-bad-path",
         ]
         environment = {**os.environ, "PATH": f"{os.environ['PATH']}:/usr/sbin:/sbin"}
-        for more in (["--install", package], ["--purge", debian.NAME]):
+        for more in (["--install", package], ["--purge", tree.NAME]):
             ran = subprocess.run([*words, *more], capture_output=True, text=True, env=environment, timeout=SECONDS)
             self.assertEqual(ran.returncode, 0, ran.stderr)
             self.assertEqual(os.path.exists(os.path.join(root, "usr", "bin", "cdma-scan")), more[0] == "--install")
@@ -297,7 +297,7 @@ class Parts(Installed):
         scripts = [
             path for path in files_below(prefix) if os.path.basename(path).startswith("cdma-") and "/bin/" in f"/{path}"
         ]
-        self.assertEqual(sorted(map(os.path.basename, scripts)), sorted(INSTALLED.values()))
+        self.assertEqual(sorted(os.path.basename(path) for path in scripts), sorted(INSTALLED.values()))
         where = next(path for path, folders, _ in os.walk(prefix) if "cdma_tools" in folders)
         run = {**os.environ, "PYTHONPATH": where, "PYTHONDONTWRITEBYTECODE": "1"}
         for name in tree.commands():

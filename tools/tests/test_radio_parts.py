@@ -2,12 +2,14 @@
 
 import os
 import unittest
+from typing import Any
 
 from tools.tests.helping import needs, temporary_folder
 
 needs("numpy", "scipy")
 
 import numpy  # noqa: E402
+from numpy.typing import NDArray  # noqa: E402
 
 from cdma_tools import recordings  # noqa: E402
 from cdma_tools.errors import Refused  # noqa: E402
@@ -44,7 +46,7 @@ class Raw(unittest.TestCase):
     def setUp(self) -> None:
         self.path = os.path.join(temporary_folder(self.addCleanup), "raw")
 
-    def kept(self, data: bytes, kind: str, **more: object) -> recordings.Recording:
+    def kept(self, data: bytes, kind: str, **more: Any) -> recordings.Recording:
         with open(self.path, "wb") as file:
             file.write(data)
         recording = recordings.Recording(self.path, kind, 1e6, **more)
@@ -83,13 +85,16 @@ class Raw(unittest.TestCase):
 class Given:
     """Samples in memory, as a recording."""
 
-    def __init__(self, raw: numpy.ndarray, rate: float) -> None:
+    def __init__(self, raw: NDArray[Any], rate: float) -> None:
         self.raw, self.rate, self.count = raw.astype(numpy.complex64), rate, len(raw)
 
     def conjugate(self) -> "Given":
         return Given(self.raw.conj(), self.rate)
 
-    def read(self, first: int, count: int) -> numpy.ndarray:
+    def close(self) -> None:
+        """There is no file."""
+
+    def read(self, first: int, count: int) -> NDArray[numpy.complex64]:
         places = first + numpy.arange(count)
         inside = (places >= 0) & (places < self.count)
         return numpy.where(inside, self.raw[numpy.clip(places, 0, self.count - 1)], 0).astype(numpy.complex64)

@@ -11,6 +11,7 @@ import re
 import tempfile
 import unittest
 from unittest import mock
+from typing import Any
 
 from tools.tests.helping import (
     NO_PROGRAM,
@@ -28,6 +29,7 @@ from tools.tests.helping import (
 needs("numpy", "plotly")
 
 import numpy  # noqa: E402
+from numpy.typing import NDArray  # noqa: E402
 
 from cdma_tools.commands import import_capture, status_of  # noqa: E402
 from cdma_tools.correlation import codes, energy_at  # noqa: E402
@@ -81,7 +83,7 @@ class Meanings(unittest.TestCase):
                 if isinstance(value, int):
                     self.check_values(read, name)
 
-    def check_values(self, read: dict, name: str) -> None:
+    def check_values(self, read: dict[str, Any], name: str) -> None:
         for value in [*range(0, 70), *(2**width - 1 for width in range(1, 43))]:
             try:
                 line = spell_line({**read, name: value})
@@ -102,7 +104,7 @@ class Meanings(unittest.TestCase):
 
 
 class Measures(unittest.TestCase):
-    def measured(self, samples: numpy.ndarray, phase: int | None = PHASE, span: int = SPAN) -> measures.Measured:
+    def measured(self, samples: NDArray[Any], phase: int | None = PHASE, span: int = SPAN) -> measures.Measured:
         return self.measured_file(file_of(samples), phase, span)
 
     def measured_file(self, data: bytes, phase: int | None = PHASE, span: int = SPAN) -> measures.Measured:
@@ -114,6 +116,7 @@ class Measures(unittest.TestCase):
     def test_a_clean_signal(self) -> None:
         found = self.measured(signal())
         self.assertEqual((found.count, found.told, found.drift), (120_000, 120_000, 0))
+        assert found.ratio is not None and found.level and found.carrier is not None and found.symbols
         self.assertAlmostEqual(found.ratio, PILOT**2 / (PILOT**2 + SYNC**2), places=3)
         self.assertAlmostEqual(found.level.power, 2 * (PILOT**2 + SYNC**2), delta=2)
         self.assertEqual(found.level.top, PILOT + SYNC)
@@ -129,13 +132,16 @@ class Measures(unittest.TestCase):
         parts = samples.real.astype(int), samples.imag.astype(int)
         found = self.measured(samples)
         power = int((parts[0] ** 2 + parts[1] ** 2).sum())
+        assert found.correlation
         for delta in (-40, -1, 0, 17, 40):
             wanted = energy_at(parts, codes(), PHASE + delta) / (2 * SPAN * power)
             self.assertAlmostEqual(found.correlation.ratios[delta + 40], wanted, places=12)
 
     def test_what_is_left_of_carrier_and_clock(self) -> None:
         samples = signal() * numpy.exp(2j * numpy.pi * 25.0 / 1_228_800 * numpy.arange(120_000))
-        self.assertAlmostEqual(self.measured(50 * samples).carrier, 25.0, places=2)
+        carrier = self.measured(50 * samples).carrier
+        assert carrier is not None
+        self.assertAlmostEqual(carrier, 25.0, places=2)
         self.assertEqual(self.measured(numpy.delete(signal(), [50_000, 50_001, 50_002])).drift, 3)
         self.assertEqual(self.measured(numpy.insert(signal(), 50_000, 0)).drift, -1)
 
@@ -145,6 +151,7 @@ class Measures(unittest.TestCase):
         found = self.measured(noise)
         self.assertFalse(found.stands_out)
         self.assertIsNone(found.symbols)
+        assert found.level
         self.assertAlmostEqual(math.sqrt(found.level.power / 2), 200, delta=2)
 
     def test_less_than_a_recording(self) -> None:
@@ -167,12 +174,12 @@ class Parsed(html.parser.HTMLParser):
 
     def __init__(self, page: str) -> None:
         super().__init__(convert_charrefs=True)
-        self.elements: list[tuple[str, tuple]] = []
+        self.elements: list[tuple[str, tuple[str, ...]]] = []
         self.texts: dict[str, str] = {}
         self.open: list[str] = []
         self.feed(page)
 
-    def handle_starttag(self, tag: str, attrs: list) -> None:
+    def handle_starttag(self, tag: str, attrs: list[tuple[str, str | None]]) -> None:
         told = dict(attrs)
         self.elements.append((tag, tuple(sorted(name for name, _ in attrs))))
         self.open.append(told.get("data-command") or told.get("id") or told.get("class") or tag)
@@ -221,8 +228,9 @@ class Folder(unittest.TestCase):
         """Says which text isn't there, and not the whole page."""
         self.assertTrue(text in page, text)
 
-    def plots(self, page: str) -> dict:
-        return json.loads(Parsed(page).texts["plots"])
+    def plots(self, page: str) -> dict[str, Any]:
+        told: dict[str, Any] = json.loads(Parsed(page).texts["plots"])
+        return told
 
 
 class Pages(Folder):
@@ -239,7 +247,9 @@ class Pages(Folder):
     def test_it_stands_alone(self) -> None:
         page = self.page()
         self.assertLess(len(page.encode()), MOST_BYTES)
-        policy = html.unescape(re.search(r'Content-Security-Policy" content="(.*?)"', page)[1])
+        told = re.search(r'Content-Security-Policy" content="(.*?)"', page)
+        assert told
+        policy = html.unescape(told[1])
         scripts, others = "script-src 'sha256-[^']+' 'sha256-[^']+'", "style-src 'unsafe-inline'; img-src data: blob:"
         self.assertRegex(policy, f"^default-src 'none'; {scripts}; {others}$")
         names = {name for _, names in Parsed(page).elements for name in names}
@@ -362,7 +372,7 @@ class BadInput(Folder):
         self.assert_holds(self.page(status=6), "follow ended with status 6 (out of memory)")
 
     def test_refusals(self) -> None:
-        for why, status, *words in (
+        wrong: tuple[tuple[Any, ...], ...] = (
             ("No such file", 9, self.at("none.is95"), "--out", self.out),
             ("no plain file", 9, self.folder, "--out", self.out),
             ("page.html: No such file", 9, self.file, "--out", self.at("none/page.html")),
@@ -371,7 +381,8 @@ class BadInput(Folder):
             ("unrecognized arguments: --key=1", 2, self.file, "--out", self.out, "--key=1"),
             ("--import goes with a recording", 2, self.file, "--out", self.out, "--import=--skip 1"),
             ("No closing quotation", 2, self.file, "--out", self.out, "--type=cu8", "--import=--skip '1"),
-        ):
+        )
+        for why, status, *words in wrong:
             program = [] if "--program" in words else ["--program", self.fake.path]
             ended, said = self.ran(*words, *program)
             self.assertEqual(ended, status, said)
@@ -490,7 +501,7 @@ class WithTheProgram(Folder):
     def test_a_second_of_paging(self) -> None:
         _, made = run_program("make", data=example("second_of_paging.script"))
         _, lines = run_program("follow", data=made)
-        self.fake.path = PROGRAM
+        self.fake.path = str(PROGRAM)
         page = self.page(file=self.keep("second.is95", made))
         self.assertEqual(Parsed(page).texts["follow"].lstrip("\n"), lines.decode().rstrip("\n"))
         marks = [place for trace in self.plots(page)["timeline"]["data"] for place in trace.get("customdata", [])]
@@ -499,7 +510,7 @@ class WithTheProgram(Folder):
         self.assertEqual({round(x, 3) for x in symbols["x"]}, {0.3, -0.3})
 
     def test_a_pilot_alone(self) -> None:
-        self.fake.path = PROGRAM
+        self.fake.path = str(PROGRAM)
         page = self.page(status=1, file=os.path.join(ROOT, "examples", "pilot_in_noise.is95"))
         self.assert_holds(page, "follow")
         self.assertFalse("No pilot stands out" in page)

@@ -18,7 +18,7 @@ from selenium import webdriver  # noqa: E402
 from selenium.webdriver.common.action_chains import ActionChains  # noqa: E402
 from selenium.webdriver.chrome.service import Service  # noqa: E402
 from selenium.webdriver.common.by import By  # noqa: E402
-from selenium.webdriver.support.ui import WebDriverWait  # noqa: E402
+from selenium.webdriver.support.wait import WebDriverWait  # noqa: E402
 
 from tools.tests.report_fixture import FOLLOWED, file_of, signal  # noqa: E402
 from tools.tests.test_report import EVERY_BYTE, MARKUP, Folder  # noqa: E402
@@ -32,7 +32,7 @@ def started() -> webdriver.Chrome:
     for word in ("headless=new", "no-sandbox", "disable-gpu", "disable-dev-shm-usage", "window-size=1280,1000"):
         options.add_argument(f"--{word}")
     options.set_capability("goog:loggingPrefs", {"browser": "ALL"})
-    return webdriver.Chrome(service=Service(shutil.which("chromedriver")), options=options)
+    return webdriver.Chrome(service=Service(str(shutil.which("chromedriver"))), options=options)
 
 
 class Browser(Folder):
@@ -149,7 +149,7 @@ class ThePage(Browser):
     def test_what_the_program_hears(self) -> None:
         _, made = run_program("make", data=example("second_of_paging.script"))
         _, lines = run_program("follow", data=made)
-        self.fake.path = PROGRAM
+        self.fake.path = str(PROGRAM)
         self.load(file=self.keep("second.is95", made))
         self.assertEqual(self.marks(), lines.count(b"\n") - 1)
         self.assertEqual(self.rows("channels"), {"283": ["878.49 MHz at 800 MHz, or 1944.15 MHz at 1.9 GHz"]})

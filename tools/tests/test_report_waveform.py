@@ -5,12 +5,14 @@ import os
 import re
 import subprocess
 import unittest
+from typing import Any
 
 from tools.tests.helping import NO_PROGRAM, PROGRAM, example, needs, temporary_folder
 
 needs("numpy", "scipy", "plotly")
 
 import numpy  # noqa: E402
+from numpy.typing import NDArray  # noqa: E402
 
 from cdma_tools.analysis import spectrum  # noqa: E402
 from cdma_tools.recordings import Recording  # noqa: E402
@@ -23,7 +25,7 @@ class Spectra(unittest.TestCase):
     def setUp(self) -> None:
         self.path = os.path.join(temporary_folder(self.addCleanup), "raw")
 
-    def spectrum(self, samples: numpy.ndarray, rate: float = 1_024_000.0) -> spectrum.Spectrum:
+    def spectrum(self, samples: NDArray[Any], rate: float = 1_024_000.0) -> spectrum.Spectrum:
         """The spectrum of samples of 8 bits."""
         parts = numpy.stack([samples.real, samples.imag], axis=1)
         numpy.rint(parts * 127).astype("i1").tofile(self.path)
@@ -118,7 +120,7 @@ class Cells(Recordings):
         for name in ("call", "call_neighbor"):
             script = re.sub(rb"samples=\d+", b"samples=1500000", example(f"{name}.script"))
             with open(self.at(f"{name}.is95"), "wb") as file:
-                file.write(subprocess.run([PROGRAM, "make"], input=script, stdout=subprocess.PIPE, check=True).stdout)
+                file.write(subprocess.run([str(PROGRAM), "make"], input=script, stdout=subprocess.PIPE, check=True).stdout)
             cells.append(self.at(f"{name}.is95"))
         path = self.recorded(
             "--type", "cu8", "--carrier", 1_500, "--ec-io", -8, cells=(cells[0], f"{cells[1]}:-6:12.5")
@@ -137,7 +139,9 @@ class Cells(Recordings):
         ):
             self.assertTrue(text in page, text)
         self.assertFalse('id="cell-3"' in page)
-        plots = json.loads(re.search(r'id="plots">(.*?)</script>', page, re.DOTALL)[1])
+        told = re.search(r'id="plots">(.*?)</script>', page, re.DOTALL)
+        assert told
+        plots = json.loads(told[1])
         self.assertEqual(list(plots)[-4:], ["domain", "spectrum", "waterfall", "map"])
         self.assertLess(len(page), 6_000_000)
 

@@ -175,10 +175,10 @@ class OfTheProgram(unittest.TestCase):
             file.write(f"#!/bin/sh\n'{PROGRAM}' \"$@\" | sed -E '/^pilot/d; s/ at=/ at=1/'\n")
         os.chmod(path, 0o700)
         words = ["--maker", str(PROGRAM), "--only", "second_of_sync", "--only", "traffic_4800", path]
-        for more, status, end in ((["--standard"], 0, "2 cases, 0 differ\n"), ([], 1, "2 cases, 2 differ\n")):
+        for more, status, end in (("--standard", 0, "2 cases, 0 differ\n"), ("", 1, "2 cases, 2 differ\n")):
             out = io.StringIO()
             with contextlib.redirect_stdout(out):
-                self.assertEqual(status_of("conformance", [*more, *words]), status, out.getvalue())
+                self.assertEqual(status_of("conformance", [*more.split(), *words]), status, out.getvalue())
             self.assertTrue(out.getvalue().endswith(end), out.getvalue())
 
 
