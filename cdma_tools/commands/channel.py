@@ -274,14 +274,15 @@ def write_recording(options: argparse.Namespace, link: Link, chips: int) -> Made
 
 
 def write_all(options: argparse.Namespace, link: Link) -> Made:
-    """Writes the recording, and the ideal receiver's file where that is asked for."""
+    """Writes the recording, and the ideal receiver's file where it is asked for, which is opened before all else."""
     chips = link.cells[0].count
     if options.seconds:
         chips = min(chips, int(options.seconds * CHIP_RATE))
-    made = write_recording(options, link, chips)
-    if options.ideal:
-        with write_out(options.ideal) as file, bar(total=chips, text="ideal", unit="chips") as shown:
-            write_ideal(link, chips, file, shown.update)
+    with write_out(options.ideal) if options.ideal else contextlib.nullcontext() as ideal:
+        made = write_recording(options, link, chips)
+        if ideal:
+            with bar(total=chips, text="ideal", unit="chips") as shown:
+                write_ideal(link, chips, ideal, shown.update)
     return made
 
 

@@ -253,8 +253,6 @@ class WrongInput(Folder):
             (2, "--type needed", "report", "--program", "/bin/true", "--rate", "2457600", "--out", out, self.raw),
         )
         for status, why, tool, *words in wrong:
-            if "--ideal" in words:
-                continue
             self.refused(status, why, tool, *words)
 
     def test_files_without_an_end(self) -> None:
