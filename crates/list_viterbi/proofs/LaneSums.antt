@@ -70,7 +70,7 @@ weight_at [] l b h = absurd (omega (arith, b))
 weight_at (x ∷ xs) zero b h = h.0
 weight_at (x ∷ xs) (suc l) b h = weight_at xs l (omega (arith, b)) h.1
 
--- Four weights of at most 8 add up to at most 32 in either lane, and are not below 0.
+-- Four weights, each of 0 to 8, add up to 0 to 32 in either lane.
 pub lane_up : (l : ℕ) (h : Heads) → l < 2 → HeadsLong h → AreWeights h → UpTo 32 (lane_sum l h)
 lane_up l h b long small =
     let first = weight_at h.first l (omega (arith, b, long.first)) small.first in

@@ -22,7 +22,7 @@ loop-k-init c =
     }
 
 -- One sample more is copied out of the ring: the ring holds the 512 samples before the place, this
--- one's cell is the one after the last one's, and it is put at the end of the copy.
+-- one's cell is the one after the last one's, and it is put at its own place in the copy.
 pub loop-k-preserved : goal.loop-k-preserved
 loop-k-preserved c =
     let ring = c.args.ring.now in
