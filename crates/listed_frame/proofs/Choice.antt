@@ -45,7 +45,7 @@ none_lower (Some f) = refl
 pub decoded_by : (k : ℕ) (replaced : List ℕ) (softs kept : List ℤ) (format : FrameFormat Rate)
     (entries : List Entry) (first : Entry)
     (eighth quarter half full low mid all : Option (DecodedFrame Rate)) (f : DecodedFrame Rate)
-    (own score : ℤ) → 0 < k → kept ≡ unreplaced replaced softs → format ≡ format_of R9600 →
+    (own : ℤ) → 0 < k → kept ≡ unreplaced replaced softs → format ≡ format_of R9600 →
     map codeword_of entries ≡ codewords_in k kept format →
     All (λ e. e.score ≡ score_in kept format (codeword_of e)) entries →
     slice_get entries 0 ≡ Some first →
@@ -53,11 +53,10 @@ pub decoded_by : (k : ℕ) (replaced : List ℕ) (softs kept : List ℤ) (format
     half ≡ listed_choice k kept R4800 → full ≡ listed_candidate format entries →
     low ≡ preferred quarter eighth → mid ≡ preferred half low →
     all ≡ preferred full mid → own ≡ first.score →
-    f ≡ good_or format first.word.bits own all → score ≡ f.score →
-    as_decoded (record f { score = score }) ≡ listed k replaced softs
+    f ≡ good_or format first.word.bits own all → as_decoded f ≡ listed k replaced softs
 unfolding listed
-decoded_by k replaced softs kept format entries first eighth quarter half full low mid all f own score
-    some is at codewords scores top a b d e l m n o g scored =
+decoded_by k replaced softs kept format entries first eighth quarter half full low mid all f own
+    some is at codewords scores top a b d e l m n o g =
     let choice : Rate → Option (DecodedFrame Rate) = listed_choice k kept in
     let first_codeword = codeword_in kept format in
     let same : codeword_of first ≡ first_codeword =
@@ -70,6 +69,5 @@ decoded_by k replaced softs kept format entries first eighth quarter half full l
     rw (n, m, l, a ∙ none_lower (choice R1200), b, d, found, at) refl in
     let shown : f ≡ listed_in k kept =
     g ∙ ap (λ (w : Codeword). good_or format w.bits own all) same ∙ rw (own_is, best, at) refl in
-    ap (λ (z : ℤ). as_decoded (record f { score = z })) scored
-    ∙ ap as_decoded shown
+    ap as_decoded shown
     ∙ ap (λ (ks : List ℤ). as_decoded (listed_in k ks)) is

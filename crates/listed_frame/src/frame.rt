@@ -117,11 +117,5 @@ pub fn listed_frame(
         bits: first.word.bits,
         score: first.score,
     };
-    let frame = good_or(&format, &codeword, best);
-    Decoded {
-        rate: frame.rate,
-        good: frame.good,
-        bits: frame.bits,
-        score: frame.score,
-    }
+    Decoded::of_frame(&good_or(&format, &codeword, best))
 }

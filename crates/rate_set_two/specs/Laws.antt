@@ -7,12 +7,16 @@ use Rattle.frame_decoder.specs.Signs.{DecodesBySigns}
 use Rattle.symbol_path.specs.declared.rate_two.Rate2.{Rate2}
 use Rattle.symbol_path.specs.declared.rate_two.Rate2.TheVariants.{R14400}
 use Rattle.symbol_path.specs.RatesTwo.{symbols_of}
-use Rattle.symbol_path.specs.SentOrderTwo.{sent2}
-use Rattle.rate_set_two.specs.SentOrder.{gathered2}
+use Rattle.symbol_path.specs.SentOrder.{gathered_by}
+use Rattle.symbol_path.specs.SentOrderTwo.{place2, sent2}
 use Rattle.rate_set_two.specs.declared.traffic.Decoded2.{Decoded2}
 use Rattle.rate_set_two.specs.TrafficFrames.{format_of2, as_decoded2, decoded2}
 
 -- ---- the sums
+-- for each code symbol the sum of the soft values of the symbols that are sent for it
+abbrev pub gathered2 : Rate2 → List ℤ → List ℤ
+gathered2 rate softs = gathered_by (place2 rate) 384 (symbols_of rate) softs
+
 -- soft values agree with what is sent as their sums agree with the code symbols
 abbrev pub KeepsAgreement : Type 0
 KeepsAgreement =

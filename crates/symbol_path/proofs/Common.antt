@@ -39,7 +39,7 @@ pub use mir.Syntax.{w64}
 pub use mir.Val.{SFits, of_z, to_z}
 pub use Rattle.symbol_path.specs.FormatSymbols.{place_in, repeated_as, repeated_count, sent_count, sent_symbols}
 pub use Rattle.symbol_path.specs.FramesTwo.{codeword_bits}
-pub use Rattle.symbol_path.specs.RatesTwo.{format_of2, frame_bits2, information_of2, symbols_of}
+pub use Rattle.symbol_path.specs.RatesTwo.{format_of2, frame_bits2, information_of2, repeats_of2, symbols_of}
 pub use Rattle.symbol_path.specs.Scrambling.{group_scrambling, power_place, power_start, symbol_or_power_bit}
 unfoldable pub use Rattle.symbol_path.specs.Scrambling.{power_places, scrambling_chips, with_power_bits}
 pub use Rattle.symbol_path.specs.SentOrder.{Shape, address, code_symbol, data_shape, gathered, place, reversed, sent, shape_of, size}

@@ -1,8 +1,9 @@
 -- The repeated symbols that are sent.
 use Rattle.symbol_path.proofs.Common.{◌≡◌, ℕ, ◌+◌, ◌*◌, ◌/◌, ◌%◌, ◌<◌, ◌&&◌, ◌||◌, Bool, true, false, [], ◌∷◌, get_or, refl, sym, ap, ◌∙◌}
-use Rattle.symbol_path.proofs.Common.{arith, nat_eq, nat_lt, not, agree_below, agree_below_at, and_parts, eqb-true, ltb-true, div_below}
+use Rattle.symbol_path.proofs.Common.{nat_eq, nat_lt, not, agree_below, agree_below_at, and_parts, eqb-true, ltb-true, repeats_of2}
 use Rattle.symbol_path.proofs.Common.{data_shape, address, place, Data, Rate2, R14400, R7200, R3600, R1800, symbols_of, kept_symbol}
 use Rattle.symbol_path.proofs.Common.{repeated_symbol, place2, is_dropped, IsKeptOnce, IsDropped}
+use Rattle.symbol_path.proofs.Interleaving.{symbol_lt}
 use Rattle.symbol_path.proofs.Permutation.{address_lt, place_lt, address-place, address-injective}
 
 -- as which symbol a repeated symbol is kept
@@ -53,20 +54,18 @@ not_true : (b : Bool) → not b ≡ true → b ≡ false
 not_true true e = sym e
 not_true false e = refl
 
+-- each code symbol is repeated so often that all fill a frame
+symbols_fill : (rate : Rate2) → symbols_of rate * repeats_of2 rate ≡ 576
+symbols_fill R14400 = refl
+symbols_fill R7200 = refl
+symbols_fill R3600 = refl
+symbols_fill R1800 = refl
+
 -- each code symbol that is sent is one of the frame's
 pub place2_lt : (rate : Rate2) (i : ℕ) → i < 384 → place2 rate i < symbols_of rate
-place2_lt R14400 i h =
-    let low = kept_lt (address data_shape i) (address_lt Data i h) in
-    div_below (repeated_symbol i) 1 576 (omega arith) (omega (arith, low))
-place2_lt R7200 i h =
-    let low = kept_lt (address data_shape i) (address_lt Data i h) in
-    div_below (repeated_symbol i) 2 288 (omega arith) (omega (arith, low))
-place2_lt R3600 i h =
-    let low = kept_lt (address data_shape i) (address_lt Data i h) in
-    div_below (repeated_symbol i) 4 144 (omega arith) (omega (arith, low))
-place2_lt R1800 i h =
-    let low = kept_lt (address data_shape i) (address_lt Data i h) in
-    div_below (repeated_symbol i) 8 72 (omega arith) (omega (arith, low))
+place2_lt rate i h =
+    symbol_lt (repeated_symbol i) (symbols_of rate) (repeats_of2 rate) 576 (symbols_fill rate)
+    (kept_lt (address data_shape i) (address_lt Data i h))
 
 pub dropped : IsDropped
 dropped i h =

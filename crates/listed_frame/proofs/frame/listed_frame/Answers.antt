@@ -1,13 +1,13 @@
 -- Why `listed_frame` of `frame` keeps its contract.
-use Rattle.std.proofs.Common.{arith, rules, FitsSigned}
+use Rattle.std.proofs.Common.{arith, rules, FitsSigned, ◌∙◌}
 use Rattle.std.specs.Int.{w64}
 use Rattle.std.proofs.lemmas.Int.{to_z-of_z}
 use Rattle.listed_frame.proofs.Candidates.{first_bits}
 use Rattle.listed_frame.proofs.Choice.{decoded_by}
 use Rattle.listed_frame.proofs.frame.listed_frame.Goals as goal
 
-pub good_or-frame-requires : goal.good_or-frame-requires
-good_or-frame-requires c =
+pub good_or-requires : goal.good_or-requires
+good_or-requires c =
     first_bits c.format_of-format.result c.codewords_in-codewords.result c.get-first.result.now
     c.codewords_in-codewords.ensures.sizes c.get-first.ensures.value
 
@@ -16,15 +16,13 @@ returns-clause-value c =
     let kept = c.without_power_bits-kept in
     let codewords = c.codewords_in-codewords in
     let first = c.get-first.result.now in
-    let frame = c.good_or-frame in
     let own : FitsSigned w64 first.score = search rules in
-    let fits : FitsSigned w64 frame.result.score = search rules in
-    decoded_by c.args.k c.args.places.now c.args.softs.now kept.result c.format_of-format.result
+    c.of_frame.ensures
+    ∙ decoded_by c.args.k c.args.places.now c.args.softs.now kept.result c.format_of-format.result
     codewords.result first c.candidate_of-best.result c.candidate_of.result c.candidate_of-2.result
     c.candidate.result c.preferred-best.result c.preferred-best-2.result c.preferred-best-3.result
-    frame.result _ _ (omega (arith, c.requires.some)) kept.ensures.value c.format_of-format.ensures.value
+    c.good_or.result _ (omega (arith, c.requires.some)) kept.ensures.value c.format_of-format.ensures.value
     codewords.ensures.codewords codewords.ensures.scores c.get-first.ensures.value
     c.candidate_of-best.ensures.value c.candidate_of.ensures.value c.candidate_of-2.ensures.value
     c.candidate.ensures c.preferred-best.ensures c.preferred-best-2.ensures
-    c.preferred-best-3.ensures (to_z-of_z w64 first.score own) frame.ensures
-    (to_z-of_z w64 frame.result.score fits)
+    c.preferred-best-3.ensures (to_z-of_z w64 first.score own) c.good_or.ensures
