@@ -7,7 +7,7 @@ use Rattle.cell_plan.proofs.LaidPages.{length-on}
 use Rattle.paging_message.specs.Laying as laying
 
 -- pages after what was laid are lawful puts
-puts_lawful : (size : ℕ) (form : CheckForm) (l : laying.Laid) (pages : List Page) (count : ℕ) →
+pub puts_lawful : (size : ℕ) (form : CheckForm) (l : laying.Laid) (pages : List Page) (count : ℕ) →
     length l.body ≡ count → AreSendable size count pages → AreHeard size count pages →
     laying.AreLawful size l (map (put_of form) pages)
 puts_lawful size form l [] count laid are heard = tt

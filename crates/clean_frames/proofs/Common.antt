@@ -1,27 +1,24 @@
 -- What the proofs of this crate cite of what lies below, and of its own definitions, passed on from one place.
 pub use Rattle.std.proofs.Common.{Bool, List, None, Option, Some, [], ap, append_assoc, arith, drop, false, filter, get_or, inl, inr}
-pub use Rattle.std.proofs.Common.{length, length-append, length-drop, map, nat_le, nat_lt, refl, replicate, subst, suc, sym, take, true}
-pub use Rattle.std.proofs.Common.{zero, ℕ, ⊎_elim, ◌%◌, ◌&&◌, ◌*◌, ◌++◌, ◌+◌, ◌-◌, ◌/◌, ◌<◌, ◌==◌, ◌||◌, ◌∙◌, ◌∷◌, ◌≡◌, ◌≤◌}
-pub use Rattle.std.proofs.Math.Nat.{div-add-mod, div-add-mod', mod_self, mul-add-div, mul-add-mod_self_left, mul-le-mul_left}
+pub use Rattle.std.proofs.Common.{length, length-append, map, nat_le, nat_lt, refl, replicate, subst, suc, sym, take, true, zero, ℕ, ⊎_elim}
+pub use Rattle.std.proofs.Common.{◌%◌, ◌&&◌, ◌*◌, ◌++◌, ◌+◌, ◌-◌, ◌/◌, ◌<◌, ◌==◌, ◌∙◌, ◌∷◌, ◌≡◌, ◌≤◌}
+pub use Rattle.std.proofs.Math.Nat.{div-add-mod, div-add-mod', mul-add-div, mul-le-mul_left}
 pub use Rattle.std.proofs.Math.Seq.{take-add, take-append-add, take-nil}
-pub use Rattle.std.proofs.lemmas.Bool.{and_from, and_left, and_right, cases_Bool, cases_lt, eq-eqb, false_from_ne_true, le-leb, le-ltb}
-pub use Rattle.std.proofs.lemmas.Bool.{lt-leb, lt-ltb, ne_eqb}
+pub use Rattle.std.proofs.lemmas.Bool.{and_from, and_left, and_right, cases_Bool, cases_lt, le-leb, le-ltb, lt-leb, lt-ltb, ne_eqb}
 pub use Rattle.std.proofs.lemmas.Grind.{flat_map-append}
-pub use Rattle.std.proofs.lemmas.List.{get_or-append-add, get_or_append_left, nil_from_length, replicate-append-replicate, length-replicate}
-pub use Rattle.std.proofs.lemmas.List.{length-take-le, take-append-le, append-nil, map-append, take-replicate, drop-drop, drop_at}
-pub use Rattle.std.proofs.lemmas.List.{take-take, take_at}
+pub use Rattle.std.proofs.lemmas.List.{get_or-append-add, get_or_append_left, replicate-append-replicate, length-replicate, length-take-le}
+pub use Rattle.std.proofs.lemmas.List.{take-append-le, append-nil, map-append, take-replicate, drop-drop, drop_at, take-take, take_at}
 pub use Rattle.std.proofs.lemmas.List.Elements.{filter-append}
-pub use Rattle.std.proofs.lemmas.List.Folds.{list_any-append}
 pub use Rattle.std.proofs.lemmas.Nat.{div-mul-add, div_below, le-div, mod-mul-add, mod_below}
 pub use Rattle.std.proofs.lemmas.Simd.{map-map}
-pub use Rattle.std.specs.List.{flat_map, list_any}
+pub use Rattle.std.specs.List.{flat_map}
 pub use Rattle.std.specs.Option.{option_to_list}
 pub use Rattle.std.specs.Prelude.{if◌then◌else◌}
 pub use Rattle.cell_plan.proofs.LaidPages.{size_large}
 pub use Rattle.cell_plan.proofs.SentMessages.{length-sending, length-sync}
 pub use Rattle.cell_plan.specs.PageCycles.{paging_frame_size}
 unfoldable pub use Rattle.cell_plan.specs.PageCycles.{cycled}
-pub use Rattle.cell_plan.specs.Pages.{AreSendable, laid_behind, laid_pages, put_of}
+pub use Rattle.cell_plan.specs.Pages.{AreSendable, laid_pages, put_of}
 unfoldable pub use Rattle.cell_plan.specs.Pages.{page_cycle}
 pub use Rattle.cell_plan.specs.Sendings.{padded_sending, superframes_a_sending}
 unfoldable pub use Rattle.cell_plan.specs.Sendings.{message_of, sync_frame_bits}
@@ -37,12 +34,10 @@ pub use Rattle.chip_core.proofs.Repeated.{flat_map-repeated, length-repeated, re
 pub use Rattle.chip_core.specs.Bits.{number}
 unfoldable pub use Rattle.chip_core.specs.Bits.{places}
 pub use Rattle.chip_core.specs.declared.check_form.CheckForm.{CheckForm}
-pub use Rattle.paging_message.proofs.Layings.{any_other, below_more, below_push, framed_whole, half_front, not_begun}
 pub use Rattle.paging_message.specs.HalfFrames.{half_frame_body}
-unfoldable pub use Rattle.paging_message.specs.HalfFrames.{bits_left, half_frame_capsule_ending}
-unfoldable pub use Rattle.paging_message.specs.Laying.{fill}
+unfoldable pub use Rattle.paging_message.specs.HalfFrames.{half_frame_capsule_ending}
 pub use Rattle.quality_bits.proofs.Wholes.{length-capsule, whole-capsule}
-pub use Rattle.quality_bits.specs.Capsules.{FillsCapsule, IsWhole, octets, stated_bits}
+pub use Rattle.quality_bits.specs.Capsules.{FillsCapsule, octets, stated_bits}
 unfoldable pub use Rattle.quality_bits.specs.Capsules.{capsule, front_capsule, is_stated}
 pub use Rattle.quality_bits.specs.Pieces.{Piece, bodies, but_last, from_last_start, piece}
 unfoldable pub use Rattle.quality_bits.specs.Pieces.{capsule_ending}
@@ -53,3 +48,4 @@ unfoldable pub use Rattle.sync_message.specs.SyncMessage.{sync_body, sync_capsul
 pub use Rattle.sync_message.specs.declared.fields.SyncFields.{SyncFields}
 pub use Rattle.clean_frames.specs.WholePages.{AreWholePages, PageSendingsComeBack, Placed, WholePagesComeBack, capsules_with_frames}
 pub use Rattle.clean_frames.specs.WholePages.{cycle_half_frames, frame_capsules, is_between, is_whole_page, placed, sending_of}
+pub use Rattle.cell_plan.proofs.CarriedPages.{puts_lawful}

@@ -9,15 +9,15 @@ pub use Rattle.std.proofs.lemmas.Bool.{and_from, and_left, and_parts, and_right,
 pub use Rattle.std.proofs.lemmas.Bool.{eqb-true, false_from_ne_true, le-leb, le-ltb, leb-true, lt-leb, lt-ltb, ne_eqb}
 pub use Rattle.std.proofs.lemmas.Grind.{flat_map-append}
 pub use Rattle.std.proofs.lemmas.List.{append-nil, drop-append-le, drop-drop, drop-take, drop_all, drop_at, length-replicate}
-pub use Rattle.std.proofs.lemmas.List.{length-take-le, map-append, replicate-append-replicate, take-append-drop, take-append-le, take-take}
-pub use Rattle.std.proofs.lemmas.List.{take_all, take_at}
+pub use Rattle.std.proofs.lemmas.List.{length-take-le, map-append, nil_from_length, replicate-append-replicate, take-append-drop}
+pub use Rattle.std.proofs.lemmas.List.{take-append-le, take-take, take_all, take_at}
 pub use Rattle.std.proofs.lemmas.List.Folds.{list_any-append}
 pub use Rattle.std.proofs.lemmas.Nat.{div-mul-add, mod-mul-add, mod_below}
 pub use Rattle.std.specs.List.{flat_map, list_any, range_with_len}
 pub use Rattle.std.specs.Option.{option_to_list}
 pub use Rattle.std.specs.Prelude.{IfSome, IsSome, IsTrue, ◌↔◌}
 pub use Rattle.chip_core.proofs.Counted.{flat_map-add, flat_map-next, flat_map-nothing, flat_map-zero, map-next, map-zero}
-pub use Rattle.chip_core.proofs.FieldLists.{bits_more, length-binary, spelled-append}
+pub use Rattle.chip_core.proofs.FieldLists.{bits_more, length-binary}
 pub use Rattle.chip_core.proofs.Places.{length-map-places, map-places-all, map-places-more, places-none}
 pub use Rattle.chip_core.proofs.Ranges.{flat_map-places-more, flat_map_ext_places, map_ext_places}
 pub use Rattle.chip_core.proofs.ValueLists.{behind_front, front, number_front}

@@ -4,6 +4,7 @@ pub mod Carried
 pub mod Chains
 pub mod Common
 pub mod Cutting
+pub mod LaidRuns
 pub mod Layings
 pub mod Messages
 pub mod Pieces

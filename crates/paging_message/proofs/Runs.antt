@@ -9,7 +9,7 @@ use Rattle.paging_message.proofs.Common.{eq-eqb, le-leb, le-ltb, lt-leb, lt-ltb,
 use Rattle.paging_message.proofs.Common.{take-add, fill, padded_to, div-add-mod', if◌then◌else◌, and_from, and_left, and_right, cases_order}
 use Rattle.paging_message.proofs.Common.{false_from_ne_true, drop-take, number, is_stated, stated_bits, IsWhole, stated_bounds}
 use Rattle.paging_message.proofs.Common.{stated_from, bits_left}
-use Rattle.paging_message.proofs.Common.{mod-eq_of_lt}
+use Rattle.paging_message.proofs.Common.{flat_map-next, flat_map-nothing, mod-eq_of_lt}
 use Rattle.paging_message.proofs.Chains.{is_there}
 use Rattle.paging_message.proofs.Pieces.{run, run-places}
 use Rattle.paging_message.proofs.Scans.{NoneStarts, chain_of, cut_short, ended, from_start_of_run, none_starts-append, scan, scan-next}
@@ -453,6 +453,20 @@ ended-behind c cs m k e =
     let b : nat_le m (length c) ≡ false = lt-leb m (length c) (omega (arith, e)) in
     let d : m - length c ≡ suc k = omega (arith, e) in
     rw (a, b, d) refl
+
+-- the bits up to the end of a capsule tell it alone
+pub first_bits_told : (size at d : ℕ) (c : List Bool) (cs : List (List Bool)) → length c ≡ suc d →
+    flat_map (ending_at size at (c ∷ cs)) (places (suc d)) ≡ ((at + length c - 1) / size, c) ∷ []
+first_bits_told size at d c cs long =
+    let g = ending_at size at (c ∷ cs) in
+    let e : at + d ≡ at + length c - 1 = omega (arith, long) in
+    flat_map-next g d
+    ∙ ap (λ (l : List (ℕ × List Bool)). l ++ g d)
+    (flat_map-nothing g d (λ k lt. ap (λ o. with_number ((at + k) / size) (option_to_list o))
+    (ended-before c cs (suc k) (omega (arith, lt, long)))))
+    ∙ ap (λ o. with_number ((at + d) / size) (option_to_list o))
+    (ended-first c cs (suc d) (sym long))
+    ∙ ap (λ (k : ℕ). (k / size, c) ∷ []) e
 
 -- none after all of them
 pub ended-past : (cs : List (List Bool)) (m : ℕ) → length (joined cs 0) ≤ m →

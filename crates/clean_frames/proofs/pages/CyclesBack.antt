@@ -1,23 +1,23 @@
 -- What is heard of a cycle of pages that goes round, from any frame on.
 use Rattle.clean_frames.proofs.Common.{◌≡◌, ℕ, suc, ◌+◌, ◌-◌, ◌*◌, ◌/◌, ◌<◌, ◌≤◌, Bool, false, List, [], ◌∷◌, ◌++◌, length, map, take, drop}
-use Rattle.clean_frames.proofs.Common.{refl, sym, ap, ◌∙◌, subst, arith, inl, inr, length-append, length-drop, flat_map, cases_Bool}
-use Rattle.clean_frames.proofs.Common.{append-nil, length-take-le, nil_from_length, map-map, mul-le-mul_left, places, length-map-places}
-use Rattle.clean_frames.proofs.Common.{CheckForm, Piece, Rate, half_frame_body, cycled, laid_pages, page_cycle, put_of, AreSendable}
-use Rattle.clean_frames.proofs.Common.{AreHeard, Page, size_large, PageSendingsComeBack, capsules_with_frames, cycle_half_frames}
-use Rattle.clean_frames.proofs.Common.{is_between, placed, sending_of, AreWholePages, Placed, flat_map-zero, flat_map-repeated, repeated}
-use Rattle.clean_frames.proofs.Common.{repeated-part, filter, true, nat_le, nat_lt, ◌&&◌, and_left, and_right, cases_lt, le-leb, le-ltb}
-use Rattle.clean_frames.proofs.Common.{lt-leb, lt-ltb, le-div, paging_frame_size, IsStatedPaging, PagingPlan, flat_map_ext_places}
-use Rattle.clean_frames.proofs.Common.{WholePagesComeBack, frame_capsules, is_whole_page, flat_map-nothing, zero, append_assoc, map-append}
-use Rattle.clean_frames.proofs.Common.{filter-append, mul-add-div, flat_map-next, length-repeated, ◌%◌, get_or, get_or-append-add}
-use Rattle.clean_frames.proofs.Common.{get_or_append_left, mod-mul-add, mod_below, div-add-mod, map-places-all, map_ext_places, map-add}
-use Rattle.paging_message.proofs.Runs.{joined, length-padded, no_width, run_bits, run_piece, run_pieces, run_width, run_width_some}
-use Rattle.paging_message.proofs.Runs.{AreChained}
-use Rattle.paging_message.proofs.Scans.{length-stream, no_piece, stream, whole-append, whole-map, AreWhole, scan, bits_of}
+use Rattle.clean_frames.proofs.Common.{refl, sym, ap, ◌∙◌, subst, arith, inl, inr, length-append, flat_map, cases_Bool, map-map}
+use Rattle.clean_frames.proofs.Common.{mul-le-mul_left, places, length-map-places, CheckForm, Piece, Rate, half_frame_body, cycled}
+use Rattle.clean_frames.proofs.Common.{laid_pages, page_cycle, AreSendable, AreHeard, Page, size_large, PageSendingsComeBack}
+use Rattle.clean_frames.proofs.Common.{capsules_with_frames, cycle_half_frames, is_between, placed, sending_of, AreWholePages, Placed}
+use Rattle.clean_frames.proofs.Common.{flat_map-zero, flat_map-repeated, repeated, repeated-part, filter, true, nat_le, nat_lt, ◌&&◌}
+use Rattle.clean_frames.proofs.Common.{and_left, and_right, cases_lt, le-leb, le-ltb, lt-leb, lt-ltb, le-div, paging_frame_size}
+use Rattle.clean_frames.proofs.Common.{IsStatedPaging, PagingPlan, flat_map_ext_places, WholePagesComeBack, frame_capsules, is_whole_page}
+use Rattle.clean_frames.proofs.Common.{flat_map-nothing, zero, append_assoc, map-append, filter-append, mul-add-div, flat_map-next}
+use Rattle.clean_frames.proofs.Common.{length-repeated, ◌%◌, get_or, get_or-append-add, get_or_append_left, mod-mul-add, mod_below}
+use Rattle.clean_frames.proofs.Common.{div-add-mod, map-places-all, map_ext_places, map-add}
+use Rattle.paging_message.proofs.Runs.{no_width, run_piece, run_pieces, run_width, run_width_some, AreChained}
+use Rattle.paging_message.proofs.Scans.{length-stream, no_piece, stream, whole-append, AreWhole, scan, bits_of}
 use Rattle.clean_frames.proofs.pages.Scans.{frames_scanned, in_frame, AreFrames}
 use Rattle.clean_frames.proofs.pages.Laid.{length-page, page_capsule, pages_placed, placed-begins, runs-begin, runs-follow, runs_laid}
-use Rattle.clean_frames.proofs.pages.Laid.{runs_of, turned_back, under_way, whole_rows, first_begins, first_runs, placed-follows}
-use Rattle.clean_frames.proofs.pages.RunsHeard.{from_within, is_inside, pieces_of, placed_runs, selected, spelled, told, AreRuns}
-use Rattle.clean_frames.proofs.pages.RunsHeard.{placed_run}
+use Rattle.clean_frames.proofs.pages.Laid.{runs_of, first_begins, first_runs, placed-follows}
+use Rattle.paging_message.proofs.LaidRuns.{turned_back, whole_rows}
+use Rattle.clean_frames.proofs.pages.RunsHeard.{from_within, is_inside, pieces_of, placed_runs, selected, told, AreRuns, placed_run}
+use Rattle.paging_message.proofs.Carried.{run_pieces_whole}
 use Rattle.paging_message.specs.Laying as laying
 
 -- ---- a later round
@@ -265,19 +265,6 @@ cycle_has_frames size pieces first are some = record {
 
 -- ---- the half-frames of runs
 
-run_pieces_whole : (size : ℕ) (cs : List (List Bool)) → 0 < size →
-    AreWhole size (run_pieces size cs)
-run_pieces_whole size cs large =
-    let bits = run_bits size cs in
-    let w = run_width size cs in
-    let long = length-padded size (joined cs 0) large in
-    whole-map size (run_piece size cs) w
-    (λ j lt.
-    let room : size * suc j ≤ size * w = mul-le-mul_left size lt in
-    let e : size * suc j ≡ size * j + size = omega arith in
-    length-take-le size (drop (size * j) bits)
-    (omega (arith, room, e, long, length-drop (size * j) bits)))
-
 pieces_whole : (size : ℕ) (spell : Page → List Bool) (runs : List (List Page)) → 0 < size →
     AreWhole size (pieces_of size spell runs)
 pieces_whole size spell [] large = tt
@@ -311,37 +298,6 @@ runs_some (page ∷ pages) run =
 
 -- ---- a cycle
 
-first_laid : (size : ℕ) (c : List Bool) (follow : Bool) → 0 < size → follow ≡ false →
-    laying.laid_on size laying.nothing_laid follow c ≡ under_way [] 0 [] c
-unfolding laying.laid_on
-first_laid size c follow large f =
-    let none : laying.padded_to size [] ≡ [] =
-    nil_from_length (laying.padded_to size [])
-    (length-padded size [] large ∙ ap (λ (n : ℕ). size * n) (no_width size large) ∙ omega arith) in
-    let rows : length (laying.padded_to size []) / size ≡ 0 =
-    whole_rows size 0 (length (laying.padded_to size [])) large (ap length none ∙ omega arith) in
-    rw f (ap (λ (k : ℕ). let x : laying.Laid =
-    record { body = laying.padded_to size [] ++ c; starts = k ∷ [] } in x) rows
-    ∙ ap (λ (l : List Bool). let x : laying.Laid =
-    record { body = l ++ c; starts = 0 ∷ [] } in x) none)
-
--- a cycle is the half-frames of its runs
-cycle_laid : (size : ℕ) (form : CheckForm) (page : Page) (pages : List Page) → 0 < size →
-    page.follows ≡ false →
-    laying.half_frames_of size (laid_pages size form (page ∷ pages))
-    ≡ stream (pieces_of size (page_capsule form) (runs_of (page ∷ []) pages))
-cycle_laid size form page pages large f =
-    let c = page_capsule form page in
-    let one : c ≡ spelled (page_capsule form) (page ∷ []) = sym (append-nil c) in
-    let none : 0 ≡ size * 0 = omega arith in
-    let rest = stream (pieces_of size (page_capsule form) (runs_of (page ∷ []) pages)) in
-    ap (λ (l : laying.Laid). laying.half_frames_of size
-    (laying.laid_all size l (map (put_of form) pages)))
-    (first_laid size c page.follows large f ∙ ap (under_way [] 0 []) one)
-    ∙ runs_laid size form pages (page ∷ []) [] 0 [] large
-    (omega (arith, length-page form page, ap length one)) tt none
-    ∙ ap (λ (l : List Bool). l ++ rest) (flat_map-zero (laying.half_frame size [] []))
-
 -- how many half-frames it has
 cycle_count : (size : ℕ) (form : CheckForm) (page : Page) (pages : List Page)
     (cycle : List Bool) → 0 < size → page.follows ≡ false →
@@ -350,7 +306,7 @@ cycle_count : (size : ℕ) (form : CheckForm) (page : Page) (pages : List Page)
     ≡ length (pieces_of size (page_capsule form) (runs_of (page ∷ []) pages))
 cycle_count size form page pages cycle large f is =
     let pieces = pieces_of size (page_capsule form) (runs_of (page ∷ []) pages) in
-    ap (λ (l : List Bool). length l / (size + 1)) (is ∙ cycle_laid size form page pages large f)
+    ap (λ (l : List Bool). length l / (size + 1)) (is ∙ runs_laid size form page pages large f)
     ∙ whole_rows (size + 1) (length pieces) (length (stream pieces)) (omega arith)
     (length-stream size pieces
     (pieces_whole size (page_capsule form) (runs_of (page ∷ []) pages) large))
@@ -442,10 +398,10 @@ cycle_heard size form page pages cycle first n rounds large sent heard is room =
     let spell = page_capsule form in
     let runs = runs_of (page ∷ []) pages in
     let pieces = pieces_of size spell runs in
-    let f = first_begins size page pages large heard in
+    let f = first_begins size form page pages large sent heard in
     let are = first_runs size form page pages large sent heard in
     let some = pieces_some size spell runs large (runs_some pages (page ∷ [])) are in
-    let same : cycle ≡ stream pieces = is ∙ cycle_laid size form page pages large f in
+    let same : cycle ≡ stream pieces = is ∙ runs_laid size form page pages large f in
     let count = cycle_count size form page pages cycle large f is in
     let e : 2 * (first + n) ≡ 2 * first + 2 * n = omega arith in
     let enough : 2 * first + 2 * n ≤ length pieces * rounds =
@@ -483,7 +439,7 @@ cycle_some rate form [] are = let some = are.some in absurd (omega (arith, some)
 cycle_some rate form (page ∷ pages) are =
     let size = half_frame_body rate in
     let large = size_large rate in
-    let f = first_begins size page pages large are.heard in
+    let f = first_begins size form page pages large are.sendable are.heard in
     let some = pieces_some size (page_capsule form) (runs_of (page ∷ []) pages) large
     (runs_some pages (page ∷ []))
     (first_runs size form page pages large are.sendable are.heard) in

@@ -4,10 +4,11 @@ use Rattle.clean_frames.proofs.Common.{take, drop, refl, sym, ap, ◌∙◌, ari
 use Rattle.clean_frames.proofs.Common.{option_to_list, and_left, and_right, cases_lt, le-leb, le-ltb, lt-leb, lt-ltb, append-nil, drop-drop}
 use Rattle.clean_frames.proofs.Common.{drop_at, map-append, take-append-le, filter-append, div_below, le-div, mul-le-mul_left}
 use Rattle.clean_frames.proofs.Common.{take-append-add, take-nil, places, length-map-places, Piece, Page, flat_map_ext_places, Placed}
-use Rattle.clean_frames.proofs.Common.{flat_map-add, flat_map-next, flat_map-nothing, map-add, take-map-places, filter}
-use Rattle.paging_message.proofs.Runs.{ended_of, joined, AreChained, ended-before, ended-behind, ended-first, ended-past, ending_at, fills}
-use Rattle.paging_message.proofs.Runs.{later_begins_none, run_piece, run_pieces, run_scanned, run_width}
+use Rattle.clean_frames.proofs.Common.{flat_map-add, flat_map-nothing, map-add, take-map-places, filter}
+use Rattle.paging_message.proofs.Runs.{ended_of, joined, AreChained, ended-before, ended-behind, ended-past, ending_at, fills}
+use Rattle.paging_message.proofs.Runs.{later_begins_none, run_piece, run_pieces, run_scanned, run_width, first_bits_told}
 use Rattle.paging_message.proofs.Scans.{none_starts-map, NoneStarts, scan, scan-append, scan_silent, with_number}
+use Rattle.paging_message.proofs.LaidRuns.{AreChainedRuns}
 
 -- ---- where the pages of runs lie
 
@@ -35,9 +36,7 @@ pieces_of size spell runs = flat_map (λ run. run_pieces size (map spell run)) r
 
 -- the capsules of each run are chained, and there are some
 abbrev pub AreRuns : ℕ → (Page → List Bool) → List (List Page) → Type 0
-AreRuns size spell [] = Unit {0}
-AreRuns size spell (run ∷ runs) =
-    AreChained size 0 (map spell run) × (0 < length (spelled spell run)) × AreRuns size spell runs
+AreRuns size spell runs = AreChainedRuns size (map (map spell) runs)
 
 -- ---- the pages to be heard
 
@@ -118,20 +117,6 @@ runs_too_late size spell low high o (run ∷ runs) large are le =
 
 -- ---- one run
 
--- the bits up to the end of a capsule tell it alone
-first_told : (size at d : ℕ) (c : List Bool) (cs : List (List Bool)) → length c ≡ suc d →
-    flat_map (ending_at size at (c ∷ cs)) (places (suc d)) ≡ ((at + length c - 1) / size, c) ∷ []
-first_told size at d c cs long =
-    let g = ending_at size at (c ∷ cs) in
-    let e : at + d ≡ at + length c - 1 = omega (arith, long) in
-    flat_map-next g d
-    ∙ ap (λ (l : List (ℕ × List Bool)). l ++ g d)
-    (flat_map-nothing g d (λ k lt. ap (λ o. with_number ((at + k) / size) (option_to_list o))
-    (ended-before c cs (suc k) (omega (arith, lt, long)))))
-    ∙ ap (λ o. with_number ((at + d) / size) (option_to_list o))
-    (ended-first c cs (suc d) (sym long))
-    ∙ ap (λ (k : ℕ). (k / size, c) ∷ []) e
-
 -- so many bits of a run tell the pages that end with them
 bits_told : (size : ℕ) (spell : Page → List Bool) (low high run at x : ℕ) (pages : List Page)
     (bits : ℕ) → 0 < size → AreChained size x (map spell pages) → low ≤ run →
@@ -172,7 +157,7 @@ bits_told size spell low high run at x (page ∷ pages) bits large chained early
           ap (λ (k : ℕ). flat_map g (places k)) parts
           ∙ flat_map-add g (suc d) b
           ∙ ap (λ (l : List (ℕ × List Bool)). l ++ flat_map (λ i. g (suc d + i)) (places b))
-          (first_told size at d c cs long)
+          (first_bits_told size at d c cs long)
           ∙ ap (λ (l : List (ℕ × List Bool)). ((next - 1) / size, c) ∷ l)
           (flat_map_ext_places (λ i. g (suc d + i)) (ending_at size next cs) b
           (λ k lt.

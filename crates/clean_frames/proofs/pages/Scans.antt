@@ -1,11 +1,12 @@
 -- What frames of half-frames end, one frame after another.
 use Rattle.clean_frames.proofs.Common.{◌≡◌, ℕ, zero, suc, ◌+◌, ◌-◌, ◌*◌, ◌/◌, ◌<◌, ◌≤◌, Bool, false, List, [], ◌∷◌, ◌++◌, length, map, take}
-use Rattle.clean_frames.proofs.Common.{refl, sym, ap, ◌∙◌, arith, append_assoc, flat_map, option_to_list, flat_map-append, append-nil}
-use Rattle.clean_frames.proofs.Common.{map-append, places, length-map-places, Piece, half_frame_capsule_ending, capsules_with_frames}
-use Rattle.clean_frames.proofs.Common.{frame_capsules, flat_map-next, flat_map-nothing, flat_map-zero, map-next, map-zero, replicate}
-use Rattle.clean_frames.proofs.Common.{length-replicate, replicate-append-replicate, take-replicate}
+use Rattle.clean_frames.proofs.Common.{refl, sym, ap, ◌∙◌, arith, append_assoc, flat_map, option_to_list, append-nil, map-append, places}
+use Rattle.clean_frames.proofs.Common.{length-map-places, Piece, half_frame_capsule_ending, capsules_with_frames, frame_capsules}
+use Rattle.clean_frames.proofs.Common.{flat_map-next, flat_map-nothing, flat_map-zero, map-next, map-zero, replicate, length-replicate}
+use Rattle.clean_frames.proofs.Common.{replicate-append-replicate, take-replicate}
 use Rattle.paging_message.proofs.Scans.{bits_of, ended_by-append, ended_by_bits, half_frame_ends, scan, scan-append, stream, told_in}
 use Rattle.paging_message.proofs.Scans.{whole-append, whole-map, with_number, zeros_end_none}
+use Rattle.paging_message.proofs.Carried.{stream-next}
 
 -- ---- frame by frame
 
@@ -13,13 +14,6 @@ use Rattle.paging_message.proofs.Scans.{whole-append, whole-map, with_number, ze
 pub record AreFrames (size : ℕ) (own : ℕ → List Bool) (f : ℕ → Piece) : Type 0 where
   pub long : (j : ℕ) → length (f j).body ≡ size
   pub each : (k : ℕ) → own k ≡ bits_of (f (2 * k)) ++ bits_of (f (suc (2 * k)))
-
--- the bits of one half-frame more
-stream-next : (pieces : List Piece) (p : Piece) →
-    stream (pieces ++ p ∷ []) ≡ stream pieces ++ bits_of p
-stream-next pieces p =
-    flat_map-append bits_of pieces (p ∷ [])
-    ∙ ap (λ (l : List Bool). stream pieces ++ l) (append-nil (bits_of p))
 
 two_more : (f : ℕ → Piece) (n : ℕ) →
     map f (places (2 * suc n))
