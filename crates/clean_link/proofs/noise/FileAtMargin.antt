@@ -1,6 +1,6 @@
 -- A file with noise of the size of its margin, and what a handset hears of it.
 use Rattle.clean_link.proofs.Common.{◌≡◌, ◌≢◌, ℕ, ◌+◌, ◌-◌, ◌*◌, ◌%◌, ◌<◌, ◌≤◌, Bool, true, false, List, [], ◌∷◌, map, refl, ap, ◌∙◌, arith}
-use Rattle.clean_link.proofs.Common.{rules, subst, replicate, Option, Some, None, All, All-cons, All-head, All-nil, ℤ, pos, negsuc}
+use Rattle.clean_link.proofs.Common.{subst, replicate, Option, Some, None, All, All-cons, All-head, All-nil, ℤ, pos, negsuc}
 use Rattle.clean_link.proofs.Common.{unsigned_abs, ◌+ℤ◌, ◌-ℤ◌, ◌*ℤ◌, ints, sign, point, times, Pair, Sample, get_or, places, binary}
 use Rattle.clean_link.proofs.Common.{capsule, check_bits, sync_body, sync_capsule, M30, R9600, Sixteen, FillsCapsule, HasMessage, no_sample}
 use Rattle.clean_link.proofs.Common.{sample_with, scaled, made_samples, samples_of, sample_of, carriers, amplitudes, amplitude}
