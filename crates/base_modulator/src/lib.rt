@@ -11,8 +11,8 @@ pub mod laws;
 
 pub use cell::Cell;
 pub use cell_plan::{
-    CellIdentity, CellPlan, ChannelForm, FrameList, LinkPlan, Page, PagingPlan, PilotPlan, Series,
-    SyncPlan, TrafficFrame, TrafficFrame2, TrafficPlan,
+    CellIdentity, CellPlan, ChannelForm, FrameRate, LinkPlan, Page, PagingPlan, PilotPlan, RateSet,
+    Series, SyncPlan, TrafficFrame, TrafficPlan,
 };
 pub use cell_script::ScriptFault;
 pub use trial_link::{trial_script, trial_serial_number};

@@ -13,7 +13,8 @@ pub use Rattle.std.proofs.lemmas.Nat.{div-mul-add, mod-mul-add}
 pub use Rattle.std.specs.Bool.{beq}
 pub use Rattle.std.specs.Int.{w16, w64, w8}
 pub use Rattle.std.specs.List.{flat_map, slice_get}
-pub use Rattle.std.specs.Prelude.{All, MatchOption, not, option_to_list}
+pub use Rattle.std.specs.Option.{option_map_or}
+pub use Rattle.std.specs.Prelude.{All, MatchOption, not, option_and_then, option_map, option_to_list}
 pub use Rattle.cdma_io.specs.SampleFile.{HasBits, integer_width_of}
 pub use Rattle.chip_core.proofs.BitLists.{taken_more, zip_push}
 pub use Rattle.chip_core.proofs.FieldLists.{length-binary}
@@ -43,15 +44,13 @@ pub use Rattle.quality_bits.specs.TrafficCodewords.{quality_of, repeats_of, traf
 pub use Rattle.quality_bits.specs.declared.kind.Kind.TheVariants.{M30}
 pub use Rattle.quality_bits.specs.declared.rate.Rate.{Rate}
 pub use Rattle.short_code.specs.Despread.{code_point}
-pub use Rattle.symbol_path.specs.Scrambling.{scrambling, with_power_bits}
-pub use Rattle.symbol_path.specs.SentOrder.{data_shape, sent}
+pub use Rattle.symbol_path.specs.declared.rate_two.Rate2.{Rate2}
 pub use Rattle.sync_message.proofs.Bodies.{admitted, fixed_fit, length-body, tail_of}
 pub use Rattle.sync_message.specs.Framing.{superframes_of}
 pub use Rattle.sync_message.specs.SyncMessage.{IsSyncMessage, fixed_fields, sync_body}
 unfoldable pub use Rattle.sync_message.specs.SyncMessage.{sync_capsule}
 pub use Rattle.sync_message.specs.declared.fields.SyncFields.{SyncFields}
 unfoldable pub use Rattle.walsh.specs.Walsh.{walsh}
-pub use Rattle.cell_plan.specs.PageCycles.{scrambled}
 pub use Rattle.cell_plan.specs.Pages.{AreSendable, laid_behind, put_of}
 unfoldable pub use Rattle.cell_plan.specs.Pages.{page_cycle}
 pub use Rattle.cell_plan.specs.Plan.{gain_sum, loudness, most_part, paging_gains, sync_gain, traffic_gains}
@@ -61,8 +60,11 @@ pub use Rattle.cell_plan.specs.Signal.{Carrier, amplitude, amplitudes, level, le
 pub use Rattle.cell_plan.specs.Signal.{sync_carriers, traffic_carrier}
 unfoldable pub use Rattle.cell_plan.specs.Signal.{carriers, sample_of, samples_of, sent_chip}
 pub use Rattle.cell_plan.specs.Stated.{AreHeard, IsCarried, IsStatedPaging}
-pub use Rattle.cell_plan.specs.TrafficFrames.{frames_in_turn}
-unfoldable pub use Rattle.cell_plan.specs.TrafficFrames.{traffic_symbols}
+pub use Rattle.cell_plan.specs.TrafficFrames.{FrameAt, frame_of_set, all_of_set, frames_in_turn, frames_of_set, in_set_one, in_set_two, planned}
+pub use Rattle.cell_plan.specs.TrafficFrames.{SetOneFrame, SetTwoFrame, set_one, set_two}
+pub use Rattle.cell_plan.specs.declared.traffic_frame.FrameRate.{FrameRate}
+pub use Rattle.cell_plan.specs.declared.traffic_frame.FrameRate.TheVariants.{SetOne, SetTwo}
+pub use Rattle.cell_plan.specs.declared.traffic_frame.TrafficFrame.{TrafficFrame}
 pub use Rattle.cell_plan.specs.declared.plan.CellIdentity.{CellIdentity}
 pub use Rattle.cell_plan.specs.declared.plan.CellPlan.{CellPlan}
 pub use Rattle.cell_plan.specs.declared.plan.Page.{Page}

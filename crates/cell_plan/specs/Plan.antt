@@ -13,7 +13,7 @@ use Rattle.cell_plan.specs.declared.plan.PagingPlan.{PagingPlan}
 use Rattle.cell_plan.specs.declared.plan.TrafficPlan.{TrafficPlan}
 use Rattle.cell_plan.specs.declared.plan.CellPlan.{CellPlan}
 use Rattle.cell_plan.specs.declared.plan.SyncPlan.{SyncPlan}
-use Rattle.cell_plan.specs.TrafficFrames.{frame_count, AreTrafficFrames}
+use Rattle.cell_plan.specs.TrafficFrames.{IsTrafficFrame}
 
 -- the greatest absolute value of a part of a sample
 abbrev pub most_part : Width → ℕ
@@ -69,8 +69,8 @@ pub record IsTrafficPlan (t : TrafficPlan) : Type 0 where
   pub other : t.row ≢ 32
   pub latest : t.offset ≤ 15
   pub gain : 0 < t.gain
-  pub some : 1 ≤ frame_count t.frames
-  pub sized : AreTrafficFrames t.frames
+  pub some : 1 ≤ length t.frames
+  pub sized : All IsTrafficFrame t.frames
 
 -- no two traffic channels have one row
 abbrev pub HaveOwnTrafficRows : List TrafficPlan → Type 0

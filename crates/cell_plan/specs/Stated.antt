@@ -17,7 +17,7 @@ use Rattle.cell_plan.specs.declared.plan.SyncPlan.{SyncPlan}
 use Rattle.cell_plan.specs.declared.plan.TrafficPlan.{TrafficPlan}
 use Rattle.cell_plan.specs.declared.plan.CellIdentity.{CellIdentity}
 use Rattle.cell_plan.specs.declared.plan.LinkPlan.{LinkPlan}
-use Rattle.cell_plan.specs.TrafficFrames.{frame_count, AreTrafficFrames}
+use Rattle.cell_plan.specs.TrafficFrames.{IsTrafficFrame}
 use Rattle.cell_plan.specs.Plan.{IsLawfulPlan}
 use Rattle.chip_core.specs.declared.width.Width.{Width}
 use Rattle.quality_bits.specs.Capsules.{capsule}
@@ -66,8 +66,8 @@ pub record IsStatedPaging (rate : Rate) (p : PagingPlan) : Type 0 where
 pub record IsStatedTraffic (t : TrafficPlan) : Type 0 where
   pub last : t.row ≤ 63
   pub latest : t.offset ≤ 15
-  pub some : 1 ≤ frame_count t.frames
-  pub sized : AreTrafficFrames t.frames
+  pub some : 1 ≤ length t.frames
+  pub sized : All IsTrafficFrame t.frames
 
 pub record IsStatedPlan (plan : CellPlan) : Type 0 where
   pub cell : IsStatedCell plan.cell

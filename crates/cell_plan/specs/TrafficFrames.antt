@@ -1,7 +1,9 @@
--- What a traffic channel sends (TIA/EIA-95-B, 7.1.3.5): frames of one rate set, again and again.
+-- What a traffic channel sends (TIA/EIA-95-B, 7.1.3.5): frames, again and again.
 use Rattle.std.specs.Prelude.{◌≡◌, ℕ, ◌+◌, ◌*◌, ◌%◌, ◌^◌, ◌<◌, ◌≤◌, Bool, false, List, [], ◌∷◌}
-use Rattle.std.specs.Prelude.{◌++◌, length, replicate, take, drop, All}
+use Rattle.std.specs.Prelude.{length, replicate, take, drop, All, Option, Some, None}
+use Rattle.std.specs.Prelude.{option_and_then, option_map}
 use Rattle.std.specs.List.{flat_map}
+use Rattle.std.specs.Option.{option_map_or}
 use Rattle.chip_core.specs.Air.{data_frame_chips, frame_offset_chips}
 use Rattle.long_code.specs.LongCode.{after, IsState}
 use Rattle.conv_code.specs.ConvCode.{code_symbols}
@@ -10,21 +12,39 @@ use Rattle.symbol_path.specs.SentOrder.{data_shape, sent}
 use Rattle.quality_bits.specs.TrafficCodewords.{repeats_of, information_of, traffic_codeword}
 use Rattle.symbol_path.specs.RatesTwo as second
 use Rattle.symbol_path.specs.FramesTwo.{sent_frame2}
+use Rattle.symbol_path.specs.declared.rate_two.Rate2.{Rate2}
+use Rattle.quality_bits.specs.declared.rate.Rate.{Rate}
 use Rattle.cell_plan.specs.declared.plan.CellIdentity.{CellIdentity}
-use Rattle.cell_plan.specs.declared.frame_list.FrameList.{FrameList}
-use Rattle.cell_plan.specs.declared.frame_list.FrameList.TheVariants.{SetOne, SetTwo}
+use Rattle.cell_plan.specs.declared.traffic_frame.FrameRate.{FrameRate}
+use Rattle.cell_plan.specs.declared.traffic_frame.FrameRate.TheVariants.{SetOne, SetTwo}
+use Rattle.cell_plan.specs.declared.traffic_frame.RateSet.{RateSet}
+use Rattle.cell_plan.specs.declared.traffic_frame.RateSet.TheVariants.{One, Two}
 use Rattle.cell_plan.specs.declared.traffic_frame.TrafficFrame.{TrafficFrame}
-use Rattle.cell_plan.specs.declared.traffic_frame2.TrafficFrame2.{TrafficFrame2}
 use Rattle.cell_plan.specs.PageCycles.{scrambled}
 
 -- ---- a frame
 
+-- the rate set of a rate
+abbrev pub rate_set : FrameRate → RateSet
+rate_set (SetOne rate) = One
+rate_set (SetTwo rate) = Two
+
+-- how many information bits a frame of a rate has
+abbrev pub information_bits_of : FrameRate → ℕ
+information_bits_of (SetOne rate) = information_of rate
+information_bits_of (SetTwo rate) = second.information_of2 rate
+
 -- a frame with as many information bits as its rate has
 abbrev pub IsTrafficFrame : TrafficFrame → Type 0
-IsTrafficFrame f = length f.information ≡ information_of f.rate
+IsTrafficFrame f = length f.information ≡ information_bits_of f.rate
 
-abbrev pub IsTrafficFrame2 : TrafficFrame2 → Type 0
-IsTrafficFrame2 f = length f.information ≡ second.information_of2 f.rate
+-- The 384 symbols of a frame with this information before they are scrambled. The encoder starts in
+-- state zero.
+unfoldable pub placed_symbols : FrameRate → List Bool → List Bool
+placed_symbols (SetOne rate) information =
+    let code = code_symbols (replicate 8 false) (traffic_codeword rate information) in
+    sent data_shape (repeats_of rate) code
+placed_symbols (SetTwo rate) information = sent_frame2 rate information
 
 -- the 384 symbols of a frame as they are sent, where these are those before scrambling: the power
 -- control bits stand in place of symbols that are scrambled
@@ -32,83 +52,103 @@ abbrev pub sent_with : ℕ → ℕ → List Bool → List Bool → List Bool
 sent_with state mask power_bits symbols =
     with_power_bits state mask power_bits (scrambled (scrambling state mask) symbols)
 
--- The 384 symbols of a frame that begins at a state of the long code, under a mask. The encoder
--- starts in state zero.
+-- the 384 symbols of a frame that begins at a state of the long code, under a mask
 unfoldable pub traffic_symbols : ℕ → ℕ → TrafficFrame → List Bool
 traffic_symbols state mask f =
-    let code = code_symbols (replicate 8 false) (traffic_codeword f.rate f.information) in
-    sent_with state mask f.power_bits (sent data_shape (repeats_of f.rate) code)
+    sent_with state mask f.power_bits (placed_symbols f.rate f.information)
 
--- and those of a frame of rate set 2
-unfoldable pub traffic_symbols2 : ℕ → ℕ → TrafficFrame2 → List Bool
-traffic_symbols2 state mask f =
-    sent_with state mask f.power_bits
-    (sent_frame2 f.rate f.information)
+-- ---- frames of one rate set
+
+-- a frame at one of the rates of a set
+pub record FrameAt (R : Type 0) : Type 0 where
+  pub rate : R
+  pub information : List Bool
+  pub power_bits : List Bool
+
+abbrev pub SetOneFrame : Type 0
+SetOneFrame = FrameAt Rate
+
+abbrev pub SetTwoFrame : Type 0
+SetTwoFrame = FrameAt Rate2
+
+-- the same frame, where these are the set's rates among all
+abbrev pub planned : {R : Type 0} → (R → FrameRate) → FrameAt R → TrafficFrame
+planned at f =
+    record { rate = at f.rate; information = f.information; power_bits = f.power_bits }
+
+abbrev pub IsSetOneFrame : SetOneFrame → Type 0
+IsSetOneFrame f = IsTrafficFrame (planned SetOne f)
+
+abbrev pub IsSetTwoFrame : SetTwoFrame → Type 0
+IsSetTwoFrame f = IsTrafficFrame (planned SetTwo f)
+
+-- a rate as one of rate set 1, and as one of rate set 2
+abbrev pub in_set_one : FrameRate → Option Rate
+in_set_one (SetOne rate) = Some rate
+in_set_one (SetTwo rate) = None
+
+abbrev pub in_set_two : FrameRate → Option Rate2
+in_set_two (SetOne rate) = None
+in_set_two (SetTwo rate) = Some rate
+
+-- a frame as one of a set
+abbrev pub frame_of_set : {R : Type 0} → (FrameRate → Option R) → TrafficFrame → Option (FrameAt R)
+frame_of_set {R} in_set f =
+    option_map (λ (rate : R).
+    record { rate = rate; information = f.information; power_bits = f.power_bits })
+    (in_set f.rate)
+
+-- frames as those of a set, where all of them are
+abbrev pub all_of_set : {R : Type 0} → (FrameRate → Option R) → List TrafficFrame →
+    Option (List (FrameAt R))
+all_of_set in_set [] = Some []
+all_of_set {R} in_set (f ∷ frames) =
+    option_and_then (λ (first : FrameAt R).
+    option_map (λ (rest : List (FrameAt R)). first ∷ rest) (all_of_set in_set frames))
+    (frame_of_set in_set f)
+
+-- the frames of a channel of the set, and none of another channel
+abbrev pub frames_of_set : {R : Type 0} → (FrameRate → Option R) → List TrafficFrame →
+    List (FrameAt R)
+frames_of_set {R} in_set frames =
+    option_map_or (λ (all : List (FrameAt R)). all) (all_of_set in_set frames) []
+
+abbrev pub set_one : List TrafficFrame → List SetOneFrame
+set_one = frames_of_set in_set_one
+
+abbrev pub set_two : List TrafficFrame → List SetTwoFrame
+set_two = frames_of_set in_set_two
 
 -- ---- a channel's frames
-
--- those of rate set 1
-abbrev pub set_one : FrameList → List TrafficFrame
-set_one (SetOne frames) = frames
-set_one (SetTwo frames) = []
-
--- those of rate set 2
-abbrev pub set_two : FrameList → List TrafficFrame2
-set_two (SetOne frames) = []
-set_two (SetTwo frames) = frames
-
--- one frame of rate set 1 more; frames of rate set 2 don't stay
-abbrev pub with_one : TrafficFrame → FrameList → FrameList
-with_one frame frames = SetOne (set_one frames ++ frame ∷ [])
-
--- one frame of rate set 2 more; frames of rate set 1 don't stay
-abbrev pub with_two : TrafficFrame2 → FrameList → FrameList
-with_two frame frames = SetTwo (set_two frames ++ frame ∷ [])
-
--- how many there are
-abbrev pub frame_count : FrameList → ℕ
-frame_count (SetOne frames) = length frames
-frame_count (SetTwo frames) = length frames
-
--- each has as many information bits as its rate has
-pub record AreTrafficFrames (frames : FrameList) : Type 0 where
-  pub one : All IsTrafficFrame (set_one frames)
-  pub two : All IsTrafficFrame2 (set_two frames)
 
 -- the frames of a channel, which a cell sends under a mask of the long code, with a FRAME_OFFSET
 pub record FrameCycle : Type 0 where
   pub cell : CellIdentity
   pub mask : ℕ
   pub offset : ℕ
-  pub frames : FrameList
+  pub frames : List TrafficFrame
 
 -- the one frame of a list that is sent as frame k
 abbrev pub frames_in_turn : {F : Type 0} → List F → ℕ → List F
 frames_in_turn frames k = take 1 (drop (k % length frames) frames)
 
 -- that of a channel of rate set 1
-abbrev pub cycled_frame : FrameCycle → ℕ → List TrafficFrame
+abbrev pub cycled_frame : FrameCycle → ℕ → List SetOneFrame
 cycled_frame c k = frames_in_turn (set_one c.frames) k
 
 -- the long code's state at the first chip of frame k
 abbrev pub sent_frame_state : FrameCycle → ℕ → ℕ
 sent_frame_state c k = after c.cell.lc (data_frame_chips * k + frame_offset_chips * c.offset)
 
--- the symbols of frame k, which begins at this state
-abbrev pub symbols_from : ℕ → ℕ → ℕ → FrameList → List Bool
-symbols_from state mask k (SetOne frames) = flat_map (traffic_symbols state mask)
-    (frames_in_turn frames k)
-symbols_from state mask k (SetTwo frames) = flat_map (traffic_symbols2 state mask)
-    (frames_in_turn frames k)
-
 -- the 384 symbols of frame k as they are sent
 unfoldable pub traffic_frame_symbols : FrameCycle → ℕ → List Bool
-traffic_frame_symbols c k = symbols_from (sent_frame_state c k) c.mask k c.frames
+traffic_frame_symbols c k =
+    flat_map (traffic_symbols (sent_frame_state c k) c.mask) (frames_in_turn c.frames k)
 
 -- frames that can be sent: FRAME_OFFSET is 0 to 15 (7.1.3.5.1)
 pub record IsFrameCycle (c : FrameCycle) : Type 0 where
   pub lc : IsState c.cell.lc
   pub mask : c.mask < 2 ^ 42
   pub offset : c.offset ≤ 15
-  pub some : 1 ≤ frame_count c.frames
-  pub frames : AreTrafficFrames c.frames
+  pub some : 1 ≤ length c.frames
+  pub frames : All IsTrafficFrame c.frames

@@ -7,19 +7,15 @@
 #![tactic(auto)]
 
 mod form;
-mod frame_list;
 mod plan;
 mod scrambling;
 mod series;
 mod traffic_frame;
-mod traffic_frame2;
 
 pub use form::{ChannelForm, PAGING_FORM, PILOT_FORM, SYNC_FORM};
-pub use frame_list::FrameList;
 pub use plan::{
     CellIdentity, CellPlan, LinkPlan, Page, PagingPlan, PilotPlan, SyncPlan, TrafficPlan,
 };
 pub use scrambling::scrambled;
 pub use series::Series;
-pub use traffic_frame::TrafficFrame;
-pub use traffic_frame2::TrafficFrame2;
+pub use traffic_frame::{FrameRate, RateSet, TrafficFrame};

@@ -1,7 +1,7 @@
 //! What a script says of a cell.
 
-use crate::frame_list::FrameList;
 use crate::series::Series;
+use crate::traffic_frame::TrafficFrame;
 use chip_core::{Bits, CheckForm, Pair};
 use sync_message::SyncFields;
 
@@ -102,6 +102,6 @@ pub struct TrafficPlan {
     pub offset: u8,
     /// The gain of the channel.
     pub gain: u16,
-    /// The frames of a cycle, in order, of one of two rate sets.
-    pub frames: FrameList,
+    /// The frames of a cycle, in order. A script's are all of one rate set.
+    pub frames: Series<TrafficFrame>,
 }

@@ -1,4 +1,4 @@
-//! A frame of a traffic channel.
+//! A frame of a traffic channel, of one of two rate sets.
 
 ghost use Rattle.std.specs.Prelude.{◌≡◌, ◌<◌, ◌*◌, ◌^◌, ◌++◌, false, length, replicate};
 ghost use Rattle.conv_code.specs.ConvCode.{code_symbols};
@@ -12,14 +12,76 @@ use chip_core::{Bits, CheckForm, PowerBits};
 use conv_code::encode_into;
 use long_code::State;
 use quality_bits::append_check;
-use symbol_path::{Kind, Rate, place_into, with_power_bits};
+use symbol_path::{Kind, Rate, Rate2, encode2_into, place_into, with_power_bits};
 
-/// A frame of a traffic channel of rate set 1 (TIA/EIA-95-B, 7.1.3.5).
+/// A set of rates of traffic channels, of which all frames of a channel are.
+#[derive(Clone, Copy, PartialEq, Eq, Debug)]
+pub enum RateSet {
+    /// Rate set 1 (TIA/EIA-95-B, 7.1.3.5).
+    One,
+    /// Rate set 2, whose rates, quality indicators and dropped symbols are this project's profile.
+    Two,
+}
+
+/// The rate of a frame of a traffic channel.
+#[derive(Clone, Copy, PartialEq, Eq, Debug)]
+pub enum FrameRate {
+    /// A rate of rate set 1.
+    SetOne(Rate),
+    /// A rate of rate set 2.
+    SetTwo(Rate2),
+}
+
+impl FrameRate {
+    ghost use Rattle.cell_plan.specs.TrafficFrames.{information_bits_of, placed_symbols, rate_set};
+
+    /// The rate set that it is of.
+    pub fn set(&self) -> RateSet
+        ensures { result ≡ rate_set self.now }
+    {
+        match self {
+            FrameRate::SetOne(_) => RateSet::One,
+            FrameRate::SetTwo(_) => RateSet::Two,
+        }
+    }
+
+    /// How many information bits a frame has: 172, 80, 40 or 16 in rate set 1, and 268, 126, 56 or
+    /// 22 in rate set 2, the reserved bit first.
+    pub fn information_bits(&self) -> u16
+        ensures { result ≡ information_bits_of self.now }
+    {
+        match self {
+            FrameRate::SetOne(rate) => rate.information_bits(),
+            FrameRate::SetTwo(rate) => rate.information_bits(),
+        }
+    }
+
+    /// The 384 symbols of a frame with this information before they are scrambled: the code
+    /// symbols, repeated and interleaved, and in rate set 2 some of them dropped.
+    #[tactic(auto, unfolding(crate::specs::TrafficFrames::placed_symbols))]
+    fn placed(&self, information: &Bits) -> Bits
+        requires { length information.now ≡ information_bits_of self.now }
+        ensures value { result ≡ placed_symbols self.now information.now }
+        ensures count { length result ≡ 384 }
+    {
+        let mut placed = Bits::empty();
+        match self {
+            FrameRate::SetOne(rate) => {
+                let code = code(*rate, information);
+                place_into(Kind::Data, rate.repeats(), &code, &mut placed);
+            }
+            FrameRate::SetTwo(rate) => encode2_into(*rate, information, &mut placed),
+        }
+        placed
+    }
+}
+
+/// A frame of a traffic channel.
 #[derive(Clone, Copy, PartialEq, Eq, Debug)]
 pub struct TrafficFrame {
     /// The rate at which it is sent.
-    pub rate: Rate,
-    /// The information bits, 172, 80, 40 or 16 by the rate.
+    pub rate: FrameRate,
+    /// The information bits, as many as a frame of the rate has.
     pub information: Bits,
     /// The power control bit of each of its 16 groups of 24 symbols: a 1 tells the handset to lower
     /// its power (7.1.3.1.7).
@@ -68,17 +130,16 @@ impl TrafficFrame {
     ghost use Rattle.cell_plan.specs.TrafficFrames.{traffic_symbols, IsTrafficFrame};
 
     /// The 384 symbols of the frame where it begins at a state of the long code, under a mask of 42
-    /// bits: the code symbols, repeated, interleaved and scrambled, and then the power control bits
-    /// in place of some.
+    /// bits: those of its rate in their sent order, scrambled, and then the power control bits in
+    /// place of some.
+    #[tactic(auto, unfolding(crate::specs::TrafficFrames::traffic_symbols))]
     pub fn symbols(&self, state: &State, mask: u64) -> Bits
         requires frame { IsTrafficFrame self.now }
         requires mask { mask < 2 ^ 42 }
         ensures value { result ≡ traffic_symbols state.now mask self.now }
         ensures count { length result ≡ 384 }
     {
-        let code = code(self.rate, &self.information);
-        let mut placed = Bits::empty();
-        place_into(Kind::Data, self.rate.repeats(), &code, &mut placed);
+        let placed = self.rate.placed(&self.information);
         let mixed = scrambled(state, mask, &placed);
         with_power_bits(state, mask, &self.power_bits, &mixed)
     }

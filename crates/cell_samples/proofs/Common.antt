@@ -29,7 +29,7 @@ pub use Rattle.cell_plan.specs.Sendings.{bits_before, continued_symbols, superfr
 unfoldable pub use Rattle.cell_plan.specs.Sendings.{message_of, sync_symbols}
 pub use Rattle.cell_plan.specs.Signal.{Carrier, amplitude, amplitudes, carriers, level, paging_carrier, sample_of, samples_of, scaled}
 pub use Rattle.cell_plan.specs.Signal.{traffic_carrier}
-pub use Rattle.cell_plan.specs.TrafficFrames.{traffic_symbols, traffic_symbols2}
+pub use Rattle.cell_plan.specs.TrafficFrames.{traffic_symbols}
 pub use Rattle.cell_plan.specs.Transmitter.{CellState, IsPoint, Sent, phase_at, point_of}
 pub use Rattle.cell_plan.specs.declared.plan.CellIdentity.{CellIdentity}
 pub use Rattle.cell_plan.specs.declared.plan.CellPlan.{CellPlan}

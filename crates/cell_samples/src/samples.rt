@@ -21,7 +21,7 @@ use crate::sendings::Sendings;
 use crate::symbol_source::SymbolSource;
 use crate::traffic_cycle::TrafficCycle;
 use cdma_io::{Header, Width};
-use cell_plan::{CellPlan, FrameList, PagingPlan, SyncPlan, TrafficPlan};
+use cell_plan::{CellPlan, PagingPlan, Series, SyncPlan, TrafficPlan};
 use chip_core::air::{CODE_CHIPS, OFFSET_CHIPS, PILOT_ROW, SYNC_ROW};
 use chip_core::{OutOfMemory, Sample};
 use long_code::{paging_mask, traffic_mask};
@@ -141,7 +141,7 @@ fn traffic_channel(
     requires traffic { IsTrafficPlan traffic.now }
     ensures { IfOk result (λ channel. carrier_of channel ≡ traffic_carrier plan.now traffic.now) }
 {
-    let frames = FrameList::copied(alloc, &traffic.frames)?;
+    let frames = Series::copied(alloc, traffic.frames.as_slice())?;
     let mask = traffic_mask(traffic.esn);
     let cycle = TrafficCycle::new(&plan.cell, mask, traffic.offset, frames);
     let first = cycle.first_chip(0);

@@ -4,11 +4,9 @@ ghost use Rattle.std.specs.Prelude.{◌≡◌, ◌+◌, ◌*◌, ◌<◌, ◌≤
 ghost use Rattle.std.specs.List.{flat_map};
 ghost use Rattle.long_code.specs.LongCode.{IsState};
 ghost use Rattle.cell_plan.specs.TrafficFrames.{sent_frame_state, traffic_frame_symbols};
-ghost use Rattle.cell_plan.specs.TrafficFrames.{frames_in_turn};
-ghost use Rattle.cell_plan.specs.TrafficFrames.{frame_count, traffic_symbols, traffic_symbols2};
-ghost use Rattle.cell_plan.specs.TrafficFrames.{AreTrafficFrames, IsTrafficFrame, IsTrafficFrame2};
+ghost use Rattle.cell_plan.specs.TrafficFrames.{frames_in_turn, traffic_symbols, IsTrafficFrame};
 
-use cell_plan::{CellIdentity, FrameList, TrafficFrame, TrafficFrame2};
+use cell_plan::{CellIdentity, Series, TrafficFrame};
 use chip_core::Bits;
 use chip_core::air::{DATA_FRAME_CHIPS, FRAME_OFFSET_CHIPS};
 use long_code::State;
@@ -24,7 +22,7 @@ pub struct TrafficCycle {
     cell: CellIdentity,
     mask: u64,
     offset: u8,
-    frames: FrameList,
+    frames: Series<TrafficFrame>,
 }
 
 impl Model for TrafficCycle {
@@ -39,8 +37,8 @@ impl Model for TrafficCycle {
         (record { cell = c.cell; mask = c.mask; offset = c.offset; frames = c.frames }) };
 }
 
-/// The 384 symbols of a frame of rate set 1, which begins at a state of the long code.
-fn symbols_of_one(frames: &[TrafficFrame], frame: u64, state: &State, mask: u64) -> Bits
+/// The 384 symbols of the frame that is in turn, which begins at a state of the long code.
+fn symbols_in_turn(frames: &[TrafficFrame], frame: u64, state: &State, mask: u64) -> Bits
     requires mask { mask < 2 ^ 42 }
     requires some { 1 ≤ length frames.now }
     requires frames { All IsTrafficFrame frames.now }
@@ -52,27 +50,19 @@ fn symbols_of_one(frames: &[TrafficFrame], frame: u64, state: &State, mask: u64)
     frames[place].symbols(state, mask)
 }
 
-/// The 384 symbols of a frame of rate set 2, which begins at a state of the long code.
-fn symbols_of_two(frames: &[TrafficFrame2], frame: u64, state: &State, mask: u64) -> Bits
-    requires mask { mask < 2 ^ 42 }
-    requires some { 1 ≤ length frames.now }
-    requires frames { All IsTrafficFrame2 frames.now }
-    ensures value { result ≡
-        flat_map (traffic_symbols2 state.now mask) (frames_in_turn frames.now frame) }
-    ensures count { length result ≡ 384 }
-{
-    let place = (frame % frames.len() as u64) as usize;
-    frames[place].symbols(state, mask)
-}
-
 impl TrafficCycle {
     /// The frames that a cell sends under a mask of the long code, with a FRAME_OFFSET.
-    pub fn new(cell: &CellIdentity, mask: u64, offset: u8, frames: FrameList) -> TrafficCycle
+    pub fn new(
+        cell: &CellIdentity,
+        mask: u64,
+        offset: u8,
+        frames: Series<TrafficFrame>,
+    ) -> TrafficCycle
         requires lc { IsState cell.now.lc }
         requires mask { mask < 2 ^ 42 }
         requires offset { offset ≤ 15 }
-        requires some { 1 ≤ frame_count frames }
-        requires frames { AreTrafficFrames frames }
+        requires some { 1 ≤ length frames }
+        requires frames { All IsTrafficFrame frames }
         ensures { result ≡ record {
           cell = cell.now;
           mask = mask;
@@ -114,13 +104,6 @@ impl TrafficCycle {
         ensures count { length result ≡ 384 }
     {
         let state = self.state_at(frame);
-        match &self.frames {
-            FrameList::SetOne(frames) => {
-                symbols_of_one(frames.as_slice(), frame, &state, self.mask)
-            }
-            FrameList::SetTwo(frames) => {
-                symbols_of_two(frames.as_slice(), frame, &state, self.mask)
-            }
-        }
+        symbols_in_turn(self.frames.as_slice(), frame, &state, self.mask)
     }
 }

@@ -22,7 +22,7 @@ pub use Rattle.std.specs.Char.{is_ascii_digit}
 pub use Rattle.std.specs.Fmt.{signed_decimal}
 pub use Rattle.std.specs.Int.{w16}
 pub use Rattle.std.specs.Option.{option_map_or, option_or}
-pub use Rattle.std.specs.Prelude.{All, FitsSigned, codes, flat_map, nat_le, nat_lt, negsuc, ok_or, option_and_then, option_map, pos, ◌||◌}
+pub use Rattle.std.specs.Prelude.{All, FitsSigned, codes, flat_map, map, nat_le, nat_lt, negsuc, ok_or, option_and_then, option_map, pos, ◌||◌}
 pub use Rattle.std.specs.Prelude.{◌↔◌}
 pub use Rattle.std.specs.Str.{all_ascii_digits}
 pub use Rattle.cdma_io.specs.SampleFile.{most_samples}
@@ -33,9 +33,7 @@ pub use Rattle.cell_plan.specs.Plan.{AreLawfulBeside, HaveOwnNumbers, HaveOwnTra
 pub use Rattle.cell_plan.specs.Plan.{IsTrafficPlan, loudness, most_part, paging_gains, sync_gain, traffic_gains}
 pub use Rattle.cell_plan.specs.Stated.{AreHeard, HasMessages, HasSaid, IsCarried, IsReceivable, IsStatedCell, IsStatedLink, IsStatedPaging}
 pub use Rattle.cell_plan.specs.Stated.{IsStatedPlan, IsStatedSync, IsStatedTraffic}
-pub use Rattle.cell_plan.specs.TrafficFrames.{AreTrafficFrames, IsTrafficFrame, IsTrafficFrame2, frame_count, set_one, set_two, with_one}
-pub use Rattle.cell_plan.specs.TrafficFrames.{with_two}
-pub use Rattle.cell_plan.specs.declared.frame_list.FrameList.{FrameList}
+pub use Rattle.cell_plan.specs.TrafficFrames.{IsTrafficFrame, information_bits_of, rate_set}
 pub use Rattle.cell_plan.specs.declared.plan.CellIdentity.{CellIdentity}
 pub use Rattle.cell_plan.specs.declared.plan.CellPlan.{CellPlan}
 pub use Rattle.cell_plan.specs.declared.plan.LinkPlan.{LinkPlan}
@@ -44,8 +42,11 @@ pub use Rattle.cell_plan.specs.declared.plan.PagingPlan.{PagingPlan}
 pub use Rattle.cell_plan.specs.declared.plan.PilotPlan.{PilotPlan}
 pub use Rattle.cell_plan.specs.declared.plan.SyncPlan.{SyncPlan}
 pub use Rattle.cell_plan.specs.declared.plan.TrafficPlan.{TrafficPlan}
+pub use Rattle.cell_plan.specs.declared.traffic_frame.FrameRate.{FrameRate}
+pub use Rattle.cell_plan.specs.declared.traffic_frame.FrameRate.TheVariants.{SetOne, SetTwo}
+pub use Rattle.cell_plan.specs.declared.traffic_frame.RateSet.{RateSet}
+pub use Rattle.cell_plan.specs.declared.traffic_frame.RateSet.TheVariants.{One, Two}
 pub use Rattle.cell_plan.specs.declared.traffic_frame.TrafficFrame.{TrafficFrame}
-pub use Rattle.cell_plan.specs.declared.traffic_frame2.TrafficFrame2.{TrafficFrame2}
 pub use Rattle.chip_core.proofs.FieldLists.{length-binary}
 unfoldable pub use Rattle.chip_core.specs.Bits.{binary}
 pub use Rattle.chip_core.specs.Complex.{norm}
@@ -67,11 +68,9 @@ pub use Rattle.paging_message.specs.Reading.{message_at, number_at}
 unfoldable pub use Rattle.paging_message.specs.Reading.{body_reading, is_body}
 pub use Rattle.paging_message.specs.declared.message.PagingMessage.{PagingMessage}
 pub use Rattle.quality_bits.specs.Capsules.{FillsCapsule}
-pub use Rattle.quality_bits.specs.TrafficCodewords.{information_of}
 pub use Rattle.quality_bits.specs.declared.kind.Kind.TheVariants.{M30}
 pub use Rattle.quality_bits.specs.declared.rate.Rate.{Rate}
 pub use Rattle.quality_bits.specs.declared.rate.Rate.TheVariants.{R4800, R9600}
-pub use Rattle.symbol_path.specs.declared.rate_two.Rate2.{Rate2}
 pub use Rattle.sync_message.proofs.Bodies.{admitted, tail_of}
 pub use Rattle.sync_message.specs.SyncMessage.{IsSyncMessage, fixed_fields}
 pub use Rattle.sync_message.specs.Tails.{IsTail}
@@ -82,23 +81,23 @@ pub use Rattle.cell_script.specs.Script.{named, onto_first, paging_lines, plan_f
 pub use Rattle.cell_script.specs.Script.{traffic_lines, unless, walsh_fault}
 unfoldable pub use Rattle.cell_script.specs.Script.{draft_after, is_line, lines, plan_named, stated, stated_plan}
 pub use Rattle.cell_script.specs.ScriptDrafts.{Draft, draft_at, empty_draft, empty_plan, on_last, opened_paging, opened_traffic, plan_at}
-pub use Rattle.cell_script.specs.ScriptDrafts.{with_frame, with_frame2, with_page, with_statement}
+pub use Rattle.cell_script.specs.ScriptDrafts.{one_frame_more, one_page_more, with_frame, with_page, with_statement}
 unfoldable pub use Rattle.cell_script.specs.ScriptDrafts.{with_line, with_next}
 pub use Rattle.cell_script.specs.Rows.{AreUpTo, NumberRow, key_of, local_rows, mosts, network_rows, ranged, number_row, sync_row}
 unfoldable pub use Rattle.cell_script.specs.Rows.{numbers_in, past_numbers}
 pub use Rattle.cell_script.specs.ScriptFields.{at_end, past_at, unsigned_at, unsigned_of, value_of, ◌>>=◌}
 unfoldable pub use Rattle.cell_script.specs.ScriptFields.{script_field, past}
 pub use Rattle.cell_script.specs.ScriptJudged.{HasJudged, HasSeen, IsInOrder, IsJudged, gains_of, judged_fault}
-pub use Rattle.cell_script.specs.ScriptLines.{cell_line, frame2_key, frame2_rate, frame_by, frame_key, frame_rate, has_lawful_rest, is_link}
+pub use Rattle.cell_script.specs.ScriptLines.{cell_line, frame_key, frame_rate, has_lawful_rest, is_link, rate_by}
 pub use Rattle.cell_script.specs.ScriptLines.{lawful_frame, lawful_message, lawful_page, link_line, page_key, page_with, stated_paging_line}
 pub use Rattle.cell_script.specs.ScriptLines.{gain_row, sync_fields, stated_traffic_line, traffic_rows}
-unfoldable pub use Rattle.cell_script.specs.ScriptLines.{cell_in, frame2_in, traffic_frame_in, freq_in, link_in, stated_page_in, paging_in}
+unfoldable pub use Rattle.cell_script.specs.ScriptLines.{cell_in, traffic_frame_in, freq_in, link_in, stated_page_in, paging_in}
 unfoldable pub use Rattle.cell_script.specs.ScriptLines.{pilot_in}
 unfoldable pub use Rattle.cell_script.specs.ScriptLines.{statement_in, sync_behind, sync_in, traffic_in}
 pub use Rattle.cell_script.specs.ScriptPlans.{IsLawfulStatement}
 unfoldable pub use Rattle.cell_script.specs.ScriptSplitting.{first_stated}
-pub use Rattle.cell_script.specs.ScriptStages.{after_cell, after_frame, after_frame2, after_link, after_page, after_paging, after_pilot}
-pub use Rattle.cell_script.specs.ScriptStages.{after_sync, after_traffic, behind_sync, count_behind, is_complete, is_cycle, may_follow}
+pub use Rattle.cell_script.specs.ScriptStages.{after_cell, after_frame, after_link, after_page, after_paging, after_pilot}
+pub use Rattle.cell_script.specs.ScriptStages.{after_sync, after_traffic, behind_sync, count_behind, frames_stage, is_complete, is_cycle, may_follow}
 pub use Rattle.cell_script.specs.ScriptStages.{next_stage}
 unfoldable pub use Rattle.cell_script.specs.ScriptStages.{page_stage}
 pub use Rattle.cell_script.specs.ScriptValues.{all_clear, as_state, begins_with, text_after, binary_digit, hex_digit, is_plain, negative}
@@ -110,7 +109,7 @@ pub use Rattle.cell_script.specs.declared.judge.Judge.{Judge}
 pub use Rattle.cell_script.specs.declared.script_fault.ScriptFault.{ScriptFault}
 pub use Rattle.cell_script.specs.declared.script_fault.ScriptFault.TheVariants.{Gain, Line, TooBig, TooLong, TooLoud, Walsh}
 pub use Rattle.cell_script.specs.declared.stage.Stage.{Stage}
-pub use Rattle.cell_script.specs.declared.stage.Stage.TheVariants.{Cell, FirstFrame, FirstPage, Frames, Frames2, Link, Pages, Paging, Pilot}
+pub use Rattle.cell_script.specs.declared.stage.Stage.TheVariants.{Cell, FirstFrame, FirstPage, Frames, Link, Pages, Paging, Pilot}
 pub use Rattle.cell_script.specs.declared.stage.Stage.TheVariants.{Sync, Traffic}
 pub use Rattle.cell_script.specs.declared.statements.PagingLine.{PagingLine}
 pub use Rattle.cell_script.specs.declared.statements.Statement.{Statement}

@@ -1,10 +1,10 @@
 -- The modules of lemmas of `cell_script`.
 pub mod Common
+pub mod LastChanged
 pub mod NamedPages
 pub mod NamedPlans
 pub mod ScriptAnswers
 pub mod ScriptBounds
-pub mod ScriptFrames
 pub mod ScriptKeys
 pub mod ScriptLaws
 pub mod ScriptMessages

@@ -6,24 +6,23 @@ use Rattle.cell_script.proofs.Common.{All-nil, All-push, cond_some, same_Some, n
 use Rattle.cell_script.proofs.Common.{R4800, HasMessage, bits_left, half_frame_body, half_frame_bits, laid_behind, sent_paging_rate}
 use Rattle.cell_script.proofs.Common.{AreSendable}
 use Rattle.cell_script.proofs.Common.{CellPlan, Page, PagingPlan, CellIdentity, LinkPlan, PilotPlan, SyncPlan, Stage, Cell, Link, Pilot}
-use Rattle.cell_script.proofs.Common.{Sync, Paging, FirstPage, Pages, Traffic, FirstFrame, Frames, Frames2, TrafficPlan, FrameList}
-use Rattle.cell_script.proofs.Common.{TrafficFrame, TrafficFrame2, PagingLine, TrafficLine, Statement, ScriptFault, Gain, TooBig, Walsh}
+use Rattle.cell_script.proofs.Common.{Sync, Paging, FirstPage, Pages, Traffic, FirstFrame, Frames, TrafficPlan}
+use Rattle.cell_script.proofs.Common.{TrafficFrame, PagingLine, TrafficLine, Statement, ScriptFault, Gain, TooBig, Walsh}
 use Rattle.cell_script.proofs.Common.{loudness, most_part, IsLawfulPlan, IsSyncPlan, draft_after, gain_fault, is_line, lines, long_fault}
 use Rattle.cell_script.proofs.Common.{channel_lines, loud_fault, named, plan_fault, plan_named, traffic_lines, repeated, silent, stated}
 use Rattle.cell_script.proofs.Common.{stated_plan, sync_gain_fault, unless, walsh_fault, draft_at, Draft, empty_draft, empty_plan}
 use Rattle.cell_script.proofs.Common.{opened_paging}
-use Rattle.cell_script.proofs.Common.{on_last, opened_traffic, plan_at, with_line, with_next, with_page, with_statement, with_one, with_two}
-use Rattle.cell_script.proofs.Common.{frame_count, set_one, set_two, AreTrafficFrames, IsTrafficFrame, IsTrafficFrame2, IsInOrder}
+use Rattle.cell_script.proofs.Common.{on_last, opened_traffic, plan_at, with_line, with_next, with_page, with_statement, with_frame}
+use Rattle.cell_script.proofs.Common.{one_frame_more, one_page_more, rate_set, FrameRate, SetOne, SetTwo, RateSet, One, Two, IsTrafficFrame, IsInOrder}
 use Rattle.cell_script.proofs.Common.{statement_in, AreHeard, HasSaid, IsStatedCell, IsStatedLink, IsStatedPaging, IsStatedPlan}
 use Rattle.cell_script.proofs.Common.{IsStatedSync, IsStatedTraffic, IsLawfulStatement, after_cell, after_frame, after_link, after_page}
-use Rattle.cell_script.proofs.Common.{after_paging, after_pilot, after_sync, after_traffic, after_frame2, behind_sync, count_behind}
+use Rattle.cell_script.proofs.Common.{after_paging, after_pilot, after_sync, after_traffic, frames_stage, behind_sync, count_behind}
 use Rattle.cell_script.proofs.Common.{is_cycle, may_follow, next_stage, page_stage}
 use Rattle.std.proofs.lemmas.List.{length-append}
 use Rattle.cell_script.proofs.ScriptBounds.{line_bounds, passed}
-use Rattle.cell_script.proofs.ScriptPages.{with_page-last}
 use Rattle.cell_script.proofs.ScriptNumbers.{few_channels, have_own_numbers, lawful_beside, some_gains}
 use Rattle.cell_script.proofs.ScriptSplits.{stated-fault, stated-next, stated-none}
-use Rattle.cell_script.proofs.ScriptFrames.{on_last-last}
+use Rattle.cell_script.proofs.LastChanged.{on_last-last}
 use Rattle.cell_script.specs.declared.statements.Statement.TheVariants as statements
 
 -- ---- pages of a cycle
@@ -91,10 +90,10 @@ pub record IsOpenTraffic (plan : CellPlan) : Type 0 where
   pub channels : plan.traffic ≡ before ++ last ∷ []
   pub stated : All IsStatedTraffic before
   pub bounds : (last.row ≤ 63) × (last.offset ≤ 15)
-  pub frames : AreTrafficFrames last.frames
+  pub frames : All IsTrafficFrame last.frames
 
 abbrev pub HasFrames : CellPlan → Type 0
-HasFrames plan = (o : IsOpenTraffic plan) × (1 ≤ frame_count o.last.frames)
+HasFrames plan = (o : IsOpenTraffic plan) × (1 ≤ length o.last.frames)
 
 -- no paging channel and no traffic channel
 abbrev pub IsBare : CellPlan → Type 0
@@ -105,8 +104,7 @@ HasChannels (Paging rate) plan = IsBare plan × (sent_paging_rate plan.sync ≡ 
 HasChannels (FirstPage rate) plan = IsOpen rate 0 plan
 HasChannels (Pages rate count) plan = HasPages rate count plan
 HasChannels FirstFrame plan = IsOpenTraffic plan
-HasChannels Frames plan = HasFrames plan
-HasChannels Frames2 plan = HasFrames plan
+HasChannels (Frames set) plan = HasFrames plan
 HasChannels stage plan = IsBare plan
 
 -- ---- one statement more
@@ -239,7 +237,7 @@ page_laid rate count plan page is o room few =
     ap (λ (n : ℕ). laid_behind size n page.follows (38 + length page.body)) o.laid in
     let all : with_page plan.paging page ≡ o.before ++ last ∷ [] =
     ap (λ (ps : List PagingPlan). with_page ps page) o.channels
-    ∙ with_page-last o.before o.last page in
+    ∙ on_last-last (one_page_more page) o.before o.last in
     let open_now : IsOpen rate (count_behind rate count page) (with_more plan page) = record {
       rate_is = o.rate_is;
       before = o.before;
@@ -302,7 +300,7 @@ traffic_behind plan line bounds paging are = record {
   channels = refl;
   stated = are;
   bounds = bounds;
-  frames = record { one = All-nil IsTrafficFrame; two = All-nil IsTrafficFrame2 };
+  frames = All-nil IsTrafficFrame;
 }
 
 no_traffic : (plan : CellPlan) → plan.traffic ≡ [] → All IsStatedTraffic plan.traffic
@@ -343,75 +341,45 @@ channels_traffic Traffic next plan line bounds has e =
     next_has FirstFrame next (with_traffic plan line) e
     (traffic_behind plan line bounds (no_channels (sent_paging_rate plan.sync) plan has.0)
     (no_traffic plan has.1))
-channels_traffic Frames next plan line bounds has e =
-    next_has FirstFrame next (with_traffic plan line) e
-    (traffic_behind plan line bounds has.0.paging (traffic_closed plan has))
-channels_traffic Frames2 next plan line bounds has e =
+channels_traffic (Frames set) next plan line bounds has e =
     next_has FirstFrame next (with_traffic plan line) e
     (traffic_behind plan line bounds has.0.paging (traffic_closed plan has))
 channels_traffic stage next plan line bounds has e = absurd (cc e)
 
-abbrev with_change : CellPlan → (FrameList → FrameList) → CellPlan
-with_change plan change = record plan { traffic = on_last change plan.traffic }
+abbrev with_sent : CellPlan → TrafficFrame → CellPlan
+with_sent plan frame = record plan { traffic = with_frame plan.traffic frame }
 
--- the traffic channel under way has other frames, and some
-frames_changed : (plan : CellPlan) (change : FrameList → FrameList) (o : IsOpenTraffic plan) →
-    AreTrafficFrames (change o.last.frames) → 1 ≤ frame_count (change o.last.frames) →
-    HasFrames (with_change plan change)
-frames_changed plan change o are some =
-    let last : TrafficPlan = record o.last { frames = change o.last.frames } in
-    let all : on_last change plan.traffic ≡ o.before ++ last ∷ [] =
-    ap (on_last change) o.channels ∙ on_last-last change o.before o.last in
-    let open_now : IsOpenTraffic (with_change plan change) = record {
+-- the traffic channel under way has one frame more
+frame_sent : (plan : CellPlan) (frame : TrafficFrame) → IsTrafficFrame frame →
+    IsOpenTraffic plan → HasFrames (with_sent plan frame)
+frame_sent plan frame is o =
+    let change = one_frame_more frame in
+    let frames = o.last.frames in
+    let open_now : IsOpenTraffic (with_sent plan frame) = record {
       paging = o.paging;
       before = o.before;
-      last = last;
-      channels = all;
+      last = change o.last;
+      channels = ap (on_last change) o.channels ∙ on_last-last change o.before o.last;
       stated = o.stated;
       bounds = o.bounds;
-      frames = are;
+      frames = All-push IsTrafficFrame frames frame o.frames is;
     } in
-    (open_now, some)
+    (open_now, omega (arith, length-append frames (frame ∷ [])))
 
--- it has one frame of rate set 1 more
-frame_sent : (plan : CellPlan) (frame : TrafficFrame) → IsTrafficFrame frame →
-    IsOpenTraffic plan → HasFrames (with_change plan (with_one frame))
-frame_sent plan frame is o =
-    let frames = set_one o.last.frames in
-    frames_changed plan (with_one frame) o
-    (record {
-      one = All-push IsTrafficFrame frames frame o.frames.one is;
-      two = All-nil IsTrafficFrame2;
-    })
-    (omega (arith, length-append frames (frame ∷ [])))
+frames_next : (set : RateSet) (rate : FrameRate) (next : Stage) (plan : CellPlan) →
+    frames_stage set rate ≡ Some next → HasFrames plan → HasChannels next plan
+frames_next One (SetOne rate) next plan e has = next_has (Frames One) next plan e has
+frames_next Two (SetTwo rate) next plan e has = next_has (Frames Two) next plan e has
+frames_next set rate next plan e has = absurd (cc e)
 
--- or one of rate set 2
-frame2_sent : (plan : CellPlan) (frame : TrafficFrame2) → IsTrafficFrame2 frame →
-    IsOpenTraffic plan → HasFrames (with_change plan (with_two frame))
-frame2_sent plan frame is o =
-    let frames = set_two o.last.frames in
-    frames_changed plan (with_two frame) o
-    (record {
-      one = All-nil IsTrafficFrame;
-      two = All-push IsTrafficFrame2 frames frame o.frames.two is;
-    })
-    (omega (arith, length-append frames (frame ∷ [])))
-
-channels_frame : (stage next : Stage) (plan : CellPlan) (frame : TrafficFrame) → IsTrafficFrame frame → HasChannels stage plan →
-    after_frame stage ≡ Some next → HasChannels next (with_change plan (with_one frame))
+channels_frame : (stage next : Stage) (plan : CellPlan) (frame : TrafficFrame) → IsTrafficFrame frame →
+    HasChannels stage plan → after_frame stage frame.rate ≡ Some next →
+    HasChannels next (with_sent plan frame)
 channels_frame FirstFrame next plan frame is has e =
-    next_has Frames next (with_change plan (with_one frame)) e (frame_sent plan frame is has)
-channels_frame Frames next plan frame is has e =
-    next_has Frames next (with_change plan (with_one frame)) e (frame_sent plan frame is has.0)
+    next_has (Frames (rate_set frame.rate)) next (with_sent plan frame) e (frame_sent plan frame is has)
+channels_frame (Frames set) next plan frame is has e =
+    frames_next set frame.rate next (with_sent plan frame) e (frame_sent plan frame is has.0)
 channels_frame stage next plan frame is has e = absurd (cc e)
-
-channels_frame2 : (stage next : Stage) (plan : CellPlan) (frame : TrafficFrame2) → IsTrafficFrame2 frame → HasChannels stage plan →
-    after_frame2 stage ≡ Some next → HasChannels next (with_change plan (with_two frame))
-channels_frame2 FirstFrame next plan frame is has e =
-    next_has Frames2 next (with_change plan (with_two frame)) e (frame2_sent plan frame is has)
-channels_frame2 Frames2 next plan frame is has e =
-    next_has Frames2 next (with_change plan (with_two frame)) e (frame2_sent plan frame is has.0)
-channels_frame2 stage next plan frame is has e = absurd (cc e)
 
 -- ---- what was said at a stage
 
@@ -448,8 +416,6 @@ channels_with stage next plan (statements.Page page) is = channels_page stage ne
 channels_with stage next plan (statements.Traffic line) is =
     channels_traffic stage next plan line is
 channels_with stage next plan (statements.Frame frame) is = channels_frame stage next plan frame is
-channels_with stage next plan (statements.Frame2 frame) is =
-    channels_frame2 stage next plan frame is
 
 -- a statement adds what is within its bounds to a plan that is
 pub added : (stage next : Stage) (plan : CellPlan) (statement : Statement) → IsLawfulStatement statement →
@@ -536,10 +502,7 @@ plan_said (Pages rate count) n said plan is e =
     (no_traffic said is.channels.0.bare))
 plan_said Traffic n said plan is e =
     subst HasSaid (cc e) (whole_bare said is.parts is.channels)
-plan_said Frames n said plan is e =
-    subst HasSaid (cc e)
-    (whole said is.parts is.channels.0.paging (traffic_closed said is.channels))
-plan_said Frames2 n said plan is e =
+plan_said (Frames set) n said plan is e =
     subst HasSaid (cc e)
     (whole said is.parts is.channels.0.paging (traffic_closed said is.channels))
 plan_said stage n said plan is e = absurd (cc e)

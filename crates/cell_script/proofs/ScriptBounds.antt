@@ -6,13 +6,12 @@ use Rattle.cell_script.proofs.Common.{eqb-true, leb-true, ltb-true, ints, cond_s
 use Rattle.cell_script.proofs.Common.{IsSyncMessage, SyncFields, admitted, SyncPlan, CellIdentity, LinkPlan, NumberRow, AreUpTo, at_end}
 use Rattle.cell_script.proofs.Common.{script_field, numbers_in, past, value_of, cell_in, cell_line, freq_in, has_lawful_rest, is_link}
 use Rattle.cell_script.proofs.Common.{link_in}
-use Rattle.cell_script.proofs.Common.{link_line, sync_behind, sync_fields, sync_in, traffic_frame_in, frame_key, frame_rate, frame2_in}
-use Rattle.cell_script.proofs.Common.{frame_by}
-use Rattle.cell_script.proofs.Common.{frame2_key, frame2_rate, lawful_frame, traffic_in, stated_traffic_line, lawful_message, lawful_page}
+use Rattle.cell_script.proofs.Common.{link_line, sync_behind, sync_fields, sync_in, traffic_frame_in, frame_key, frame_rate}
+use Rattle.cell_script.proofs.Common.{FrameRate, lawful_frame, traffic_in, stated_traffic_line, lawful_message, lawful_page}
 use Rattle.cell_script.proofs.Common.{stated_page_in}
 use Rattle.cell_script.proofs.Common.{page_key, page_with, paging_in, stated_paging_line, pilot_in, statement_in, Page, PagingLine}
 use Rattle.cell_script.proofs.Common.{TrafficLine}
-use Rattle.cell_script.proofs.Common.{TrafficFrame, TrafficFrame2, IsTrafficFrame, IsTrafficFrame2, information_of, Statement, HasMessage}
+use Rattle.cell_script.proofs.Common.{TrafficFrame, IsTrafficFrame, information_bits_of, Statement, HasMessage}
 use Rattle.cell_script.proofs.Common.{is_body, FillsCapsule, M30, IsLawfulStatement, IsStatedCell, IsStatedLink, as_state, begins_with}
 use Rattle.cell_script.proofs.Common.{bits_in_text}
 use Rattle.cell_script.proofs.Common.{hex_from, number_in, power_bits_in, number_up_to, serial_number_in, signed_in, state_in, up_to}
@@ -20,7 +19,6 @@ use Rattle.cell_script.proofs.Common.{gain_row, local_rows, network_rows, unsign
 use Rattle.cell_script.proofs.ScriptMessages.{is_tail}
 use Rattle.cell_script.proofs.ScriptPages.{body_fills, body_message}
 use Rattle.cell_script.proofs.ScriptNumerals.{one_signed_numeral}
-use Rattle.symbol_path.specs.RatesTwo as second
 use Rattle.cell_script.specs.declared.statements.Statement.TheVariants as statements
 
 -- ---- steps that may fail
@@ -337,38 +335,22 @@ traffic_bounds text =
     subst TrafficBounds (ended _ (stated_traffic_line row esn offset gain) line e)
     (number_field _ 63 _ row row_is, number_field _ 15 _ offset offset_is)
 
--- what is true of what is made of as many information bits as there are to be
-frame_by_bounds : {A : Type 0} (P : A → Type 0) (key : List ℕ) (size : ℕ)
-    (made : List Bool → List Bool → A) →
-    ((information power_bits : List Bool) → length information ≡ size → P (made information power_bits)) →
-    (text : List ℕ) (frame : A) → frame_by key size made text ≡ Some frame → P frame
-frame_by_bounds P key size made each text =
-    both_steps (script_field key bits_in_text _) _ λ information information_is.
-    both_steps (script_field (codes " ") power_bits_in _) _ λ power_bits power_bits_is.
-    both_steps (lawful_frame size information (made information power_bits)) _ λ frame frame_is all e.
-    let told = cond_some (length information == size) (made information power_bits) frame frame_is in
-    subst P (ended _ frame all e)
-    (subst P told.1 (each information power_bits (eqb-true (length information) size told.0)))
+abbrev stated_frame : FrameRate → List Bool → List Bool → TrafficFrame
+stated_frame rate information power_bits =
+    record { rate = rate; information = information; power_bits = power_bits }
 
 pub frame_bounds : (text : List ℕ) (frame : TrafficFrame) → traffic_frame_in text ≡ Some frame →
     IsTrafficFrame frame
 unfolding traffic_frame_in
 frame_bounds text =
     both_steps (frame_rate text) _ λ rate rate_is.
-    frame_by_bounds IsTrafficFrame (frame_key rate) (information_of rate)
-    (λ information power_bits.
-    record { rate = rate; information = information; power_bits = power_bits })
-    (λ information power_bits long. long) text
-
-pub frame2_bounds : (text : List ℕ) (frame : TrafficFrame2) → frame2_in text ≡ Some frame →
-    IsTrafficFrame2 frame
-unfolding frame2_in
-frame2_bounds text =
-    both_steps (frame2_rate text) _ λ rate rate_is.
-    frame_by_bounds IsTrafficFrame2 (frame2_key rate) (second.information_of2 rate)
-    (λ information power_bits.
-    record { rate = rate; information = information; power_bits = power_bits })
-    (λ information power_bits long. long) text
+    both_steps (script_field (frame_key rate) bits_in_text _) _ λ information information_is.
+    both_steps (script_field (codes " ") power_bits_in _) _ λ power_bits power_bits_is.
+    both_steps (lawful_frame (stated_frame rate information power_bits)) _ λ frame frame_is all e.
+    let size = information_bits_of rate in
+    let told = cond_some (length information == size) (stated_frame rate information power_bits) frame frame_is in
+    subst IsTrafficFrame (ended _ frame all e)
+    (subst IsTrafficFrame told.1 (eqb-true (length information) size told.0))
 
 -- ---- any line
 
@@ -396,6 +378,5 @@ line_bounds text statement =
     (step_told statements.Paging (paging_in text) _ _ statement (paging_bounds text)
     (step_told statements.Page (stated_page_in text) _ _ statement (page_bounds text)
     (step_told statements.Traffic (traffic_in text) _ _ statement (traffic_bounds text)
-    (step_told statements.Frame (traffic_frame_in text) _ _ statement (frame_bounds text)
-    (step_told statements.Frame2 (frame2_in text) _ None statement (frame2_bounds text)
-    (no_line statement)))))))))
+    (step_told statements.Frame (traffic_frame_in text) _ None statement (frame_bounds text)
+    (no_line statement))))))))

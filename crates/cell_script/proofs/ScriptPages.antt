@@ -1,8 +1,8 @@
--- Pages: the test of their bodies, and the channel that one more page goes to.
+-- Pages: the test of their bodies.
 use Rattle.cell_script.proofs.Common.{◌≡◌, Bool, true, false, List, refl, sym, ap, subst, ◌∙◌, Option, None, Some, IfSome, drop, is_some}
-use Rattle.cell_script.proofs.Common.{[], ◌∷◌, ◌++◌, Result, Ok, Err, OnOk, cond-false, cond-true, FillsCapsule, M30, HasMessage}
-use Rattle.cell_script.proofs.Common.{message_body, IsPagingMessage, body_reading, is_body, message_at, number_at, PagingMessage, Page}
-use Rattle.cell_script.proofs.Common.{PagingPlan, with_page, message_fills, body_is_read, reads_body}
+use Rattle.cell_script.proofs.Common.{cond-false, cond-true, FillsCapsule, M30, HasMessage}
+use Rattle.cell_script.proofs.Common.{message_body, IsPagingMessage, body_reading, is_body, message_at, number_at, PagingMessage}
+use Rattle.cell_script.proofs.Common.{message_fills, body_is_read, reads_body}
 
 abbrev message_in : List Bool → PagingMessage
 message_in body = message_at (number_at 0 8 body) (drop 8 body)
@@ -47,31 +47,3 @@ body_found body found told only = by_test found told only (is_body body) refl
     by_test (Some m) told only false is =
         let read : body_reading body ≡ Some m = ap body_reading told.1 ∙ reads_body m told.0 in
         absurd (cc (read-other body is, read))
-
--- ---- a page more for the last channel
-
-pub with_page-last : (before : List PagingPlan) (last : PagingPlan) (page : Page) →
-    with_page (before ++ last ∷ []) page
-    ≡ before ++ record last { pages = last.pages ++ page ∷ [] } ∷ []
-with_page-last (p ∷ (q ∷ before)) last page =
-    ap (λ (ps : List PagingPlan). p ∷ ps) (with_page-last (q ∷ before) last page)
-with_page-last before last page = refl
-
-page_added : (old before new : List PagingPlan) (last : PagingPlan) (page : Page)
-    (pages : List Page) →
-    old ≡ before ++ last ∷ [] → pages ≡ last.pages ++ page ∷ [] →
-    new ≡ before ++ record last { pages = pages } ∷ [] → new ≡ with_page old page
-page_added old before new last page pages old_is pages_is new_is =
-    new_is
-    ∙ ap (λ (ps : List Page). before ++ record last { pages = ps } ∷ []) pages_is
-    ∙ sym (with_page-last before last page)
-    ∙ sym (ap (λ (ps : List PagingPlan). with_page ps page) old_is)
-
-pub push_added : {E : Type 0} (r : Result (Unit {0}) E) (old before new : List PagingPlan)
-    (last : PagingPlan) (page : Page) (pages : List Page) →
-    old ≡ before ++ last ∷ [] → pages ≡ last.pages ++ page ∷ [] →
-    OnOk r (new ≡ before ++ record last { pages = pages } ∷ []) →
-    OnOk r (new ≡ with_page old page)
-push_added (Ok u) old before new last page pages old_is pages_is new_is =
-    page_added old before new last page pages old_is pages_is new_is
-push_added (Err e) old before new last page pages old_is pages_is new_is = tt

@@ -3,9 +3,10 @@ use Rattle.cell_script.proofs.Common.{◌≡◌, ℕ, ◌+◌, ◌*◌, ◌<◌,
 use Rattle.cell_script.proofs.Common.{ap, ◌∙◌, arith, append_assoc, replicate, subst, inl, inr, Option, None, Some, set, ◌||◌, unsigned_abs}
 use Rattle.cell_script.proofs.Common.{option_or, cases_eq, eq-eqb, ne_eqb, or_right, append-nil, get_or-set_other, get_or-set_same}
 use Rattle.cell_script.proofs.Common.{length-set, get_or-replicate, Width, paging_gains, sync_gain, traffic_gains, CellPlan, LinkPlan, Page}
-use Rattle.cell_script.proofs.Common.{PagingPlan, PilotPlan, SyncPlan, TrafficPlan, Judge, ChannelRows, ScriptFault, FrameList, ChannelLine}
+use Rattle.cell_script.proofs.Common.{PagingPlan, PilotPlan, SyncPlan, TrafficPlan, Judge, ChannelRows, ScriptFault, TrafficFrame, ChannelLine}
 use Rattle.cell_script.proofs.Common.{channel, channel_lines, first_channels, gain_fault, is_used, long_fault, loud_fault, paging_lines}
 use Rattle.cell_script.proofs.Common.{plan_fault, repeated, repeated_behind, silent, traffic_lines, walsh_fault, on_last, with_page}
+use Rattle.cell_script.proofs.Common.{map, one_frame_more, one_page_more, with_frame}
 use Rattle.cell_script.proofs.Common.{gains_of, judged_fault, HasJudged, HasSeen}
 
 -- ---- one line more
@@ -147,20 +148,16 @@ line_of p = channel p.number p.gain
 abbrev traffic_line_of : TrafficPlan → ChannelLine
 traffic_line_of t = channel t.row t.gain
 
--- a page leaves the rows and the gains
-lines-with_page : (paging : List PagingPlan) (page : Page) →
-    paging_lines (with_page paging page) ≡ paging_lines paging
-lines-with_page (p ∷ (q ∷ paging)) page =
-    ap (λ (ls : List ChannelLine). line_of p ∷ ls) (lines-with_page (q ∷ paging) page)
-lines-with_page paging page = refl
+-- a change that leaves the last channel's line leaves the rows and the gains
+lines-on_last : {A : Type 0} (line : A → ChannelLine) (change : A → A) →
+    ((x : A) → line (change x) ≡ line x) → (xs : List A) →
+    map line (on_last change xs) ≡ map line xs
+lines-on_last line change same [] = refl
+lines-on_last line change same (x ∷ []) = ap (λ (l : ChannelLine). l ∷ []) (same x)
+lines-on_last line change same (x ∷ (y ∷ xs)) =
+    ap (λ (ls : List ChannelLine). line x ∷ ls) (lines-on_last line change same (y ∷ xs))
 
--- and so does a change of frames
-lines-on_last : (change : FrameList → FrameList) (traffic : List TrafficPlan) →
-    traffic_lines (on_last change traffic) ≡ traffic_lines traffic
-lines-on_last change (t ∷ (u ∷ traffic)) =
-    ap (λ (ls : List ChannelLine). traffic_line_of t ∷ ls) (lines-on_last change (u ∷ traffic))
-lines-on_last change traffic = refl
-
+-- as a page more does
 pub judged_page : (judge : Judge) (plan : CellPlan) (page : Page) → HasJudged judge plan →
     HasJudged judge (record plan { paging = with_page plan.paging page })
 judged_page judge plan page before = record {
@@ -169,19 +166,20 @@ judged_page judge plan page before = record {
   sync = before.sync;
   channels = subst (HasSeen judge.channels)
       (sym (ap (λ (ls : List ChannelLine). ls ++ traffic_lines plan.traffic)
-      (lines-with_page plan.paging page))) before.channels;
+      (lines-on_last line_of (one_page_more page) (λ p. refl) plan.paging))) before.channels;
 }
 
-pub judged_frames : (judge : Judge) (plan : CellPlan) (change : FrameList → FrameList) →
-    HasJudged judge plan →
-    HasJudged judge (record plan { traffic = on_last change plan.traffic })
-judged_frames judge plan change before = record {
+-- and a frame more
+pub judged_frame : (judge : Judge) (plan : CellPlan) (frame : TrafficFrame) → HasJudged judge plan →
+    HasJudged judge (record plan { traffic = with_frame plan.traffic frame })
+judged_frame judge plan frame before = record {
   link = before.link;
   pilot = before.pilot;
   sync = before.sync;
   channels = subst (HasSeen judge.channels)
       (sym (ap (λ (ls : List ChannelLine). paging_lines plan.paging ++ ls)
-      (lines-on_last change plan.traffic))) before.channels;
+      (lines-on_last traffic_line_of (one_frame_more frame) (λ t. refl) plan.traffic)))
+      before.channels;
 }
 
 -- ---- faults

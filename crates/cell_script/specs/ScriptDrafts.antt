@@ -5,20 +5,16 @@ use Rattle.chip_core.specs.declared.check_form.CheckForm.TheVariants.{Plain}
 use Rattle.cell_plan.specs.declared.plan.CellPlan.{CellPlan}
 use Rattle.cell_plan.specs.declared.plan.Page.{Page}
 use Rattle.cell_plan.specs.declared.plan.PagingPlan.{PagingPlan}
-use Rattle.cell_plan.specs.declared.frame_list.FrameList.{FrameList}
-use Rattle.cell_plan.specs.declared.frame_list.FrameList.TheVariants.{SetOne}
 use Rattle.cell_script.specs.declared.stage.Stage.{Stage}
 use Rattle.cell_script.specs.declared.stage.Stage.TheVariants.{Cell}
 use Rattle.cell_plan.specs.declared.plan.TrafficPlan.{TrafficPlan}
 use Rattle.cell_script.specs.declared.statements.PagingLine.{PagingLine}
 use Rattle.cell_script.specs.declared.statements.TrafficLine.{TrafficLine}
 use Rattle.cell_plan.specs.declared.traffic_frame.TrafficFrame.{TrafficFrame}
-use Rattle.cell_plan.specs.declared.traffic_frame2.TrafficFrame2.{TrafficFrame2}
 use Rattle.cell_script.specs.declared.statements.Statement.{Statement}
 use Rattle.cell_script.specs.declared.statements.Statement.TheVariants as statements
 use Rattle.cell_script.specs.ScriptLines.{statement_in}
 use Rattle.cell_script.specs.ScriptStages.{is_complete, next_stage}
-use Rattle.cell_plan.specs.TrafficFrames.{with_one, with_two}
 
 -- what stands for the parts of a plan that weren't stated yet
 abbrev pub empty_plan : CellPlan
@@ -35,11 +31,18 @@ empty_plan = record {
 abbrev pub opened_paging : PagingLine → PagingPlan
 opened_paging line = record { number = line.number; gain = line.gain; pages = [] }
 
+-- what becomes of a list whose last entry changes
+abbrev pub on_last : {A : Type 0} → (A → A) → List A → List A
+on_last change [] = []
+on_last change (x ∷ []) = change x ∷ []
+on_last change (x ∷ (y ∷ xs)) = x ∷ on_last change (y ∷ xs)
+
 -- one page more for the last of the channels
+abbrev pub one_page_more : Page → PagingPlan → PagingPlan
+one_page_more page p = record p { pages = p.pages ++ page ∷ [] }
+
 abbrev pub with_page : List PagingPlan → Page → List PagingPlan
-with_page [] page = []
-with_page (p ∷ []) page = record p { pages = p.pages ++ page ∷ [] } ∷ []
-with_page (p ∷ (q ∷ paging)) page = p ∷ with_page (q ∷ paging) page
+with_page paging page = on_last (one_page_more page) paging
 
 -- a traffic channel without frames
 abbrev pub opened_traffic : TrafficLine → TrafficPlan
@@ -48,21 +51,15 @@ opened_traffic line = record {
   esn = line.esn;
   offset = line.offset;
   gain = line.gain;
-  frames = SetOne [];
+  frames = [];
 }
 
--- what becomes of the channels where the frames of the last of them change
-abbrev pub on_last : (FrameList → FrameList) → List TrafficPlan → List TrafficPlan
-on_last change [] = []
-on_last change (t ∷ []) = record t { frames = change t.frames } ∷ []
-on_last change (t ∷ (u ∷ traffic)) = t ∷ on_last change (u ∷ traffic)
-
 -- one frame more for the last of the traffic channels
-abbrev pub with_frame : List TrafficPlan → TrafficFrame → List TrafficPlan
-with_frame traffic frame = on_last (with_one frame) traffic
+abbrev pub one_frame_more : TrafficFrame → TrafficPlan → TrafficPlan
+one_frame_more frame t = record t { frames = t.frames ++ frame ∷ [] }
 
-abbrev pub with_frame2 : List TrafficPlan → TrafficFrame2 → List TrafficPlan
-with_frame2 traffic frame = on_last (with_two frame) traffic
+abbrev pub with_frame : List TrafficPlan → TrafficFrame → List TrafficPlan
+with_frame traffic frame = on_last (one_frame_more frame) traffic
 
 -- what a statement makes of a plan
 abbrev pub with_statement : CellPlan → Statement → CellPlan
@@ -77,8 +74,6 @@ with_statement plan (statements.Traffic line) =
     record plan { traffic = plan.traffic ++ opened_traffic line ∷ [] }
 with_statement plan (statements.Frame frame) =
     record plan { traffic = with_frame plan.traffic frame }
-with_statement plan (statements.Frame2 frame) =
-    record plan { traffic = with_frame2 plan.traffic frame }
 
 -- what the lines of a script have stated, and what may stand next
 pub record Draft : Type 0 where

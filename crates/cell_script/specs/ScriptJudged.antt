@@ -44,7 +44,6 @@ IsInOrder plan (statements.Paging line) = plan.traffic ≡ []
 IsInOrder plan (statements.Page page) = Unit {0}
 IsInOrder plan (statements.Traffic line) = Unit {0}
 IsInOrder plan (statements.Frame frame) = Unit {0}
-IsInOrder plan (statements.Frame2 frame) = Unit {0}
 
 -- a judge that read a whole script
 pub record IsJudged (script : List ℕ) (judge : Judge) : Type 0 where

@@ -1,6 +1,6 @@
 -- The lines of a script: what each kind of statement says, whatever stands before it.
 use Rattle.std.specs.Prelude.{ℕ, ◌+◌, ◌/◌, ◌%◌, ◌==◌, nat_le, nat_lt, Bool, false, if◌then◌else◌}
-use Rattle.std.specs.Prelude.{◌&&◌, List, [], ◌∷◌, length, get_or, codes, Option, None, Some, ℤ}
+use Rattle.std.specs.Prelude.{◌&&◌, ◌||◌, List, [], ◌∷◌, length, get_or, codes, Option, None, Some, ℤ}
 use Rattle.std.specs.Prelude.{unsigned_abs, option_map}
 use Rattle.chip_core.specs.declared.check_form.CheckForm.{CheckForm}
 use Rattle.chip_core.specs.declared.check_form.CheckForm.TheVariants.{Plain, Complemented}
@@ -23,13 +23,11 @@ use Rattle.cell_script.specs.Rows.{ranged}
 use Rattle.cell_script.specs.ScriptFields.{◌>>=◌, at_end, script_field, past, StatementRow, formed}
 use Rattle.cell_script.specs.ScriptFields.{past_at, signed_at, unsigned_at, unsigned_of}
 use Rattle.cell_script.specs.ScriptValues.{begins_with, bits_in_text, power_bits_in, number_up_to}
+use Rattle.cell_plan.specs.TrafficFrames.{information_bits_of}
+use Rattle.cell_plan.specs.declared.traffic_frame.FrameRate.{FrameRate}
+use Rattle.cell_plan.specs.declared.traffic_frame.FrameRate.TheVariants.{SetOne, SetTwo}
 use Rattle.cell_plan.specs.declared.traffic_frame.TrafficFrame.{TrafficFrame}
-use Rattle.cell_plan.specs.declared.traffic_frame2.TrafficFrame2.{TrafficFrame2}
-use Rattle.symbol_path.specs.RatesTwo as second
-use Rattle.symbol_path.specs.declared.rate_two.Rate2.{Rate2}
 use Rattle.symbol_path.specs.declared.rate_two.Rate2.TheVariants.{R14400, R7200, R3600, R1800}
-use Rattle.quality_bits.specs.TrafficCodewords.{information_of}
-use Rattle.quality_bits.specs.declared.rate.Rate.{Rate}
 use Rattle.quality_bits.specs.declared.rate.Rate.TheVariants.{R9600, R4800, R2400, R1200}
 
 -- ---- statements
@@ -231,70 +229,57 @@ traffic_in =
     four_in unsigned_at traffic_rows
     (λ row esn offset gain. Some (stated_traffic_line row esn offset gain))
 
--- `frame RATE BITS COMMANDS`: as many bits as a frame of the rate has
+-- `frame RATE BITS COMMANDS`, and `frame2 RATE BITS COMMANDS` at a rate of rate set 2: as many bits as
+-- a frame of the rate has
 
 -- what stands before the bits
-abbrev pub frame_key : Rate → List ℕ
-frame_key R9600 = codes "frame 9600 "
-frame_key R4800 = codes "frame 4800 "
-frame_key R2400 = codes "frame 2400 "
-frame_key R1200 = codes "frame 1200 "
+abbrev pub frame_key : FrameRate → List ℕ
+frame_key (SetOne R9600) = codes "frame 9600 "
+frame_key (SetOne R4800) = codes "frame 4800 "
+frame_key (SetOne R2400) = codes "frame 2400 "
+frame_key (SetOne R1200) = codes "frame 1200 "
+frame_key (SetTwo R14400) = codes "frame2 14400 "
+frame_key (SetTwo R7200) = codes "frame2 7200 "
+frame_key (SetTwo R3600) = codes "frame2 3600 "
+frame_key (SetTwo R1800) = codes "frame2 1800 "
 
 -- the first of these rates whose key a line begins with
-abbrev pub rate_by : {R : Type 0} → (R → List ℕ) → List R → List ℕ → Option R
-rate_by key [] text = None
-rate_by key (rate ∷ rates) text =
-    if begins_with text (key rate) then Some rate else rate_by key rates text
+abbrev pub rate_by : List FrameRate → List ℕ → Option FrameRate
+rate_by [] text = None
+rate_by (rate ∷ rates) text =
+    if begins_with text (frame_key rate) then Some rate else rate_by rates text
 
-abbrev pub frame_rate : List ℕ → Option Rate
-frame_rate = rate_by frame_key (R9600 ∷ R4800 ∷ R2400 ∷ R1200 ∷ [])
+abbrev pub frame_rates : List FrameRate
+frame_rates =
+    SetOne R9600 ∷ SetOne R4800 ∷ SetOne R2400 ∷ SetOne R1200 ∷ SetTwo R14400 ∷ SetTwo R7200
+    ∷ SetTwo R3600 ∷ SetTwo R1800 ∷ []
 
--- a frame, where it has as many information bits as it is to have
-abbrev pub lawful_frame : {A : Type 0} → ℕ → List Bool → A → Option A
-lawful_frame size information frame = if length information == size then Some frame else None
+abbrev pub frame_rate : List ℕ → Option FrameRate
+frame_rate = rate_by frame_rates
 
--- what is made of so many information bits after a key, and of the commands after them
-abbrev pub frame_by : {A : Type 0} → List ℕ → ℕ → (List Bool → List Bool → A) → List ℕ → Option A
-frame_by key size made text0 =
-    let text1 = past key text0 in
+-- a frame, where it has as many information bits as its rate
+abbrev pub lawful_frame : TrafficFrame → Option TrafficFrame
+lawful_frame frame =
+    if length frame.information == information_bits_of frame.rate then Some frame else None
+
+abbrev pub frame_with : FrameRate → List ℕ → Option TrafficFrame
+frame_with rate text0 =
+    let text1 = past (frame_key rate) text0 in
     let text2 = past (codes " ") text1 in
     do
-      information ← script_field key bits_in_text text0
+      information ← script_field (frame_key rate) bits_in_text text0
       power_bits ← script_field (codes " ") power_bits_in text1
-      frame ← lawful_frame size information (made information power_bits)
+      frame ← lawful_frame (record {
+        rate = rate;
+        information = information;
+        power_bits = power_bits;
+      })
       at_end text2 frame
-
-abbrev pub frame_with : Rate → List ℕ → Option TrafficFrame
-frame_with rate = frame_by (frame_key rate) (information_of rate)
-    (λ information power_bits.
-    record { rate = rate; information = information; power_bits = power_bits })
 
 unfoldable pub traffic_frame_in : List ℕ → Option TrafficFrame
 traffic_frame_in text = do
   rate ← frame_rate text
   frame_with rate text
-
--- `frame2 RATE BITS COMMANDS`: a frame of rate set 2, in the same way
-
--- what stands before the bits
-abbrev pub frame2_key : Rate2 → List ℕ
-frame2_key R14400 = codes "frame2 14400 "
-frame2_key R7200 = codes "frame2 7200 "
-frame2_key R3600 = codes "frame2 3600 "
-frame2_key R1800 = codes "frame2 1800 "
-
-abbrev pub frame2_rate : List ℕ → Option Rate2
-frame2_rate = rate_by frame2_key (R14400 ∷ R7200 ∷ R3600 ∷ R1800 ∷ [])
-
-abbrev pub frame2_with : Rate2 → List ℕ → Option TrafficFrame2
-frame2_with rate = frame_by (frame2_key rate) (second.information_of2 rate)
-    (λ information power_bits.
-    record { rate = rate; information = information; power_bits = power_bits })
-
-unfoldable pub frame2_in : List ℕ → Option TrafficFrame2
-frame2_in text = do
-  rate ← frame2_rate text
-  frame2_with rate text
 
 -- ---- what a line states
 
@@ -309,8 +294,6 @@ statement_in text =
     else (if begins_with text (codes "page ") then option_map statements.Page (stated_page_in text)
     else (if begins_with text (codes "traffic ")
     then option_map statements.Traffic (traffic_in text)
-    else (if begins_with text (codes "frame ") then option_map
-    statements.Frame (traffic_frame_in text)
-    else (if begins_with text (codes "frame2 ")
-    then option_map statements.Frame2 (frame2_in text)
-    else None))))))))
+    else (if begins_with text (codes "frame ") || begins_with text (codes "frame2 ")
+    then option_map statements.Frame (traffic_frame_in text)
+    else None)))))))

@@ -6,7 +6,7 @@ use Rattle.paging_message.specs.Admitted.{HasMessage}
 use Rattle.quality_bits.specs.Capsules.{FillsCapsule}
 use Rattle.quality_bits.specs.declared.kind.Kind.TheVariants.{M30}
 use Rattle.cell_plan.specs.Stated.{IsStatedCell, IsStatedLink}
-use Rattle.cell_plan.specs.TrafficFrames.{IsTrafficFrame, IsTrafficFrame2}
+use Rattle.cell_plan.specs.TrafficFrames.{IsTrafficFrame}
 use Rattle.cell_script.specs.declared.statements.Statement.{Statement}
 use Rattle.cell_script.specs.declared.statements.Statement.TheVariants as statements
 
@@ -20,7 +20,6 @@ HasRow (statements.Paging line) = line.number < 64
 HasRow (statements.Page page) = Unit {0}
 HasRow (statements.Traffic line) = line.row < 64
 HasRow (statements.Frame frame) = Unit {0}
-HasRow (statements.Frame2 frame) = Unit {0}
 
 -- what a statement says is within its bounds
 abbrev pub IsLawfulStatement : Statement → Type 0
@@ -32,4 +31,3 @@ IsLawfulStatement (statements.Paging line) = (1 ≤ line.number) × (line.number
 IsLawfulStatement (statements.Page page) = FillsCapsule M30 page.body × HasMessage page.body
 IsLawfulStatement (statements.Traffic line) = (line.row ≤ 63) × (line.offset ≤ 15)
 IsLawfulStatement (statements.Frame frame) = IsTrafficFrame frame
-IsLawfulStatement (statements.Frame2 frame) = IsTrafficFrame2 frame

@@ -6,10 +6,15 @@ use Rattle.quality_bits.specs.declared.rate.Rate.TheVariants.{R9600, R4800}
 use Rattle.paging_message.specs.HalfFrames.{bits_left, half_frame_body}
 use Rattle.cell_plan.specs.declared.plan.Page.{Page}
 use Rattle.cell_plan.specs.declared.plan.SyncPlan.{SyncPlan}
+use Rattle.cell_plan.specs.TrafficFrames.{rate_set}
+use Rattle.cell_plan.specs.declared.traffic_frame.FrameRate.{FrameRate}
+use Rattle.cell_plan.specs.declared.traffic_frame.FrameRate.TheVariants.{SetOne, SetTwo}
+use Rattle.cell_plan.specs.declared.traffic_frame.RateSet.{RateSet}
+use Rattle.cell_plan.specs.declared.traffic_frame.RateSet.TheVariants.{One, Two}
 use Rattle.cell_script.specs.declared.stage.Stage.{Stage}
 use Rattle.cell_script.specs.declared.stage.Stage.TheVariants.{Cell, Link, Pilot, Sync, Paging}
 use Rattle.cell_script.specs.declared.stage.Stage.TheVariants.{FirstPage, Pages, Traffic}
-use Rattle.cell_script.specs.declared.stage.Stage.TheVariants.{FirstFrame, Frames, Frames2}
+use Rattle.cell_script.specs.declared.stage.Stage.TheVariants.{FirstFrame, Frames}
 use Rattle.cell_script.specs.declared.statements.Statement.{Statement}
 use Rattle.cell_script.specs.declared.statements.Statement.TheVariants as statements
 use Rattle.cell_plan.specs.Pages.{half_frame_bits, laid_behind}
@@ -75,20 +80,19 @@ abbrev pub after_traffic : Stage → Option Stage
 after_traffic (Paging rate) = Some FirstFrame
 after_traffic (Pages rate count) = Some FirstFrame
 after_traffic Traffic = Some FirstFrame
-after_traffic Frames = Some FirstFrame
-after_traffic Frames2 = Some FirstFrame
+after_traffic (Frames set) = Some FirstFrame
 after_traffic _ = None
 
-abbrev pub after_frame : Stage → Option Stage
-after_frame FirstFrame = Some Frames
-after_frame Frames = Some Frames
-after_frame _ = None
-
 -- the frames of a channel are all of one rate set
-abbrev pub after_frame2 : Stage → Option Stage
-after_frame2 FirstFrame = Some Frames2
-after_frame2 Frames2 = Some Frames2
-after_frame2 _ = None
+abbrev pub frames_stage : RateSet → FrameRate → Option Stage
+frames_stage One (SetOne rate) = Some (Frames One)
+frames_stage Two (SetTwo rate) = Some (Frames Two)
+frames_stage set rate = None
+
+abbrev pub after_frame : Stage → FrameRate → Option Stage
+after_frame FirstFrame rate = Some (Frames (rate_set rate))
+after_frame (Frames set) rate = frames_stage set rate
+after_frame _ rate = None
 
 -- what may stand after a statement; None where it can't stand
 abbrev pub next_stage : Stage → Statement → Option Stage
@@ -99,8 +103,7 @@ next_stage stage (statements.Sync sync) = after_sync stage sync
 next_stage stage (statements.Paging line) = after_paging stage
 next_stage stage (statements.Page page) = after_page stage page
 next_stage stage (statements.Traffic line) = after_traffic stage
-next_stage stage (statements.Frame frame) = after_frame stage
-next_stage stage (statements.Frame2 frame) = after_frame2 stage
+next_stage stage (statements.Frame frame) = after_frame stage frame.rate
 
 -- whether a script may end
 abbrev pub is_complete : Stage → Bool
@@ -113,5 +116,4 @@ is_complete (FirstPage rate) = false
 is_complete (Pages rate count) = true
 is_complete Traffic = true
 is_complete FirstFrame = false
-is_complete Frames = true
-is_complete Frames2 = true
+is_complete (Frames set) = true

@@ -11,7 +11,7 @@ use Rattle.chip_core.specs.declared.check_form.CheckForm.TheVariants.{Plain}
 use Rattle.chip_core.specs.declared.width.Width.TheVariants.{Sixteen}
 use Rattle.symbol_path.specs.declared.rate_two.Rate2.TheVariants.{R1800}
 use Rattle.cell_plan.specs.SomeMessage.{some_sync}
-use Rattle.cell_plan.specs.declared.frame_list.FrameList.TheVariants.{SetTwo}
+use Rattle.cell_plan.specs.declared.traffic_frame.FrameRate.TheVariants.{SetTwo}
 use Rattle.cell_plan.specs.declared.plan.CellPlan.{CellPlan}
 use Rattle.cell_plan.specs.declared.plan.Page.{Page}
 use Rattle.cell_plan.specs.declared.plan.PagingPlan.{PagingPlan}
@@ -27,7 +27,6 @@ use Rattle.cell_script.specs.ScriptDrafts.{with_line, with_next}
 use Rattle.cell_script.specs.ScriptLines.{cell_in, freq_in, link_in, stated_page_in, paging_in}
 use Rattle.cell_script.specs.ScriptLines.{past_freq}
 use Rattle.cell_script.specs.ScriptLines.{pilot_in, statement_in, sync_behind, traffic_frame_in}
-use Rattle.cell_script.specs.ScriptLines.{frame2_in}
 use Rattle.cell_script.specs.ScriptLines.{sync_in, traffic_in}
 use Rattle.cell_script.specs.ScriptStages.{page_stage}
 use Rattle.cell_script.specs.Script.{is_line, lines, plan_named, draft_after, stated, stated_plan}
@@ -75,11 +74,11 @@ traffic_plan = record {
   esn = 43981;
   offset = 0;
   gain = 40;
-  frames = SetTwo (record {
-    rate = R1800;
+  frames = record {
+    rate = SetTwo R1800;
     information = take 22 (binary 24 0x5a5a58);
     power_bits = binary 16 0x5555;
-  } ∷ []);
+  } ∷ [];
 }
 
 empty : plan_named Sixteen [] ≡ Err (Line 1)
@@ -121,7 +120,7 @@ of_rate_set_two : map (λ behind. plan_named Sixteen (traffic_script behind))
     ≡ Ok (record (plan []) { traffic = traffic_plan ∷ [] }) ∷ Err (Line 7) ∷ []
 unfolding traffic_script script plan traffic_plan plan_named stated_plan stated draft_after lines
     is_line with_line with_next statement_in cell_in link_in pilot_in sync_in sync_behind freq_in
-    past_freq traffic_in traffic_frame_in frame2_in numbers_in past_numbers script_field past
+    past_freq traffic_in traffic_frame_in numbers_in past_numbers script_field past
     length_before number_up_to digits_from signed_in state_in serial_number_in hex_from bits_in_text
     hex_bits decode_pairs power_bits_in digits_behind binary
 of_rate_set_two = refl

@@ -2,13 +2,12 @@
 
 ghost use Rattle.std.specs.Prelude.{◌≡◌, OnOk};
 ghost use Rattle.cell_script.specs.ScriptDrafts.{empty_plan, opened_paging, opened_traffic};
-ghost use Rattle.cell_script.specs.ScriptDrafts.{with_frame};
-ghost use Rattle.cell_script.specs.ScriptDrafts.{with_frame2, with_page, with_statement};
+ghost use Rattle.cell_script.specs.ScriptDrafts.{with_frame, with_page, with_statement};
 
 use crate::statements::{PagingLine, Statement, TrafficLine};
 use cell_plan::{
-    CellIdentity, CellPlan, FrameList, LinkPlan, Page, PagingPlan, PilotPlan, Series, TrafficFrame,
-    TrafficFrame2, TrafficPlan,
+    CellIdentity, CellPlan, LinkPlan, Page, PagingPlan, PilotPlan, Series, TrafficFrame,
+    TrafficPlan,
 };
 use chip_core::{CheckForm, OutOfMemory, Pair};
 use std::alloc::Global;
@@ -69,37 +68,18 @@ fn opened_traffic(alloc: Global, line: &TrafficLine) -> TrafficPlan
         esn: line.esn,
         offset: line.offset,
         gain: line.gain,
-        frames: FrameList::new(alloc),
+        frames: Series::new(alloc),
     }
 }
 
-/// Adds a frame of rate set 1 to the last of the traffic channels.
-fn add_frame(
-    alloc: Global,
-    traffic: &mut Series<TrafficPlan>,
-    frame: &TrafficFrame,
-) -> Result<(), OutOfMemory>
+/// Adds a frame to the last of the traffic channels.
+fn add_frame(traffic: &mut Series<TrafficPlan>, frame: &TrafficFrame) -> Result<(), OutOfMemory>
     ensures { OnOk result (traffic.new ≡ with_frame traffic.old frame.now) }
 {
     let Some(mut channel) = traffic.pop() else {
         return Ok(());
     };
-    channel.frames.push_one(alloc, frame)?;
-    traffic.push(channel)
-}
-
-/// Adds a frame of rate set 2 to the last of the traffic channels.
-fn add_frame2(
-    alloc: Global,
-    traffic: &mut Series<TrafficPlan>,
-    frame: &TrafficFrame2,
-) -> Result<(), OutOfMemory>
-    ensures { OnOk result (traffic.new ≡ with_frame2 traffic.old frame.now) }
-{
-    let Some(mut channel) = traffic.pop() else {
-        return Ok(());
-    };
-    channel.frames.push_two(alloc, frame)?;
+    channel.frames.push(*frame)?;
     traffic.push(channel)
 }
 
@@ -119,8 +99,7 @@ pub(crate) fn add_statement(
         Statement::Paging(line) => return plan.paging.push(opened(alloc, line)),
         Statement::Page(page) => return add_page(&mut plan.paging, page),
         Statement::Traffic(line) => return plan.traffic.push(opened_traffic(alloc, line)),
-        Statement::Frame(frame) => return add_frame(alloc, &mut plan.traffic, frame),
-        Statement::Frame2(frame) => return add_frame2(alloc, &mut plan.traffic, frame),
+        Statement::Frame(frame) => return add_frame(&mut plan.traffic, frame),
     }
     Ok(())
 }

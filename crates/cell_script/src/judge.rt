@@ -142,7 +142,6 @@ impl Judge {
             },
             Statement::Page(_) => self,
             Statement::Frame(_) => self,
-            Statement::Frame2(_) => self,
         }
     }
 

@@ -3,11 +3,12 @@
 ghost use Rattle.std.specs.Prelude.{◌≡◌, ◌<◌, ◌≤◌, true};
 ghost use Rattle.paging_message.specs.HalfFrames.{bits_left, half_frame_body};
 ghost use Rattle.paging_message.specs.Laying.{fill};
-ghost use Rattle.cell_script.specs.ScriptStages.{behind_sync, count_behind, is_complete, is_cycle};
-ghost use Rattle.cell_script.specs.ScriptStages.{may_follow, next_stage, page_stage};
+ghost use Rattle.cell_script.specs.ScriptStages.{behind_sync, count_behind, frames_stage};
+ghost use Rattle.cell_script.specs.ScriptStages.{is_complete, is_cycle, may_follow, next_stage};
+ghost use Rattle.cell_script.specs.ScriptStages.{page_stage};
 
 use crate::statements::Statement;
-use cell_plan::{Page, SyncPlan};
+use cell_plan::{FrameRate, Page, RateSet, SyncPlan};
 use symbol_path::Rate;
 
 /// The most bits of a cycle up to the end of its last capsule, SCI bits among them.
@@ -47,10 +48,8 @@ pub enum Stage {
     Traffic,
     /// `frame` or `frame2`, the first one of a channel.
     FirstFrame,
-    /// `frame`, `traffic`, or none.
-    Frames,
-    /// `frame2`, `traffic`, or none.
-    Frames2,
+    /// `frame` or `frame2` by this rate set, `traffic`, or none.
+    Frames(RateSet),
 }
 
 /// How many body bits a half-frame has: 95 at 9600 bits per second, 47 at 4800 (TIA/EIA-95-B,
@@ -143,6 +142,19 @@ fn behind_sync(sync: &SyncPlan) -> Stage
     }
 }
 
+/// What may stand after one more frame of a channel whose frames are of a rate set; `None` where it
+/// is of the other.
+fn frames_stage(set: RateSet, rate: FrameRate) -> Option<Stage>
+    ensures { result ≡ frames_stage set rate }
+{
+    match (set, rate) {
+        (RateSet::One, FrameRate::SetOne(_)) | (RateSet::Two, FrameRate::SetTwo(_)) => {
+            Some(Stage::Frames(set))
+        }
+        _ => None,
+    }
+}
+
 impl Stage {
     /// What may stand after a statement; `None` where it can't stand.
     pub fn after(self, statement: &Statement) -> Option<Stage>
@@ -163,9 +175,9 @@ impl Stage {
             (Stage::Paging(_) | Stage::Pages { .. } | Stage::Traffic, Statement::Traffic(_)) => {
                 Some(Stage::FirstFrame)
             }
-            (Stage::Frames | Stage::Frames2, Statement::Traffic(_)) => Some(Stage::FirstFrame),
-            (Stage::FirstFrame | Stage::Frames, Statement::Frame(_)) => Some(Stage::Frames),
-            (Stage::FirstFrame | Stage::Frames2, Statement::Frame2(_)) => Some(Stage::Frames2),
+            (Stage::Frames(_), Statement::Traffic(_)) => Some(Stage::FirstFrame),
+            (Stage::FirstFrame, Statement::Frame(frame)) => Some(Stage::Frames(frame.rate.set())),
+            (Stage::Frames(set), Statement::Frame(frame)) => frames_stage(set, frame.rate),
             _ => None,
         }
     }
@@ -178,7 +190,7 @@ impl Stage {
             Stage::Cell | Stage::Link | Stage::Pilot => false,
             Stage::FirstPage(_) | Stage::FirstFrame => false,
             Stage::Sync | Stage::Paging(_) | Stage::Pages { .. } => true,
-            Stage::Traffic | Stage::Frames | Stage::Frames2 => true,
+            Stage::Traffic | Stage::Frames(_) => true,
         }
     }
 }

@@ -6,9 +6,8 @@ ghost use Rattle.cell_script.specs.ScriptLines.{stated_page_in};
 ghost use Rattle.cell_script.specs.ScriptLines.{page_key, page_with, paging_in, past_freq};
 ghost use Rattle.cell_script.specs.ScriptLines.{pilot_in, sync_behind, sync_fields, statement_in};
 ghost use Rattle.cell_script.specs.ScriptLines.{sync_in, lawful_message, traffic_frame_in};
-ghost use Rattle.cell_script.specs.ScriptLines.{frame_key};
-ghost use Rattle.cell_script.specs.ScriptLines.{frame_rate, frame_with, frame2_in, frame2_key};
-ghost use Rattle.cell_script.specs.ScriptLines.{frame2_rate, frame2_with, traffic_in};
+ghost use Rattle.cell_script.specs.ScriptLines.{frame_key, frame_rate, frame_with, rate_by};
+ghost use Rattle.cell_script.specs.ScriptLines.{traffic_in};
 ghost use Rattle.cell_script.specs.Rows.{AreUpTo, local_rows, network_rows, numbers_in};
 ghost use Rattle.cell_script.specs.Rows.{past_numbers};
 ghost use Rattle.cell_script.specs.ScriptPlans.{HasRow};
@@ -22,11 +21,23 @@ use crate::tables::{
     CELL_FIELDS, LINK_FIELDS, PAGING_FIELDS, PILOT_FIELDS, SYNC_GAIN, TRAFFIC_FIELDS,
 };
 use crate::values::begins_with;
-use cell_plan::{CellIdentity, LinkPlan, Page, PilotPlan, SyncPlan, TrafficFrame, TrafficFrame2};
+use cell_plan::{CellIdentity, FrameRate, LinkPlan, Page, PilotPlan, SyncPlan, TrafficFrame};
 use chip_core::{Bits, CheckForm, Pair};
 use paging_message::PagingMessage;
 use symbol_path::{Rate, Rate2};
 use sync_message::{FREQ_FIELD, SYNC_FIELDS, SyncFields, SyncMessage};
+
+/// The rates of frames, which their lines begin with.
+const FRAME_RATES: [FrameRate; 8] = [
+    FrameRate::SetOne(Rate::R9600),
+    FrameRate::SetOne(Rate::R4800),
+    FrameRate::SetOne(Rate::R2400),
+    FrameRate::SetOne(Rate::R1200),
+    FrameRate::SetTwo(Rate2::R14400),
+    FrameRate::SetTwo(Rate2::R7200),
+    FrameRate::SetTwo(Rate2::R3600),
+    FrameRate::SetTwo(Rate2::R1800),
+];
 
 /// What a line of a script states.
 #[derive(Clone, Copy)]
@@ -45,10 +56,8 @@ pub enum Statement {
     Page(Page),
     /// One more traffic channel, whose frames the lines after state.
     Traffic(TrafficLine),
-    /// One more frame of that channel, of rate set 1.
+    /// One more frame of that channel.
     Frame(TrafficFrame),
-    /// One more frame of that channel, of rate set 2.
-    Frame2(TrafficFrame2),
 }
 
 /// A paging channel without its pages.
@@ -100,11 +109,8 @@ pub fn statement_in(text: &[u8]) -> Option<Statement>
     if begins_with(text, b"traffic ") {
         return Some(Statement::Traffic(traffic_in(text)?));
     }
-    if begins_with(text, b"frame ") {
+    if begins_with(text, b"frame ") || begins_with(text, b"frame2 ") {
         return Some(Statement::Frame(frame_in(text)?));
-    }
-    if begins_with(text, b"frame2 ") {
-        return Some(Statement::Frame2(frame2_in(text)?));
     }
     None
 }
@@ -375,8 +381,8 @@ fn traffic_in(text: &[u8]) -> Option<TrafficLine>
     })
 }
 
-/// What a `frame` line says: a rate, as many information bits as a frame of it has, and sixteen
-/// power control bits.
+/// What a `frame` or `frame2` line says: a rate of rate set 1 or 2, as many information bits as a
+/// frame of it has, and sixteen power control bits.
 #[tactic(auto, unfolding(crate::specs::ScriptLines::traffic_frame_in))]
 fn frame_in(text: &[u8]) -> Option<TrafficFrame>
     ensures { result ≡ traffic_frame_in text.now }
@@ -384,27 +390,27 @@ fn frame_in(text: &[u8]) -> Option<TrafficFrame>
     frame_with(frame_rate(text)?, Fields::new(text))
 }
 
-/// The rate that a `frame` line begins with.
-fn frame_rate(text: &[u8]) -> Option<Rate>
+/// The rate that a `frame` or `frame2` line begins with.
+fn frame_rate(text: &[u8]) -> Option<FrameRate>
     ensures { result ≡ frame_rate text.now }
 {
-    if begins_with(text, b"frame 9600 ") {
-        return Some(Rate::R9600);
-    }
-    if begins_with(text, b"frame 4800 ") {
-        return Some(Rate::R4800);
-    }
-    if begins_with(text, b"frame 2400 ") {
-        return Some(Rate::R2400);
-    }
-    if begins_with(text, b"frame 1200 ") {
-        return Some(Rate::R1200);
+    first_rate(&FRAME_RATES, text)
+}
+
+/// The first of some rates whose lines begin as this one does.
+fn first_rate(rates: &[FrameRate], text: &[u8]) -> Option<FrameRate>
+    ensures { result ≡ rate_by rates.now text.now }
+{
+    for &rate in rates {
+        if begins_with(text, frame_key(rate)) {
+            return Some(rate);
+        }
     }
     None
 }
 
-/// What a `frame` line of this rate says.
-fn frame_with(rate: Rate, mut fields: Fields<'_>) -> Option<TrafficFrame>
+/// What a line of a frame of this rate says.
+fn frame_with(rate: FrameRate, mut fields: Fields<'_>) -> Option<TrafficFrame>
     ensures { result ≡ frame_with rate fields.entry }
 {
     let information = fields.bits(frame_key(rate))?;
@@ -419,72 +425,20 @@ fn frame_with(rate: Rate, mut fields: Fields<'_>) -> Option<TrafficFrame>
     })
 }
 
-/// What stands before the bits of a `frame` line.
-pub fn frame_key(rate: Rate) -> &'static [u8]
+/// What stands before the bits of a frame of this rate.
+pub fn frame_key(rate: FrameRate) -> &'static [u8]
     ensures value { result.now ≡ frame_key rate }
     ensures ascii { IsAscii result.now }
-    ensures most { length result.now ≤ 11 }
+    ensures most { length result.now ≤ 13 }
 {
     match rate {
-        Rate::R9600 => b"frame 9600 ",
-        Rate::R4800 => b"frame 4800 ",
-        Rate::R2400 => b"frame 2400 ",
-        Rate::R1200 => b"frame 1200 ",
-    }
-}
-
-/// What a `frame2` line says, which states a frame of rate set 2 as a `frame` line does one of rate
-/// set 1.
-#[tactic(auto, unfolding(crate::specs::ScriptLines::frame2_in))]
-fn frame2_in(text: &[u8]) -> Option<TrafficFrame2>
-    ensures { result ≡ frame2_in text.now }
-{
-    frame2_with(frame2_rate(text)?, Fields::new(text))
-}
-
-/// The rate that a `frame2` line begins with.
-fn frame2_rate(text: &[u8]) -> Option<Rate2>
-    ensures { result ≡ frame2_rate text.now }
-{
-    if begins_with(text, b"frame2 14400 ") {
-        return Some(Rate2::R14400);
-    }
-    if begins_with(text, b"frame2 7200 ") {
-        return Some(Rate2::R7200);
-    }
-    if begins_with(text, b"frame2 3600 ") {
-        return Some(Rate2::R3600);
-    }
-    if begins_with(text, b"frame2 1800 ") {
-        return Some(Rate2::R1800);
-    }
-    None
-}
-
-/// What a `frame2` line of this rate says.
-fn frame2_with(rate: Rate2, mut fields: Fields<'_>) -> Option<TrafficFrame2>
-    ensures { result ≡ frame2_with rate fields.entry }
-{
-    let information = fields.bits(frame2_key(rate))?;
-    let power_bits = fields.power_bits(b" ")?;
-    if information.len() != rate.information_bits() || !fields.at_end() {
-        return None;
-    }
-    Some(TrafficFrame2 {
-        rate,
-        information,
-        power_bits,
-    })
-}
-
-/// What stands before the bits of a `frame2` line.
-fn frame2_key(rate: Rate2) -> &'static [u8]
-    ensures { result.now ≡ frame2_key rate }
-{
-    match rate {
-        Rate2::R14400 => b"frame2 14400 ",
-        Rate2::R7200 => b"frame2 7200 ",
-        Rate2::R3600 => b"frame2 3600 ",
-        Rate2::R1800 => b"frame2 1800 ",
+        FrameRate::SetOne(Rate::R9600) => b"frame 9600 ",
+        FrameRate::SetOne(Rate::R4800) => b"frame 4800 ",
+        FrameRate::SetOne(Rate::R2400) => b"frame 2400 ",
+        FrameRate::SetOne(Rate::R1200) => b"frame 1200 ",
+        FrameRate::SetTwo(Rate2::R14400) => b"frame2 14400 ",
+        FrameRate::SetTwo(Rate2::R7200) => b"frame2 7200 ",
+        FrameRate::SetTwo(Rate2::R3600) => b"frame2 3600 ",
+        FrameRate::SetTwo(Rate2::R1800) => b"frame2 1800 ",
     }
 }

@@ -8,13 +8,13 @@ pub use Rattle.cell_plan.specs.Signal.{frames_of}
 pub use Rattle.cell_plan.specs.Stated.{AreHeard}
 pub use Rattle.cell_plan.specs.TrafficFrames.{cycled_frame, sent_frame_state, sent_with, set_one}
 pub use Rattle.cell_plan.specs.TrafficFrames.{set_two, traffic_frame_symbols}
+pub use Rattle.cell_plan.specs.TrafficFrames.{SetOneFrame}
 pub use Rattle.cell_plan.specs.Transmitter.{phase_at}
 pub use Rattle.cell_plan.specs.declared.plan.CellPlan.{CellPlan}
 pub use Rattle.cell_plan.specs.declared.plan.Page.{Page}
 pub use Rattle.cell_plan.specs.declared.plan.PagingPlan.{PagingPlan}
 pub use Rattle.cell_plan.specs.declared.plan.SyncPlan.{SyncPlan}
 pub use Rattle.cell_plan.specs.declared.plan.TrafficPlan.{TrafficPlan}
-pub use Rattle.cell_plan.specs.declared.traffic_frame.TrafficFrame.{TrafficFrame}
 pub use Rattle.chip_core.specs.Air.{data_frame_chips, frame_offset_chips, superframe_chips}
 pub use Rattle.chip_core.specs.Bits.{sign}
 unfoldable pub use Rattle.chip_core.specs.Bits.{places}

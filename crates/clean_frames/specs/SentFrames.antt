@@ -8,7 +8,7 @@ use Rattle.clean_frames.specs.Common.{data_frame_chips, frame_offset_chips, plac
 use Rattle.clean_frames.specs.Common.{traffic_mask, power_places, frame_codeword, IsUnshared}
 use Rattle.clean_frames.specs.Common.{ShowSymbols, frame_symbols, is_replaced, frames_of}
 use Rattle.clean_frames.specs.Common.{cycled_frame, sent_frame_state, sent_with, set_one, set_two}
-use Rattle.clean_frames.specs.Common.{traffic_frame_symbols, CellPlan, TrafficPlan, TrafficFrame}
+use Rattle.clean_frames.specs.Common.{traffic_frame_symbols, CellPlan, TrafficPlan, SetOneFrame}
 use Rattle.clean_frames.specs.Common.{Traffic, split}
 use Rattle.clean_frames.specs.WholePages.{end_chip}
 
@@ -30,14 +30,14 @@ SendsSetTwo p = 1 ≤ length (set_two p.frames)
 -- ---- what a frame sends
 
 -- the 384 symbols of a frame before scrambling, in the order in which they are sent
-abbrev pub codeword_symbols : TrafficFrame → List Bool
+abbrev pub codeword_symbols : SetOneFrame → List Bool
 codeword_symbols f = frame_symbols f.rate (frame_codeword f.rate f.information)
 
 -- the power control bit of each of its 16 groups, of a list of them
 unfoldable pub sent_bits : List Bool → List Bool
 sent_bits power_bits = map (λ g. get_or power_bits g false) (places 16)
 
-abbrev pub sent_power_bits : TrafficFrame → List Bool
+abbrev pub sent_power_bits : SetOneFrame → List Bool
 sent_power_bits f = sent_bits f.power_bits
 
 -- At the places that power control bits replace, the soft values, which no scrambling turns, are a
@@ -49,7 +49,7 @@ ShowPowerBits replaced strength power_bits softs =
 
 -- A frame whose symbols at the places that no power control bit replaces are those of no other
 -- codeword, at none of the four rates, whether that codeword's quality bits are right or not.
-abbrev pub IsDistinctFrame : List ℕ → TrafficFrame → Type 0
+abbrev pub IsDistinctFrame : List ℕ → SetOneFrame → Type 0
 IsDistinctFrame replaced f = IsUnshared replaced f.rate (frame_codeword f.rate f.information)
 
 -- What frame `frame` of a channel of any rate set sends: these 384 symbols before scrambling, in
@@ -102,13 +102,13 @@ frame_ends plan p frame = frame_chip p (frame + 1) - plan.link.start
 -- ---- the signaling in them (TIA/EIA-95-B, 7.1.3.5.11)
 
 -- a frame's signaling, where it has any
-abbrev pub signal_sent : TrafficFrame → Option (List Bool)
+abbrev pub signal_sent : SetOneFrame → Option (List Bool)
 signal_sent f = (split f.rate f.information).signal
 
 -- that of the one that is sent as frame `frame`
 abbrev pub signals_in : CellPlan → TrafficPlan → ℕ → List (List Bool)
 signals_in plan p frame =
-    flat_map (λ (f : TrafficFrame). option_to_list (signal_sent f))
+    flat_map (λ (f : SetOneFrame). option_to_list (signal_sent f))
     (cycled_frame (frames_of plan p) frame)
 
 -- the signaling parts of the received frames before frame `frame`, in order, where the mark is at

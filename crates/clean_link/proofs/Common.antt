@@ -27,6 +27,7 @@ pub use Rattle.cell_plan.proofs.Amplitudes.{signal_of_carriers}
 pub use Rattle.cell_plan.proofs.Pieces.{no_sample}
 pub use Rattle.cell_plan.proofs.SentMessages.{length-sending, length-sync, refilled_is, superframes_few, superframes_some, told_early}
 pub use Rattle.cell_plan.proofs.SyncFrames.{length-sync_frame_bits}
+pub use Rattle.cell_plan.proofs.TrafficFrames.{one_in_turn, two_in_turn}
 pub use Rattle.cell_plan.specs.PageCycles.{Cycle, cycle_frame_bits, frame_scrambling, paging_frame_size}
 unfoldable pub use Rattle.cell_plan.specs.PageCycles.{cycle_symbols, cycled}
 pub use Rattle.cell_plan.specs.Pages.{AreSendable, laid_behind, sent_paging_rate}
@@ -41,18 +42,17 @@ pub use Rattle.cell_plan.specs.Signal.{Carrier, amplitude, amplitudes, cycle_of,
 pub use Rattle.cell_plan.specs.Signal.{sync_carrier, traffic_carrier}
 unfoldable pub use Rattle.cell_plan.specs.Signal.{carriers, sample_of, samples_of}
 pub use Rattle.cell_plan.specs.Stated.{AreHeard, IsReceivable, IsStatedPaging}
-pub use Rattle.cell_plan.specs.TrafficFrames.{AreTrafficFrames, IsTrafficFrame, IsTrafficFrame2, cycled_frame, frame_count, set_one}
+pub use Rattle.cell_plan.specs.TrafficFrames.{IsSetOneFrame, IsSetTwoFrame, cycled_frame, set_one}
 pub use Rattle.cell_plan.specs.TrafficFrames.{set_two}
+pub use Rattle.cell_plan.specs.TrafficFrames.{IsTrafficFrame, SetOneFrame, SetTwoFrame, planned}
 pub use Rattle.cell_plan.specs.Transmitter.{IsSendable, phase_at}
-pub use Rattle.cell_plan.specs.declared.frame_list.FrameList.{FrameList}
-pub use Rattle.cell_plan.specs.declared.frame_list.FrameList.TheVariants.{SetOne, SetTwo}
+pub use Rattle.cell_plan.specs.declared.traffic_frame.FrameRate.TheVariants.{SetOne, SetTwo}
 pub use Rattle.cell_plan.specs.declared.plan.CellPlan.{CellPlan}
 pub use Rattle.cell_plan.specs.declared.plan.Page.{Page}
 pub use Rattle.cell_plan.specs.declared.plan.PagingPlan.{PagingPlan}
 pub use Rattle.cell_plan.specs.declared.plan.SyncPlan.{SyncPlan}
 pub use Rattle.cell_plan.specs.declared.plan.TrafficPlan.{TrafficPlan}
 pub use Rattle.cell_plan.specs.declared.traffic_frame.TrafficFrame.{TrafficFrame}
-pub use Rattle.cell_plan.specs.declared.traffic_frame2.TrafficFrame2.{TrafficFrame2}
 pub use Rattle.chip_core.proofs.BitLists.{add, length_add}
 pub use Rattle.chip_core.proofs.Counted.{flat_map-next, flat_map-zero}
 pub use Rattle.chip_core.proofs.Places.{get_or-map-places, get_or-places, length-map-places, length-places, map-places-all, places-more}

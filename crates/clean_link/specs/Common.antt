@@ -10,18 +10,17 @@ pub use Rattle.cell_plan.specs.Sendings.{sync_symbols}
 pub use Rattle.cell_plan.specs.Signal.{Carrier, carriers, cycle_of, frames_of}
 pub use Rattle.cell_plan.specs.SomeMessage.{some_message, some_sync}
 pub use Rattle.cell_plan.specs.Stated.{IsReceivable, IsStatedPaging}
-pub use Rattle.cell_plan.specs.TrafficFrames.{FrameCycle, IsTrafficFrame, IsTrafficFrame2}
+pub use Rattle.cell_plan.specs.TrafficFrames.{FrameCycle, IsSetOneFrame, IsSetTwoFrame}
 pub use Rattle.cell_plan.specs.TrafficFrames.{cycled_frame, set_two}
+pub use Rattle.cell_plan.specs.TrafficFrames.{SetOneFrame, SetTwoFrame, planned}
 pub use Rattle.cell_plan.specs.Transmitter.{phase_at}
-pub use Rattle.cell_plan.specs.declared.frame_list.FrameList.{FrameList}
-pub use Rattle.cell_plan.specs.declared.frame_list.FrameList.TheVariants.{SetOne, SetTwo}
+pub use Rattle.cell_plan.specs.declared.traffic_frame.FrameRate.TheVariants.{SetOne, SetTwo}
 pub use Rattle.cell_plan.specs.declared.plan.CellPlan.{CellPlan}
 pub use Rattle.cell_plan.specs.declared.plan.Page.{Page}
 pub use Rattle.cell_plan.specs.declared.plan.PagingPlan.{PagingPlan}
 pub use Rattle.cell_plan.specs.declared.plan.SyncPlan.{SyncPlan}
 pub use Rattle.cell_plan.specs.declared.plan.TrafficPlan.{TrafficPlan}
 pub use Rattle.cell_plan.specs.declared.traffic_frame.TrafficFrame.{TrafficFrame}
-pub use Rattle.cell_plan.specs.declared.traffic_frame2.TrafficFrame2.{TrafficFrame2}
 pub use Rattle.chip_core.specs.Air.{superframe_chips}
 pub use Rattle.chip_core.specs.Bits.{xor}
 unfoldable pub use Rattle.chip_core.specs.Bits.{binary, places}

@@ -8,7 +8,7 @@ use Rattle.clean_link.specs.Common.{places, xor, code_symbols, g0, g1, symbol, a
 use Rattle.clean_link.specs.Common.{traffic_codeword, R9600, frame_codeword, IsUnshared}
 use Rattle.clean_link.specs.Common.{is_replaced, repeats_of, Rate, codeword_bits, is_dropped}
 use Rattle.clean_link.specs.Common.{repeated_symbol, Rate2, frame_bits, binary, R2400, R1200}
-use Rattle.clean_link.specs.Common.{TrafficFrame}
+use Rattle.clean_link.specs.Common.{SetOneFrame}
 use Rattle.clean_frames.specs.SentFrames.{IsDistinctFrame}
 use Rattle.symbol_path.specs.RatesTwo as rates_two
 use Rattle.rate_set_two.specs.Laws as laws_two
@@ -156,7 +156,7 @@ some_information =
     binary 64 0x6eb96f6d68690b65 ++ binary 64 0xaa73026f6b41c7ad ++ binary 44 0x3f68aa22065
 
 -- a frame that tells a handset to lower its power
-abbrev pub distinct_frame_with : Rate → List Bool → TrafficFrame
+abbrev pub distinct_frame_with : Rate → List Bool → SetOneFrame
 distinct_frame_with rate information = record {
   rate = rate;
   information = information;

@@ -4,9 +4,9 @@ use Rattle.std.specs.Prelude.{negsuc, Some}
 use Rattle.std.specs.List.{Contains, flat_map}
 use Rattle.clean_link.specs.Common.{binary, Plain, Sixteen, before, Rate, R9600, R4800, R2400}
 use Rattle.clean_link.specs.Common.{R1200, Rate2, R14400, R7200, R3600, R1800, SyncFields}
-use Rattle.clean_link.specs.Common.{frames_of, some_message, some_sync, cycled_frame, FrameList}
+use Rattle.clean_link.specs.Common.{frames_of, some_message, some_sync, cycled_frame, planned}
 use Rattle.clean_link.specs.Common.{SetOne, SetTwo, CellPlan, TrafficPlan, TrafficFrame}
-use Rattle.clean_link.specs.Common.{TrafficFrame2, Traffic, IsReceivable}
+use Rattle.clean_link.specs.Common.{SetOneFrame, SetTwoFrame, Traffic, IsReceivable}
 use Rattle.clean_link.specs.DistinctFrames.{distinct_frame_with}
 use Rattle.clean_frames.specs.SentFrames.{is_received, received_frames, replaced_of, IsAssigned}
 use Rattle.clean_frames.specs.SentFrames.{SendsSetTwo}
@@ -37,26 +37,26 @@ bits_of2 R3600 = binary 56 0x7f7f6ad5e9ac66
 bits_of2 R1800 = binary 22 0xa13a0
 
 -- frames of them that tell a handset to lower its power
-abbrev pub frame_at : Rate → TrafficFrame
+abbrev pub frame_at : Rate → SetOneFrame
 frame_at rate = distinct_frame_with rate (distinct_bits_of rate)
 
-abbrev pub frame2_at : Rate2 → TrafficFrame2
+abbrev pub frame2_at : Rate2 → SetTwoFrame
 frame2_at rate =
     record { rate = rate; information = bits_of2 rate; power_bits = replicate 16 true }
 
 -- a channel with these frames
-abbrev pub channel_on : ℕ → FrameList → TrafficPlan
+abbrev pub channel_on : ℕ → List TrafficFrame → TrafficPlan
 channel_on row frames =
     record { row = row; esn = 0x9f1c0a37; offset = 0; gain = 20; frames = frames }
 
 -- channels with a frame of each rate of their rate set, the highest first
 abbrev pub first_channel : TrafficPlan
 first_channel =
-    channel_on 8 (SetOne (map frame_at (R9600 ∷ R4800 ∷ R2400 ∷ R1200 ∷ [])))
+    channel_on 8 (map (planned SetOne) (map frame_at (R9600 ∷ R4800 ∷ R2400 ∷ R1200 ∷ [])))
 
 abbrev pub second_channel : TrafficPlan
 second_channel =
-    channel_on 9 (SetTwo (map frame2_at (R14400 ∷ R7200 ∷ R3600 ∷ R1800 ∷ [])))
+    channel_on 9 (map (planned SetTwo) (map frame2_at (R14400 ∷ R7200 ∷ R3600 ∷ R1800 ∷ [])))
 
 -- The cell sends both, and the file has eight superframes. The long code's state is 1 at chip
 -- 686,592, a power control group before superframe 7.
@@ -91,7 +91,7 @@ HasMark = IsReceivable Sixteen distinct_plan
 pub record HasSetOne : Type 0 where
   pub followed : IsFollowed distinct_plan (on_row 8) first_channel
   pub rates : flat_map
-      (λ frame. map (λ (f : TrafficFrame). f.rate)
+      (λ frame. map (λ (f : SetOneFrame). f.rate)
       (cycled_frame (frames_of distinct_plan first_channel) frame))
       (received_frames distinct_plan first_channel 688128)
       ≡ R9600 ∷ R4800 ∷ R2400 ∷ R1200 ∷ []
@@ -107,7 +107,7 @@ pub record HasSetTwo : Type 0 where
       All (IsDistinctFrame2 (replaced_of distinct_plan second_channel frame))
       (cycled_frame2 (frames_of distinct_plan second_channel) frame)
   pub rates : flat_map
-      (λ frame. map (λ (f : TrafficFrame2). f.rate)
+      (λ frame. map (λ (f : SetTwoFrame). f.rate)
       (cycled_frame2 (frames_of distinct_plan second_channel) frame))
       (received_frames distinct_plan second_channel 688128)
       ≡ R14400 ∷ R7200 ∷ R3600 ∷ R1800 ∷ []

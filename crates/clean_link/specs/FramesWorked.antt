@@ -1,20 +1,20 @@
 -- Worked values of the frames of a traffic channel on a clean link, which the checker computes.
 use Rattle.std.specs.Prelude.{◌≡◌, ℕ, refl, true, false, List, [], ◌∷◌, length, map, replicate}
-use Rattle.clean_link.specs.Common.{places, Plain, R1200, R2400, CellPlan, TrafficFrame, at_of}
+use Rattle.clean_link.specs.Common.{places, Plain, R1200, R2400, CellPlan, SetOneFrame, at_of}
 use Rattle.clean_link.specs.Common.{Event, Frame}
 use Rattle.clean_link.specs.HeardFrames.{frames_sent}
 use Rattle.clean_frames.specs.SentFrames.{sent_bits, sent_power_bits}
 use Rattle.clean_signal.specs.WorkedCells.{cell_of_frames}
 
 -- two frames, whose power control bits tell a handset to raise its power, and to lower it
-slow : TrafficFrame
+slow : SetOneFrame
 slow = record {
   rate = R1200;
   information = replicate 16 true;
   power_bits = replicate 16 false;
 }
 
-faster : TrafficFrame
+faster : SetOneFrame
 faster = record {
   rate = R2400;
   information = replicate 40 true;

@@ -5,7 +5,7 @@ use Rattle.std.specs.Prelude.{None, Option, Some}
 use Rattle.std.specs.List.{Contains}
 use Rattle.clean_link.specs.Common.{superframe_chips, Width, Decoded, IsFreeOf, made_samples}
 use Rattle.clean_link.specs.Common.{frames_of, cycled_frame, CellPlan, PagingPlan, TrafficPlan}
-use Rattle.clean_link.specs.Common.{TrafficFrame, events, frame_event, Tuning, Event, Frame, Paging}
+use Rattle.clean_link.specs.Common.{SetOneFrame, events, frame_event, Tuning, Event, Frame, Paging}
 use Rattle.clean_link.specs.Common.{Sync, Traffic, IsReceivable, Sample, SyncPlan}
 use Rattle.heard_events.specs.declared.event.Event.TheVariants.{Traffic as OnTraffic}
 use Rattle.clean_link.specs.CleanLink.{IsNotDirected, IsOnPath, sync_sent}
@@ -41,7 +41,7 @@ is_message event = false
 -- The event of frame `frame` of a channel, which is this one: it has the frame's end and the power
 -- control bits that were sent, and where the frame is distinct, its rate and its information bits,
 -- as a good frame.
-pub record IsSentFrame (plan : CellPlan) (p : TrafficPlan) (frame : ℕ) (f : TrafficFrame)
+pub record IsSentFrame (plan : CellPlan) (p : TrafficPlan) (frame : ℕ) (f : SetOneFrame)
     (event : Event) : Type 0 where
   pub decoded : Decoded
   pub powered : event ≡ frame_event (frame_ends plan p frame) decoded (sent_power_bits f)
@@ -50,7 +50,7 @@ pub record IsSentFrame (plan : CellPlan) (p : TrafficPlan) (frame : ℕ) (f : Tr
 
 -- the one that is sent at a number has this event
 abbrev pub IsEventOf : CellPlan → TrafficPlan → ℕ → Event → Type 0
-IsEventOf plan p frame event = (f : TrafficFrame)
+IsEventOf plan p frame event = (f : SetOneFrame)
     × (cycled_frame (frames_of plan p) frame ≡ f ∷ []) × IsSentFrame plan p frame f event
 
 -- One event for each frame of a channel that begins at the mark, so many superframes after local

@@ -2,7 +2,7 @@
 -- handset hears them (TIA/EIA-95-B, 7.1.3.5).
 use Rattle.std.specs.Prelude.{ℕ, ◌≡◌, ◌==◌, true, if◌then◌else◌, List, [], ◌∷◌, map}
 use Rattle.std.specs.List.{flat_map}
-use Rattle.clean_link.specs.Common.{frames_of, cycled_frame, CellPlan, TrafficPlan, TrafficFrame}
+use Rattle.clean_link.specs.Common.{frames_of, cycled_frame, CellPlan, TrafficPlan, SetOneFrame}
 use Rattle.clean_link.specs.Common.{Finger, Event, Frame, Leg, Traffic, capsule_with}
 use Rattle.clean_link.specs.Common.{message_events, signal_in}
 use Rattle.clean_frames.specs.SentFrames.{sent_power_bits, received_frames, frame_ends, signal_sent}
@@ -18,7 +18,7 @@ pub record IsOnePilot (traffic : Traffic) (legs : List Leg) : Type 0 where
 -- ---- what is told of the frames of a channel
 
 -- what a handset tells of a frame that ends at so many samples
-abbrev pub sent_frame_event : ℕ → TrafficFrame → Event
+abbrev pub sent_frame_event : ℕ → SetOneFrame → Event
 sent_frame_event n f = Frame n f.rate true f.information (sent_power_bits f)
 
 -- what it tells of the one that is sent as frame `frame`
@@ -48,7 +48,7 @@ frames_sent plan row mark_chip =
 abbrev pub message_told : CellPlan → TrafficPlan → ℕ → ℕ → List Event
 message_told plan p mark_chip frame =
     flat_map
-    (λ (f : TrafficFrame). message_events (frame_ends plan p frame)
+    (λ (f : SetOneFrame). message_events (frame_ends plan p frame)
     (signal_in plan.cell.check16
     (capsule_with (signals_received plan p mark_chip frame) (signal_sent f))))
     (cycled_frame (frames_of plan p) frame)

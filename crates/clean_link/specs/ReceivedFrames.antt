@@ -3,7 +3,7 @@
 use Rattle.std.specs.Prelude.{ℕ, ◌*◌, ◌≡◌, true, Bool, List, map, ℤ, pos, Some}
 use Rattle.clean_link.specs.Common.{superframe_chips, kept_count, Data, good_frame2, decoded2}
 use Rattle.clean_link.specs.Common.{Decoded2, set_two, FrameCycle, CellPlan, TrafficPlan}
-use Rattle.clean_link.specs.Common.{TrafficFrame2, SoftFrame}
+use Rattle.clean_link.specs.Common.{SetTwoFrame, SoftFrame}
 use Rattle.rate_set_two.specs.Laws.{IsUnshared2}
 use Rattle.rate_set_two.specs.TrafficFrames.{frame_symbols2, frame_codeword2}
 use Rattle.cell_plan.specs.TrafficFrames.{frames_in_turn}
@@ -34,26 +34,26 @@ IsReceivedAs plan p frame symbols power_bits soft = IsReceived plan p frame powe
 -- ---- frames of rate set 2
 
 -- the one that is sent as frame k
-abbrev pub cycled_frame2 : FrameCycle → ℕ → List TrafficFrame2
+abbrev pub cycled_frame2 : FrameCycle → ℕ → List SetTwoFrame
 cycled_frame2 c k = frames_in_turn (set_two c.frames) k
 
 -- the 384 symbols of a frame before scrambling, in the order in which they are sent
-abbrev pub codeword_symbols2 : TrafficFrame2 → List Bool
+abbrev pub codeword_symbols2 : SetTwoFrame → List Bool
 codeword_symbols2 f = frame_symbols2 f.rate (frame_codeword2 f.rate f.information)
 
 -- A frame whose symbols at the places that no power control bit replaces are those of no other
 -- codeword, at none of the four rates, whether that codeword's quality bits are right or not.
-abbrev pub IsDistinctFrame2 : List ℕ → TrafficFrame2 → Type 0
+abbrev pub IsDistinctFrame2 : List ℕ → SetTwoFrame → Type 0
 IsDistinctFrame2 replaced f = IsUnshared2 replaced f.rate (frame_codeword2 f.rate f.information)
 
 -- what is decoded of a frame that comes back, which is sent as frame `frame`
-abbrev pub sent_decoded2 : CellPlan → TrafficPlan → ℕ → TrafficFrame2 → Decoded2
+abbrev pub sent_decoded2 : CellPlan → TrafficPlan → ℕ → SetTwoFrame → Decoded2
 sent_decoded2 plan p frame f = good_frame2 f.rate f.information
     (pos (soft_strength plan Data p.gain * kept_count (replaced_of plan p frame)))
 
 -- What is received of frame `frame`, which is this one: where it is distinct, its rate and its
 -- information bits are decoded of it, as a good frame.
-pub record IsSentFrame2 (plan : CellPlan) (p : TrafficPlan) (frame : ℕ) (f : TrafficFrame2)
+pub record IsSentFrame2 (plan : CellPlan) (p : TrafficPlan) (frame : ℕ) (f : SetTwoFrame)
     (soft : SoftFrame) : Type 0 where
   pub received : IsReceivedAs plan p frame (codeword_symbols2 f) f.power_bits soft
   pub decoded : IsDistinctFrame2 (replaced_of plan p frame) f →

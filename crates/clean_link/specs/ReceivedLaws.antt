@@ -3,8 +3,8 @@
 use Rattle.std.specs.Prelude.{ℕ, ◌+◌, ◌-◌, ◌*◌, ◌≡◌, true, Bool, List, [], ◌∷◌, length, map, Some}
 use Rattle.std.specs.Prelude.{ℤ}
 use Rattle.std.specs.List.{Contains}
-use Rattle.clean_link.specs.Common.{IsTrafficFrame2, TrafficFrame2, frame_codeword, traffic_channel}
-use Rattle.clean_link.specs.Common.{IsTrafficFrame, TrafficFrame, Width, cycled_frame, made_samples}
+use Rattle.clean_link.specs.Common.{IsSetTwoFrame, SetTwoFrame, frame_codeword, traffic_channel}
+use Rattle.clean_link.specs.Common.{IsSetOneFrame, SetOneFrame, Width, cycled_frame, made_samples}
 use Rattle.clean_link.specs.Common.{IsReceivable, TrafficPlan, good_frame2, soft_frame, soft_frames}
 use Rattle.clean_link.specs.Common.{CellPlan, Decoded2, SoftFrame, SyncPlan, decoded2, frames_of}
 use Rattle.clean_link.specs.Common.{Data, Mark, Sample, Traffic, Tuning, mark, raw_at}
@@ -25,12 +25,12 @@ use Rattle.rate_set_two.specs.TrafficFrames as second
 
 -- a frame of rate set 1 sends the symbols of its codeword, and so does one of rate set 2
 abbrev pub SetOneSends : Type 0
-SetOneSends = (plan : CellPlan) (p : TrafficPlan) (frame : ℕ) (f : TrafficFrame) →
+SetOneSends = (plan : CellPlan) (p : TrafficPlan) (frame : ℕ) (f : SetOneFrame) →
     cycled_frame (frames_of plan p) frame ≡ f ∷ [] →
     SendsSymbols plan p frame (codeword_symbols f) f.power_bits
 
 abbrev pub SetTwoSends : Type 0
-SetTwoSends = (plan : CellPlan) (p : TrafficPlan) (frame : ℕ) (f : TrafficFrame2) →
+SetTwoSends = (plan : CellPlan) (p : TrafficPlan) (frame : ℕ) (f : SetTwoFrame) →
     cycled_frame2 (frames_of plan p) frame ≡ f ∷ [] →
     SendsSymbols plan p frame (codeword_symbols2 f) f.power_bits
 
@@ -69,8 +69,8 @@ FramesShowPowerBits = (width : Width) (plan : CellPlan) (p : TrafficPlan) (t : T
 
 -- So a distinct frame of rate set 2 is decoded with its rate and its information bits, and is good.
 abbrev pub SetTwoFramesComeBack : Type 0
-SetTwoFramesComeBack = (plan : CellPlan) (p : TrafficPlan) (frame : ℕ) (f : TrafficFrame2)
-    (soft : SoftFrame) → IsTrafficFrame2 f →
+SetTwoFramesComeBack = (plan : CellPlan) (p : TrafficPlan) (frame : ℕ) (f : SetTwoFrame)
+    (soft : SoftFrame) → IsSetTwoFrame f →
     IsReceivedAs plan p frame (codeword_symbols2 f) f.power_bits soft →
     IsSentFrame2 plan p frame f soft
 
@@ -96,7 +96,7 @@ SetTwoBehindMark = (width : Width) (plan : CellPlan) (p : TrafficPlan) (t : Tuni
     IsReceivable width plan → IsOnPath plan t → Contains plan.traffic p → IsAssigned p traffic →
     SendsSetTwo p → mark t (made_samples plan) (length (made_samples plan)) ≡ Some m →
     AreReceived plan p
-    (λ frame soft. (f : TrafficFrame2) × (cycled_frame2 (frames_of plan p) frame ≡ f ∷ [])
+    (λ frame soft. (f : SetTwoFrame) × (cycled_frame2 (frames_of plan p) frame ≡ f ∷ [])
     × IsSentFrame2 plan p frame f soft)
     (soft_frames t (traffic_channel traffic) m (made_samples plan))
 
@@ -125,8 +125,8 @@ NoisyFramesAreReceived = HoldsOfBearing (λ plan p t traffic m superframes sampl
 -- So of all codewords of every rate the one that a distinct frame of rate set 1 sends alone has the
 -- greatest score,
 abbrev pub NoisyReceivedAreTheOnlyBest : Type 0
-NoisyReceivedAreTheOnlyBest = (plan : CellPlan) (p : TrafficPlan) (frame : ℕ) (f : TrafficFrame)
-    (soft : SoftFrame) → IsTrafficFrame f →
+NoisyReceivedAreTheOnlyBest = (plan : CellPlan) (p : TrafficPlan) (frame : ℕ) (f : SetOneFrame)
+    (soft : SoftFrame) → IsSetOneFrame f →
     IsReceivedBySigns plan p frame (codeword_symbols f) f.power_bits soft →
     IsDistinctFrame (replaced_of plan p frame) f →
     IsOnlyBestFrame (replaced_of plan p frame) soft.descrambled f.rate
@@ -136,8 +136,8 @@ NoisyReceivedAreTheOnlyBest = (plan : CellPlan) (p : TrafficPlan) (frame : ℕ) 
 
 -- and so has the one that a distinct frame of rate set 2 sends.
 abbrev pub NoisySetTwoAreTheOnlyBest : Type 0
-NoisySetTwoAreTheOnlyBest = (plan : CellPlan) (p : TrafficPlan) (frame : ℕ) (f : TrafficFrame2)
-    (soft : SoftFrame) → IsTrafficFrame2 f →
+NoisySetTwoAreTheOnlyBest = (plan : CellPlan) (p : TrafficPlan) (frame : ℕ) (f : SetTwoFrame)
+    (soft : SoftFrame) → IsSetTwoFrame f →
     IsReceivedBySigns plan p frame (codeword_symbols2 f) f.power_bits soft →
     IsDistinctFrame2 (replaced_of plan p frame) f →
     IsOnlyBestFrame2 (replaced_of plan p frame) soft.descrambled f.rate
@@ -145,21 +145,21 @@ NoisySetTwoAreTheOnlyBest = (plan : CellPlan) (p : TrafficPlan) (frame : ℕ) (f
 
 -- What is decoded of a frame that comes back: its rate and its information bits, as a good frame,
 -- with any score.
-pub record IsDecodedAs2 (f : TrafficFrame2) (decoded : Decoded2) : Type 0 where
+pub record IsDecodedAs2 (f : SetTwoFrame) (decoded : Decoded2) : Type 0 where
   pub score : ℤ
   pub same : decoded ≡ good_frame2 f.rate f.information score
 
 -- What is received of frame `frame`, which is this one: where it is distinct, it is decoded so.
 pub record IsSentFrame2BySigns (plan : CellPlan) (p : TrafficPlan) (frame : ℕ)
-    (f : TrafficFrame2) (soft : SoftFrame) : Type 0 where
+    (f : SetTwoFrame) (soft : SoftFrame) : Type 0 where
   pub received : IsReceivedBySigns plan p frame (codeword_symbols2 f) f.power_bits soft
   pub decoded : IsDistinctFrame2 (replaced_of plan p frame) f →
       IsDecodedAs2 f (decoded2 (replaced_of plan p frame) soft.descrambled)
 
 -- A frame of rate set 2 that is received by the signs of its symbols comes back.
 abbrev pub NoisySetTwoFramesComeBack : Type 0
-NoisySetTwoFramesComeBack = (plan : CellPlan) (p : TrafficPlan) (frame : ℕ) (f : TrafficFrame2)
-    (soft : SoftFrame) → IsTrafficFrame2 f →
+NoisySetTwoFramesComeBack = (plan : CellPlan) (p : TrafficPlan) (frame : ℕ) (f : SetTwoFrame)
+    (soft : SoftFrame) → IsSetTwoFrame f →
     IsReceivedBySigns plan p frame (codeword_symbols2 f) f.power_bits soft →
     IsSentFrame2BySigns plan p frame f soft
 
@@ -187,5 +187,5 @@ NoisyFramesBehindMark = HoldsBehindMark (λ plan p frames.
 abbrev pub NoisySetTwoBehindMark : Type 0
 NoisySetTwoBehindMark = HoldsBehindMark (λ plan p frames. SendsSetTwo p →
     AreReceived plan p
-    (λ frame soft. (f : TrafficFrame2) × (cycled_frame2 (frames_of plan p) frame ≡ f ∷ [])
+    (λ frame soft. (f : SetTwoFrame) × (cycled_frame2 (frames_of plan p) frame ≡ f ∷ [])
     × IsSentFrame2BySigns plan p frame f soft) frames)

@@ -7,7 +7,7 @@ use Rattle.clean_link.specs.Common.{front_capsule, is_stated, capsule_ending, ch
 use Rattle.clean_link.specs.Common.{R9600, Message, traffic_message_body, traffic_capsule, split}
 use Rattle.clean_link.specs.Common.{split_9600, traffic_body_reading, head_at, head_of}
 use Rattle.clean_link.specs.Common.{is_traffic_body, part_reading, spelling, traffic_reading, Other}
-use Rattle.clean_link.specs.Common.{CellPlan, TrafficFrame}
+use Rattle.clean_link.specs.Common.{CellPlan, SetOneFrame}
 use Rattle.heard_events.specs.declared.event.Event.TheVariants.{Traffic}
 use Rattle.clean_link.specs.HeardFrames.{messages_sent}
 use Rattle.clean_signal.specs.WorkedCells.{cell_of_frames}
@@ -24,7 +24,7 @@ spelled = traffic_capsule Complemented message
 
 -- a frame with 80 bits of primary traffic and 88 of signaling, of which the first tells whether a
 -- message begins there
-signaling : Bool → List Bool → TrafficFrame
+signaling : Bool → List Bool → SetOneFrame
 signaling starts part = record {
   rate = R9600;
   information = true ∷ replicate 83 false ++ starts ∷ part;
@@ -32,11 +32,11 @@ signaling starts part = record {
 }
 
 -- a frame without any
-slow : TrafficFrame
+slow : SetOneFrame
 slow = record { rate = R1200; information = replicate 16 true; power_bits = [] }
 
 -- the frames of a channel: the last part of the message comes with frame 32, the first one with 33
-frames : List TrafficFrame
+frames : List SetOneFrame
 frames =
     signaling true (take 87 spelled)
     ∷ slow

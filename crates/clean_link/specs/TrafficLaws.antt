@@ -5,12 +5,12 @@ use Rattle.std.specs.Prelude.{pos, All, ℤ, ◌<ℤ◌, ◌/◌, Bool, false, g
 use Rattle.std.specs.List.{Contains, flat_map}
 use Rattle.clean_link.specs.Common.{places, Sample, Width, kept_count, ShowSymbols, Data}
 use Rattle.clean_link.specs.Common.{made_samples, frames_of, cycled_frame, CellPlan, TrafficPlan}
-use Rattle.clean_link.specs.Common.{TrafficFrame, frames_at, legs_at, messages_at, frame_softs}
+use Rattle.clean_link.specs.Common.{SetOneFrame, frames_at, legs_at, messages_at, frame_softs}
 use Rattle.clean_link.specs.Common.{power_bits_at, decoded_at, frame_heard, raw_softs, has_frame}
 use Rattle.clean_link.specs.Common.{replaced_in, stream_of, Tuning, Leg, Mark, Traffic}
 use Rattle.clean_link.specs.Common.{IsReceivable, Decoded, Rate, Rate2, IsAllowed, Codeword, Zero}
 use Rattle.clean_link.specs.Common.{frame_codeword, unreplaced, FrameFormat, bits_in, format_of}
-use Rattle.clean_link.specs.Common.{score_in, IsTrafficFrame, IsTrafficFrame2, TrafficFrame2}
+use Rattle.clean_link.specs.Common.{score_in, IsSetOneFrame, IsSetTwoFrame, SetTwoFrame}
 use Rattle.clean_link.specs.Common.{SoftFrame, HasSign, KeepSigns, is_replaced}
 use Rattle.clean_link.specs.CleanLink.{IsNotDirected, IsOnPath, IsTrueMark}
 use Rattle.clean_signal.specs.Signals.{soft_strength}
@@ -35,7 +35,7 @@ pub record HearsSentTraffic (width : Width) (plan : CellPlan) (p : TrafficPlan) 
 -- one, which the channel sends k frames after the first that begins at the mark's superframe or
 -- later: each superframe has four.
 pub record IsHeardAs (plan : CellPlan) (p : TrafficPlan) (t : Tuning) (traffic : Traffic)
-    (m : Mark) (legs : ℕ → List Leg) (superframes k : ℕ) (f : TrafficFrame) : Type 0 where
+    (m : Mark) (legs : ℕ → List Leg) (superframes k : ℕ) (f : SetOneFrame) : Type 0 where
   pub pilot : IsOnePilot traffic (legs k)
   pub here : has_frame t traffic m legs k ≡ true
   pub frame : cycled_frame (frames_of plan p) (4 * superframes + k) ≡ f ∷ []
@@ -57,9 +57,9 @@ OnePilotIsHeard = (t : Tuning) (traffic : Traffic) (m : Mark) (samples : List Sa
 
 -- Something holds of each frame of a clean link that is heard so.
 abbrev pub HoldsOfCleanFrames : (CellPlan → TrafficPlan → Tuning → Traffic → Mark →
-    (ℕ → List Leg) → ℕ → TrafficFrame → Type 0) → Type 0
+    (ℕ → List Leg) → ℕ → SetOneFrame → Type 0) → Type 0
 HoldsOfCleanFrames P = (width : Width) (plan : CellPlan) (p : TrafficPlan) (t : Tuning)
-    (traffic : Traffic) (m : Mark) (legs : ℕ → List Leg) (superframes k : ℕ) (f : TrafficFrame) →
+    (traffic : Traffic) (m : Mark) (legs : ℕ → List Leg) (superframes k : ℕ) (f : SetOneFrame) →
     HearsSentTraffic width plan p t traffic m superframes →
     IsHeardAs plan p t traffic m legs superframes k f → P plan p t traffic m legs k f
 
@@ -96,7 +96,7 @@ TrafficFramesComeBack = HoldsOfCleanFrames (λ plan p t traffic m legs k f.
 -- a list of 16 power control bits is sent as it is
 abbrev pub SixteenPowerBitsAreSent : Type 0
 SixteenPowerBitsAreSent =
-    (f : TrafficFrame) → length f.power_bits ≡ 16 → sent_power_bits f ≡ f.power_bits
+    (f : SetOneFrame) → length f.power_bits ≡ 16 → sent_power_bits f ≡ f.power_bits
 
 -- ---- in a file
 
@@ -149,7 +149,7 @@ NoneIsDirected = (width : Width) (plan : CellPlan) (p : TrafficPlan) (t : Tuning
 
 -- A frame is decoded as it was sent: with its rate and its information bits, and as a good frame,
 -- whatever its score is.
-pub record IsDecodedAs (f : TrafficFrame) (decoded : Decoded) : Type 0 where
+pub record IsDecodedAs (f : SetOneFrame) (decoded : Decoded) : Type 0 where
   pub score : ℤ
   pub same : decoded ≡ record {
     rate = f.rate;
@@ -164,11 +164,11 @@ pub record IsDecodedAs (f : TrafficFrame) (decoded : Decoded) : Type 0 where
 pub record ShowsTraffic (plan : CellPlan) (p : TrafficPlan) (t : Tuning) (traffic : Traffic)
     (m : Mark) (superframes : ℕ) (samples : List Sample) : Type 0 where
   pub long : length samples ≡ plan.link.samples
-  pub decoded : (legs : ℕ → List Leg) (k : ℕ) (f : TrafficFrame) →
+  pub decoded : (legs : ℕ → List Leg) (k : ℕ) (f : SetOneFrame) →
       IsHeardAs plan p t traffic m legs superframes k f →
       IsDistinctFrame (replaced_in traffic m k) f →
       IsDecodedAs f (decoded_at t traffic m legs samples k)
-  pub power_bits : (legs : ℕ → List Leg) (k : ℕ) (f : TrafficFrame) →
+  pub power_bits : (legs : ℕ → List Leg) (k : ℕ) (f : SetOneFrame) →
       IsHeardAs plan p t traffic m legs superframes k f →
       power_bits_at t traffic m legs samples k ≡ sent_power_bits f
 
@@ -204,8 +204,8 @@ HeardAreTheOnlyBest = HoldsOfCleanFrames (λ plan p t traffic m legs k f.
 
 -- and of one that is received of the reference base station alone.
 abbrev pub ReceivedAreTheOnlyBest : Type 0
-ReceivedAreTheOnlyBest = (plan : CellPlan) (p : TrafficPlan) (frame : ℕ) (f : TrafficFrame)
-    (soft : SoftFrame) → IsTrafficFrame f →
+ReceivedAreTheOnlyBest = (plan : CellPlan) (p : TrafficPlan) (frame : ℕ) (f : SetOneFrame)
+    (soft : SoftFrame) → IsSetOneFrame f →
     IsReceivedAs plan p frame (codeword_symbols f) f.power_bits soft →
     IsDistinctFrame (replaced_of plan p frame) f →
     IsOnlyBestFrame (replaced_of plan p frame) soft.descrambled f.rate
@@ -215,8 +215,8 @@ ReceivedAreTheOnlyBest = (plan : CellPlan) (p : TrafficPlan) (frame : ℕ) (f : 
 
 -- so it is of a distinct frame of that set
 abbrev pub SetTwoAreTheOnlyBest : Type 0
-SetTwoAreTheOnlyBest = (plan : CellPlan) (p : TrafficPlan) (frame : ℕ) (f : TrafficFrame2)
-    (soft : SoftFrame) → IsTrafficFrame2 f →
+SetTwoAreTheOnlyBest = (plan : CellPlan) (p : TrafficPlan) (frame : ℕ) (f : SetTwoFrame)
+    (soft : SoftFrame) → IsSetTwoFrame f →
     IsReceivedAs plan p frame (codeword_symbols2 f) f.power_bits soft →
     IsDistinctFrame2 (replaced_of plan p frame) f →
     IsOnlyBestFrame2 (replaced_of plan p frame) soft.descrambled f.rate
@@ -245,10 +245,10 @@ pub record NoisyFrame (replaced : List ℕ) (symbols : List Bool) (softs : List 
 
 -- Something holds of each such frame of a channel that bears the noise, whatever messages are
 -- heard.
-abbrev pub HoldsOfHeardFrames : (Tuning → Traffic → Mark → (ℕ → List Leg) → ℕ → TrafficFrame →
+abbrev pub HoldsOfHeardFrames : (Tuning → Traffic → Mark → (ℕ → List Leg) → ℕ → SetOneFrame →
     List Sample → Type 0) → Type 0
 HoldsOfHeardFrames P = (width : Width) (plan : CellPlan) (p : TrafficPlan) (t : Tuning)
-    (traffic : Traffic) (m : Mark) (legs : ℕ → List Leg) (superframes k e : ℕ) (f : TrafficFrame)
+    (traffic : Traffic) (m : Mark) (legs : ℕ → List Leg) (superframes k e : ℕ) (f : SetOneFrame)
     (samples : List Sample) →
     HearsSentTraffic width plan p t traffic m superframes →
     IsHeardAs plan p t traffic m legs superframes k f → IsNear e samples (made_samples plan) →

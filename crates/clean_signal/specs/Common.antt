@@ -6,14 +6,14 @@ pub use Rattle.cell_plan.specs.Sampled.{made_samples}
 pub use Rattle.cell_plan.specs.Sendings.{continued_symbols, bits_before}
 pub use Rattle.cell_plan.specs.Signal.{Carrier, carriers, level, scaled}
 pub use Rattle.cell_plan.specs.Stated.{IsReceivable}
+pub use Rattle.cell_plan.specs.TrafficFrames.{SetOneFrame, planned}
 pub use Rattle.cell_plan.specs.Transmitter.{phase_at}
-pub use Rattle.cell_plan.specs.declared.frame_list.FrameList.TheVariants.{SetOne}
+pub use Rattle.cell_plan.specs.declared.traffic_frame.FrameRate.TheVariants.{SetOne}
 pub use Rattle.cell_plan.specs.declared.plan.CellPlan.{CellPlan}
 pub use Rattle.cell_plan.specs.declared.plan.LinkPlan.{LinkPlan}
 pub use Rattle.cell_plan.specs.declared.plan.PagingPlan.{PagingPlan}
 pub use Rattle.cell_plan.specs.declared.plan.SyncPlan.{SyncPlan}
 pub use Rattle.cell_plan.specs.declared.plan.TrafficPlan.{TrafficPlan}
-pub use Rattle.cell_plan.specs.declared.traffic_frame.TrafficFrame.{TrafficFrame}
 pub use Rattle.chip_core.specs.Bits.{xor, zip_with}
 unfoldable pub use Rattle.chip_core.specs.Bits.{places}
 pub use Rattle.chip_core.specs.Complex.{norm}

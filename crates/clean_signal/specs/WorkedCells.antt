@@ -1,7 +1,7 @@
 -- Cells of which values are worked out.
-use Rattle.std.specs.Prelude.{ℕ, ◌^◌, pos, negsuc, List, [], ◌∷◌, Option, None}
+use Rattle.std.specs.Prelude.{ℕ, ◌^◌, pos, negsuc, List, [], ◌∷◌, map, Option, None}
 use Rattle.clean_signal.specs.Common.{CheckForm, Plain, SetOne, CellPlan, PagingPlan, SyncPlan}
-use Rattle.clean_signal.specs.Common.{TrafficPlan, TrafficFrame}
+use Rattle.clean_signal.specs.Common.{TrafficPlan, SetOneFrame, planned}
 
 -- so much of a cell, from a local chip on, with these channels, and this form of checks of 16 bits
 abbrev pub cell_with : ℕ → ℕ → CheckForm → Option SyncPlan → List PagingPlan → List TrafficPlan →
@@ -16,11 +16,11 @@ cell_with start samples check16 sync paging traffic = record {
 }
 
 -- one with a traffic channel alone, on row 9, 3,072 chips after the system's frames
-abbrev pub cell_of_frames : ℕ → ℕ → CheckForm → List TrafficFrame → CellPlan
+abbrev pub cell_of_frames : ℕ → ℕ → CheckForm → List SetOneFrame → CellPlan
 cell_of_frames start samples check16 frames = cell_with start samples check16 None [] (record {
   row = 9;
   esn = 2882343476;
   offset = 2;
   gain = 40;
-  frames = SetOne frames;
+  frames = map (planned SetOne) frames;
 } ∷ [])

@@ -24,21 +24,22 @@ pub use Rattle.command_line.specs.Args.{IsFingers}
 pub use Rattle.command_line.specs.declared.job.Job.{Job}
 pub use Rattle.cell_plan.proofs.Amplitudes.{chip_fits, signal_of_carriers}
 pub use Rattle.cell_plan.proofs.Pieces.{no_sample}
+pub use Rattle.cell_plan.proofs.TrafficFrames.{one_in_turn}
 pub use Rattle.cell_plan.specs.Plan.{IsLawfulPlan, loudness, most_part}
 unfoldable pub use Rattle.cell_plan.specs.Sampled.{made_samples}
 pub use Rattle.cell_plan.specs.Signal.{amplitudes, carriers, frames_of, scaled}
 pub use Rattle.cell_plan.specs.Stated.{IsReceivable}
-pub use Rattle.cell_plan.specs.TrafficFrames.{IsTrafficFrame, cycled_frame, sent_frame_state, set_one}
+pub use Rattle.cell_plan.specs.TrafficFrames.{IsSetOneFrame, cycled_frame, sent_frame_state, set_one}
+pub use Rattle.cell_plan.specs.TrafficFrames.{IsTrafficFrame, SetOneFrame, SetTwoFrame, planned}
 pub use Rattle.cell_plan.specs.Transmitter.{header_of, phase_at, version_of}
 pub use Rattle.cell_plan.specs.declared.plan.CellPlan.{CellPlan}
 pub use Rattle.cell_plan.specs.declared.plan.PagingPlan.{PagingPlan}
 pub use Rattle.cell_plan.specs.declared.plan.TrafficPlan.{TrafficPlan}
-pub use Rattle.cell_plan.specs.declared.traffic_frame.TrafficFrame.{TrafficFrame}
-pub use Rattle.cell_plan.specs.declared.traffic_frame2.TrafficFrame2.{TrafficFrame2}
 pub use Rattle.cell_script.proofs.NamedPages.{named_receivable}
 pub use Rattle.cell_script.proofs.NamedPlans.{named_plan}
 unfoldable pub use Rattle.cell_script.specs.Script.{plan_named}
 pub use Rattle.cell_script.specs.declared.script_fault.ScriptFault.{ScriptFault}
+pub use Rattle.cell_plan.specs.declared.traffic_frame.FrameRate.TheVariants.{SetOne}
 pub use Rattle.chip_core.proofs.Greatest.{first_greatest-is}
 pub use Rattle.chip_core.proofs.Places.{get_or-map-places, length-map-places}
 pub use Rattle.chip_core.proofs.Ranges.{flat_map_ext_filter}

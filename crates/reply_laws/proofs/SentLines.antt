@@ -1,8 +1,9 @@
 -- The lines of a traffic channel's frames come back.
 use Rattle.reply_laws.proofs.Common.{◌≡◌, ◌≤◌, ℕ, ◌*◌, ◌%◌, refl, sym, ap, ◌∙◌, subst, arith, List, [], ◌∷◌, length, take, Bool, Option, ℤ}
 use Rattle.reply_laws.proofs.Common.{None, Some, Contains, flat_map, flat_map-map, CheckForm, Sample, Width, traffic_mask, decoded2}
-use Rattle.reply_laws.proofs.Common.{frames_of, cycled_frame, sent_frame_state, set_one, HandsetOptions, Header, IsTrafficFrame, CellPlan}
-use Rattle.reply_laws.proofs.Common.{TrafficPlan, TrafficFrame, TrafficFrame2, event_line, frame2_line, traffic_channel, mark, soft_frames}
+use Rattle.reply_laws.proofs.Common.{IsTrafficFrame, SetOne, planned, one_in_turn}
+use Rattle.reply_laws.proofs.Common.{frames_of, cycled_frame, sent_frame_state, set_one, HandsetOptions, Header, IsSetOneFrame, CellPlan}
+use Rattle.reply_laws.proofs.Common.{TrafficPlan, SetOneFrame, SetTwoFrame, event_line, frame2_line, traffic_channel, mark, soft_frames}
 use Rattle.reply_laws.proofs.Common.{frame_event, Tuning, Mark, Traffic, SoftFrame, IsReceivable, frame_ends, received_frames, replaced_of}
 use Rattle.reply_laws.proofs.Common.{sent_bits, sent_power_bits, codeword_symbols, IsAssigned, SendsSetOne, SendsSetTwo, SendsSymbols}
 use Rattle.reply_laws.proofs.Common.{cycled_frame2, AreReceived, told_with_sync, power_pairs, one_taken, one_there, Decoded, lawful_traffic}
@@ -111,15 +112,15 @@ of_cell form Sends Is borne width script plan p span options traffic header samp
 
 -- one of them is sent at each number
 frame_there : (width : Width) (plan : CellPlan) (p : TrafficPlan) (frame : ℕ) →
-    IsReceivable width plan → Contains plan.traffic p → SendsSetOne p → (f : TrafficFrame)
-    × (cycled_frame (frames_of plan p) frame ≡ f ∷ []) × IsTrafficFrame f
+    IsReceivable width plan → Contains plan.traffic p → SendsSetOne p → (f : SetOneFrame)
+    × (cycled_frame (frames_of plan p) frame ≡ f ∷ []) × IsSetOneFrame f
 frame_there width plan p frame is has some =
     let frames = set_one p.frames in
     let (f, here) = one_there frames (frame % length frames) (omega (arith, some)) in (
       f,
       here,
-      one_taken IsTrafficFrame frames (frame % length frames) f
-          (lawful_traffic width plan p is.lawful has).sized.one here,
+      one_taken IsTrafficFrame p.frames (frame % length p.frames) (planned SetOne f)
+          (lawful_traffic width plan p is.lawful has).sized (one_in_turn p.frames frame f here),
     )
 
 -- what it shows by its signs is shown of whatever is sent
@@ -139,8 +140,8 @@ abbrev pub listed_of : ℕ → SoftFrame → List ℕ
 listed_of k soft = listed_text k soft.end soft.descrambled soft.power
 
 -- the line of one that comes back
-listed_back : (k : ℕ) → 1 ≤ k → (plan : CellPlan) (p : TrafficPlan) (frame : ℕ) (f : TrafficFrame)
-    (soft : SoftFrame) → IsTrafficFrame f →
+listed_back : (k : ℕ) → 1 ≤ k → (plan : CellPlan) (p : TrafficPlan) (frame : ℕ) (f : SetOneFrame)
+    (soft : SoftFrame) → IsSetOneFrame f →
     IsReceivedBySigns plan p frame (codeword_symbols f) f.power_bits soft →
     IsSentLine plan p frame f (listed_of k soft)
 listed_back k most plan p frame f soft sized received =
@@ -179,7 +180,7 @@ listed_line k most width plan p frame soft is has some shows =
 
 -- what is received of one
 abbrev IsSent2 : CellPlan → TrafficPlan → ℕ → SoftFrame → Type 0
-IsSent2 plan p frame soft = (f : TrafficFrame2)
+IsSent2 plan p frame soft = (f : SetTwoFrame)
     × (cycled_frame2 (frames_of plan p) frame ≡ f ∷ []) × IsSentFrame2BySigns plan p frame f soft
 
 -- what is written of a frame
@@ -187,14 +188,14 @@ abbrev rate2_of : SoftFrame → List ℕ
 rate2_of soft = rate2_text soft.end soft.descrambled soft.power
 
 -- the line of what is decoded has no score
-of_any_score : (place : ℕ) (f : TrafficFrame2) (score other : ℤ) (power_bits : List Bool) →
+of_any_score : (place : ℕ) (f : SetTwoFrame) (score other : ℤ) (power_bits : List Bool) →
     frame2_line place (good_frame2 f.rate f.information score) power_bits
     ≡ frame2_line place (good_frame2 f.rate f.information other) power_bits
 unfolding frame2_line
 of_any_score place f score other power_bits = refl
 
 -- the line of one that comes back
-line_back : (plan : CellPlan) (p : TrafficPlan) (frame : ℕ) (f : TrafficFrame2)
+line_back : (plan : CellPlan) (p : TrafficPlan) (frame : ℕ) (f : SetTwoFrame)
     (soft : SoftFrame) → IsSentFrame2BySigns plan p frame f soft →
     IsSentLine2 plan p frame f (rate2_of soft)
 line_back plan p frame f soft sent =

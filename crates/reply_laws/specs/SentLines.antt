@@ -9,11 +9,9 @@ use Rattle.chip_core.specs.declared.width.Width.{Width}
 use Rattle.frame_decoder.specs.declared.traffic.Decoded.{Decoded}
 use Rattle.rate_set_two.specs.declared.traffic.Decoded2.{Decoded2}
 use Rattle.cell_plan.specs.Signal.{frames_of}
-use Rattle.cell_plan.specs.TrafficFrames.{cycled_frame}
+use Rattle.cell_plan.specs.TrafficFrames.{SetOneFrame, SetTwoFrame, cycled_frame}
 use Rattle.cell_plan.specs.declared.plan.CellPlan.{CellPlan}
 use Rattle.cell_plan.specs.declared.plan.TrafficPlan.{TrafficPlan}
-use Rattle.cell_plan.specs.declared.traffic_frame.TrafficFrame.{TrafficFrame}
-use Rattle.cell_plan.specs.declared.traffic_frame2.TrafficFrame2.{TrafficFrame2}
 use Rattle.event_tap.specs.EventLines.{event_line}
 use Rattle.event_tap.specs.FrameLines.{frame2_line}
 use Rattle.heard_events.specs.FramesAlone.{traffic_channel}
@@ -66,7 +64,7 @@ LinesComeBack form Sends Is = (width : Width) (script : List ℕ) (plan : CellPl
 -- The line of frame `frame` of a channel, which is this one: it has the frame's end and the power
 -- control bits that were sent, and where the frame is distinct, it is the line of the frame that
 -- was sent, as a good one.
-pub record IsSentLine (plan : CellPlan) (p : TrafficPlan) (frame : ℕ) (f : TrafficFrame)
+pub record IsSentLine (plan : CellPlan) (p : TrafficPlan) (frame : ℕ) (f : SetOneFrame)
     (line : List ℕ) : Type 0 where
   pub decoded : Decoded
   pub spelled : line ≡ event_line (frame_event (frame_ends plan p frame) decoded
@@ -76,7 +74,7 @@ pub record IsSentLine (plan : CellPlan) (p : TrafficPlan) (frame : ℕ) (f : Tra
 
 -- the one that is sent at a number has this line
 abbrev pub IsLineOfSetOne : CellPlan → TrafficPlan → ℕ → List ℕ → Type 0
-IsLineOfSetOne plan p frame line = (f : TrafficFrame)
+IsLineOfSetOne plan p frame line = (f : SetOneFrame)
     × (cycled_frame (frames_of plan p) frame ≡ f ∷ []) × IsSentLine plan p frame f line
 
 -- What is listed of a channel of rate set 1 has these lines, however many codewords of a rate are
@@ -88,7 +86,7 @@ ListedLinesComeBack = (k : ℕ) → 1 ≤ k → LinesComeBack (Listed k) SendsSe
 
 -- The line of one of rate set 2: it has the frame's end and the power control bits that were sent,
 -- and where the frame is distinct, its rate and its information bits, as a good frame.
-pub record IsSentLine2 (plan : CellPlan) (p : TrafficPlan) (frame : ℕ) (f : TrafficFrame2)
+pub record IsSentLine2 (plan : CellPlan) (p : TrafficPlan) (frame : ℕ) (f : SetTwoFrame)
     (line : List ℕ) : Type 0 where
   pub decoded : Decoded2
   pub spelled : line ≡ frame2_line (frame_ends plan p frame) decoded (sent_bits f.power_bits)
@@ -98,7 +96,7 @@ pub record IsSentLine2 (plan : CellPlan) (p : TrafficPlan) (frame : ℕ) (f : Tr
 
 -- the one that is sent at a number has this line
 abbrev pub IsLineOfSetTwo : CellPlan → TrafficPlan → ℕ → List ℕ → Type 0
-IsLineOfSetTwo plan p frame line = (f : TrafficFrame2)
+IsLineOfSetTwo plan p frame line = (f : SetTwoFrame)
     × (cycled_frame2 (frames_of plan p) frame ≡ f ∷ []) × IsSentLine2 plan p frame f line
 
 -- what is written of a channel of rate set 2 has these lines

@@ -20,20 +20,24 @@ pub use Rattle.std.specs.Int.{byte_at, bytes_high_first, to_be_bytes, w32, w64}
 pub use Rattle.std.specs.Prelude.{flat_map, ok_or, option_and_then}
 pub use Rattle.std.specs.Str.{all_ascii_digits}
 pub use Rattle.cell_plan.specs.Stated.{IsStatedCell}
-pub use Rattle.cell_plan.specs.TrafficFrames.{IsTrafficFrame, with_one}
+pub use Rattle.cell_plan.specs.TrafficFrames.{IsTrafficFrame, information_bits_of, rate_set}
 pub use Rattle.cell_plan.specs.declared.plan.CellIdentity.{CellIdentity}
 pub use Rattle.cell_plan.specs.declared.plan.CellPlan.{CellPlan}
 pub use Rattle.cell_plan.specs.declared.plan.LinkPlan.{LinkPlan}
 pub use Rattle.cell_plan.specs.declared.plan.Page.{Page}
 pub use Rattle.cell_plan.specs.declared.plan.TrafficPlan.{TrafficPlan}
+pub use Rattle.cell_plan.specs.declared.traffic_frame.FrameRate.{FrameRate}
+pub use Rattle.cell_plan.specs.declared.traffic_frame.FrameRate.TheVariants.{SetOne, SetTwo}
+pub use Rattle.cell_plan.specs.declared.traffic_frame.RateSet.{RateSet}
+pub use Rattle.cell_plan.specs.declared.traffic_frame.RateSet.TheVariants.{One}
 pub use Rattle.cell_plan.specs.declared.traffic_frame.TrafficFrame.{TrafficFrame}
-pub use Rattle.cell_script.proofs.ScriptFrames.{on_last-last}
+pub use Rattle.cell_script.proofs.LastChanged.{on_last-last}
 pub use Rattle.cell_script.proofs.ScriptNumerals.{one_numeral, own_numerals}
 pub use Rattle.cell_script.proofs.ScriptSplits.{draft_after-line, lines-append, stated-next, stated-none}
 pub use Rattle.cell_script.proofs.ScriptTables.{traffic_read}
 pub use Rattle.cell_script.specs.Script.{draft_after, named, plan_fault, stated, unless}
 unfoldable pub use Rattle.cell_script.specs.Script.{is_line, lines, plan_named, stated_plan}
-pub use Rattle.cell_script.specs.ScriptDrafts.{Draft, draft_at, empty_draft, empty_plan, opened_paging, plan_at, with_frame}
+pub use Rattle.cell_script.specs.ScriptDrafts.{Draft, draft_at, empty_draft, empty_plan, one_frame_more, opened_paging, plan_at, with_frame}
 unfoldable pub use Rattle.cell_script.specs.ScriptDrafts.{with_line, with_next}
 unfoldable pub use Rattle.cell_script.specs.Rows.{numbers_in, past_numbers}
 pub use Rattle.cell_script.specs.ScriptFields.{keyed, past_at, unsigned_at, value_of}
@@ -43,7 +47,7 @@ pub use Rattle.cell_script.specs.ScriptLines.{traffic_in}
 unfoldable pub use Rattle.cell_script.specs.ScriptLines.{cell_in, traffic_frame_in, freq_in, link_in, stated_page_in, paging_in, past_freq}
 unfoldable pub use Rattle.cell_script.specs.ScriptLines.{pilot_in}
 unfoldable pub use Rattle.cell_script.specs.ScriptLines.{statement_in, sync_behind, sync_in}
-pub use Rattle.cell_script.specs.ScriptStages.{after_frame, after_traffic, count_behind}
+pub use Rattle.cell_script.specs.ScriptStages.{after_frame, after_traffic, count_behind, frames_stage}
 unfoldable pub use Rattle.cell_script.specs.ScriptStages.{page_stage}
 pub use Rattle.cell_script.specs.ScriptValues.{all_clear, as_state, begins_with, text_after, hex_digit, octets_in, unpadded}
 unfoldable pub use Rattle.cell_script.specs.ScriptValues.{bits_in_text, power_bits_in, digits_behind, hex_bits, hex_from, length_before}
@@ -73,9 +77,8 @@ unfoldable pub use Rattle.paging_message.specs.HalfFrames.{bits_left}
 unfoldable pub use Rattle.paging_message.specs.Laying.{fill}
 unfoldable pub use Rattle.paging_message.specs.Reading.{is_body}
 pub use Rattle.quality_bits.proofs.Digits.{binary-number}
-pub use Rattle.quality_bits.specs.TrafficCodewords.{information_of}
-pub use Rattle.quality_bits.specs.declared.rate.Rate.{Rate}
 pub use Rattle.quality_bits.specs.declared.rate.Rate.TheVariants.{R9600}
+pub use Rattle.symbol_path.specs.declared.rate_two.Rate2.TheVariants.{R14400}
 pub use Rattle.trial_link.specs.Spelling.{form_bit}
 unfoldable pub use Rattle.trial_link.specs.Spelling.{cell_text, frame_text, page_text, traffic_text}
 pub use Rattle.trial_link.specs.Trial.{behind_draw, behind_frame, bits_of_frame, traffic_plan_of, channel_text, drawn, with_line_feed}

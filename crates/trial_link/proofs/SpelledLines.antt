@@ -2,7 +2,7 @@
 use Rattle.trial_link.proofs.Common.{◌≡◌, ℕ, ◌+◌, ◌*◌, ◌/◌, ◌%◌, ◌^◌, ◌<◌, ◌≤◌, Bool, true, false, List, [], ◌++◌, length, refl, sym, ap}
 use Rattle.trial_link.proofs.Common.{◌∙◌, arith, Some, codes, decimal, nat_le, ◌&&◌, ◌==◌, option_map, take, length-append, and_parts}
 use Rattle.trial_link.proofs.Common.{cond-true, eq-eqb, leb-true, number, CheckForm, Plain, Complemented, bit_text, digits_of}
-use Rattle.trial_link.proofs.Common.{serial_digits, state_digits, admits, is_body, information_of, Rate, R9600, CellIdentity, Page}
+use Rattle.trial_link.proofs.Common.{serial_digits, state_digits, admits, is_body, information_bits_of, FrameRate, SetOne, SetTwo, R9600, R14400, CellIdentity, Page}
 use Rattle.trial_link.proofs.Common.{TrafficLine, TrafficFrame, script_field, past, past_at, unsigned_at, cell_in, cell_line, cell_rows}
 use Rattle.trial_link.proofs.Common.{check_form, traffic_frame_in, frame_key, frame_with, lawful_frame, stated_page_in, page_key, page_with}
 use Rattle.trial_link.proofs.Common.{statement_in}
@@ -301,30 +301,32 @@ page_line_within page is =
 
 -- ---- frames
 
-frame_read : (rate : Rate) (information power_bits : List Bool) (text0 text1 : List ℕ) →
+frame_read : (rate : FrameRate) (information power_bits : List Bool) (text0 text1 : List ℕ) →
     script_field (frame_key rate) bits_in_text text0 ≡ Some information →
     past (frame_key rate) text0 ≡ text1 →
     script_field (codes " ") power_bits_in text1 ≡ Some power_bits → past (codes " ") text1 ≡ [] →
-    length information ≡ information_of rate →
+    length information ≡ information_bits_of rate →
     frame_with rate text0
     ≡ Some (record { rate = rate; information = information; power_bits = power_bits })
 frame_read rate information power_bits text0 text1 first past_first second ended long =
     let frame : TrafficFrame =
     record { rate = rate; information = information; power_bits = power_bits } in
-    let lawful : lawful_frame (information_of rate) information frame ≡ Some frame =
-    cond-true _ _ _ (eq-eqb (length information) (information_of rate) long) in
+    let lawful : lawful_frame frame ≡ Some frame =
+    cond-true _ _ _ (eq-eqb (length information) (information_bits_of rate) long) in
     rw (past_first, ended, first, second, lawful) refl
 
-information_few : (rate : Rate) → information_of rate ≤ 172
-information_few R9600 = omega arith
-information_few rate = omega arith
+information_few : (rate : FrameRate) → information_bits_of rate ≤ 268
+information_few (SetOne R9600) = omega arith
+information_few (SetOne rate) = omega arith
+information_few (SetTwo R14400) = omega arith
+information_few (SetTwo rate) = omega arith
 
-abbrev frame_line : Rate → List Bool → List Bool → List ℕ
+abbrev frame_line : FrameRate → List Bool → List Bool → List ℕ
 frame_line rate information power_bits =
     frame_key rate ++ (bit_text information ++ (codes " " ++ digits_of power_bits))
 
-frame_back : (rate : Rate) (information power_bits : List Bool) →
-    length information ≡ information_of rate → length power_bits ≡ 16 →
+frame_back : (rate : FrameRate) (information power_bits : List Bool) →
+    length information ≡ information_bits_of rate → length power_bits ≡ 16 →
     frame_with rate (frame_line rate information power_bits)
     ≡ Some (record { rate = rate; information = information; power_bits = power_bits })
 frame_back rate information power_bits long sixteen =
@@ -341,12 +343,14 @@ frame_back rate information power_bits long sixteen =
     (past-last (codes " ") (digits_of power_bits) (digits_word power_bits))
     long
 
-frame_statement : (rate : Rate) (rest : List ℕ) →
+frame_statement : (rate : FrameRate) (rest : List ℕ) →
     statement_in (frame_key rate ++ rest)
     ≡ option_map statements.Frame (frame_with rate (frame_key rate ++ rest))
 unfolding statement_in traffic_frame_in
-frame_statement R9600 rest = refl
-frame_statement rate rest = refl
+frame_statement (SetOne R9600) rest = refl
+frame_statement (SetOne rate) rest = refl
+frame_statement (SetTwo R14400) rest = refl
+frame_statement (SetTwo rate) rest = refl
 
 -- what the line of a frame states
 pub frame_spelled : (f : TrafficFrame) → IsTrafficFrame f → length f.power_bits ≡ 16 →
@@ -356,9 +360,11 @@ frame_spelled f long sixteen =
     frame_statement f.rate (bit_text f.information ++ (codes " " ++ digits_of f.power_bits))
     ∙ ap (option_map statements.Frame) (frame_back f.rate f.information f.power_bits long sixteen)
 
-frame_key_within : (rate : Rate) → are_within 32 126 (frame_key rate) ≡ true
-frame_key_within R9600 = refl
-frame_key_within rate = refl
+frame_key_within : (rate : FrameRate) → are_within 32 126 (frame_key rate) ≡ true
+frame_key_within (SetOne R9600) = refl
+frame_key_within (SetOne rate) = refl
+frame_key_within (SetTwo R14400) = refl
+frame_key_within (SetTwo rate) = refl
 
 -- it has no LF
 pub frame_line_within : (f : TrafficFrame) → IsTrafficFrame f →
@@ -436,15 +442,17 @@ page_text_short page is =
       few,
     )
 
-frame_key_long : (rate : Rate) → length (frame_key rate) ≡ 11
-frame_key_long R9600 = refl
-frame_key_long rate = refl
+frame_key_long : (rate : FrameRate) → length (frame_key rate) ≤ 13
+frame_key_long (SetOne R9600) = omega arith
+frame_key_long (SetOne rate) = omega arith
+frame_key_long (SetTwo R14400) = omega arith
+frame_key_long (SetTwo rate) = omega arith
 
 pub frame_text_short : (f : TrafficFrame) → IsTrafficFrame f → length f.power_bits ≡ 16 →
-    length (frame_text f) ≤ 300
+    length (frame_text f) ≤ 330
 unfolding frame_text
 frame_text_short f long sixteen =
-    let few : length f.information ≤ 172 = omega (arith, long, information_few f.rate) in
+    let few : length f.information ≤ 268 = omega (arith, long, information_few f.rate) in
     let behind = codes " " ++ digits_of f.power_bits in
     let last : length behind ≡ 1 + length (digits_of f.power_bits) =
     length-append (codes " ") (digits_of f.power_bits) in

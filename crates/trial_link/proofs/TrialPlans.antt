@@ -2,7 +2,7 @@
 use Rattle.trial_link.proofs.Common.{◌≡◌, ℕ, ◌+◌, ◌*◌, ◌%◌, ◌^◌, ◌<◌, ◌≤◌, ◌==◌, Bool, true, false, List, [], ◌∷◌, ◌++◌, length, refl, ap}
 use Rattle.trial_link.proofs.Common.{◌∙◌, arith, Some, None, Ok, codes, pos, length-append, option_map, cond-false, cond-true, eqb-false}
 use Rattle.trial_link.proofs.Common.{le-ltb, Sixteen, binary, digits_from, decode_pairs, IsState, admits, bits_left, fill, is_body, R9600}
-use Rattle.trial_link.proofs.Common.{CellIdentity, CellPlan, LinkPlan, Stage, Link, Pilot, Sync, Paging, FirstPage, Pages, Frames}
+use Rattle.trial_link.proofs.Common.{CellIdentity, CellPlan, LinkPlan, Stage, Link, Pilot, Sync, Paging, FirstPage, Pages, Frames, One}
 use Rattle.trial_link.proofs.Common.{PagingLine, named, plan_fault, plan_named, stated_plan, unless, draft_at, empty_draft, empty_plan}
 use Rattle.trial_link.proofs.Common.{opened_paging, with_next, script_field, numbers_in, past, past_numbers, freq_in, link_in, paging_in}
 use Rattle.trial_link.proofs.Common.{past_freq}
@@ -222,7 +222,7 @@ head_leads cell is =
 
 other_are : AreToldFrames (other_frame ∷ [])
 unfolding other_frame binary
-other_are = (refl, refl, tt)
+other_are = (refl, refl, refl, tt)
 
 trial_frames_are : (number : ℕ) → AreToldFrames (trial_frames number)
 unfolding trial_frames
@@ -268,7 +268,7 @@ same_plan number = refl
 first_leads : (number : ℕ) →
     Leads (draft_at (with_page (trial_cell number)) (behind_page (trial_cell number).pn))
     (channel_text (followed_line (trial_serial_number number)) (trial_frames number))
-    (draft_at (with_first number) Frames)
+    (draft_at (with_first number) (Frames One))
 first_leads number =
     channel_leads (with_page (trial_cell number)) (behind_page (trial_cell number).pn)
     (followed_line (trial_serial_number number)) (trial_frames number) refl
@@ -276,20 +276,20 @@ first_leads number =
     (omega (arith, trial_frames-long number))
 
 others_lead : (number : ℕ) →
-    Leads (draft_at (with_first number) Frames)
+    Leads (draft_at (with_first number) (Frames One))
     (channel_text second_line (other_frame ∷ []) ++ channel_text third_line (other_frame ∷ []))
-    (draft_at (with_third number) Frames)
+    (draft_at (with_third number) (Frames One))
 others_lead number =
-    both_lead (draft_at (with_first number) Frames) (draft_at (with_second number) Frames)
-    (draft_at (with_third number) Frames) (channel_text second_line (other_frame ∷ []))
+    both_lead (draft_at (with_first number) (Frames One)) (draft_at (with_second number) (Frames One))
+    (draft_at (with_third number) (Frames One)) (channel_text second_line (other_frame ∷ []))
     (channel_text third_line (other_frame ∷ []))
-    (channel_leads (with_first number) Frames second_line (other_frame ∷ []) refl second_stated
+    (channel_leads (with_first number) (Frames One) second_line (other_frame ∷ []) refl second_stated
     other_are (omega arith))
-    (channel_leads (with_second number) Frames third_line (other_frame ∷ []) refl third_stated
+    (channel_leads (with_second number) (Frames One) third_line (other_frame ∷ []) refl third_stated
     other_are (omega arith))
 
 trial_leads : (number : ℕ) →
-    Leads empty_draft (trial_text number) (draft_at (with_third number) Frames)
+    Leads empty_draft (trial_text number) (draft_at (with_third number) (Frames One))
 unfolding trial_text
 trial_leads number =
     let cell = trial_cell number in
@@ -297,16 +297,16 @@ trial_leads number =
     let first = channel_text (followed_line (trial_serial_number number)) (trial_frames number) in
     let others = channel_text second_line (other_frame ∷ [])
     ++ channel_text third_line (other_frame ∷ []) in
-    both_lead empty_draft head (draft_at (with_third number) Frames) (head_text cell)
+    both_lead empty_draft head (draft_at (with_third number) (Frames One)) (head_text cell)
     (first ++ others)
     (head_leads cell (trial_cell_stated number))
-    (both_lead head (draft_at (with_first number) Frames) (draft_at (with_third number) Frames)
+    (both_lead head (draft_at (with_first number) (Frames One)) (draft_at (with_third number) (Frames One))
     first others (first_leads number) (others_lead number))
 
 -- the lines state the plan
 pub trial_stated : (number : ℕ) → stated_plan (trial_text number) ≡ Ok (trial_plan number)
 trial_stated number =
-    leads_to_plan (trial_text number) (draft_at (with_third number) Frames) (with_third number)
+    leads_to_plan (trial_text number) (draft_at (with_third number) (Frames One)) (with_third number)
     (trial_leads number) refl
     ∙ ap (λ (p : CellPlan). Ok p) (same_plan number)
 

@@ -13,7 +13,7 @@ use Rattle.cell_plan.specs.declared.plan.CellPlan.{CellPlan}
 use Rattle.cell_plan.specs.declared.plan.Page.{Page}
 use Rattle.cell_plan.specs.declared.plan.SyncPlan.{SyncPlan}
 use Rattle.cell_plan.specs.declared.plan.TrafficPlan.{TrafficPlan}
-use Rattle.cell_plan.specs.declared.frame_list.FrameList.TheVariants.{SetOne}
+use Rattle.cell_plan.specs.declared.traffic_frame.FrameRate.TheVariants.{SetOne}
 use Rattle.cell_script.specs.declared.statements.TrafficLine.{TrafficLine}
 use Rattle.cell_plan.specs.declared.traffic_frame.TrafficFrame.{TrafficFrame}
 use Rattle.trial_link.specs.Spelling.{cell_text, frame_text, page_text, traffic_text}
@@ -54,7 +54,7 @@ bits_of_frame state = information_of (rate_drawn state)
 -- a frame: its rate, its information bits, and its power control bits
 abbrev pub frame_drawn : ℕ → TrafficFrame
 frame_drawn state = record {
-  rate = rate_drawn state;
+  rate = SetOne (rate_drawn state);
   information = bits_drawn (behind_draw state) (bits_of_frame state);
   power_bits = bits_drawn (behind_draws (behind_draw state) (bits_of_frame state)) 16;
 }
@@ -108,7 +108,7 @@ trial_page pn = record {
 -- the frame of the two channels beside
 unfoldable pub other_frame : TrafficFrame
 other_frame = record {
-  rate = R1200;
+  rate = SetOne R1200;
   information = binary 16 0xffff;
   power_bits = binary 16 0x5555;
 }
@@ -171,7 +171,7 @@ traffic_plan_of line frames = record {
   esn = line.esn;
   offset = line.offset;
   gain = line.gain;
-  frames = SetOne frames;
+  frames = frames;
 }
 
 unfoldable pub trial_plan : ℕ → CellPlan

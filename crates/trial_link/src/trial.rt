@@ -6,7 +6,7 @@ ghost use Rattle.trial_link.specs.Spelling.{frame_text, traffic_text};
 ghost use Rattle.trial_link.specs.Trial as trial;
 
 use crate::spelling::{append_cell, append_frame, append_page, append_traffic};
-use cell_plan::{CellIdentity, Page, TrafficFrame};
+use cell_plan::{CellIdentity, FrameRate, Page, TrafficFrame};
 use cell_script::statements::TrafficLine;
 use chip_core::{Bits, CheckForm, OutOfMemory, PowerBits};
 use line_text::Text;
@@ -95,7 +95,7 @@ impl Draws {
         let information = self.bits(rate.information_bits());
         let power_bits = self.power_bits();
         TrafficFrame {
-            rate,
+            rate: FrameRate::SetOne(rate),
             information,
             power_bits,
         }
@@ -281,7 +281,7 @@ fn other_frame() -> TrafficFrame
     let mut power_bits = Bits::empty();
     power_bits.append_number(16, 0x5555);
     TrafficFrame {
-        rate: Rate::R1200,
+        rate: FrameRate::SetOne(Rate::R1200),
         information,
         power_bits: sixteen(&power_bits),
     }

@@ -2,7 +2,7 @@
 use Rattle.clean_link.proofs.Common.{◌≡◌, ℕ, ◌+◌, ◌-◌, ◌*◌, ◌≤◌, true, false, Bool, List, [], ◌∷◌, length, map, refl, sym, ap, ◌∙◌, arith}
 use Rattle.clean_link.proofs.Common.{subst, Option, None, Some, filter, if◌then◌else◌, All, Contains, flat_map, All-contains, All-map}
 use Rattle.clean_link.proofs.Common.{places, Sample, Width, flat_map_ext_places, IsFreeOf, made_samples, frames_of, cycled_frame, CellPlan}
-use Rattle.clean_link.proofs.Common.{PagingPlan, TrafficPlan, TrafficFrame, events, events_at, frame_events_at, heard_within}
+use Rattle.clean_link.proofs.Common.{PagingPlan, TrafficPlan, SetOneFrame, events, events_at, frame_events_at, heard_within}
 use Rattle.clean_link.proofs.Common.{message_events_at, paging_events_at, mark, frames_at, messages_at, is_in_file, sync_events_at}
 use Rattle.clean_link.proofs.Common.{power_bits_at, decoded_at, frame_event, frame_heard, if_followed, Tuning, Event, Pilot, Leg, Mark}
 use Rattle.clean_link.proofs.Common.{Traffic, by_one_mark, sync_sent, IsNotDirected, IsOnPath, is_frame, is_message, is_page, is_sync}
@@ -39,7 +39,7 @@ module _ {width : Width} {plan : CellPlan} {p : TrafficPlan} {t : Tuning} {traff
       frame_heard t traffic m legs samples (frame_ends plan p frame) (frame - 4 * superframes)
 
   -- what is heard of one that is in the file
-  event_there : (k : ℕ) (f : TrafficFrame) →
+  event_there : (k : ℕ) (f : SetOneFrame) →
       is_in_file t.count (one_stream t traffic m) k ≡ true →
       cycled_frame (frames_of plan p) (4 * superframes + k) ≡ f ∷ [] →
       IsEventOf plan p (4 * superframes + k)

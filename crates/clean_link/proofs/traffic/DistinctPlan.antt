@@ -1,16 +1,17 @@
 -- A cell with a distinct frame of each rate.
-use Rattle.clean_link.proofs.Common.{◌≡◌, ◌≢◌, ℕ, ◌+◌, ◌*◌, ◌^◌, ◌<◌, ◌≤◌, Bool, true, List, [], ◌∷◌, map, refl, sym, ap, ◌∙◌, set_one}
-use Rattle.clean_link.proofs.Common.{set_two, FrameList, channel_on, arith, subst, nat_le, inl, inr, Some, All, flat_map, and_parts}
+use Rattle.clean_link.proofs.Common.{SetOne, SetTwo, planned, length, TrafficFrame, IsTrafficFrame}
+use Rattle.clean_link.proofs.Common.{◌≡◌, ◌≢◌, ℕ, ◌+◌, ◌*◌, ◌^◌, ◌<◌, ◌≤◌, Bool, true, List, [], ◌∷◌, map, refl, sym, ap, ◌∙◌}
+use Rattle.clean_link.proofs.Common.{channel_on, arith, subst, nat_le, inl, inr, Some, All, flat_map, and_parts}
 use Rattle.clean_link.proofs.Common.{cases_eq, leb-true, All-cons, All-nil, binary, places, norm, Sixteen, after, traffic_mask, after-after}
 use Rattle.clean_link.proofs.Common.{IsState-before, capsule, check_bits, traffic_codeword, Rate, R9600, R4800, R2400, R1200, codeword_bits}
 use Rattle.clean_link.proofs.Common.{power_places, Rate2, R14400, R7200, R3600, R1800, on_again, sync_body, sync_capsule, IsSyncMessage}
 use Rattle.clean_link.proofs.Common.{split_9600, loudness, AreLawfulBeside, IsFreeOf, IsLawfulPlan, IsPagingPlan, IsTrafficPlan}
-use Rattle.clean_link.proofs.Common.{sent_paging_rate, IsStatedPaging, IsReceivable, frames_of, cycled_frame, IsTrafficFrame}
-use Rattle.clean_link.proofs.Common.{IsTrafficFrame2, PagingPlan, TrafficPlan, TrafficFrame, TrafficFrame2, lost_symbols, distinct_bits_of}
+use Rattle.clean_link.proofs.Common.{sent_paging_rate, IsStatedPaging, IsReceivable, frames_of, cycled_frame}
+use Rattle.clean_link.proofs.Common.{PagingPlan, TrafficPlan, SetOneFrame, SetTwoFrame, lost_symbols, distinct_bits_of}
 use Rattle.clean_link.proofs.Common.{bits_of2, distinct_plan, rules, first_channel, frame2_at, frame_at, on_row, second_channel}
 use Rattle.clean_link.proofs.Common.{told_message, HasMark, HasSetOne, HasSetTwo, frame_chip, is_received, received_frames, replaced_of}
 use Rattle.clean_link.proofs.Common.{AreDistinct, IsDistinctFrame, end_chip, messages_sent, cycled_frame2, IsDistinctFrame2, signaling_sent}
-use Rattle.clean_link.proofs.Common.{told_with_sync, lost_symbols2, sharing, sharing2, codewords_giving, AreTrafficFrames, frame_count}
+use Rattle.clean_link.proofs.Common.{told_with_sync, lost_symbols2, sharing, sharing2, codewords_giving}
 use Rattle.clean_link.proofs.Common.{zero, suc, false, get_or, common_parity, digit, get_or-map-places, flat_map_ext_places, long_chip}
 use Rattle.clean_link.proofs.Common.{after_lt, after_none, after_one, stepped, after-before, before_lt, after-injective, group_scrambling}
 use Rattle.clean_link.proofs.Common.{power_place, power_start}
@@ -398,20 +399,20 @@ all_four P a b c d is_a is_b is_c is_d =
     (All-cons P b (c ∷ d ∷ []) is_b
     (All-cons P c (d ∷ []) is_c (All-cons P d [] is_d (All-nil P))))
 
-sized_one : All IsTrafficFrame (set_one first_channel.frames)
+sized_one : All IsTrafficFrame first_channel.frames
 unfolding binary
 sized_one =
-    all_four IsTrafficFrame (frame_at R9600) (frame_at R4800)
-    (frame_at R2400) (frame_at R1200) refl refl refl refl
+    all_four IsTrafficFrame (planned SetOne (frame_at R9600)) (planned SetOne (frame_at R4800))
+    (planned SetOne (frame_at R2400)) (planned SetOne (frame_at R1200)) refl refl refl refl
 
-sized_two : All IsTrafficFrame2 (set_two second_channel.frames)
+sized_two : All IsTrafficFrame second_channel.frames
 unfolding binary
 sized_two =
-    all_four IsTrafficFrame2 (frame2_at R14400) (frame2_at R7200)
-    (frame2_at R3600) (frame2_at R1800) refl refl refl refl
+    all_four IsTrafficFrame (planned SetTwo (frame2_at R14400)) (planned SetTwo (frame2_at R7200))
+    (planned SetTwo (frame2_at R3600)) (planned SetTwo (frame2_at R1800)) refl refl refl refl
 
-channel_lawful : (row : ℕ) (frames : FrameList) → 8 ≤ row → row ≤ 9 → 1 ≤ frame_count frames →
-    AreTrafficFrames frames → IsTrafficPlan (channel_on row frames)
+channel_lawful : (row : ℕ) (frames : List TrafficFrame) → 8 ≤ row → row ≤ 9 →
+    1 ≤ length frames → All IsTrafficFrame frames → IsTrafficPlan (channel_on row frames)
 channel_lawful row frames least most some sized = record {
   first = omega (arith, least);
   last = omega (arith, most);
@@ -425,12 +426,12 @@ channel_lawful row frames least most some sized = record {
 first_lawful : IsTrafficPlan first_channel
 first_lawful =
     channel_lawful 8 first_channel.frames (omega arith) (omega arith) (omega arith)
-    (record { one = sized_one; two = All-nil IsTrafficFrame2 })
+    sized_one
 
 second_lawful : IsTrafficPlan second_channel
 second_lawful =
     channel_lawful 9 second_channel.frames (omega arith) (omega arith) (omega arith)
-    (record { one = All-nil IsTrafficFrame; two = sized_two })
+    sized_two
 
 channels_lawful : AreLawfulBeside [] (first_channel ∷ second_channel ∷ [])
 channels_lawful = record {
@@ -488,7 +489,7 @@ only_seven : (n : ℕ) → told_with_sync distinct_plan distinct_plan.sync ≡ S
 only_seven n told = let same : Some n ≡ Some 7 = sym told ∙ told_is in cc
 
 rates_one : flat_map
-    (λ frame. map (λ (f : TrafficFrame). f.rate)
+    (λ frame. map (λ (f : SetOneFrame). f.rate)
     (cycled_frame (frames_of distinct_plan first_channel) frame))
     (received_frames distinct_plan first_channel 688128)
     ≡ R9600 ∷ R4800 ∷ R2400 ∷ R1200 ∷ []
@@ -496,7 +497,7 @@ unfolding places
 rates_one = refl
 
 rates_two : flat_map
-    (λ frame. map (λ (f : TrafficFrame2). f.rate)
+    (λ frame. map (λ (f : SetTwoFrame). f.rate)
     (cycled_frame2 (frames_of distinct_plan second_channel) frame))
     (received_frames distinct_plan second_channel 688128)
     ≡ R14400 ∷ R7200 ∷ R3600 ∷ R1800 ∷ []

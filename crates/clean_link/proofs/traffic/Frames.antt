@@ -4,7 +4,8 @@ use Rattle.clean_link.proofs.Common.{◌≡◌, ℕ, zero, suc, ◌+◌, ◌-◌
 use Rattle.clean_link.proofs.Common.{cases_lt, inl, inr, map, filter, take, drop, refl, sym, ap, ◌∙◌, arith, subst, nat_le, cond, All}
 use Rattle.clean_link.proofs.Common.{flat_map, and_from, and_parts, cases_Bool, false_from_ne_true, le-leb, leb-true, All-head, All-tail}
 use Rattle.clean_link.proofs.Common.{places, Sample, Width, traffic_mask, power_places, Decoded, sent_frame, Data, made_samples, frames_of}
-use Rattle.clean_link.proofs.Common.{cycled_frame, set_one, IsTrafficFrame, CellPlan, TrafficPlan, TrafficFrame, frame_softs, is_in_file}
+use Rattle.clean_link.proofs.Common.{IsTrafficFrame, SetOne, planned, one_in_turn}
+use Rattle.clean_link.proofs.Common.{cycled_frame, set_one, IsSetOneFrame, CellPlan, TrafficPlan, SetOneFrame, frame_softs, is_in_file}
 use Rattle.clean_link.proofs.Common.{known_at, known_now, Stream, frames_at, power_bits_at, decoded_at, frame_event, frame_heard, frames_by}
 use Rattle.clean_link.proofs.Common.{frame_state, frames_bound, frames_now, replaced_in, stream_of, Tuning, Event, Leg, Mark, Traffic}
 use Rattle.clean_link.proofs.Common.{filter_enough, flat_map_ext_filter_places, flat_map_ext_places, soft_strength, frame_chip, frame_ends}
@@ -55,13 +56,13 @@ one_each {A} {B} f (x ∷ xs) = ap (λ (ys : List B). f x ∷ ys) (one_each f xs
 
 -- it has as many information bits as its rate
 pub sized : {width : Width} {plan : CellPlan} {p : TrafficPlan} {t : Tuning} {traffic : Traffic}
-    {m : Mark} {legs : ℕ → List Leg} {superframes k : ℕ} {f : TrafficFrame} →
+    {m : Mark} {legs : ℕ → List Leg} {superframes k : ℕ} {f : SetOneFrame} →
     HearsSentTraffic width plan p t traffic m superframes →
-    IsHeardAs plan p t traffic m legs superframes k f → IsTrafficFrame f
+    IsHeardAs plan p t traffic m legs superframes k f → IsSetOneFrame f
 sized {width} {plan} {p} {superframes = superframes} {k = k} {f = f} is heard =
-    let frames = set_one p.frames in
-    one_taken IsTrafficFrame frames ((4 * superframes + k) % length frames) f
-    (lawful_traffic width plan p is.receivable.lawful is.sent).sized.one heard.frame
+    one_taken IsTrafficFrame p.frames ((4 * superframes + k) % length p.frames) (planned SetOne f)
+    (lawful_traffic width plan p is.receivable.lawful is.sent).sized
+    (one_in_turn p.frames (4 * superframes + k) f heard.frame)
 
 -- it is decoded
 pub frame_back : TrafficFramesComeBack
@@ -76,7 +77,7 @@ frame_back width plan p t traffic m legs superframes k f is heard distinct =
     (sized is heard) signs.1 distinct
 
 -- what is heard of it
-pub heard_as : (n : ℕ) (f : TrafficFrame) (score : ℤ) (frame : Decoded) (power_bits : List Bool) →
+pub heard_as : (n : ℕ) (f : SetOneFrame) (score : ℤ) (frame : Decoded) (power_bits : List Bool) →
     frame ≡ record { rate = f.rate; good = true; bits = f.information; score = score } →
     power_bits ≡ sent_power_bits f → frame_event n frame power_bits ≡ sent_frame_event n f
 heard_as n f score frame power_bits is sent =
@@ -219,28 +220,28 @@ module _ {width : Width} {plan : CellPlan} {p : TrafficPlan} {t : Tuning} {traff
       ∙ ap (λ (e : ℕ). power_places (frame_state traffic m k) (traffic_mask e)) is.assigned.esn
 
   -- as the channel's frames are
-  pub distinct_there : AreDistinct plan p mark_chip → (k : ℕ) (f : TrafficFrame) → inside k ≡ true →
+  pub distinct_there : AreDistinct plan p mark_chip → (k : ℕ) (f : SetOneFrame) → inside k ≡ true →
       cycled_frame (frames_of plan p) (4 * superframes + k) ≡ f ∷ [] →
       IsDistinctFrame (replaced_in traffic m k) f
   distinct_there distinct k f there frame =
       let frames = distinct (4 * superframes + k) (received_is k ∙ there) in
-      let Distinct : TrafficFrame → Type 0 =
-      λ (x : TrafficFrame). IsDistinctFrame (replaced_of plan p (4 * superframes + k)) x in
+      let Distinct : SetOneFrame → Type 0 =
+      λ (x : SetOneFrame). IsDistinctFrame (replaced_of plan p (4 * superframes + k)) x in
       let only : All Distinct (f ∷ []) =
-      subst (λ (fs : List TrafficFrame). All Distinct fs) frame frames in
+      subst (λ (fs : List SetOneFrame). All Distinct fs) frame frames in
       subst (λ (replaced : List ℕ). IsDistinctFrame replaced f) (same_places k)
       (All-head Distinct f [] only)
 
   -- one frame is sent at each number
   pub frame_there : SendsSetOne p → (k : ℕ) →
-      (f : TrafficFrame) × (cycled_frame (frames_of plan p) (4 * superframes + k) ≡ f ∷ [])
+      (f : SetOneFrame) × (cycled_frame (frames_of plan p) (4 * superframes + k) ≡ f ∷ [])
   frame_there some k =
       let frames = set_one p.frames in
       one_there frames ((4 * superframes + k) % length frames) (omega (arith, some))
 
   module _ (legs : ℕ → List Leg) (one : (k : ℕ) → IsOnePilot traffic (legs k)) where
     -- a frame in the file is heard as what is sent
-    pub heard_there : (k : ℕ) (f : TrafficFrame) → inside k ≡ true →
+    pub heard_there : (k : ℕ) (f : SetOneFrame) → inside k ≡ true →
         cycled_frame (frames_of plan p) (4 * superframes + k) ≡ f ∷ [] →
         IsHeardAs plan p t traffic m legs superframes k f
     heard_there k f there frame = record {
@@ -253,7 +254,7 @@ module _ {width : Width} {plan : CellPlan} {p : TrafficPlan} {t : Tuning} {traff
     module _ (samples : List Sample)
         (shows : ShowsTraffic plan p t traffic m superframes samples) where
       -- a distinct frame is told as it was sent
-      told_is : (k : ℕ) (f : TrafficFrame) → inside k ≡ true →
+      told_is : (k : ℕ) (f : SetOneFrame) → inside k ≡ true →
           cycled_frame (frames_of plan p) (4 * superframes + k) ≡ f ∷ [] →
           IsDistinctFrame (replaced_in traffic m k) f →
           frame_heard t traffic m legs samples (known_at t.count stream k) k ∷ []
@@ -418,7 +419,7 @@ module _ {width : Width} {plan : CellPlan} {p : TrafficPlan} {t : Tuning} {traff
   first_chip = plan.link.start + m.sample
 
   -- the signaling of a frame is what was sent in it
-  signal_is : (k : ℕ) (f : TrafficFrame) → is_in_file t.count channel k ≡ true →
+  signal_is : (k : ℕ) (f : SetOneFrame) → is_in_file t.count channel k ≡ true →
       cycled_frame (frames_of plan p) (4 * superframes + k) ≡ f ∷ [] →
       signal_at t traffic m legs samples k ≡ signal_sent f
   unfolding signal_at
@@ -436,7 +437,7 @@ module _ {width : Width} {plan : CellPlan} {p : TrafficPlan} {t : Tuning} {traff
       let (f, frame) = frame_there is some k in
       ap option_to_list (signal_is k f there frame)
       ∙ sym
-      (of_one (λ (x : TrafficFrame). option_to_list (signal_sent x))
+      (of_one (λ (x : SetOneFrame). option_to_list (signal_sent x))
       (cycled_frame (frames_of plan p) (4 * superframes + k)) f frame)
 
   -- and so is that of the frames before it
@@ -475,7 +476,7 @@ module _ {width : Width} {plan : CellPlan} {p : TrafficPlan} {t : Tuning} {traff
       (signal_is k f there frame)
       ∙ sym
       (of_one
-      (λ (x : TrafficFrame). told ends plan.cell.check16 (signals_received plan p first_chip number)
+      (λ (x : SetOneFrame). told ends plan.cell.check16 (signals_received plan p first_chip number)
       (signal_sent x)) (cycled_frame (frames_of plan p) number) f frame)
 
   -- the messages that are known at a number of samples

@@ -2,7 +2,8 @@
 use Rattle.clean_link.proofs.Common.{◌≡◌, ℕ, ◌+◌, ◌-◌, ◌*◌, ◌%◌, ◌&&◌, Bool, true, List, [], ◌∷◌, length, map, filter, refl, sym, ap, ℤ}
 use Rattle.clean_link.proofs.Common.{frame_ends, ◌∙◌, arith, subst, nat_le, inl, inr, Option, Some, Contains, and_from, cases_Bool, le-leb}
 use Rattle.clean_link.proofs.Common.{places, Sample, filter_ext_places, flat_map_ext_filter_places, Width, traffic_mask, Data, made_samples}
-use Rattle.clean_link.proofs.Common.{frames_of, set_two, IsTrafficFrame2, CellPlan, TrafficPlan, TrafficFrame2, traffic_channel, mark}
+use Rattle.clean_link.proofs.Common.{IsTrafficFrame, SetTwo, planned, two_in_turn}
+use Rattle.clean_link.proofs.Common.{frames_of, set_two, IsSetTwoFrame, CellPlan, TrafficPlan, SetTwoFrame, traffic_channel, mark}
 use Rattle.clean_link.proofs.Common.{frames_within, soft_frame, soft_frames, raw_at, is_in_file, known_at, known_by, Stream, frames_bound}
 use Rattle.clean_link.proofs.Common.{replaced_in, Tuning, Mark, Traffic, PowerControl, SoftFrame, soft_strength, IsOnPath, IsReceivable}
 use Rattle.clean_link.proofs.Common.{is_received, received_frames, replaced_of, sent_bits, IsAssigned, SendsSetTwo, SendsSymbols, ShowFrame}
@@ -320,27 +321,27 @@ module _ {width : Width} {plan : CellPlan} {p : TrafficPlan} {t : Tuning} {traff
 
 -- one of the frames of rate set 2 is sent at each number
 frame2_there : (width : Width) (plan : CellPlan) (p : TrafficPlan) → IsReceivable width plan →
-    Contains plan.traffic p → SendsSetTwo p → (frame : ℕ) → (f : TrafficFrame2)
-    × (cycled_frame2 (frames_of plan p) frame ≡ f ∷ []) × IsTrafficFrame2 f
+    Contains plan.traffic p → SendsSetTwo p → (frame : ℕ) → (f : SetTwoFrame)
+    × (cycled_frame2 (frames_of plan p) frame ≡ f ∷ []) × IsSetTwoFrame f
 frame2_there width plan p is sent some frame =
     let frames = set_two p.frames in
     let (f, here) = one_there frames (frame % length frames) (omega (arith, some)) in (
       f,
       here,
-      one_taken IsTrafficFrame2 frames (frame % length frames) f
-          (lawful_traffic width plan p is.lawful sent).sized.two here,
+      one_taken IsTrafficFrame p.frames (frame % length p.frames) (planned SetTwo f)
+          (lawful_traffic width plan p is.lawful sent).sized (two_in_turn p.frames frame f here),
     )
 
 -- and comes back, where what is received of it by what it sends is that of a frame that does
 set_two_of : (plan : CellPlan) (p : TrafficPlan)
     (Receives : ℕ → List Bool → List Bool → SoftFrame → Type 0)
-    (Back : ℕ → TrafficFrame2 → SoftFrame → Type 0) (frames : List SoftFrame) →
-    ((frame : ℕ) → (f : TrafficFrame2) × (cycled_frame2 (frames_of plan p) frame ≡ f ∷ [])
-    × IsTrafficFrame2 f) → ((frame : ℕ) (f : TrafficFrame2) (soft : SoftFrame) → IsTrafficFrame2 f →
+    (Back : ℕ → SetTwoFrame → SoftFrame → Type 0) (frames : List SoftFrame) →
+    ((frame : ℕ) → (f : SetTwoFrame) × (cycled_frame2 (frames_of plan p) frame ≡ f ∷ [])
+    × IsSetTwoFrame f) → ((frame : ℕ) (f : SetTwoFrame) (soft : SoftFrame) → IsSetTwoFrame f →
     Receives frame (codeword_symbols2 f) f.power_bits soft → Back frame f soft) → AreReceived plan p
     (λ frame soft. (symbols power_bits : List Bool) → SendsSymbols plan p frame symbols power_bits →
     Receives frame symbols power_bits soft) frames → AreReceived plan p
-    (λ frame soft. (f : TrafficFrame2) × (cycled_frame2 (frames_of plan p) frame ≡ f ∷ [])
+    (λ frame soft. (f : SetTwoFrame) × (cycled_frame2 (frames_of plan p) frame ≡ f ∷ [])
     × Back frame f soft) frames
 set_two_of plan p Receives Back frames there back all = record {
   superframes = all.superframes;

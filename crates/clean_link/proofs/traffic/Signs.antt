@@ -1,10 +1,10 @@
 -- The soft values of the frames of a traffic channel have the signs that were sent.
-use Rattle.clean_link.proofs.Common.{◌≡◌, ℕ, zero, suc, ◌+◌, ◌*◌, ◌%◌, Bool, true, false, List, [], ◌∷◌, length, take, drop, refl, sym, ap}
+use Rattle.clean_link.proofs.Common.{◌≡◌, ℕ, zero, suc, ◌+◌, ◌*◌, Bool, true, false, List, [], ◌∷◌, length, refl, sym, ap}
 use Rattle.clean_link.proofs.Common.{◌∙◌, arith, subst, ℤ, replicate, ◌*ℤ◌, Contains, flat_map, append-nil, All-contains, sign, xor}
 use Rattle.clean_link.proofs.Common.{zip_with, Width, after, traffic_mask, code_symbols, scrambling, with_power_bits, data_shape}
 use Rattle.clean_link.proofs.Common.{repeats_of, traffic_codeword, length-sent, softs, Finger, Data, length-sent2, IsLawfulPlan}
-use Rattle.clean_link.proofs.Common.{IsTrafficPlan, made_samples, frames_of, traffic_carrier, CellPlan, TrafficPlan, FrameList, SetOne}
-use Rattle.clean_link.proofs.Common.{SetTwo, TrafficFrame, TrafficFrame2, descrambled, frame_softs, frame_start, is_in_file, Stream}
+use Rattle.clean_link.proofs.Common.{IsTrafficPlan, made_samples, frames_of, traffic_carrier, CellPlan, TrafficPlan, TrafficFrame, SetOne}
+use Rattle.clean_link.proofs.Common.{SetTwo, SetOneFrame, planned, one_in_turn, two_in_turn, descrambled, frame_softs, frame_start, is_in_file, Stream}
 use Rattle.clean_link.proofs.Common.{raw_softs, frame_state, replaced_in, stream_of, traffic_start, traffic_stream, Tuning, fingers_of, Leg}
 use Rattle.clean_link.proofs.Common.{Mark, Traffic, IsTrueMark, soft_strength, codeword_symbols, IsAssigned, SendsSymbols, ShowPowerBits}
 use Rattle.clean_link.proofs.Common.{ShowFrame, IsFrameOf, path_finger, SetOneSends, SetTwoSends, HearsSentTraffic, IsHeardAs}
@@ -142,53 +142,34 @@ module _ (R : Bool → ℤ → Type 0) (state mask : ℕ) (power_bits : List Boo
 
 -- ---- what a frame sends
 
--- nothing is taken from nothing
-none_taken : {X : Type 0} (n : ℕ) → ◌≡◌ {A = List X} (take 1 (drop n [])) []
-none_taken zero = refl
-none_taken (suc n) = refl
-
--- and so is no frame
-none_cycled : {F : Type 0} (k : ℕ) (f : F) →
-    ◌≡◌ {A = List F} (sends.frames_in_turn [] k) (f ∷ []) → ⊥
-none_cycled {F} k f is =
-    let none : ◌≡◌ {A = List F} [] (f ∷ []) = sym (none_taken (k % 0)) ∙ is in absurd (cc none)
-
--- frames one of which is of rate set 1
-of_set_one : (state mask k : ℕ) (frames : FrameList) (f : TrafficFrame) →
-    sends.frames_in_turn (sends.set_one frames) k ≡ f ∷ [] →
-    sends.symbols_from state mask k frames ≡ sends.traffic_symbols state mask f
-of_set_one state mask k (SetOne frames) f is =
+-- the one frame that is in turn is sent
+one_sent : (state mask k : ℕ) (frames : List TrafficFrame) (f : TrafficFrame) →
+    sends.frames_in_turn frames k ≡ f ∷ [] →
+    flat_map (sends.traffic_symbols state mask) (sends.frames_in_turn frames k)
+    ≡ sends.traffic_symbols state mask f
+one_sent state mask k frames f is =
     let made = sends.traffic_symbols state mask in ap (flat_map made) is ∙ append-nil (made f)
-of_set_one state mask k (SetTwo frames) f is = absurd (none_cycled k f is)
-
--- and of rate set 2
-of_set_two : (state mask k : ℕ) (frames : FrameList) (f : TrafficFrame2) →
-    sends.frames_in_turn (sends.set_two frames) k ≡ f ∷ [] →
-    sends.symbols_from state mask k frames ≡ sends.traffic_symbols2 state mask f
-of_set_two state mask k (SetOne frames) f is = absurd (none_cycled k f is)
-of_set_two state mask k (SetTwo frames) f is =
-    let made = sends.traffic_symbols2 state mask in ap (flat_map made) is ∙ append-nil (made f)
 
 pub set_one_sends : SetOneSends
-unfolding sends.traffic_frame_symbols sends.traffic_symbols
+unfolding sends.traffic_frame_symbols sends.traffic_symbols sends.placed_symbols
 set_one_sends plan p frame f is = record {
   all =
       length-sent data_shape (repeats_of f.rate)
       (code_symbols (replicate 8 false) (traffic_codeword f.rate f.information));
   given =
-      of_set_one (sends.sent_frame_state (frames_of plan p) frame) (traffic_mask p.esn) frame p.frames f
-      is;
+      one_sent (sends.sent_frame_state (frames_of plan p) frame) (traffic_mask p.esn) frame p.frames
+      (planned SetOne f) (one_in_turn p.frames frame f is);
 }
 
 pub set_two_sends : SetTwoSends
-unfolding sends.traffic_frame_symbols sends.traffic_symbols2
+unfolding sends.traffic_frame_symbols sends.traffic_symbols sends.placed_symbols
 set_two_sends plan p frame f is = record {
   all =
       length-sent2 f.rate
       (code_symbols (replicate 8 false) (second.codeword_bits f.rate f.information));
   given =
-      of_set_two (sends.sent_frame_state (frames_of plan p) frame) (traffic_mask p.esn) frame p.frames f
-      is;
+      one_sent (sends.sent_frame_state (frames_of plan p) frame) (traffic_mask p.esn) frame p.frames
+      (planned SetTwo f) (two_in_turn p.frames frame f is);
 }
 
 -- symbols are scrambled, and power control bits replace some
@@ -362,7 +343,7 @@ module _ {width : Width} {plan : CellPlan} {p : TrafficPlan} {t : Tuning} {traff
 -- ---- of the reference's pilot among the active ones
 
 module _ {width : Width} {plan : CellPlan} {p : TrafficPlan} {t : Tuning} {traffic : Traffic}
-    {m : Mark} {legs : ℕ → List Leg} {superframes k : ℕ} {f : TrafficFrame}
+    {m : Mark} {legs : ℕ → List Leg} {superframes k : ℕ} {f : SetOneFrame}
     (is : HearsSentTraffic width plan p t traffic m superframes)
     (heard : IsHeardAs plan p t traffic m legs superframes k f) where
   here : is_in_file t.count (one_stream t traffic m) k ≡ true

@@ -1,6 +1,6 @@
 -- Why `with` of `judge::Judge` keeps its contract.
-use Rattle.cell_script.proofs.Common.{sym, subst, with_one, with_two, with_statement, HasJudged, Statement}
-use Rattle.cell_script.proofs.ScriptRows.{judged_frames, judged_page}
+use Rattle.cell_script.proofs.Common.{sym, subst, with_statement, HasJudged, Statement}
+use Rattle.cell_script.proofs.ScriptRows.{judged_frame, judged_page}
 use Rattle.cell_script.proofs.judge.Judge.with.Goals as goal
 
 pub returns-in-Page-clause-judged : goal.returns-in-Page-clause-judged
@@ -11,9 +11,4 @@ returns-in-Page-clause-judged c plan order before =
 pub returns-in-Frame-clause-judged : goal.returns-in-Frame-clause-judged
 returns-in-Frame-clause-judged c plan order before =
     subst (λ (s : Statement). HasJudged c.args.self (with_statement plan s)) (sym c.in-Frame.is)
-    (judged_frames c.args.self plan (with_one c.in-Frame.field-0) before)
-
-pub returns-in-Frame2-clause-judged : goal.returns-in-Frame2-clause-judged
-returns-in-Frame2-clause-judged c plan order before =
-    subst (λ (s : Statement). HasJudged c.args.self (with_statement plan s)) (sym c.in-Frame2.is)
-    (judged_frames c.args.self plan (with_two c.in-Frame2.field-0) before)
+    (judged_frame c.args.self plan c.in-Frame.field-0 before)

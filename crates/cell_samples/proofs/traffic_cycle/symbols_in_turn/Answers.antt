@@ -1,6 +1,6 @@
--- Why `symbols_of_one` of `traffic_cycle` keeps its contract.
+-- Why `symbols_in_turn` of `traffic_cycle` keeps its contract.
 use Rattle.cell_samples.proofs.Common.{traffic_symbols, made_of}
-use Rattle.cell_samples.proofs.traffic_cycle.symbols_of_one.Goals as goal
+use Rattle.cell_samples.proofs.traffic_cycle.symbols_in_turn.Goals as goal
 
 pub returns-clause-value : goal.returns-clause-value
 returns-clause-value c =
