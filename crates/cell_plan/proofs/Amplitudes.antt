@@ -1,27 +1,14 @@
 -- The amplitudes of a cell's channels, and the samples that they make.
-use Rattle.cell_plan.proofs.Common.{◌≡◌, ℕ, zero, suc, ◌+◌, ◌-◌, ◌*◌, ◌/◌, ◌%◌, ◌≤◌, Bool, true, false, List, [], ◌∷◌, refl, sym, ap, ◌∙◌}
-use Rattle.cell_plan.proofs.Common.{arith, ℤ, pos, ◌+ℤ◌, ◌*ℤ◌, unsigned_abs, Option, Some, None, cond, replicate, ◌++◌, length}
+use Rattle.cell_plan.proofs.Common.{◌≡◌, ℕ, zero, suc, ◌+◌, ◌-◌, ◌*◌, ◌/◌, ◌%◌, ◌≤◌, Bool, false, List, [], ◌∷◌, refl, sym, ap, ◌∙◌}
+use Rattle.cell_plan.proofs.Common.{arith, ℤ, pos, ◌+ℤ◌, ◌*ℤ◌, unsigned_abs, Option, Some, None, ◌++◌, length, sign_unit, abs_sum}
 use Rattle.cell_plan.proofs.Common.{length-append, map, get_or, FitsSigned, le-ltb, ints, unsigned_abs-mul, fits_signed_from_abs}
-use Rattle.cell_plan.proofs.Common.{length-map, w8, w16, mul-le-mul_left, binary, sign, parity, zip_with, origin, plus, times, Pair, Sample}
+use Rattle.cell_plan.proofs.Common.{length-map, w8, w16, mul-le-mul_left, sign, origin, plus, times, Pair, Sample}
 use Rattle.cell_plan.proofs.Common.{split, diff-times, diff-same, distrib_right, code_point, walsh, CellPlan, PagingPlan, SyncPlan}
 use Rattle.cell_plan.proofs.Common.{TrafficPlan, integer_width_of, HasBits, Width, Sixteen, Eight, most_part, loudness, gain_sum}
 use Rattle.cell_plan.proofs.Common.{paging_gains}
 use Rattle.cell_plan.proofs.Common.{sync_gain, traffic_gains, Carrier, amplitude, amplitudes, level, level_of, scaled, sent_chip}
 use Rattle.cell_plan.proofs.Common.{sync_carriers, paging_carrier, pilot_carrier, carriers, sample_of, symbol_of, traffic_carrier}
-use Rattle.cell_plan.proofs.MachineInts.{more_most}
-
--- ROWS
-
-no_ones : (ys : List Bool) (w : ℕ) →
-    parity (zip_with (λ a b. cond a b false) (replicate w false) ys) ≡ false
-no_ones ys zero = refl
-no_ones [] (suc w) = refl
-no_ones (y ∷ ys) (suc w) = no_ones ys w
-
--- row 0 has no ones
-pub walsh-pilot : (k : ℕ) → walsh 0 k ≡ false
-unfolding walsh binary
-walsh-pilot k = no_ones (binary 6 k) 6
+pub use Rattle.walsh.proofs.RowTable.{walsh-pilot}
 
 -- THE SUM OF THE CHANNELS
 
@@ -82,10 +69,6 @@ signal_of_carriers plan t =
 
 -- BOUNDS
 
-sign_unit : (b : Bool) → unsigned_abs (sign b) ≤ 1
-sign_unit true = omega arith
-sign_unit false = omega arith
-
 product_most : (a b : ℤ) → unsigned_abs b ≤ 1 → unsigned_abs (a *ℤ b) ≤ unsigned_abs a
 product_most a b unit =
     let most : unsigned_abs a * unsigned_abs b ≤ unsigned_abs a * 1 =
@@ -112,7 +95,7 @@ amplitudes_most chip [] = omega arith
 amplitudes_most chip (c ∷ cs) =
     omega (
       arith,
-      more_most (amplitude chip c) (amplitudes chip cs),
+      abs_sum (amplitude chip c) (amplitudes chip cs),
       amplitude_most chip c,
       amplitudes_most chip cs,
     )

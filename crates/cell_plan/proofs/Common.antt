@@ -1,13 +1,13 @@
 -- What the proofs of this crate cite of what lies below, and of its own definitions, passed on from one place.
-pub use Rattle.std.proofs.Common.{Bool, FitsSigned, List, None, Option, Some, [], add-one, ap, arith, cond, drop, false, get_or, inl, inr}
-pub use Rattle.std.proofs.Common.{length, length-append, length-drop, map, of_z, pos, refl, replicate, subst, suc, sym, take, to_z, true}
+pub use Rattle.std.proofs.Common.{Bool, FitsSigned, List, None, Option, Some, [], add-one, ap, arith, drop, false, get_or, inl, inr, length}
+pub use Rattle.std.proofs.Common.{length-append, length-drop, map, of_z, pos, refl, replicate, subst, suc, sym, take, to_z, true}
 pub use Rattle.std.proofs.Common.{unsigned_abs, zero, ℕ, ℤ, ◌%◌, ◌*ℤ◌, ◌*◌, ◌++◌, ◌+ℤ◌, ◌+◌, ◌-◌, ◌/◌, ◌<◌, ◌==◌, ◌^◌, ◌∙◌, ◌∷◌, ◌≡◌, ◌≤◌}
 pub use Rattle.std.proofs.Math.Nat.{div-add-mod, mod-lt, mod_self, mul-le-mul, mul-le-mul_left}
 pub use Rattle.std.proofs.Math.Seq.{drop-append-add}
 pub use Rattle.std.proofs.lemmas.Bool.{cases_lt, le-ltb}
 pub use Rattle.std.proofs.lemmas.Int.{fits_signed_from_abs, ints, to_z-of_z, unsigned_abs-mul}
 pub use Rattle.std.proofs.lemmas.List.{append-nil, at_drop_more, get_or-drop, get_or-map, get_or-replicate, get_or-take, length-map}
-pub use Rattle.std.proofs.lemmas.List.{length-replicate, length-take-le, map-append, take_all, take_more}
+pub use Rattle.std.proofs.lemmas.List.{length-replicate, length-take-le, map-append, take_all, take_more, nil_from_length}
 pub use Rattle.std.proofs.lemmas.List.Elements.{All-cons, All-nil}
 pub use Rattle.std.proofs.lemmas.Nat.{div-mul-add, mod-mul-add}
 pub use Rattle.std.specs.Bool.{beq}
@@ -21,7 +21,7 @@ pub use Rattle.chip_core.proofs.FieldLists.{length-binary}
 pub use Rattle.chip_core.proofs.Places.{get_or-map-places, length-map-places, map-places-all, map-places-more, places-none}
 pub use Rattle.chip_core.proofs.Ranges.{flat_map-places-more}
 pub use Rattle.chip_core.proofs.Ring.{diff-same, diff-times, distrib_right, split}
-pub use Rattle.chip_core.specs.Bits.{parity, places, sign, xor, zip_with}
+pub use Rattle.chip_core.specs.Bits.{places, sign, xor, zip_with}
 unfoldable pub use Rattle.chip_core.specs.Bits.{binary}
 pub use Rattle.chip_core.specs.Complex.{of_sample, origin, plus, times}
 pub use Rattle.chip_core.specs.Fields.{FieldsFit}
@@ -71,3 +71,4 @@ pub use Rattle.cell_plan.specs.declared.plan.Page.{Page}
 pub use Rattle.cell_plan.specs.declared.plan.PagingPlan.{PagingPlan}
 pub use Rattle.cell_plan.specs.declared.plan.SyncPlan.{SyncPlan}
 pub use Rattle.cell_plan.specs.declared.plan.TrafficPlan.{TrafficPlan}
+pub use Rattle.chip_core.proofs.Magnitudes.{sign_unit, abs_sum}

@@ -20,12 +20,6 @@ laid_all-more size l (q ∷ puts) p =
 pub no_page : Page
 no_page = record { follows = false; body = [] }
 
-pub any_default : (pages : List Page) (k : ℕ) (d e : Page) → k < length pages →
-    get_or pages k d ≡ get_or pages k e
-any_default [] k d e lt = absurd (omega (arith, lt))
-any_default (p ∷ pages) zero d e lt = refl
-any_default (p ∷ pages) (suc k) d e lt = any_default pages k d e (omega (arith, lt))
-
 pub laid_more : (size : ℕ) (form : CheckForm) (pages : List Page) (k : ℕ) → k < length pages →
     specs.laid_pages size form (take (k + 1) pages)
     ≡ laying.laid_on size (specs.laid_pages size form (take k pages))

@@ -1,12 +1,9 @@
 -- Numbers that fit a machine integer come back from it.
-use Rattle.cell_plan.proofs.Common.{◌≡◌, ◌+◌, ◌*◌, ◌≤◌, ◌^◌, arith, ℤ, ◌+ℤ◌, ◌*ℤ◌, unsigned_abs, to_z, of_z, w64, ints, to_z-of_z}
+use Rattle.cell_plan.proofs.Common.{◌≡◌, ◌+◌, ◌*◌, ◌≤◌, ◌^◌, arith, ℤ, ◌+ℤ◌, ◌*ℤ◌, unsigned_abs, to_z, of_z, w64, to_z-of_z, abs_sum}
 use Rattle.cell_plan.proofs.Common.{fits_signed_from_abs, unsigned_abs-mul, mul-le-mul}
 
 pub read64 : (z : ℤ) → unsigned_abs z ≤ 2 ^ 62 → to_z w64 (of_z w64 z) ≡ z
 read64 z small = to_z-of_z w64 z (fits_signed_from_abs w64 z (omega (arith, small)))
-
-pub more_most : (x y : ℤ) → unsigned_abs (x +ℤ y) ≤ unsigned_abs x + unsigned_abs y
-more_most x y = omega (arith, ints)
 
 -- ---- a level times a part of the link, added to a sum
 
@@ -29,4 +26,4 @@ level_added s l f sum small low =
       read64 f (omega (arith, low)),
       read64 (l *ℤ f) (omega (arith, product)),
     )
-    (read64 (s +ℤ (l *ℤ f)) (omega (arith, sum, product, more_most s (l *ℤ f))))
+    (read64 (s +ℤ (l *ℤ f)) (omega (arith, sum, product, abs_sum s (l *ℤ f))))

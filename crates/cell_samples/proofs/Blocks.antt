@@ -1,9 +1,9 @@
 -- The sums of channels over the 64 chips of a block, which the rows' transform gives.
 use Rattle.cell_samples.proofs.Common.{◌≡◌, ℕ, zero, suc, ◌+◌, ◌*◌, ◌%◌, ◌^◌, ◌<◌, ◌≤◌, List, [], ◌∷◌, length, get_or, map, drop, replicate}
-use Rattle.cell_samples.proofs.Common.{refl, sym, ap, ◌∙◌, arith, ℤ, pos, ◌+ℤ◌, ◌*ℤ◌, unsigned_abs, Bool, true, false, cond, ints}
+use Rattle.cell_samples.proofs.Common.{refl, sym, ap, ◌∙◌, arith, ℤ, pos, ◌+ℤ◌, ◌*ℤ◌, unsigned_abs, Bool, true, false, cond, ints, abs_sum}
 use Rattle.cell_samples.proofs.Common.{All-get_or, All-set, All-replicate, get_or-map, sign, common_parity, xor, binary, origin, plus, Pair}
 use Rattle.cell_samples.proofs.Common.{plus_assoc, plus-origin, origin-plus, walsh, walsh_sum_from, in_phase, quadrature, IsWithin}
-use Rattle.cell_samples.proofs.Common.{transform, get_or-transform, scaled_none, scaled_sum, times_moved, more_most, product_most, Carrier}
+use Rattle.cell_samples.proofs.Common.{transform, get_or-transform, scaled_none, scaled_sum, times_moved, product_most, Carrier}
 use Rattle.cell_samples.proofs.Common.{amplitude, amplitudes, level, scaled}
 use Rattle.std.proofs.Math.ListN.{set}
 use Rattle.std.specs.List.{All}
@@ -186,7 +186,7 @@ grows done row values new factor l inside small low is before =
     rw (i, sym more)
     (omega (
       arith,
-      more_most (get_or values row origin).i (l *ℤ factor.i),
+      abs_sum (get_or values row origin).i (l *ℤ factor.i),
       old.0,
       product_most l factor.i small low.0,
     )) in
@@ -194,7 +194,7 @@ grows done row values new factor l inside small low is before =
     rw (q, sym more)
     (omega (
       arith,
-      more_most (get_or values row origin).q (l *ℤ factor.q),
+      abs_sum (get_or values row origin).q (l *ℤ factor.q),
       old.1,
       product_most l factor.q small low.1,
     )) in

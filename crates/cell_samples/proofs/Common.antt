@@ -14,7 +14,7 @@ pub use Rattle.cdma_io.specs.SampleFile.{HasBits}
 pub use Rattle.cell_plan.proofs.Amplitudes.{chip_fits, chip_most, few_channels, most_part_small, scaled_none, scaled_sum}
 pub use Rattle.cell_plan.proofs.Amplitudes.{signal_of_carriers, times_moved}
 pub use Rattle.cell_plan.proofs.LaidPages.{IsLaying, cycle_is}
-pub use Rattle.cell_plan.proofs.MachineInts.{level_added, more_most, product_most, read64}
+pub use Rattle.cell_plan.proofs.MachineInts.{level_added, product_most, read64}
 pub use Rattle.cell_plan.proofs.PageCycles.{bit_more, bit_of_frame, frame_bits-is, frame_is, no_bits}
 pub use Rattle.cell_plan.proofs.Pieces.{pieces_are}
 pub use Rattle.cell_plan.proofs.SentBits.{before-first, coded, last_before}
@@ -66,3 +66,5 @@ pub use Rattle.cell_samples.specs.Channels.{ChannelState, carrier_of}
 pub use Rattle.cell_samples.specs.Continued.{frame_bits_of, frame_size, symbol_kind_of, repeats_in, scrambled_by}
 pub use Rattle.cell_samples.specs.declared.frame_source.FrameSource.{FrameSource}
 pub use Rattle.cell_samples.specs.declared.frame_source.FrameSource.TheVariants.{Paging, Sync}
+pub use Rattle.chip_core.proofs.Magnitudes.{sign_unit, abs_sum, abs_difference}
+pub use Rattle.chip_core.proofs.Finds.{any_default}

@@ -1,19 +1,12 @@
 -- The levels of channels that are kept for a block, and the chips that were made of them.
 use Rattle.cell_samples.proofs.Common.{◌≡◌, ℕ, suc, ◌+◌, ◌-◌, ◌%◌, ◌<◌, ◌≤◌, List, [], ◌∷◌, length, get_or, set, replicate, take, drop}
-use Rattle.cell_samples.proofs.Common.{refl, sym, ap, ◌∙◌, arith, ℤ, pos, ◌+ℤ◌, ◌*ℤ◌, unsigned_abs, Bool, true, ◌&&◌, map, below_more, zero}
+use Rattle.cell_samples.proofs.Common.{refl, sym, ap, ◌∙◌, arith, ℤ, pos, ◌+ℤ◌, ◌*ℤ◌, unsigned_abs, Bool, true, ◌&&◌, map, below_more}
 use Rattle.cell_samples.proofs.Common.{get_or-set_same, get_or-set_other, get_or-take, get_or-drop, subst, SFits, eqb, eqb-true, of_z, to_z}
 use Rattle.cell_samples.proofs.Common.{w64, and_parts, ints, to_z-of_z, get_or-replicate, length-map, set-get_or, All-replicate, All-set}
 use Rattle.cell_samples.proofs.Common.{sign, of_sample, origin, Pair, Sample, IsWithin, walsh, scaled_none, Carrier, amplitudes, level}
 use Rattle.cell_samples.proofs.Common.{scaled, AreChips, AreFirstLevels, AreLevels, AreQuiet, AreBlockSums, AreTurned, IsKeptBlock, IsLevel}
-use Rattle.cell_samples.proofs.Common.{IsQuiet, IsTurned, chip_at, no_sample, ChannelState, carrier_of}
+use Rattle.cell_samples.proofs.Common.{IsQuiet, IsTurned, chip_at, no_sample, ChannelState, carrier_of, any_default}
 use Rattle.std.specs.List.{All}
-
--- an entry is the same whatever stands for entries after the end
-any_default : {X : Type 0} (xs : List X) (n : ℕ) (d e : X) → n < length xs →
-    get_or xs n d ≡ get_or xs n e
-any_default [] n d e inside = absurd (omega (arith, inside))
-any_default (x ∷ xs) zero d e inside = refl
-any_default (x ∷ xs) (suc n) d e inside = any_default xs n d e (omega (arith, inside))
 
 -- ---- levels that are kept one by one
 

@@ -1,11 +1,11 @@
 -- A cell that runs: its channels, and the samples that are next.
 use Rattle.cell_samples.proofs.Common.{◌≡◌, ℕ, ◌+◌, ◌-◌, ◌*◌, ◌%◌, ◌<◌, ◌≤◌, List, ◌++◌, length, map, get_or, take, drop, sym, ap, ◌∙◌}
-use Rattle.cell_samples.proofs.Common.{arith, ℤ, pos, subst, Bool, true, false, unsigned_abs, sign, length-drop, length-map, map-append}
+use Rattle.cell_samples.proofs.Common.{arith, ℤ, pos, subst, length-drop, length-map, map-append}
 use Rattle.cell_samples.proofs.Common.{take_at, drop-drop, All-append, All-drop, All-from_get_or, take-put_mid, take-add, put_mid, times}
 use Rattle.cell_samples.proofs.Common.{of_sample, Pair, Sample, Width, length-pilot_signs, get_or-pilot_signs, code_point, pilot_chip}
 use Rattle.cell_samples.proofs.Common.{chip_signs, pilot_signs, HasBits, CellPlan, loudness, most_part, Carrier, amplitudes, carriers}
 use Rattle.cell_samples.proofs.Common.{sample_of, samples_of, scaled, IsPoint, phase_at, point_of, chip_fits, chip_most, few_channels}
-use Rattle.cell_samples.proofs.Common.{most_part_small, signal_of_carriers, pieces_are, AreQuiet, AreTurned, BlockState, chip_at}
+use Rattle.cell_samples.proofs.Common.{most_part_small, signal_of_carriers, pieces_are, AreQuiet, AreTurned, BlockState, chip_at, sign_unit}
 use Rattle.cell_samples.proofs.Common.{ChannelState, carrier_of}
 use Rattle.std.specs.List.{All}
 use Rattle.std.proofs.lemmas.List.{get_or-drop}
@@ -58,10 +58,6 @@ signs_ahead phase n signs is within =
 phase_on : (plan : CellPlan) (chip phase k : ℕ) → plan.cell.pn < 512 →
     phase ≡ phase_at plan chip → phase + k < 32768 → phase + k ≡ phase_at plan (chip + k)
 phase_on plan chip phase k pilot is below = omega (arith, pilot, is, below)
-
-sign_unit : (b : Bool) → unsigned_abs (sign b) ≤ 1
-sign_unit true = omega arith
-sign_unit false = omega arith
 
 all_points : All IsPoint pilot_signs
 all_points = λ k d inside.

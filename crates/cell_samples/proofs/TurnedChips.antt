@@ -1,6 +1,7 @@
 -- A chip times a point of the codes, whose parts have 16 bits.
-use Rattle.cell_samples.proofs.Common.{◌≡◌, ◌+◌, ◌≤◌, ◌∙◌, ℤ, ◌+ℤ◌, ◌-ℤ◌, ◌*ℤ◌, unsigned_abs, FitsSigned, arith, ints, refl, to_z, of_z}
-use Rattle.cell_samples.proofs.Common.{w8, w16, to_z-of_z, fits_signed_from_abs, more_most, of_sample, Sample, IsPoint, IsTurned}
+use Rattle.cell_samples.proofs.Common.{◌≡◌, ◌+◌, ◌≤◌, ◌∙◌, ℤ, ◌+ℤ◌, ◌-ℤ◌, ◌*ℤ◌, unsigned_abs, FitsSigned, arith, refl, to_z, of_z}
+use Rattle.cell_samples.proofs.Common.{w8, w16, to_z-of_z, fits_signed_from_abs, of_sample, Sample, IsPoint, IsTurned, abs_sum}
+use Rattle.cell_samples.proofs.Common.{abs_difference}
 
 read8 : (z : ℤ) → unsigned_abs z ≤ 1 → to_z w8 (of_z w8 z) ≡ z
 read8 z small = to_z-of_z w8 z (fits_signed_from_abs w8 z (omega (arith, small)))
@@ -8,20 +9,17 @@ read8 z small = to_z-of_z w8 z (fits_signed_from_abs w8 z (omega (arith, small))
 read16 : (z : ℤ) → unsigned_abs z ≤ 32767 → to_z w16 (of_z w16 z) ≡ z
 read16 z small = to_z-of_z w16 z (fits_signed_from_abs w16 z (omega (arith, small)))
 
-less_most : (x y : ℤ) → unsigned_abs (x -ℤ y) ≤ unsigned_abs x + unsigned_abs y
-less_most x y = omega (arith, ints)
-
 difference_is : (x y : ℤ) → unsigned_abs x + unsigned_abs y ≤ 32767 →
     to_z w16 (of_z w16 (to_z w16 (of_z w16 x) -ℤ to_z w16 (of_z w16 y))) ≡ x -ℤ y
 difference_is x y small =
     rw (read16 x (omega (arith, small)), read16 y (omega (arith, small)))
-    (read16 (x -ℤ y) (omega (arith, small, less_most x y)))
+    (read16 (x -ℤ y) (omega (arith, small, abs_difference x y)))
 
 sum_is : (x y : ℤ) → unsigned_abs x + unsigned_abs y ≤ 32767 →
     to_z w16 (of_z w16 (to_z w16 (of_z w16 x) +ℤ to_z w16 (of_z w16 y))) ≡ x +ℤ y
 sum_is x y small =
     rw (read16 x (omega (arith, small)), read16 y (omega (arith, small)))
-    (read16 (x +ℤ y) (omega (arith, small, more_most x y)))
+    (read16 (x +ℤ y) (omega (arith, small, abs_sum x y)))
 
 -- a part with a sign, by what is known of both in their bits
 pub record IsSigned (part sign made : ℤ) : Type 0 where
@@ -51,7 +49,7 @@ pub difference_fits : (chip : Sample) (signs : ℤ × ℤ) (a b : ℤ) →
 difference_fits chip signs a b quiet first second =
     let small = signed_small _ _ _ _ a b quiet first second in
     rw (read16 a (omega (arith, small)), read16 b (omega (arith, small)))
-    (fits_signed_from_abs w16 (a -ℤ b) (omega (arith, small, less_most a b)))
+    (fits_signed_from_abs w16 (a -ℤ b) (omega (arith, small, abs_difference a b)))
 
 pub sum_fits : (chip : Sample) (signs : ℤ × ℤ) (a b : ℤ) →
     unsigned_abs chip.i + unsigned_abs chip.q ≤ 32767 →
@@ -60,7 +58,7 @@ pub sum_fits : (chip : Sample) (signs : ℤ × ℤ) (a b : ℤ) →
 sum_fits chip signs a b quiet first second =
     let small = signed_small _ _ _ _ a b quiet first second in
     rw (read16 a (omega (arith, small)), read16 b (omega (arith, small)))
-    (fits_signed_from_abs w16 (a +ℤ b) (omega (arith, small, more_most a b)))
+    (fits_signed_from_abs w16 (a +ℤ b) (omega (arith, small, abs_sum a b)))
 
 -- A chip times a point of the codes fits into 16 bits: the point's parts are 1 or -1, so each
 -- product is one part of the chip or its negative, and the sum or the difference of two is at most
@@ -88,6 +86,6 @@ turned_is chip signs a b d e quiet point a_signed b_signed d_signed e_signed =
     let e_is = signed_is _ _ e y point.0 e_signed in
     record {
       value = rw (i, q, a_is, b_is, d_is, e_is) refl;
-      in_phase = rw i (omega (arith, a_most, b_most, less_most a b));
-      quadrature = rw q (omega (arith, d_most, e_most, more_most d e));
+      in_phase = rw i (omega (arith, a_most, b_most, abs_difference a b));
+      quadrature = rw q (omega (arith, d_most, e_most, abs_sum d e));
     }

@@ -114,3 +114,4 @@ pub use Rattle.cell_script.specs.declared.stage.Stage.TheVariants.{Sync, Traffic
 pub use Rattle.cell_script.specs.declared.statements.PagingLine.{PagingLine}
 pub use Rattle.cell_script.specs.declared.statements.Statement.{Statement}
 pub use Rattle.cell_script.specs.declared.statements.TrafficLine.{TrafficLine}
+pub use Rattle.chip_core.proofs.Magnitudes.{abs_fits}

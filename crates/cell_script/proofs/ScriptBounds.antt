@@ -1,11 +1,11 @@
 -- What the statements of a script say is within its bounds.
 use Rattle.cell_script.proofs.Common.{◌≡◌, ℕ, zero, suc, ◌+◌, ◌*◌, ◌^◌, ◌<◌, ◌≤◌, Bool, true, false, cond, List, [], ◌∷◌, length, get_or}
 use Rattle.cell_script.proofs.Common.{refl, sym, subst, ◌∙◌, arith, ℤ, unsigned_abs, Option, None, Some, IfSome, codes, nat_le, nat_lt}
-use Rattle.cell_script.proofs.Common.{◌==◌, option_and_then, option_map, FitsSigned, w16, and_parts, cond-false, cond-true, eqb-false}
-use Rattle.cell_script.proofs.Common.{eqb-true, leb-true, ltb-true, ints, cond_some, same_Some, norm, FieldsFit, IsState, fixed_fields}
+use Rattle.cell_script.proofs.Common.{◌==◌, option_and_then, option_map, and_parts, cond-false, cond-true, eqb-false}
+use Rattle.cell_script.proofs.Common.{eqb-true, leb-true, ltb-true, cond_some, same_Some, norm, FieldsFit, IsState, fixed_fields}
 use Rattle.cell_script.proofs.Common.{IsSyncMessage, SyncFields, admitted, SyncPlan, CellIdentity, LinkPlan, NumberRow, AreUpTo, at_end}
 use Rattle.cell_script.proofs.Common.{script_field, numbers_in, past, value_of, cell_in, cell_line, freq_in, has_lawful_rest, is_link}
-use Rattle.cell_script.proofs.Common.{link_in}
+use Rattle.cell_script.proofs.Common.{link_in, abs_fits}
 use Rattle.cell_script.proofs.Common.{link_line, sync_behind, sync_fields, sync_in, traffic_frame_in, frame_key, frame_rate}
 use Rattle.cell_script.proofs.Common.{FrameRate, lawful_frame, traffic_in, stated_traffic_line, lawful_message, lawful_page}
 use Rattle.cell_script.proofs.Common.{stated_page_in}
@@ -89,13 +89,10 @@ numbers_up_to (f ∷ fields) text =
     (first_up_to f fields n ns (number_field f.key f.most text n n_is)
     (numbers_up_to fields (past f.key text) ns ns_is))
 
-signed_most : (z : ℤ) → FitsSigned w16 z → unsigned_abs z ≤ 32768
-signed_most z fits = omega (arith, ints, fits.sfits)
-
 signed_field : (key text : List ℕ) (z : ℤ) → script_field key signed_in text ≡ Some z →
     unsigned_abs z ≤ 32768
 signed_field key text z e =
-    signed_most z
+    abs_fits z
     ((one_signed_numeral z (value_of key text)).0 (field_read key signed_in text z e)).1
 
 state_some : (n state : ℕ) (none : Bool) → (n == 0) ≡ none →

@@ -7,7 +7,7 @@ use Rattle.std.proofs.lemmas.Nat.Bits.{bit_at_and}
 use Rattle.chip_core.specs.Bits.{xor, parity, binary, zip_with, common_parity}
 use Rattle.chip_core.proofs.BitLists.{xor_assoc, zip_push}
 use Rattle.chip_core.proofs.Digits.{one_bit_xor}
-use Rattle.chip_core.proofs.RegisterBits.{length-binary}
+use Rattle.chip_core.proofs.FieldLists.{length-binary}
 
 abbrev both : Bool → Bool → Bool
 both a b = cond a b false

@@ -5,10 +5,11 @@ use Rattle.std.proofs.lemmas.Nat.{xor_shr, pow_pos, field_of}
 use Rattle.std.proofs.Math.Nat.{lt-div-mul-add}
 use Rattle.std.proofs.lemmas.Nat.Bits.{bit_at_xor}
 use Rattle.std.proofs.Math.Pow.{mod-mod-pow}
-use Rattle.chip_core.specs.Bits.{xor, digit, number, binary}
+use Rattle.chip_core.specs.Bits.{xor, number, binary}
 use Rattle.chip_core.proofs.Numerals.{number_from-append, number_from-front}
 use Rattle.chip_core.proofs.BitLists.{add, zip_push}
-use Rattle.chip_core.proofs.RegisterBits.{length-binary}
+use Rattle.chip_core.specs.Packing.{digit_of}
+use Rattle.chip_core.proofs.FieldLists.{length-binary}
 
 same_length : (w a b : ℕ) → length (binary w a) ≡ length (binary w b)
 same_length w a b = length-binary w a ∙ sym (length-binary w b)
@@ -55,11 +56,6 @@ binary-low (suc w) v n =
     let half : n % 2 ^ (w + v + 1) / 2 ≡ n / 2 % 2 ^ (w + v) = field_of n (w + v) 1 in
     let low : n % 2 ^ (w + v + 1) % 2 ≡ n % 2 = mod-mod-pow n (w + v) 1 in
     rw (place, half, low, binary-low w v (n / 2))
-
-pub digit_of : (p : ℕ) → p < 2 → digit (nat_eq p 1) ≡ p
-digit_of zero h = refl
-digit_of (suc zero) h = refl
-digit_of (suc (suc p)) h = absurd (omega (arith, h))
 
 pub number-binary : (w n : ℕ) → n < 2 ^ w → number (binary w n) ≡ n
 unfolding binary

@@ -56,14 +56,6 @@ width_at [] i d widths within = absurd (omega (arith, within))
 width_at (f ∷ fs) zero d widths within = (widths.0, widths.1)
 width_at (f ∷ fs) (suc i) d widths within = width_at fs i d widths.2 (omega (arith, within))
 
--- a loop has gone over the first i bits of a list, and over one more
-pub bits_more : (bits : List Bool) (i : ℕ) (bit : Bool) → slice_get bits i ≡ Some bit →
-    take (i + 1) bits ≡ take i bits ++ bit ∷ []
-bits_more bits i bit read =
-    let within : i < length bits = slice_get_within bits i bit read in
-    take_more bits i bit within ∙
-    ap (λ (b : Bool). take i bits ++ b ∷ []) (get_or_from_slice_get bits i bit bit read)
-
 pub slice_get-drop : (from : ℕ) (bits : List Bool) (i : ℕ) (bit : Bool) →
     slice_get bits (from + i) ≡ Some bit → slice_get (drop from bits) i ≡ Some bit
 slice_get-drop from bits i bit read =

@@ -5,8 +5,10 @@ pub mod Counted
 pub mod ComplexSums
 pub mod Digits
 pub mod FieldLists
+pub mod Finds
 pub mod Greatest
 pub mod IndexSums
+pub mod Magnitudes
 pub mod Numerals
 pub mod Places
 pub mod Ranges

@@ -1,11 +1,13 @@
 -- The bits of shift registers, and sums modulo 2 of them.
 use Rattle.std.proofs.Common.{◌≡◌, ℕ, zero, suc, ◌+◌, ◌-◌, ◌*◌, ◌/◌, ◌%◌, ◌^◌, ◌<◌, ◌≤◌, Bool, true, false, not, List, [], ◌∷◌, ◌++◌}
 use Rattle.std.proofs.Common.{length, get_or, map, drop, refl, sym, ap, ◌∙◌, arith, bit_and, nat_eq, add-one}
-use Rattle.std.proofs.lemmas.List.{at_drop_more, drop_all, get_or_append_left, get_or_push, length_push}
+use Rattle.std.proofs.lemmas.List.{at_drop_more, drop_all, get_or_append_left, get_or_push}
 use Rattle.std.proofs.lemmas.Nat.{and_mask, field_of, shr-shr}
 use Rattle.std.proofs.Math.Pow.{mod-mod-pow}
 use mathlib.Core.Bool.{beq}
 use Rattle.chip_core.specs.Bits.{xor, parity, digit, bit_of, binary}
+use Rattle.chip_core.proofs.Numerals.{half_of}
+use Rattle.chip_core.proofs.FieldLists.{length-binary}
 
 pub xor_false : (a : Bool) → xor a false ≡ a
 xor_false true = refl
@@ -60,17 +62,13 @@ pub bit_of-first : (r : ℕ) (b : Bool) → bit_of (2 * r + digit b) 0 ≡ b
 bit_of-first r true = let e : (2 * r + 1) / 2 ^ 0 % 2 ≡ 1 = omega arith in ap (λ n. nat_eq n 1) e
 bit_of-first r false = let e : (2 * r + 0) / 2 ^ 0 % 2 ≡ 0 = omega arith in ap (λ n. nat_eq n 1) e
 
-halved : (r : ℕ) (b : Bool) → (2 * r + digit b) / 2 ≡ r
-halved r true = omega arith
-halved r false = omega arith
-
 pub bit_of-half : (n k : ℕ) → bit_of n (suc k) ≡ bit_of (n / 2) k
 bit_of-half n k =
     let place : suc k ≡ 1 + k = omega arith in
     ap (λ m. nat_eq (m % 2) 1) (ap (λ e. n / 2 ^ e) place ∙ sym (shr-shr n 1 k))
 
 pub bit_of-next : (r : ℕ) (b : Bool) (k : ℕ) → bit_of (2 * r + digit b) (suc k) ≡ bit_of r k
-bit_of-next r b k = bit_of-half (2 * r + digit b) k ∙ ap (λ m. bit_of m k) (halved r b)
+bit_of-next r b k = bit_of-half (2 * r + digit b) k ∙ ap (λ m. bit_of m k) (half_of r b)
 
 -- the clauses of `binary`, which unfolds nowhere else
 pub binary-none : (n : ℕ) → binary 0 n ≡ []
@@ -80,11 +78,6 @@ binary-none n = refl
 pub binary-more : (w n : ℕ) → binary (w + 1) n ≡ binary w (n / 2) ++ bit_of n 0 ∷ []
 unfolding binary
 binary-more w n = let whole : n / 2 ^ 0 ≡ n = omega arith in rw (add-one w, whole)
-
-pub length-binary : (w n : ℕ) → length (binary w n) ≡ w
-unfolding binary
-length-binary zero n = refl
-length-binary (suc w) n = length_push (binary w (n / 2)) _ ∙ omega (arith, length-binary w (n / 2))
 
 -- the digits of a number, the highest first
 pub get_or-binary : (w n k : ℕ) → k < w → get_or (binary w n) (w - 1 - k) false ≡ bit_of n k

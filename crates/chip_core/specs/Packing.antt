@@ -23,12 +23,12 @@ unfolding unpacked
 get_or-unpacked words count i d h =
     get_or-map-range_with_len (word_bit words) 0 count i i d h (omega arith)
 
-digit_test : (m : ℕ) → m < 2 → digit (nat_eq m 1) ≡ m
-digit_test zero h = refl
-digit_test (suc zero) h = refl
-digit_test (suc (suc m)) h = absurd (omega (arith, h))
+pub digit_of : (m : ℕ) → m < 2 → digit (nat_eq m 1) ≡ m
+digit_of zero h = refl
+digit_of (suc zero) h = refl
+digit_of (suc (suc m)) h = absurd (omega (arith, h))
 
-halved : (b : Bool) (n : ℕ) → (digit b + 2 * n) / 2 ≡ n
+pub halved : (b : Bool) (n : ℕ) → (digit b + 2 * n) / 2 ≡ n
 halved true n = omega arith
 halved false n = omega arith
 
@@ -44,11 +44,11 @@ bit_at-low_first (b ∷ bits) (suc i) =
     bit_at-suc (digit b + 2 * low_first bits) i ∙
     ap (λ (n : ℕ). n / 2 ^ i % 2) (halved b (low_first bits)) ∙ bit_at-low_first bits i
 
-digit_le : (b : Bool) → digit b ≤ 1
+pub digit_le : (b : Bool) → digit b ≤ 1
 digit_le true = omega arith
 digit_le false = omega arith
 
-low_first_below : (bits : List Bool) → low_first bits < 2 ^ length bits
+pub low_first_below : (bits : List Bool) → low_first bits < 2 ^ length bits
 low_first_below [] = omega arith
 low_first_below (b ∷ bits) =
     let below : digit b + 2 * low_first bits < 2 ^ (suc (length bits)) =
@@ -83,7 +83,7 @@ words_again words count h =
     omega (arith, most, low_first_below (bits k)))
     (λ i within.
     sym (bit_at-low_first (bits k) i ∙ ap digit (word_again words count k i h within) ∙
-    digit_test (get_or words k 0 / 2 ^ i % 2) (bit_at-lt (get_or words k 0) i))))
+    digit_of (get_or words k 0 / 2 ^ i % 2) (bit_at-lt (get_or words k 0) i))))
 
 pub packed-unpacked : (a : Inside) → IsPacked a.words a.count →
     record {

@@ -14,11 +14,12 @@ pub use Rattle.std.specs.Prelude.{nat_le, nat_lt}
 pub use Rattle.chip_core.proofs.BitLists.{add, length_add, taken_more}
 pub use Rattle.chip_core.proofs.Numerals.{bool_byte-digit}
 pub use Rattle.chip_core.proofs.Places.{places-more, places-none}
-pub use Rattle.chip_core.proofs.RegisterBits.{bit_of-first, bit_of-next, get_or-binary, length-binary, low_bit, parity_done, xor_false}
-pub use Rattle.chip_core.proofs.RegisterBits.{xor_step}
+pub use Rattle.chip_core.proofs.RegisterBits.{bit_of-first, bit_of-next, get_or-binary, low_bit, parity_done, xor_false, xor_step}
 pub use Rattle.chip_core.specs.Bits.{binary, bit_of, digit, parity, xor, zip_with}
 unfoldable pub use Rattle.chip_core.specs.Bits.{places}
 pub use mathlib.Core.Bool.{beq}
 pub use mir.Val.{bool_byte}
 pub use Rattle.conv_code.specs.ConvCode.{code_symbols, g0, g1, state_after, symbol}
 pub use Rattle.conv_code.specs.Laws.{IsContinuedCode, IsDistinctCode}
+pub use Rattle.chip_core.proofs.FieldLists.{length-binary}
+pub use Rattle.chip_core.proofs.Ranges.{flat_map_ext_places}

@@ -3,7 +3,7 @@ use Rattle.conv_code.proofs.Common.{◌≡◌, ℕ, zero, suc, ◌+◌, ◌-◌,
 use Rattle.conv_code.proofs.Common.{drop, refl, sym, ap, ◌∙◌, arith, append_assoc, append-nil, length-append, length-drop, nat_le, flat_map}
 use Rattle.conv_code.proofs.Common.{list_all, get_or_append_left, get_or-drop, drop-append-le, drop-drop, flat_map-append, and_parts}
 use Rattle.conv_code.proofs.Common.{leb-true, parity, places, places-none, places-more, symbol, g0, g1, code_symbols, state_after}
-use Rattle.conv_code.proofs.Common.{IsContinuedCode}
+use Rattle.conv_code.proofs.Common.{IsContinuedCode, flat_map_ext_places}
 
 -- the two symbols of a place
 abbrev pub pair : List Bool → ℕ → List Bool
@@ -25,17 +25,6 @@ split {X} f m (suc n) =
     ∙ ap (λ (xs : List X). xs ++ flat_map f ((m + n) ∷ [])) (split f m n)
     ∙ append_assoc (flat_map f (places m)) (flat_map g (places n)) (flat_map f ((m + n) ∷ []))
     ∙ ap (λ (xs : List X). flat_map f (places m) ++ xs) (sym last))
-
-same_each : {X : Type 0} (f g : ℕ → List X) (n : ℕ) → ((j : ℕ) → j < n → f j ≡ g j) →
-    flat_map f (places n) ≡ flat_map g (places n)
-same_each f g zero h = rw places-none
-same_each {X} f g (suc n) h =
-    let here : suc n ≡ n + 1 = omega arith in
-    rw (here, places-more n)
-    (flat_map-append f (places n) (n ∷ [])
-    ∙ ap (λ (xs : List X). xs ++ (f n ++ [])) (same_each f g n (λ j l. h j (omega (arith, l))))
-    ∙ ap (λ (xs : List X). flat_map g (places n) ++ (xs ++ [])) (h n (omega arith))
-    ∙ sym (flat_map-append g (places n) (n ∷ [])))
 
 taps_same : (x y : List Bool) (j k : ℕ) (generator : List ℕ) →
     list_all (λ back. nat_le back 8) generator ≡ true →
@@ -89,9 +78,9 @@ continued start xs ys eight =
     rw (length-append xs ys)
     (split (pair joined) m n
     ∙ ap (λ (r : List Bool). r ++ flat_map (λ j. pair joined (m + j)) (places n))
-    (same_each (pair joined) (pair (start ++ xs)) m (λ j lt. before start xs ys j eight lt))
+    (flat_map_ext_places (pair joined) (pair (start ++ xs)) m (λ j lt. before start xs ys j eight lt))
     ∙ ap (λ (r : List Bool). code_symbols start xs ++ r)
-    (same_each (λ j. pair joined (m + j)) (pair (state_after start xs ++ ys)) n
+    (flat_map_ext_places (λ j. pair joined (m + j)) (pair (state_after start xs ++ ys)) n
     (λ j lt. behind start xs ys j eight)))
 
 -- no bits have no symbols, and one bit has two

@@ -1,6 +1,6 @@
 -- The best codeword of the gathered soft values is the best codeword of the span.
 use Rattle.frame_decoder.proofs.Common.{◌≡◌, ℕ, zero, suc, ◌+◌, ◌*◌, ◌<◌, ◌≤◌, List, length, take, drop, reverse, refl, ap, ◌∙◌, arith, ℤ}
-use Rattle.frame_decoder.proofs.Common.{length-drop, if◌then◌else◌, int_lt, length-reverse, binary, first_greatest, length-binary, shape_of}
+use Rattle.frame_decoder.proofs.Common.{length-drop, if◌then◌else◌, int_lt, length-reverse, binary, first_greatest, shape_of, length-binary}
 use Rattle.frame_decoder.proofs.Common.{size, Kind, Codeword, score_of, codeword_count, codeword_at, best_codeword, IsBestCodeword, Free}
 use Rattle.frame_decoder.proofs.Common.{by_definition, Channel, sending, score, gathered_span, own_bits}
 use Rattle.frame_decoder.proofs.Parts.{within}

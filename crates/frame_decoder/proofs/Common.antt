@@ -28,7 +28,6 @@ pub use Rattle.std.specs.Option.{option_map, unwrap_or}
 pub use Rattle.std.specs.Prelude.{IsTrue, None, Option, Some, if◌then◌else◌, int_lt, ◌*ℤ◌, ◌<ℤ◌, ◌↔◌}
 pub use Rattle.chip_core.proofs.Greatest.{first_greatest-is}
 pub use Rattle.chip_core.proofs.Places.{get_or-map-places, length-map-places, map-places-all, places-more, places-none, places_is}
-pub use Rattle.chip_core.proofs.RegisterBits.{length-binary}
 pub use Rattle.chip_core.specs.Bits.{binary, digit, places, sign, xor}
 pub use Rattle.chip_core.specs.Sums.{IsFirstGreatest}
 unfoldable pub use Rattle.chip_core.specs.Sums.{first_greatest}
@@ -71,3 +70,4 @@ unfoldable pub use Rattle.frame_decoder.specs.TrafficFrames.{decoded}
 pub use Rattle.quality_bits.specs.declared.format.FrameFormat.{FrameFormat}
 pub use Rattle.frame_decoder.specs.declared.formats.DecodedFrame.{DecodedFrame}
 pub use Rattle.frame_decoder.specs.declared.traffic.Decoded.{Decoded}
+pub use Rattle.chip_core.proofs.FieldLists.{length-binary}

@@ -116,7 +116,7 @@ candidate_below {R} d softs format (w ∷ ws) h =
     found_of (Below d) g w (find (λ v. is_right format v.bits) ws) (is_right format w.bits) (All-head low w ws h)
     (candidate_below d softs format ws (All-tail low w ws h))
 
-no_first : {A : Type 0} {B : Type 0} (x : A) → [] ≡ x ∷ [] → B
+pub no_first : {A : Type 0} {B : Type 0} (x : A) → [] ≡ x ∷ [] → B
 no_first {A} x e = let long = ap (λ (xs : List A). length xs) e in absurd (omega (arith, long))
 
 pub first_found : (test : Codeword → Bool) (ws : List Codeword) (w : Codeword) → take 1 ws ≡ w ∷ [] →

@@ -2,7 +2,7 @@
 pub use Rattle.std.proofs.Common.{Bool, Fits, Fits-le, Fits-lit, FitsSigned, List, None, Option, Some, [], add-one, ap, append-nil}
 pub use Rattle.std.proofs.Common.{append_assoc, arith, drop, false, get_or, inl, inr, length, length-append, map, nat_eq, of_z, pos, refl}
 pub use Rattle.std.proofs.Common.{rules, set, subst, suc, sym, take, to_z, true, unsigned_abs, vec_len, w32, w64, zero, ℕ, ℤ, ⊎_elim, ◌%◌}
-pub use Rattle.std.proofs.Common.{◌*ℤ◌, ◌*◌, ◌++◌, ◌+ℤ◌, ◌+◌, ◌-ℤ◌, ◌-◌, ◌/◌, ◌<ℤ◌, ◌<◌, ◌^◌, ◌∙◌, ◌∷◌, ◌≡◌, ◌≤ℤ◌, ◌≤◌, ◌⊎◌}
+pub use Rattle.std.proofs.Common.{◌*◌, ◌++◌, ◌+ℤ◌, ◌+◌, ◌-ℤ◌, ◌-◌, ◌/◌, ◌<ℤ◌, ◌<◌, ◌^◌, ◌∙◌, ◌∷◌, ◌≡◌, ◌≤ℤ◌, ◌≤◌, ◌⊎◌}
 pub use Rattle.std.proofs.Math.Nat.{two-pow-succ}
 pub use Rattle.std.proofs.Math.Pow.{pow_mono}
 pub use Rattle.std.proofs.lemmas.Bool.{cases_eq, cases_lt, cases_order}
@@ -28,14 +28,14 @@ pub use Rattle.std.specs.Int.Signed.{non_neg, yes_non_neg}
 pub use Rattle.std.specs.List.{IsDistinct, find, list_all, list_any, range_with_len, sum_by}
 pub use Rattle.std.specs.Prelude.{All, AllPairs, Contains, cond, eqb, if◌then◌else◌, int_lt, min, nat_le, nat_lt, slice_get}
 pub use Rattle.chip_core.proofs.Greatest.{tested, untested}
-pub use Rattle.chip_core.proofs.RegisterBits.{length-binary, low_bit}
+pub use Rattle.chip_core.proofs.RegisterBits.{low_bit}
 pub use Rattle.chip_core.proofs.Unless.{AllTaken, IsGreatestUnless, nat_lt-true, scanned}
-pub use Rattle.chip_core.specs.Bits.{binary, bit_of, digit, sign}
+pub use Rattle.chip_core.specs.Bits.{binary, bit_of, digit}
 pub use Rattle.chip_core.specs.Sums.{greatest_unless}
 unfoldable pub use Rattle.chip_core.specs.Sums.{first_places}
 pub use Rattle.conv_code.proofs.Continued.{state_after-none}
 pub use Rattle.conv_code.specs.ConvCode.{state_after}
-pub use Rattle.viterbi.proofs.BlockSteps.{gain_fits, gains_read, pattern_small, lane_small}
+pub use Rattle.viterbi.proofs.BlockSteps.{gain_fits, gains_read, pattern_small, lane_small, gain_size}
 pub use Rattle.viterbi.proofs.Blocks.{kept, made_fit, passed}
 pub use Rattle.viterbi.proofs.Choices.{Either, IsPushed, leads_both, leads_trans, rank_of-pushed, stays_first, codewords_same}
 pub use Rattle.viterbi.proofs.Codes.{code_gains}
@@ -62,12 +62,11 @@ pub use Rattle.viterbi.specs.declared.codeword.Ends.{Ends}
 pub use Rattle.viterbi.specs.declared.codeword.Ends.TheVariants.{Free, Zero}
 pub use lib.Dec.{T}
 pub use lib.Lanes.{Each1, Each2, put_chunk, sel_l, zip2}
-pub use mir.Val.{SFits, bool_byte}
+pub use mir.Val.{SFits}
 pub use Rattle.list_viterbi.specs.First.{AreFirst, HaveScores, first_codewords, codeword_of}
-pub use Rattle.list_viterbi.specs.Heads.{AreWeights, HeadsFit, HeadsLong, IsWeight, MadeFit, PairPicked, ColumnValue}
-pub use Rattle.list_viterbi.specs.Heads.{even_after, even_after_two, even_heads, four_of, heads_from, lane_of, lane_sum, less_heads}
-pub use Rattle.list_viterbi.specs.Heads.{made_heads, odd_after, odd_after_two, odd_heads, put_choices, put_heads}
-pub use Rattle.list_viterbi.specs.Heads.{taken_scores, taken_weights, two_from}
+pub use Rattle.list_viterbi.specs.Heads.{AreWeights, HeadsFit, HeadsLong, IsWeight, MadeFit, PairPicked, ColumnValue, even_after}
+pub use Rattle.list_viterbi.specs.Heads.{even_after_two, even_heads, four_of, heads_from, lane_of, lane_sum, less_heads, made_heads}
+pub use Rattle.list_viterbi.specs.Heads.{odd_after, odd_after_two, odd_heads, put_choices, put_heads, taken_scores, taken_weights, two_from}
 unfoldable pub use Rattle.list_viterbi.specs.Heads.{four_choices, four_scores, column_of}
 pub use Rattle.list_viterbi.specs.Laws.{HaveBestFirst, HaveFirstPassing, NamesOneList}
 pub use Rattle.list_viterbi.specs.Merging.{EntryHasRoom, EntriesStart, entry_extended_by, entry_score, second_is_next}
@@ -82,3 +81,8 @@ unfoldable pub use Rattle.list_viterbi.specs.Turns.{turned_choices, turned_score
 pub use Rattle.list_viterbi.specs.declared.finds.Find.{Find}
 pub use Rattle.list_viterbi.specs.declared.lanes.Heads.{Heads}
 pub use Rattle.list_viterbi.specs.declared.codewords.Entry.{Entry}
+pub use Rattle.chip_core.proofs.Magnitudes.{abs_sum, abs_difference}
+pub use Rattle.chip_core.specs.Packing.{digit_le}
+pub use Rattle.chip_core.proofs.FieldLists.{length-binary}
+pub use Rattle.chip_core.proofs.Numerals.{bool_byte-digit}
+pub use Rattle.chip_core.proofs.Finds.{left_at}

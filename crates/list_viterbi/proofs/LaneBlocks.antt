@@ -31,12 +31,6 @@ two_fit made ranks (x ∷ y ∷ []) i long below size room = (
         ),
       )
 
-pub plus_size : (x y : ℤ) → unsigned_abs (x +ℤ y) ≤ unsigned_abs x + unsigned_abs y
-plus_size x y = omega (arith, ints)
-
-pub minus_size : (x y : ℤ) → unsigned_abs (x -ℤ y) ≤ unsigned_abs x + unsigned_abs y
-minus_size x y = omega (arith, ints)
-
 -- scores and choices of the states of two blocks
 abbrev pub lower_even : List ℤ → List ℤ → ℕ → Heads
 lower_even ranks gain block = made_heads (λ x y. x +ℤ y) (heads_from ranks (4 * block)) gain

@@ -1,9 +1,9 @@
 -- What the calls for four states make together.
 use Rattle.list_viterbi.proofs.Common.{◌≡◌, ℕ, ◌+◌, ◌*◌, ◌/◌, ◌%◌, ◌^◌, ◌<◌, ◌≤◌, List, [], ◌∷◌, length, get_or, sym, ap, subst, ◌∙◌, arith}
-use Rattle.list_viterbi.proofs.Common.{ℤ, pos, unsigned_abs, FitsSigned, to_z, of_z, w64, fits_signed_from_abs, SFits, gain_by}
+use Rattle.list_viterbi.proofs.Common.{ℤ, pos, unsigned_abs, FitsSigned, to_z, of_z, w64, fits_signed_from_abs, SFits, gain_by, gain_size}
 use Rattle.list_viterbi.proofs.Common.{lane_code_of, lane_codes, patterns, kept, passed, pattern_small, gain_fits, Heads, HeadsFit, MadeFit}
 use Rattle.list_viterbi.proofs.Common.{made_fit, made_heads, two_from, heads_from}
-use Rattle.list_viterbi.proofs.StateCodes.{gain_by_size, gain_passed}
+use Rattle.list_viterbi.proofs.StateCodes.{gain_passed}
 use Rattle.list_viterbi.proofs.LaneBlocks.{two_fit, lower_even, lower_odd, upper_even, upper_odd}
 use Rattle.list_viterbi.proofs.LaneGains.{code_two}
 
@@ -115,5 +115,5 @@ gains_room ranks lanes f s block room are l t b c =
     let most = room t c in
     let size : unsigned_abs (get_or lanes l (pos 0)) ≤ unsigned_abs f + unsigned_abs s =
     subst (λ (z : ℤ). unsigned_abs z ≤ unsigned_abs f + unsigned_abs s) (sym (are l b))
-    (gain_by_size f s (lane_code_of (2 * block + l))) in
+    (gain_size f s (lane_code_of (2 * block + l))) in
     omega (arith, most, size)

@@ -8,7 +8,6 @@ pub mod Steps
 pub mod Rooms
 pub mod Places
 pub mod Passing
-pub mod BoolBytes
 pub mod Masks
 pub mod StateCodes
 pub mod Pairs

@@ -102,10 +102,6 @@ weight_next weight next scores value power double =
     double ∙ ap (λ (w : ℕ). w + w) power ∙ sym (two-pow-succ (length scores))
     ∙ ap (λ (n : ℕ). 2 ^ n) (sym longer)
 
-pub digit_most : (b : Bool) → digit b ≤ 1
-digit_most true = omega arith
-digit_most false = omega arith
-
 pub ones_next : (c n ones one : ℕ) (b : Bool) → ones ≡ ones_below c n → b ≡ bit_of c n →
     one ≡ digit b → ones + one ≡ ones_below c (n + 1)
 unfolding ones_below

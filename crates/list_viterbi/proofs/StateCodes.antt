@@ -1,30 +1,18 @@
 -- What a bit adds, by a state's code.
-use Rattle.list_viterbi.proofs.Common.{◌≡◌, ℕ, ◌+◌, ◌*◌, ◌/◌, ◌%◌, ◌<◌, ◌≤◌, Bool, true, false, get_or, arith, sym, subst, ℤ, ◌+ℤ◌, ◌*ℤ◌}
-use Rattle.list_viterbi.proofs.Common.{unsigned_abs, to_z, of_z, w64, ints, to_z-of_z, SFits, bit_of, sign, patterns, lane_code_of, gain_by}
-use Rattle.list_viterbi.proofs.Common.{pattern_small, lane_small}
+use Rattle.list_viterbi.proofs.Common.{◌≡◌, ℕ, ◌+◌, ◌*◌, ◌/◌, ◌%◌, ◌<◌, ◌≤◌, get_or, arith, sym, subst, ℤ}
+use Rattle.list_viterbi.proofs.Common.{unsigned_abs, to_z, of_z, w64, to_z-of_z, SFits, patterns, lane_code_of, gain_by}
+use Rattle.list_viterbi.proofs.Common.{pattern_small, lane_small, gain_size}
 
 pub code_small : (t : ℕ) → t < 256 → lane_code_of t < 4
 code_small t b =
     let few = pattern_small (t / 8) (omega (arith, b)) in
     lane_small (8 * get_or patterns (t / 8) 0 + t % 8) (omega (arith, few))
 
--- what a bit adds is no more than its soft values
-pub gain_by_size : (f s : ℤ) (c : ℕ) →
-    unsigned_abs (gain_by f s c) ≤ unsigned_abs f + unsigned_abs s
-unfolding gain_by
-gain_by_size f s c = by_signs (bit_of c 0) (bit_of c 1) where
-  by_signs : (a b : Bool) →
-      unsigned_abs ((f *ℤ sign a) +ℤ (s *ℤ sign b)) ≤ unsigned_abs f + unsigned_abs s
-  by_signs true true = omega (arith, ints)
-  by_signs true false = omega (arith, ints)
-  by_signs false true = omega (arith, ints)
-  by_signs false false = omega (arith, ints)
-
-pub gain_size : (f s gain : ℤ) (c : ℕ) → gain ≡ gain_by f s c →
+pub given_gain_size : (f s gain : ℤ) (c : ℕ) → gain ≡ gain_by f s c →
     unsigned_abs gain ≤ unsigned_abs f + unsigned_abs s
-gain_size f s gain c is =
+given_gain_size f s gain c is =
     subst (λ (z : ℤ). unsigned_abs z ≤ unsigned_abs f + unsigned_abs s) (sym is)
-    (gain_by_size f s c)
+    (gain_size f s c)
 
 -- it is the same of soft values that were handed on
 pub gain_passed : (f s gain : ℤ) (c : ℕ) → SFits w64 f → SFits w64 s →

@@ -1,6 +1,6 @@
 -- From the lists after some bits to those after one bit more.
 use Rattle.list_viterbi.proofs.Common.{◌≡◌, ℕ, zero, suc, ◌+◌, ◌*◌, ◌%◌, ◌<◌, ◌≤◌, Bool, true, false, List, [], ◌∷◌, ◌++◌, length, get_or}
-use Rattle.list_viterbi.proofs.Common.{refl, sym, ap, subst, ◌∙◌, arith, ℤ, inl, digit, binary, length-binary, state_after}
+use Rattle.list_viterbi.proofs.Common.{refl, sym, ap, subst, ◌∙◌, arith, ℤ, inl, digit, binary, state_after, length-binary}
 use Rattle.list_viterbi.proofs.Common.{state_after-none, Codeword, score_of, IsBetter, HasStart, IsAllowed, low_bits, gain_of, end_count}
 use Rattle.list_viterbi.proofs.Common.{Ends, codewords_same, From, Into, before_below, first_soft, from_states, joined_long, newest_bit}
 use Rattle.list_viterbi.proofs.Common.{pushed_score, second_soft, seven_bits, state_parts, to_state, zero_first, IntoBelow, allowed_into}

@@ -2,8 +2,8 @@
 use Rattle.list_viterbi.proofs.Common.{◌≡◌, ℕ, zero, suc, ◌+◌, ◌-◌, ◌*◌, ◌^◌, ◌<◌, ◌≤◌, Bool, true, false, List, [], ◌∷◌, ◌++◌, length}
 use Rattle.list_viterbi.proofs.Common.{get_or, refl, sym, ap, subst, ◌∙◌, arith, ℤ, pos, ◌+ℤ◌, int_lt, digit, taken_of, merge, pick_score}
 use Rattle.list_viterbi.proofs.Common.{picks_from, HasPicks, even_left, odd_left, odd_first, greater_head, turned_scores, turned_choices}
-use Rattle.list_viterbi.proofs.Common.{append-nil, append_assoc}
-use Rattle.list_viterbi.proofs.Masks.{weight_next, digit_most}
+use Rattle.list_viterbi.proofs.Common.{append-nil, append_assoc, digit_le}
+use Rattle.list_viterbi.proofs.Masks.{weight_next}
 use Rattle.list_viterbi.proofs.Picks.{IsPicked, picked_none, picked_next, picked_all}
 
 -- the sums of a list from a place on
@@ -101,7 +101,7 @@ turns_pick (suc m) k i j n even odd g h xs ys scores choices weight power ib jb 
     let i' = i + 1 - digit b in
     let j' = j + digit b in
     let i_is = next_even i b in
-    let few = digit_most b in
+    let few = digit_le b in
     let x = get_or even i (pos 0) +ℤ g in
     let y = get_or odd j (pos 0) +ℤ h in
     let x_is : get_or xs 0 (pos 0) ≡ x = xa 0 (omega (arith, xl)) ∙ sum_at even g (i + 0) i (omega arith) in

@@ -1,17 +1,10 @@
 -- A merge, one element after another.
 use Rattle.list_viterbi.proofs.Common.{◌≡◌, ℕ, zero, suc, ◌+◌, ◌<◌, ◌≤◌, true, false, List, [], ◌∷◌, ◌++◌, length, map, take, drop, refl}
 use Rattle.list_viterbi.proofs.Common.{sym, ap, ◌∙◌, arith, ℤ, Some, append_assoc, append-nil, int_lt, slice_get, drop_more, drop_all}
-use Rattle.list_viterbi.proofs.Common.{take_more, map-append, get_or_from_slice_get, second_is_next, merge}
+use Rattle.list_viterbi.proofs.Common.{take_more, map-append, get_or_from_slice_get, second_is_next, merge, left_at}
 
 no_true : ¬ (true ≡ false)
 no_true e = grind (arith, e)
-
--- what is left of a list from a place that is read
-pub left_at : {A : Type 0} (xs : List A) (i : ℕ) (x : A) → i < length xs →
-    slice_get xs i ≡ Some x → drop i xs ≡ x ∷ drop (i + 1) xs
-left_at {A} xs i x within read =
-    drop_more xs i x within
-    ∙ ap (λ (y : A). y ∷ drop (i + 1) xs) (get_or_from_slice_get xs i x x read)
 
 pub second_over : {A : Type 0} (f : A → ℤ) (xs ys : List A) (i j : ℕ) → length ys ≤ j →
     second_is_next f (drop i xs) (drop j ys) ≡ false

@@ -1,5 +1,5 @@
 -- The candidates of the formats.
-use Rattle.std.proofs.Common.{◌≡◌, ℕ, ◌+◌, ◌<◌, Bool, true, false, List, [], ◌∷◌, length, map, take, drop, get_or, refl, sym, ap, subst}
+use Rattle.std.proofs.Common.{◌≡◌, ℕ, ◌<◌, Bool, true, false, List, [], ◌∷◌, length, map, take, get_or, refl, sym, ap, subst}
 use Rattle.std.proofs.Common.{◌∙◌, arith, ℤ, Option, None, Some}
 use Rattle.std.specs.Prelude.{cond, All, slice_get}
 use Rattle.std.specs.List.{find}
@@ -12,26 +12,8 @@ use Rattle.frame_decoder.specs.declared.formats.DecodedFrame.{DecodedFrame}
 use Rattle.frame_decoder.specs.Formats.{bits_in, score_in, codeword_in, is_right, frame_in, candidate_of}
 use Rattle.list_viterbi.specs.First.{codeword_of}
 use Rattle.list_viterbi.specs.declared.codewords.Entry.{Entry}
-use Rattle.list_viterbi.proofs.Walks.{left_at}
 use Rattle.listed_frame.specs.ListedFrames.{codewords_in}
 use Rattle.listed_frame.proofs.FirstCodewords.{best_first}
-
--- ---- the first that passes a test
-pub found_here : {A : Type 0} (test : A → Bool) (xs : List A) (i : ℕ) (x : A) → i < length xs →
-    slice_get xs i ≡ Some x → find test xs ≡ find test (drop i xs) → test x ≡ true →
-    find test xs ≡ Some x
-found_here {A} test xs i x within read before passes =
-    before
-    ∙ ap (λ (ys : List A). find test ys) (left_at xs i x within read)
-    ∙ ap (λ (b : Bool). cond b (Some x) (find test (drop (i + 1) xs))) passes
-
-pub found_later : {A : Type 0} (test : A → Bool) (xs : List A) (i : ℕ) (x : A) → i < length xs →
-    slice_get xs i ≡ Some x → find test xs ≡ find test (drop i xs) → test x ≡ false →
-    find test xs ≡ find test (drop (i + 1) xs)
-found_later {A} test xs i x within read before fails =
-    before
-    ∙ ap (λ (ys : List A). find test ys) (left_at xs i x within read)
-    ∙ ap (λ (b : Bool). cond b (Some x) (find test (drop (i + 1) xs))) fails
 
 -- ---- from the listed codewords to the definition's
 -- the first of the listed codewords whose quality indicator is right, as a frame

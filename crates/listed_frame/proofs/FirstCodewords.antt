@@ -19,6 +19,7 @@ use Rattle.viterbi.proofs.Unique.{codeword_at_allowed}
 use Rattle.list_viterbi.proofs.Places.{by_definition}
 use Rattle.chip_core.proofs.Unless.{nat_lt-true}
 use Rattle.listed_frame.specs.ListedFrames.{codewords_in}
+use Rattle.frame_decoder.proofs.FormatChoice.{no_first}
 
 -- ---- the first places
 -- values that are the same have the same first places
@@ -59,9 +60,6 @@ unfolding first_places
 first_place f n some =
     ap (λ (b : Bool). if b then greatest_unless [] f n ∷ [] else []) (nat_lt-true 0 n some)
     ∙ ap (λ (p : ℕ). p ∷ []) (none_taken f n)
-
-no_first : {A : Type 0} {B : Type 0} (x : A) → [] ≡ x ∷ [] → B
-no_first {A} x e = let long = ap (λ (xs : List A). length xs) e in absurd (omega (arith, long))
 
 still_first : (b : Bool) (x p : ℕ) (before : List ℕ) → take 1 before ≡ x ∷ [] →
     take 1 (if b then before ++ p ∷ [] else before) ≡ x ∷ []

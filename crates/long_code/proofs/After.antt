@@ -1,6 +1,6 @@
 -- States so many chips later.
 use Rattle.long_code.proofs.Common.{◌≡◌, ℕ, ◌+◌, ◌*◌, ◌/◌, ◌%◌, ◌^◌, ◌<◌, Bool, true, false, cond, [], ◌∷◌, ◌++◌, length, refl, sym, ap}
-use Rattle.long_code.proofs.Common.{◌∙◌, arith, bit_xor, xor_lt, number, binary, bit_of, places, add, length-binary, below, after}
+use Rattle.long_code.proofs.Common.{◌∙◌, arith, bit_xor, xor_lt, number, binary, bit_of, places, add, below, after, length-binary}
 use Rattle.long_code.proofs.Common.{binary-front, binary-number_from, binary-xor, binary-double, binary-low, number-binary, number_lt}
 use Rattle.long_code.proofs.Division.{shifted, times_x, remainder-zeros, length_times_x, times_x-times_x}
 
@@ -12,7 +12,7 @@ pub polynomial : binary 42 45339313391 ≡ below
 unfolding binary places
 polynomial = refl
 
-state_length : (s : ℕ) → length (binary 42 s) ≡ length below
+pub state_length : (s : ℕ) → length (binary 42 s) ≡ length below
 state_length s = length-binary 42 s ∙ sym length-below
 
 pub after_is : (s n : ℕ) → after s n ≡ number (times_x n below (binary 42 s))

@@ -14,11 +14,12 @@ pub use Rattle.std.specs.Int.RustNames.{count_ones}
 pub use Rattle.std.specs.List.{range_with_len}
 pub use Rattle.chip_core.proofs.BitLists.{add, length_add, xor_assoc, zip_push}
 pub use Rattle.chip_core.proofs.CommonParity.{common_parity-ones}
-pub use Rattle.chip_core.proofs.Digits.{binary-double, binary-low, binary-xor, digit_of, number-binary, number_lt}
+pub use Rattle.chip_core.proofs.Digits.{binary-double, binary-low, binary-xor, number-binary, number_lt}
 pub use Rattle.chip_core.proofs.Numerals.{binary-front, binary-number_from, number_from-append, number_from-front}
-pub use Rattle.chip_core.proofs.RegisterBits.{length-binary}
 pub use Rattle.chip_core.specs.Bits.{bit_of, common_parity, digit, number, number_from, xor}
 unfoldable pub use Rattle.chip_core.specs.Bits.{binary, places}
 pub use Rattle.chip_core.specs.Polynomial.{divided, plus_at_front, remainder}
 pub use Rattle.long_code.specs.LongCode.{IsState, above, below, period, permuted}
 unfoldable pub use Rattle.long_code.specs.LongCode.{after, before, long_chip, paging_mask, traffic_mask}
+pub use Rattle.chip_core.specs.Packing.{digit_of}
+pub use Rattle.chip_core.proofs.FieldLists.{length-binary}

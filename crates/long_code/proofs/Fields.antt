@@ -2,8 +2,8 @@
 use Rattle.long_code.proofs.Common.{◌≡◌, ℕ, zero, suc, ◌+◌, ◌*◌, ◌/◌, ◌%◌, ◌^◌, ◌<◌, ◌≤◌, Bool, true, false, List, [], ◌∷◌, ◌++◌, length}
 use Rattle.long_code.proofs.Common.{get_or, take, map, replicate, refl, sym, ap, ◌∙◌, arith, nat_eq, nat_lt, bit_and, bit_or, append_assoc}
 use Rattle.long_code.proofs.Common.{length-append, or_shifted, and_mask, agree_below, agree_below_at, take_more, map-append, length-take-le}
-use Rattle.long_code.proofs.Common.{length-map, pow_mono, digit, number, binary, bit_of, number_from-append, length-binary, paging_mask}
-use Rattle.long_code.proofs.Common.{permuted, traffic_mask, digit_of, number-binary, number_lt}
+use Rattle.long_code.proofs.Common.{length-map, pow_mono, digit, number, binary, bit_of, number_from-append, paging_mask, length-binary}
+use Rattle.long_code.proofs.Common.{permuted, traffic_mask, number-binary, number_lt, digit_of}
 
 -- one bit more
 number-push : (bs : List Bool) (b : Bool) → number (bs ++ b ∷ []) ≡ 2 * number bs + digit b

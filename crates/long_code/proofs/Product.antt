@@ -1,12 +1,9 @@
 -- Products with powers of x.
-use Rattle.long_code.proofs.Common.{◌≡◌, ℕ, zero, suc, ◌+◌, ◌-◌, ◌*◌, ◌/◌, ◌%◌, ◌^◌, ◌<◌, Bool, true, false, cond, length, sym, ap, ◌∙◌}
+use Rattle.long_code.proofs.Common.{◌≡◌, ℕ, zero, suc, ◌+◌, ◌-◌, ◌*◌, ◌/◌, ◌%◌, ◌^◌, ◌<◌, Bool, true, false, cond, sym, ap, ◌∙◌}
 use Rattle.long_code.proofs.Common.{arith, nat_eq, bit_xor, bit_and, xor_lt, xor_block, shr-shr, shr_le, and_mask, xor_zero_r, number}
-use Rattle.long_code.proofs.Common.{binary, bit_of, digit, add, length-binary, below, after, binary-xor, number-binary, digit_of}
+use Rattle.long_code.proofs.Common.{binary, bit_of, digit, add, below, after, binary-xor, number-binary, digit_of}
 use Rattle.long_code.proofs.Division.{times_x, times_x-add}
-use Rattle.long_code.proofs.After.{after_is, binary-after, after_lt, after-after, after_one, length-below}
-
-state_length : (s : ℕ) → length (binary 42 s) ≡ length below
-state_length s = length-binary 42 s ∙ sym length-below
+use Rattle.long_code.proofs.After.{after_is, binary-after, after_lt, after-after, after_one, state_length}
 
 -- sums of states
 pub after-xor : (a b n : ℕ) → after (bit_xor a b) n ≡ bit_xor (after a n) (after b n)

@@ -1,8 +1,8 @@
 -- What the proofs of this crate cite of what lies below, and of its own definitions, passed on from one place.
-pub use Rattle.std.proofs.Common.{All, Bool, FitsSigned, List, None, Option, Some, [], add-one, ap, arith, below_more, drop, false, get_or}
-pub use Rattle.std.proofs.Common.{get_or-set_same, inl, inr, length, length-set, map, max, min, nat_eq, negsuc, of_z, pos, refl, rules}
-pub use Rattle.std.proofs.Common.{replicate, set, subst, suc, sym, take, to_z, true, true≢false, unsigned_abs, w16, w32, w64, w8, zero, ℕ}
-pub use Rattle.std.proofs.Common.{ℤ, ⊎_elim, ◌%◌, ◌*ℤ◌, ◌*◌, ◌++◌, ◌+ℤ◌, ◌+◌, ◌-ℤ◌, ◌-◌, ◌/◌, ◌<◌, ◌^◌, ◌∙◌, ◌∷◌, ◌≡◌, ◌≢◌, ◌≤◌, ◌⊎◌}
+pub use Rattle.std.proofs.Common.{All, Bool, FitsSigned, List, None, Option, Some, [], add-one, ap, arith, drop, false, get_or}
+pub use Rattle.std.proofs.Common.{get_or-set_same, inl, inr, length, length-set, map, max, min, nat_eq, negsuc, of_z, pos, refl, rules, set}
+pub use Rattle.std.proofs.Common.{subst, suc, sym, take, to_z, true, true≢false, unsigned_abs, w16, w32, w64, w8, zero, ℕ, ℤ, ⊎_elim, ◌%◌}
+pub use Rattle.std.proofs.Common.{◌*ℤ◌, ◌*◌, ◌++◌, ◌+ℤ◌, ◌+◌, ◌-ℤ◌, ◌-◌, ◌/◌, ◌<◌, ◌^◌, ◌∙◌, ◌∷◌, ◌≡◌, ◌≢◌, ◌≤◌, ◌⊎◌}
 pub use Rattle.std.proofs.Math.Facts.{Fits-of_z}
 pub use Rattle.std.proofs.Math.IntN.{+ℤ_assoc, neg_ℤ}
 pub use Rattle.std.proofs.Math.ListN.{get_or-map as map_at}
@@ -28,7 +28,7 @@ pub use Rattle.atomic_table.specs.Table.{Allows, Joins, Me, Splits, State, keeps
 pub use Rattle.chip_core.proofs.ComplexSums.{origin-plus, plus-origin, plus_assoc, real_part, sum_of-append}
 pub use Rattle.chip_core.proofs.Greatest.{first_greatest-is, only}
 pub use Rattle.chip_core.proofs.Unless.{IsGreatestUnless, first_places-more, first_places-none}
-pub use Rattle.chip_core.specs.Bits.{sign, zip_with}
+pub use Rattle.chip_core.specs.Bits.{zip_with}
 pub use Rattle.chip_core.specs.Complex.{conjugate, norm, of_sample, origin, plus, point, sum_of, times}
 pub use Rattle.chip_core.specs.Sums.{IsFirstGreatest, first_greatest, total}
 unfoldable pub use Rattle.chip_core.specs.Sums.{first_places}
@@ -48,8 +48,7 @@ unfoldable pub use Rattle.pilot_search.specs.BySigns.{correlation_with}
 pub use Rattle.pilot_search.specs.Found.{IsFound, better_of, worker_start}
 pub use Rattle.pilot_search.specs.Knowledge.{IsHeld, Knowledge}
 pub use Rattle.pilot_search.specs.Lanes.{LanesAreNear, AreProducts, AreShort, AreSums, AreUnits, IsShort, both, eight, imaginary_lanes}
-pub use Rattle.pilot_search.specs.Lanes.{parts}
-pub use Rattle.pilot_search.specs.Lanes.{product_at, real_lanes, sample_at, signs_at, with_signs}
+pub use Rattle.pilot_search.specs.Lanes.{parts, product_at, real_lanes, sample_at, signs_at, with_signs}
 pub use Rattle.pilot_search.specs.Near.{near_place, near_value, near_phase_at}
 unfoldable pub use Rattle.pilot_search.specs.Near.{near_deltas}
 pub use Rattle.pilot_search.specs.Ranked.{IsNext, IsRound, measured_at}
@@ -59,3 +58,4 @@ pub use Rattle.pilot_search.specs.SearchRun.{IsStart, Run, Skip, Step, Worker}
 pub use Rattle.pilot_search.specs.SharedRule.{AllLie, Begun, IsSharedState, Lies, fresh_view, holding, joined_views, spent}
 pub use Rattle.pilot_search.specs.declared.sweeping.Best.{Best}
 pub use Rattle.pilot_search.specs.declared.view.View.{View}
+pub use Rattle.chip_core.proofs.Magnitudes.{sign_unit, abs_fits}

@@ -1,9 +1,9 @@
 -- Lemmas on the sums of a correlation.
-use Rattle.pilot_search.proofs.Common.{◌≡◌, ℕ, suc, ◌+◌, ◌-◌, ◌*◌, ◌%◌, ◌<◌, ◌≤◌, Bool, true, false, List, [], ◌∷◌, ◌++◌, length, get_or}
+use Rattle.pilot_search.proofs.Common.{◌≡◌, ℕ, suc, ◌+◌, ◌-◌, ◌*◌, ◌%◌, ◌<◌, ◌≤◌, List, [], ◌∷◌, ◌++◌, length, get_or}
 use Rattle.pilot_search.proofs.Common.{take, drop, All, min, refl, ◌⊎◌, ⊎_elim, inl, inr, sym, ap, ◌∙◌, arith, add-one, ℤ, pos, ◌+ℤ◌}
-use Rattle.pilot_search.proofs.Common.{unsigned_abs, drop_all, take-append-drop, length-take-le, length-drop, All-from_get_or, cases_order}
-use Rattle.pilot_search.proofs.Common.{drop-cons, sign, zip_with, origin, plus, sum_of, plus_assoc, plus-origin, sum_of-append, Pair}
-use Rattle.pilot_search.proofs.Common.{Sample, pilot_chip, chip_signs, pilot_signs, despread, IsUnit, turned, despread-append}
+use Rattle.pilot_search.proofs.Common.{drop_all, take-append-drop, length-take-le, length-drop, All-from_get_or, cases_order}
+use Rattle.pilot_search.proofs.Common.{drop-cons, zip_with, origin, plus, sum_of, plus_assoc, plus-origin, sum_of-append, Pair}
+use Rattle.pilot_search.proofs.Common.{Sample, pilot_chip, chip_signs, pilot_signs, despread, IsUnit, turned, despread-append, sign_unit}
 use Rattle.pilot_search.proofs.Common.{length-pilot_signs, get_or-pilot_signs, phase_correlation, correlation_with}
 
 abbrev pub no_sample : Sample
@@ -36,10 +36,6 @@ pub correlation_with-all : (samples : List Sample) (signs : List (ℤ × ℤ)) (
 unfolding correlation_with
 correlation_with-all samples signs t sum h =
     rw (drop_all t samples h) (plus-origin sum)
-
-sign_unit : (b : Bool) → unsigned_abs (sign b) ≤ 1
-sign_unit true = omega arith
-sign_unit false = omega arith
 
 -- each of the pilot's signs is +1 or -1
 pub units : All IsUnit pilot_signs

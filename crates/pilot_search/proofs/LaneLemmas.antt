@@ -3,15 +3,10 @@ use Rattle.pilot_search.proofs.Common.{◌≡◌, ℕ, zero, suc, ◌+◌, ◌*�
 use Rattle.pilot_search.proofs.Common.{add-one, All, refl, sym, ap, ◌∙◌, arith, ℤ, pos, negsuc, ◌+ℤ◌, ◌*ℤ◌, unsigned_abs, to_z, of_z}
 use Rattle.pilot_search.proofs.Common.{FitsSigned, w16, w32, w64, neg_ℤ, +ℤ_assoc, Fits-of_z, int_wrap, ints, to_z-of_z, int_wrap_fits}
 use Rattle.pilot_search.proofs.Common.{wrapping_add-bits, wrapping_mul_onto, fits_signed_from_abs, unsigned_abs-mul, Each1, subst, Each2}
-use Rattle.pilot_search.proofs.Common.{zip2, map_at, All-head, All-tail, Each2-of, plus, total, Pair, real_part, Sample, across}
+use Rattle.pilot_search.proofs.Common.{zip2, map_at, All-head, All-tail, Each2-of, plus, total, Pair, real_part, Sample, across, abs_fits}
 use Rattle.pilot_search.proofs.Common.{correlation_with, IsUnit, product_at, real_lanes, imaginary_lanes, both, parts, eight, sample_at}
 use Rattle.pilot_search.proofs.Common.{signs_at, with_signs, AreShort, AreUnits, IsShort, AreProducts, Each1-weaker}
 use Rattle.pilot_search.proofs.CorrelationSums.{correlation_with-more, no_sample}
-
--- SIGNS AND SAMPLES IN LANES OF 16 BITS
-pub abs_fits : (x : ℤ) → FitsSigned w16 x → unsigned_abs x ≤ 32768
-abs_fits (pos n) f = let h = f.sfits in omega (arith, h)
-abs_fits (negsuc n) f = let h = f.sfits in omega (arith, h)
 
 -- what a list has at any place, or 0 and 0 after its end
 abbrev pub no_sign : ℤ × ℤ
@@ -98,7 +93,7 @@ wide x = of_z w32 (to_z w16 (of_z w16 x))
 wide-is : (x : ℤ) → FitsSigned w16 x → wide x ≡ of_z w32 x
 wide-is x f = ap (of_z w32) (to_z-of_z w16 x f)
 
-in_lane : (x : ℤ) → unsigned_abs x ≤ 65536 → FitsSigned w32 x
+pub in_lane : (x : ℤ) → unsigned_abs x ≤ 65536 → FitsSigned w32 x
 in_lane x h = fits_signed_from_abs w32 x (omega (arith, h))
 
 below : (x : ℤ) → unsigned_abs x ≤ 65536 → of_z w32 x < 2 ^ 32

@@ -5,10 +5,9 @@ pub use Rattle.std.proofs.Common.{slice_get, subst, suc, sym, take, true, unwrap
 pub use Rattle.std.proofs.Common.{◌∙◌, ◌∷◌, ◌≡◌, ◌≢◌, ◌≤◌, ◌⊎◌, ⊎_elim}
 pub use Rattle.std.proofs.lemmas.Bool.{eq-eqb, eqb-true, leb-true, lt-ltb, ltb-false, ltb-true, ne_eqb}
 pub use Rattle.std.proofs.lemmas.Grind.{common_steps}
-pub use Rattle.std.proofs.lemmas.List.{at_drop_more, get_or_past, length-map, length-take, map-append, take_more}
+pub use Rattle.std.proofs.lemmas.List.{get_or_past, length-map, length-take, map-append, take_more}
 pub use Rattle.std.proofs.lemmas.List.Elements.{All-cons, All-head, All-nil, All-tail, filter_more}
 pub use Rattle.std.proofs.lemmas.List.Folds.{list_all_at, list_any-append}
-pub use Rattle.std.proofs.lemmas.Option.{get_or_from_slice_get}
 pub use Rattle.std.specs.Cmp.Lexicographic.{pointwise}
 pub use Rattle.std.specs.List.{All, find, list_all, list_any}
 pub use Rattle.traffic_message.specs.declared.fields.DirectionFields.{DirectionFields}
@@ -32,7 +31,7 @@ pub use Rattle.pilot_sets.specs.Standing.{unless_refused}
 pub use Rattle.pilot_sets.specs.Tables.{ratio, ratios}
 pub use Rattle.pilot_sets.specs.Timers.{is_expired, is_strong, timer_after}
 pub use Rattle.pilot_sets.specs.declared.fault.DirectionFault.{DirectionFault}
-pub use Rattle.pilot_sets.specs.declared.fault.DirectionFault.TheVariants.{TooMany, Twice, Unknown}
+pub use Rattle.pilot_sets.specs.declared.fault.DirectionFault.TheVariants.{TooMany, Unknown}
 pub use Rattle.pilot_sets.specs.declared.lists.Active.{Active}
 pub use Rattle.pilot_sets.specs.declared.standing.Accepted.{Accepted}
 pub use Rattle.pilot_sets.specs.declared.standing.ActivePilot.{ActivePilot}
@@ -40,3 +39,4 @@ pub use Rattle.pilot_sets.specs.declared.standing.CandidatePilot.{CandidatePilot
 pub use Rattle.pilot_sets.specs.declared.standing.NamedPilot.{NamedPilot}
 pub use Rattle.pilot_sets.specs.declared.standing.PilotSets.{PilotSets}
 pub use Rattle.pilot_sets.specs.declared.thresholds.Thresholds.{Thresholds}
+pub use Rattle.chip_core.proofs.Finds.{found_here, found_later, left_at}

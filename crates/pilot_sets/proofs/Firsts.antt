@@ -1,33 +1,7 @@
 -- The first of equal pilots, and the first that is repeated, as a loop finds them.
 use Rattle.pilot_sets.proofs.Common.{◌≡◌, ◌<◌, ◌+◌, ℕ, Bool, true, false, ◌||◌, List, [], ◌∷◌, ◌++◌, drop, length, Some, slice_get, nat_eq}
-use Rattle.pilot_sets.proofs.Common.{refl, ap, sym, ◌∙◌, append_assoc, at_drop_more, list_any-append, get_or_from_slice_get, find, has}
-use Rattle.pilot_sets.proofs.Common.{firsts, first_repeated}
-
-pub drop_at : {X : Type 0} (xs : List X) (i : ℕ) (x : X) → i < length xs →
-    slice_get xs i ≡ Some x → drop i xs ≡ x ∷ drop (i + 1) xs
-drop_at {X} xs i x h e =
-    at_drop_more (λ (ys : List X). ys) xs i x h
-    ∙ ap (λ y. y ∷ drop (i + 1) xs) (get_or_from_slice_get xs i x x e)
-
--- WHAT IS FOUND FIRST
-find_yes : {X : Type 0} (p : X → Bool) (x : X) (xs : List X) → p x ≡ true →
-    find p (x ∷ xs) ≡ Some x
-find_yes p x xs hit = rw hit refl
-
-find_no : {X : Type 0} (p : X → Bool) (x : X) (xs : List X) → p x ≡ false →
-    find p (x ∷ xs) ≡ find p xs
-find_no p x xs miss = rw miss refl
-
-pub find_here : {X : Type 0} (p : X → Bool) (xs : List X) (i : ℕ) (x : X) → i < length xs →
-    slice_get xs i ≡ Some x → find p xs ≡ find p (drop i xs) → p x ≡ true → Some x ≡ find p xs
-find_here p xs i x h e before hit =
-    sym (before ∙ ap (λ ys. find p ys) (drop_at xs i x h e) ∙ find_yes p x (drop (i + 1) xs) hit)
-
-pub find_more : {X : Type 0} (p : X → Bool) (xs : List X) (i : ℕ) (x : X) → i < length xs →
-    slice_get xs i ≡ Some x → find p xs ≡ find p (drop i xs) → p x ≡ false →
-    find p xs ≡ find p (drop (i + 1) xs)
-find_more p xs i x h e before miss =
-    before ∙ ap (λ ys. find p ys) (drop_at xs i x h e) ∙ find_no p x (drop (i + 1) xs) miss
+use Rattle.pilot_sets.proofs.Common.{refl, ap, sym, ◌∙◌, append_assoc, list_any-append, has}
+use Rattle.pilot_sets.proofs.Common.{firsts, first_repeated, left_at}
 
 -- THE ORDER OF WHAT WAS SEEN
 -- doesn't matter
@@ -64,7 +38,7 @@ pub repeated_here : (xs seen : List ℕ) (i x : ℕ) → i < length xs → slice
 repeated_here xs seen i x h e before hit =
     sym (
     before
-    ∙ ap (λ ys. first_repeated seen ys) (drop_at xs i x h e)
+    ∙ ap (λ ys. first_repeated seen ys) (left_at xs i x h e)
     ∙ repeated_yes seen x (drop (i + 1) xs) hit
     )
 
@@ -73,7 +47,7 @@ pub repeated_more : (xs seen : List ℕ) (i x : ℕ) → i < length xs → slice
     first_repeated [] xs ≡ first_repeated (seen ++ x ∷ []) (drop (i + 1) xs)
 repeated_more xs seen i x h e before miss =
     before
-    ∙ ap (λ ys. first_repeated seen ys) (drop_at xs i x h e)
+    ∙ ap (λ ys. first_repeated seen ys) (left_at xs i x h e)
     ∙ repeated_no seen x (drop (i + 1) xs) miss
     ∙ first_repeated_same (x ∷ seen) (seen ++ x ∷ []) (drop (i + 1) xs) (λ y. has_push seen x y)
 
@@ -99,7 +73,7 @@ pub firsts_old : (xs seen : List ℕ) (i x : ℕ) → i < length xs → slice_ge
     firsts [] xs ≡ seen ++ firsts seen (drop (i + 1) xs)
 firsts_old xs seen i x h e before hit =
     before
-    ∙ ap (λ ys. seen ++ firsts seen ys) (drop_at xs i x h e)
+    ∙ ap (λ ys. seen ++ firsts seen ys) (left_at xs i x h e)
     ∙ ap (λ ys. seen ++ ys) (firsts_hit seen x (drop (i + 1) xs) hit)
 
 pub firsts_new : (xs seen : List ℕ) (i x : ℕ) → i < length xs → slice_get xs i ≡ Some x →
@@ -107,7 +81,7 @@ pub firsts_new : (xs seen : List ℕ) (i x : ℕ) → i < length xs → slice_ge
     firsts [] xs ≡ (seen ++ x ∷ []) ++ firsts (seen ++ x ∷ []) (drop (i + 1) xs)
 firsts_new xs seen i x h e before miss =
     before
-    ∙ ap (λ ys. seen ++ firsts seen ys) (drop_at xs i x h e)
+    ∙ ap (λ ys. seen ++ firsts seen ys) (left_at xs i x h e)
     ∙ ap (λ ys. seen ++ ys) (firsts_miss seen x (drop (i + 1) xs) miss)
     ∙ ap (λ ys. seen ++ x ∷ ys)
     (firsts_same (x ∷ seen) (seen ++ x ∷ []) (drop (i + 1) xs) (λ y. has_push seen x y))

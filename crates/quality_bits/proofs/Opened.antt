@@ -7,8 +7,9 @@ use Rattle.std.proofs.lemmas.List.{take-append-le, append-nil}
 use Rattle.chip_core.specs.Bits.{number}
 use Rattle.std.specs.Option.{option_or, IfSome}
 use Rattle.std.specs.List.{slice_get}
-use Rattle.chip_core.proofs.FieldLists.{bits_more, slice_get-drop}
+use Rattle.chip_core.proofs.FieldLists.{slice_get-drop}
 use Rattle.quality_bits.specs.Capsules.{stated_bits, is_stated, front_capsule, awaits_more, still_open, continued, completed}
+use Rattle.chip_core.proofs.BitLists.{taken_more}
 
 pub stated_bounds : (bits : List Bool) → is_stated bits ≡ true →
     (8 ≤ length bits) × (40 ≤ stated_bits bits) × (stated_bits bits ≤ 1184)
@@ -224,5 +225,5 @@ pub taken_more_from : (bits : List Bool) (from i : ℕ) (bit : Bool) → from �
 taken_more_from bits from i bit h read =
     let there : from + (i - from) ≡ i = omega (arith, h) in
     let next : i + 1 - from ≡ i - from + 1 = omega (arith, h) in
-    rw next (bits_more (drop from bits) (i - from) bit
+    rw next (taken_more (drop from bits) (i - from) bit
     (slice_get-drop from bits (i - from) bit (rw there read)))

@@ -28,3 +28,5 @@ unfoldable pub use Rattle.rake_finger.specs.Timing.{stream_end}
 pub use Rattle.rake_finger.specs.declared.finger.Finger.{Finger}
 pub use Rattle.rake_finger.specs.declared.form.Form.{Form}
 pub use Rattle.rake_finger.specs.declared.form.Form.TheVariants.{Data, Sync}
+pub use Rattle.pilot_search.proofs.LaneLemmas.{in_lane}
+pub use Rattle.walsh.proofs.RowTable.{walsh-pilot}

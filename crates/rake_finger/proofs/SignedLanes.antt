@@ -4,7 +4,7 @@ use Rattle.std.proofs.Common.{sym, ap, ◌∙◌, subst, arith, ℤ, pos, ◌+�
 use Rattle.std.proofs.Math.IntN.{neg_ℤ}
 use Rattle.std.proofs.Math.Facts.{Fits-of_z}
 use Rattle.std.specs.Int.{int_wrap}
-use Rattle.std.proofs.lemmas.Int.{ints, to_z-of_z, int_wrap_fits, wrapping_mul_onto, fits_signed_from_abs, unsigned_abs-mul}
+use Rattle.std.proofs.lemmas.Int.{ints, to_z-of_z, int_wrap_fits, wrapping_mul_onto, unsigned_abs-mul}
 use Rattle.std.proofs.lemmas.Nat.{mul-le}
 use lib.Lanes.{Each1, zip2}
 use Rattle.std.proofs.lemmas.Simd.{Each1-weaker, Each1-zip2, Each2-of}
@@ -23,12 +23,9 @@ use Rattle.pilot_search.proofs.LaneSums.{products_kept}
 use Rattle.rake_finger.specs.RowSigns.{AreRowSigns, AreUnitSigns, turned_sign, covered_signs, sign_lanes}
 use Rattle.rake_finger.specs.Soft.{covered_from}
 use Rattle.rake_finger.proofs.CoveredSums.{row_sign, same_parts}
+use Rattle.rake_finger.proofs.Common.{in_lane}
 
 -- SIGNS
-pub sign_unit : (b : Bool) → unsigned_abs (sign b) ≤ 1
-sign_unit true = omega arith
-sign_unit false = omega arith
-
 pub unit_lanes : (signs : List ℤ) (first : ℕ) → first + 8 ≤ 64 → AreUnitSigns signs →
     Each1 (λ x. unsigned_abs x ≤ 1) (sign_lanes signs first)
 unit_lanes signs first room u = (
@@ -57,9 +54,6 @@ product_most : (x s : ℤ) → unsigned_abs x ≤ 65536 → unsigned_abs s ≤ 1
 product_most x s h g =
     let most = mul-le (unsigned_abs x) (unsigned_abs s) 65536 1 h g in
     rw (unsigned_abs-mul x s) (omega (arith, most))
-
-in_lane : (x : ℤ) → unsigned_abs x ≤ 65536 → FitsSigned w32 x
-in_lane x h = fits_signed_from_abs w32 x (omega (arith, h))
 
 signed_lane : (x s : ℤ) → unsigned_abs x ≤ 65536 → unsigned_abs s ≤ 1 →
     to_z w32 (of_z w32 x * of_z w32 s % 4294967296) ≡ x *ℤ s

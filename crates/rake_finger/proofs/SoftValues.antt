@@ -1,32 +1,27 @@
 -- Soft values: from sums to the definitions, and their bounds.
-use Rattle.std.proofs.Common.{◌≡◌, ℕ, suc, ◌+◌, ◌*◌, ◌/◌, ◌^◌, ◌≤◌, false, List, [], ◌∷◌, refl, ap, ◌∙◌, arith, ℤ, pos, ◌+ℤ◌, ◌*ℤ◌}
+use Rattle.std.proofs.Common.{◌≡◌, ℕ, suc, ◌+◌, ◌*◌, ◌/◌, ◌^◌, ◌≤◌, List, [], ◌∷◌, refl, ap, ◌∙◌, arith, ℤ, pos, ◌+ℤ◌, ◌*ℤ◌}
 use Rattle.std.proofs.Common.{unsigned_abs, FitsSigned, to_z, of_z, w64}
 use Rattle.std.proofs.lemmas.Int.{ints, to_z-of_z, fits_signed_mul, unsigned_abs-mul}
 use Rattle.std.proofs.lemmas.Nat.{mul-le}
-use Rattle.chip_core.specs.Bits.{binary}
 use Rattle.chip_core.specs.Complex.{times, sum_of}
 use Rattle.chip_core.proofs.Ring.{neg_times}
 use Rattle.chip_core.specs.declared.sample.Pair.{Pair}
 use Rattle.chip_core.specs.declared.sample.Sample.{Sample}
-use Rattle.walsh.specs.Walsh.{IsWithin, walsh}
+use Rattle.walsh.specs.Walsh.{IsWithin}
 use Rattle.rake_finger.specs.declared.finger.Finger.{Finger}
 use Rattle.rake_finger.specs.declared.form.Form.{Form}
 use Rattle.rake_finger.specs.declared.form.Form.TheVariants.{Sync, Data}
 use Rattle.rake_finger.specs.Soft.{symbol_chips, window_chips, finger_place, covered_from, despread_at, pilot_sum, symbol_sum, turned_part}
 use Rattle.rake_finger.specs.Soft.{soft, soft_bound}
 use Rattle.rake_finger.proofs.CoveredSums.{same_parts}
-
--- the pilot's row has no 1
-row_zero : (k : ℕ) → walsh 0 k ≡ false
-unfolding walsh binary
-row_zero k = refl
+use Rattle.rake_finger.proofs.Common.{walsh-pilot}
 
 one_times : (p : Pair) → times (record { i = pos 1; q = pos 0 }) p ≡ p
 one_times p = same_parts _ _ p.i p.q (omega (arith, ints)) (omega (arith, ints))
 
 pub covered-pilot : (k : ℕ) (ps : List Pair) → covered_from 0 k ps ≡ ps
 covered-pilot k [] = refl
-covered-pilot k (p ∷ ps) = rw (row_zero, one_times p, covered-pilot (suc k) ps)
+covered-pilot k (p ∷ ps) = rw (walsh-pilot, one_times p, covered-pilot (suc k) ps)
 
 pub pilot_is : (samples : List Sample) (finger : Finger) (form : Form)
     (start window place chips : ℕ) (sum : Pair) →

@@ -11,7 +11,7 @@ pub use Rattle.std.proofs.lemmas.List.Sums.{sum_by-append, sum_by-set}
 pub use Rattle.std.specs.List.{flat_map}
 pub use Rattle.std.specs.Prelude.{if◌then◌else◌, sum_by, unsigned_abs}
 pub use Rattle.chip_core.proofs.Places.{places-none}
-pub use Rattle.chip_core.proofs.Ranges.{flat_map-places-more, flat_map_ext_places}
+pub use Rattle.chip_core.proofs.Ranges.{flat_map_ext_places}
 pub use Rattle.chip_core.specs.Bits.{sign}
 unfoldable pub use Rattle.chip_core.specs.Bits.{places}
 pub use Rattle.chip_core.specs.declared.sample.Sample.{Sample}
@@ -34,3 +34,4 @@ pub use Rattle.reception.specs.Receiving.{Receives}
 pub use Rattle.reception.specs.Softs.{AreSmall, frame_most, last_softs}
 pub use Rattle.reception.specs.declared.continued.Continued.{Continued}
 pub use Rattle.reception.specs.declared.frame_clock.FrameClock.{FrameClock}
+pub use Rattle.chip_core.proofs.Counted.{flat_map-next}

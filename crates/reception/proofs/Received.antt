@@ -2,21 +2,14 @@
 use Rattle.reception.proofs.Common.{◌≡◌, ℕ, zero, suc, ◌+◌, ◌-◌, ◌*◌, ◌≤◌, List, [], ◌++◌, length, length-append, take, drop, refl, sym, ap}
 use Rattle.reception.proofs.Common.{◌∙◌, arith, true, ℤ, flat_map, drop_all, take_all, places-none, places, Sample, own_bits, symbols}
 use Rattle.reception.proofs.Common.{IsDueAt, clock_from, first_frame, frame_come, clock_after_frame, span_from, AreNear, Receives}
-use Rattle.reception.proofs.Common.{last_softs}
+use Rattle.reception.proofs.Common.{last_softs, flat_map-next}
 use Rattle.reception.proofs.Common.{StreamOf, Channel, frame_softs, span_first, span_frames, Continued, flat_map_ext_places}
-use Rattle.reception.proofs.Common.{flat_map-places-more}
 use Rattle.rake_finger.specs.Streams.{span_softs}
 use Rattle.std.proofs.lemmas.List.{length-drop}
 use Rattle.reception.proofs.ClockSteps.{clock_new, clock_more, clock_come, clock_heard, span_bounds, span_is}
 use Rattle.rake_finger.proofs.FrameTimes.{inside_from}
 use Rattle.rake_finger.proofs.Spans.{frame_softs_sooner}
 use Rattle.reception.proofs.SoftSums.{frames_fit, last_more, most_symbols}
-
-flat_map_last : {A : Type 0} (f : ℕ → List A) (m : ℕ) →
-    flat_map f (places (suc m)) ≡ flat_map f (places m) ++ f m
-flat_map_last f m =
-    let g : suc m ≡ m + 1 = omega arith in
-    ap (λ n. flat_map f (places n)) g ∙ flat_map-places-more f m
 
 -- of no frames nothing is kept
 none_kept : (size : ℕ) (softs : List ℤ) (f : ℕ → List ℤ) → length softs ≡ 1152 →
@@ -99,7 +92,7 @@ module _ {C : Type 0} {count : ℕ} {s : StreamOf C} {c : Continued} {heard : Li
       ap (λ n. flat_map (λ j. frame_softs heard s (n + j)) (places m)) f in
       let behind : G m ≡ fresh = ap (frame_softs heard s) last ∙ sym e in
       let all : flat_map G (places (suc m)) ≡ flat_map F (places m) ++ fresh =
-      flat_map_last G m ∙ rw (front, behind) refl in
+      flat_map-next G m ∙ rw (front, behind) refl in
       last_more size m c.softs fresh long (omega (arith, room))
       ∙ ap (λ (xs : List ℤ). xs ++ fresh) had
       ∙ sym all

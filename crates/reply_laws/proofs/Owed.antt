@@ -9,7 +9,7 @@ use Rattle.reply_laws.proofs.Common.{best_pilot, file_end_of, file_text, told, t
 use Rattle.reply_laws.proofs.Common.{IsTaskReply, IsWholeFile, Reply, taps_by, EachInputIsOwed, FindOwesThePilot, FollowOwesTheEvents}
 use Rattle.reply_laws.proofs.Common.{IdleOwesTheSlots, ListOwesTheFrames, MakeOwesTheFile, Rate2OwesTheFrames, SurveyOwesTheRanks}
 use Rattle.reply_laws.proofs.Common.{TrialOwesItsLine, WorkersChangeNoReply, hearing, task_of, trial_line, Reception, Status, Task, Make}
-use Rattle.reply_laws.proofs.Common.{Receive, Trial}
+use Rattle.reply_laws.proofs.Common.{Receive, Trial, nil_from_length}
 use Rattle.owed_replies.proofs.Files.{none_within}
 use Rattle.owed_replies.proofs.Replies.{whole_file}
 use Rattle.command_line.specs.declared.job.Job.TheVariants as jobs
@@ -21,10 +21,6 @@ record Spells (width : Width) (n : ℕ) (bytes : List ℕ) : Type 0 where
   counted : length samples ≡ n
   in_range : All (HasBits width) samples
   spelled : bytes ≡ flat_map (sample_spelling width) samples
-
-none_left : (bytes : List ℕ) → length bytes ≡ 0 → bytes ≡ []
-none_left [] none = refl
-none_left (b ∷ bs) none = absurd (omega (arith, none))
 
 nothing : (width : Width) → sample_len width * 0 ≡ 0
 nothing Sixteen = refl
@@ -48,7 +44,7 @@ spells width zero bytes small long = record {
   samples = [];
   counted = refl;
   in_range = none_within width;
-  spelled = none_left bytes (long ∙ nothing width);
+  spelled = nil_from_length bytes (long ∙ nothing width);
 }
 spells width (suc n) bytes small long =
     let l = sample_len width in

@@ -5,6 +5,7 @@ pub use Rattle.std.proofs.Common.{zero, zero-add, ℕ, ℤ, ⊎_elim, ◌%◌, �
 pub use Rattle.std.proofs.Common.{◌≢◌, ◌≤◌, ◌⊎◌}
 pub use Rattle.std.proofs.Math.Nat.{div-eq_of_eq-mul_left}
 pub use Rattle.std.proofs.lemmas.Bool.{agree_below, agree_below_at, and_parts, cases_eq, cases_lt, eq-eqb, eqb-true, ltb-true, ne_eqb}
+pub use Rattle.std.proofs.lemmas.Bool.{not-true}
 pub use Rattle.std.proofs.lemmas.Int.{fits_signed_from_abs, ints, to_z-of_z}
 pub use Rattle.std.proofs.lemmas.List.{get_or-set_other, get_or-set_same, get_or_past, length-set, map-append}
 pub use Rattle.std.proofs.lemmas.List.{nil_from_length, reverse-append}
@@ -14,9 +15,9 @@ pub use Rattle.std.proofs.lemmas.Nat.{div_below}
 pub use Rattle.std.proofs.lemmas.Option.{get_or_from_slice_get}
 pub use Rattle.std.specs.List.{flat_map, list_any, range_with_len, slice_get}
 pub use Rattle.std.specs.Prelude.{filter, if◌then◌else◌, sum_by, unsigned_abs, ◌*ℤ◌, ◌==◌}
-pub use Rattle.chip_core.proofs.Digits.{binary-low, digit_of}
+pub use Rattle.chip_core.proofs.Digits.{binary-low}
 pub use Rattle.chip_core.proofs.IndexSums.{sum_changed, sum_front, sum_none, sum_same}
-pub use Rattle.chip_core.proofs.Numerals.{digit_fits, digit_le}
+pub use Rattle.chip_core.proofs.Numerals.{digit_fits}
 pub use Rattle.chip_core.proofs.Places.{get_or-map-places, length-map-places, map-places-all, map-places-more, places-more, places-none}
 pub use Rattle.chip_core.proofs.Places.{places_is}
 pub use Rattle.chip_core.proofs.Ring.{distrib_right}
@@ -52,3 +53,5 @@ pub use Rattle.symbol_path.specs.declared.placing.SentSymbols.{SentSymbols}
 pub use Rattle.symbol_path.specs.declared.placing.SentSymbols.TheVariants.{Every, Kept}
 pub use Rattle.symbol_path.specs.declared.rate_two.Rate2.{Rate2}
 pub use Rattle.symbol_path.specs.declared.rate_two.Rate2.TheVariants.{R14400, R1800, R3600, R7200}
+pub use Rattle.chip_core.proofs.Magnitudes.{abs_sum}
+pub use Rattle.chip_core.specs.Packing.{digit_le, digit_of}

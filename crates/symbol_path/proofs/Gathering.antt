@@ -1,7 +1,7 @@
 -- Sums of the soft values of a code symbol.
 use Rattle.symbol_path.proofs.Common.{◌≡◌, ◌≢◌, ℕ, suc, ◌+◌, ◌^◌, ◌<◌, ◌≤◌, Bool, cond, List, [], ◌∷◌, ◌++◌, length, get_or, set, map}
 use Rattle.symbol_path.proofs.Common.{take, refl, sym, ap, ◌∙◌, arith, ⊎_elim, ℤ, pos, ◌+ℤ◌, filter, ◌==◌, sum_by, unsigned_abs, ints}
-use Rattle.symbol_path.proofs.Common.{fits_signed_from_abs, to_z-of_z, cases_eq, eq-eqb, ne_eqb, map-append, get_or-set_same}
+use Rattle.symbol_path.proofs.Common.{fits_signed_from_abs, to_z-of_z, cases_eq, eq-eqb, ne_eqb, map-append, get_or-set_same, abs_sum}
 use Rattle.symbol_path.proofs.Common.{get_or-set_other, filter-append, sum_by-cons, sum_by-set, sum_by_more, sum_by_more_le}
 use Rattle.symbol_path.proofs.Common.{get_or-le-sum_by, w64, SFits, to_z, of_z, places, total, gathered_by, places-none}
 use Rattle.symbol_path.proofs.Common.{places-more, map-places-all}
@@ -56,9 +56,6 @@ part_more f key n sums h each c =
     (pos 0) ne ∙ each c ∙ sym (part_other f key n c ne))
     (cases_eq c (key n))
 
-abs_plus : (a b : ℤ) → unsigned_abs (a +ℤ b) ≤ unsigned_abs a + unsigned_abs b
-abs_plus a b = omega (arith, ints)
-
 -- and for their absolute values
 pub sizes_more : (sums softs : List ℤ) (at n : ℕ) → at < length sums → n < length softs →
     sum_by unsigned_abs sums ≤ sum_by unsigned_abs (take n softs) →
@@ -71,7 +68,7 @@ sizes_more sums softs at n h l most =
       arith,
       sum_by-set unsigned_abs sums at (x +ℤ v) (pos 0) h,
       sum_by_more unsigned_abs softs n (pos 0) l,
-      abs_plus x v,
+      abs_sum x v,
       most,
     )
 
@@ -111,7 +108,7 @@ added_is x y h =
     cc
 
 pub added_fits : (x y : ℤ) → unsigned_abs x + unsigned_abs y ≤ 2 ^ 62 → SFits w64 (added x y)
-added_fits x y h = rw (added_is x y h) (fits (x +ℤ y) (omega (arith, abs_plus x y, h)))
+added_fits x y h = rw (added_is x y h) (fits (x +ℤ y) (omega (arith, abs_sum x y, h)))
 
 pub stored_is : (x y : ℤ) → unsigned_abs x + unsigned_abs y ≤ 2 ^ 62 →
     to_z w64 (of_z w64 (added x y)) ≡ x +ℤ y

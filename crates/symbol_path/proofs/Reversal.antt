@@ -1,6 +1,6 @@
 -- Numbers with their bits in reverse.
-use Rattle.symbol_path.proofs.Common.{◌≡◌, ℕ, suc, ◌+◌, ◌-◌, ◌*◌, ◌/◌, ◌%◌, ◌<◌, [], ◌∷◌, reverse, sym, ap, ◌∙◌, arith, nat_eq}
-use Rattle.symbol_path.proofs.Common.{reverse-append, number_from, binary, digit_of, reversed}
+use Rattle.symbol_path.proofs.Common.{◌≡◌, ℕ, suc, ◌+◌, ◌-◌, ◌*◌, ◌/◌, ◌%◌, ◌<◌, [], ◌∷◌, reverse, sym, ap, ◌∙◌, arith, nat_eq, digit_of}
+use Rattle.symbol_path.proofs.Common.{reverse-append, number_from, binary, reversed}
 
 -- the lowest bit goes first
 reversed_first : (t w n : ℕ) →

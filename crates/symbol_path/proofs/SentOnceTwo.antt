@@ -2,7 +2,7 @@
 use Rattle.symbol_path.proofs.Common.{◌≡◌, ℕ, ◌+◌, ◌*◌, ◌/◌, ◌%◌, ◌<◌, ◌&&◌, ◌||◌, Bool, true, false, [], ◌∷◌, get_or, refl, sym, ap, ◌∙◌}
 use Rattle.symbol_path.proofs.Common.{nat_eq, nat_lt, not, agree_below, agree_below_at, and_parts, eqb-true, ltb-true, repeats_of2}
 use Rattle.symbol_path.proofs.Common.{data_shape, address, place, Data, Rate2, R14400, R7200, R3600, R1800, symbols_of, kept_symbol}
-use Rattle.symbol_path.proofs.Common.{repeated_symbol, place2, is_dropped, IsKeptOnce, IsDropped}
+use Rattle.symbol_path.proofs.Common.{repeated_symbol, place2, is_dropped, IsKeptOnce, IsDropped, not-true}
 use Rattle.symbol_path.proofs.Interleaving.{symbol_lt}
 use Rattle.symbol_path.proofs.Permutation.{address_lt, place_lt, address-place, address-injective}
 
@@ -50,10 +50,6 @@ kept-injective a b p q e =
     eqb-true _ _ (and_parts _ _ (and_parts _ _ (kept_back b q)).0).1 in
     sym here ∙ ap kept_as e ∙ there
 
-not_true : (b : Bool) → not b ≡ true → b ≡ false
-not_true true e = sym e
-not_true false e = refl
-
 -- each code symbol is repeated so often that all fill a frame
 symbols_fill : (rate : Rate2) → symbols_of rate * repeats_of2 rate ≡ 576
 symbols_fill R14400 = refl
@@ -70,7 +66,7 @@ place2_lt rate i h =
 pub dropped : IsDropped
 dropped i h =
     let a = address data_shape i in
-    not_true (is_dropped (kept_symbol a)) (and_parts _ _ (kept_back a (address_lt Data i h))).1
+    not-true (is_dropped (kept_symbol a)) (and_parts _ _ (kept_back a (address_lt Data i h))).1
 
 -- A repeated symbol that isn't dropped is sent at just one place of a frame: it is kept as one of
 -- 384, by a map that is one to one, and the interleaver sends each of these at a place of its own.

@@ -7,7 +7,6 @@ pub use Rattle.std.proofs.lemmas.List.{append-nil, drop_all, drop_at, length-dro
 pub use Rattle.std.proofs.lemmas.List.Elements.{All-from_get_or}
 pub use Rattle.std.proofs.lemmas.Option.{get_or_from_slice_get}
 pub use Rattle.std.specs.Prelude.{IfSome}
-pub use Rattle.chip_core.proofs.Digits.{digit_of}
 pub use Rattle.chip_core.proofs.FieldLists.{length-binary, slice_get-drop}
 pub use Rattle.chip_core.proofs.Places.{map-places-all}
 pub use Rattle.chip_core.proofs.ValueLists.{behind_front, dropped, length-in_widths, number_front, values_again, values_there}
@@ -56,3 +55,4 @@ pub use Rattle.traffic_message.specs.declared.fields.Search.{Search}
 pub use Rattle.traffic_message.specs.declared.fields.UpdateFields.{UpdateFields}
 pub use Rattle.traffic_message.specs.declared.layouts.Form.{Form}
 pub use Rattle.traffic_message.specs.declared.multiplex.Mux.{Mux}
+pub use Rattle.chip_core.specs.Packing.{digit_of}

@@ -10,6 +10,7 @@ pub use Rattle.std.proofs.lemmas.Bool.{false_from_ne_true, le-leb, leb-true, lt-
 pub use Rattle.std.proofs.lemmas.Grind.{not_there}
 pub use Rattle.std.proofs.lemmas.Int.{ints}
 pub use Rattle.std.proofs.lemmas.List.{drop-drop, drop-take, map-append, take-append-drop, take-take, take_all, take_at, take_rest}
+pub use Rattle.std.proofs.lemmas.List.{nil_from_length}
 pub use Rattle.std.proofs.lemmas.List.Concat.{flat_map-append}
 pub use Rattle.std.proofs.lemmas.List.Sums.{sum_by-append}
 pub use Rattle.std.proofs.lemmas.Option.{slice_get_within}

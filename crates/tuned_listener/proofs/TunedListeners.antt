@@ -1,10 +1,10 @@
 -- A listener, and what it writes, where samples are taken.
-use Rattle.tuned_listener.proofs.Common.{◌≡◌, ℕ, ◌+◌, true, List, [], ◌∷◌, ◌++◌, length, take, drop, refl, sym, ap, ◌∙◌, Option, None, Some}
+use Rattle.tuned_listener.proofs.Common.{◌≡◌, ℕ, ◌+◌, true, List, [], ◌++◌, length, take, drop, refl, sym, ap, ◌∙◌, Option, None, Some}
 use Rattle.tuned_listener.proofs.Common.{append-nil, append_assoc, arith, subst, ◌*◌, ◌<◌, ◌≤◌, sum_by, unsigned_abs, StartsWith, is_some}
 use Rattle.tuned_listener.proofs.Common.{Appends-nil, take-append-drop, take_all, CheckForm, Sample, Near, IsLawful, mark, AreNear}
 use Rattle.tuned_listener.proofs.Common.{soft_frames, frame_most, IsTunedTo, Tuning, sync_stream, Channel, Paging, Traffic, Mark, Mobile}
 use Rattle.tuned_listener.proofs.Common.{SoftFrame, Tuner, HoldsFrames, IsReady, WritesFrames, WritesFramesPart, tuned_text_of}
-use Rattle.tuned_listener.proofs.Common.{ListensAhead}
+use Rattle.tuned_listener.proofs.Common.{ListensAhead, nil_from_length}
 use Rattle.tuned_listener.proofs.Common.{ListensBehind, ListensFrom, ListensTuned, TellsTuned, TellsTunedPart, IsReadyForSlots, slot_behind}
 use Rattle.tuned_listener.proofs.Common.{behind_mark, frames_from, text_from, tuned_text, FrameWriter, SlotWriter, Behind, TunedListener}
 use Rattle.tuned_listener.proofs.Common.{TunedText}
@@ -273,10 +273,6 @@ module _ (t : Tuning) (channel : Channel) (form : TunedText) (l : TunedListener)
               (sym (text_marked form t channel heard m from.marked)) wrote.begins);
         }
 
-none_left : {X : Type 0} (xs : List X) → length xs ≡ 0 → xs ≡ []
-none_left [] h = refl
-none_left (x ∷ xs) h = absurd (omega (arith, h))
-
 -- without a receiver of frames no sample is left
 pub tells_nothing : (t : Tuning) (channel : Channel) (form : TunedText) (l l' : TunedListener)
     (heard samples : List Sample) (old : Option (List ℕ)) → ListensTuned t channel form l heard →
@@ -285,7 +281,7 @@ pub tells_nothing : (t : Tuning) (channel : Channel) (form : TunedText) (l l' : 
     ListensFrom t channel l'.ahead l'.behind heard →
     TellsTuned t channel form l' heard (heard ++ samples) old old
 tells_nothing t channel form l l' heard samples old is none empty phase near same writer from =
-    let left = none_left samples (empty (ahead_alone t channel heard l.ahead l.behind none is.listens))
+    let left = nil_from_length samples (empty (ahead_alone t channel heard l.ahead l.behind none is.listens))
     in
     let now : heard ++ samples ≡ heard =
     ap (λ (xs : List Sample). heard ++ xs) left ∙ append-nil heard in

@@ -1,7 +1,7 @@
 -- A block of eight states by the codewords of the definitions.
 use Rattle.viterbi.proofs.Common.{◌≡◌, ℕ, zero, suc, ◌+◌, ◌-◌, ◌*◌, ◌/◌, ◌%◌, ◌^◌, ◌<◌, ◌≤◌, Bool, true, false, List, [], ◌∷◌, length, map}
 use Rattle.viterbi.proofs.Common.{take, drop, get_or, refl, sym, ap, ◌∙◌, arith, ℤ, pos, ◌+ℤ◌, ◌-ℤ◌, ◌*ℤ◌, ◌≤ℤ◌, ◌<ℤ◌, negsuc, FitsSigned}
-use Rattle.viterbi.proofs.Common.{unsigned_abs, to_z, of_z, w64, nat_lt, int_lt, list_all, range_with_len, ints, to_z-of_z}
+use Rattle.viterbi.proofs.Common.{unsigned_abs, to_z, of_z, w64, nat_lt, int_lt, list_all, range_with_len, ints, to_z-of_z, abs_signed}
 use Rattle.viterbi.proofs.Common.{fits_signed_from_abs, and_parts, nat_tests, get_or-map, get_or-drop, get_or-take, length-map}
 use Rattle.viterbi.proofs.Common.{length-take-le, get_or-range_with_len, length-range_with_len, get_or-chunk, length-chunk}
 use Rattle.viterbi.proofs.Common.{Each1-from_get_or, Each1, Each2, chunk, bit_of, sign, low_bits, gain_of, wants, taken_of, metric_from}
@@ -54,15 +54,11 @@ code_at k l b =
     rw (block, lane) refl
 
 -- GAINS
-signed_size : (v : ℤ) (b : Bool) → unsigned_abs (v *ℤ sign b) ≡ unsigned_abs v
-signed_size v true = omega (arith, ints)
-signed_size v false = omega (arith, ints)
-
 pub gain_size : (f s : ℤ) (c : ℕ) → unsigned_abs (gain_by f s c) ≤ unsigned_abs f + unsigned_abs s
 unfolding gain_by
 gain_size f s c =
     sum_size (f *ℤ sign (bit_of c 0)) (s *ℤ sign (bit_of c 1))
-    (signed_size f (bit_of c 0)) (signed_size s (bit_of c 1)) where
+    (abs_signed f (bit_of c 0)) (abs_signed s (bit_of c 1)) where
       sum_size : (a b : ℤ) → unsigned_abs a ≡ unsigned_abs f → unsigned_abs b ≡ unsigned_abs s →
           unsigned_abs (a +ℤ b) ≤ unsigned_abs f + unsigned_abs s
       sum_size a b p q = omega (arith, ints, p, q)

@@ -1,23 +1,19 @@
 -- A whole column, block by block.
 use Rattle.viterbi.proofs.Common.{◌≡◌, ℕ, ◌+◌, ◌*◌, ◌/◌, ◌%◌, ◌<◌, ◌≤◌, Bool, true, false, List, length, set, get_or, sym, ap, ◌∙◌}
 use Rattle.viterbi.proofs.Common.{arith, ℤ, pos, ◌+ℤ◌, ◌*ℤ◌, unsigned_abs, ⊎_elim, ◌⊎◌, inl, inr, subst, ◌-ℤ◌, FitsSigned, to_z, of_z}
-use Rattle.viterbi.proofs.Common.{w64, ints, to_z-of_z, cases_lt, cases_eq, get_or-set_same, get_or-set_other, length-set}
+use Rattle.viterbi.proofs.Common.{w64, ints, to_z-of_z, cases_lt, cases_eq, get_or-set_same, get_or-set_other, length-set, abs_signed}
 use Rattle.viterbi.proofs.Common.{get_or-put_chunk_below, get_or-put_chunk_above, get_or-put_chunk_at, length-put_chunk, Each1-from_get_or}
 use Rattle.viterbi.proofs.Common.{Each1, put_chunk, bit_of, sign, low_bit, g0, g1, symbol, low_bits, gain_of, took, metric_from}
 use Rattle.viterbi.proofs.Common.{metric_into, choice_into, taken_of, CanStep}
 use Rattle.viterbi.proofs.Blocks.{passed, kept}
 use Rattle.viterbi.proofs.BlockSteps.{moved_fits, plus_less}
 
-signed_size : (v : ℤ) (b : Bool) → unsigned_abs (v *ℤ sign b) ≡ unsigned_abs v
-signed_size v true = omega (arith, ints)
-signed_size v false = omega (arith, ints)
-
 pub gain_of_size : (f s : ℤ) (nine : List Bool) →
     unsigned_abs (gain_of f s nine) ≤ unsigned_abs f + unsigned_abs s
 unfolding gain_of
 gain_of_size f s nine =
     sum_size (f *ℤ sign (symbol g0 nine 0)) (s *ℤ sign (symbol g1 nine 0))
-    (signed_size f (symbol g0 nine 0)) (signed_size s (symbol g1 nine 0)) where
+    (abs_signed f (symbol g0 nine 0)) (abs_signed s (symbol g1 nine 0)) where
       sum_size : (a b : ℤ) → unsigned_abs a ≡ unsigned_abs f → unsigned_abs b ≡ unsigned_abs s →
           unsigned_abs (a +ℤ b) ≤ unsigned_abs f + unsigned_abs s
       sum_size a b p q = omega (arith, ints, p, q)

@@ -5,7 +5,7 @@ pub use Rattle.std.proofs.Common.{replicate, reverse, rules, set, subst, suc, su
 pub use Rattle.std.proofs.Common.{zero, ℕ, ℤ, ⊎_elim, ◌%◌, ◌*ℤ◌, ◌*◌, ◌++◌, ◌+ℤ◌, ◌+◌, ◌-ℤ◌, ◌-◌, ◌/◌, ◌<ℤ◌, ◌<◌, ◌^◌, ◌∙◌, ◌∷◌, ◌≡◌, ◌≢◌}
 pub use Rattle.std.proofs.Common.{◌≤ℤ◌, ◌≤◌, ◌⊎◌}
 pub use Rattle.std.proofs.Math.Facts.{Fits-of_z}
-pub use Rattle.std.proofs.Math.Nat.{mul-le-mul_left, mul-le-mul_right}
+pub use Rattle.std.proofs.Math.Nat.{mul-le-mul_left}
 pub use Rattle.std.proofs.lemmas.Bool.{and_parts, cases_eq, cases_lt, cases_order, eqb-true}
 pub use Rattle.std.proofs.lemmas.Bool.Decides.{nat_tests}
 pub use Rattle.std.proofs.lemmas.Int.{by_lt_z, fits_signed_from_abs, int_wrap_fits, ints, to_z-of_z, wrapping_add-bits, wrapping_sub-bits}
@@ -24,11 +24,9 @@ pub use Rattle.std.specs.Int.{int_wrap}
 unfoldable pub use Rattle.std.specs.Int.{reverse_bits_onto}
 pub use Rattle.std.specs.List.{list_all, range_with_len}
 pub use Rattle.std.specs.Prelude.{IsTrue, if◌then◌else◌, int_lt, nat_le, nat_lt, neg_ℤ, not, ◌&&◌, ◌↔◌}
-pub use Rattle.chip_core.proofs.Digits.{digit_of}
 pub use Rattle.chip_core.proofs.Greatest.{first_greatest-is, tested, untested}
-pub use Rattle.chip_core.proofs.Numerals.{digit_le, number_from-append}
-pub use Rattle.chip_core.proofs.RegisterBits.{binary-none, bit_of-half, length-binary, low_bit}
-pub use Rattle.chip_core.proofs.Ring.{neg_times}
+pub use Rattle.chip_core.proofs.Numerals.{number_from-append}
+pub use Rattle.chip_core.proofs.RegisterBits.{binary-none, bit_of-half, low_bit}
 pub use Rattle.chip_core.specs.Bits.{bit_of, digit, parity, sign, xor}
 unfoldable pub use Rattle.chip_core.specs.Bits.{binary, places}
 pub use Rattle.chip_core.specs.Packed.{low_first}
@@ -54,3 +52,6 @@ unfoldable pub use Rattle.viterbi.specs.Codewords.{best_codeword}
 pub use Rattle.viterbi.specs.declared.survivor.Survivor.{Survivor}
 pub use Rattle.viterbi.specs.declared.codeword.Ends.{Ends}
 pub use Rattle.viterbi.specs.declared.codeword.Ends.TheVariants.{Free, Zero}
+pub use Rattle.chip_core.proofs.Magnitudes.{abs_signed}
+pub use Rattle.chip_core.specs.Packing.{digit_of, halved, low_first_below}
+pub use Rattle.chip_core.proofs.FieldLists.{length-binary}

@@ -2,7 +2,7 @@
 use Rattle.std.proofs.Common.{◌≡◌, ℕ, suc, ◌+◌, ◌-◌, ◌*◌, ◌%◌, ◌^◌, ◌<◌, ◌≤◌, Bool, true, false, not, ◌&&◌, refl, sym, ap, ◌∙◌, arith}
 use Rattle.std.proofs.Common.{nat_eq, nat_lt, nat_le, bit_and}
 use Rattle.std.specs.Prelude.{if◌then◌else◌}
-use Rattle.std.proofs.lemmas.Bool.{agree_below, agree_below_at, ne_eqb}
+use Rattle.std.proofs.lemmas.Bool.{agree_below, agree_below_at, ne_eqb, not-true}
 use Rattle.std.proofs.lemmas.Nat.{one_shl}
 use Rattle.chip_core.specs.Bits.{bit_of}
 
@@ -53,10 +53,6 @@ second_of_both : (a b : Bool) → (a && b) ≡ true → b ≡ true
 second_of_both true b h = h
 second_of_both false b h = cc
 
-clear : (a : Bool) → not a ≡ true → a ≡ false
-clear true h = cc
-clear false h = refl
-
 low_facts : (bit n : ℕ) → is_low bit n ≡ true → IsLow bit n
 low_facts bit n h =
     let room : nat_lt (n + 2 ^ bit) 64 ≡ true = first_of_both _ _ h in
@@ -83,7 +79,7 @@ high_facts bit n h =
     second_of_both (nat_eq (n % 2 ^ (suc bit)) (2 ^ bit + n % 2 ^ bit)) _ last in
     record {
       room = grind (arith, room);
-      partner = clear (bit_of (n - 2 ^ bit) bit) (first_of_both _ _ rest);
+      partner = not-true (bit_of (n - 2 ^ bit) bit) (first_of_both _ _ rest);
       in_block = grind (arith, third);
       partner_in_block = grind (arith, fourth);
     }
@@ -123,7 +119,7 @@ pub is_clear : (bit n : ℕ) → bit < 6 → n < 64 → bit_and n (1 * 2 ^ bit %
     bit_of n bit ≡ false
 is_clear bit n p q h =
     let zero_is : bit_and n (2 ^ bit) ≡ 0 = ap (bit_and n) (sym (shifted bit p)) ∙ h in
-    clear (bit_of n bit) (sym (tested bit n p q) ∙ ap (λ (m : ℕ). nat_eq m 0) zero_is)
+    not-true (bit_of n bit) (sym (tested bit n p q) ∙ ap (λ (m : ℕ). nat_eq m 0) zero_is)
 
 pub is_set : (bit n : ℕ) → bit < 6 → n < 64 →
     ¬ (bit_and n (1 * 2 ^ bit % 18446744073709551616) ≡ 0) → bit_of n bit ≡ true

@@ -1,5 +1,5 @@
 -- The rows: as counts of set bits, and orthogonal by a table of 4,096 sums.
-use Rattle.std.proofs.Common.{◌≡◌, ℕ, ◌<◌, Bool, true, refl, arith, ℤ, pos, nat_eq, bit_and, int_eq}
+use Rattle.std.proofs.Common.{◌≡◌, ℕ, ◌<◌, Bool, true, false, refl, arith, ℤ, pos, nat_eq, bit_and, int_eq}
 use Rattle.std.specs.Prelude.{if◌then◌else◌, ◌==◌}
 use Rattle.std.specs.Int.RustNames.{count_ones}
 use Rattle.std.proofs.lemmas.Int.{ints}
@@ -29,3 +29,8 @@ orthogonal m n p q =
     (agree_below_at (is_right m) (λ n. true) 64 n
     (agree_below_at (λ m. agree_below (is_right m) (λ n. true) 64) (λ m. true) 64 m all_right p)
     q)
+
+-- the row of the pilot has no ones
+pub walsh-pilot : (k : ℕ) → walsh 0 k ≡ false
+unfolding walsh binary
+walsh-pilot k = refl

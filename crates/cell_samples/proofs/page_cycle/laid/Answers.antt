@@ -1,5 +1,5 @@
 -- Why `laid` of `page_cycle` keeps its contract.
-use Rattle.cell_samples.proofs.Common.{◌≡◌, length, ap, arith, get_or, ◌∙◌, M30, length-capsule, half_frame_body}
+use Rattle.cell_samples.proofs.Common.{◌≡◌, length, ap, arith, get_or, ◌∙◌, M30, length-capsule, half_frame_body, any_default}
 use Rattle.cell_plan.proofs.LaidPages as pages
 use Rattle.cell_samples.proofs.page_cycle.laid.Goals as goal
 
@@ -14,7 +14,7 @@ capsule_of-capsule-requires c =
     let k = c.loop-page.page-index in
     let item : c.page-item.result ≡ get_or c.args.pages.now k pages.no_page =
     c.page-item.is
-    ∙ pages.any_default c.args.pages.now k c.page-item.result pages.no_page c.loop-page-test.true in
+    ∙ any_default c.args.pages.now k c.page-item.result pages.no_page c.loop-page-test.true in
     rw item
     (pages.here (half_frame_body c.args.rate) _ k c.args.pages.now c.loop-page-test.true
     c.loop-page.invariant.left).0
@@ -35,7 +35,7 @@ loop-page-preserved c =
     let k = c.loop-page.page-index in
     let item : c.page-item.result ≡ get_or c.args.pages.now k pages.no_page =
     c.page-item.is
-    ∙ pages.any_default c.args.pages.now k c.page-item.result pages.no_page c.loop-page-test.true in
+    ∙ any_default c.args.pages.now k c.page-item.result pages.no_page c.loop-page-test.true in
     pages.laid_next (half_frame_body c.args.rate) c.args.form c.args.pages.now
     c.loop-page.page-index c.loop-page.layout c.put.new.self c.loop-page.bits c.put.new.out
     (pages.size_large c.args.rate) c.loop-page-test.true c.loop-page.invariant

@@ -1,5 +1,5 @@
 -- Why `invert` of `inversion` keeps its contract.
-use Rattle.conv_code.proofs.Common.{◌≡◌, ◌∙◌, ap, sym, List, Bool, binary, length-binary, code_symbols}
+use Rattle.conv_code.proofs.Common.{◌≡◌, ◌∙◌, ap, sym, List, Bool, binary, code_symbols, length-binary}
 use Rattle.conv_code.proofs.inversion.invert.Goals as goal
 
 pub returns-in_err-bits-clause-none : goal.returns-in_err-bits-clause-none

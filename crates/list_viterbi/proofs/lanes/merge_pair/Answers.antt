@@ -1,7 +1,7 @@
 -- Why `merge_pair` of `lanes` keeps its contract.
-use Rattle.list_viterbi.proofs.Common.{◌≡◌, ℕ, ◌+◌, ◌*◌, List, ℤ, ◌+ℤ◌, ◌-ℤ◌, arith, Heads, four_choices, four_scores, put_choices}
-use Rattle.list_viterbi.proofs.Common.{put_heads}
-use Rattle.list_viterbi.proofs.LaneBlocks.{with_both, chosen_both, pair_lower, pair_upper, pair_others, plus_size, minus_size}
+use Rattle.list_viterbi.proofs.Common.{◌≡◌, ℕ, ◌+◌, ◌*◌, List, ℤ, ◌+ℤ◌, ◌-ℤ◌, arith, Heads, four_choices, four_scores, put_choices, abs_sum}
+use Rattle.list_viterbi.proofs.Common.{put_heads, abs_difference}
+use Rattle.list_viterbi.proofs.LaneBlocks.{with_both, chosen_both, pair_lower, pair_upper, pair_others}
 use Rattle.list_viterbi.proofs.LanePairs as pairs
 use Rattle.list_viterbi.proofs.lanes.merge_pair.Goals as goal
 
@@ -12,45 +12,45 @@ heads_at-requires-clause-fit c =
 pub raised-lower_even-requires : goal.raised-lower_even-requires
 raised-lower_even-requires c =
     pairs.may_make (λ x y. x +ℤ y) c.args.ranks.now c.args.gain (4 * c.args.block) _ c.requires.long
-    (omega (arith, c.requires.block)) c.requires.room plus_size c.heads_at.ensures.even
+    (omega (arith, c.requires.block)) c.requires.room abs_sum c.heads_at.ensures.even
 
 pub lowered-lower_odd-requires : goal.lowered-lower_odd-requires
 lowered-lower_odd-requires c =
     pairs.may_make (λ x y. x -ℤ y) c.args.ranks.now c.args.gain (4 * c.args.block + 1) _ c.requires.long
-    (omega (arith, c.requires.block)) c.requires.room minus_size c.heads_at.ensures.odd
+    (omega (arith, c.requires.block)) c.requires.room abs_difference c.heads_at.ensures.odd
 
 pub merge_block-requires-clause-even_fit : goal.merge_block-requires-clause-even_fit
 merge_block-requires-clause-even_fit c =
     pairs.makes_fit (λ x y. x +ℤ y) c.args.ranks.now c.args.gain (4 * c.args.block) _ _ c.requires.long
-    (omega (arith, c.requires.block)) c.requires.room plus_size c.heads_at.ensures.even
+    (omega (arith, c.requires.block)) c.requires.room abs_sum c.heads_at.ensures.even
     c.raised-lower_even.ensures
 
 pub merge_block-requires-clause-odd_fit : goal.merge_block-requires-clause-odd_fit
 merge_block-requires-clause-odd_fit c =
     pairs.makes_fit (λ x y. x -ℤ y) c.args.ranks.now c.args.gain (4 * c.args.block + 1) _ _ c.requires.long
-    (omega (arith, c.requires.block)) c.requires.room minus_size c.heads_at.ensures.odd
+    (omega (arith, c.requires.block)) c.requires.room abs_difference c.heads_at.ensures.odd
     c.lowered-lower_odd.ensures
 
 pub lowered-upper_even-requires : goal.lowered-upper_even-requires
 lowered-upper_even-requires c =
     pairs.may_make (λ x y. x -ℤ y) c.args.ranks.now c.args.gain (4 * c.args.block) _ c.requires.long
-    (omega (arith, c.requires.block)) c.requires.room minus_size c.heads_at.ensures.even
+    (omega (arith, c.requires.block)) c.requires.room abs_difference c.heads_at.ensures.even
 
 pub raised-upper_odd-requires : goal.raised-upper_odd-requires
 raised-upper_odd-requires c =
     pairs.may_make (λ x y. x +ℤ y) c.args.ranks.now c.args.gain (4 * c.args.block + 1) _ c.requires.long
-    (omega (arith, c.requires.block)) c.requires.room plus_size c.heads_at.ensures.odd
+    (omega (arith, c.requires.block)) c.requires.room abs_sum c.heads_at.ensures.odd
 
 pub merge_block-requires-2-clause-even_fit : goal.merge_block-requires-2-clause-even_fit
 merge_block-requires-2-clause-even_fit c =
     pairs.makes_fit (λ x y. x -ℤ y) c.args.ranks.now c.args.gain (4 * c.args.block) _ _ c.requires.long
-    (omega (arith, c.requires.block)) c.requires.room minus_size c.heads_at.ensures.even
+    (omega (arith, c.requires.block)) c.requires.room abs_difference c.heads_at.ensures.even
     c.lowered-upper_even.ensures
 
 pub merge_block-requires-2-clause-odd_fit : goal.merge_block-requires-2-clause-odd_fit
 merge_block-requires-2-clause-odd_fit c =
     pairs.makes_fit (λ x y. x +ℤ y) c.args.ranks.now c.args.gain (4 * c.args.block + 1) _ _ c.requires.long
-    (omega (arith, c.requires.block)) c.requires.room plus_size c.heads_at.ensures.odd
+    (omega (arith, c.requires.block)) c.requires.room abs_sum c.heads_at.ensures.odd
     c.raised-upper_odd.ensures
 
 -- A pair of blocks gives four lanes of states their picks: to the lower states the even state comes

@@ -1,8 +1,8 @@
 -- Why `picked_of_full` of `picking` keeps its contract.
 use Rattle.list_viterbi.proofs.Common.{◌≡◌, ◌+◌, ◌-◌, ◌*◌, ◌∷◌, ◌++◌, [], ℕ, length, get_or, refl, sym, ap, ◌∙◌, arith, rules, to_z, of_z}
-use Rattle.list_viterbi.proofs.Common.{pos, ◌+ℤ◌, ℤ, Bool, w64, length-append, int_lt, to_z-of_z, SFits, digit, taken_of}
-use Rattle.list_viterbi.proofs.BoolBytes.{byte_digit}
-use Rattle.list_viterbi.proofs.Masks.{weight_most, weight_next, digit_most}
+use Rattle.list_viterbi.proofs.Common.{pos, ◌+ℤ◌, ℤ, Bool, w64, length-append, int_lt, to_z-of_z, SFits, digit, taken_of, digit_le}
+use Rattle.list_viterbi.proofs.Common.{bool_byte-digit}
+use Rattle.list_viterbi.proofs.Masks.{weight_most, weight_next}
 use Rattle.list_viterbi.proofs.Picks.{picked_none, picked_next, picked_all}
 use Rattle.list_viterbi.proofs.picking.picked_of_full.Goals as goal
 
@@ -55,8 +55,8 @@ loop-n-preserved c =
     ∙ c.greater-score.ensures.score
     ∙ ap (λ (t : Bool). taken_of t x y) (sym c.greater-score.ensures.choice)
     ∙ ap (λ (z : ℤ). taken_of b z y) x_is ∙ ap (taken_of b even_sum) y_is in
-    let one : c.from-j.result ≡ digit b = c.from-j.ensures ∙ byte_digit b in
-    let few = digit_most b in
+    let one : c.from-j.result ≡ digit b = c.from-j.ensures ∙ bool_byte-digit b in
+    let few = digit_le b in
     let most_weight = c.weight_of-choices.ensures.most in
     let size = length-append scores (value ∷ []) in
     let power = weight_next weight (weight * 2) scores value inv.power (omega arith) in

@@ -1,6 +1,6 @@
 -- Why `step` of `picking` keeps its contract.
 use Rattle.list_viterbi.proofs.Common.{◌∙◌, arith, w64, to_z-of_z, length-set, SFits, lane_code_of, HasPicks, picks_into}
-use Rattle.list_viterbi.proofs.StateCodes.{code_small, gain_passed, gain_size}
+use Rattle.list_viterbi.proofs.StateCodes.{code_small, gain_passed, given_gain_size}
 use Rattle.list_viterbi.proofs.PickSteps.{gain_room, each_more}
 use Rattle.list_viterbi.proofs.picking.step.Goals as goal
 
@@ -10,7 +10,7 @@ picked_into-requires-clause-small c =
     let is = gain_passed c.args.first c.args.second gain (lane_code_of c.loop-state.state) c.ranges.first
     c.ranges.second (c.gain_at-gain.ensures
     ∙ c.gains-gains.ensures _ (code_small c.loop-state.state (omega arith))) in
-    let size = gain_size c.args.first c.args.second gain _ is in
+    let size = given_gain_size c.args.first c.args.second gain _ is in
     let pair = c.requires.fits in
     rw (to_z-of_z w64 gain (record { sfits = c.gain_at-gain.type_inv })) (omega (arith, size, pair))
 
@@ -20,7 +20,7 @@ picked_into-requires-clause-room c =
     let is = gain_passed c.args.first c.args.second gain (lane_code_of c.loop-state.state) c.ranges.first
     c.ranges.second (c.gain_at-gain.ensures
     ∙ c.gains-gains.ensures _ (code_small c.loop-state.state (omega arith))) in
-    let size = gain_size c.args.first c.args.second gain _ is in
+    let size = given_gain_size c.args.first c.args.second gain _ is in
     rw (to_z-of_z w64 gain (record { sfits = c.gain_at-gain.type_inv }))
     (λ u b. gain_room c.args.first c.args.second gain _ size (c.requires.room u b))
 

@@ -4,7 +4,7 @@ use Rattle.std.specs.Int.{w64}
 use Rattle.std.proofs.lemmas.Int.{to_z-of_z}
 use Rattle.std.specs.Option.{option_map}
 use Rattle.frame_decoder.specs.Formats.{is_right, frame_in}
-use Rattle.listed_frame.proofs.Candidates.{found_here, found_later}
+use Rattle.chip_core.proofs.Finds.{found_here, found_later}
 use Rattle.listed_frame.proofs.frame.candidate.Goals as goal
 
 pub returns-then-is_right : goal.returns-then-is_right

@@ -1,9 +1,9 @@
 -- Why `append_all` of `frames` keeps its contract.
 use Rattle.std.proofs.Common.{append_assoc}
-use Rattle.chip_core.proofs.FieldLists.{bits_more}
+use Rattle.chip_core.proofs.BitLists.{taken_more}
 use Rattle.slot_mode.proofs.frames.append_all.Goals as goal
 
 pub loop-i-preserved : goal.loop-i-preserved
 loop-i-preserved c =
-    let more = bits_more c.args.bits.now c.loop-i.i c.get.result c.get.ensures in
+    let more = taken_more c.args.bits.now c.loop-i.i c.get.result c.get.ensures in
     rw (c.append.ensures, c.loop-i.invariant, append_assoc, more)

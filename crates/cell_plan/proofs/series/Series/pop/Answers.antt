@@ -1,19 +1,15 @@
 -- Why `pop` of `series::Series` keeps its contract.
-use Rattle.cell_plan.proofs.Common.{◌≡◌, ℕ, ◌+◌, ◌++◌, List, [], ◌∷◌, length, refl, sym, ◌∙◌, arith, Option, None, Some, MatchOption}
-use Rattle.cell_plan.proofs.Common.{option_to_list}
+use Rattle.cell_plan.proofs.Common.{◌≡◌, ℕ, ◌+◌, ◌++◌, List, [], ◌∷◌, length, sym, ◌∙◌, arith, Option, None, Some, MatchOption}
+use Rattle.cell_plan.proofs.Common.{option_to_list, nil_from_length}
 use Rattle.cell_plan.proofs.series.Series.pop.Goals as goal
-
-none_long : {A : Type 0} (xs : List A) → length xs ≡ 0 → xs ≡ []
-none_long [] none = refl
-none_long (x ∷ xs) none = absurd (omega (arith, none))
 
 popped : {A : Type 0} (items old new : List A) (last : Option A) (m n : ℕ) → items ≡ old →
     m ≡ length items → n ≡ length new → items ≡ new ++ option_to_list last →
     MatchOption last ((m ≡ 0) × (n ≡ 0)) (λ _. n + 1 ≡ m) →
     MatchOption last ((old ≡ []) × (new ≡ [])) (λ last. old ≡ new ++ last ∷ [])
 popped items old new None m n same m_is n_is is none = (
-  sym same ∙ none_long items (omega (arith, m_is, none.0)),
-  none_long new (omega (arith, n_is, none.1)),
+  sym same ∙ nil_from_length items (omega (arith, m_is, none.0)),
+  nil_from_length new (omega (arith, n_is, none.1)),
 )
 popped items old new (Some last) m n same m_is n_is is long = sym same ∙ is
 

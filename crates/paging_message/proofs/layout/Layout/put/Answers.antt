@@ -1,5 +1,5 @@
 -- Why `put` of `layout::Layout` keeps its contract.
-use Rattle.paging_message.proofs.Common.{◌≡◌, ◌+◌, ◌%◌, ◌≤◌, ◌++◌, ◌∷◌, [], false, not, length, take, ap, ◌∙◌, arith, subst, bits_more}
+use Rattle.paging_message.proofs.Common.{◌≡◌, ◌+◌, ◌%◌, ◌≤◌, ◌++◌, ◌∷◌, [], false, not, length, take, ap, ◌∙◌, arith, subst, taken_more}
 use Rattle.paging_message.proofs.Common.{HasLaid, Laid, bit_on, way_for, laid_on}
 use Rattle.paging_message.proofs.Layings.{capsule_first, capsule_next, way_whole}
 use Rattle.paging_message.proofs.layout.Layout.put.Goals as goal
@@ -14,7 +14,7 @@ loop-i-init c =
     let capsule = c.args.capsule.now in
     let large : 47 ≤ size = c.make_way.ensures.lawful.least in
     let bit = c.get.result in
-    let first : take 1 capsule ≡ bit ∷ [] = bits_more capsule 0 bit c.get.ensures in
+    let first : take 1 capsule ≡ bit ∷ [] = taken_more capsule 0 bit c.get.ensures in
     record {
       size = c.append.ensures.size ∙ c.make_way.ensures.size;
       longer = omega (arith, c.append.ensures.longer, c.make_way.ensures.longer);
@@ -40,7 +40,7 @@ loop-i-preserved c =
     let inv = c.loop-i.invariant in
     let bit = c.get-in-loop-i.result in
     let next : take (i + 1) capsule ≡ take i capsule ++ bit ∷ [] =
-    bits_more capsule i bit c.get-in-loop-i.ensures in
+    taken_more capsule i bit c.get-in-loop-i.ensures in
     record {
       size = c.append-in-loop-i.ensures.size ∙ inv.size;
       longer = omega (arith, c.append-in-loop-i.ensures.longer, inv.longer);

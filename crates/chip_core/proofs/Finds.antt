@@ -1,0 +1,37 @@
+-- A list that a loop reads from its start: what stands at a place, what is left, what is found first.
+use Rattle.std.proofs.Common.{◌≡◌, ℕ, zero, suc, ◌+◌, ◌<◌, Bool, true, false, List, [], ◌∷◌, length, drop, get_or, refl, ap, ◌∙◌}
+use Rattle.std.proofs.Common.{arith, Some}
+use Rattle.std.specs.Prelude.{cond, slice_get}
+use Rattle.std.specs.List.{find}
+use Rattle.std.proofs.lemmas.List.{drop_more}
+use Rattle.std.proofs.lemmas.Option.{get_or_from_slice_get}
+
+-- at a place within a list it doesn't matter what stands for its end
+pub any_default : {A : Type 0} (xs : List A) (n : ℕ) (d e : A) → n < length xs →
+    get_or xs n d ≡ get_or xs n e
+any_default [] n d e inside = absurd (omega (arith, inside))
+any_default (x ∷ xs) zero d e inside = refl
+any_default (x ∷ xs) (suc n) d e inside = any_default xs n d e (omega (arith, inside))
+
+-- what is left of a list from a place that is read
+pub left_at : {A : Type 0} (xs : List A) (i : ℕ) (x : A) → i < length xs →
+    slice_get xs i ≡ Some x → drop i xs ≡ x ∷ drop (i + 1) xs
+left_at {A} xs i x within read =
+    drop_more xs i x within
+    ∙ ap (λ (y : A). y ∷ drop (i + 1) xs) (get_or_from_slice_get xs i x x read)
+
+pub found_here : {A : Type 0} (test : A → Bool) (xs : List A) (i : ℕ) (x : A) → i < length xs →
+    slice_get xs i ≡ Some x → find test xs ≡ find test (drop i xs) → test x ≡ true →
+    find test xs ≡ Some x
+found_here {A} test xs i x within read before passes =
+    before
+    ∙ ap (λ (ys : List A). find test ys) (left_at xs i x within read)
+    ∙ ap (λ (b : Bool). cond b (Some x) (find test (drop (i + 1) xs))) passes
+
+pub found_later : {A : Type 0} (test : A → Bool) (xs : List A) (i : ℕ) (x : A) → i < length xs →
+    slice_get xs i ≡ Some x → find test xs ≡ find test (drop i xs) → test x ≡ false →
+    find test xs ≡ find test (drop (i + 1) xs)
+found_later {A} test xs i x within read before fails =
+    before
+    ∙ ap (λ (ys : List A). find test ys) (left_at xs i x within read)
+    ∙ ap (λ (b : Bool). cond b (Some x) (find test (drop (i + 1) xs))) fails
