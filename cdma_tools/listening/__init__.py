@@ -3,6 +3,7 @@
 | Module | Does |
 |---|---|
 | `ring`, `streaming_front` | the samples that are still needed, and the way from them to chips, for speed |
+| `instants` | where between chips the instants lie, by all that was heard |
 | `searching`, `pursuit`, `timeline` | where a pilot stands out, its points, and the timing and carrier fitted to them |
 | `stream_lock`, `pieces` | all of that as a lock into which bytes go, and out of which chips come |
 | `follow_run`, `seams`, `relay` | runs of `follow` one after the other, so that each line is told once |

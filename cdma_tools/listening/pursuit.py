@@ -16,8 +16,6 @@ from cdma_tools.radio.tracking import CLOSE, EVERY, REACH, SEGMENT, SUM, SUMS, P
 STRIDE = EVERY * SEGMENT
 # Points that are taken by one prediction.
 TOGETHER = 2
-# Half chips to each side at which the pilot is watched once the instants are chosen.
-NEAR = 4
 # Chips before a place whose points still count there.
 KEPT = DELAY_PAST + STRIDE
 # Points before a loss by which the timing up to it is fitted.
@@ -80,15 +78,14 @@ class Pursuit(Tracker):
     def sums_of(
         self, halves: NDArray[numpy.complex64], chips: NDArray[numpy.int64], rests: NDArray[numpy.float64]
     ) -> NDArray[numpy.complex64]:
-        """The pilot's sums of segments, of shape (segments, 2 REACH + 1, SUMS); 0 at delays that aren't watched."""
+        """The pilot's sums of segments, of shape (segments, 2 REACH + 1, SUMS)."""
         sides = [numpy.ascontiguousarray(halves[:, side::2]) for side in (0, 1)]
         code = ramps(numpy.zeros(len(chips)), -rests / CHIP_RATE, SEGMENT)
         for row, chip in zip(code, chips):
             row *= CODE_TWICE[int(chip) % PERIOD :][:SEGMENT]
         parts = code.reshape(len(chips), SUMS, SUM)
-        sums = numpy.zeros((len(chips), 2 * REACH + 1, SUMS), dtype=numpy.complex64)
-        reach = REACH if self.timeline is None or self.taken < CLOSE else NEAR
-        for delay in range(REACH - reach, REACH + reach + 1):
+        sums = numpy.empty((len(chips), 2 * REACH + 1, SUMS), dtype=numpy.complex64)
+        for delay in range(2 * REACH + 1):
             part = sides[delay % 2][:, delay // 2 :][:, :SEGMENT].reshape(len(chips), SUMS, SUM)
             sums[:, delay] = numpy.matmul(part[:, :, None, :], parts[:, :, :, None])[:, :, 0, 0]
         return sums

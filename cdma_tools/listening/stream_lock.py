@@ -7,9 +7,10 @@
     for piece in lock.finish():
         ...
 
-A pilot is searched in 1.2 seconds of samples. Its instants, the phase equaliser and the scale are chosen once, 0.9
-seconds after that; from there on chips come as their nodes do (`timeline`). Everything is done at places that are
-counted in chips or in samples, so the chips don't depend on how the bytes are cut.
+A pilot is searched in 1.2 seconds of samples. Its instants, the phase equaliser and the scale are chosen 0.9 seconds
+after that; from there on chips come as their nodes do (`timeline`), and the instants are moved slowly to where all that
+was heard has them (`instants`). Everything is done at places that are counted in chips or in samples, so the chips
+don't depend on how the bytes are cut.
 """
 
 import math
@@ -20,6 +21,7 @@ from typing import Generator, Iterator
 import numpy
 from numpy.typing import NDArray
 
+from cdma_tools.listening.instants import Instants
 from cdma_tools.listening.pieces import Break, Chips, Lost, Piece, Unheard
 from cdma_tools.listening.pursuit import STRIDE, TOGETHER, Pursuit
 from cdma_tools.listening.ring import Ring
@@ -86,6 +88,7 @@ class StreamLock:
         self.place = 0  # the sample from which a search looks
         self.has_equaliser: bool | None = {"yes": True, "no": False}.get(options.equaliser)
         self.scale = 0.0
+        self.instants: Instants | None = None  # there once a pilot is followed
         self.cut = 0  # parts that were cut at the ends of the range
         self.out = 0  # the number of the next chip
         self.origin: int | None = None  # the number of the chip at the stream's start
@@ -250,6 +253,7 @@ class StreamLock:
         power = float(numpy.mean([point.power for point in pursuit.points]))
         self.scale = ROOT_MEAN_SQUARE[1] / math.sqrt(max(power, 1e-30))
         fit = pursuit.fit(self.has_equaliser, self.options.fingers)
+        self.instants = Instants(fit, self.has_equaliser, self.options.fingers)
         first = pursuit.first_node
         pursuit.timeline = Timeline(float(fit.offset.derivative(first)), fit.shift)
         pursuit.add_node(first)
@@ -273,11 +277,13 @@ class StreamLock:
     def extend(self) -> Iterator[Piece]:
         """Adds the nodes whose points are there, and gives the chips up to each."""
         pursuit = self.pursuit
-        assert pursuit is not None and pursuit.timeline is not None
+        assert pursuit is not None and pursuit.timeline is not None and self.instants is not None
         last = pursuit.points[-1].chip - LOOK_AHEAD
         while pursuit.timeline.last.chip + NODE <= last:
             pursuit.add_node(pursuit.timeline.last.chip + NODE)
             yield from self.emit(pursuit.timeline, int(pursuit.timeline.last.chip), False)
+            self.instants.add(pursuit.points, pursuit.timeline)
+            pursuit.timeline.shift = self.instants.next(pursuit.timeline.shift)
         pursuit.forget(pursuit.timeline.last.chip)
         hertz = pursuit.timeline.last.rate * CHIP_RATE
         if abs(hertz - self.front.carrier) > MOST_OFF:

@@ -29,6 +29,7 @@ class Node(NamedTuple):
     offset: float  # its nominal time, less its number
     rate: float  # the carrier in turns a nominal chip
     turns: float  # the carrier's phase
+    shift: float  # the chips by which instants are later than the offset has them
 
 
 class Instants(NamedTuple):
@@ -59,7 +60,10 @@ def value_at(
 
 
 class Timeline:
-    """The nodes of a stretch of the stream; `shift` is the constant by which all instants are moved."""
+    """The nodes of a stretch of the stream; instants are `shift` chips later than the path that is followed.
+
+    It may be moved from node to node (`instants`); a node keeps the one with which it was added.
+    """
 
     def __init__(self, slope: float, shift: float) -> None:
         """No node yet; a chip lasts 1 + slope as long as there is only one."""
@@ -84,8 +88,9 @@ class Timeline:
         turns = 0.0
         if self.nodes:
             before = self.last
-            turns = before.turns + (rate + before.rate) / 2 * (chip + offset - before.chip - before.offset)
-        self.nodes = [*self.nodes[1 - KEPT :], Node(chip, float(offset), rate, turns)]
+            late = offset + self.shift - before.offset - before.shift
+            turns = before.turns + (rate + before.rate) / 2 * (chip - before.chip + late)
+        self.nodes = [*self.nodes[1 - KEPT :], Node(chip, float(offset), rate, turns, self.shift)]
 
     def at(self, chips: NDArray[numpy.float64]) -> Instants:
         """The instants of chips; outside the nodes clock and carrier stay as they are at the nearest one."""
@@ -93,8 +98,10 @@ class Timeline:
         if len(nodes) == 1:
             only = nodes[0]
             step = 1 + self.slope
-            nodes = [only, Node(only.chip + 1, only.offset + self.slope, only.rate, only.turns + only.rate * step)]
-        x, offset, rate, turns = numpy.array(nodes).T
+            after = Node(only.chip + 1, only.offset + self.slope, only.rate, only.turns + only.rate * step, only.shift)
+            nodes = [only, after]
+        x, offset, rate, turns, shift = numpy.array(nodes).T
+        offset = offset + shift
         number = numpy.clip(numpy.searchsorted(x, chips) - 1, 0, len(x) - 2)
         gap = x[number + 1] - x[number]
         slope = (offset[number + 1] - offset[number]) / gap
@@ -103,8 +110,13 @@ class Timeline:
         bend = (rate[number + 1] - rate[number]) * (inside / gap)
         rates = rate[number] + bend
         phase = (rate[number] + bend / 2) * inside + rates * (since - inside)
-        times = chips + offset[number] + slope * since + self.shift
+        times = chips + offset[number] + slope * since
         return Instants(times, rates, turns[number] + phase * (1 + slope))
+
+    def path_times(self, chips: NDArray[numpy.float64]) -> NDArray[numpy.float64]:
+        """The nominal times at which chips come over the path that is followed: their instants without the shift."""
+        shifts = [node.shift for node in self.nodes]
+        return self.at(chips).times - numpy.interp(chips, [node.chip for node in self.nodes], shifts)
 
     def time_of(self, chip: float) -> float:
         """The nominal time of one chip."""

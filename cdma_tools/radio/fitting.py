@@ -22,8 +22,12 @@ ROUNDS = 4
 # The gain in squared energies from which the inverse of the phase equaliser is taken: any. A single path gains 13 parts
 # in 100 where the transmitter has one, and loses 12 where it has none; two paths gain 1 or more, and lose 6 or more.
 EQUALISED = 1.0
-# The finer grid of delays: sixteenths of a chip.
+# Half chips at which sums watch the pilot, in chips, and the finer grid of delays: sixteenths of a chip.
+COARSE_DELAYS = numpy.arange(-REACH, REACH + 1) / 2
 FINE = 16
+FINE_DELAYS = numpy.arange(-FINE * REACH // 2, FINE * REACH // 2 + 1) / FINE
+# Cubic splines through a one at each of the half chips and zeros at the others, of which any other is a sum.
+SPLINES = CubicSpline(COARSE_DELAYS, numpy.eye(len(COARSE_DELAYS)))
 # Points whose sums are filtered at once: some 6 MB of transforms.
 BATCH = 128
 # Chips in which a receiver sets its fingers, the part of its mean energy that a path should have there, and the level
@@ -101,12 +105,31 @@ def equaliser_gain(points: list[Point]) -> float:
     """
     sums = numpy.array([point.sums for point in points])
     powers = numpy.array([point.power for point in points])
-    coarse = numpy.arange(-REACH, REACH + 1) / 2
     fine = numpy.arange(-4 * REACH, 4 * REACH + 1) / 8
     plain, other = (
-        float(numpy.sum(CubicSpline(coarse, profiles(rows, powers), axis=1)(fine) ** 2)) for rows in (sums, equalised(sums))
+        float(numpy.sum(CubicSpline(COARSE_DELAYS, profiles(rows, powers), axis=1)(fine) ** 2))
+        for rows in (sums, equalised(sums))
     )
     return other / plain if plain else 0.0
+
+
+def fine_energies(rows: NDArray[numpy.float64], against: NDArray[numpy.float64]) -> NDArray[numpy.float64]:
+    """Rows of energies over delays in half chips, drawn over the finer ones; row p lies against[p] chips later."""
+    ends = COARSE_DELAYS[0], COARSE_DELAYS[-1]
+    return numpy.array([SPLINES(numpy.clip(FINE_DELAYS - shift, *ends)) @ row for shift, row in zip(against, rows)])
+
+
+def best_delay(energies: NDArray[numpy.float64], fingers: int, middle: float | None = None) -> float:
+    """The delay within half a chip of a middle at which fingers, whole chips apart, hold most of the mean energies.
+
+    The middle is that of the greatest of them, unless another one is given. One finger is at the delay itself.
+    """
+    middle = float(FINE_DELAYS[energies.argmax()]) if middle is None else middle
+    shifts = middle + numpy.arange(-FINE // 2, FINE // 2 + 1) / FINE
+    reach = 3 if fingers > 1 else 0
+    taps = numpy.interp(shifts[:, None] + numpy.arange(-reach, reach + 1), FINE_DELAYS, energies, 0, 0)
+    held = numpy.sort(taps, axis=1)[:, -fingers:].sum(axis=1)
+    return float(shifts[held.argmax()])
 
 
 class Fit:
@@ -150,20 +173,10 @@ class Fit:
         With one finger it is the greatest peak; with several the instants at which so many taps, whole chips apart,
         hold most energy together.
         """
-        coarse = numpy.arange(-REACH, REACH + 1) / 2
         self.against = self.time - self.times(self.chip)
-        fine = numpy.arange(-FINE * REACH // 2, FINE * REACH // 2 + 1) / FINE
-        rows = profiles(self.sums, self.powers)
-        moved = [
-            CubicSpline(coarse + shift, row)(numpy.clip(fine, coarse[0] + shift, coarse[-1] + shift))
-            for shift, row in zip(self.against, rows)
-        ]
-        self.profile = numpy.mean(moved, axis=0)
-        shifts = float(fine[self.profile.argmax()]) + numpy.arange(-FINE // 2, FINE // 2 + 1) / FINE
-        taps = numpy.interp(shifts[:, None] + numpy.arange(-3, 4), fine, self.profile, 0, 0)
-        held = numpy.sort(taps, axis=1)[:, -fingers:].sum(axis=1)
-        self.shift = float(shifts[held.argmax()])
-        self.delays = fine - self.shift
+        self.profile = numpy.mean(fine_energies(profiles(self.sums, self.powers), self.against), axis=0)
+        self.shift = best_delay(self.profile, fingers)
+        self.delays = FINE_DELAYS - self.shift
         self.against = self.against - self.shift
 
     def strong_delays(self) -> NDArray[numpy.float64]:

@@ -1,25 +1,35 @@
 """Tests of the lock that streams, over recordings that are made without the program."""
 
 import json
+import math
+import os
 import subprocess
 import unittest
+import unittest.mock
 from typing import Any, ClassVar
 
 import numpy
 from numpy.typing import NDArray
 
-from tools.tests.helping import PYTHON, ROOT, needs
-from tools.tests.radio_helping import PERIOD, PHASE, Recordings, read_chips, run_main, signal_to_noise
+from tools.tests.helping import HEADER, PYTHON, ROOT, needs, temporary_folder
+from tools.tests.radio_helping import (
+    PERIOD, PHASE, Recordings, cell_chips, figures, read_chips, run_main, signal_to_noise,
+)  # fmt: skip
 
 needs("numpy", "scipy")
 
+from cdma_tools.listening.instants import MEMORY, STEP, Instants
 from cdma_tools.listening.pieces import Break, Chips, Lost, Piece, Unheard
 from cdma_tools.listening.ring import Ring
 from cdma_tools.listening.stream_lock import LockOptions, StreamLock
 from cdma_tools.listening.streaming_front import StreamingFront
+from cdma_tools.listening.timeline import Node, Timeline
+from cdma_tools.radio.fitting import FINE_DELAYS, Fit
 from cdma_tools.radio.front import Front
 from cdma_tools.radio.second_pass import PilotMeter
+from cdma_tools.radio.tracking import REACH, SUM, SUMS, Point
 from cdma_tools.recordings import TYPES, Recording
+from cdma_tools.sample_file import SampleFile
 
 CHIP_RATE = 1_228_800
 RATE = 2_400_000
@@ -258,6 +268,112 @@ def merged(pieces: list[Piece]) -> list[Piece]:
         else:
             out.append(piece)
     return out
+
+
+class FadingTest(unittest.TestCase):
+    """A cell over two paths that fade within a chip of each other, whose best instants many fades have to tell."""
+
+    SECONDS, SETTLED, KIND, RATE = 16, 8, "cu8", 1_500_000
+    LINK = "--paths 0:0:0:30,0.6:-1:0:30 --ec-io -8 --carrier 1500 --clock 4 --delay 0.7"
+    FINGERS = 3
+
+    folder: ClassVar[str]
+    meta: ClassVar[str]
+    data: ClassVar[bytes]
+
+    @classmethod
+    def setUpClass(cls) -> None:
+        cls.folder = temporary_folder(cls.addClassCleanup)
+        cell, cls.meta = os.path.join(cls.folder, "cell.is95"), os.path.join(cls.folder, "in.sigmf-meta")
+        with open(cell, "wb") as file:
+            file.write(HEADER.pack(b"IS95", 1, 0, cls.SECONDS * CHIP_RATE))
+            for second in range(cls.SECONDS):
+                chips = cell_chips(CHIP_RATE, second, (PHASE + second * CHIP_RATE) % PERIOD)
+                file.write(numpy.stack([chips.real, chips.imag], axis=1).astype(">i2").tobytes())
+        words = ["--type", cls.KIND, "--rate", str(cls.RATE), *cls.LINK.split(), cell, cls.meta]
+        status, _, said = run_main("channel", *words)
+        assert not status, said
+        os.unlink(cell)
+        with open(cls.meta.replace(".sigmf-meta", ".sigmf-data"), "rb") as samples:
+            cls.data = samples.read()
+
+    def lock(self) -> StreamLock:
+        """A lock for a receiver of several fingers."""
+        return StreamLock(LockOptions(self.KIND, self.RATE, self.FINGERS, search=3_000.0, conjugate="no"))
+
+    def file_share(self) -> float:
+        """The pilot's share in the second part of the chips that the lock of a file gives, in dB."""
+        out = os.path.join(self.folder, "out.is95")
+        status, _, said = run_main("import_capture", "--lock", "--fingers", self.FINGERS, self.meta, out)
+        self.assertEqual(status, 0, said)
+        file, begin, meter = SampleFile(out), int(figures(said)["phase"]), PilotMeter()
+        for first in range(self.SETTLED * CHIP_RATE, file.count, CHIP_RATE):
+            meter.add(begin + first, file.read(first, min(CHIP_RATE, file.count - first)))
+        file.close()
+        return meter.ec_io
+
+    def test_instants_come_to_those_of_a_file(self) -> None:
+        """By the first second alone the pilot's share is another one, by 0.4 dB over these fades."""
+        pieces = taken(self.lock(), self.data, BLOCK)
+        meter, since = PilotMeter(), self.SETTLED * CHIP_RATE
+        first = next(piece.first for piece in pieces if isinstance(piece, Chips))
+        for piece in pieces:
+            if isinstance(piece, Chips) and piece.first - first >= since:
+                meter.add(piece.first, joined([piece])[1].astype(numpy.complex64))
+        self.assertLess(abs(meter.ec_io - self.file_share()), 0.1)
+        last = pieces[-1]
+        self.assertIsInstance(last, Chips)
+        assert isinstance(last, Chips)
+        self.assertGreater(last.end - first, (self.SECONDS - 0.1) * CHIP_RATE)
+
+    def test_they_do_not_depend_on_how_bytes_are_cut(self) -> None:
+        data = self.data[: 2 * 5 * self.RATE]
+        self.assertEqual(merged(taken(self.lock(), data, BLOCK)), merged(taken(self.lock(), data, 77_777, 3, 600_001)))
+
+
+class InstantsTest(unittest.TestCase):
+    """Where instants are moved to, by mean energies that are given."""
+
+    def instants(self, *paths: tuple[float, float], fingers: int = 1) -> Instants:
+        """Those of energies with peaks of some height at some delays."""
+        energies = sum(height * numpy.exp(-((FINE_DELAYS - delay) ** 2) / 0.3) for delay, height in paths)
+        fit = unittest.mock.Mock(spec=Fit, profile=energies, chip=numpy.arange(17.0))
+        return Instants(fit, False, fingers)
+
+    def test_they_move_slowly_to_the_best_place(self) -> None:
+        instants, places = self.instants((0.25, 1.0), (-3.0, 0.5)), [0.0]
+        while places[-1] != 0.25 and len(places) < 100:
+            places.append(instants.next(places[-1]))
+        self.assertEqual(places[-1], 0.25)
+        self.assertLessEqual(float(numpy.diff(places).max()), STEP + 1e-12)
+        self.assertEqual(len(places), 1 + math.ceil(0.25 / STEP))
+        self.assertEqual(instants.next(0.25), 0.25)
+
+    def test_they_stay_with_their_path(self) -> None:
+        """A stronger path further than half a chip away isn't reached: between the two nothing would be held."""
+        instants = self.instants((0.0, 1.0), (2.375, 1.2))
+        self.assertEqual(instants.wanted(0.0), 0.0)
+        self.assertEqual(instants.wanted(0.3), 0.0)
+        self.assertEqual(instants.wanted(2.2), 2.375)
+        # Two fingers, whole chips apart, hold a part of both.
+        self.assertGreater(self.instants((0.0, 1.0), (2.375, 1.2), fingers=2).wanted(0.0), 0.1)
+
+    def test_points_are_averaged_as_long_as_they_count(self) -> None:
+        """Of one path half a chip later than at first, energies come to be those of all points in the mean."""
+        instants = self.instants((0.0, 0.0))
+        timeline = Timeline(0.0, 0.0)
+        timeline.nodes = [Node(0.0, 5.0, 0.0, 0.0, 0.1), Node(1e9, 5.0, 0.0, 0.0, 0.3)]
+        instants.last, sums = -1.0, numpy.zeros((2 * REACH + 1, SUMS), dtype=numpy.complex64)
+        sums[REACH + 1] = 2 * SUM
+        for number in range(3 * MEMORY):
+            chip = 1_000.0 * number
+            instants.add([Point(chip, chip + 5.0, 0.0, 1.0, 0.0, 0.0, sums)], timeline)
+            self.assertEqual(instants.count, min(18 + number, MEMORY))
+        self.assertEqual(instants.wanted(0.4), 0.5)
+        self.assertAlmostEqual(float(instants.energies.max()), 2.0, delta=0.3)
+        taken_twice = instants.energies
+        instants.add([Point(chip, chip, 0.0, 1.0, 0.0, 0.0, sums)], timeline)
+        self.assertIs(instants.energies, taken_twice)
 
 
 class FrontTest(Recordings):
