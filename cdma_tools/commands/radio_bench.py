@@ -15,17 +15,19 @@ the middle of the recording; "s" is the processor's time of the lock, all of the
 
 --figures measures the rest: how long 2 and 27 seconds take, twenty recordings without a pilot, pilots at an Ec/Io of
 -20 dB, and a second cell. --stream measures the lock that streams, over twelve seconds of each link against the lock of
-a file, and then tools/listen over a minute: "x air" is how many seconds of the air a second of the processor takes once
-the lock is there, "late" how long after its sample a chip comes at most. --cells measures recordings of two and three
-busy cells in place of links of one: of each cell what was sent, what an ideal receiver hears of it alone in the same
-noise and over the same paths, and what is heard of the lock by its --pn, with the stronger cells taken off. Each needs
-300 MB of room for files. Times are those of one processor.
+a file, and then tools/listen over a minute: "dB" is the pilot's share of all power in the chips of each, and "last"
+that of the last four seconds; "x air" is how many seconds of the air a second of the processor takes once the lock is
+there, "late" how long after its sample a chip comes at most. --cells measures recordings of two and three busy cells in
+place of links of one: of each cell what was sent, what an ideal receiver hears of it alone in the same noise and over
+the same paths, and what is heard of the lock by its --pn, with the stronger cells taken off. Each needs 300 MB of room
+for files. Times are those of one processor.
 
 Exit status: 0 all was measured, 1 something couldn't be, 2 wrong arguments.
 """
 
 import collections
 import json
+import math
 import os
 import shlex
 import subprocess
@@ -355,9 +357,10 @@ def print_times(bench: Bench) -> None:
             os.unlink(name)
 
 
-STREAM_HEAD = """| Case | Recording | Link | Sent | File | Stream | File dB | Stream dB | x air | Late s | MB |
-|---|---|---|---|---|---|---|---|---|---|---|"""
-STREAM_SECONDS, MINUTE = 12, 60
+STREAM_HEAD = """| Case | Recording | Link | Sent | File | Stream | File dB | Stream dB | Last, file | Stream | x air | Late s | MB |
+|---|---|---|---|---|---|---|---|---|---|---|---|---|"""
+# Seconds of a recording; those at its end, when many fades have told a stream its instants; and those of lines.
+STREAM_SECONDS, LAST_SECONDS, MINUTE = 12, 4, 60
 
 
 def streamed(bench: Bench, case: Case, recording: str) -> Figures:
@@ -371,10 +374,11 @@ def streamed(bench: Bench, case: Case, recording: str) -> Figures:
     return Figures(**json.loads(ran.stdout))
 
 
-def ec_io_of(path: str, phase: int) -> float:
-    """The pilot's share of all power in a sample file whose first chip has a code phase, in dB."""
+def ec_io_of(path: str, phase: int, seconds: float = math.inf) -> float:
+    """The pilot's share of all power in the last seconds of a sample file whose first chip has a code phase, in dB."""
     file, meter = SampleFile(path), PilotMeter()
-    for first in range(0, file.count, MEASURED_AT_ONCE):
+    begin = file.count - int(min(seconds * CHIP_RATE, file.count))
+    for first in range(begin, file.count, MEASURED_AT_ONCE):
         meter.add(phase + first, file.read(first, min(MEASURED_AT_ONCE, file.count - first)))
     file.close()
     return meter.ec_io
@@ -391,10 +395,11 @@ def stream_row(bench: Bench, case: Case) -> str:
         return f"| {case.name} | {case.kind} {case.rate / 1e6:g} | {case.link} | no lock: {lock.said} |"
     figures = streamed(bench, case, bench.at("in.sigmf-data"))
     sent, whole, heard = (bench.heard(path, words) for path in (cell, bench.at("lock.is95"), bench.at("stream.is95")))
-    shares = ec_io_of(bench.at("lock.is95"), int(lock.figures["phase"])), ec_io_of(bench.at("stream.is95"), figures.phase)
+    chips = (bench.at("lock.is95"), int(lock.figures["phase"])), (bench.at("stream.is95"), figures.phase)
+    shares = [ec_io_of(*file, seconds) for seconds in (STREAM_SECONDS, LAST_SECONDS) for file in chips]
     return (
         f"| {case.name} | {case.kind} {case.rate / 1e6:g} | {case.link.replace('--', '')} | {counts(sent, sent)}"
-        f" | {counts(sent, whole)} | {counts(sent, heard)} | {shares[0]:.2f} | {shares[1]:.2f}"
+        f" | {counts(sent, whole)} | {counts(sent, heard)} | {' | '.join(f'{share:.2f}' for share in shares)}"
         f" | {figures.locked_air / figures.locked_seconds:.1f} | {figures.late:.2f} | {figures.megabytes:.0f} |"
     )
 
