@@ -162,7 +162,10 @@ def parser() -> argparse.ArgumentParser:
     words.add_argument("--receiver", metavar="PROGRAM", help="the receiver; MAKER is counted beside it, else alone")
     add_program_option(words, "--maker")
     words.add_argument(
-        "--words", action="append", metavar="WORDS", help="the receiver's, else follow or rate2; may be given again"
+        "--words",
+        action="append",
+        metavar="ARGUMENTS",
+        help="the receiver's arguments, else follow or rate2; may be given again",
     )
     words.add_argument(
         "--row", type=whole_within(1, 63), metavar="N", help="the traffic channel's row, else the first's"
