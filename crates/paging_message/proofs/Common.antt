@@ -17,7 +17,7 @@ pub use Rattle.std.specs.List.{flat_map, list_any, range_with_len}
 pub use Rattle.std.specs.Option.{option_to_list}
 pub use Rattle.std.specs.Prelude.{IfSome, IsSome, IsTrue, ◌↔◌}
 pub use Rattle.chip_core.proofs.Counted.{flat_map-add, flat_map-next, flat_map-nothing, flat_map-zero, map-next, map-zero}
-pub use Rattle.chip_core.proofs.FieldLists.{bits_more, length-binary, spelled-append}
+pub use Rattle.chip_core.proofs.FieldLists.{length-binary}
 pub use Rattle.chip_core.proofs.Places.{length-map-places, map-places-all, map-places-more, places-none}
 pub use Rattle.chip_core.proofs.Ranges.{flat_map-places-more, flat_map_ext_places, map_ext_places}
 pub use Rattle.chip_core.proofs.ValueLists.{behind_front, front, number_front}
