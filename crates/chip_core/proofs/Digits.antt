@@ -8,7 +8,7 @@ use Rattle.std.proofs.Math.Pow.{mod-mod-pow}
 use Rattle.chip_core.specs.Bits.{xor, number, binary}
 use Rattle.chip_core.proofs.Numerals.{number_from-append, number_from-front}
 use Rattle.chip_core.proofs.BitLists.{add, zip_push}
-use Rattle.chip_core.specs.Packing.{digit_of}
+use Rattle.chip_core.specs.Packing.{digit_again}
 use Rattle.chip_core.proofs.FieldLists.{length-binary}
 
 same_length : (w a b : ℕ) → length (binary w a) ≡ length (binary w b)
@@ -63,7 +63,7 @@ number-binary zero n h = omega (arith, h)
 number-binary (suc w) n h =
     let half : n / 2 < 2 ^ w = omega (arith, h) in
     number_from-append 0 (binary w (n / 2)) (nat_eq (n % 2) 1 ∷ [])
-    ∙ rw (number-binary w (n / 2) half, digit_of (n % 2) (omega arith)) (omega arith)
+    ∙ rw (number-binary w (n / 2) half, digit_again (n % 2) (omega arith)) (omega arith)
 
 pub number_lt : (bs : List Bool) → number bs < 2 ^ length bs
 number_lt bs =

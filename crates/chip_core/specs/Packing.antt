@@ -23,10 +23,10 @@ unfolding unpacked
 get_or-unpacked words count i d h =
     get_or-map-range_with_len (word_bit words) 0 count i i d h (omega arith)
 
-pub digit_of : (m : ℕ) → m < 2 → digit (nat_eq m 1) ≡ m
-digit_of zero h = refl
-digit_of (suc zero) h = refl
-digit_of (suc (suc m)) h = absurd (omega (arith, h))
+pub digit_again : (m : ℕ) → m < 2 → digit (nat_eq m 1) ≡ m
+digit_again zero h = refl
+digit_again (suc zero) h = refl
+digit_again (suc (suc m)) h = absurd (omega (arith, h))
 
 pub halved : (b : Bool) (n : ℕ) → (digit b + 2 * n) / 2 ≡ n
 halved true n = omega arith
@@ -83,7 +83,7 @@ words_again words count h =
     omega (arith, most, low_first_below (bits k)))
     (λ i within.
     sym (bit_at-low_first (bits k) i ∙ ap digit (word_again words count k i h within) ∙
-    digit_of (get_or words k 0 / 2 ^ i % 2) (bit_at-lt (get_or words k 0) i))))
+    digit_again (get_or words k 0 / 2 ^ i % 2) (bit_at-lt (get_or words k 0) i))))
 
 pub packed-unpacked : (a : Inside) → IsPacked a.words a.count →
     record {

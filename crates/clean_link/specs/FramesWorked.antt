@@ -26,13 +26,13 @@ cell : ℕ → ℕ → CellPlan
 cell start samples = cell_of_frames start samples Plain (slow ∷ faster ∷ [])
 
 -- how many information bits an event has
-abbrev bits_in : Event → ℕ
-bits_in (Frame n rate good bits power_bits) = length bits
-bits_in event = 0
+abbrev bit_count_of : Event → ℕ
+bit_count_of (Frame n rate good bits power_bits) = length bits
+bit_count_of event = 0
 
 -- when the frames after superframe 8 end, and how many information bits they have
 heard : CellPlan → ℕ → List (ℕ × ℕ)
-heard plan row = map (λ (e : Event). (at_of e, bits_in e)) (frames_sent plan row 786432)
+heard plan row = map (λ (e : Event). (at_of e, bit_count_of e)) (frames_sent plan row 786432)
 
 -- frames 32 and 33 of the channel, of which the second ends with the file
 two_frames : heard (cell 0 838656) 9 ≡ (814080, 16) ∷ (838656, 40) ∷ []

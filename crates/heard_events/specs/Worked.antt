@@ -68,8 +68,8 @@ first_frame = refl
 
 -- a capsule of 200 bits takes three superframes: seven from its first frame's sample on, less the
 -- pilot's offset
-abbrev sent : ℕ → SyncFields
-sent lc = record {
+abbrev worked_sync : ℕ → SyncFields
+worked_sync lc = record {
   prev = 3;
   min = 1;
   sid = 1;
@@ -97,7 +97,7 @@ paged prat = record {
 
 -- a message whose long-code state is 0 sets none
 told : map
-    (λ lc. marks_of 32704 (Some (record { capsule = replicate 200 true; message = sent lc })))
+    (λ lc. marks_of 32704 (Some (record { capsule = replicate 200 true; message = worked_sync lc })))
     (0x102a1d2e508 ∷ 0 ∷ []) ≡ (paged 0 ∷ []) ∷ [] ∷ []
 told = refl
 
@@ -130,15 +130,15 @@ no_rate = refl
 abbrev assigned : Traffic
 assigned = record { esn = 0xabcd; row = 10; offset = 3 }
 
-abbrev frames_of : ℕ → Stream
-frames_of prat = traffic_stream assigned (paged prat) (fingers_of 10 64 (pos 0 ∷ []))
+abbrev worked_frames : ℕ → Stream
+worked_frames prat = traffic_stream assigned (paged prat) (fingers_of 10 64 (pos 0 ∷ []))
 
 -- its first frame is known when it ends, with any PRAT; 21 of its frames lie in the file
-frames_known : known_at 1228800 (frames_of 2) 0 ∷ known_at 1228800 (frames_of 0) 20 ∷ []
+frames_known : known_at 1228800 (worked_frames 2) 0 ∷ known_at 1228800 (worked_frames 0) 20 ∷ []
     ≡ 717312 ∷ 1208832 ∷ []
 frames_known = refl
 
-no_frame : is_in_file 1228800 (frames_of 0) 21 ≡ false
+no_frame : is_in_file 1228800 (worked_frames 0) 21 ≡ false
 no_frame = refl
 
 -- nothing is heard where no channel is assigned

@@ -21,5 +21,5 @@ unfoldable pub use Rattle.chip_core.specs.Bits.{binary, places}
 pub use Rattle.chip_core.specs.Polynomial.{divided, plus_at_front, remainder}
 pub use Rattle.long_code.specs.LongCode.{IsState, above, below, period, permuted}
 unfoldable pub use Rattle.long_code.specs.LongCode.{after, before, long_chip, paging_mask, traffic_mask}
-pub use Rattle.chip_core.specs.Packing.{digit_of}
+pub use Rattle.chip_core.specs.Packing.{digit_again}
 pub use Rattle.chip_core.proofs.FieldLists.{length-binary}

@@ -3,7 +3,7 @@ use Rattle.long_code.proofs.Common.{◌≡◌, ℕ, zero, suc, ◌+◌, ◌*◌,
 use Rattle.long_code.proofs.Common.{get_or, take, map, replicate, refl, sym, ap, ◌∙◌, arith, nat_eq, nat_lt, bit_and, bit_or, append_assoc}
 use Rattle.long_code.proofs.Common.{length-append, or_shifted, and_mask, agree_below, agree_below_at, take_more, map-append, length-take-le}
 use Rattle.long_code.proofs.Common.{length-map, pow_mono, digit, number, binary, bit_of, number_from-append, paging_mask, length-binary}
-use Rattle.long_code.proofs.Common.{permuted, traffic_mask, number-binary, number_lt, digit_of}
+use Rattle.long_code.proofs.Common.{permuted, traffic_mask, number-binary, number_lt, digit_again}
 
 -- one bit more
 number-push : (bs : List Bool) (b : Bool) → number (bs ++ b ∷ []) ≡ 2 * number bs + digit b
@@ -20,7 +20,7 @@ number-field bs (suc w) n h =
     let parts : number ((bs ++ binary w (n / 2)) ++ nat_eq (n % 2) 1 ∷ []) ≡
     2 * (number bs * 2 ^ w + n / 2) + n % 2 =
     number-push (bs ++ binary w (n / 2)) (nat_eq (n % 2) 1) ∙
-    rw (number-field bs w (n / 2) half, digit_of (n % 2) (omega arith)) in
+    rw (number-field bs w (n / 2) half, digit_again (n % 2) (omega arith)) in
     ap number (sym (append_assoc bs (binary w (n / 2)) (nat_eq (n % 2) 1 ∷ []))) ∙ parts ∙
     rw twice (omega arith)
 
@@ -115,7 +115,7 @@ first_bits-more esn mask bit i h is read =
     (map-append (bit_of esn) (take i permuted) (place ∷ []))
     ∙ sym (append_assoc (binary 10 792) (map (bit_of esn) (take i permuted))
     (bit_of esn place ∷ [])) in
-    let digit_is : digit (bit_of esn place) ≡ bit = digit_of (esn / 2 ^ place % 2) (omega arith) ∙
+    let digit_is : digit (bit_of esn place) ≡ bit = digit_again (esn / 2 ^ place % 2) (omega arith) ∙
     sym low in
     joined ∙ ap (λ (n : ℕ). 2 * n + bit) is ∙
     ap (λ (d : ℕ). 2 * number (first_bits esn i) + d) (sym digit_is) ∙

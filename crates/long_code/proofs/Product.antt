@@ -1,7 +1,7 @@
 -- Products with powers of x.
 use Rattle.long_code.proofs.Common.{◌≡◌, ℕ, zero, suc, ◌+◌, ◌-◌, ◌*◌, ◌/◌, ◌%◌, ◌^◌, ◌<◌, Bool, true, false, cond, sym, ap, ◌∙◌}
 use Rattle.long_code.proofs.Common.{arith, nat_eq, bit_xor, bit_and, xor_lt, xor_block, shr-shr, shr_le, and_mask, xor_zero_r, number}
-use Rattle.long_code.proofs.Common.{binary, bit_of, digit, add, below, after, binary-xor, number-binary, digit_of}
+use Rattle.long_code.proofs.Common.{binary, bit_of, digit, add, below, after, binary-xor, number-binary, digit_again}
 use Rattle.long_code.proofs.Division.{times_x, times_x-add}
 use Rattle.long_code.proofs.After.{after_is, binary-after, after_lt, after-after, after_one, state_length}
 
@@ -81,6 +81,6 @@ product_more value place chips sum bit h small is read =
     let small_half : value / 2 ^ place < 2 ^ 41 = omega (arith, half, bound) in
     let digit_is : digit bit ≡ next % 2 =
     ap digit (read ∙ ap (λ (n : ℕ). nat_eq n 1) (and_mask next 1)) ∙
-    digit_of (next % 2) (omega arith) in
+    digit_again (next % 2) (omega arith) in
     let whole : 2 * (value / 2 ^ place) + digit bit ≡ next = omega (arith, half, digit_is) in
     rw is (digit_more (value / 2 ^ place) chips bit small_half ∙ ap (λ v. after v chips) whole)

@@ -38,7 +38,7 @@ pub use Rattle.quality_bits.specs.Formats.{bits_in, format_codeword}
 pub use Rattle.quality_bits.specs.declared.format.FrameFormat.{FrameFormat}
 pub use mir.Syntax.{w64}
 pub use mir.Val.{SFits, of_z, to_z}
-pub use Rattle.symbol_path.specs.FormatSymbols.{place_in, repeated_as, repeated_count, sent_count, sent_symbols}
+pub use Rattle.symbol_path.specs.FormatSymbols.{place_in, repeated_as, repeated_count, sent_count, which_sent}
 pub use Rattle.symbol_path.specs.FramesTwo.{codeword_bits}
 pub use Rattle.symbol_path.specs.RatesTwo.{format_of2, frame_bits2, information_of2, repeats_of2, symbols_of}
 pub use Rattle.symbol_path.specs.Scrambling.{group_scrambling, power_place, power_start, symbol_or_power_bit}
@@ -54,4 +54,4 @@ pub use Rattle.symbol_path.specs.declared.placing.SentSymbols.TheVariants.{Every
 pub use Rattle.symbol_path.specs.declared.rate_two.Rate2.{Rate2}
 pub use Rattle.symbol_path.specs.declared.rate_two.Rate2.TheVariants.{R14400, R1800, R3600, R7200}
 pub use Rattle.chip_core.proofs.Magnitudes.{abs_sum}
-pub use Rattle.chip_core.specs.Packing.{digit_le, digit_of}
+pub use Rattle.chip_core.specs.Packing.{digit_le, digit_again}

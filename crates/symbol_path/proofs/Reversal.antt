@@ -1,5 +1,5 @@
 -- Numbers with their bits in reverse.
-use Rattle.symbol_path.proofs.Common.{◌≡◌, ℕ, suc, ◌+◌, ◌-◌, ◌*◌, ◌/◌, ◌%◌, ◌<◌, [], ◌∷◌, reverse, sym, ap, ◌∙◌, arith, nat_eq, digit_of}
+use Rattle.symbol_path.proofs.Common.{◌≡◌, ℕ, suc, ◌+◌, ◌-◌, ◌*◌, ◌/◌, ◌%◌, ◌<◌, [], ◌∷◌, reverse, sym, ap, ◌∙◌, arith, nat_eq, digit_again}
 use Rattle.symbol_path.proofs.Common.{reverse-append, number_from, binary, reversed}
 
 -- the lowest bit goes first
@@ -10,7 +10,7 @@ unfolding binary
 reversed_first t w n =
     ap (number_from t) (reverse-append (binary w (n / 2)) (nat_eq (n % 2) 1 ∷ []))
     ∙ ap (λ (d : ℕ). number_from (2 * t + d) (reverse (binary w (n / 2))))
-    (digit_of (n % 2) (omega arith))
+    (digit_again (n % 2) (omega arith))
 
 -- one turn of the loop
 pub reversed_more : (width k turned rest number : ℕ) → k < width →

@@ -26,8 +26,8 @@ repeated_as (Every kind) i = address (shape_of kind) i
 repeated_as Kept i = repeated_symbol i
 
 -- those of a frame of a traffic channel, where some are dropped or none
-abbrev pub sent_symbols : Bool → SentSymbols
-sent_symbols drops = if drops then Kept else Every Data
+abbrev pub which_sent : Bool → SentSymbols
+which_sent drops = if drops then Kept else Every Data
 
 -- ---- those of a format
 -- which code symbol a frame sends as symbol i

@@ -5,7 +5,7 @@ ghost use Rattle.std.specs.Prelude.{◌≡◌, ◌*◌, ◌≤◌, ◌^◌, ℕ,
 ghost use Rattle.std.specs.Prelude.{unsigned_abs};
 ghost use Rattle.quality_bits.specs.Formats.{IsFormat, bits_in};
 ghost use Rattle.symbol_path.specs.RatesTwo.{information_of2};
-ghost use Rattle.symbol_path.specs.FormatSymbols.{sent_symbols, format_symbols, gathered_in};
+ghost use Rattle.symbol_path.specs.FormatSymbols.{which_sent, format_symbols, gathered_in};
 ghost use Rattle.symbol_path.specs.FramesTwo.{sent_frame2};
 
 use crate::kinds::Kind;
@@ -18,7 +18,7 @@ use quality_bits::FrameFormat;
 
 /// Which of its repeated symbols a frame of a format sends.
 fn sent_symbols<R: Copy>(format: &FrameFormat<R>) -> SentSymbols
-    ensures { result ≡ sent_symbols format.now.drops }
+    ensures { result ≡ which_sent format.now.drops }
 {
     if format.drops {
         SentSymbols::Kept

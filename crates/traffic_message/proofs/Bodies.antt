@@ -2,7 +2,7 @@
 use Rattle.traffic_message.proofs.Common.{◌≡◌, ◌≢◌, ◌⊎◌, ℕ, ◌+◌, ◌%◌, ◌^◌, ◌<◌, ◌≤◌, ◌==◌, ◌&&◌, Bool, true, false, List, ◌∷◌, ◌++◌, length}
 use Rattle.traffic_message.proofs.Common.{drop, refl, sym, ap, subst, ◌∙◌, arith, append_assoc, length-append, nat_le, inl, inr, Option}
 use Rattle.traffic_message.proofs.Common.{Some, None, and_from, and_parts, cases_Bool, eq-eqb, eqb-false, eqb-true, le-leb, leb-true}
-use Rattle.traffic_message.proofs.Common.{drop_at, binary, digit, spelled, in_widths, FieldsFit, number_at, values_at, digit_of}
+use Rattle.traffic_message.proofs.Common.{drop_at, binary, digit, spelled, in_widths, FieldsFit, number_at, values_at, digit_again}
 use Rattle.traffic_message.proofs.Common.{length-in_widths, values_again, values_there, FillsCapsule, M16, is_hard, head_widths}
 use Rattle.traffic_message.proofs.Common.{TrafficBody, Head, Form, HasFields, body_from, traffic_contents_of, form_at, form_in}
 use Rattle.traffic_message.proofs.Common.{traffic_shape_of, Contents}
@@ -160,7 +160,7 @@ head_back : (w : List Bool) → FieldsFit (in_widths head_widths (values_at head
 unfolding reading.head_of
 head_back w fit =
     let c = number_at 0 1 (drop 3 (drop 3 w)) in
-    let bit : digit (c == 1) ≡ c = digit_of c (omega (arith, fit.1.1.0)) in
+    let bit : digit (c == 1) ≡ c = digit_again c (omega (arith, fit.1.1.0)) in
     rw bit refl
 
 -- a body is its type and its head as fields of one table, and what stands after them

@@ -55,4 +55,4 @@ pub use Rattle.traffic_message.specs.declared.fields.Search.{Search}
 pub use Rattle.traffic_message.specs.declared.fields.UpdateFields.{UpdateFields}
 pub use Rattle.traffic_message.specs.declared.layouts.Form.{Form}
 pub use Rattle.traffic_message.specs.declared.multiplex.Mux.{Mux}
-pub use Rattle.chip_core.specs.Packing.{digit_of}
+pub use Rattle.chip_core.specs.Packing.{digit_again}

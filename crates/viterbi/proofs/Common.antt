@@ -53,5 +53,5 @@ pub use Rattle.viterbi.specs.declared.survivor.Survivor.{Survivor}
 pub use Rattle.viterbi.specs.declared.codeword.Ends.{Ends}
 pub use Rattle.viterbi.specs.declared.codeword.Ends.TheVariants.{Free, Zero}
 pub use Rattle.chip_core.proofs.Magnitudes.{abs_signed}
-pub use Rattle.chip_core.specs.Packing.{digit_of, halved, low_first_below}
+pub use Rattle.chip_core.specs.Packing.{digit_again, halved, low_first_below}
 pub use Rattle.chip_core.proofs.FieldLists.{length-binary}
