@@ -30,17 +30,14 @@ pub use Rattle.chip_core.specs.declared.sample.Pair.{Pair}
 pub use Rattle.chip_core.specs.declared.sample.Sample.{Sample}
 pub use Rattle.chip_core.specs.declared.width.Width.{Width}
 pub use Rattle.chip_core.specs.declared.width.Width.TheVariants.{Eight, Sixteen}
-pub use Rattle.conv_code.proofs.Continued.{length-code_symbols}
 pub use Rattle.conv_code.specs.ConvCode.{code_symbols, state_after}
 pub use Rattle.paging_message.proofs.Carried.{laid_is_carried, rate_large}
 pub use Rattle.paging_message.proofs.Layings.{flat-none, padded_framed}
 pub use Rattle.paging_message.specs.Admitted.{HasMessage}
 pub use Rattle.paging_message.specs.HalfFrames.{bits_left, half_frame_body}
-pub use Rattle.quality_bits.proofs.TrafficCodewords.{checked_most, repeated_most, codeword_fills}
 pub use Rattle.quality_bits.proofs.Wholes.{length-capsule, whole-capsule}
 pub use Rattle.quality_bits.specs.Capsules.{capsule}
-pub use Rattle.quality_bits.specs.Kinds.{quality_indicator}
-pub use Rattle.quality_bits.specs.TrafficCodewords.{quality_of, repeats_of, traffic_codeword}
+pub use Rattle.quality_bits.specs.TrafficCodewords.{repeats_of}
 pub use Rattle.quality_bits.specs.declared.kind.Kind.TheVariants.{M30}
 pub use Rattle.quality_bits.specs.declared.rate.Rate.{Rate}
 pub use Rattle.short_code.specs.Despread.{code_point}

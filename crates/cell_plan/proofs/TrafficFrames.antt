@@ -1,34 +1,9 @@
 -- The frames of traffic channels.
-use Rattle.cell_plan.proofs.Common.{◌≡◌, ℕ, zero, suc, ◌*◌, ◌%◌, ◌<◌, ◌≤◌, Bool, false, List, [], ◌∷◌, ◌++◌, length, take, drop, get_or}
-use Rattle.cell_plan.proofs.Common.{replicate, refl, sym, ap, ◌∙◌, arith, flat_map, append-nil, binary, code_symbols, length-code_symbols}
-use Rattle.cell_plan.proofs.Common.{quality_indicator, repeats_of, quality_of, traffic_codeword, Rate, frames_in_turn, map}
-use Rattle.cell_plan.proofs.Common.{Option, Some, None, option_and_then, option_map, option_map_or, length-map, Rate2, FrameRate}
-use Rattle.cell_plan.proofs.Common.{SetOne, SetTwo, TrafficFrame, FrameAt, planned, in_set_one, in_set_two, frame_of_set, all_of_set, frames_of_set}
-use Rattle.cell_plan.proofs.Common.{SetOneFrame, SetTwoFrame, set_one, set_two}
-
--- the tail, and the state before a frame
-zeros : binary 8 0 ≡ replicate 8 false
-unfolding binary
-zeros = refl
-
--- the tail makes the codeword
-pub tailed : (rate : Rate) (information bits : List Bool) →
-    bits ≡ information ++ quality_indicator (quality_of rate) information →
-    bits ++ binary 8 0 ≡ traffic_codeword rate information
-tailed rate information bits is =
-    ap (λ (r : List Bool). r ++ binary 8 0) is
-    ∙ ap (λ (r : List Bool). (information ++ quality_indicator (quality_of rate) information) ++ r)
-    zeros
-
--- two symbols a bit fill a frame
-pub code_fills : (rate : Rate) (start bits code : List Bool) →
-    length bits * repeats_of rate ≡ 192 → code ≡ code_symbols start bits →
-    length code * repeats_of rate ≡ 384
-code_fills rate start bits code full coded =
-    let long : length code ≡ 2 * length bits = ap length coded ∙ length-code_symbols start bits in
-    let twice : 2 * length bits * repeats_of rate ≡ 2 * (length bits * repeats_of rate) =
-    omega arith in
-    ap (λ (n : ℕ). n * repeats_of rate) long ∙ twice ∙ ap (λ (n : ℕ). 2 * n) full
+use Rattle.cell_plan.proofs.Common.{◌≡◌, ℕ, zero, suc, ◌%◌, ◌<◌, ◌≤◌, Bool, List, [], ◌∷◌, length, take, drop, get_or, refl, sym, ap}
+use Rattle.cell_plan.proofs.Common.{◌∙◌, arith, flat_map, append-nil, Rate, frames_in_turn, map, Option, Some, None, option_and_then}
+use Rattle.cell_plan.proofs.Common.{option_map, option_map_or, length-map, Rate2, FrameRate, SetOne, SetTwo, TrafficFrame, FrameAt}
+use Rattle.cell_plan.proofs.Common.{planned, in_set_one, in_set_two, frame_of_set, all_of_set, frames_of_set, SetOneFrame, SetTwoFrame}
+use Rattle.cell_plan.proofs.Common.{set_one, set_two}
 
 -- what is made of the one entry at a place
 pub flat_map-one : {X Y : Type 0} (f : X → List Y) (xs : List X) (i : ℕ) (d : X) → i < length xs →

@@ -1,18 +1,11 @@
 //! A frame of a traffic channel, of one of two rate sets.
 
-ghost use Rattle.std.specs.Prelude.{◌≡◌, ◌<◌, ◌*◌, ◌^◌, ◌++◌, false, length, replicate};
-ghost use Rattle.conv_code.specs.ConvCode.{code_symbols};
-ghost use Rattle.quality_bits.specs.Kinds.{quality_indicator};
-ghost use Rattle.quality_bits.specs.TrafficCodewords.{repeats_of, information_of, quality_of};
-ghost use Rattle.quality_bits.specs.TrafficCodewords.{traffic_codeword};
+ghost use Rattle.std.specs.Prelude.{◌≡◌, ◌<◌, ◌^◌, length};
 
 use crate::scrambling::scrambled;
-use chip_core::air::TAIL_BITS;
-use chip_core::{Bits, CheckForm, PowerBits};
-use conv_code::encode_into;
+use chip_core::{Bits, PowerBits};
 use long_code::State;
-use quality_bits::append_check;
-use symbol_path::{Kind, Rate, Rate2, encode2_into, place_into, with_power_bits};
+use symbol_path::{Rate, Rate2, encode_frame_into, encode2_into, format_of, with_power_bits};
 
 /// A set of rates of traffic channels, of which all frames of a channel are.
 #[derive(Clone, Copy, PartialEq, Eq, Debug)]
@@ -67,8 +60,7 @@ impl FrameRate {
         let mut placed = Bits::empty();
         match self {
             FrameRate::SetOne(rate) => {
-                let code = code(*rate, information);
-                place_into(Kind::Data, rate.repeats(), &code, &mut placed);
+                encode_frame_into(&format_of(*rate), information, &mut placed);
             }
             FrameRate::SetTwo(rate) => encode2_into(*rate, information, &mut placed),
         }
@@ -86,44 +78,6 @@ pub struct TrafficFrame {
     /// The power control bit of each of its 16 groups of 24 symbols: a 1 tells the handset to lower
     /// its power (7.1.3.1.7).
     pub power_bits: PowerBits,
-}
-
-/// Information bits, and after them the quality indicator, where frames of the rate have one.
-fn with_quality(rate: Rate, information: &Bits) -> Bits
-    requires { length information.now ≡ information_of rate }
-    ensures { result ≡ information.now ++ quality_indicator (quality_of rate) information.now }
-{
-    let Some(kind) = rate.quality() else {
-        return *information;
-    };
-    let mut bits = *information;
-    append_check(kind, CheckForm::Plain, &mut bits);
-    bits
-}
-
-/// The bits of a frame with this information, 192, 96, 48 or 24 by the rate: the quality indicator
-/// stands after the information, and the tail after both.
-fn codeword(rate: Rate, information: &Bits) -> Bits
-    requires { length information.now ≡ information_of rate }
-    ensures value { result ≡ traffic_codeword rate information.now }
-    ensures count { length result * repeats_of rate ≡ 192 }
-{
-    let mut bits = with_quality(rate, information);
-    bits.append_number(TAIL_BITS, 0);
-    bits
-}
-
-/// The code symbols of a frame with this information: the encoder starts each frame in state zero
-/// (7.1.3.1.3).
-fn code(rate: Rate, information: &Bits) -> Bits
-    requires { length information.now ≡ information_of rate }
-    ensures value { result ≡ code_symbols (replicate 8 false)
-        (traffic_codeword rate information.now) }
-    ensures count { length result * repeats_of rate ≡ 384 }
-{
-    let mut code = Bits::empty();
-    encode_into(0, &codeword(rate, information), &mut code);
-    code
 }
 
 impl TrafficFrame {
