@@ -1,7 +1,7 @@
 -- What a handset hears changes the pilot sets (after TIA/EIA-95-B, 6.6.6.2).
 use Rattle.std.specs.Prelude.{ℕ, ◌+◌, ◌-◌, ◌/◌, ◌==◌, if◌then◌else◌, List, [], ◌∷◌}
 use Rattle.chip_core.specs.Air.{superframe_chips}
-use Rattle.paging_message.specs.declared.fields.SystemFields.{SystemFields}
+use Rattle.paging_message.specs.declared.system.SystemFields.{SystemFields}
 use Rattle.paging_message.specs.declared.message.PagingMessage.{PagingMessage}
 use Rattle.paging_message.specs.declared.message.PagingMessage.TheVariants as pages
 use Rattle.pilot_sets.specs.Standing.{Standing, with_thresholds, with_neighbors, directed}

@@ -67,7 +67,7 @@ unfoldable pub use Rattle.paging_message.specs.Reading.{body_reading, is_body, m
 pub use Rattle.paging_message.specs.Spelling.{IsSpelled, body_of}
 pub use Rattle.paging_message.specs.System.{IsSystem, system_contents, system_from, system_shape, system_values, system_widths}
 unfoldable pub use Rattle.paging_message.specs.System.{system_of}
-pub use Rattle.paging_message.specs.declared.fields.ChannelFields.{ChannelFields}
-pub use Rattle.paging_message.specs.declared.fields.NeighborFields.{NeighborFields}
+pub use Rattle.paging_message.specs.declared.channels.ChannelFields.{ChannelFields}
+pub use Rattle.paging_message.specs.declared.neighbors.NeighborFields.{NeighborFields}
 pub use Rattle.paging_message.specs.declared.message.PagingMessage.{PagingMessage}
 pub use Rattle.chip_core.proofs.BitLists.{taken_more}

@@ -7,7 +7,7 @@ use Rattle.paging_message.specs.Neighbors.{neighbor_names, neighbor_shape}
 use Rattle.paging_message.specs.Others.{other_contents, other_shape}
 use Rattle.paging_message.specs.Spelling.{IsSpelled}
 use Rattle.paging_message.specs.System.{system_names, system_shape}
-use Rattle.paging_message.specs.declared.fields.OtherFields.{OtherFields}
+use Rattle.paging_message.specs.declared.other.OtherFields.{OtherFields}
 
 -- a message type: its number, the names in its line, and the layout of what stands after the type
 pub record MessageType : Type 0 where

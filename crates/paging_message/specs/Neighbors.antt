@@ -4,7 +4,7 @@ use Rattle.message_layout.specs.Plain.{plain_contents, plain_shape}
 use Rattle.message_layout.specs.Shapes.{MessageShape}
 use Rattle.message_layout.specs.declared.contents.Contents.{Contents}
 use Rattle.paging_message.specs.Spelling.{IsSpelled}
-use Rattle.paging_message.specs.declared.fields.NeighborFields.{NeighborFields}
+use Rattle.paging_message.specs.declared.neighbors.NeighborFields.{NeighborFields}
 
 -- the widths of the first fields, and their names
 abbrev pub neighbor_widths : List ℕ

@@ -3,7 +3,7 @@ use Rattle.std.specs.Prelude.{ℕ, [], ◌∷◌, None}
 use Rattle.message_layout.specs.Plain.{plain_contents, plain_shape}
 use Rattle.message_layout.specs.Shapes.{MessageShape}
 use Rattle.message_layout.specs.declared.contents.Contents.{Contents}
-use Rattle.paging_message.specs.declared.fields.OtherFields.{OtherFields}
+use Rattle.paging_message.specs.declared.other.OtherFields.{OtherFields}
 
 abbrev pub other_shape : MessageShape
 other_shape = plain_shape [] [] 0 None

@@ -4,7 +4,7 @@ use Rattle.message_layout.specs.Plain.{plain_contents, plain_shape}
 use Rattle.message_layout.specs.Shapes.{MessageShape}
 use Rattle.message_layout.specs.declared.contents.Contents.{Contents}
 use Rattle.paging_message.specs.Spelling.{IsSpelled}
-use Rattle.paging_message.specs.declared.fields.SystemFields.{SystemFields}
+use Rattle.paging_message.specs.declared.system.SystemFields.{SystemFields}
 
 -- the widths of the fields in their order
 abbrev pub system_widths : List ℕ

@@ -15,8 +15,8 @@ use Rattle.paging_message.specs.Admitted.{admits}
 use Rattle.paging_message.specs.Reading.{body_reading, is_body, message_at}
 use Rattle.paging_message.specs.Reading.{paging_reading}
 use Rattle.paging_message.specs.System.{system_of}
-use Rattle.paging_message.specs.declared.fields.ChannelFields.{ChannelFields}
-use Rattle.paging_message.specs.declared.fields.NeighborFields.{NeighborFields}
+use Rattle.paging_message.specs.declared.channels.ChannelFields.{ChannelFields}
+use Rattle.paging_message.specs.declared.neighbors.NeighborFields.{NeighborFields}
 use Rattle.paging_message.specs.declared.message.PagingMessage.TheVariants.{Channels, Neighbors}
 use Rattle.paging_message.specs.declared.message.PagingMessage.TheVariants.{Other, System}
 

@@ -4,11 +4,15 @@ ghost use Rattle.std.specs.Prelude.{◌≡◌};
 ghost use Rattle.paging_message.specs.Channels.{channel_contents, channel_values};
 ghost use Rattle.paging_message.specs.Channels.{channels_from, IsChannelList};
 
-use crate::fields::ChannelFields;
-use crate::table::CHANNEL_FIELDS;
 use chip_core::{Bits, Numbers};
 use message_layout::{ALL_BITS, Contents, Layout, Records};
 use std::marker::Model;
+
+/// The names of the fields of the CDMA Channel List Message before its frequencies, each with its
+/// number of bits.
+///
+/// TIA/EIA-95-B, 7.7.2.3.2.4.
+pub const CHANNEL_FIELDS: [(&str, u8); 2] = [("pn", 9), ("seq", 6)];
 
 /// What stands after the type: the fields, and CDMA_FREQ of each channel.
 pub(crate) const CHANNEL_LIST: Layout = Layout {
@@ -23,6 +27,21 @@ pub(crate) const CHANNEL_LIST: Layout = Layout {
     ..ALL_BITS
 };
 
+/// What a CDMA Channel List Message says. It has as many frequencies as fit.
+///
+/// TIA/EIA-95-B, 7.7.2.3.2.4.
+#[derive(Clone, Copy, PartialEq, Eq, Debug)]
+pub struct ChannelFields {
+    /// PILOT_PN, 9 bits: the offset of the pilot code, in units of 64 chips.
+    pub pn: u16,
+    /// CONFIG_MSG_SEQ, 6 bits: the number of this configuration.
+    pub seq: u8,
+    /// CDMA_FREQ of each channel, 11 bits.
+    pub freqs: Numbers,
+    /// The bits after the last frequency, at most 7.
+    pub rest: Bits,
+}
+
 /// A CDMA Channel List Message: fields that have a spelling. Contracts see the fields.
 ///
 /// TIA/EIA-95-B, 7.7.2.3.2.4.
@@ -33,7 +52,7 @@ pub struct ChannelList {
 
 impl Model for ChannelList {
     ghost use Rattle.paging_message.specs.Channels.{IsChannelList};
-    ghost use Rattle.paging_message.specs.declared.fields.ChannelFields.{
+    ghost use Rattle.paging_message.specs.declared.channels.ChannelFields.{
       ChannelFields as TheFields,
     };
 

@@ -3,7 +3,6 @@
 #![tactic(auto)]
 
 mod channels;
-mod fields;
 mod half_bits;
 mod half_framer;
 pub mod laws;
@@ -12,16 +11,13 @@ mod message;
 mod neighbors;
 mod other;
 mod system;
-mod table;
 
-pub use channels::ChannelList;
-pub use fields::{ChannelFields, NeighborFields, OtherFields, SystemFields};
+pub use channels::{CHANNEL_FIELDS, ChannelFields, ChannelList};
 pub use half_bits::HalfBits;
 pub use half_framer::HalfFramer;
 pub use layout::Layout;
 pub use message::PagingMessage;
-pub use neighbors::NeighborList;
-pub use other::OtherMessage;
+pub use neighbors::{NEIGHBOR_FIELDS, NeighborFields, NeighborList};
+pub use other::{OtherFields, OtherMessage};
 pub use quality_bits::MessageFault;
-pub use system::SystemParameters;
-pub use table::{CHANNEL_FIELDS, NEIGHBOR_FIELDS, SYSTEM_FIELDS, system_name};
+pub use system::{SYSTEM_FIELDS, SystemFields, SystemParameters, system_name};

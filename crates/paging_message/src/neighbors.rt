@@ -4,11 +4,15 @@ ghost use Rattle.std.specs.Prelude.{◌≡◌};
 ghost use Rattle.paging_message.specs.Neighbors.{neighbor_contents, neighbor_values};
 ghost use Rattle.paging_message.specs.Neighbors.{neighbors_from, IsNeighborList};
 
-use crate::fields::NeighborFields;
-use crate::table::NEIGHBOR_FIELDS;
 use chip_core::{Bits, Numbers};
 use message_layout::{ALL_BITS, Contents, Layout, Records};
 use std::marker::Model;
+
+/// The names of the fields of the Neighbor List Message before its neighbors, each with its number
+/// of bits.
+///
+/// TIA/EIA-95-B, 7.7.2.3.2.3.
+pub const NEIGHBOR_FIELDS: [(&str, u8); 3] = [("pn", 9), ("seq", 6), ("inc", 4)];
 
 /// What stands after the type: the fields, and of each neighbor NGHBR_CONFIG and NGHBR_PN.
 pub(crate) const NEIGHBOR_LIST: Layout = Layout {
@@ -23,6 +27,25 @@ pub(crate) const NEIGHBOR_LIST: Layout = Layout {
     ..ALL_BITS
 };
 
+/// What a Neighbor List Message says. It has as many neighbors as fit.
+///
+/// TIA/EIA-95-B, 7.7.2.3.2.3.
+#[derive(Clone, Copy, PartialEq, Eq, Debug)]
+pub struct NeighborFields {
+    /// PILOT_PN, 9 bits: the offset of the pilot code, in units of 64 chips.
+    pub pn: u16,
+    /// CONFIG_MSG_SEQ, 6 bits: the number of this configuration.
+    pub seq: u8,
+    /// PILOT_INC, 4 bits: the step between the offsets of pilots.
+    pub inc: u8,
+    /// NGHBR_CONFIG of each neighbor, 3 bits.
+    pub configs: Numbers,
+    /// NGHBR_PN of each neighbor, 9 bits: as many as `configs` has.
+    pub pns: Numbers,
+    /// The bits after the last neighbor, at most 7.
+    pub rest: Bits,
+}
+
 /// A Neighbor List Message: fields that have a spelling. Contracts see the fields.
 ///
 /// TIA/EIA-95-B, 7.7.2.3.2.3.
@@ -33,7 +56,7 @@ pub struct NeighborList {
 
 impl Model for NeighborList {
     ghost use Rattle.paging_message.specs.Neighbors.{IsNeighborList};
-    ghost use Rattle.paging_message.specs.declared.fields.NeighborFields.{
+    ghost use Rattle.paging_message.specs.declared.neighbors.NeighborFields.{
       NeighborFields as TheFields,
     };
 

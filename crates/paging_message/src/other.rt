@@ -4,10 +4,18 @@ ghost use Rattle.std.specs.Prelude.{◌≡◌};
 ghost use Rattle.paging_message.specs.Layouts.{IsOther};
 ghost use Rattle.paging_message.specs.Others.{other_contents, other_from};
 
-use crate::fields::OtherFields;
 use chip_core::{Bits, Numbers};
 use message_layout::Contents;
 use std::marker::Model;
+
+/// What a message of another type says.
+#[derive(Clone, Copy, PartialEq, Eq, Debug)]
+pub struct OtherFields {
+    /// The message type, 8 bits: not 1, 3 or 4, which have fields of their own.
+    pub kind: u8,
+    /// All bits after it.
+    pub bits: Bits,
+}
 
 /// A message of any type but 1, 3 and 4: its type and its bits. Contracts see both.
 #[derive(Clone, Copy, PartialEq, Eq, Debug)]
@@ -17,7 +25,7 @@ pub struct OtherMessage {
 
 impl Model for OtherMessage {
     ghost use Rattle.paging_message.specs.Layouts.{IsOther};
-    ghost use Rattle.paging_message.specs.declared.fields.OtherFields.{OtherFields as TheFields};
+    ghost use Rattle.paging_message.specs.declared.other.OtherFields.{OtherFields as TheFields};
 
     ghost Value = { TheFields };
 
