@@ -1,13 +1,16 @@
 -- What lines tell of messages, by the names of their layouts.
-use Rattle.std.specs.Prelude.{ℕ, ◌≡◌, ◌+◌, ◌*◌, ◌/◌, ◌^◌, ◌==◌, ◌<◌, ◌≤◌, ◌&&◌, if◌then◌else◌, Bool, true}
-use Rattle.std.specs.Prelude.{List, [], ◌∷◌, ◌++◌, length, map, drop, get_or, nat_le, nat_lt, codes}
+use Rattle.std.specs.Prelude.{ℕ, ◌≡◌, ◌+◌, ◌*◌, ◌/◌, ◌^◌, ◌==◌, ◌≢◌, ◌<◌, ◌≤◌, ◌&&◌, if◌then◌else◌, Bool, true}
+use Rattle.std.specs.Prelude.{List, [], ◌∷◌, ◌++◌, length, map, get_or, nat_le, nat_lt, codes}
 use Rattle.std.specs.Prelude.{decimal, Option, None, Some}
-use Rattle.std.specs.List.{flat_map, list_all}
+use Rattle.std.specs.List.{list_all}
+use Rattle.std.specs.Str.{IsAscii}
 use Rattle.chip_core.specs.Bits.{places}
 use Rattle.line_text.specs.Texts.{bit_text, spaced_key}
 use Rattle.message_layout.specs.Contents.{height, shares}
-use Rattle.message_layout.specs.Shapes.{LineNames, MessageShape}
+use Rattle.message_layout.specs.Shapes.{line_names, shape, LineNames, MessageShape}
+use Rattle.message_layout.specs.Spelling.{IsOf}
 use Rattle.message_layout.specs.declared.contents.Contents.{Contents}
+use Rattle.message_layout.specs.declared.layout.Layout.{Layout}
 use Rattle.event_tap.specs.Parts.{are_short, commas, named_values, rest_text}
 
 -- the number of record i in a further column, after a slash, where records have one there
@@ -57,10 +60,13 @@ abbrev pub is_short_width : ℕ → Bool
 is_short_width width =
     nat_le (2 ^ width) (2 ^ 32) && nat_le (2 ^ width) (10 ^ digits_in width)
 
--- how many bytes a record takes at most, with the comma before it
+-- how many bytes field j of a record takes at most, with the slash or comma before it
+abbrev pub field_bytes : List ℕ → ℕ → ℕ
+field_bytes widths j = if nat_lt j (length widths) then digits_in (get_or widths j 0) + 1 else 0
+
+-- and a record
 abbrev pub record_bytes : List ℕ → ℕ
-record_bytes [] = 0
-record_bytes (width ∷ widths) = digits_in width + 1 + record_bytes widths
+record_bytes widths = field_bytes widths 0 + field_bytes widths 1 + field_bytes widths 2
 
 -- the records of a list have each the same fields, whose numbers are that short
 pub record AreListed (widths : List ℕ) (columns : List (List ℕ)) : Type 0 where
@@ -71,11 +77,11 @@ pub record AreListed (widths : List ℕ) (columns : List (List ℕ)) : Type 0 wh
       get_or (get_or columns j []) i 0 < 2 ^ get_or widths j 0
   pub short : list_all is_short_width widths ≡ true
 
--- 128 records and their name, and what stands after them
+-- how many bytes 128 records take at most, and their name
 abbrev pub list_bytes : List ℕ → List ℕ → ℕ
-list_bytes name widths =
-    if length widths == 0 then 0 else length name + 2 + 128 * record_bytes widths
+list_bytes name widths = length name + 2 + 128 * record_bytes widths
 
+-- how many bytes the bits that are left take at most, and what stands before and after them
 abbrev pub end_bytes : Option ℕ → ℕ
 end_bytes None = 309
 end_bytes (Some most) = 44
@@ -84,16 +90,30 @@ abbrev pub is_short_end : Option ℕ → Bool
 is_short_end None = true
 is_short_end (Some most) = nat_le most 7
 
-abbrev pub is_ascii : List ℕ → Bool
-is_ascii name = list_all (λ byte. nat_lt byte 128) name
+-- whether what a line tells by these names of such a layout has room after 95 bytes
+abbrev pub line_tests : LineNames → MessageShape → List Bool
+line_tests names s =
+    are_short names.fixed s.fixed
+    ∷ list_all (λ byte. nat_lt byte 128) names.word
+    ∷ list_all (λ byte. nat_lt byte 128) names.list
+    ∷ nat_le (length s.records) 3
+    ∷ list_all is_short_width s.records
+    ∷ is_short_end s.most
+    ∷ nat_le (96 + length names.word + 16 * length s.fixed + list_bytes names.list s.records
+    + end_bytes s.most) 1024
+    ∷ []
 
--- what a line tells by these names of such a layout has room after 95 bytes
 unfoldable pub has_line : LineNames → MessageShape → Bool
-has_line names s =
-    (length names.fixed == length s.fixed) && (are_short names.fixed s.fixed
-    && (is_ascii names.word && (is_ascii names.list
-    && (nat_le (length s.records) 3
-    && (list_all is_short_width s.records
-    && (is_short_end s.most
-    && nat_le (96 + length names.word + 16 * length s.fixed + list_bytes names.list s.records
-    + end_bytes s.most) 1024))))))
+has_line names s = list_all (λ test. test) (line_tests names s)
+
+-- what is known of contents where it is so
+pub record IsShown (layout : Layout) (c : Contents) : Type 0 where
+  pub said : IsOf (shape layout) c
+  pub word : IsAscii layout.name.now
+  pub list : IsAscii layout.records.name.now
+  pub short : are_short (line_names layout).fixed (shape layout).fixed ≡ true
+  pub records : length layout.records.fields.now ≢ 0 → AreListed (shape layout).records c.columns
+  pub end : is_short_end layout.most ≡ true
+  pub some : 44 ≤ end_bytes layout.most
+  pub room : 96 + length layout.name.now + 16 * length layout.fixed.now
+      + list_bytes layout.records.name.now (shape layout).records + end_bytes layout.most ≤ 1024

@@ -1,13 +1,12 @@
 //! What messages say, by the names of their layouts.
 
-ghost use Rattle.std.specs.Prelude.{◌≡◌, ◌≢◌, ◌≤◌, ◌+◌, ◌*◌, ◌++◌, true, length, map, IsAscii};
-ghost use Rattle.line_text.specs.Texts.{spaced_key};
+ghost use Rattle.std.specs.Prelude.{◌≡◌, ◌≢◌, ◌≤◌, ◌+◌, ◌++◌, true, length, map, IsAscii};
 ghost use Rattle.message_layout.specs.Shapes.{line_names, shape};
 ghost use Rattle.message_layout.specs.Spelling.{IsOf, IsRest};
-ghost use Rattle.event_tap.specs.Parts.{commas, rest_text};
-ghost use Rattle.event_tap.specs.SaidTexts.{columns_texts, end_bytes, has_line, is_short_end, kind_text};
-ghost use Rattle.event_tap.specs.SaidTexts.{list_bytes, list_text, message_text, record_bytes};
-ghost use Rattle.event_tap.specs.SaidTexts.{said_text, AreListed};
+ghost use Rattle.event_tap.specs.Parts.{rest_text};
+ghost use Rattle.event_tap.specs.SaidTexts.{end_bytes, has_line, is_short_end, kind_text};
+ghost use Rattle.event_tap.specs.SaidTexts.{list_bytes, list_text, message_text, said_text};
+ghost use Rattle.event_tap.specs.SaidTexts.{AreListed, IsShown};
 
 use crate::items::{Listed, append_items};
 use crate::parts::{append_few_rest, append_rest, append_values};
@@ -49,8 +48,7 @@ fn append_kind(text: &mut Text, kind: u8, bits: &Bits)
 /// Adds what a message says by the names of its layout, and the end of the line.
 fn append_said(text: &mut Text, layout: &Layout, contents: &Contents)
     requires start { length text.old ≤ 95 }
-    requires said { IsOf (shape layout.now) contents.now }
-    requires line { has_line (line_names layout.now) (shape layout.now) ≡ true }
+    requires shown { IsShown layout.now contents.now }
     ensures value { text.new ≡ text.old ++ said_text (line_names layout.now)
         (shape layout.now).records contents.now }
     ensures most { length text.new ≤ 1024 }
@@ -74,22 +72,9 @@ fn append_list(text: &mut Text, records: &Records, columns: &[Numbers; 3])
     ensures len { length text.new ≤ length text.old + list_bytes records.now.name.now
         (map (λ row. row.1) records.now.fields.now) }
 {
-    if !records.fields.is_empty() {
-        append_records(text, records, columns);
+    if records.fields.is_empty() {
+        return;
     }
-}
-
-/// Adds the records of a list after its name.
-fn append_records(text: &mut Text, records: &Records, columns: &[Numbers; 3])
-    requires ascii { IsAscii records.now.name.now }
-    requires listed { AreListed (map (λ row. row.1) records.now.fields.now) columns.now }
-    requires room { length text.old + length records.now.name.now + 2
-        + 128 * record_bytes (map (λ row. row.1) records.now.fields.now) + 44 ≤ 1024 }
-    ensures value { text.new ≡ text.old ++ (spaced_key records.now.name.now
-        ++ commas (columns_texts columns.now)) }
-    ensures len { length text.new ≤ length text.old + length records.now.name.now + 2
-        + 128 * record_bytes (map (λ row. row.1) records.now.fields.now) }
-{
     let count = columns[0].len();
     prove!(count <= 128);
     text.append_name(records.name.as_bytes());
