@@ -1,6 +1,5 @@
 -- Lemmas on a reader of a file that is lawful.
-use Rattle.std.proofs.Common.{◌≡◌, ℕ, ◌*◌, ◌≤◌, List, length, take, drop, refl, ap, ◌∙◌, arith, All, Option, None, Some, Result, Ok}
-use Rattle.std.proofs.Common.{Err}
+use Rattle.std.proofs.Common.{◌≡◌, ℕ, ◌*◌, ◌≤◌, List, length, take, drop, refl, ap, ◌∙◌, arith, All, Option, None, Some, Result, Ok, Err}
 use Rattle.std.specs.Prelude.{MatchResult}
 use Rattle.std.specs.List.{flat_map}
 use Rattle.std.specs.Io.KnownBytes.{Consumes}
@@ -9,8 +8,7 @@ use Rattle.cdma_io.specs.declared.file_fault.FileFault.{FileFault}
 use Rattle.cdma_io.specs.declared.file_fault.FileFault.TheVariants.{Magic, Version, Flags, Count, Short, Extra, ReadFault, TooFew}
 use Rattle.cdma_io.specs.declared.header.Header.{Header}
 use Rattle.chip_core.specs.declared.width.Width.{Width}
-use Rattle.cdma_io.specs.SampleFile.{CutsShort, HasBits, IsSampleFile, Opens, Reading, opening, sample_len, sample_spelling}
-use Rattle.cdma_io.specs.SampleFile.{width_of}
+use Rattle.cdma_io.specs.SampleFile.{CutsShort, HasBits, IsSampleFile, Opens, Reading, opening, sample_len, sample_spelling, width_of}
 use Rattle.cdma_io.proofs.Opening.{opening-spelled}
 use Rattle.cdma_io.proofs.Spelling.{length-samples, next_samples, sample_len-mono}
 

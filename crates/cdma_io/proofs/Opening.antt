@@ -20,8 +20,7 @@ use Rattle.cdma_io.specs.declared.header.Header.{Header}
 use Rattle.chip_core.specs.declared.width.Width.{Width}
 use Rattle.chip_core.specs.declared.width.Width.TheVariants.{Sixteen, Eight}
 use Rattle.cdma_io.specs.SampleFile.{IsLawfulHeader, Opens, Reading, flags_of, form_flag, check_form_of, header_due, header_spelling}
-use Rattle.cdma_io.specs.SampleFile.{is_version}
-use Rattle.cdma_io.specs.SampleFile.{magic, most_samples, opening, width_in, width_of}
+use Rattle.cdma_io.specs.SampleFile.{is_version, magic, most_samples, opening, width_in, width_of}
 use Rattle.cdma_io.proofs.ByteNumbers.{AreBytes, AreBytes-drop, big_bytes-front}
 
 -- ---- the three numbers of a header

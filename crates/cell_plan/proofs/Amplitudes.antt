@@ -1,13 +1,12 @@
 -- The amplitudes of a cell's channels, and the samples that they make.
-use Rattle.cell_plan.proofs.Common.{◌≡◌, ℕ, zero, suc, ◌+◌, ◌-◌, ◌*◌, ◌/◌, ◌%◌, ◌≤◌, Bool, false, List, [], ◌∷◌, refl, sym, ap, ◌∙◌}
-use Rattle.cell_plan.proofs.Common.{arith, ℤ, pos, ◌+ℤ◌, ◌*ℤ◌, unsigned_abs, Option, Some, None, ◌++◌, length, sign_unit, abs_sum}
-use Rattle.cell_plan.proofs.Common.{length-append, map, get_or, FitsSigned, le-ltb, ints, unsigned_abs-mul, fits_signed_from_abs}
-use Rattle.cell_plan.proofs.Common.{length-map, w8, w16, mul-le-mul_left, sign, origin, plus, times, Pair, Sample}
-use Rattle.cell_plan.proofs.Common.{split, diff-times, diff-same, distrib_right, code_point, walsh, CellPlan, PagingPlan, SyncPlan}
-use Rattle.cell_plan.proofs.Common.{TrafficPlan, integer_width_of, HasBits, Width, Sixteen, Eight, most_part, loudness, gain_sum}
-use Rattle.cell_plan.proofs.Common.{paging_gains}
-use Rattle.cell_plan.proofs.Common.{sync_gain, traffic_gains, Carrier, amplitude, amplitudes, level, level_of, scaled, sent_chip}
-use Rattle.cell_plan.proofs.Common.{sync_carriers, paging_carrier, pilot_carrier, carriers, sample_of, symbol_of, traffic_carrier}
+use Rattle.cell_plan.proofs.Common.{◌≡◌, ℕ, zero, suc, ◌+◌, ◌-◌, ◌*◌, ◌/◌, ◌%◌, ◌≤◌, Bool, false, List, [], ◌∷◌, refl, sym, ap, ◌∙◌, arith}
+use Rattle.cell_plan.proofs.Common.{ℤ, pos, ◌+ℤ◌, ◌*ℤ◌, unsigned_abs, Option, Some, None, ◌++◌, length, sign_unit, abs_sum, length-append}
+use Rattle.cell_plan.proofs.Common.{map, get_or, FitsSigned, le-ltb, ints, unsigned_abs-mul, fits_signed_from_abs, length-map, w8, w16}
+use Rattle.cell_plan.proofs.Common.{mul-le-mul_left, sign, origin, plus, times, Pair, Sample, split, diff-times, diff-same, distrib_right}
+use Rattle.cell_plan.proofs.Common.{code_point, walsh, CellPlan, PagingPlan, SyncPlan, TrafficPlan, integer_width_of, HasBits, Width}
+use Rattle.cell_plan.proofs.Common.{Sixteen, Eight, most_part, loudness, gain_sum, paging_gains, sync_gain, traffic_gains, Carrier}
+use Rattle.cell_plan.proofs.Common.{amplitude, amplitudes, level, level_of, scaled, sent_chip, sync_carriers, paging_carrier, pilot_carrier}
+use Rattle.cell_plan.proofs.Common.{carriers, sample_of, symbol_of, traffic_carrier}
 pub use Rattle.walsh.proofs.RowTable.{walsh-pilot}
 
 -- THE SUM OF THE CHANNELS

@@ -57,7 +57,8 @@ pub use Rattle.cell_plan.specs.Signal.{Carrier, amplitude, amplitudes, level, le
 pub use Rattle.cell_plan.specs.Signal.{sync_carriers, traffic_carrier}
 unfoldable pub use Rattle.cell_plan.specs.Signal.{carriers, sample_of, samples_of, sent_chip}
 pub use Rattle.cell_plan.specs.Stated.{AreHeard, IsCarried, IsStatedPaging}
-pub use Rattle.cell_plan.specs.TrafficFrames.{FrameAt, frame_of_set, all_of_set, frames_in_turn, frames_of_set, in_set_one, in_set_two, planned}
+pub use Rattle.cell_plan.specs.TrafficFrames.{FrameAt, frame_of_set, all_of_set, frames_in_turn, frames_of_set, in_set_one, in_set_two}
+pub use Rattle.cell_plan.specs.TrafficFrames.{planned}
 pub use Rattle.cell_plan.specs.TrafficFrames.{SetOneFrame, SetTwoFrame, set_one, set_two}
 pub use Rattle.cell_plan.specs.declared.traffic_frame.FrameRate.{FrameRate}
 pub use Rattle.cell_plan.specs.declared.traffic_frame.FrameRate.TheVariants.{SetOne, SetTwo}

@@ -1,7 +1,6 @@
 -- The bits of frames whose encoder goes on from one to the next.
-use Rattle.cell_plan.proofs.Common.{◌≡◌, ℕ, zero, suc, ◌+◌, ◌-◌, ◌≤◌, Bool, List, ◌++◌, length, drop, refl, sym, ap, ◌∙◌, arith}
-use Rattle.cell_plan.proofs.Common.{add-one, drop-append-add, binary, length-binary, code_symbols, state_after, bits_before}
-use Rattle.cell_plan.proofs.Common.{continued_symbols}
+use Rattle.cell_plan.proofs.Common.{◌≡◌, ℕ, zero, suc, ◌+◌, ◌-◌, ◌≤◌, Bool, List, ◌++◌, length, drop, refl, sym, ap, ◌∙◌, arith, add-one}
+use Rattle.cell_plan.proofs.Common.{drop-append-add, binary, length-binary, code_symbols, state_after, bits_before, continued_symbols}
 
 pub before-first : (bits : ℕ → List Bool) → binary 8 0 ≡ bits_before bits 0
 unfolding binary bits_before

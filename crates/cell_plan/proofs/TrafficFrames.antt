@@ -1,9 +1,8 @@
 -- The frames of traffic channels.
-use Rattle.cell_plan.proofs.Common.{◌≡◌, ℕ, zero, suc, ◌%◌, ◌<◌, ◌≤◌, Bool, List, [], ◌∷◌, length, take, drop, get_or, refl, sym, ap}
-use Rattle.cell_plan.proofs.Common.{◌∙◌, arith, flat_map, append-nil, Rate, frames_in_turn, map, Option, Some, None, option_and_then}
-use Rattle.cell_plan.proofs.Common.{option_map, option_map_or, length-map, Rate2, FrameRate, SetOne, SetTwo, TrafficFrame, FrameAt}
-use Rattle.cell_plan.proofs.Common.{planned, in_set_one, in_set_two, frame_of_set, all_of_set, frames_of_set, SetOneFrame, SetTwoFrame}
-use Rattle.cell_plan.proofs.Common.{set_one, set_two}
+use Rattle.cell_plan.proofs.Common.{◌≡◌, ℕ, zero, suc, ◌%◌, ◌<◌, ◌≤◌, Bool, List, [], ◌∷◌, length, take, drop, get_or, refl, sym, ap, ◌∙◌}
+use Rattle.cell_plan.proofs.Common.{arith, flat_map, append-nil, Rate, frames_in_turn, map, Option, Some, None, option_and_then, option_map}
+use Rattle.cell_plan.proofs.Common.{option_map_or, length-map, Rate2, FrameRate, SetOne, SetTwo, TrafficFrame, FrameAt, planned, in_set_one}
+use Rattle.cell_plan.proofs.Common.{in_set_two, frame_of_set, all_of_set, frames_of_set, SetOneFrame, SetTwoFrame, set_one, set_two}
 
 -- what is made of the one entry at a place
 pub flat_map-one : {X Y : Type 0} (f : X → List Y) (xs : List X) (i : ℕ) (d : X) → i < length xs →

@@ -1,7 +1,6 @@
 -- A chip times a point of the codes, whose parts have 16 bits.
-use Rattle.cell_samples.proofs.Common.{◌≡◌, ◌+◌, ◌≤◌, ◌∙◌, ℤ, ◌+ℤ◌, ◌-ℤ◌, ◌*ℤ◌, unsigned_abs, FitsSigned, arith, refl, to_z, of_z}
-use Rattle.cell_samples.proofs.Common.{w8, w16, to_z-of_z, fits_signed_from_abs, of_sample, Sample, IsPoint, IsTurned, abs_sum}
-use Rattle.cell_samples.proofs.Common.{abs_difference}
+use Rattle.cell_samples.proofs.Common.{◌≡◌, ◌+◌, ◌≤◌, ◌∙◌, ℤ, ◌+ℤ◌, ◌-ℤ◌, ◌*ℤ◌, unsigned_abs, FitsSigned, arith, refl, to_z, of_z, w8, w16}
+use Rattle.cell_samples.proofs.Common.{to_z-of_z, fits_signed_from_abs, of_sample, Sample, IsPoint, IsTurned, abs_sum, abs_difference}
 
 read8 : (z : ℤ) → unsigned_abs z ≤ 1 → to_z w8 (of_z w8 z) ≡ z
 read8 z small = to_z-of_z w8 z (fits_signed_from_abs w8 z (omega (arith, small)))

@@ -3,8 +3,7 @@
 ghost use Rattle.std.specs.Prelude.{◌≡◌, ◌*◌, ◌<◌, ◌^◌, length};
 ghost use Rattle.symbol_path.specs.SentOrder.{shape_of, size};
 ghost use Rattle.cell_samples.specs.Continued.{frame_bits_of, frame_size, continued_form};
-ghost use Rattle.cell_samples.specs.Continued.{symbol_kind_of};
-ghost use Rattle.cell_samples.specs.Continued.{repeats_in, scrambled_by};
+ghost use Rattle.cell_samples.specs.Continued.{symbol_kind_of, repeats_in, scrambled_by};
 
 use crate::page_cycle::PageCycle;
 use crate::sendings::Sendings;

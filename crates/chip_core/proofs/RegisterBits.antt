@@ -1,6 +1,6 @@
 -- The bits of shift registers, and sums modulo 2 of them.
-use Rattle.std.proofs.Common.{◌≡◌, ℕ, zero, suc, ◌+◌, ◌-◌, ◌*◌, ◌/◌, ◌%◌, ◌^◌, ◌<◌, ◌≤◌, Bool, true, false, not, List, [], ◌∷◌, ◌++◌}
-use Rattle.std.proofs.Common.{length, get_or, map, drop, refl, sym, ap, ◌∙◌, arith, bit_and, nat_eq, add-one}
+use Rattle.std.proofs.Common.{◌≡◌, ℕ, zero, suc, ◌+◌, ◌-◌, ◌*◌, ◌/◌, ◌%◌, ◌^◌, ◌<◌, ◌≤◌, Bool, true, false, not, List, [], length, get_or}
+use Rattle.std.proofs.Common.{map, drop, refl, sym, ap, ◌∙◌, arith, bit_and, nat_eq}
 use Rattle.std.proofs.lemmas.List.{at_drop_more, drop_all, get_or_append_left, get_or_push}
 use Rattle.std.proofs.lemmas.Nat.{and_mask, field_of, shr-shr}
 use Rattle.std.proofs.Math.Pow.{mod-mod-pow}
@@ -74,10 +74,6 @@ bit_of-next r b k = bit_of-half (2 * r + digit b) k ∙ ap (λ m. bit_of m k) (h
 pub binary-none : (n : ℕ) → binary 0 n ≡ []
 unfolding binary
 binary-none n = refl
-
-pub binary-more : (w n : ℕ) → binary (w + 1) n ≡ binary w (n / 2) ++ bit_of n 0 ∷ []
-unfolding binary
-binary-more w n = let whole : n / 2 ^ 0 ≡ n = omega arith in rw (add-one w, whole)
 
 -- the digits of a number, the highest first
 pub get_or-binary : (w n k : ℕ) → k < w → get_or (binary w n) (w - 1 - k) false ≡ bit_of n k

@@ -7,8 +7,7 @@ pub use Rattle.cell_plan.specs.Sendings.{superframes_a_sending, told_superframes
 pub use Rattle.cell_plan.specs.Signal.{frames_of}
 pub use Rattle.cell_plan.specs.Stated.{AreHeard}
 pub use Rattle.cell_plan.specs.TrafficFrames.{cycled_frame, sent_frame_state, sent_with, set_one}
-pub use Rattle.cell_plan.specs.TrafficFrames.{set_two, traffic_frame_symbols}
-pub use Rattle.cell_plan.specs.TrafficFrames.{SetOneFrame}
+pub use Rattle.cell_plan.specs.TrafficFrames.{set_two, traffic_frame_symbols, SetOneFrame}
 pub use Rattle.cell_plan.specs.Transmitter.{phase_at}
 pub use Rattle.cell_plan.specs.declared.plan.CellPlan.{CellPlan}
 pub use Rattle.cell_plan.specs.declared.plan.Page.{Page}

@@ -42,9 +42,8 @@ pub use Rattle.cell_plan.specs.Signal.{Carrier, amplitude, amplitudes, cycle_of,
 pub use Rattle.cell_plan.specs.Signal.{sync_carrier, traffic_carrier}
 unfoldable pub use Rattle.cell_plan.specs.Signal.{carriers, sample_of, samples_of}
 pub use Rattle.cell_plan.specs.Stated.{AreHeard, IsReceivable, IsStatedPaging}
-pub use Rattle.cell_plan.specs.TrafficFrames.{IsSetOneFrame, IsSetTwoFrame, cycled_frame, set_one}
-pub use Rattle.cell_plan.specs.TrafficFrames.{set_two}
-pub use Rattle.cell_plan.specs.TrafficFrames.{IsTrafficFrame, SetOneFrame, SetTwoFrame, planned}
+pub use Rattle.cell_plan.specs.TrafficFrames.{IsSetOneFrame, IsSetTwoFrame, cycled_frame, set_one, set_two, IsTrafficFrame, SetOneFrame}
+pub use Rattle.cell_plan.specs.TrafficFrames.{SetTwoFrame, planned}
 pub use Rattle.cell_plan.specs.Transmitter.{IsSendable, phase_at}
 pub use Rattle.cell_plan.specs.declared.traffic_frame.FrameRate.TheVariants.{SetOne, SetTwo}
 pub use Rattle.cell_plan.specs.declared.plan.CellPlan.{CellPlan}
@@ -199,10 +198,9 @@ pub use Rattle.viterbi.specs.declared.codeword.Ends.TheVariants.{Zero}
 pub use Rattle.walsh.specs.Walsh.{walsh}
 pub use Rattle.clean_signal.specs.BoundedNoise.{with_added, Bears, IsCloseSample, IsNear}
 pub use Rattle.clean_link.specs.CleanLaws.{ChannelFramesComeBack, NoisyFramesComeBack, PagingCodewordsAreTheOnlyBest}
-pub use Rattle.clean_link.specs.CleanLaws.{SentCodewordsAreTheOnlyBest}
-pub use Rattle.clean_link.specs.CleanLaws.{SilentPagingFramesAreZeros, NoisyIsMarkedWhereHeard, NoisyPagingFramesComeBack}
-pub use Rattle.clean_link.specs.CleanLaws.{NoisySendingsComeBack, WholeSendingsComeBack, AreZeroWithoutSync, MarksAreTrue}
-pub use Rattle.clean_link.specs.CleanLaws.{PagingFramesComeBack, PagingHaveSentSigns, UnmarkedWithoutSync, IsMarkedWhereHeard}
+pub use Rattle.clean_link.specs.CleanLaws.{SentCodewordsAreTheOnlyBest, SilentPagingFramesAreZeros, NoisyIsMarkedWhereHeard}
+pub use Rattle.clean_link.specs.CleanLaws.{NoisyPagingFramesComeBack, NoisySendingsComeBack, WholeSendingsComeBack, AreZeroWithoutSync}
+pub use Rattle.clean_link.specs.CleanLaws.{MarksAreTrue, PagingFramesComeBack, PagingHaveSentSigns, UnmarkedWithoutSync, IsMarkedWhereHeard}
 pub use Rattle.clean_link.specs.CleanLaws.{MarksTellTheRate, NoisyMarksAreTrue, NoisyPagesComeBack, SilentPagingIsZero, FramesAreZeros}
 pub use Rattle.clean_link.specs.CleanLaws.{FramesComeBack, HaveSentSigns, HearsSentSync, ShowsSync, ordered_symbols}
 pub use Rattle.clean_link.specs.CleanLink.{IsNoDirection, IsNotDirected, IsOnPath, IsTrueMark, IsTunedToPlan, events_of_channel}

@@ -1,6 +1,6 @@
--- What a clean link, and a link with bounded noise, gives back of a frame's own bits on any channel,
--- and then of the sync channel and of paging channels, the latter after a true mark with the sync
--- message's PRAT.
+-- What a clean link, and a link with bounded noise, gives back of a frame's own bits on any
+-- channel, and then of the sync channel and of paging channels, the latter after a true mark with
+-- the sync message's PRAT.
 use Rattle.std.specs.Prelude.{ℕ, ◌+◌, ◌<◌, ◌≡◌, true, false, nat_lt, length, replicate, pos}
 use Rattle.std.specs.Prelude.{is_some, None, Some, List, ◌*◌, ◌≤◌, ◌≢◌, All, Bool}
 use Rattle.std.specs.List.{flat_map, Contains}

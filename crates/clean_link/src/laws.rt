@@ -1,8 +1,9 @@
 //! Laws of the definitions: each function does nothing, and its contract is the law.
 //!
-//! Those of any channel, of `clean_signal`, hold of what is sent on any Walsh row, to any stream with
-//! one finger on the path; those of the sync channel are their first case, and those of the paging
-//! channels after a mark their second. Soft values of a traffic channel after a mark are a third.
+//! Those of any channel, of `clean_signal`, hold of what is sent on any Walsh row, to any stream
+//! with one finger on the path; those of the sync channel are their first case, and those of the
+//! paging channels after a mark their second. Soft values of a traffic channel after a mark are a
+//! third.
 
 ghost use Rattle.clean_link.specs.CleanLaws.{ChannelFramesComeBack, NoisyFramesComeBack};
 ghost use Rattle.clean_link.specs.CleanLaws.{AreZeroWithoutSync, FramesAreZeros, FramesComeBack};

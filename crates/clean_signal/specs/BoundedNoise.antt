@@ -28,11 +28,11 @@ IsNear e xs ys = AllZip (IsCloseSample e) xs ys
 
 -- ---- the margin
 
--- A channel with this gain bears noise of the size e. With the pilot's gain g0 and the link's factor
--- re + j im, that is (gain + g0) e (|re| + |im|) + 2 e^2 < gain g0 (re^2 + im^2). The right side is
--- a symbol's soft value for each chip of the window and of the symbol, and the left side the most
--- that the noise of the pilot's sum and that of the symbol's sum take from it: so no noise of that
--- size turns the sign of one of its symbols.
+-- A channel with this gain bears noise of the size e. With the pilot's gain g0 and the link's
+-- factor re + j im, that is (gain + g0) e (|re| + |im|) + 2 e^2 < gain g0 (re^2 + im^2). The right
+-- side is a symbol's soft value for each chip of the window and of the symbol, and the left side
+-- the most that the noise of the pilot's sum and that of the symbol's sum take from it: so no noise
+-- of that size turns the sign of one of its symbols.
 abbrev pub Bears : CellPlan → ℕ → ℕ → Type 0
 Bears plan gain e =
     (gain + plan.pilot.gain) * e *

@@ -150,7 +150,7 @@ is_shown layout c is h =
         arith,
         length-map layout.fixed.now (λ row. row.1),
         leb-true (96 + length names.word + 16 * length s.fixed + list_bytes names.list s.records
-        + end_bytes s.most) 1024 (passed 6 true (omega arith)),
+            + end_bytes s.most) 1024 (passed 6 true (omega arith)),
       );
     }
 

@@ -2,10 +2,9 @@
 pub use Rattle.std.proofs.Common.{All, Bool, FitsSigned, List, [], add-one, ap, append-nil, append_assoc, arith, below_more, cond, drop}
 pub use Rattle.std.proofs.Common.{false, filter, get_or, inl, inr, length, length-append, length-drop, length-take-le, map, nat_eq, not}
 pub use Rattle.std.proofs.Common.{negsuc, pos, refl, replicate, reverse, rules, set, subst, suc, sum_by, sym, take, take_all, true}
-pub use Rattle.std.proofs.Common.{unsigned_abs}
-pub use Rattle.std.proofs.Common.{zero, ℕ, ℤ, ⊎_elim, ◌&&◌, ◌*◌, ◌++◌, ◌+ℤ◌, ◌+◌, ◌-◌, ◌<◌, ◌^◌, ◌||◌, ◌∙◌, ◌∷◌, ◌≡◌, ◌≢◌, ◌≤ℤ◌, ◌≤◌, ◌⊎◌}
+pub use Rattle.std.proofs.Common.{unsigned_abs, zero, ℕ, ℤ, ⊎_elim, ◌&&◌, ◌*◌, ◌++◌, ◌+ℤ◌, ◌+◌, ◌-◌, ◌<◌, ◌^◌, ◌||◌, ◌∙◌, ◌∷◌, ◌≡◌, ◌≢◌}
+pub use Rattle.std.proofs.Common.{◌≤ℤ◌, ◌≤◌, ◌⊎◌}
 pub use Rattle.std.proofs.Math.Bool.{beq}
-pub use Rattle.std.proofs.Math.Nat.{mul-le-mul, mul-le-mul_right}
 pub use Rattle.std.proofs.Math.Seq.{take-add}
 pub use Rattle.std.proofs.lemmas.Bool.{cases_Bool, cases_eq, cases_lt, eq-eqb, ne_eqb}
 pub use Rattle.std.proofs.lemmas.Grind.{flat_map-append}
@@ -24,11 +23,11 @@ pub use Rattle.std.specs.Cmp.Lexicographic.{pointwise, pointwise_decides}
 pub use Rattle.std.specs.Int.{w64}
 pub use Rattle.std.specs.List.{find, flat_map, range_with_len}
 pub use Rattle.std.specs.List.Sorted.{IsStrictlyIncreasing}
-pub use Rattle.std.specs.Option.{option_map, unwrap_or}
+pub use Rattle.std.specs.Option.{option_map}
 pub use Rattle.std.specs.Prelude.{IsTrue, None, Option, Some, if◌then◌else◌, int_lt, ◌*ℤ◌, ◌<ℤ◌, ◌↔◌}
 pub use Rattle.chip_core.proofs.Greatest.{first_greatest-is}
 pub use Rattle.chip_core.proofs.Places.{get_or-map-places, length-map-places, map-places-all, places-more, places-none, places_is}
-pub use Rattle.chip_core.specs.Bits.{binary, digit, places, sign, xor}
+pub use Rattle.chip_core.specs.Bits.{binary, places, sign}
 pub use Rattle.chip_core.specs.Sums.{IsFirstGreatest}
 unfoldable pub use Rattle.chip_core.specs.Sums.{first_greatest}
 pub use Rattle.chip_core.specs.declared.check_form.CheckForm.TheVariants.{Plain}
@@ -39,8 +38,8 @@ pub use Rattle.quality_bits.specs.Kinds.{IsChecked, body_length, generator_of, q
 pub use Rattle.quality_bits.specs.Quality.{check_bits}
 pub use Rattle.quality_bits.specs.declared.rate.Rate.{Rate}
 pub use Rattle.quality_bits.specs.declared.rate.Rate.TheVariants.{R1200, R2400, R4800, R9600}
-pub use Rattle.symbol_path.proofs.Agreement.{agreement-gathered, agreement-gathered_by, length-gathered, length-gathered_by}
-pub use Rattle.symbol_path.proofs.Agreement.{length-sent, length-sent_by}
+pub use Rattle.symbol_path.proofs.Agreement.{agreement-gathered, agreement-gathered_by, length-gathered, length-gathered_by, length-sent}
+pub use Rattle.symbol_path.proofs.Agreement.{length-sent_by}
 pub use Rattle.symbol_path.proofs.Gathering.{added_fits, stored_is}
 pub use Rattle.symbol_path.proofs.Interleaving.{count_is, size_some, symbol_lt}
 pub use Rattle.symbol_path.proofs.Permutation.{address_lt}
@@ -58,8 +57,8 @@ pub use Rattle.viterbi.specs.declared.codeword.Ends.TheVariants.{Free, Zero}
 pub use borrow.Rule.Slice.PartMut.{put_mid}
 pub use Rattle.frame_decoder.specs.Laws.{AgreeElsewhere, IsNothingGood, IsOneFrame, IsSentFrameDecoded, ShowSymbols, kept_count}
 pub use Rattle.frame_decoder.specs.Formats.{IsFormat, better, bits_in, candidate_in, candidate_of, frame_in, good_or, is_right, not_good}
-pub use Rattle.frame_decoder.specs.Formats.{place_in, preferred, repeated_in, rising_choice, format_of, score_in, shown_of}
-pub use Rattle.frame_decoder.specs.Formats.{gathered_in, symbols_in}
+pub use Rattle.frame_decoder.specs.Formats.{place_in, preferred, repeated_in, rising_choice, format_of, score_in, shown_of, gathered_in}
+pub use Rattle.frame_decoder.specs.Formats.{symbols_in}
 unfoldable pub use Rattle.frame_decoder.specs.Formats.{frame_of, codeword_in}
 pub use Rattle.frame_decoder.specs.Spans.{Channel, channel_of, gathered_span, own_bits, score, sending, sent_frames}
 pub use Rattle.frame_decoder.specs.Replaced.{is_replaced}
@@ -69,5 +68,4 @@ pub use Rattle.frame_decoder.specs.TrafficFrames.{summed_subchannels}
 unfoldable pub use Rattle.frame_decoder.specs.TrafficFrames.{decoded}
 pub use Rattle.quality_bits.specs.declared.format.FrameFormat.{FrameFormat}
 pub use Rattle.frame_decoder.specs.declared.formats.DecodedFrame.{DecodedFrame}
-pub use Rattle.frame_decoder.specs.declared.traffic.Decoded.{Decoded}
 pub use Rattle.chip_core.proofs.FieldLists.{length-binary}

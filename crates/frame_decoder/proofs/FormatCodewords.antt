@@ -1,13 +1,12 @@
 -- The codewords of a format, their scores, and their quality indicators.
-use Rattle.frame_decoder.proofs.Common.{◌≡◌, ℕ, ◌+◌, ◌-◌, ◌*◌, ◌<◌, ◌≤◌, Bool, true, false, List, length, take, drop, sym, ap, ◌∙◌}
-use Rattle.frame_decoder.proofs.Common.{arith, subst, ℤ, ◌↔◌, IsTrue, if◌then◌else◌, Option, None, Some, Decides, one_answer}
-use Rattle.frame_decoder.proofs.Common.{booleans_Decides, pointwise, pointwise_decides, beq, drop-take, take-take, Plain}
-use Rattle.frame_decoder.proofs.Common.{code_symbols, length-code_symbols, generator_of, body_length}
-use Rattle.frame_decoder.proofs.Common.{IsChecked, quality_indicator, quality_length, check_bits, data_shape, address, repeated_symbol}
-use Rattle.frame_decoder.proofs.Common.{Data, agreement-gathered_by, length-gathered_by, length-sent_by, symbol_lt, address_lt, kept_lt}
-use Rattle.frame_decoder.proofs.Common.{Codeword, score_of, IsBestCodeword}
-use Rattle.frame_decoder.proofs.Common.{Zero, by_definition, FrameFormat, IsFormat, bits_in, repeated_in, place_in, symbols_in, gathered_in}
-use Rattle.frame_decoder.proofs.Common.{score_in, codeword_in, is_right, length-take-le}
+use Rattle.frame_decoder.proofs.Common.{◌≡◌, ℕ, ◌+◌, ◌-◌, ◌*◌, ◌<◌, ◌≤◌, Bool, true, false, List, length, take, drop, sym, ap, ◌∙◌, arith}
+use Rattle.frame_decoder.proofs.Common.{subst, ℤ, ◌↔◌, IsTrue, if◌then◌else◌, Option, None, Some, Decides, one_answer, booleans_Decides}
+use Rattle.frame_decoder.proofs.Common.{pointwise, pointwise_decides, beq, drop-take, take-take, Plain, code_symbols, length-code_symbols}
+use Rattle.frame_decoder.proofs.Common.{generator_of, body_length, IsChecked, quality_indicator, quality_length, check_bits, data_shape}
+use Rattle.frame_decoder.proofs.Common.{address, repeated_symbol, Data, agreement-gathered_by, length-gathered_by, length-sent_by}
+use Rattle.frame_decoder.proofs.Common.{symbol_lt, address_lt, kept_lt, Codeword, score_of, IsBestCodeword, Zero, by_definition}
+use Rattle.frame_decoder.proofs.Common.{FrameFormat, IsFormat, bits_in, repeated_in, place_in, symbols_in, gathered_in, score_in}
+use Rattle.frame_decoder.proofs.Common.{codeword_in, is_right, length-take-le}
 use Rattle.frame_decoder.proofs.ZeroCodewords.{length-best_zero_codeword, best_zero_codeword-same}
 use Rattle.quality_bits.specs.declared.kind.Kind.{Kind as Check}
 pub use Rattle.quality_bits.proofs.Formats.{bits_least}

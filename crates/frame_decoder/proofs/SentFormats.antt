@@ -1,12 +1,11 @@
 -- A sent frame of any rate set comes back, and soft values of 0 give none.
 use Rattle.frame_decoder.proofs.Common.{◌≡◌, ℕ, ◌-◌, ◌*◌, ◌<◌, inl, inr, ⊎_elim, Bool, true, false, List, [], ◌∷◌, ◌++◌, length, map, take}
-use Rattle.frame_decoder.proofs.Common.{drop, replicate, refl, sym, ap, ◌∙◌, arith, ℤ, pos, append_assoc, ◌≤ℤ◌}
-use Rattle.frame_decoder.proofs.Common.{int_lt, All, get_or, None, Some, option_map, booleans_Decides, pointwise_decides, cases_Bool}
-use Rattle.frame_decoder.proofs.Common.{take_at, drop_at, length-replicate, All-cons, All-nil, code_symbols, quality_indicator}
-use Rattle.frame_decoder.proofs.Common.{quality_length, length-quality_indicator, Codeword, score_of, IsAllowed, Zero, by_definition}
-use Rattle.frame_decoder.proofs.Common.{zero_codeword_best, FrameFormat, DecodedFrame, unreplaced}
-use Rattle.frame_decoder.proofs.Common.{bits_in, symbols_in, score_in, codeword_in, is_right, frame_in, candidate_of, rising_choice}
-use Rattle.frame_decoder.proofs.Common.{not_good, good_or, candidate_in, frame_of, shown_of, Option}
+use Rattle.frame_decoder.proofs.Common.{drop, replicate, refl, sym, ap, ◌∙◌, arith, ℤ, pos, append_assoc, ◌≤ℤ◌, int_lt, All, get_or, None}
+use Rattle.frame_decoder.proofs.Common.{Some, option_map, booleans_Decides, pointwise_decides, cases_Bool, take_at, drop_at}
+use Rattle.frame_decoder.proofs.Common.{length-replicate, All-cons, All-nil, code_symbols, quality_indicator, quality_length}
+use Rattle.frame_decoder.proofs.Common.{length-quality_indicator, Codeword, score_of, IsAllowed, Zero, by_definition, zero_codeword_best}
+use Rattle.frame_decoder.proofs.Common.{FrameFormat, DecodedFrame, unreplaced, bits_in, symbols_in, score_in, codeword_in, is_right}
+use Rattle.frame_decoder.proofs.Common.{frame_in, candidate_of, rising_choice, not_good, good_or, candidate_in, frame_of, shown_of, Option}
 use Rattle.frame_decoder.proofs.Common.{◌<ℤ◌, zeros_score}
 use Rattle.quality_bits.proofs.Formats.{length-checked, length-format_codeword}
 use Rattle.frame_decoder.proofs.SignedScores.{agree_left, own_some, shown_keep, shown_score}

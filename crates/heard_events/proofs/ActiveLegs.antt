@@ -2,10 +2,9 @@
 use Rattle.heard_events.proofs.Common.{◌≡◌, ℕ, zero, suc, ◌+◌, ◌*◌, ◌<◌, ◌≤◌, ◌==◌, true, List, [], ◌∷◌, length, map, refl, sym, ap, arith}
 use Rattle.heard_events.proofs.Common.{Some, slice_get, nat_lt, nat_le, ℤ, pos, get_or, All, cond, slice_set, Option, None, unsigned_abs}
 use Rattle.heard_events.proofs.Common.{nat_eq, if◌then◌else◌, le-leb, lt-ltb, All-set, IsOrderly, IsStanding, times_listed}
-use Rattle.heard_events.proofs.Common.{pilots_of_actives}
-use Rattle.heard_events.proofs.Common.{handed_off, Standing, began_in, deltas_with, due_at, due_for, shown, shown_active, Active, Accepted}
-use Rattle.heard_events.proofs.Common.{ActivePilot, PilotSets, Strength, is_close, legs_close, legs_rows, places_in, leg_of, legs_of, Mark}
-use Rattle.heard_events.proofs.Common.{◌∙◌, Leg}
+use Rattle.heard_events.proofs.Common.{pilots_of_actives, handed_off, Standing, began_in, deltas_with, due_at, due_for, shown, shown_active}
+use Rattle.heard_events.proofs.Common.{Active, Accepted, ActivePilot, PilotSets, Strength, is_close, legs_close, legs_rows, places_in}
+use Rattle.heard_events.proofs.Common.{leg_of, legs_of, Mark, ◌∙◌, Leg}
 use Rattle.std.proofs.lemmas.Bool.{cond_both}
 use Rattle.std.proofs.lemmas.Option.{slice_get-map}
 use Rattle.std.proofs.lemmas.List.Folds.{list_all-map}

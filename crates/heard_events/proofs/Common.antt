@@ -10,7 +10,7 @@ pub use Rattle.std.proofs.lemmas.List.{length-take-le, map-append, take-append-d
 pub use Rattle.std.proofs.lemmas.List.Folds.{list_all-append, list_any-append}
 pub use Rattle.std.specs.List.{flat_map, list_all, list_any, range_with_len}
 pub use Rattle.std.specs.Option.{option_or, option_to_list}
-pub use Rattle.std.specs.Prelude.{IsTrue, if◌then◌else◌, is_some, unsigned_abs, nat_eq, int_lt}
+pub use Rattle.std.specs.Prelude.{IsTrue, if◌then◌else◌, is_some, unsigned_abs, nat_eq}
 pub use Rattle.std.proofs.lemmas.List.Elements.{filter-append, All-set, All-append, All-replicate, All-push, All-cons, All-head, All-map}
 pub use Rattle.std.proofs.lemmas.List.Elements.{All-nil, All-tail}
 pub use Rattle.std.proofs.lemmas.Option.{get_or_from_slice_get, slice_get_within}
@@ -31,8 +31,7 @@ pub use Rattle.frame_decoder.specs.TrafficFrames.{power_bit, group_sums, lower_r
 unfoldable pub use Rattle.frame_decoder.specs.TrafficFrames.{decoded}
 pub use Rattle.frame_decoder.specs.declared.traffic.Decoded.{Decoded}
 pub use Rattle.frame_decoder.proofs.InformationBits.{frame_long}
-pub use Rattle.pilot_sets.specs.Standing.{Standing, new_standing, began_in, deltas_with, due_at, due_for, shown, shown_active, change_at}
-pub use Rattle.pilot_sets.specs.Standing.{stepped}
+pub use Rattle.pilot_sets.specs.Standing.{Standing, new_standing, began_in, deltas_with, due_at, due_for, shown, shown_active}
 pub use Rattle.pilot_sets.specs.declared.change.SetChange.{SetChange}
 pub use Rattle.pilot_sets.specs.Orderly.{IsOrderly, IsStanding, times_listed}
 pub use Rattle.pilot_sets.specs.PilotSets.{pilots_of_actives}
@@ -82,8 +81,8 @@ pub use Rattle.heard_events.specs.Legs.{all_fingers, is_on, leg_fingers, legs_of
 pub use Rattle.heard_events.specs.Legs.{has_subchannel}
 pub use Rattle.heard_events.specs.Marks.{first_of, frames_with, mark_at, marks_of, sets_mark}
 unfoldable pub use Rattle.heard_events.specs.Marks.{frames_open, mark, mark_before, marks_at}
-pub use Rattle.heard_events.specs.Moments.{frames_at, legs_at, legs_by, messages_at, moment_events, moment_place, moments_before, power_at}
-pub use Rattle.heard_events.specs.Moments.{strengths_at, pilot_strength}
+pub use Rattle.heard_events.specs.Moments.{frames_at, legs_at, legs_by, messages_at, moment_events, moment_place, moments_before}
+pub use Rattle.heard_events.specs.Moments.{pilot_strength}
 unfoldable pub use Rattle.heard_events.specs.Moments.{changed, heard_from, kept_to, passed, sets_at, told_by}
 pub use Rattle.heard_events.specs.Near.{IsTuned, low_of}
 pub use Rattle.heard_events.specs.Noted.{all_noted, noted}

@@ -1,12 +1,11 @@
 -- The events that end at a number of samples have that number.
-use Rattle.heard_events.proofs.Common.{◌≡◌, ℕ, ◌+◌, ◌==◌, ◌||◌, List, [], ◌∷◌, ◌++◌, Bool, true, false, if◌then◌else◌, refl, Option, None}
-use Rattle.heard_events.proofs.Common.{Some, inl, inr, take, All, All-append, All-cons, All-map, All-nil, flat_map, cases_Bool, eqb-true}
-use Rattle.heard_events.proofs.Common.{Sample, Standing, SetChange, events_at, at_of, mark, changed, frames_at, messages_at, heard_from}
-use Rattle.heard_events.proofs.Common.{kept_to, legs_at, moment_events, moment_place, moments_before, passed, sets_at, page_event}
-use Rattle.heard_events.proofs.Common.{pages_behind, signaling_message_at, message_events, message_heard, messages_by, known_now, events_of}
-use Rattle.heard_events.proofs.Common.{heard_at, sync_events_at, frames_by, if_followed, frames_now, Tuning, sync_bound, sync_stream}
-use Rattle.heard_events.proofs.Common.{Event, Leg, Mark, Traffic, SpelledMessage, SpelledSignal, Channel, Paging, channels}
-use Rattle.heard_events.proofs.Common.{followed_behind, told_behind, told_on}
+use Rattle.heard_events.proofs.Common.{◌≡◌, ℕ, ◌+◌, ◌==◌, ◌||◌, List, [], ◌∷◌, ◌++◌, refl, Option, None, Some, inl, inr, take, All}
+use Rattle.heard_events.proofs.Common.{All-append, All-cons, All-map, All-nil, flat_map, cases_Bool, eqb-true, Sample, Standing, SetChange}
+use Rattle.heard_events.proofs.Common.{events_at, at_of, mark, changed, frames_at, messages_at, heard_from, kept_to, legs_at, moment_events}
+use Rattle.heard_events.proofs.Common.{moment_place, moments_before, passed, sets_at, page_event, pages_behind, signaling_message_at}
+use Rattle.heard_events.proofs.Common.{message_events, message_heard, messages_by, known_now, events_of, heard_at, sync_events_at}
+use Rattle.heard_events.proofs.Common.{frames_by, if_followed, frames_now, Tuning, sync_bound, sync_stream, Event, Mark, Traffic}
+use Rattle.heard_events.proofs.Common.{SpelledMessage, SpelledSignal, Channel, Paging, channels, followed_behind, told_behind, told_on}
 use Rattle.heard_events.specs.TrafficEvents.{frame_heard}
 use Rattle.heard_events.specs.declared.channel.Channel.TheVariants.{Traffic as OnTraffic}
 

@@ -3,12 +3,11 @@ use Rattle.heard_events.proofs.Common.{◌≡◌, ℕ, ◌+◌, ◌-◌, ◌<◌
 use Rattle.heard_events.proofs.Common.{subst, arith, inl, inr, nat_lt, Option, Some, None, ℤ, pos, take, get_or, append-nil, flat_map}
 use Rattle.heard_events.proofs.Common.{and_parts, and_from, cases_Bool, cases_lt, eq-eqb, ne_eqb, new_standing, places, Sample, Finger}
 use Rattle.heard_events.proofs.Common.{Data, AreClose, all_fingers, legs_of, pilot_finger, first_of, mark, mark_before, marks_at, frames_at}
-use Rattle.heard_events.proofs.Common.{kept_to, legs_at, legs_by, messages_at, moment_place, moments_before}
-use Rattle.heard_events.proofs.Common.{sets_at, AreNear, all_near, has_reference, low_in, pages_at, pages_behind}
-use Rattle.heard_events.proofs.Common.{paging_stream, frame_start, is_in_file, known_at, IsTimed, stream_end, if_followed, frame_known}
-use Rattle.heard_events.proofs.Common.{Tuning, fingers_of, sync_bound, sync_stream, Event, Leg, Mark, Traffic, frames_by, map}
-use Rattle.heard_events.proofs.Common.{message_heard, messages_by, option_or, page_event, if◌then◌else◌, Channel, Paging}
-use Rattle.heard_events.proofs.Common.{channels, followed_behind, told_behind, told_on}
+use Rattle.heard_events.proofs.Common.{kept_to, legs_at, legs_by, messages_at, moment_place, moments_before, sets_at, AreNear, all_near}
+use Rattle.heard_events.proofs.Common.{has_reference, low_in, pages_at, pages_behind, paging_stream, frame_start, is_in_file, known_at}
+use Rattle.heard_events.proofs.Common.{IsTimed, stream_end, if_followed, frame_known, Tuning, fingers_of, sync_bound, sync_stream, Event}
+use Rattle.heard_events.proofs.Common.{Leg, Mark, Traffic, frames_by, map, message_heard, messages_by, option_or, page_event, if◌then◌else◌}
+use Rattle.heard_events.proofs.Common.{Channel, Paging, channels, followed_behind, told_behind, told_on}
 use Rattle.std.specs.List.{filter}
 use Rattle.heard_events.specs.declared.channel.Channel.TheVariants.{Traffic as OnTraffic}
 use Rattle.heard_events.specs.TrafficEvents.{frame_heard}

@@ -6,8 +6,7 @@ use Rattle.heard_events.proofs.Common.{frame_known, has_frame, Tuning, Event, Le
 use Rattle.heard_events.proofs.Common.{sym, ends_now, frames_bound, message_events, message_heard, map_ext_filter_places, ℤ, power_bit}
 use Rattle.heard_events.proofs.Common.{decoded, group_sums, Data, all_fingers, on_subchannel, subchannels, unscrambled, power_bits_at}
 use Rattle.heard_events.proofs.Common.{decoded_at, subchannel_sums, replaced_in, stream_of, traffic_start, option_to_list}
-use Rattle.heard_events.proofs.Common.{signaling_message_at}
-use Rattle.heard_events.proofs.Common.{signal_at, signal_of, signals_before, Decoded}
+use Rattle.heard_events.proofs.Common.{signaling_message_at, signal_at, signal_of, signals_before, Decoded}
 use Rattle.heard_events.specs.TrafficEvents.{frame_heard}
 use Rattle.heard_events.proofs.Arrivals.{Arrivals, NoneNow, next_left, none_left, none_now, now_parts, StaysWithin, stays_now, given_more}
 use Rattle.heard_events.proofs.Arrivals.{AreOrdered, Stays, StaysBefore, stays_before, stays_at}

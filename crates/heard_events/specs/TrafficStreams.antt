@@ -45,9 +45,8 @@ traffic_start traffic m k = frame_start (traffic_stream traffic m []) k
 abbrev pub replaced_in : Traffic → Mark → ℕ → List ℕ
 replaced_in traffic m k = power_places (frame_state traffic m k) (traffic_mask traffic.esn)
 
--- FRAME BY FRAME
--- The frames depend on the active pilots, which may be others from frame to frame: `legs k` are those
--- of frame k.
+-- FRAME BY FRAME The frames depend on the active pilots, which may be others from frame to frame:
+-- `legs k` are those of frame k.
 abbrev pub stream_of : Tuning → Traffic → Mark → (ℕ → List Leg) → ℕ → Stream
 stream_of t traffic m legs k =
     traffic_stream traffic m (all_fingers t.phase t.deltas (legs k))

@@ -97,7 +97,8 @@ paged prat = record {
 
 -- a message whose long-code state is 0 sets none
 told : map
-    (λ lc. marks_of 32704 (Some (record { capsule = replicate 200 true; message = worked_sync lc })))
+    (λ lc. marks_of 32704
+    (Some (record { capsule = replicate 200 true; message = worked_sync lc })))
     (0x102a1d2e508 ∷ 0 ∷ []) ≡ (paged 0 ∷ []) ∷ [] ∷ []
 told = refl
 

@@ -27,8 +27,7 @@ pub struct SetsKeeper {
 
 impl SetsKeeper {
     ghost use Rattle.std.specs.Prelude.{◌≡◌, ◌<◌, ◌≤◌, ◌+◌, ◌-◌, ◌/◌, ◌↔◌, true, false, List};
-    ghost use Rattle.std.specs.Prelude.{IsTrue};
-    ghost use Rattle.std.specs.Prelude.{IfSome, length};
+    ghost use Rattle.std.specs.Prelude.{IsTrue, IfSome, length};
     ghost use Rattle.std.specs.List.{list_any};
     ghost use Rattle.chip_core.specs.declared.sample.Sample.{Sample};
     ghost use Rattle.heard_events.specs.Close.{legs_close, legs_rows, places_in};

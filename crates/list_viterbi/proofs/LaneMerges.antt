@@ -1,7 +1,6 @@
 -- The scores of four turns fit, and their weights are small.
-use Rattle.list_viterbi.proofs.Common.{[], ◌∷◌, refl, subst, arith, ℤ, pos, ints, Each1, Heads, HeadsFit}
-use Rattle.list_viterbi.proofs.Common.{HeadsLong, AreWeights, IsWeight, less_heads, even_after, odd_after, even_after_two, odd_after_two}
-use Rattle.list_viterbi.proofs.Common.{four_scores, four_choices}
+use Rattle.list_viterbi.proofs.Common.{[], ◌∷◌, refl, subst, arith, ℤ, pos, ints, Each1, Heads, HeadsFit, HeadsLong, AreWeights, IsWeight}
+use Rattle.list_viterbi.proofs.Common.{less_heads, even_after, odd_after, even_after_two, odd_after_two, four_scores, four_choices}
 use Rattle.list_viterbi.proofs.LaneChoices.{choose_each, choose_fits, even_fits, odd_fits}
 use Rattle.list_viterbi.proofs.LaneTurns.{pairs, pairs_are}
 

@@ -1,7 +1,6 @@
 -- What a bit adds, by a state's code.
-use Rattle.list_viterbi.proofs.Common.{◌≡◌, ℕ, ◌+◌, ◌*◌, ◌/◌, ◌%◌, ◌<◌, ◌≤◌, get_or, arith, sym, subst, ℤ}
-use Rattle.list_viterbi.proofs.Common.{unsigned_abs, to_z, of_z, w64, to_z-of_z, SFits, patterns, lane_code_of, gain_by}
-use Rattle.list_viterbi.proofs.Common.{pattern_small, lane_small, gain_size}
+use Rattle.list_viterbi.proofs.Common.{◌≡◌, ℕ, ◌+◌, ◌*◌, ◌/◌, ◌%◌, ◌<◌, ◌≤◌, get_or, arith, sym, subst, ℤ, unsigned_abs, to_z, of_z, w64}
+use Rattle.list_viterbi.proofs.Common.{to_z-of_z, SFits, patterns, lane_code_of, gain_by, pattern_small, lane_small, gain_size}
 
 pub code_small : (t : ℕ) → t < 256 → lane_code_of t < 4
 code_small t b =

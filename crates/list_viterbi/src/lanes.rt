@@ -11,10 +11,9 @@ ghost use lib.Lanes.{Each2, zip2, put_chunk};
 ghost use Rattle.viterbi.specs.Lanes.{Fit};
 ghost use Rattle.list_viterbi.specs.Turns.{choose, held};
 ghost use Rattle.list_viterbi.specs.Heads.{HeadsFit, less_heads, even_heads, odd_heads, MadeFit};
-ghost use Rattle.list_viterbi.specs.Heads.{made_heads, four_scores};
-ghost use Rattle.list_viterbi.specs.Heads.{four_choices, two_from, heads_from, HeadsLong};
-ghost use Rattle.list_viterbi.specs.Heads.{AreWeights, lane_sum, put_heads, put_choices, four_of};
-ghost use Rattle.list_viterbi.specs.Heads.{column_of, PairPicked};
+ghost use Rattle.list_viterbi.specs.Heads.{made_heads, four_scores, four_choices, two_from};
+ghost use Rattle.list_viterbi.specs.Heads.{heads_from, HeadsLong, AreWeights, lane_sum, put_heads};
+ghost use Rattle.list_viterbi.specs.Heads.{put_choices, four_of, column_of, PairPicked};
 ghost use Rattle.list_viterbi.specs.Picks.{HasPicks, picks_into};
 
 use crate::gains::gains_of;

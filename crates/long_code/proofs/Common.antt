@@ -4,7 +4,7 @@ pub use Rattle.std.proofs.Common.{get_or, length, length-append, map, nat_eq, na
 pub use Rattle.std.proofs.Common.{sym, take, true, zero, zero-add, ℕ, ◌%◌, ◌*◌, ◌++◌, ◌+◌, ◌-◌, ◌/◌, ◌<◌, ◌^◌, ◌∙◌, ◌∷◌, ◌≡◌, ◌≤◌}
 pub use Rattle.std.proofs.Math.Nat.{mod-lt}
 pub use Rattle.std.proofs.Math.Pow.{pow_mono}
-pub use Rattle.std.proofs.lemmas.Bool.{agree_below, agree_below_at, eqb-true, ne_eqb}
+pub use Rattle.std.proofs.lemmas.Bool.{agree_below, agree_below_at, ne_eqb}
 pub use Rattle.std.proofs.lemmas.List.FromFn.{get_or-map-range_with_len}
 pub use Rattle.std.proofs.lemmas.List.{length-map, length-replicate, length-reverse, length-take-le, map-append, reverse-append}
 pub use Rattle.std.proofs.lemmas.List.{reverse-reverse, take_more}

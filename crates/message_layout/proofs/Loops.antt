@@ -3,9 +3,8 @@ use Rattle.message_layout.proofs.Common.{◌≡◌, ℕ, zero, suc, ◌+◌, ◌
 use Rattle.message_layout.proofs.Common.{refl, sym, ap, ◌∙◌, arith, inl, inr, Some, None, cases_lt, le-leb, leb-true, lt-leb, nat_le}
 use Rattle.message_layout.proofs.Common.{length-drop, length-take-le, take_all, number_part, mul-le-mul_right, column_in, length-map}
 use Rattle.message_layout.proofs.Common.{suc-mul, number, total_width, AreWidths, number_at, values_at, column_at, column_more, dropped}
-use Rattle.message_layout.proofs.Common.{subst}
-use Rattle.message_layout.proofs.Common.{true, false, ◌^◌, field, in_widths, FieldsFit, taken_more, length-column, total_more, total_room}
-use Rattle.message_layout.proofs.Common.{lt-ltb, values_more, width_within, count_in, fields_at}
+use Rattle.message_layout.proofs.Common.{subst, true, false, ◌^◌, field, in_widths, FieldsFit, taken_more, length-column, total_more}
+use Rattle.message_layout.proofs.Common.{total_room, lt-ltb, values_more, width_within, count_in, fields_at}
 use Rattle.message_layout.proofs.Columns.{fit_append}
 use Rattle.message_layout.proofs.Lawful.{count_room}
 use Rattle.message_layout.proofs.Parts.{guard_some, some_is}

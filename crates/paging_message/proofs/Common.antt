@@ -23,17 +23,16 @@ pub use Rattle.chip_core.proofs.Ranges.{flat_map-places-more, flat_map_ext_place
 pub use Rattle.chip_core.proofs.ValueLists.{behind_front, front, number_front}
 pub use Rattle.chip_core.specs.Bits.{binary, number}
 unfoldable pub use Rattle.chip_core.specs.Bits.{places}
-pub use Rattle.chip_core.specs.Fields.{FieldsFit, field, total_width}
 pub use Rattle.chip_core.specs.Readings.{number_at}
 pub use Rattle.chip_core.specs.declared.check_form.CheckForm.{CheckForm}
 pub use Rattle.message_layout.proofs.Loops.{not_both}
 pub use Rattle.message_layout.proofs.Messages.{both_columns, first_column, mapped_cond, mapped_some, no_columns}
 pub use Rattle.message_layout.proofs.Parts.{guard_some, number_again, number_there}
 pub use Rattle.message_layout.proofs.Columns.{record_fit}
-pub use Rattle.message_layout.proofs.Plain.{has_length, list_said, plain_back, plain_length, plain_reading, record_map, rest_back}
+pub use Rattle.message_layout.proofs.Plain.{has_length, list_said, plain_back, plain_reading, rest_back}
 pub use Rattle.message_layout.proofs.Round.{reading_again, reading_there}
-pub use Rattle.message_layout.specs.Contents.{count_in, height}
-pub use Rattle.message_layout.specs.Plain.{plain_contents, plain_shape}
+pub use Rattle.message_layout.specs.Contents.{count_in}
+pub use Rattle.message_layout.specs.Plain.{plain_shape}
 pub use Rattle.message_layout.specs.Reading.{mapped, number_part, reading}
 pub use Rattle.message_layout.specs.Shapes.{MessageShape, shape}
 unfoldable pub use Rattle.message_layout.specs.Shapes.{is_lawful}
@@ -52,7 +51,7 @@ pub use Rattle.quality_bits.specs.declared.rate.Rate.{Rate}
 pub use Rattle.quality_bits.specs.declared.rate.Rate.TheVariants.{R1200, R2400, R4800, R9600}
 pub use Rattle.paging_message.specs.Admitted.{HasMessage}
 unfoldable pub use Rattle.paging_message.specs.Admitted.{admits}
-pub use Rattle.paging_message.specs.Channels.{IsChannelList, channel_contents, channel_shape, channel_widths, channels_from}
+pub use Rattle.paging_message.specs.Channels.{channel_contents, channel_shape, channel_widths, channels_from}
 pub use Rattle.paging_message.specs.HalfFrames.{Framing, half_frame_body, half_under_way}
 unfoldable pub use Rattle.paging_message.specs.HalfFrames.{bits_left, capsules_in, ends_chain, half_frame_capsule_ending, half_frames}
 unfoldable pub use Rattle.paging_message.specs.HalfFrames.{open_chain}
@@ -67,7 +66,6 @@ unfoldable pub use Rattle.paging_message.specs.Reading.{body_reading, is_body, m
 pub use Rattle.paging_message.specs.Spelling.{IsSpelled, body_of}
 pub use Rattle.paging_message.specs.System.{IsSystem, system_contents, system_from, system_shape, system_values, system_widths}
 unfoldable pub use Rattle.paging_message.specs.System.{system_of}
-pub use Rattle.paging_message.specs.declared.channels.ChannelFields.{ChannelFields}
 pub use Rattle.paging_message.specs.declared.neighbors.NeighborFields.{NeighborFields}
 pub use Rattle.paging_message.specs.declared.message.PagingMessage.{PagingMessage}
 pub use Rattle.chip_core.proofs.BitLists.{taken_more}

@@ -5,9 +5,8 @@ use Rattle.paging_message.proofs.Common.{cases_Bool, cases_lt, eq-eqb, eqb-true,
 use Rattle.paging_message.proofs.Common.{length-binary, behind_front, front, number_front, number_at, FillsCapsule, M30, guard_some}
 use Rattle.paging_message.proofs.Common.{not_both, number_again, number_part, number_there, mapped, mapped_some, reading, reading_again}
 use Rattle.paging_message.proofs.Common.{reading_there, spelling, IsOf, Contents, MessageShape, admits, HasMessage, message_body}
-use Rattle.paging_message.proofs.Common.{IsPagingMessage}
-use Rattle.paging_message.proofs.Common.{PagingMessage, contents_of, paging_kind_of, message_from, paging_shape_of, body_reading, is_body}
-use Rattle.paging_message.proofs.Common.{message_at}
+use Rattle.paging_message.proofs.Common.{IsPagingMessage, PagingMessage, contents_of, paging_kind_of, message_from, paging_shape_of}
+use Rattle.paging_message.proofs.Common.{body_reading, is_body, message_at}
 use Rattle.paging_message.proofs.ByLayout.{admits_short, lawful, made_again, made_of, placed, spelled_by}
 
 pub message_fills : (m : PagingMessage) → IsPagingMessage m → FillsCapsule M30 (message_body m)

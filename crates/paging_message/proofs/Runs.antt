@@ -1,14 +1,13 @@
 -- The half-frames of a run of capsules, and what their bits end.
 use Rattle.paging_message.proofs.Common.{◌≡◌, ℕ, zero, suc, ◌+◌, ◌-◌, ◌*◌, ◌/◌, ◌%◌, ◌<◌, ◌≤◌, ◌==◌, Bool, false, List, [], ◌∷◌, ◌++◌}
-use Rattle.paging_message.proofs.Common.{length, map, take, refl, sym, ap, ◌∙◌, arith, append_assoc, length-append, Option, None, inl}
-use Rattle.paging_message.proofs.Common.{inr, flat_map, option_to_list, cases_lt, ne_eqb, flat_map-append, append-nil, length-take-le}
-use Rattle.paging_message.proofs.Common.{map-append, take-append-le, mod-mul-add, places, length-map-places, Piece, bodies}
-use Rattle.paging_message.proofs.Common.{from_last_start, ends_chain, flat_map_ext_places, flat_map-add, flat_map-zero, map-next}
-use Rattle.paging_message.proofs.Common.{map-zero, true, cond, drop, replicate, length-replicate, drop_at, take_at, Some, nat_le, nat_lt}
-use Rattle.paging_message.proofs.Common.{eq-eqb, le-leb, le-ltb, lt-leb, lt-ltb, take-take, div-mul-add, mod_below, mul-le-mul_left}
-use Rattle.paging_message.proofs.Common.{take-add, fill, padded_to, div-add-mod', if◌then◌else◌, and_from, and_left, and_right, cases_order}
-use Rattle.paging_message.proofs.Common.{false_from_ne_true, drop-take, number, is_stated, stated_bits, IsWhole, stated_bounds}
-use Rattle.paging_message.proofs.Common.{stated_from, bits_left}
+use Rattle.paging_message.proofs.Common.{length, map, take, refl, sym, ap, ◌∙◌, arith, append_assoc, length-append, Option, None, inl, inr}
+use Rattle.paging_message.proofs.Common.{flat_map, option_to_list, cases_lt, ne_eqb, flat_map-append, append-nil, length-take-le}
+use Rattle.paging_message.proofs.Common.{map-append, take-append-le, mod-mul-add, places, length-map-places, Piece, bodies, from_last_start}
+use Rattle.paging_message.proofs.Common.{ends_chain, flat_map_ext_places, flat_map-add, flat_map-zero, map-next, map-zero, true, cond, drop}
+use Rattle.paging_message.proofs.Common.{replicate, length-replicate, drop_at, take_at, Some, nat_le, nat_lt, eq-eqb, le-leb, le-ltb}
+use Rattle.paging_message.proofs.Common.{lt-leb, lt-ltb, take-take, div-mul-add, mod_below, mul-le-mul_left, take-add, fill, padded_to}
+use Rattle.paging_message.proofs.Common.{div-add-mod', if◌then◌else◌, and_from, and_left, and_right, cases_order, false_from_ne_true}
+use Rattle.paging_message.proofs.Common.{drop-take, number, is_stated, stated_bits, IsWhole, stated_bounds, stated_from, bits_left}
 use Rattle.paging_message.proofs.Common.{flat_map-next, flat_map-nothing, mod-eq_of_lt}
 use Rattle.paging_message.proofs.Chains.{is_there}
 use Rattle.paging_message.proofs.Pieces.{run, run-places}

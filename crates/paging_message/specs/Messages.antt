@@ -40,7 +40,8 @@ message_body m = body_of (paging_kind_of m) (paging_shape_of (paging_kind_of m))
 -- the message has a spelling
 abbrev pub IsPagingMessage : PagingMessage → Type 0
 IsPagingMessage (messages.Other m) = IsOther m
-IsPagingMessage m = IsSpelled (paging_kind_of m) (paging_shape_of (paging_kind_of m)) (contents_of m)
+IsPagingMessage m =
+    IsSpelled (paging_kind_of m) (paging_shape_of (paging_kind_of m)) (contents_of m)
 
 unfoldable pub paging_capsule : CheckForm → PagingMessage → List Bool
 paging_capsule form m = capsule M30 form (message_body m)

@@ -12,8 +12,7 @@ use Rattle.paging_message.specs.HalfFrames.{half_frame_capsule_ending}
 use Rattle.paging_message.specs.Laying.{Laid, laid_on, nothing_laid, half_frames_of, framed, fill}
 use Rattle.paging_message.specs.Messages.{message_body, paging_capsule}
 use Rattle.paging_message.specs.Admitted.{admits}
-use Rattle.paging_message.specs.Reading.{body_reading, is_body, message_at}
-use Rattle.paging_message.specs.Reading.{paging_reading}
+use Rattle.paging_message.specs.Reading.{body_reading, is_body, message_at, paging_reading}
 use Rattle.paging_message.specs.System.{system_of}
 use Rattle.paging_message.specs.declared.channels.ChannelFields.{ChannelFields}
 use Rattle.paging_message.specs.declared.neighbors.NeighborFields.{NeighborFields}

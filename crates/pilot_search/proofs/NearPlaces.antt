@@ -2,8 +2,7 @@
 use Rattle.pilot_search.proofs.Common.{◌≡◌, ◌≢◌, ℕ, ◌+◌, ◌*◌, ◌<◌, ◌≤◌, true, false, List, [], ◌∷◌, map, refl, sym, ap, ◌∙◌, arith, ℤ, pos}
 use Rattle.pilot_search.proofs.Common.{negsuc, ◌-ℤ◌, ⊎_elim, nat_eq, nat_le, list_any, ints, cases_lt, nat_tests, first_places, Sample}
 use Rattle.pilot_search.proofs.Common.{IsBestIn, near_place, near_phase_at, near_value, near_deltas, measured_at, IsRound, IsNext, energy}
-use Rattle.pilot_search.proofs.Common.{Best}
-use Rattle.pilot_search.proofs.Common.{IsGreatestUnless, first_places-none, first_places-more}
+use Rattle.pilot_search.proofs.Common.{Best, IsGreatestUnless, first_places-none, first_places-more}
 
 -- PLACES AND PHASES
 pub place_back : (best place : ℕ) → best < 32768 → place < 65 →

@@ -2,8 +2,7 @@
 
 ghost use Rattle.std.specs.Prelude.{ℕ};
 ghost use Rattle.pilot_search.specs.SharedRule.{IsSharedState, Begun, Loaded, Raised, fresh_view};
-ghost use Rattle.pilot_search.specs.SharedRule.{spent};
-ghost use Rattle.pilot_search.specs.SharedRule.{joined_views};
+ghost use Rattle.pilot_search.specs.SharedRule.{spent, joined_views};
 
 use crate::view::View;
 use atomic_table::{Join, Play, Split, TableRule};

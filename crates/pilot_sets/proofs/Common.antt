@@ -1,8 +1,8 @@
 -- What the proofs of this crate cite of what lies below, and of its own definitions, passed on from one place.
 pub use Rattle.std.proofs.Common.{Bool, List, None, Option, Some, [], ap, append-nil, append_assoc, arith, cond, drop, false, filter}
 pub use Rattle.std.proofs.Common.{get_or, if◌then◌else◌, inl, inr, length, length-append, map, nat_eq, nat_le, nat_lt, not, refl, rules}
-pub use Rattle.std.proofs.Common.{slice_get, subst, suc, sym, take, true, unwrap_or, zero, ℕ, ◌%◌, ◌&&◌, ◌++◌, ◌+◌, ◌-◌, ◌<◌, ◌==◌, ◌||◌}
-pub use Rattle.std.proofs.Common.{◌∙◌, ◌∷◌, ◌≡◌, ◌≢◌, ◌≤◌, ◌⊎◌, ⊎_elim}
+pub use Rattle.std.proofs.Common.{slice_get, subst, suc, sym, take, true, unwrap_or, zero, ℕ, ◌&&◌, ◌++◌, ◌+◌, ◌-◌, ◌<◌, ◌==◌, ◌||◌, ◌∙◌}
+pub use Rattle.std.proofs.Common.{◌∷◌, ◌≡◌, ◌≢◌, ◌≤◌, ◌⊎◌, ⊎_elim}
 pub use Rattle.std.proofs.lemmas.Bool.{eq-eqb, eqb-true, leb-true, lt-ltb, ltb-false, ltb-true, ne_eqb}
 pub use Rattle.std.proofs.lemmas.Grind.{common_steps}
 pub use Rattle.std.proofs.lemmas.List.{get_or_past, length-map, length-take, map-append, take_more}
@@ -11,12 +11,12 @@ pub use Rattle.std.proofs.lemmas.List.Folds.{list_all_at, list_any-append}
 pub use Rattle.std.specs.Cmp.Lexicographic.{pointwise}
 pub use Rattle.std.specs.List.{All, find, list_all, list_any}
 pub use Rattle.traffic_message.specs.declared.fields.DirectionFields.{DirectionFields}
-pub use Rattle.pilot_sets.specs.Directions.{IsDirection, accepted_of, direction_fault, direction_time, direction_fault_of, first_repeated}
-pub use Rattle.pilot_sets.specs.Directions.{is_unknown_row, named_pilots, unknown_or_twice}
+pub use Rattle.pilot_sets.specs.Directions.{IsDirection, accepted_of, direction_fault, direction_fault_of, first_repeated, is_unknown_row}
+pub use Rattle.pilot_sets.specs.Directions.{named_pilots, unknown_or_twice}
 pub use Rattle.pilot_sets.specs.Filling.{filled_more, length-filled}
 pub use Rattle.pilot_sets.specs.Handoffs.{active_of, actives_after, actives_without, all_left, cleared, fresh, handed_off, left}
 pub use Rattle.pilot_sets.specs.Handoffs.{next_subchannel, pilots_named, subchannel_after, timer_of}
-pub use Rattle.pilot_sets.specs.Histories.{AreApart, Call, IsAmong, IsLawfulCall, IsNextAt, LeavesWaiting, RunsSince, Starts, active_timers}
+pub use Rattle.pilot_sets.specs.Histories.{AreApart, Call, IsAmong, IsLawfulCall, LeavesWaiting, RunsSince, Starts, active_timers}
 pub use Rattle.pilot_sets.specs.Histories.{after_call, after_all, candidate_timers}
 pub use Rattle.pilot_sets.specs.Histories.Call.{Direct, Due, Neighbors, Parameters, Step}
 pub use Rattle.pilot_sets.specs.Moments.{active_timed, candidate_timed, dropped, energy_in, expired_moved, goes, measured, moving_up}

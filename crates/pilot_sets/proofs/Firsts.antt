@@ -1,7 +1,6 @@
 -- The first of equal pilots, and the first that is repeated, as a loop finds them.
 use Rattle.pilot_sets.proofs.Common.{◌≡◌, ◌<◌, ◌+◌, ℕ, Bool, true, false, ◌||◌, List, [], ◌∷◌, ◌++◌, drop, length, Some, slice_get, nat_eq}
-use Rattle.pilot_sets.proofs.Common.{refl, ap, sym, ◌∙◌, append_assoc, list_any-append, has}
-use Rattle.pilot_sets.proofs.Common.{firsts, first_repeated, left_at}
+use Rattle.pilot_sets.proofs.Common.{refl, ap, sym, ◌∙◌, append_assoc, list_any-append, has, firsts, first_repeated, left_at}
 
 -- THE ORDER OF WHAT WAS SEEN
 -- doesn't matter

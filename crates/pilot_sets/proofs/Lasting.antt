@@ -1,14 +1,13 @@
 -- What lasts over any sequence of calls.
-use Rattle.pilot_sets.proofs.Common.{◌≡◌, ◌≢◌, ◌<◌, ◌≤◌, ◌-◌, ℕ, Bool, true, false, cond, if◌then◌else◌, List, [], ◌∷◌}
-use Rattle.pilot_sets.proofs.Common.{◌++◌, length, map, filter, take, suc, Option, Some, None, refl, ap, sym, ◌∙◌, subst, arith}
-use Rattle.pilot_sets.proofs.Common.{length-append, length-map, length-take, ne_eqb, eq-eqb, All-head, All-tail, All}
-use Rattle.pilot_sets.proofs.Common.{DirectionFields, lacks, without, firsts, timed_pilots, IsDirection, direction_fault, named_pilots}
-use Rattle.pilot_sets.proofs.Common.{accepted_of, pilots_named, actives_without, fresh, left, all_left, cleared, handed_off}
-use Rattle.pilot_sets.proofs.Common.{energy_in, active_timed, candidate_timed, timed, stays, pilots_going, rises, dropped, moving_up}
-use Rattle.pilot_sets.proofs.Common.{measured, IsActiveSetIfAny, IsOrderly, Standing, new_standing, unless_refused, directed, began_in}
-use Rattle.pilot_sets.proofs.Common.{due_for, due_at, Call, after_call, after_all, IsLawfulCall, AreApart, LeavesWaiting, Parameters}
-use Rattle.pilot_sets.proofs.Common.{Neighbors}
-use Rattle.pilot_sets.proofs.Common.{Direct, Due, Step, DirectionFault, ActivePilot, CandidatePilot, Accepted, PilotSets}
+use Rattle.pilot_sets.proofs.Common.{◌≡◌, ◌≢◌, ◌<◌, ◌≤◌, ◌-◌, ℕ, Bool, true, false, cond, if◌then◌else◌, List, [], ◌∷◌, ◌++◌, length, map}
+use Rattle.pilot_sets.proofs.Common.{filter, take, suc, Option, Some, None, ap, sym, ◌∙◌, subst, arith, length-append, length-map}
+use Rattle.pilot_sets.proofs.Common.{length-take, ne_eqb, All-head, All-tail, All, DirectionFields, lacks, without, firsts, timed_pilots}
+use Rattle.pilot_sets.proofs.Common.{IsDirection, direction_fault, named_pilots, accepted_of, pilots_named, actives_without, fresh, left}
+use Rattle.pilot_sets.proofs.Common.{all_left, cleared, handed_off, energy_in, active_timed, candidate_timed, timed, stays, pilots_going}
+use Rattle.pilot_sets.proofs.Common.{rises, dropped, moving_up, measured, IsActiveSetIfAny, IsOrderly, Standing, new_standing}
+use Rattle.pilot_sets.proofs.Common.{unless_refused, directed, began_in, due_for, due_at, Call, after_call, after_all, IsLawfulCall}
+use Rattle.pilot_sets.proofs.Common.{AreApart, LeavesWaiting, Parameters, Neighbors, Direct, Due, Step, DirectionFault, ActivePilot}
+use Rattle.pilot_sets.proofs.Common.{CandidatePilot, Accepted, PilotSets}
 use Rattle.pilot_sets.proofs.Refusals.{accepted_few}
 use Rattle.pilot_sets.proofs.Steps.{left_is, due_is, directed_is}
 use Rattle.pilot_sets.proofs.Times.{once_at_most}
@@ -215,18 +214,6 @@ not_before time direction s e other =
     ∙ ap (λ b. if b
     then record s { sets = handed_off time direction s.sets; began = Some (began_in s) }
     else s) (ne_eqb direction.time time (λ same. other (sym same)))
-
-pub at_its_time : (direction : Accepted) (s : Standing) → s.sets.waiting ≡ Some direction →
-    due_at direction.time s
-    ≡ record s { sets = handed_off direction.time direction s.sets; began = Some (began_in s) }
-at_its_time direction s e =
-    ap (λ w. due_for w direction.time s) e
-    ∙ ap (λ b. if b
-    then record s {
-      sets = handed_off direction.time direction s.sets;
-      began = Some (began_in s);
-    }
-    else s) (eq-eqb direction.time direction.time refl)
 
 waits_after : (call : Call) (direction : Accepted) (s : Standing) →
     s.sets.waiting ≡ Some direction → LeavesWaiting direction call →

@@ -7,8 +7,7 @@ use Rattle.pilot_sets.proofs.Common.{IsDirection, direction_fault, named_pilots,
 use Rattle.pilot_sets.proofs.Common.{next_subchannel, actives_after, fresh, left, all_left, cleared, handed_off, active_timed}
 use Rattle.pilot_sets.proofs.Common.{candidate_timed, timed, goes, stays, pilots_going, expired_moved, rises, rising, risen, measured}
 use Rattle.pilot_sets.proofs.Common.{times_listed, times_in, places_for, IsOnceEach, IsActiveSet, IsActiveSetIfAny, IsOrderly}
-use Rattle.pilot_sets.proofs.Common.{DirectionFields}
-use Rattle.pilot_sets.proofs.Common.{Thresholds, ActivePilot, CandidatePilot, NamedPilot, Accepted, PilotSets}
+use Rattle.pilot_sets.proofs.Common.{DirectionFields, Thresholds, ActivePilot, CandidatePilot, NamedPilot, Accepted, PilotSets}
 use Rattle.pilot_sets.proofs.Refusals.{accepted_few, accepted_known, accepted_once}
 use Rattle.pilot_sets.proofs.Steps.{left_is}
 use Rattle.pilot_sets.proofs.Rows.{one_row, named_rows, rows_after, timed_rows}

@@ -1,11 +1,9 @@
 -- The pilots of a worker, one by one, and those of two workers.
-use Rattle.std.proofs.Common.{◌≡◌, ℕ, zero, suc, ◌+◌, ◌*◌, ◌/◌, ◌<◌, ◌≤◌, List, ◌∷◌, ◌++◌, length, get_or, map, take, refl, ap, ap₂, ◌∙◌}
-use Rattle.std.proofs.Common.{sym, arith}
+use Rattle.std.proofs.Common.{◌≡◌, ℕ, zero, suc, ◌+◌, ◌<◌, List, ◌∷◌, ◌++◌, length, get_or, map, take, refl, ap, ap₂, ◌∙◌, sym, arith}
 use Rattle.std.specs.List.{range_with_len}
 use Rattle.std.proofs.lemmas.List.{same_lists, take_at}
 use Rattle.std.proofs.lemmas.List.FromFn.{length-map-range_with_len, get_or-map-range_with_len}
-use Rattle.std.proofs.Math.Nat.{div-le_self, div-mul-le_self, mul-div_cancel}
-use Rattle.std.proofs.lemmas.Nat.{le-div}
+use Rattle.std.proofs.Math.Nat.{div-le_self, mul-div_cancel}
 use Rattle.pilot_survey.specs.Survey.{survey_start}
 
 -- a list is the one that a function makes, by its entries
@@ -37,12 +35,6 @@ pub both : {X : Type 0} (f : ℕ → X) (first m n middle k : ℕ) (left right :
 both f first m n middle k left right low high cut whole =
     ap₂ ◌++◌ low high ∙ joined f first m n middle cut ∙
     ap (λ (i : ℕ). map f (range_with_len first i)) whole
-
--- the first pilots of workers
-pub start_up : (a b workers : ℕ) → 0 < workers → a ≤ b → survey_start a workers ≤ survey_start b workers
-start_up a b workers some le =
-    le-div (512 * a / workers) (512 * b) workers some
-    (let m = div-mul-le_self (512 * a) workers in omega arith)
 
 pub start_end : (workers : ℕ) → 0 < workers → survey_start workers workers ≡ 512
 start_end workers some = mul-div_cancel 512 some

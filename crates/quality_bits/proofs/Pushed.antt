@@ -38,10 +38,6 @@ twice (x ∷ xs) (a ∷ as') (b ∷ bs) h =
     let tail = twice xs as' bs (omega (arith, h)) in
     cc
 
-no_front : (xs : List Bool) → plus_at_front xs [] ≡ xs
-no_front [] = refl
-no_front (x ∷ xs) = refl
-
 length_picked : (below back : List Bool) (b : Bool) → length back ≡ length below →
     length (cond b (add back below) back) ≡ length below
 length_picked below back true h = length_add back below h ∙ h

@@ -140,11 +140,3 @@ sum_within form count fingers out long all h =
     (All-from_get_or (λ z. unsigned_abs z ≤ count * soft_bound form) out (pos 0)
     (λ j lt. h.within j)) in
     rw (size, ← all, ← long) most
-
-pub eight_fingers : (form : Form) → 8 * (symbols form * soft_bound form) ≤ 2 ^ 62
-eight_fingers Sync = omega arith
-eight_fingers Data = omega arith
-
-pub three_frames : (form : Form) → 3 * (3 * (symbols form * soft_bound form)) ≤ 2 ^ 62
-three_frames Sync = omega arith
-three_frames Data = omega arith

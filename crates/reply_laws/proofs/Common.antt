@@ -15,8 +15,7 @@ pub use Rattle.cdma_io.proofs.ByteNumbers.{AreBytes, AreBytes-drop, AreBytes-fro
 pub use Rattle.cdma_io.proofs.Opening.{opening-ok}
 pub use Rattle.cdma_io.proofs.Spelling.{sample_bytes, sample_in}
 pub use Rattle.cdma_io.specs.SampleFile.{HasBits, IsLawfulHeader, IsSampleFile, integer_width_of, header_spelling, most_samples, opening}
-pub use Rattle.cdma_io.specs.SampleFile.{sample_len}
-pub use Rattle.cdma_io.specs.SampleFile.{sample_spelling, width_of}
+pub use Rattle.cdma_io.specs.SampleFile.{sample_len, sample_spelling, width_of}
 pub use Rattle.cdma_io.specs.declared.file_fault.FileFault.{FileFault}
 pub use Rattle.cdma_io.specs.declared.file_fault.FileFault.TheVariants.{Extra, Short, TooFew}
 pub use Rattle.cdma_io.specs.declared.header.Header.{Header}
@@ -29,8 +28,8 @@ pub use Rattle.cell_plan.specs.Plan.{IsLawfulPlan, loudness, most_part}
 unfoldable pub use Rattle.cell_plan.specs.Sampled.{made_samples}
 pub use Rattle.cell_plan.specs.Signal.{amplitudes, carriers, frames_of, scaled}
 pub use Rattle.cell_plan.specs.Stated.{IsReceivable}
-pub use Rattle.cell_plan.specs.TrafficFrames.{IsSetOneFrame, cycled_frame, sent_frame_state, set_one}
-pub use Rattle.cell_plan.specs.TrafficFrames.{IsTrafficFrame, SetOneFrame, SetTwoFrame, planned}
+pub use Rattle.cell_plan.specs.TrafficFrames.{IsSetOneFrame, cycled_frame, sent_frame_state, set_one, IsTrafficFrame, SetOneFrame}
+pub use Rattle.cell_plan.specs.TrafficFrames.{SetTwoFrame, planned}
 pub use Rattle.cell_plan.specs.Transmitter.{header_of, phase_at, version_of}
 pub use Rattle.cell_plan.specs.declared.plan.CellPlan.{CellPlan}
 pub use Rattle.cell_plan.specs.declared.plan.PagingPlan.{PagingPlan}

@@ -4,8 +4,7 @@ use Rattle.reply_laws.proofs.Common.{flat_map_ext_filter, Decoded, decoded_by_on
 use Rattle.reply_laws.proofs.Common.{traffic_channel, paging_bound, frames_within, soft_frame, soft_frames, is_in_file, known_at, known_by}
 use Rattle.reply_laws.proofs.Common.{power_bits_at, decoded_at, replaced_in, Tuning, Mark, Traffic, SoftFrame, decoded_alone, power_alone}
 use Rattle.reply_laws.proofs.Common.{listed_texts, decoded_line, listed_text, text_behind, text_from, tuned_text, Listed}
-use Rattle.reply_laws.proofs.Common.{followed_frame_line}
-use Rattle.reply_laws.proofs.Common.{OneCodewordFollows, OneCodewordFollowsFrame}
+use Rattle.reply_laws.proofs.Common.{followed_frame_line, OneCodewordFollows, OneCodewordFollowsFrame}
 use Rattle.reply_laws.proofs.SentLines.{line_of_event, listed_of}
 
 -- of one frame

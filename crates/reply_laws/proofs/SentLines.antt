@@ -1,18 +1,17 @@
 -- The lines of a traffic channel's frames come back.
 use Rattle.reply_laws.proofs.Common.{◌≡◌, ◌≤◌, ℕ, ◌*◌, ◌%◌, refl, sym, ap, ◌∙◌, subst, arith, List, [], ◌∷◌, length, take, Bool, Option, ℤ}
 use Rattle.reply_laws.proofs.Common.{None, Some, Contains, flat_map, flat_map-map, CheckForm, Sample, Width, traffic_mask, decoded2}
-use Rattle.reply_laws.proofs.Common.{IsTrafficFrame, SetOne, planned, one_in_turn}
-use Rattle.reply_laws.proofs.Common.{frames_of, cycled_frame, sent_frame_state, set_one, HandsetOptions, Header, IsSetOneFrame, CellPlan}
-use Rattle.reply_laws.proofs.Common.{TrafficPlan, SetOneFrame, SetTwoFrame, event_line, frame2_line, traffic_channel, mark, soft_frames}
-use Rattle.reply_laws.proofs.Common.{frame_event, Tuning, Mark, Traffic, SoftFrame, IsReceivable, frame_ends, received_frames, replaced_of}
-use Rattle.reply_laws.proofs.Common.{sent_bits, sent_power_bits, codeword_symbols, IsAssigned, SendsSetOne, SendsSetTwo, SendsSymbols}
-use Rattle.reply_laws.proofs.Common.{cycled_frame2, AreReceived, told_with_sync, power_pairs, one_taken, one_there, Decoded, lawful_traffic}
-use Rattle.reply_laws.proofs.Common.{set_one_sends, listed_texts, rate2_texts, decoded_line, frames_text, listed_text, rate2_text}
-use Rattle.reply_laws.proofs.Common.{text_behind, tuned_text, TunedText, Listed, RateSetTwo, tuning_for, AreSentLines, IsLineOfSetOne}
-use Rattle.reply_laws.proofs.Common.{IsLineOfSetTwo, IsSentLine, IsSentLine2, IsSentText, LinesComeBack, ListedLinesComeBack}
-use Rattle.reply_laws.proofs.Common.{SetTwoLinesComeBack, named_receivable, Bears, Decoded2, HoldsBehindMark, IsReceivedBySigns}
-use Rattle.reply_laws.proofs.Common.{IsSentFrame2BySigns, noisy_frames_behind_mark, noisy_set_two_behind_mark, signs_frame_listed}
-use Rattle.reply_laws.proofs.Common.{untold_in, good_frame2}
+use Rattle.reply_laws.proofs.Common.{IsTrafficFrame, SetOne, planned, one_in_turn, frames_of, cycled_frame, sent_frame_state, set_one}
+use Rattle.reply_laws.proofs.Common.{HandsetOptions, Header, IsSetOneFrame, CellPlan, TrafficPlan, SetOneFrame, SetTwoFrame, event_line}
+use Rattle.reply_laws.proofs.Common.{frame2_line, traffic_channel, mark, soft_frames, frame_event, Tuning, Mark, Traffic, SoftFrame}
+use Rattle.reply_laws.proofs.Common.{IsReceivable, frame_ends, received_frames, replaced_of, sent_bits, sent_power_bits, codeword_symbols}
+use Rattle.reply_laws.proofs.Common.{IsAssigned, SendsSetOne, SendsSetTwo, SendsSymbols, cycled_frame2, AreReceived, told_with_sync}
+use Rattle.reply_laws.proofs.Common.{power_pairs, one_taken, one_there, Decoded, lawful_traffic, set_one_sends, listed_texts, rate2_texts}
+use Rattle.reply_laws.proofs.Common.{decoded_line, frames_text, listed_text, rate2_text, text_behind, tuned_text, TunedText, Listed}
+use Rattle.reply_laws.proofs.Common.{RateSetTwo, tuning_for, AreSentLines, IsLineOfSetOne, IsLineOfSetTwo, IsSentLine, IsSentLine2}
+use Rattle.reply_laws.proofs.Common.{IsSentText, LinesComeBack, ListedLinesComeBack, SetTwoLinesComeBack, named_receivable, Bears, Decoded2}
+use Rattle.reply_laws.proofs.Common.{HoldsBehindMark, IsReceivedBySigns, IsSentFrame2BySigns, noisy_frames_behind_mark}
+use Rattle.reply_laws.proofs.Common.{noisy_set_two_behind_mark, signs_frame_listed, untold_in, good_frame2}
 use Rattle.listed_frame.specs.ListedFrames.{listed}
 use Rattle.owed_replies.proofs.BorneFiles.{IsBorneFile, cell_borne, long, none_on_traffic, path, shows, sync_there}
 

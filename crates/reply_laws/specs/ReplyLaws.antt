@@ -17,8 +17,7 @@ use Rattle.event_tap.specs.EventLines.{event_line}
 use Rattle.event_tap.specs.Taps.{kept_by, run_text}
 use Rattle.event_tap.specs.TunedTexts.{tuned_text}
 use Rattle.event_tap.specs.declared.tuned_text.TunedText.{TunedText}
-use Rattle.event_tap.specs.declared.tuned_text.TunedText.TheVariants.{Listed, RateSetTwo}
-use Rattle.event_tap.specs.declared.tuned_text.TunedText.TheVariants.{Slots}
+use Rattle.event_tap.specs.declared.tuned_text.TunedText.TheVariants.{Listed, RateSetTwo, Slots}
 use Rattle.command_line.specs.declared.job.Job.{Job}
 use Rattle.command_line.specs.declared.job.Job.TheVariants as jobs
 use Rattle.owed_replies.specs.Hearing.{end_when, tuning_for, waiting}

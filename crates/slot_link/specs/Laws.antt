@@ -29,14 +29,13 @@ use Rattle.heard_events.specs.declared.mark.Mark.{Mark}
 use Rattle.event_tap.specs.SlotLines.{lines_of_slots, slot_pages, slot_softs, slot_lines}
 use Rattle.clean_signal.specs.BoundedNoise.{Bears, IsNear}
 use Rattle.clean_link.specs.CleanLink.{IsOnPath, IsTrueMark}
-use Rattle.clean_frames.specs.WholeSendings.{whole_sendings}
+use Rattle.clean_frames.specs.WholeSendings.{whole_sendings, told_by_first}
 use Rattle.clean_link.specs.CleanLaws.{HearsSentSync}
 use Rattle.cell_plan.specs.Stated.{IsReceivable}
 use Rattle.clean_signal.specs.Signals.{IsWholeChannel}
 use Rattle.clean_frames.specs.WholePages.{AreWholePages, end_chip, message_in, cycle_half_frames}
 use Rattle.clean_frames.specs.WholePages.{is_between, placed, Placed}
 use Rattle.slot_mode.specs.Slots.{is_monitored}
-use Rattle.clean_frames.specs.WholeSendings.{told_by_first}
 use Rattle.paging_message.specs.HalfFrames.{half_frame_body}
 use Rattle.paging_message.specs.declared.message.PagingMessage.{PagingMessage}
 

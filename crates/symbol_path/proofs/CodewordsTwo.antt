@@ -1,11 +1,5 @@
 -- How many bits a frame of rate set 2 has, and how frames are encoded.
-use Rattle.symbol_path.proofs.Common.{◌≡◌, Bool, false, List, length, replicate, ap, ◌∙◌, binary, code_symbols, zeros}
-use Rattle.symbol_path.proofs.Common.{length-format_codeword, Rate2, format_of2, information_of2, frame_bits2, codeword_bits}
-
-pub length-codeword_bits : (rate : Rate2) (information : List Bool) →
-    length information ≡ information_of2 rate →
-    length (codeword_bits rate information) ≡ frame_bits2 rate
-length-codeword_bits rate information long = length-format_codeword (format_of2 rate) information long
+use Rattle.symbol_path.proofs.Common.{◌≡◌, Bool, false, List, replicate, ap, ◌∙◌, binary, code_symbols, zeros}
 
 -- the encoder starts in state zero
 pub coded_from_zero : (bits codeword code : List Bool) → bits ≡ codeword →

@@ -1,14 +1,13 @@
 -- What the proofs of this crate cite of what lies below, and of its own definitions, passed on from one place.
-pub use Rattle.std.proofs.Common.{Bool, List, Some, [], add-one, ap, arith, below_more, cond, false, get_or, inl, inr, length}
-pub use Rattle.std.proofs.Common.{map, nat_eq, nat_lt, not, pos, refl, replicate, reverse, rules, set, subst, suc, sym, take, true}
-pub use Rattle.std.proofs.Common.{zero, zero-add, ℕ, ℤ, ⊎_elim, ◌%◌, ◌&&◌, ◌*◌, ◌++◌, ◌+ℤ◌, ◌+◌, ◌-◌, ◌/◌, ◌<◌, ◌^◌, ◌||◌, ◌∙◌, ◌∷◌, ◌≡◌}
-pub use Rattle.std.proofs.Common.{◌≢◌, ◌≤◌, ◌⊎◌}
+pub use Rattle.std.proofs.Common.{Bool, List, Some, [], add-one, ap, arith, below_more, cond, false, get_or, inl, inr, length, map, nat_eq}
+pub use Rattle.std.proofs.Common.{nat_lt, not, pos, refl, replicate, reverse, rules, set, subst, suc, sym, take, true, zero, zero-add, ℕ, ℤ}
+pub use Rattle.std.proofs.Common.{⊎_elim, ◌%◌, ◌&&◌, ◌*◌, ◌++◌, ◌+ℤ◌, ◌+◌, ◌-◌, ◌/◌, ◌<◌, ◌^◌, ◌||◌, ◌∙◌, ◌∷◌, ◌≡◌, ◌≢◌, ◌≤◌, ◌⊎◌}
 pub use Rattle.std.proofs.Math.Nat.{div-eq_of_eq-mul_left}
 pub use Rattle.std.proofs.lemmas.Bool.{agree_below, agree_below_at, and_parts, cases_eq, cases_lt, eq-eqb, eqb-true, ltb-true, ne_eqb}
 pub use Rattle.std.proofs.lemmas.Bool.{not-true}
 pub use Rattle.std.proofs.lemmas.Int.{fits_signed_from_abs, ints, to_z-of_z}
-pub use Rattle.std.proofs.lemmas.List.{get_or-set_other, get_or-set_same, get_or_past, length-set, map-append}
-pub use Rattle.std.proofs.lemmas.List.{nil_from_length, reverse-append}
+pub use Rattle.std.proofs.lemmas.List.{get_or-set_other, get_or-set_same, get_or_past, length-set, map-append, nil_from_length}
+pub use Rattle.std.proofs.lemmas.List.{reverse-append}
 pub use Rattle.std.proofs.lemmas.List.Elements.{All-from_get_or, filter-append}
 pub use Rattle.std.proofs.lemmas.List.Sums.{get_or-le-sum_by, sum_by-cons, sum_by-set, sum_by_more, sum_by_more_le}
 pub use Rattle.std.proofs.lemmas.Nat.{div_below}
@@ -33,14 +32,13 @@ pub use Rattle.long_code.proofs.Before.{after-before, before_lt}
 pub use Rattle.long_code.proofs.Period.{before_is_later}
 pub use Rattle.long_code.specs.LongCode.{IsState, period}
 unfoldable pub use Rattle.long_code.specs.LongCode.{after, before, long_chip}
-pub use Rattle.quality_bits.proofs.Formats.{length-format_codeword, zeros}
+pub use Rattle.quality_bits.proofs.Formats.{zeros}
 pub use Rattle.quality_bits.specs.Formats.{bits_in, format_codeword}
 pub use Rattle.quality_bits.specs.declared.format.FrameFormat.{FrameFormat}
 pub use mir.Syntax.{w64}
 pub use mir.Val.{SFits, of_z, to_z}
 pub use Rattle.symbol_path.specs.FormatSymbols.{place_in, repeated_as, repeated_count, sent_count, which_sent}
-pub use Rattle.symbol_path.specs.FramesTwo.{codeword_bits}
-pub use Rattle.symbol_path.specs.RatesTwo.{format_of2, frame_bits2, information_of2, repeats_of2, symbols_of}
+pub use Rattle.symbol_path.specs.RatesTwo.{repeats_of2, symbols_of}
 pub use Rattle.symbol_path.specs.Scrambling.{group_scrambling, power_place, power_start, symbol_or_power_bit}
 unfoldable pub use Rattle.symbol_path.specs.Scrambling.{power_places, scrambling_chips, with_power_bits}
 pub use Rattle.symbol_path.specs.SentOrder.{Shape, address, code_symbol, data_shape, gathered, place, reversed, sent, shape_of, size}

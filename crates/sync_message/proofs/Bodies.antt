@@ -1,6 +1,6 @@
 -- The fields of a message, and how many bits its body has.
-use Rattle.std.proofs.Common.{◌≡◌, ℕ, ◌+◌, ◌*◌, ◌/◌, ◌≤◌, Bool, List, [], ◌∷◌, ◌++◌, length, refl, ap, arith}
-use Rattle.std.proofs.Common.{length-append, Option, Some, None, IsNone, IsSome, ◌⊎◌, inl, inr}
+use Rattle.std.proofs.Common.{◌≡◌, ℕ, ◌+◌, ◌*◌, ◌/◌, ◌≤◌, Bool, List, [], ◌∷◌, ◌++◌, length, refl, arith, length-append, Option, Some, None}
+use Rattle.std.proofs.Common.{IsNone, IsSome, ◌⊎◌, inl, inr}
 use Rattle.chip_core.specs.Bits.{binary}
 use Rattle.chip_core.specs.Fields.{spelled, in_widths, FieldsFit}
 use Rattle.chip_core.proofs.FieldLists.{length-binary}

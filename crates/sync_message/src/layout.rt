@@ -3,8 +3,7 @@
 ghost use Rattle.std.specs.Prelude.{◌≡◌, ◌<◌, ◌^◌, IfSome};
 ghost use Rattle.chip_core.specs.Fields.{in_widths, FieldsFit};
 ghost use Rattle.sync_message.specs.Layouts.{sync_body_reading, freq_from, freq_group};
-ghost use Rattle.sync_message.specs.Layouts.{sync_contents};
-ghost use Rattle.sync_message.specs.Layouts.{sync_from};
+ghost use Rattle.sync_message.specs.Layouts.{sync_contents, sync_from};
 ghost use Rattle.sync_message.specs.Rows.{sync_values, sync_widths};
 
 use crate::fields::SyncFields;

@@ -1,10 +1,10 @@
 -- What stands after the head, by its layouts.
-use Rattle.traffic_message.proofs.Common.{◌≡◌, Bool, Option, ap, arith, length, refl, subst, sym, true, ◌<◌, ◌^◌, ◌∙◌, ◌∷◌, ◌≤◌, append-nil}
+use Rattle.traffic_message.proofs.Common.{◌≡◌, Bool, Option, ap, arith, length, refl, subst, sym, true, ◌<◌, ◌^◌, ◌∙◌, ◌∷◌, append-nil}
 use Rattle.traffic_message.proofs.Common.{map-places-all, places, FieldsFit, in_widths, spelled, all_columns, first_column, no_columns}
-use Rattle.traffic_message.proofs.Common.{one_value, record_fit, plain_back, plain_of, plain_spelled, rest_back, count_in, mapped, reading}
-use Rattle.traffic_message.proofs.Common.{is_lawful, IsGroup, IsOf, behind_group, spelling, Contents, Flagged, bits_of, head_fields}
-use Rattle.traffic_message.proofs.Common.{head_values, kind_of, part_reading, in_traffic_widths, search_widths, TrafficBody}
-use Rattle.traffic_message.proofs.Common.{DirectionFields, Head, Search, UpdateFields, List, None, Some, [], get_or, ℕ, MessageShape, Form}
+use Rattle.traffic_message.proofs.Common.{one_value, record_fit, plain_back, plain_of, plain_spelled, rest_back, mapped, reading, is_lawful}
+use Rattle.traffic_message.proofs.Common.{IsGroup, IsOf, behind_group, spelling, Contents, Flagged, bits_of, head_fields, head_values}
+use Rattle.traffic_message.proofs.Common.{kind_of, part_reading, in_traffic_widths, search_widths, TrafficBody, DirectionFields, Head}
+use Rattle.traffic_message.proofs.Common.{Search, UpdateFields, List, None, Some, [], get_or, ℕ, MessageShape, Form}
 use Rattle.traffic_message.specs.Handoff as handoff
 use Rattle.traffic_message.specs.InTraffic as parameters
 use Rattle.traffic_message.specs.Layouts as layouts
@@ -88,13 +88,6 @@ lawful forms.Parameters = refl
 lawful forms.Update = refl
 lawful forms.Direction = refl
 lawful forms.Plain = refl
-
-pub few_records : (f : Form) (count : ℕ) → count ≤ 1143 →
-    count_in (layouts.traffic_shape_of f).records count ≤ 128
-few_records forms.Parameters count h = omega arith
-few_records forms.Update count h = omega (arith, h)
-few_records forms.Direction count h = omega (arith, h)
-few_records forms.Plain count h = omega arith
 
 -- what a body says are contents of its layout, and those of no other
 pub laid : (b : TrafficBody) → layouts.HasFields b →

@@ -1,9 +1,9 @@
 -- What the proofs of this crate cite of what lies below, and of its own definitions, passed on from one place.
 pub use Rattle.std.proofs.Common.{Bool, List, None, Ok, Option, Some, [], ap, append_assoc, arith, cond, drop, false, get_or, inl, inr}
-pub use Rattle.std.proofs.Common.{is_some, length, length-append, nat_le, refl, rules, slice_get, subst, sym, take, true, ℕ}
-pub use Rattle.std.proofs.Common.{◌%◌, ◌&&◌, ◌*◌, ◌++◌, ◌+◌, ◌-◌, ◌/◌, ◌<◌, ◌==◌, ◌^◌, ◌∙◌, ◌∷◌, ◌≡◌, ◌≢◌, ◌≤◌, ◌⊎◌}
+pub use Rattle.std.proofs.Common.{is_some, length, length-append, nat_le, refl, rules, slice_get, subst, sym, take, true, ℕ, ◌%◌, ◌&&◌, ◌*◌}
+pub use Rattle.std.proofs.Common.{◌++◌, ◌+◌, ◌-◌, ◌/◌, ◌<◌, ◌==◌, ◌^◌, ◌∙◌, ◌∷◌, ◌≡◌, ◌≢◌, ◌≤◌, ◌⊎◌}
 pub use Rattle.std.proofs.lemmas.Bool.{and_from, and_parts, cases_Bool, eq-eqb, eqb-false, eqb-true, le-leb, leb-true}
-pub use Rattle.std.proofs.lemmas.List.{append-nil, drop_all, drop_at, length-drop, take-append-drop, take_all}
+pub use Rattle.std.proofs.lemmas.List.{append-nil, drop_at, length-drop, take-append-drop, take_all}
 pub use Rattle.std.proofs.lemmas.List.Elements.{All-from_get_or}
 pub use Rattle.std.proofs.lemmas.Option.{get_or_from_slice_get}
 pub use Rattle.std.specs.Prelude.{IfSome}
@@ -21,7 +21,7 @@ pub use Rattle.message_layout.proofs.Parts.{some_is}
 pub use Rattle.message_layout.proofs.Columns.{length-records, record_fit}
 pub use Rattle.message_layout.proofs.Plain.{plain_back, plain_of, plain_spelled, rest_back}
 pub use Rattle.message_layout.proofs.Round.{reading_again, reading_there}
-pub use Rattle.message_layout.specs.Contents.{count_in, record_fields}
+pub use Rattle.message_layout.specs.Contents.{record_fields}
 pub use Rattle.message_layout.specs.Plain.{plain_contents, plain_shape}
 pub use Rattle.message_layout.specs.Reading.{mapped}
 unfoldable pub use Rattle.message_layout.specs.Reading.{fields_at, reading}
@@ -39,8 +39,7 @@ pub use Rattle.traffic_message.specs.Admitted.{HasTrafficMessage}
 unfoldable pub use Rattle.traffic_message.specs.Admitted.{traffic_admits}
 pub use Rattle.traffic_message.specs.Handoff.{is_hard}
 pub use Rattle.traffic_message.specs.Layouts.{HasFields, body_from, traffic_contents_of, form_at, form_in, head_contents, head_in}
-pub use Rattle.traffic_message.specs.Layouts.{head_shape}
-pub use Rattle.traffic_message.specs.Layouts.{traffic_shape_of, typed_widths}
+pub use Rattle.traffic_message.specs.Layouts.{head_shape, traffic_shape_of, typed_widths}
 pub use Rattle.traffic_message.specs.Messages.{IsTrafficMessage, Message, bits_of, head_fields, head_values, kind_of, traffic_message_body}
 unfoldable pub use Rattle.traffic_message.specs.Messages.{traffic_capsule}
 pub use Rattle.traffic_message.specs.Multiplex.{joined, primary_bits}

@@ -1,8 +1,8 @@
 -- The parts of frames.
-use Rattle.traffic_message.proofs.Common.{◌≡◌, ℕ, ◌+◌, ◌-◌, ◌≤◌, ◌==◌, Bool, true, false, cond, List, [], ◌∷◌, ◌++◌, length, get_or, take}
-use Rattle.traffic_message.proofs.Common.{drop, refl, sym, ap, ◌∙◌, arith, slice_get, Some, None, append-nil, drop_all, length-drop}
-use Rattle.traffic_message.proofs.Common.{take_all, take-append-drop, get_or_from_slice_get, number, number_at, slice_get-drop, dropped}
-use Rattle.traffic_message.proofs.Common.{joined, primary_bits, split_9600, Mux}
+use Rattle.traffic_message.proofs.Common.{◌≡◌, ℕ, ◌+◌, ◌-◌, ◌==◌, Bool, true, false, cond, List, [], ◌∷◌, ◌++◌, length, get_or, take, drop}
+use Rattle.traffic_message.proofs.Common.{refl, sym, ap, ◌∙◌, arith, slice_get, Some, None, append-nil, length-drop, take_all}
+use Rattle.traffic_message.proofs.Common.{take-append-drop, get_or_from_slice_get, number, number_at, slice_get-drop, dropped, joined}
+use Rattle.traffic_message.proofs.Common.{primary_bits, split_9600, Mux}
 
 abbrev parts_of : ℕ → Bool → List Bool → Mux
 parts_of size tt bits = record {
@@ -41,12 +41,6 @@ set_there bits place b read =
     let here : slice_get bits (place + 0) ≡ Some b =
     ap (slice_get bits) (let e : place + 0 ≡ place = omega arith in e) ∙ read in
     first_set (drop place bits) b (slice_get-drop place bits 0 b here)
-
-pub not_there : (bits : List Bool) (place : ℕ) → length bits ≤ place →
-    (number_at place 1 bits == 1) ≡ false
-not_there bits place past =
-    let none : drop place bits ≡ [] = drop_all place bits past in
-    ap (λ (r : List Bool). number (take 1 r) == 1) none
 
 -- SPLIT
 pub plain_split : (bits : List Bool) (mm : Bool) (p : List Bool) → length bits ≡ 172 →

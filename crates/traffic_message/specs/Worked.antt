@@ -15,8 +15,7 @@ use Rattle.traffic_message.specs.InTraffic.{in_traffic_of}
 use Rattle.traffic_message.specs.Messages.{Message, traffic_message_body, traffic_capsule}
 use Rattle.traffic_message.specs.Multiplex.{split, split_9600}
 use Rattle.traffic_message.specs.Reading.{traffic_body_reading, head_at, head_of, is_traffic_body}
-use Rattle.traffic_message.specs.Reading.{part_reading}
-use Rattle.traffic_message.specs.Reading.{traffic_reading}
+use Rattle.traffic_message.specs.Reading.{part_reading, traffic_reading}
 use Rattle.traffic_message.specs.declared.body.TrafficBody.TheVariants.{Handoff, Neighbors, Other}
 use Rattle.traffic_message.specs.declared.body.TrafficBody.TheVariants.{System}
 use Rattle.traffic_message.specs.declared.fields.Head.{Head}

@@ -7,8 +7,7 @@ ghost use Rattle.quality_bits.specs.Capsules.{FillsCapsule};
 ghost use Rattle.quality_bits.specs.declared.kind.Kind.TheVariants.{M16};
 ghost use Rattle.traffic_message.specs.Admitted.{traffic_admits, HasTrafficMessage};
 ghost use Rattle.traffic_message.specs.Messages.{traffic_message_body, traffic_capsule};
-ghost use Rattle.traffic_message.specs.Messages.{IsTrafficMessage};
-ghost use Rattle.traffic_message.specs.Messages.{Message};
+ghost use Rattle.traffic_message.specs.Messages.{IsTrafficMessage, Message};
 ghost use Rattle.traffic_message.specs.Multiplex.{joined, split_9600};
 ghost use Rattle.traffic_message.specs.Reading.{traffic_body_reading, traffic_reading};
 

@@ -27,7 +27,7 @@ pub use Rattle.std.specs.Prelude.{IsTrue, if◌then◌else◌, int_lt, nat_le, n
 pub use Rattle.chip_core.proofs.Greatest.{first_greatest-is, tested, untested}
 pub use Rattle.chip_core.proofs.Numerals.{number_from-append}
 pub use Rattle.chip_core.proofs.RegisterBits.{binary-none, bit_of-half, low_bit}
-pub use Rattle.chip_core.specs.Bits.{bit_of, digit, parity, sign, xor}
+pub use Rattle.chip_core.specs.Bits.{bit_of, digit, sign, xor}
 unfoldable pub use Rattle.chip_core.specs.Bits.{binary, places}
 pub use Rattle.chip_core.specs.Packed.{low_first}
 pub use Rattle.chip_core.specs.Sums.{IsFirstGreatest, first_greatest}
@@ -45,8 +45,8 @@ pub use Rattle.viterbi.specs.Laws.{HasSentCodewordAlone, HasSentCodewordBest, Ha
 pub use Rattle.viterbi.specs.Columns.{Agrees, Alive, CanStep, IsGreatest, forced_at, state_before, taken_of, wants}
 unfoldable pub use Rattle.viterbi.specs.Columns.{choice_into, metric_from, metric_into, path_origin, path, took}
 unfoldable pub use Rattle.viterbi.specs.States.{low_bits}
-pub use Rattle.viterbi.specs.Survivors.{SurvivorHasRoom, Start, better_survivor, end_count, extended_by}
-unfoldable pub use Rattle.viterbi.specs.Survivors.{first_best, gain_of, survivor_from, survivor_into}
+pub use Rattle.viterbi.specs.Survivors.{Start, better_survivor, end_count, extended_by}
+unfoldable pub use Rattle.viterbi.specs.Survivors.{gain_of, survivor_from, survivor_into}
 pub use Rattle.viterbi.specs.Codewords.{IsBetter, Codeword, correlation, rank, score_of, codeword_at, codeword_count}
 unfoldable pub use Rattle.viterbi.specs.Codewords.{best_codeword}
 pub use Rattle.viterbi.specs.declared.survivor.Survivor.{Survivor}

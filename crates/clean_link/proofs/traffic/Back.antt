@@ -183,12 +183,6 @@ module _ {width : Width} {plan : CellPlan} {t : Tuning} {samples : List Sample}
         (λ n below. comes.once n (omega (arith, below, count)))
         ∙ behind_last t.traffic last refl refl follows
 
--- of a clean link
-pub untold : (width : Width) (plan : CellPlan) (t : Tuning) → IsReceivable width plan →
-    IsOnPath plan t → (channel : Option SyncPlan) → plan.sync ≡ channel →
-    mark t (made_samples plan) t.count ≡ None → told_with_sync plan channel ≡ None
-untold width plan t is tuned = untold_in (clean_sync width plan is) tuned
-
 -- no handoff is directed after the mark of all samples
 pub undirected : (plan : CellPlan) (t : Tuning) (samples : List Sample) → IsOnPath plan t →
     length samples ≡ plan.link.samples → All IsNotDirected (events t samples) →

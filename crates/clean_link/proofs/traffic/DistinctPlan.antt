@@ -1,20 +1,19 @@
 -- A cell with a distinct frame of each rate.
-use Rattle.clean_link.proofs.Common.{SetOne, SetTwo, planned, length, TrafficFrame, IsTrafficFrame}
-use Rattle.clean_link.proofs.Common.{◌≡◌, ◌≢◌, ℕ, ◌+◌, ◌*◌, ◌^◌, ◌<◌, ◌≤◌, Bool, true, List, [], ◌∷◌, map, refl, sym, ap, ◌∙◌}
-use Rattle.clean_link.proofs.Common.{channel_on, arith, subst, nat_le, inl, inr, Some, All, flat_map, and_parts}
-use Rattle.clean_link.proofs.Common.{cases_eq, leb-true, All-cons, All-nil, binary, places, norm, Sixteen, after, traffic_mask, after-after}
-use Rattle.clean_link.proofs.Common.{IsState-before, capsule, check_bits, traffic_codeword, Rate, R9600, R4800, R2400, R1200, codeword_bits}
-use Rattle.clean_link.proofs.Common.{power_places, Rate2, R14400, R7200, R3600, R1800, on_again, sync_body, sync_capsule, IsSyncMessage}
-use Rattle.clean_link.proofs.Common.{split_9600, loudness, AreLawfulBeside, IsFreeOf, IsLawfulPlan, IsPagingPlan, IsTrafficPlan}
-use Rattle.clean_link.proofs.Common.{sent_paging_rate, IsStatedPaging, IsReceivable, frames_of, cycled_frame}
-use Rattle.clean_link.proofs.Common.{PagingPlan, TrafficPlan, SetOneFrame, SetTwoFrame, lost_symbols, distinct_bits_of}
-use Rattle.clean_link.proofs.Common.{bits_of2, distinct_plan, rules, first_channel, frame2_at, frame_at, on_row, second_channel}
-use Rattle.clean_link.proofs.Common.{told_message, HasMark, HasSetOne, HasSetTwo, frame_chip, is_received, received_frames, replaced_of}
-use Rattle.clean_link.proofs.Common.{AreDistinct, IsDistinctFrame, end_chip, messages_sent, cycled_frame2, IsDistinctFrame2, signaling_sent}
-use Rattle.clean_link.proofs.Common.{told_with_sync, lost_symbols2, sharing, sharing2, codewords_giving}
-use Rattle.clean_link.proofs.Common.{zero, suc, false, get_or, common_parity, digit, get_or-map-places, flat_map_ext_places, long_chip}
-use Rattle.clean_link.proofs.Common.{after_lt, after_none, after_one, stepped, after-before, before_lt, after-injective, group_scrambling}
-use Rattle.clean_link.proofs.Common.{power_place, power_start}
+use Rattle.clean_link.proofs.Common.{SetOne, SetTwo, planned, length, TrafficFrame, IsTrafficFrame, ◌≡◌, ◌≢◌, ℕ, ◌+◌, ◌*◌, ◌^◌, ◌<◌, ◌≤◌}
+use Rattle.clean_link.proofs.Common.{Bool, true, List, [], ◌∷◌, map, refl, sym, ap, ◌∙◌, channel_on, arith, subst, nat_le, inl, inr, Some}
+use Rattle.clean_link.proofs.Common.{All, flat_map, and_parts, cases_eq, leb-true, All-cons, All-nil, binary, places, norm, Sixteen, after}
+use Rattle.clean_link.proofs.Common.{traffic_mask, after-after, IsState-before, capsule, check_bits, traffic_codeword, Rate, R9600, R4800}
+use Rattle.clean_link.proofs.Common.{R2400, R1200, codeword_bits, power_places, Rate2, R14400, R7200, R3600, R1800, on_again, sync_body}
+use Rattle.clean_link.proofs.Common.{sync_capsule, IsSyncMessage, split_9600, loudness, AreLawfulBeside, IsFreeOf, IsLawfulPlan}
+use Rattle.clean_link.proofs.Common.{IsPagingPlan, IsTrafficPlan, sent_paging_rate, IsStatedPaging, IsReceivable, frames_of, cycled_frame}
+use Rattle.clean_link.proofs.Common.{PagingPlan, TrafficPlan, SetOneFrame, SetTwoFrame, lost_symbols, distinct_bits_of, bits_of2}
+use Rattle.clean_link.proofs.Common.{distinct_plan, rules, first_channel, frame2_at, frame_at, on_row, second_channel, told_message}
+use Rattle.clean_link.proofs.Common.{HasMark, HasSetOne, HasSetTwo, frame_chip, is_received, received_frames, replaced_of, AreDistinct}
+use Rattle.clean_link.proofs.Common.{IsDistinctFrame, end_chip, messages_sent, cycled_frame2, IsDistinctFrame2, signaling_sent}
+use Rattle.clean_link.proofs.Common.{told_with_sync, lost_symbols2, sharing, sharing2, codewords_giving, zero, suc, false, get_or}
+use Rattle.clean_link.proofs.Common.{common_parity, digit, get_or-map-places, flat_map_ext_places, long_chip, after_lt, after_none}
+use Rattle.clean_link.proofs.Common.{after_one, stepped, after-before, before_lt, after-injective, group_scrambling, power_place}
+use Rattle.clean_link.proofs.Common.{power_start}
 use Rattle.long_code.specs.LongCode.{before}
 use Rattle.sync_message.proofs.Bodies.{admitted}
 use Rattle.message_layout.specs.Spelling.{spelling}

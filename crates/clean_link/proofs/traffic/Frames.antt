@@ -4,20 +4,19 @@ use Rattle.clean_link.proofs.Common.{◌≡◌, ℕ, zero, suc, ◌+◌, ◌-◌
 use Rattle.clean_link.proofs.Common.{cases_lt, inl, inr, map, filter, take, drop, refl, sym, ap, ◌∙◌, arith, subst, nat_le, cond, All}
 use Rattle.clean_link.proofs.Common.{flat_map, and_from, and_parts, cases_Bool, false_from_ne_true, le-leb, leb-true, All-head, All-tail}
 use Rattle.clean_link.proofs.Common.{places, Sample, Width, traffic_mask, power_places, Decoded, sent_frame, Data, made_samples, frames_of}
-use Rattle.clean_link.proofs.Common.{IsTrafficFrame, SetOne, planned, one_in_turn}
-use Rattle.clean_link.proofs.Common.{cycled_frame, set_one, IsSetOneFrame, CellPlan, TrafficPlan, SetOneFrame, frame_softs, is_in_file}
-use Rattle.clean_link.proofs.Common.{known_at, known_now, Stream, frames_at, power_bits_at, decoded_at, frame_event, frame_heard, frames_by}
-use Rattle.clean_link.proofs.Common.{frame_state, frames_bound, frames_now, replaced_in, stream_of, Tuning, Event, Leg, Mark, Traffic}
-use Rattle.clean_link.proofs.Common.{filter_enough, flat_map_ext_filter_places, flat_map_ext_places, soft_strength, frame_chip, frame_ends}
-use Rattle.clean_link.proofs.Common.{frame_told, frames_of_channel, is_received, received_frames, replaced_of, sent_power_bits}
-use Rattle.clean_link.proofs.Common.{sent_frame_event, AreDistinct, IsDistinctFrame, IsOnePilot, SendsSetOne, end_chip, EachFrameIsHeard}
-use Rattle.clean_link.proofs.Common.{HearsSentTraffic, IsHeardAs, IsUndirected, SentFramesComeBack, TrafficFramesComeBack, ℤ, signs_frame}
-use Rattle.clean_link.proofs.Common.{Bears, IsNear, NoisyEachFrameIsHeard, NoisySentFramesComeBack, NoisyTrafficFramesComeBack}
-use Rattle.clean_link.proofs.Common.{ShowsTraffic, Option, option_to_list, append-nil, CheckForm, messages_at, capsule_with}
-use Rattle.clean_link.proofs.Common.{signaling_message_at, message_events, message_heard, messages_by, signal_at, signal_in, signal_of}
-use Rattle.clean_link.proofs.Common.{signals_before, has_frame, filter_ext_places, message_told, messages_of_channel, signal_sent}
-use Rattle.clean_link.proofs.Common.{signals_in, signals_received, SentMessagesComeBack, NoisySentMessagesComeBack, IsNotDirected}
-use Rattle.clean_link.proofs.Common.{NoneIsDirected, NoneIsDirectedByNoise}
+use Rattle.clean_link.proofs.Common.{IsTrafficFrame, SetOne, planned, one_in_turn, cycled_frame, set_one, IsSetOneFrame, CellPlan}
+use Rattle.clean_link.proofs.Common.{TrafficPlan, SetOneFrame, frame_softs, is_in_file, known_at, known_now, Stream, frames_at}
+use Rattle.clean_link.proofs.Common.{power_bits_at, decoded_at, frame_event, frame_heard, frames_by, frame_state, frames_bound, frames_now}
+use Rattle.clean_link.proofs.Common.{replaced_in, stream_of, Tuning, Event, Leg, Mark, Traffic, filter_enough, flat_map_ext_filter_places}
+use Rattle.clean_link.proofs.Common.{flat_map_ext_places, soft_strength, frame_chip, frame_ends, frame_told, frames_of_channel, is_received}
+use Rattle.clean_link.proofs.Common.{received_frames, replaced_of, sent_power_bits, sent_frame_event, AreDistinct, IsDistinctFrame}
+use Rattle.clean_link.proofs.Common.{IsOnePilot, SendsSetOne, end_chip, EachFrameIsHeard, HearsSentTraffic, IsHeardAs, IsUndirected}
+use Rattle.clean_link.proofs.Common.{SentFramesComeBack, TrafficFramesComeBack, ℤ, signs_frame, Bears, IsNear, NoisyEachFrameIsHeard}
+use Rattle.clean_link.proofs.Common.{NoisySentFramesComeBack, NoisyTrafficFramesComeBack, ShowsTraffic, Option, option_to_list, append-nil}
+use Rattle.clean_link.proofs.Common.{CheckForm, messages_at, capsule_with, signaling_message_at, message_events, message_heard, messages_by}
+use Rattle.clean_link.proofs.Common.{signal_at, signal_in, signal_of, signals_before, has_frame, filter_ext_places, message_told}
+use Rattle.clean_link.proofs.Common.{messages_of_channel, signal_sent, signals_in, signals_received, SentMessagesComeBack}
+use Rattle.clean_link.proofs.Common.{NoisySentMessagesComeBack, IsNotDirected, NoneIsDirected, NoneIsDirectedByNoise}
 use Rattle.clean_link.proofs.pages.Back.{given_in_order, IsBound}
 use Rattle.clean_link.proofs.sendings.Order.{flat_map-filter, given_where, moved_up}
 use Rattle.clean_signal.proofs.noise.Near.{length-near, near-self}

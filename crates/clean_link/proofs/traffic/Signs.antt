@@ -4,7 +4,8 @@ use Rattle.clean_link.proofs.Common.{◌∙◌, arith, subst, ℤ, replicate, �
 use Rattle.clean_link.proofs.Common.{zip_with, Width, after, traffic_mask, code_symbols, scrambling, with_power_bits, data_shape}
 use Rattle.clean_link.proofs.Common.{repeats_of, traffic_codeword, length-sent, softs, Finger, Data, length-sent2, IsLawfulPlan}
 use Rattle.clean_link.proofs.Common.{IsTrafficPlan, made_samples, frames_of, traffic_carrier, CellPlan, TrafficPlan, TrafficFrame, SetOne}
-use Rattle.clean_link.proofs.Common.{SetTwo, SetOneFrame, planned, one_in_turn, two_in_turn, descrambled, frame_softs, frame_start, is_in_file, Stream}
+use Rattle.clean_link.proofs.Common.{SetTwo, SetOneFrame, planned, one_in_turn, two_in_turn, descrambled, frame_softs, frame_start}
+use Rattle.clean_link.proofs.Common.{is_in_file, Stream}
 use Rattle.clean_link.proofs.Common.{raw_softs, frame_state, replaced_in, stream_of, traffic_start, traffic_stream, Tuning, fingers_of, Leg}
 use Rattle.clean_link.proofs.Common.{Mark, Traffic, IsTrueMark, soft_strength, codeword_symbols, IsAssigned, SendsSymbols, ShowPowerBits}
 use Rattle.clean_link.proofs.Common.{ShowFrame, IsFrameOf, path_finger, SetOneSends, SetTwoSends, HearsSentTraffic, IsHeardAs}

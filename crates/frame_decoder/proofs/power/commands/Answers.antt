@@ -1,7 +1,6 @@
 -- Why `commands` of `power` keeps its contract.
 use Rattle.frame_decoder.proofs.Common.{◌<◌, ◌∙◌, ap, ℕ, length, not, false, arith, take, length-set, map-places-all, summed_subchannels}
-use Rattle.frame_decoder.proofs.Common.{is_up}
-use Rattle.frame_decoder.proofs.Common.{power_bit}
+use Rattle.frame_decoder.proofs.Common.{is_up, power_bit}
 use Rattle.frame_decoder.proofs.PowerSums.{set_more}
 use Rattle.frame_decoder.proofs.power.commands.Goals as goal
 

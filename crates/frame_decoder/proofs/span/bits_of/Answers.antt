@@ -1,7 +1,6 @@
 -- Why `bits_of` of `span` keeps its contract.
 use Rattle.frame_decoder.proofs.Common.{◌≡◌, ◌*◌, ℕ, length, take, drop, ap, ◌∙◌, arith, rules, IsBestCodeword, spelled_codeword, Codeword}
-use Rattle.frame_decoder.proofs.Common.{Free}
-use Rattle.frame_decoder.proofs.Common.{channel_of, gathered_span, length-take-le, length-drop}
+use Rattle.frame_decoder.proofs.Common.{Free, channel_of, gathered_span, length-take-le, length-drop}
 use Rattle.frame_decoder.proofs.Gathered.{length-gathered_span}
 use Rattle.frame_decoder.proofs.BestCodewords.{own_within, own_is}
 use Rattle.frame_decoder.proofs.span.bits_of.Goals as goal

@@ -1,6 +1,6 @@
 -- Why `measure` of `measuring` keeps its contract.
-use Rattle.heard_events.proofs.Common.{◌≡◌, ◌<◌, ◌≤◌, ◌++◌, ◌∷◌, [], ◌∙◌, sym, ap, arith, List, map, take, length-append, rules}
-use Rattle.heard_events.proofs.Common.{unsigned_abs, map-append, Strength, pilot_strength, All-push}
+use Rattle.heard_events.proofs.Common.{◌≡◌, ◌<◌, ◌≤◌, ◌++◌, ◌∷◌, [], arith, length-append, rules, unsigned_abs, Strength, pilot_strength}
+use Rattle.heard_events.proofs.Common.{All-push}
 use Rattle.heard_events.proofs.LegLists.{all_at, map_at}
 use Rattle.heard_events.proofs.measuring.measure.Goals as goal
 

@@ -1,9 +1,8 @@
 -- Why `body_count` of `capsule` keeps its contract.
-use Rattle.std.proofs.Common.{◌≡◌, ◌-◌, Ok, length, ap, subst, sym, ◌∙◌, take, drop, ℕ, arith}
-use Rattle.chip_core.specs.Bits.{number}
+use Rattle.std.proofs.Common.{◌≡◌, ◌-◌, Ok, length, ap, subst, sym, arith}
 use Rattle.quality_bits.specs.Kinds.{generator_of, IsChecked}
 use Rattle.quality_bits.specs.Capsules.{IsWhole}
-use Rattle.quality_bits.proofs.Wholes.{degree_most, inner, length-capsule, whole-capsule, checked-capsule, found_capsule}
+use Rattle.quality_bits.proofs.Wholes.{degree_most, length-capsule, whole-capsule, checked-capsule, found_capsule}
 use Rattle.quality_bits.proofs.capsule.body_count.Goals as goal
 
 pub returns-then-not-is_whole-clause-only : goal.returns-then-not-is_whole-clause-only

@@ -1,5 +1,6 @@
 -- Why `place_sent` of `placing` keeps its contract.
-use Rattle.symbol_path.proofs.Common.{◌≡◌, ◌+◌, ◌/◌, ℕ, Bool, arith, get_or, false, map, length, sym, ap, ◌∙◌, get_or_from_slice_get, places}
+use Rattle.symbol_path.proofs.Common.{◌≡◌, ◌+◌, ◌/◌, ℕ, Bool, arith, get_or, false, map, length, sym, ap, ◌∙◌, get_or_from_slice_get}
+use Rattle.symbol_path.proofs.Common.{places}
 use Rattle.symbol_path.proofs.Common.{places-none, map-places-more, length-map-places, repeated_as, sent_count, sent_by}
 use Rattle.symbol_path.proofs.Interleaving.{sent_most}
 use Rattle.symbol_path.proofs.placing.place_sent.Goals as goal

@@ -1,7 +1,6 @@
 -- Why `pass` of `sets_keeper::SetsKeeper` keeps its contract.
-use Rattle.heard_events.proofs.Common.{◌≤◌, ◌+◌, ◌∙◌, ℕ, ℤ, List, All, ap, sym, arith, subst, unsigned_abs, Standing, SetChange, changed}
-use Rattle.heard_events.proofs.Common.{◌≡◌, refl, moment_events, Sample, change_at, due_at, stepped, Strength, moment_place, passed}
-use Rattle.heard_events.proofs.Common.{power_at, strengths_at, Mark}
+use Rattle.heard_events.proofs.Common.{◌≤◌, ◌+◌, ◌∙◌, ℤ, List, All, ap, sym, arith, subst, unsigned_abs, Standing, SetChange, changed, ◌≡◌}
+use Rattle.heard_events.proofs.Common.{refl, moment_events, passed}
 use Rattle.heard_events.proofs.ActiveLegs.{deltas_close, due_deltas}
 use Rattle.heard_events.proofs.sets_keeper.SetsKeeper.pass.Goals as goal
 

@@ -1,5 +1,5 @@
 -- Why `part` of `slice::BitSlice` keeps its contract.
-use Rattle.message_layout.proofs.Common.{◌≡◌, ◌+◌, ◌≤◌, take, drop, length, sym, ap, ◌∙◌, arith, length-drop, length-take-le}
+use Rattle.message_layout.proofs.Common.{◌≡◌, ◌+◌, ◌≤◌, take, drop, length, ap, ◌∙◌, arith, length-drop, length-take-le}
 use Rattle.message_layout.proofs.Slices.{slice_part}
 use Rattle.message_layout.proofs.slice.BitSlice.part.Goals as goal
 

@@ -1,8 +1,7 @@
 -- Why `decode` of `message::TrafficMessage` keeps its contract.
 use Rattle.traffic_message.proofs.Common.{rules, refl, sym, ap, ◌∙◌, Ok, M16, IsDecoded, IsNone, fault_read, whole_checked}
-use Rattle.traffic_message.proofs.Common.{traffic_message_body}
-use Rattle.traffic_message.proofs.Common.{IsTrafficMessage, traffic_capsule, traffic_reading, traffic_body_reading, decoded, uncapsuled}
-use Rattle.traffic_message.proofs.Common.{undecoded}
+use Rattle.traffic_message.proofs.Common.{traffic_message_body, IsTrafficMessage, traffic_capsule, traffic_reading, traffic_body_reading}
+use Rattle.traffic_message.proofs.Common.{decoded, uncapsuled, undecoded}
 use Rattle.traffic_message.proofs.Readings.{are_read}
 use Rattle.traffic_message.proofs.message.TrafficMessage.decode.Goals as goal
 use Rattle.traffic_message.proofs.message.TrafficMessage.decode.Goals.{After-from_residual, In-None, In-Some}
