@@ -3,6 +3,6 @@
 
 pub use cell_script::laws::{
     line_fault_is_the_first_that_no_script_has, line_faults_come_first, named_pages_are_carried,
-    named_plan_is_lawful, numbers_have_one_spelling,
+    named_plan_is_lawful, numbers_have_one_spelling, written_script_names_its_plan,
 };
 pub use trial_link::laws::trial_scripts_are_lawful;

@@ -14,5 +14,5 @@ pub use cell_plan::{
     CellIdentity, CellPlan, ChannelForm, FrameRate, LinkPlan, Page, PagingPlan, PilotPlan, RateSet,
     Series, SyncPlan, TrafficFrame, TrafficPlan,
 };
-pub use cell_script::ScriptFault;
+pub use cell_script::{ScriptFault, script_text};
 pub use trial_link::{trial_script, trial_serial_number};

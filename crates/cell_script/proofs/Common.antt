@@ -1,26 +1,26 @@
 -- What the proofs of this crate cite of what lies below, and of its own definitions, passed on from one place.
-pub use Rattle.std.proofs.Common.{Bool, Err, IfSome, IsOk, List, None, Ok, OnOk, Option, Result, Some, [], add-one, ap, append_assoc, arith}
-pub use Rattle.std.proofs.Common.{cond, decimal, drop, false, get_or, inl, inr, is_some, length, length-append, not, refl, replicate, rules}
+pub use Rattle.std.proofs.Common.{Bool, Err, IfSome, IsOk, List, None, Ok, OnOk, Option, Result, Some, [], ap, append_assoc, arith, cond}
+pub use Rattle.std.proofs.Common.{decimal, drop, false, get_or, inl, inr, is_some, length, length-append, not, refl, replicate, rules}
 pub use Rattle.std.proofs.Common.{subst, suc, sym, take, true, unsigned_abs, zero, ℕ, ℤ, ◌%◌, ◌*◌, ◌++◌, ◌+◌, ◌-◌, ◌<◌, ◌==◌, ◌^◌, ◌∙◌, ◌∷◌}
-pub use Rattle.std.proofs.Common.{◌≡◌, ◌≢◌, ◌≤◌}
+pub use Rattle.std.proofs.Common.{◌≡◌, ◌≢◌, ◌≤◌, map, nat_eq, slice_index, unwrap_or, ◌&&◌, ◌/◌}
 pub use Rattle.std.proofs.Math.Dec.{eqb-suc-zero}
 pub use Rattle.std.proofs.Math.ListN.{set}
 pub use Rattle.std.proofs.Math.Nat.{pow-le-pow_right, pow-suc}
-pub use Rattle.std.proofs.Math.Seq.{take-suc-set}
 pub use Rattle.std.proofs.lemmas.Bool.{and_parts, cases_eq, cond-false, cond-true, eq-eqb, eqb-false, eqb-true, false≢true, le-leb, le-ltb}
-pub use Rattle.std.proofs.lemmas.Bool.{leb-true, lt-ltb, ltb-false, ltb-true, ne_eqb, not-true, or_right}
+pub use Rattle.std.proofs.lemmas.Bool.{leb-true, lt-ltb, ltb-false, ltb-true, ne_eqb, not-true, or_right, and_from, cases_lt, lt-leb}
 pub use Rattle.std.proofs.lemmas.Fmt.{decimal-digits_value, decimal_nonempty, digits_decimal, digits_value-decimal, first_decimal}
 pub use Rattle.std.proofs.lemmas.Fmt.{length-decimal-le}
 pub use Rattle.std.proofs.lemmas.Int.{ints}
 pub use Rattle.std.proofs.lemmas.List.{append-nil, at_drop_more, drop_all, get_or-replicate, get_or-set_other, get_or-set_same, length-drop}
 pub use Rattle.std.proofs.lemmas.List.{length-map, length-set, length-take-le, take-append-drop, take_all, take_at, take_more_set}
+pub use Rattle.std.proofs.lemmas.List.{length-replicate, length-take, map-append}
 pub use Rattle.std.proofs.lemmas.List.Elements.{All-cons, All-head, All-map, All-nil, All-push, All-tail, All-weaker}
-pub use Rattle.std.proofs.lemmas.Nat.{mul-le}
+pub use Rattle.std.proofs.lemmas.Nat.{mul-le, from_be_bytes-to_be_bytes_4, from_be_bytes-to_be_bytes_8}
 pub use Rattle.std.proofs.lemmas.Option.{cond_some, get_or_from_slice_get, same_Some}
 pub use Rattle.std.proofs.lemmas.Str.Parse.{IsNumeralModel, numerals_by_fold}
 pub use Rattle.std.specs.Char.{is_ascii_digit}
 pub use Rattle.std.specs.Fmt.{signed_decimal}
-pub use Rattle.std.specs.Int.{w16}
+pub use Rattle.std.specs.Int.{w16, byte_at, bytes_high_first, to_be_bytes, w32, w64}
 pub use Rattle.std.specs.Option.{option_map_or, option_or}
 pub use Rattle.std.specs.Prelude.{All, FitsSigned, codes, flat_map, map, nat_le, nat_lt, negsuc, ok_or, option_and_then, option_map, pos, ◌||◌}
 pub use Rattle.std.specs.Prelude.{◌↔◌}
@@ -54,7 +54,7 @@ unfoldable pub use Rattle.chip_core.specs.Decimals.{digits_from}
 pub use Rattle.chip_core.specs.Fields.{FieldsFit}
 pub use Rattle.chip_core.specs.declared.check_form.CheckForm.{CheckForm}
 pub use Rattle.chip_core.specs.declared.width.Width.{Width}
-unfoldable pub use Rattle.hex.specs.Hex.{decode_pairs}
+unfoldable pub use Rattle.hex.specs.Hex.{decode_pairs, encode_with}
 pub use Rattle.long_code.specs.LongCode.{IsState}
 pub use Rattle.paging_message.proofs.Messages.{message_fills}
 pub use Rattle.paging_message.proofs.Readings.{body_is_read, reads_body}
@@ -71,11 +71,10 @@ pub use Rattle.quality_bits.specs.Capsules.{FillsCapsule}
 pub use Rattle.quality_bits.specs.declared.kind.Kind.TheVariants.{M30}
 pub use Rattle.quality_bits.specs.declared.rate.Rate.{Rate}
 pub use Rattle.quality_bits.specs.declared.rate.Rate.TheVariants.{R4800, R9600}
-pub use Rattle.sync_message.proofs.Bodies.{admitted, tail_of}
+pub use Rattle.sync_message.proofs.Bodies.{admitted, tail_of, fixed_fit}
 pub use Rattle.sync_message.specs.SyncMessage.{IsSyncMessage, fixed_fields}
 pub use Rattle.sync_message.specs.Tails.{IsTail}
 pub use Rattle.sync_message.specs.declared.fields.SyncFields.{SyncFields}
-pub use borrow.Author.Count.{below_more}
 pub use Rattle.cell_script.specs.Script.{ChannelLine, channel, channel_lines, first_channels, gain_fault, is_used, long_fault, loud_fault}
 pub use Rattle.cell_script.specs.Script.{named, onto_first, paging_lines, plan_fault, repeated, repeated_behind, silent, sync_gain_fault}
 pub use Rattle.cell_script.specs.Script.{traffic_lines, unless, walsh_fault}
@@ -83,17 +82,17 @@ unfoldable pub use Rattle.cell_script.specs.Script.{draft_after, is_line, lines,
 pub use Rattle.cell_script.specs.ScriptDrafts.{Draft, draft_at, empty_draft, empty_plan, on_last, opened_paging, opened_traffic, plan_at}
 pub use Rattle.cell_script.specs.ScriptDrafts.{one_frame_more, one_page_more, with_frame, with_page, with_statement}
 unfoldable pub use Rattle.cell_script.specs.ScriptDrafts.{with_line, with_next}
-pub use Rattle.cell_script.specs.Rows.{AreUpTo, NumberRow, key_of, local_rows, mosts, network_rows, ranged, number_row, sync_row}
+pub use Rattle.cell_script.specs.Rows.{AreUpTo, NumberRow, key_of, local_rows, network_rows, ranged}
 unfoldable pub use Rattle.cell_script.specs.Rows.{numbers_in, past_numbers}
-pub use Rattle.cell_script.specs.ScriptFields.{at_end, past_at, unsigned_at, unsigned_of, value_of, ◌>>=◌}
+pub use Rattle.cell_script.specs.ScriptFields.{StatementRow, at_end, keyed, past_at, signed_at, unsigned_at, unsigned_of, value_of}
 unfoldable pub use Rattle.cell_script.specs.ScriptFields.{script_field, past}
 pub use Rattle.cell_script.specs.ScriptJudged.{HasJudged, HasSeen, IsInOrder, IsJudged, gains_of, judged_fault}
 pub use Rattle.cell_script.specs.ScriptLines.{cell_line, frame_key, frame_rate, has_lawful_rest, is_link, rate_by}
 pub use Rattle.cell_script.specs.ScriptLines.{lawful_frame, lawful_message, lawful_page, link_line, page_key, page_with, stated_paging_line}
-pub use Rattle.cell_script.specs.ScriptLines.{gain_row, sync_fields, stated_traffic_line, traffic_rows}
+pub use Rattle.cell_script.specs.ScriptLines.{cell_rows, check_form, four_in, frame_with, gain_row, link_rows, sync_fields}
+pub use Rattle.cell_script.specs.ScriptLines.{stated_traffic_line, traffic_rows}
 unfoldable pub use Rattle.cell_script.specs.ScriptLines.{cell_in, traffic_frame_in, freq_in, link_in, stated_page_in, paging_in}
-unfoldable pub use Rattle.cell_script.specs.ScriptLines.{pilot_in}
-unfoldable pub use Rattle.cell_script.specs.ScriptLines.{statement_in, sync_behind, sync_in, traffic_in}
+unfoldable pub use Rattle.cell_script.specs.ScriptLines.{past_freq, pilot_in, statement_in, sync_behind, sync_in, traffic_in}
 pub use Rattle.cell_script.specs.ScriptPlans.{IsLawfulStatement}
 unfoldable pub use Rattle.cell_script.specs.ScriptSplitting.{first_stated}
 pub use Rattle.cell_script.specs.ScriptStages.{after_cell, after_frame, after_link, after_page, after_paging, after_pilot}
@@ -101,9 +100,9 @@ pub use Rattle.cell_script.specs.ScriptStages.{after_sync, after_traffic, behind
 pub use Rattle.cell_script.specs.ScriptStages.{next_stage}
 unfoldable pub use Rattle.cell_script.specs.ScriptStages.{page_stage}
 pub use Rattle.cell_script.specs.ScriptValues.{all_clear, as_state, begins_with, text_after, binary_digit, hex_digit, is_plain, negative}
-pub use Rattle.cell_script.specs.ScriptValues.{number_in, positive, serial_number_in, signed_behind, up_to}
+pub use Rattle.cell_script.specs.ScriptValues.{number_in, octets_in, positive, signed_behind, unpadded, up_to}
 unfoldable pub use Rattle.cell_script.specs.ScriptValues.{bits_in_text, power_bits_in, digits_behind, hex_bits, hex_from, length_before}
-unfoldable pub use Rattle.cell_script.specs.ScriptValues.{number_up_to, signed_in, state_in}
+unfoldable pub use Rattle.cell_script.specs.ScriptValues.{number_up_to, serial_number_in, signed_in, state_in}
 pub use Rattle.cell_script.specs.declared.judge.ChannelRows.{ChannelRows}
 pub use Rattle.cell_script.specs.declared.judge.Judge.{Judge}
 pub use Rattle.cell_script.specs.declared.script_fault.ScriptFault.{ScriptFault}
@@ -115,3 +114,19 @@ pub use Rattle.cell_script.specs.declared.statements.PagingLine.{PagingLine}
 pub use Rattle.cell_script.specs.declared.statements.Statement.{Statement}
 pub use Rattle.cell_script.specs.declared.statements.TrafficLine.{TrafficLine}
 pub use Rattle.chip_core.proofs.Magnitudes.{abs_fits}
+pub use Rattle.std.proofs.Math.Seq.{drop-append_seam, take-append_seam}
+pub use Rattle.std.proofs.lemmas.List.Concat.{flat_map-append}
+pub use Rattle.std.specs.Cmp.Lexicographic.{pointwise}
+pub use Rattle.chip_core.proofs.Digits.{number_lt}
+pub use Rattle.chip_core.specs.Bits.{number}
+pub use Rattle.chip_core.specs.declared.check_form.CheckForm.TheVariants.{Complemented, Plain}
+pub use Rattle.hex.proofs.HexLemmas.{decode_of-encode_lower, length-encode_with}
+pub use Rattle.hex.specs.Hex.{IsBytes, encode_lower, lower_digits}
+pub use Rattle.line_text.specs.Texts.{digit_of, octet_count}
+unfoldable pub use Rattle.line_text.specs.Texts.{bit_text, digits_of, packed_octets, padded, serial_digits, state_digits}
+pub use Rattle.quality_bits.proofs.Digits.{binary-number}
+pub use Rattle.cell_script.specs.Spelling.{channel_statements, form_bit, line_of_paging, line_of_traffic}
+pub use Rattle.cell_script.specs.Spelling.{lines_of, local_values, network_values, numbers_text, paging_statements, statement_line}
+pub use Rattle.cell_script.specs.Spelling.{statement_text, statements_of, sync_statements, traffic_statements, with_line_feed, written_freq}
+unfoldable pub use Rattle.cell_script.specs.Spelling.{script_of, written_cell, written_frame, written_link, written_page}
+unfoldable pub use Rattle.cell_script.specs.Spelling.{written_paging, written_pilot, written_sync, written_traffic}

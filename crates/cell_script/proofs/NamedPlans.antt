@@ -165,7 +165,7 @@ channels_sync stage next plan sync has e = absurd (cc e)
 
 -- ---- one paging channel more
 
-abbrev with_channel : CellPlan → PagingLine → CellPlan
+abbrev pub with_channel : CellPlan → PagingLine → CellPlan
 with_channel plan line = record plan { paging = plan.paging ++ opened_paging line ∷ [] }
 
 -- a channel is opened after others
@@ -219,7 +219,7 @@ channels_paging (Pages rate count) next plan line number has e =
     (opened_behind rate plan line number has.0.rate_is has.0.bare (closed rate count plan has))
 channels_paging stage next plan line number has e = absurd (cc e)
 
-abbrev with_more : CellPlan → Page → CellPlan
+abbrev pub with_more : CellPlan → Page → CellPlan
 with_more plan page = record plan { paging = with_page plan.paging page }
 
 -- the channel under way has one page more
@@ -283,7 +283,7 @@ channels_page stage next plan page is has e = absurd (cc e)
 
 -- ---- one traffic channel and one frame more
 
-abbrev with_traffic : CellPlan → TrafficLine → CellPlan
+abbrev pub with_traffic : CellPlan → TrafficLine → CellPlan
 with_traffic plan line = record plan { traffic = plan.traffic ++ opened_traffic line ∷ [] }
 
 abbrev IsRowed : TrafficLine → Type 0
@@ -346,7 +346,7 @@ channels_traffic (Frames set) next plan line bounds has e =
     (traffic_behind plan line bounds has.0.paging (traffic_closed plan has))
 channels_traffic stage next plan line bounds has e = absurd (cc e)
 
-abbrev with_sent : CellPlan → TrafficFrame → CellPlan
+abbrev pub with_sent : CellPlan → TrafficFrame → CellPlan
 with_sent plan frame = record plan { traffic = with_frame plan.traffic frame }
 
 -- the traffic channel under way has one frame more
@@ -625,7 +625,7 @@ named_sent width (Err n) plan has e = absurd (cc e)
 named_sent width (Ok said) plan has e =
     without_fault width said plan (plan_fault width said) refl (has said refl) e
 
-small_script : (big : Bool) (read : Result CellPlan ScriptFault) (plan : CellPlan) →
+pub small_script : (big : Bool) (read : Result CellPlan ScriptFault) (plan : CellPlan) →
     cond big (Err TooBig) read ≡ Ok plan → read ≡ Ok plan
 small_script true read plan e = absurd (cc e)
 small_script false read plan e = e

@@ -12,7 +12,7 @@ too_big width script big =
     cond-true _ (Err TooBig) (named width (stated_plan script))
     (lt-ltb 1048576 (length script) big)
 
-small_named : (width : Width) (script : List ℕ) → length script ≤ 1048576 →
+pub small_named : (width : Width) (script : List ℕ) → length script ≤ 1048576 →
     plan_named width script ≡ named width (stated_plan script)
 unfolding plan_named
 small_named width script small =

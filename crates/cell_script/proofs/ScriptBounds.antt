@@ -24,18 +24,18 @@ use Rattle.cell_script.specs.declared.statements.Statement.TheVariants as statem
 -- ---- steps that may fail
 
 -- a step that may fail and the steps after it, as the statements' readings have them
-abbrev step : {A B : Type 0} → Option A → (A → Option B) → Option B
+abbrev pub step : {A B : Type 0} → Option A → (A → Option B) → Option B
 step (Some x) f = f x
 step None f = None
 
 -- what holds of each value of the steps after holds of each value of all
-both_steps : {A B : Type 0} {P : B → Type 0} (o : Option A) (f : A → Option B) →
+pub both_steps : {A B : Type 0} {P : B → Type 0} (o : Option A) (f : A → Option B) →
     ((x : A) → o ≡ Some x → (y : B) → f x ≡ Some y → P y) → (y : B) → step o f ≡ Some y → P y
 both_steps (Some x) f has y e = has x refl y e
 both_steps None f has y e = absurd (cc e)
 
 -- both steps gave a value
-tried : {A B : Type 0} (f : A → Option B) (o : Option A) (y : B) → option_and_then f o ≡ Some y →
+pub tried : {A B : Type 0} (f : A → Option B) (o : Option A) (y : B) → option_and_then f o ≡ Some y →
     (x : A) × (o ≡ Some x) × (f x ≡ Some y)
 tried f (Some x) y e = (x, refl, e)
 tried f None y e = absurd (cc e)
@@ -47,14 +47,14 @@ passed true o x e = e
 passed false o x e = absurd (cc e)
 
 -- the whole text was read
-ended : {A : Type 0} (text : List ℕ) (value x : A) → at_end text value ≡ Some x → value ≡ x
+pub ended : {A : Type 0} (text : List ℕ) (value x : A) → at_end text value ≡ Some x → value ≡ x
 ended [] value x e = same_Some value x e
 ended (byte ∷ bytes) value x e = absurd (cc e)
 
 -- ---- fields
 
 -- the value of a field is read from its text
-field_read : {A : Type 0} (key : List ℕ) (read : List ℕ → Option A) (text : List ℕ) (x : A) →
+pub field_read : {A : Type 0} (key : List ℕ) (read : List ℕ → Option A) (text : List ℕ) (x : A) →
     script_field key read text ≡ Some x → read (value_of key text) ≡ Some x
 unfolding script_field
 field_read key read text x e = passed (begins_with text key) (read (value_of key text)) x e
@@ -66,7 +66,7 @@ number_most most text n e =
     let test = cond_some (nat_le told.0 most) told.0 n told.2 in
     omega (arith, leb-true told.0 most test.0, test.1)
 
-number_field : (key : List ℕ) (most : ℕ) (text : List ℕ) (n : ℕ) →
+pub number_field : (key : List ℕ) (most : ℕ) (text : List ℕ) (n : ℕ) →
     script_field key (number_up_to most) text ≡ Some n → n ≤ most
 number_field key most text n e =
     number_most most (value_of key text) n (field_read key (number_up_to most) text n e)
@@ -271,7 +271,7 @@ sync_bounds text =
 abbrev PagingBounds : PagingLine → Type 0
 PagingBounds line = (1 ≤ line.number) × (line.number ≤ 7)
 
-abbrev given : ℕ → ℕ → PagingLine
+abbrev pub given : ℕ → ℕ → PagingLine
 given number gain = record { number = number; gain = gain }
 
 paging_some : (number gain : ℕ) (line : PagingLine) (none : Bool) → (number == 0) ≡ none →
@@ -332,7 +332,7 @@ traffic_bounds text =
     subst TrafficBounds (ended _ (stated_traffic_line row esn offset gain) line e)
     (number_field _ 63 _ row row_is, number_field _ 15 _ offset offset_is)
 
-abbrev stated_frame : FrameRate → List Bool → List Bool → TrafficFrame
+abbrev pub stated_frame : FrameRate → List Bool → List Bool → TrafficFrame
 stated_frame rate information power_bits =
     record { rate = rate; information = information; power_bits = power_bits }
 

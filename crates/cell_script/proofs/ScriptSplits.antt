@@ -7,7 +7,7 @@ use Rattle.cell_script.proofs.Common.{stated_plan}
 
 -- ---- clauses
 
-lines-none : lines [] ≡ []
+pub lines-none : lines [] ≡ []
 unfolding lines
 lines-none = refl
 

@@ -10,3 +10,4 @@ pub mod ScriptSplitting
 pub mod ScriptStages
 pub mod ScriptValues
 mod ScriptWorked
+pub mod Spelling

@@ -12,6 +12,7 @@ ghost use Rattle.cell_plan.specs.Plan.{IsLawfulPlan};
 ghost use Rattle.cell_script.specs.Script.{lines, plan_named, stated_plan};
 ghost use Rattle.cell_plan.specs.Stated.{HasMessages, IsCarried, IsReceivable};
 ghost use Rattle.cell_script.specs.ScriptValues.{number_up_to, signed_in};
+ghost use Rattle.cell_script.specs.Spelling.{script_of};
 ghost use Rattle.cell_plan.specs.declared.plan.CellPlan.{CellPlan};
 ghost use Rattle.cell_script.specs.declared.script_fault.ScriptFault.TheVariants.{Line};
 
@@ -67,4 +68,14 @@ pub fn named_pages_are_carried()
     ensures carried { (width : TheWidth) (script : List ℕ) (plan : CellPlan) (form : TheForm) →
         plan_named width script ≡ Ok plan →
         All (IsCarried (sent_paging_rate plan.sync) form) plan.paging }
+{}
+
+/// The script that is written of a plan which a script states, states it too; and where a script
+/// names the plan, the one that is written names it, if it has at most 1,048,576 bytes.
+pub fn written_script_names_its_plan()
+    ensures stated { (script : List ℕ) (plan : CellPlan) → stated_plan script ≡ Ok plan →
+        stated_plan (script_of plan) ≡ Ok plan }
+    ensures named { (width : TheWidth) (script : List ℕ) (plan : CellPlan) →
+        plan_named width script ≡ Ok plan → length (script_of plan) ≤ 1048576 →
+        plan_named width (script_of plan) ≡ Ok plan }
 {}

@@ -15,10 +15,13 @@ mod judge;
 pub mod laws;
 mod reading;
 mod script_fault;
+mod spelling;
 pub mod stage;
 pub mod statements;
 pub mod tables;
 mod values;
+mod writing;
 
 pub use reading::plan_of;
 pub use script_fault::ScriptFault;
+pub use writing::script_text;

@@ -1,13 +1,14 @@
 -- The lines of a traffic channel with its frames, and the draft that they lead to.
-use Rattle.trial_link.proofs.Common.{◌≡◌, ℕ, ◌+◌, ◌*◌, ◌<◌, ◌≤◌, List, [], ◌∷◌, ◌++◌, length, map, refl, sym, ap, ◌∙◌, arith}
-use Rattle.trial_link.proofs.Common.{subst, Some, append_assoc, append-nil, length-append, option_map, length-map-range_with_len, places}
-use Rattle.trial_link.proofs.Common.{CellPlan, TrafficPlan, Stage, FirstFrame, Frames, FrameRate, SetOne, SetTwo, RateSet, One, TrafficLine, TrafficFrame, Draft, draft_at}
-use Rattle.trial_link.proofs.Common.{with_frame, with_next, one_frame_more, frames_stage, rate_set, IsTrafficFrame, after_frame, after_traffic, frame_text, traffic_text}
-use Rattle.trial_link.proofs.Common.{behind_draw, behind_draws, behind_frames, bits_of_frame, traffic_plan_of, channel_text}
-use Rattle.trial_link.proofs.Common.{with_line_feed, frame_drawn, frame_lines, frames_drawn, on_last-last}
-use Rattle.trial_link.proofs.SpelledLines.{IsStatedLine, frame_line_within, frame_spelled, frame_text_short, traffic_line_within}
-use Rattle.trial_link.proofs.SpelledLines.{traffic_spelled, traffic_text_short}
-use Rattle.trial_link.proofs.StatedLines.{Leads, both_lead, ended_long, none_leads, one_leads}
+use Rattle.trial_link.proofs.Common.{◌≡◌, ℕ, ◌+◌, ◌*◌, ◌<◌, ◌≤◌, List, [], ◌∷◌, ◌++◌, length, map, refl, sym, ap, ◌∙◌, arith, subst, Some}
+use Rattle.trial_link.proofs.Common.{append_assoc, append-nil, length-append, option_map, length-map-range_with_len, places, CellPlan}
+use Rattle.trial_link.proofs.Common.{TrafficPlan, Stage, FirstFrame, Frames, TrafficLine, TrafficFrame, Draft, draft_at, Statement}
+use Rattle.trial_link.proofs.Common.{with_frame, with_next, one_frame_more, rate_set, One, SetOne, SetTwo, FrameRate, RateSet, frames_stage}
+use Rattle.trial_link.proofs.Common.{IsTrafficFrame, after_frame, after_traffic, lines_of, statement_line, statement_text, behind_draw}
+use Rattle.trial_link.proofs.Common.{behind_draws, behind_frames, bits_of_frame, traffic_plan_of, frame_drawn, frames_drawn, on_last-last}
+use Rattle.trial_link.proofs.TrialLengths.{written_frame_short, written_traffic_short}
+use Rattle.cell_script.proofs.SpelledLines.{IsWritableTraffic}
+use Rattle.cell_script.proofs.StatedLines.{Leads}
+use Rattle.cell_script.proofs.WrittenPlans.{first_leads}
 use Rattle.cell_script.specs.declared.statements.Statement.TheVariants as statements
 use Rattle.trial_link.proofs.TrialDraws.{length-bits_drawn}
 
@@ -49,34 +50,21 @@ frame_added plan before line got f stage is =
     ∙ ap (λ (ts : List TrafficPlan). Some (draft_at (record plan { traffic = ts }) (Frames One)))
     (on_last-last (one_frame_more f) before (traffic_plan_of line got))
 
-frame_leads : (plan : CellPlan) (before : List TrafficPlan) (line : TrafficLine)
-    (got : List TrafficFrame) (f : TrafficFrame) (stage : Stage) →
-    after_frame stage f.rate ≡ Some (Frames One) → IsTrafficFrame f → length f.power_bits ≡ 16 →
-    Leads (draft_at (with_last plan before line got) stage) (with_line_feed (frame_text f))
-    (on_frames plan before line (got ++ f ∷ []))
-frame_leads plan before line got f stage is long sixteen =
-    one_leads (draft_at (with_last plan before line got) stage)
-    (on_frames plan before line (got ++ f ∷ [])) (frame_text f) (statements.Frame f)
-    (frame_line_within f long) (frame_spelled f long sixteen)
-    (frame_added plan before line got f stage is)
-
+-- a list of frames, and what lines after theirs lead to
 frames_lead : (plan : CellPlan) (before : List TrafficPlan) (line : TrafficLine)
-    (got frames : List TrafficFrame) → AreToldFrames frames →
-    Leads (on_frames plan before line got) (frame_lines frames)
-    (on_frames plan before line (got ++ frames))
-frames_lead plan before line got [] are =
-    subst (λ (fs : List TrafficFrame). Leads (on_frames plan before line got) []
-    (on_frames plan before line fs)) (sym (append-nil got))
-    (none_leads (on_frames plan before line got))
-frames_lead plan before line got (f ∷ frames) are =
-    subst (λ (fs : List TrafficFrame).
-    Leads (on_frames plan before line got) (frame_lines (f ∷ frames))
-    (on_frames plan before line fs)) (append_assoc got (f ∷ []) frames)
-    (both_lead (on_frames plan before line got) (on_frames plan before line (got ++ f ∷ []))
-    (on_frames plan before line ((got ++ f ∷ []) ++ frames)) (with_line_feed (frame_text f))
-    (frame_lines frames)
-    (frame_leads plan before line got f (Frames One) (one_behind f.rate are.2) are.0 are.1)
-    (frames_lead plan before line (got ++ f ∷ []) frames are.3))
+    (got frames : List TrafficFrame) (more : List Statement) (last : Draft) →
+    AreToldFrames frames → Leads (on_frames plan before line (got ++ frames)) (lines_of more) last →
+    Leads (on_frames plan before line got) (lines_of (map statements.Frame frames ++ more)) last
+frames_lead plan before line got [] more last are rest =
+    subst (λ (fs : List TrafficFrame). Leads (on_frames plan before line fs) (lines_of more) last)
+    (append-nil got) rest
+frames_lead plan before line got (f ∷ frames) more last are rest =
+    first_leads (on_frames plan before line got) (on_frames plan before line (got ++ f ∷ [])) last
+    (statements.Frame f) (map statements.Frame frames ++ more) (are.0, are.1)
+    (frame_added plan before line got f (Frames One) (one_behind f.rate are.2))
+    (frames_lead plan before line (got ++ f ∷ []) frames more last are.3
+    (subst (λ (fs : List TrafficFrame). Leads (on_frames plan before line fs) (lines_of more) last)
+    (sym (append_assoc got (f ∷ []) frames)) rest))
 
 -- ---- a channel
 
@@ -90,46 +78,57 @@ traffic_next plan stage line is =
 
 -- a traffic channel with its frames: one channel more
 pub channel_leads : (plan : CellPlan) (stage : Stage) (line : TrafficLine)
-    (frames : List TrafficFrame) → after_traffic stage ≡ Some FirstFrame → IsStatedLine line →
-    AreToldFrames frames → 0 < length frames →
-    Leads (draft_at plan stage) (channel_text line frames)
-    (on_frames plan plan.traffic line frames)
-channel_leads plan stage line [] is stated are some = absurd (omega (arith, some))
-channel_leads plan stage line (f ∷ frames) is stated are some =
+    (frames : List TrafficFrame) (more : List Statement) (last : Draft) →
+    after_traffic stage ≡ Some FirstFrame → IsWritableTraffic line → AreToldFrames frames →
+    0 < length frames → Leads (on_frames plan plan.traffic line frames) (lines_of more) last →
+    Leads (draft_at plan stage)
+    (lines_of (statements.Traffic line ∷ (map statements.Frame frames ++ more))) last
+channel_leads plan stage line [] more last is told are some rest = absurd (omega (arith, some))
+channel_leads plan stage line (f ∷ frames) more last is told are some rest =
     let opened = draft_at (with_last plan plan.traffic line []) FirstFrame in
-    both_lead (draft_at plan stage) opened (on_frames plan plan.traffic line (f ∷ frames))
-    (with_line_feed (traffic_text line)) (frame_lines (f ∷ frames))
-    (one_leads (draft_at plan stage) opened (traffic_text line) (statements.Traffic line)
-    (traffic_line_within line stated) (traffic_spelled line stated)
-    (traffic_next plan stage line is))
-    (both_lead opened (on_frames plan plan.traffic line (f ∷ []))
-    (on_frames plan plan.traffic line (f ∷ frames)) (with_line_feed (frame_text f)) (frame_lines frames)
-    (frame_leads plan plan.traffic line [] f FirstFrame
-    (ap (λ (set : RateSet). Some (Frames set)) are.2) are.0 are.1)
-    (frames_lead plan plan.traffic line (f ∷ []) frames are.3))
+    first_leads (draft_at plan stage) opened last (statements.Traffic line)
+    (map statements.Frame (f ∷ frames) ++ more) told (traffic_next plan stage line is)
+    (first_leads opened (on_frames plan plan.traffic line (f ∷ [])) last (statements.Frame f)
+    (map statements.Frame frames ++ more) (are.0, are.1)
+    (frame_added plan plan.traffic line [] f FirstFrame
+    (ap (λ (set : RateSet). Some (Frames set)) are.2))
+    (frames_lead plan plan.traffic line (f ∷ []) frames more last are.3 rest))
 
-frame_lines_short : (frames : List TrafficFrame) → AreToldFrames frames →
-    length (frame_lines frames) ≤ 331 * length frames
-frame_lines_short [] are = omega arith
-frame_lines_short (f ∷ frames) are =
+-- ---- how long its lines are
+
+-- a line, and those after it
+pub lines_long : (statement : Statement) (more : List Statement) →
+    length (lines_of (statement ∷ more))
+    ≡ length (statement_text statement) + 1 + length (lines_of more)
+lines_long statement more =
     omega (
       arith,
-      length-append (with_line_feed (frame_text f)) (frame_lines frames),
-      ended_long (frame_text f),
-      frame_text_short f are.0 are.1,
-      frame_lines_short frames are.3,
+      length-append (statement_line statement) (lines_of more),
+      length-append (statement_text statement) (10 ∷ []),
     )
 
--- its lines are short
-pub channel_short : (line : TrafficLine) (frames : List TrafficFrame) → IsStatedLine line →
-    AreToldFrames frames → length (channel_text line frames) ≤ 201 + 331 * length frames
-channel_short line frames is are =
+frames_short : (frames : List TrafficFrame) (more : List Statement) → AreToldFrames frames →
+    length (lines_of (map statements.Frame frames ++ more))
+    ≤ 331 * length frames + length (lines_of more)
+frames_short [] more are = omega arith
+frames_short (f ∷ frames) more are =
     omega (
       arith,
-      length-append (with_line_feed (traffic_text line)) (frame_lines frames),
-      ended_long (traffic_text line),
-      traffic_text_short line is,
-      frame_lines_short frames are,
+      lines_long (statements.Frame f) (map statements.Frame frames ++ more),
+      written_frame_short f are.0 are.1,
+      frames_short frames more are.3,
+    )
+
+pub channel_short : (line : TrafficLine) (frames : List TrafficFrame) (more : List Statement) →
+    IsWritableTraffic line → AreToldFrames frames →
+    length (lines_of (statements.Traffic line ∷ (map statements.Frame frames ++ more)))
+    ≤ 201 + 331 * length frames + length (lines_of more)
+channel_short line frames more is are =
+    omega (
+      arith,
+      lines_long (statements.Traffic line) (map statements.Frame frames ++ more),
+      written_traffic_short line is,
+      frames_short frames more are,
     )
 
 -- ---- frames that are drawn

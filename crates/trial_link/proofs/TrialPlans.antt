@@ -1,52 +1,49 @@
 -- The plan that the script of a trial names.
-use Rattle.trial_link.proofs.Common.{◌≡◌, ℕ, ◌+◌, ◌*◌, ◌%◌, ◌^◌, ◌<◌, ◌≤◌, ◌==◌, Bool, true, false, List, [], ◌∷◌, ◌++◌, length, refl, ap}
-use Rattle.trial_link.proofs.Common.{◌∙◌, arith, Some, None, Ok, codes, pos, length-append, option_map, cond-false, cond-true, eqb-false}
-use Rattle.trial_link.proofs.Common.{le-ltb, Sixteen, binary, digits_from, decode_pairs, IsState, admits, bits_left, fill, is_body, R9600}
-use Rattle.trial_link.proofs.Common.{CellIdentity, CellPlan, LinkPlan, Stage, Link, Pilot, Sync, Paging, FirstPage, Pages, Frames, One}
-use Rattle.trial_link.proofs.Common.{PagingLine, named, plan_fault, plan_named, stated_plan, unless, draft_at, empty_draft, empty_plan}
-use Rattle.trial_link.proofs.Common.{opened_paging, with_next, script_field, numbers_in, past, past_numbers, freq_in, link_in, paging_in}
-use Rattle.trial_link.proofs.Common.{past_freq}
-use Rattle.trial_link.proofs.Common.{pilot_in, statement_in, sync_behind, sync_in, IsStatedCell, count_behind, page_stage, bits_in_text}
-use Rattle.trial_link.proofs.Common.{hex_bits, length_before, number_up_to, signed_in, cell_text, page_text, channel_text, drawn}
-use Rattle.trial_link.proofs.Common.{behind_draws, with_line_feed, followed_line, head_text, link_text, other_frame, second_line}
-use Rattle.trial_link.proofs.Common.{state_of_draws}
-use Rattle.trial_link.proofs.Common.{sync_text, third_line, trial_cell, trial_frames, trial_page, trial_plan, trial_serial_number}
-use Rattle.trial_link.proofs.Common.{trial_sync, trial_text}
-use Rattle.trial_link.proofs.SpelledLines.{IsStatedLine, cell_line_within, cell_spelled, cell_text_short, page_line_within, page_spelled}
-use Rattle.trial_link.proofs.SpelledLines.{page_text_short}
-use Rattle.trial_link.proofs.StatedLines.{Leads, both_lead, ended_long, leads_to_plan, one_leads}
-use Rattle.trial_link.proofs.TrialFrames.{AreToldFrames, channel_leads, channel_short, frames_drawn-long, frames_drawn_are, with_last}
+use Rattle.trial_link.proofs.Common.{◌≡◌, ℕ, ◌+◌, ◌*◌, ◌%◌, ◌^◌, ◌<◌, ◌≤◌, ◌==◌, Bool, true, false, List, [], ◌∷◌, ◌++◌, length, map, refl}
+use Rattle.trial_link.proofs.Common.{ap, ◌∙◌, arith, Some, None, Ok, codes, option_map, cond-false, cond-true, eqb-false, le-ltb, Sixteen}
+use Rattle.trial_link.proofs.Common.{binary, digits_from, decode_pairs, IsState, admits, bits_left, fill, is_body, R9600, CellIdentity}
+use Rattle.trial_link.proofs.Common.{CellPlan, Stage, Link, Pilot, Sync, Paging, FirstPage, Pages, Frames, One, Draft, PagingLine}
+use Rattle.trial_link.proofs.Common.{Statement, named, plan_fault, plan_named, stated_plan, unless, draft_at, empty_draft, empty_plan}
+use Rattle.trial_link.proofs.Common.{opened_paging, with_next, script_field, numbers_in, past, past_numbers, freq_in, link_in, past_freq}
+use Rattle.trial_link.proofs.Common.{statement_in, sync_behind, sync_in, IsStatedCell, count_behind, page_stage, bits_in_text, hex_bits}
+use Rattle.trial_link.proofs.Common.{length_before, number_up_to, signed_in, lines_of, script_of, statements_of, written_link}
+use Rattle.trial_link.proofs.Common.{written_paging, written_pilot, written_sync, bit_text, padded, packed_octets, encode_with, digits}
+use Rattle.trial_link.proofs.Common.{drawn, behind_draws, followed_line, other_frame, second_line, state_of_draws, third_line, trial_cell}
+use Rattle.trial_link.proofs.Common.{trial_frames, trial_link, trial_page, trial_plan, trial_serial_number, trial_sync, trial_text}
+use Rattle.trial_link.proofs.TrialFrames.{AreToldFrames, channel_leads, channel_short, frames_drawn-long, frames_drawn_are, lines_long}
+use Rattle.trial_link.proofs.TrialFrames.{with_last}
+use Rattle.trial_link.proofs.TrialLengths.{written_cell_short, written_page_short}
+use Rattle.cell_script.proofs.ScriptRanges.{line_writable}
+use Rattle.cell_script.proofs.SpelledLines.{IsWritable, IsWritableTraffic}
+use Rattle.cell_script.proofs.StatedLines.{Leads, leads_to_plan, none_leads}
+use Rattle.cell_script.proofs.WrittenPlans.{first_leads}
 use Rattle.cell_script.specs.declared.statements.Statement.TheVariants as statements
 
 -- ---- what the lines that no number changes state
 
-abbrev trial_link : LinkPlan
-trial_link = record { factor = record { i = pos 1; q = pos 0 }; start = 0; samples = 2457600 }
+abbrev trial_paging_line : PagingLine
+trial_paging_line = record { number = 1; gain = 60 }
 
-abbrev trial_paging : PagingLine
-trial_paging = record { number = 1; gain = 60 }
+abbrev link_line : List ℕ
+link_line = codes "link re=1 im=0 start=0 samples=2457600"
 
-link_stated : statement_in (codes "link re=1 im=0 start=0 samples=2457600")
-    ≡ Some (statements.Link trial_link)
+link_stated : statement_in link_line ≡ Some (statements.Link trial_link)
 unfolding statement_in link_in script_field past length_before number_up_to digits_from signed_in
 link_stated = refl
 
-pilot_stated : statement_in (codes "pilot gain=100")
-    ≡ Some (statements.Pilot (record { gain = 100 }))
-unfolding statement_in pilot_in script_field past length_before number_up_to digits_from
-pilot_stated = refl
+abbrev sync_line : List ℕ
+sync_line = codes "sync gain=30 prev=3 min=1 sid=1 nid=2 lp=13 ltm=0 daylt=0 prat=0 rest=3:00"
 
-sync_stated : statement_in (codes
-    "sync gain=30 prev=3 min=1 sid=1 nid=2 lp=13 ltm=0 daylt=0 prat=0 rest=3:00")
-    ≡ Some (statements.Sync trial_sync)
+sync_stated : statement_in sync_line ≡ Some (statements.Sync trial_sync)
 unfolding trial_sync statement_in sync_in sync_behind freq_in past_freq numbers_in past_numbers
     script_field past length_before number_up_to digits_from bits_in_text hex_bits decode_pairs binary
 sync_stated = refl
 
-paging_stated : statement_in (codes "paging channel=1 gain=60")
-    ≡ Some (statements.Paging trial_paging)
-unfolding statement_in paging_in script_field past length_before number_up_to digits_from
-paging_stated = refl
+link_told : IsWritable (statements.Link trial_link)
+link_told = line_writable link_line (statements.Link trial_link) link_stated
+
+sync_told : IsWritable (statements.Sync trial_sync)
+sync_told = line_writable sync_line (statements.Sync trial_sync) sync_stated
 
 -- ---- the page
 
@@ -89,7 +86,7 @@ trial_cell_stated number =
     }
 
 -- and so is the channel that the handset follows
-pub followed_stated : (number : ℕ) → IsStatedLine (followed_line (trial_serial_number number))
+pub followed_stated : (number : ℕ) → IsWritableTraffic (followed_line (trial_serial_number number))
 unfolding trial_serial_number
 followed_stated number = record {
   row = omega arith;
@@ -99,18 +96,6 @@ followed_stated number = record {
 }
 
 -- ---- the drafts after the lines before the traffic channels
-
-abbrev link_line : List ℕ
-link_line = codes "link re=1 im=0 start=0 samples=2457600"
-
-abbrev pilot_line : List ℕ
-pilot_line = codes "pilot gain=100"
-
-abbrev sync_line : List ℕ
-sync_line = codes "sync gain=30 prev=3 min=1 sid=1 nid=2 lp=13 ltm=0 daylt=0 prat=0 rest=3:00"
-
-abbrev paging_line : List ℕ
-paging_line = codes "paging channel=1 gain=60"
 
 abbrev with_cell : CellIdentity → CellPlan
 with_cell cell = record empty_plan { cell = cell }
@@ -125,7 +110,7 @@ abbrev with_sync : CellIdentity → CellPlan
 with_sync cell = record (with_pilot cell) { sync = Some trial_sync }
 
 abbrev with_paging : CellIdentity → CellPlan
-with_paging cell = record (with_sync cell) { paging = opened_paging trial_paging ∷ [] }
+with_paging cell = record (with_sync cell) { paging = opened_paging trial_paging_line ∷ [] }
 
 abbrev with_page : CellIdentity → CellPlan
 with_page cell = record (with_sync cell) {
@@ -158,7 +143,7 @@ unfolding with_next trial_sync
 sync_next plan = refl
 
 paging_next : (cell : CellIdentity) →
-    with_next (draft_at (with_sync cell) (Paging R9600)) (statements.Paging trial_paging)
+    with_next (draft_at (with_sync cell) (Paging R9600)) (statements.Paging trial_paging_line)
     ≡ Some (draft_at (with_paging cell) (FirstPage R9600))
 unfolding with_next
 paging_next cell = refl
@@ -172,51 +157,36 @@ page_next : (cell : CellIdentity) →
 unfolding with_next
 page_next cell = ap (option_map (draft_at (with_page cell))) (page_fits cell.pn)
 
-link_leads : (cell : CellIdentity) →
-    Leads (draft_at (with_cell cell) Link) link_text (draft_at (with_pilot cell) Sync)
-link_leads cell =
-    both_lead (draft_at (with_cell cell) Link) (draft_at (with_link cell) Pilot)
-    (draft_at (with_pilot cell) Sync) (with_line_feed link_line) (with_line_feed pilot_line)
-    (one_leads (draft_at (with_cell cell) Link) (draft_at (with_link cell) Pilot) link_line
-    (statements.Link trial_link) refl link_stated (link_next (with_cell cell)))
-    (one_leads (draft_at (with_link cell) Pilot) (draft_at (with_pilot cell) Sync) pilot_line
-    (statements.Pilot (record { gain = 100 })) refl pilot_stated (pilot_next (with_link cell)))
+-- the lines of the cell, the link, and the channels but those of traffic, before others
+abbrev head_statements : CellIdentity → List Statement → List Statement
+head_statements cell more =
+    statements.Cell cell
+    ∷ (statements.Link trial_link ∷ (statements.Pilot (record { gain = 100 })
+    ∷ (statements.Sync trial_sync ∷ (statements.Paging trial_paging_line
+    ∷ (statements.Page (trial_page cell.pn) ∷ more)))))
 
-sync_leads : (cell : CellIdentity) →
-    Leads (draft_at (with_pilot cell) Sync) sync_text
-    (draft_at (with_paging cell) (FirstPage R9600))
-sync_leads cell =
-    both_lead (draft_at (with_pilot cell) Sync) (draft_at (with_sync cell) (Paging R9600))
-    (draft_at (with_paging cell) (FirstPage R9600)) (with_line_feed sync_line) (with_line_feed paging_line)
-    (one_leads (draft_at (with_pilot cell) Sync) (draft_at (with_sync cell) (Paging R9600))
-    sync_line (statements.Sync trial_sync) refl sync_stated (sync_next (with_pilot cell)))
-    (one_leads (draft_at (with_sync cell) (Paging R9600))
-    (draft_at (with_paging cell) (FirstPage R9600)) paging_line
-    (statements.Paging trial_paging) refl paging_stated (paging_next cell))
-
-page_leads : (cell : CellIdentity) →
-    Leads (draft_at (with_paging cell) (FirstPage R9600)) (with_line_feed (page_text (trial_page cell.pn)))
-    (draft_at (with_page cell) (behind_page cell.pn))
-page_leads cell =
-    one_leads (draft_at (with_paging cell) (FirstPage R9600))
-    (draft_at (with_page cell) (behind_page cell.pn)) (page_text (trial_page cell.pn))
-    (statements.Page (trial_page cell.pn))
-    (page_line_within (trial_page cell.pn) (page_is_body cell.pn))
-    (page_spelled (trial_page cell.pn) (page_is_body cell.pn)) (page_next cell)
-
-head_leads : (cell : CellIdentity) → IsStatedCell cell →
-    Leads empty_draft (head_text cell) (draft_at (with_page cell) (behind_page cell.pn))
-head_leads cell is =
-    let page = with_line_feed (page_text (trial_page cell.pn)) in
-    let last = draft_at (with_page cell) (behind_page cell.pn) in
-    both_lead empty_draft (draft_at (with_cell cell) Link) last (with_line_feed (cell_text cell))
-    (link_text ++ (sync_text ++ page))
-    (one_leads empty_draft (draft_at (with_cell cell) Link) (cell_text cell)
-    (statements.Cell cell) (cell_line_within cell is) (cell_spelled cell is) (cell_next cell))
-    (both_lead (draft_at (with_cell cell) Link) (draft_at (with_pilot cell) Sync) last link_text
-    (sync_text ++ page) (link_leads cell)
-    (both_lead (draft_at (with_pilot cell) Sync) (draft_at (with_paging cell) (FirstPage R9600))
-    last sync_text page (sync_leads cell) (page_leads cell)))
+head_leads : (cell : CellIdentity) (more : List Statement) (last : Draft) → IsStatedCell cell →
+    Leads (draft_at (with_page cell) (behind_page cell.pn)) (lines_of more) last →
+    Leads empty_draft (lines_of (head_statements cell more)) last
+head_leads cell more last is rest =
+    let page = statements.Page (trial_page cell.pn) ∷ more in
+    let paging = statements.Paging trial_paging_line ∷ page in
+    let sync = statements.Sync trial_sync ∷ paging in
+    let pilot = statements.Pilot (record { gain = 100 }) ∷ sync in
+    first_leads empty_draft (draft_at (with_cell cell) Link) last (statements.Cell cell)
+    (statements.Link trial_link ∷ pilot) is (cell_next cell)
+    (first_leads (draft_at (with_cell cell) Link) (draft_at (with_link cell) Pilot) last
+    (statements.Link trial_link) pilot link_told (link_next (with_cell cell))
+    (first_leads (draft_at (with_link cell) Pilot) (draft_at (with_pilot cell) Sync) last
+    (statements.Pilot (record { gain = 100 })) sync (omega arith) (pilot_next (with_link cell))
+    (first_leads (draft_at (with_pilot cell) Sync) (draft_at (with_sync cell) (Paging R9600)) last
+    (statements.Sync trial_sync) paging sync_told (sync_next (with_pilot cell))
+    (first_leads (draft_at (with_sync cell) (Paging R9600))
+    (draft_at (with_paging cell) (FirstPage R9600)) last (statements.Paging trial_paging_line) page
+    ((omega arith, omega arith), omega arith) (paging_next cell)
+    (first_leads (draft_at (with_paging cell) (FirstPage R9600))
+    (draft_at (with_page cell) (behind_page cell.pn)) last (statements.Page (trial_page cell.pn))
+    more (page_is_body cell.pn) (page_next cell) rest)))))
 
 -- ---- and after each of these
 
@@ -232,7 +202,7 @@ trial_frames-long : (number : ℕ) → length (trial_frames number) ≡ 100
 unfolding trial_frames
 trial_frames-long number = frames_drawn-long (behind_draws number 5) 100
 
-second_stated : IsStatedLine second_line
+second_stated : IsWritableTraffic second_line
 second_stated = record {
   row = omega arith;
   esn = omega arith;
@@ -240,7 +210,7 @@ second_stated = record {
   gain = omega arith;
 }
 
-third_stated : IsStatedLine third_line
+third_stated : IsWritableTraffic third_line
 third_stated = record {
   row = omega arith;
   esn = omega arith;
@@ -265,49 +235,56 @@ same_plan : (number : ℕ) → with_third number ≡ trial_plan number
 unfolding trial_plan
 same_plan number = refl
 
-first_leads : (number : ℕ) →
+-- the statements of the traffic channels
+abbrev third_statements : List Statement
+third_statements =
+    statements.Traffic third_line ∷ (map statements.Frame (other_frame ∷ []) ++ [])
+
+abbrev second_statements : List Statement
+second_statements =
+    statements.Traffic second_line ∷ (map statements.Frame (other_frame ∷ []) ++ third_statements)
+
+abbrev first_statements : ℕ → List Statement
+first_statements number =
+    statements.Traffic (followed_line (trial_serial_number number))
+    ∷ (map statements.Frame (trial_frames number) ++ second_statements)
+
+traffic_leads : (number : ℕ) →
     Leads (draft_at (with_page (trial_cell number)) (behind_page (trial_cell number).pn))
-    (channel_text (followed_line (trial_serial_number number)) (trial_frames number))
-    (draft_at (with_first number) (Frames One))
-first_leads number =
-    channel_leads (with_page (trial_cell number)) (behind_page (trial_cell number).pn)
-    (followed_line (trial_serial_number number)) (trial_frames number) refl
-    (followed_stated number) (trial_frames_are number)
-    (omega (arith, trial_frames-long number))
-
-others_lead : (number : ℕ) →
-    Leads (draft_at (with_first number) (Frames One))
-    (channel_text second_line (other_frame ∷ []) ++ channel_text third_line (other_frame ∷ []))
-    (draft_at (with_third number) (Frames One))
-others_lead number =
-    both_lead (draft_at (with_first number) (Frames One)) (draft_at (with_second number) (Frames One))
-    (draft_at (with_third number) (Frames One)) (channel_text second_line (other_frame ∷ []))
-    (channel_text third_line (other_frame ∷ []))
-    (channel_leads (with_first number) (Frames One) second_line (other_frame ∷ []) refl second_stated
-    other_are (omega arith))
-    (channel_leads (with_second number) (Frames One) third_line (other_frame ∷ []) refl third_stated
-    other_are (omega arith))
-
-trial_leads : (number : ℕ) →
-    Leads empty_draft (trial_text number) (draft_at (with_third number) (Frames One))
-unfolding trial_text
-trial_leads number =
+    (lines_of (first_statements number)) (draft_at (with_third number) (Frames One))
+traffic_leads number =
     let cell = trial_cell number in
-    let head = draft_at (with_page cell) (behind_page cell.pn) in
-    let first = channel_text (followed_line (trial_serial_number number)) (trial_frames number) in
-    let others = channel_text second_line (other_frame ∷ [])
-    ++ channel_text third_line (other_frame ∷ []) in
-    both_lead empty_draft head (draft_at (with_third number) (Frames One)) (head_text cell)
-    (first ++ others)
-    (head_leads cell (trial_cell_stated number))
-    (both_lead head (draft_at (with_first number) (Frames One)) (draft_at (with_third number) (Frames One))
-    first others (first_leads number) (others_lead number))
+    let last = draft_at (with_third number) (Frames One) in
+    channel_leads (with_page cell) (behind_page cell.pn)
+    (followed_line (trial_serial_number number)) (trial_frames number) second_statements last refl
+    (followed_stated number) (trial_frames_are number) (omega (arith, trial_frames-long number))
+    (channel_leads (with_first number) (Frames One) second_line (other_frame ∷ []) third_statements last
+    refl second_stated other_are (omega arith)
+    (channel_leads (with_second number) (Frames One) third_line (other_frame ∷ []) [] last refl
+    third_stated other_are (omega arith) (none_leads last)))
+
+-- all statements of the plan
+trial_statements : (number : ℕ) →
+    statements_of (trial_plan number) ≡ head_statements (trial_cell number) (first_statements number)
+unfolding trial_plan
+trial_statements number = refl
+
+trial_text-is : (number : ℕ) →
+    trial_text number ≡ lines_of (head_statements (trial_cell number) (first_statements number))
+unfolding trial_text script_of
+trial_text-is number = ap (λ (ss : List Statement). lines_of ss) (trial_statements number)
 
 -- the lines state the plan
 pub trial_stated : (number : ℕ) → stated_plan (trial_text number) ≡ Ok (trial_plan number)
 trial_stated number =
-    leads_to_plan (trial_text number) (draft_at (with_third number) (Frames One)) (with_third number)
-    (trial_leads number) refl
+    let cell = trial_cell number in
+    let last = draft_at (with_third number) (Frames One) in
+    ap stated_plan (trial_text-is number)
+    ∙ leads_to_plan (lines_of (head_statements cell (first_statements number))) last
+    (with_third number)
+    (head_leads cell (first_statements number) last (trial_cell_stated number)
+    (traffic_leads number))
+    refl
     ∙ ap (λ (p : CellPlan). Ok p) (same_plan number)
 
 -- ---- its faults and its length
@@ -316,41 +293,61 @@ no_fault : (number : ℕ) → plan_fault Sixteen (trial_plan number) ≡ None
 unfolding trial_plan trial_sync
 no_fault number = refl
 
-head_short : (cell : CellIdentity) → IsStatedCell cell → length (head_text cell) ≤ 2000
-head_short cell is =
-    let page = with_line_feed (page_text (trial_page cell.pn)) in
-    let link_long : length link_text ≡ 54 = refl in
-    let sync_long : length sync_text ≡ 100 = refl in
+link_text_is : written_link trial_link ≡ link_line
+unfolding written_link digits
+link_text_is = refl
+
+pilot_text_is : written_pilot (record { gain = 100 }) ≡ codes "pilot gain=100"
+unfolding written_pilot digits
+pilot_text_is = refl
+
+sync_text_is : written_sync trial_sync ≡ sync_line
+unfolding written_sync trial_sync bit_text padded packed_octets encode_with digits
+sync_text_is = refl
+
+paging_text_is : written_paging trial_paging_line ≡ codes "paging channel=1 gain=60"
+unfolding written_paging digits
+paging_text_is = refl
+
+-- the lines before those of the traffic channels
+head_short : (cell : CellIdentity) (more : List Statement) → IsStatedCell cell →
+    length (lines_of (head_statements cell more)) ≤ 2000 + length (lines_of more)
+head_short cell more is =
+    let page = statements.Page (trial_page cell.pn) ∷ more in
+    let paging = statements.Paging trial_paging_line ∷ page in
+    let sync = statements.Sync trial_sync ∷ paging in
+    let pilot = statements.Pilot (record { gain = 100 }) ∷ sync in
+    let link_long : length (written_link trial_link) ≡ 38 = ap length link_text_is in
+    let pilot_long : length (written_pilot (record { gain = 100 })) ≡ 14 = ap length pilot_text_is in
+    let sync_long : length (written_sync trial_sync) ≡ 74 = ap length sync_text_is in
+    let paging_long : length (written_paging trial_paging_line) ≡ 24 = ap length paging_text_is in
     omega (
       arith,
-      length-append (with_line_feed (cell_text cell)) (link_text ++ (sync_text ++ page)),
-      length-append link_text (sync_text ++ page),
-      length-append sync_text page,
-      ended_long (cell_text cell),
-      ended_long (page_text (trial_page cell.pn)),
-      cell_text_short cell is,
-      page_text_short (trial_page cell.pn) (page_is_body cell.pn),
+      lines_long (statements.Cell cell) (statements.Link trial_link ∷ pilot),
+      lines_long (statements.Link trial_link) pilot,
+      lines_long (statements.Pilot (record { gain = 100 })) sync,
+      lines_long (statements.Sync trial_sync) paging,
+      lines_long (statements.Paging trial_paging_line) page,
+      lines_long (statements.Page (trial_page cell.pn)) more,
+      written_cell_short cell is,
+      written_page_short (trial_page cell.pn) (page_is_body cell.pn),
       link_long,
+      pilot_long,
       sync_long,
+      paging_long,
     )
 
 trial_short : (number : ℕ) → length (trial_text number) ≤ 1048576
-unfolding trial_text
 trial_short number =
     let cell = trial_cell number in
-    let first = channel_text (followed_line (trial_serial_number number)) (trial_frames number) in
-    let second = channel_text second_line (other_frame ∷ []) in
-    let third = channel_text third_line (other_frame ∷ []) in
     omega (
       arith,
-      length-append (head_text cell) (first ++ (second ++ third)),
-      length-append first (second ++ third),
-      length-append second third,
-      head_short cell (trial_cell_stated number),
+      ap length (trial_text-is number),
+      head_short cell (first_statements number) (trial_cell_stated number),
       channel_short (followed_line (trial_serial_number number)) (trial_frames number)
-          (followed_stated number) (trial_frames_are number),
-      channel_short second_line (other_frame ∷ []) second_stated other_are,
-      channel_short third_line (other_frame ∷ []) third_stated other_are,
+          second_statements (followed_stated number) (trial_frames_are number),
+      channel_short second_line (other_frame ∷ []) third_statements second_stated other_are,
+      channel_short third_line (other_frame ∷ []) [] third_stated other_are,
       trial_frames-long number,
     )
 

@@ -1,4 +1,3 @@
 -- The modules of definitions of `trial_link`.
-pub mod Spelling
 pub mod Trial
 mod WorkedTrial

@@ -1,7 +1,6 @@
 -- The script of a trial: a whole link that a number tells, by a generator of numbers.
 use Rattle.std.specs.Prelude.{ℕ, zero, suc, ◌+◌, ◌*◌, ◌/◌, ◌%◌, ◌^◌, ◌==◌, Bool, false}
-use Rattle.std.specs.Prelude.{if◌then◌else◌, List, [], ◌∷◌, ◌++◌, map, codes, pos, Some}
-use Rattle.std.specs.List.{flat_map}
+use Rattle.std.specs.Prelude.{if◌then◌else◌, List, [], ◌∷◌, ◌++◌, map, pos, Some}
 use Rattle.chip_core.specs.Bits.{binary, places}
 use Rattle.chip_core.specs.declared.check_form.CheckForm.TheVariants.{Complemented}
 use Rattle.quality_bits.specs.TrafficCodewords.{information_of}
@@ -10,13 +9,15 @@ use Rattle.quality_bits.specs.declared.rate.Rate.TheVariants.{R9600, R4800, R240
 use Rattle.cell_plan.specs.SomeMessage.{some_sync}
 use Rattle.cell_plan.specs.declared.plan.CellIdentity.{CellIdentity}
 use Rattle.cell_plan.specs.declared.plan.CellPlan.{CellPlan}
+use Rattle.cell_plan.specs.declared.plan.LinkPlan.{LinkPlan}
 use Rattle.cell_plan.specs.declared.plan.Page.{Page}
+use Rattle.cell_plan.specs.declared.plan.PagingPlan.{PagingPlan}
 use Rattle.cell_plan.specs.declared.plan.SyncPlan.{SyncPlan}
 use Rattle.cell_plan.specs.declared.plan.TrafficPlan.{TrafficPlan}
 use Rattle.cell_plan.specs.declared.traffic_frame.FrameRate.TheVariants.{SetOne}
 use Rattle.cell_script.specs.declared.statements.TrafficLine.{TrafficLine}
 use Rattle.cell_plan.specs.declared.traffic_frame.TrafficFrame.{TrafficFrame}
-use Rattle.trial_link.specs.Spelling.{cell_text, frame_text, page_text, traffic_text}
+use Rattle.cell_script.specs.Spelling.{script_of}
 
 -- ---- draws
 
@@ -123,44 +124,7 @@ second_line = record { row = 9; esn = 9; offset = 0; gain = 40 }
 abbrev pub third_line : TrafficLine
 third_line = record { row = 10; esn = 10; offset = 5; gain = 40 }
 
--- ---- the script
-
--- a line with its LF
-abbrev pub with_line_feed : List ℕ → List ℕ
-with_line_feed line = line ++ 10 ∷ []
-
-abbrev pub frame_lines : List TrafficFrame → List ℕ
-frame_lines frames = flat_map (λ (f : TrafficFrame). with_line_feed (frame_text f)) frames
-
--- a traffic channel with its frames
-abbrev pub channel_text : TrafficLine → List TrafficFrame → List ℕ
-channel_text line frames = with_line_feed (traffic_text line) ++ frame_lines frames
-
--- two seconds of a link that leaves the samples as they are, and the pilot
-abbrev pub link_text : List ℕ
-link_text = codes "link re=1 im=0 start=0 samples=2457600\npilot gain=100\n"
-
--- the sync channel and the paging channel
-abbrev pub sync_text : List ℕ
-sync_text =
-    codes "sync gain=30 prev=3 min=1 sid=1 nid=2 lp=13 ltm=0 daylt=0 prat=0 rest=3:00\n"
-    ++ codes "paging channel=1 gain=60\n"
-
--- the cell, the link, and the channels but those of traffic
-abbrev pub head_text : CellIdentity → List ℕ
-head_text cell =
-    with_line_feed (cell_text cell)
-    ++ (link_text ++ (sync_text ++ with_line_feed (page_text (trial_page cell.pn))))
-
--- the script of a number
-unfoldable pub trial_text : ℕ → List ℕ
-trial_text number =
-    head_text (trial_cell number)
-    ++ (channel_text (followed_line (trial_serial_number number)) (trial_frames number)
-    ++ (channel_text second_line (other_frame ∷ [])
-    ++ channel_text third_line (other_frame ∷ [])))
-
--- ---- the plan that it names
+-- ---- the plan, and its script
 
 unfoldable pub trial_sync : SyncPlan
 trial_sync = some_sync 0
@@ -174,20 +138,31 @@ traffic_plan_of line frames = record {
   frames = frames;
 }
 
+-- two seconds of a link that leaves the samples as they are
+abbrev pub trial_link : LinkPlan
+trial_link = record { factor = record { i = pos 1; q = pos 0 }; start = 0; samples = 2457600 }
+
+-- the channels beside those of traffic
+abbrev pub trial_paging : ℕ → PagingPlan
+trial_paging pn = record { number = 1; gain = 60; pages = trial_page pn ∷ [] }
+
+-- the three traffic channels, of which the handset follows the first
+abbrev pub trial_traffic : ℕ → List TrafficFrame → List TrafficPlan
+trial_traffic esn frames =
+    traffic_plan_of (followed_line esn) frames
+    ∷ (traffic_plan_of second_line (other_frame ∷ [])
+    ∷ (traffic_plan_of third_line (other_frame ∷ []) ∷ []))
+
 unfoldable pub trial_plan : ℕ → CellPlan
 trial_plan number = record {
   cell = trial_cell number;
-  link = record { factor = record { i = pos 1; q = pos 0 }; start = 0; samples = 2457600 };
+  link = trial_link;
   pilot = record { gain = 100 };
   sync = Some trial_sync;
-  paging = record {
-    number = 1;
-    gain = 60;
-    pages = trial_page (trial_cell number).pn ∷ [];
-  } ∷ [];
-  traffic =
-      traffic_plan_of (followed_line (trial_serial_number number)) (trial_frames number)
-      ∷ traffic_plan_of second_line (other_frame ∷ [])
-      ∷ traffic_plan_of third_line (other_frame ∷ [])
-      ∷ [];
+  paging = trial_paging (trial_cell number).pn ∷ [];
+  traffic = trial_traffic (trial_serial_number number) (trial_frames number);
 }
+
+-- the script of a number is that of its plan
+unfoldable pub trial_text : ℕ → List ℕ
+trial_text number = script_of (trial_plan number)

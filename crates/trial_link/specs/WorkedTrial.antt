@@ -5,10 +5,11 @@ use Rattle.hex.specs.Hex.{encode_with}
 use Rattle.line_text.specs.Texts.{bit_text, digits_of, packed_octets, padded, serial_digits}
 use Rattle.line_text.specs.Texts.{state_digits}
 use Rattle.chip_core.specs.Bits.{binary, places}
-use Rattle.trial_link.specs.Spelling.{cell_text, frame_text, page_text, traffic_text}
+use Rattle.cell_script.specs.Spelling.{written_cell, written_frame, written_link, written_page}
+use Rattle.cell_script.specs.Spelling.{written_paging, written_pilot, written_sync, written_traffic}
 use Rattle.trial_link.specs.Trial.{behind_draws, bits_drawn, drawn, frame_drawn, behind_frames}
-use Rattle.trial_link.specs.Trial.{other_frame, trial_cell, trial_page, followed_line}
-use Rattle.trial_link.specs.Trial.{trial_serial_number}
+use Rattle.trial_link.specs.Trial.{other_frame, trial_cell, trial_link, trial_page, trial_sync}
+use Rattle.trial_link.specs.Trial.{followed_line, trial_serial_number}
 
 first_draw : drawn 0 ≡ 0x14057b7e
 first_draw = refl
@@ -17,33 +18,51 @@ first_draw = refl
 last_number : drawn 18446744073709551615 ≡ 0xbbb38751
 last_number = refl
 
-cell_of_0 : cell_text (trial_cell 0)
+cell_of_0 : written_cell (trial_cell 0)
     ≡ codes "cell pn=382 time=436792849 lc=26bd9e08ae9 checks=3"
-unfolding cell_text trial_cell behind_draws state_digits encode_with digits
+unfolding written_cell trial_cell behind_draws state_digits encode_with digits
 cell_of_0 = refl
 
-page_of_0 : page_text (trial_page 382) ≡ codes "page half 34:04bf0046c0"
-unfolding page_text trial_page bit_text padded packed_octets binary encode_with digits
+link_of_trial : written_link trial_link ≡ codes "link re=1 im=0 start=0 samples=2457600"
+unfolding written_link digits
+link_of_trial = refl
+
+pilot_of_trial : written_pilot (record { gain = 100 }) ≡ codes "pilot gain=100"
+unfolding written_pilot digits
+pilot_of_trial = refl
+
+sync_of_trial : written_sync trial_sync
+    ≡ codes "sync gain=30 prev=3 min=1 sid=1 nid=2 lp=13 ltm=0 daylt=0 prat=0 rest=3:00"
+unfolding written_sync trial_sync bit_text padded packed_octets encode_with digits
+sync_of_trial = refl
+
+paging_of_trial : written_paging (record { number = 1; gain = 60 })
+    ≡ codes "paging channel=1 gain=60"
+unfolding written_paging digits
+paging_of_trial = refl
+
+page_of_0 : written_page (trial_page 382) ≡ codes "page half 34:04bf0046c0"
+unfolding written_page trial_page bit_text padded packed_octets binary encode_with digits
 page_of_0 = refl
 
-channel_of_0 : traffic_text (followed_line (trial_serial_number 0))
+channel_of_0 : written_traffic (followed_line (trial_serial_number 0))
     ≡ codes "traffic row=8 esn=62354cda offset=0 gain=40"
-unfolding traffic_text trial_serial_number behind_draws serial_digits encode_with digits
+unfolding written_traffic trial_serial_number behind_draws serial_digits encode_with digits
 channel_of_0 = refl
 
-first_frame : frame_text (frame_drawn (behind_draws 0 5))
+first_frame : written_frame (frame_drawn (behind_draws 0 5))
     ≡ codes "frame 2400 40:322ec20495 0011110011001001"
-unfolding frame_text behind_draws bits_drawn bit_text padded packed_octets digits_of places
+unfolding written_frame behind_draws bits_drawn bit_text padded packed_octets digits_of places
     encode_with digits
 first_frame = refl
 
-second_frame : frame_text (frame_drawn (behind_frames (behind_draws 0 5) 1))
+second_frame : written_frame (frame_drawn (behind_frames (behind_draws 0 5) 1))
     ≡ codes "frame 1200 16:18d3 0100100000001110"
-unfolding frame_text behind_draws behind_frames bits_drawn bit_text padded packed_octets digits_of
+unfolding written_frame behind_draws behind_frames bits_drawn bit_text padded packed_octets digits_of
     places encode_with digits
 second_frame = refl
 
-beside : frame_text other_frame ≡ codes "frame 1200 16:ffff 0101010101010101"
-unfolding frame_text other_frame bit_text padded packed_octets digits_of places binary encode_with
+beside : written_frame other_frame ≡ codes "frame 1200 16:ffff 0101010101010101"
+unfolding written_frame other_frame bit_text padded packed_octets digits_of places binary encode_with
     digits
 beside = refl

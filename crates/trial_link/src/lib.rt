@@ -1,9 +1,8 @@
-//! The script of a trial: a number tells a whole link, and the script is written by the keys and
-//! tables by which scripts are read.
+//! The script of a trial: a number tells the plan of a whole link, and the script is that of the
+//! plan.
 #![tactic(auto)]
 
 pub mod laws;
-mod spelling;
 mod trial;
 
 pub use trial::{trial_script, trial_serial_number};

@@ -1,28 +1,21 @@
 //! The script of a trial: a number tells a whole link, by a generator of numbers.
 
-ghost use Rattle.std.specs.Prelude.{◌≡◌, ◌≤◌, ◌<◌, ◌%◌, ◌==◌, [], ◌∷◌, ◌++◌, IfOk, OnOk, length};
+ghost use Rattle.std.specs.Prelude.{◌≡◌, ◌≤◌, ◌<◌, ◌%◌, ◌==◌, [], ◌∷◌, IfOk, OnOk, length};
 ghost use Rattle.cell_plan.specs.Stated.{IsStatedCell};
-ghost use Rattle.trial_link.specs.Spelling.{frame_text, traffic_text};
 ghost use Rattle.trial_link.specs.Trial as trial;
 
-use crate::spelling::{append_cell, append_frame, append_page, append_traffic};
-use cell_plan::{CellIdentity, FrameRate, Page, TrafficFrame};
-use cell_script::statements::TrafficLine;
-use chip_core::{Bits, CheckForm, OutOfMemory, PowerBits};
-use line_text::Text;
+use cell_plan::{
+    CellIdentity, CellPlan, FrameRate, LinkPlan, Page, PagingPlan, PilotPlan, Series, SyncPlan,
+    TrafficFrame, TrafficPlan,
+};
+use cell_script::script_text;
+use chip_core::{Bits, CheckForm, OutOfMemory, Pair, PowerBits};
 use std::alloc::Global;
 use symbol_path::Rate;
+use sync_message::SyncFields;
 
 /// How many frames the followed traffic channel has.
 const FRAMES: u8 = 100;
-
-/// The link, which leaves the samples as they are, and the pilot.
-const LINK_LINES: &[u8] = b"link re=1 im=0 start=0 samples=2457600\npilot gain=100\n";
-
-/// The sync channel, and a paging channel without its page.
-const SYNC_LINES: &[u8] =
-    b"sync gain=30 prev=3 min=1 sid=1 nid=2 lp=13 ltm=0 daylt=0 prat=0 rest=3:00\n\
-      paging channel=1 gain=60\n";
 
 /// A generator of numbers: a linear congruence of 64 bits, of which each draw gives the upper half.
 #[derive(Clone, Copy)]
@@ -158,100 +151,127 @@ pub fn trial_serial_number(number: u64) -> u32
 /// whatever the number: see [`crate::laws::trial_scripts_are_lawful`].
 ///
 /// [`OutOfMemory`]: there was none.
+#[tactic(auto, unfolding(crate::specs::Trial::trial_text))]
 pub fn trial_script(alloc: Global, number: u64) -> Result<Vec<u8>, OutOfMemory>
     ensures { IfOk result (λ script. script.items ≡ trial.trial_text number) }
+{
+    let plan = trial_plan(alloc, number)?;
+    script_text(alloc, &plan)
+}
+
+/// The plan of a number.
+#[tactic(auto, unfolding(crate::specs::Trial::trial_plan))]
+fn trial_plan(alloc: Global, number: u64) -> Result<CellPlan, OutOfMemory>
+    ensures { IfOk result (λ plan. plan ≡ trial.trial_plan number) }
 {
     let mut draws = Draws { state: number };
     let cell = draws.cell();
     let esn = draws.draw();
-    let mut script = Vec::new(alloc);
-    add_head(&mut script, &cell)?;
-    add_traffic(&mut script, &traffic_line(8, esn, 0))?;
-    add_frames(&mut script, &mut draws)?;
-    add_others(&mut script)?;
-    Ok(script)
+    let frames = drawn_frames(alloc, &mut draws)?;
+    Ok(CellPlan {
+        cell,
+        link: LinkPlan {
+            factor: Pair { i: 1, q: 0 },
+            start: 0,
+            samples: 2_457_600,
+        },
+        pilot: PilotPlan { gain: 100 },
+        sync: Some(sync_channel()),
+        paging: paging_channels(alloc, cell.pn)?,
+        traffic: traffic_channels(alloc, esn, frames)?,
+    })
 }
 
-/// Adds a line with its LF.
-fn add_line(script: &mut Vec<u8>, line: &Text) -> Result<(), OutOfMemory>
-    ensures { OnOk result (script.new.items ≡ script.old.items ++ trial.with_line_feed line.now) }
+/// The sync channel (TIA/EIA-95-B, 7.7.1.3).
+#[tactic(auto, unfolding(crate::specs::Trial::trial_sync))]
+fn sync_channel() -> SyncPlan
+    ensures { result ≡ trial.trial_sync }
 {
-    script.extend_from_slice(line.bytes())?;
-    script.push(b'\n')?;
-    Ok(())
-}
-
-/// Adds the lines of the cell, the link, and the channels but those of traffic.
-fn add_head(script: &mut Vec<u8>, cell: &CellIdentity) -> Result<(), OutOfMemory>
-    requires { IsStatedCell cell.now }
-    ensures { OnOk result (script.new.items ≡ script.old.items ++ trial.head_text cell.now) }
-{
-    let mut line = Text::empty();
-    append_cell(&mut line, cell);
-    add_line(script, &line)?;
-    script.extend_from_slice(LINK_LINES)?;
-    script.extend_from_slice(SYNC_LINES)?;
-    line.clear();
-    append_page(&mut line, &channel_list(cell.pn));
-    add_line(script, &line)
-}
-
-/// Adds the line of a traffic channel.
-fn add_traffic(script: &mut Vec<u8>, channel: &TrafficLine) -> Result<(), OutOfMemory>
-    requires row { channel.now.row ≤ 63 }
-    requires offset { channel.now.offset ≤ 15 }
-    ensures { OnOk result (script.new.items ≡
-        script.old.items ++ trial.with_line_feed (traffic_text channel.now)) }
-{
-    let mut line = Text::empty();
-    append_traffic(&mut line, channel);
-    add_line(script, &line)
-}
-
-/// Adds the line of a frame.
-fn add_frame(script: &mut Vec<u8>, frame: &TrafficFrame) -> Result<(), OutOfMemory>
-    ensures { OnOk result (script.new.items ≡
-        script.old.items ++ trial.with_line_feed (frame_text frame.now)) }
-{
-    let mut line = Text::empty();
-    append_frame(&mut line, frame);
-    add_line(script, &line)
-}
-
-/// Adds the lines of a hundred frames, which are drawn one after another.
-fn add_frames(script: &mut Vec<u8>, draws: &mut Draws) -> Result<(), OutOfMemory>
-    ensures { OnOk result (script.new.items ≡ script.old.items
-        ++ trial.frame_lines (trial.frames_drawn draws.old.state 100)) }
-{
-    for _frame in 0..FRAMES {
-        add_frame(script, &draws.frame())?;
+    let mut rest = Bits::empty();
+    rest.append_number(3, 0);
+    SyncPlan {
+        gain: 30,
+        message: SyncFields {
+            prev: 3,
+            min: 1,
+            sid: 1,
+            nid: 2,
+            pn: 0,
+            lc: 0,
+            time: 0,
+            lp: 13,
+            ltm: 0,
+            daylt: 0,
+            prat: 0,
+            freq: None,
+            rest,
+        },
     }
-    Ok(())
 }
 
-/// Adds the two traffic channels beside the followed one, each with a frame.
-fn add_others(script: &mut Vec<u8>) -> Result<(), OutOfMemory>
-    ensures { OnOk result (script.new.items ≡ script.old.items
-        ++ (trial.channel_text trial.second_line (trial.other_frame ∷ [])
-        ++ trial.channel_text trial.third_line (trial.other_frame ∷ []))) }
+/// The paging channel of a cell, with one page.
+fn paging_channels(alloc: Global, pn: u16) -> Result<Series<PagingPlan>, OutOfMemory>
+    requires { pn < 512 }
+    ensures { IfOk result (λ paging. paging ≡ trial.trial_paging pn ∷ []) }
 {
-    let frame = other_frame();
-    add_traffic(script, &traffic_line(9, 9, 0))?;
-    add_frame(script, &frame)?;
-    add_traffic(script, &traffic_line(10, 10, 5))?;
-    add_frame(script, &frame)
+    let mut pages = Series::new(alloc);
+    pages.push(channel_list(pn))?;
+    let mut paging = Series::new(alloc);
+    paging.push(PagingPlan {
+        number: 1,
+        gain: 60,
+        pages,
+    })?;
+    Ok(paging)
+}
+
+/// A hundred frames, which are drawn one after another.
+fn drawn_frames(alloc: Global, draws: &mut Draws) -> Result<Series<TrafficFrame>, OutOfMemory>
+    ensures { IfOk result (λ frames. frames ≡ trial.frames_drawn draws.old.state 100) }
+{
+    let mut frames = Series::new(alloc);
+    for _frame in 0..FRAMES {
+        frames.push(draws.frame())?;
+    }
+    Ok(frames)
+}
+
+/// The channel that the handset follows, with these frames, and the two beside it.
+fn traffic_channels(
+    alloc: Global,
+    esn: u32,
+    frames: Series<TrafficFrame>,
+) -> Result<Series<TrafficPlan>, OutOfMemory>
+    ensures { IfOk result (λ traffic. traffic ≡ trial.trial_traffic esn frames) }
+{
+    let mut traffic = Series::new(alloc);
+    traffic.push(traffic_channel(8, esn, 0, frames))?;
+    traffic.push(traffic_channel(9, 9, 0, other_frames(alloc)?))?;
+    traffic.push(traffic_channel(10, 10, 5, other_frames(alloc)?))?;
+    Ok(traffic)
 }
 
 /// A traffic channel with the gain that all three have.
-fn traffic_line(row: u8, esn: u32, offset: u8) -> TrafficLine
-    ensures { result ≡ record { row = row; esn = esn; offset = offset; gain = 40 } }
+fn traffic_channel(row: u8, esn: u32, offset: u8, frames: Series<TrafficFrame>) -> TrafficPlan
+    ensures { result ≡
+        record { row = row; esn = esn; offset = offset; gain = 40; frames = frames } }
 {
-    TrafficLine {
+    TrafficPlan {
         row,
         esn,
         offset,
         gain: 40,
+        frames,
     }
+}
+
+/// The frame of each of the two channels beside.
+fn other_frames(alloc: Global) -> Result<Series<TrafficFrame>, OutOfMemory>
+    ensures { IfOk result (λ frames. frames ≡ trial.other_frame ∷ []) }
+{
+    let mut frames = Series::new(alloc);
+    frames.push(other_frame())?;
+    Ok(frames)
 }
 
 /// The page of a cell: a CDMA Channel List message with one channel (TIA/EIA-95-B, 7.7.2.3.2.4).

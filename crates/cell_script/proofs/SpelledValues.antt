@@ -1,18 +1,19 @@
 -- Values read back from the texts that they are spelled with.
-use Rattle.trial_link.proofs.Common.{◌≡◌, ℕ, zero, suc, ◌+◌, ◌-◌, ◌*◌, ◌/◌, ◌%◌, ◌^◌, ◌<◌, ◌≤◌, ◌==◌, Bool, true, false, List, [], ◌∷◌}
-use Rattle.trial_link.proofs.Common.{◌++◌, length, refl, sym, ap, ◌∙◌, arith, decimal, slice_index, take, drop, replicate, codes, Some}
-use Rattle.trial_link.proofs.Common.{None, Option, unwrap_or, append_assoc, append-nil, length-append, length-take-le, take-append-drop}
-use Rattle.trial_link.proofs.Common.{flat_map, option_and_then, byte_at, bytes_high_first, to_be_bytes, w32, drop-append_seam}
-use Rattle.trial_link.proofs.Common.{take-append_seam, cond-false, cond-true, eq-eqb, eqb-true, le-ltb, lt-leb, lt-ltb, ne_eqb}
-use Rattle.trial_link.proofs.Common.{length-replicate, from_be_bytes-to_be_bytes_4, from_be_bytes-to_be_bytes_8, decode_of-encode_lower}
-use Rattle.trial_link.proofs.Common.{IsBytes, encode_lower, encode_with, lower_digits, binary, number, IsState, binary-number, bit_text}
-use Rattle.trial_link.proofs.Common.{digits_of, octet_count, packed_octets, padded, serial_digits, state_digits, all_clear, as_state}
-use Rattle.trial_link.proofs.Common.{text_after}
-use Rattle.trial_link.proofs.Common.{bits_in_text, power_bits_in, digits_behind, hex_bits, hex_digit, hex_from, length_before, number_up_to}
-use Rattle.trial_link.proofs.Common.{octets_in, serial_number_in, state_in, unpadded, one_numeral}
+use Rattle.cell_script.proofs.Common.{◌≡◌, ℕ, zero, suc, ◌+◌, ◌-◌, ◌*◌, ◌/◌, ◌%◌, ◌^◌, ◌<◌, ◌≤◌, ◌==◌, Bool, true, false, List, [], ◌∷◌}
+use Rattle.cell_script.proofs.Common.{◌++◌, length, refl, sym, ap, ◌∙◌, arith, decimal, slice_index, take, drop, replicate, codes, Some}
+use Rattle.cell_script.proofs.Common.{None, Option, unwrap_or, append_assoc, append-nil, length-append, length-take-le, take-append-drop}
+use Rattle.cell_script.proofs.Common.{flat_map, option_and_then, byte_at, bytes_high_first, to_be_bytes, w32, drop-append_seam}
+use Rattle.cell_script.proofs.Common.{take-append_seam, cond-false, cond-true, eq-eqb, eqb-true, le-ltb, lt-leb, lt-ltb, ne_eqb}
+use Rattle.cell_script.proofs.Common.{length-replicate, from_be_bytes-to_be_bytes_4, from_be_bytes-to_be_bytes_8, decode_of-encode_lower}
+use Rattle.cell_script.proofs.Common.{IsBytes, encode_lower, encode_with, lower_digits, binary, number, IsState, binary-number, bit_text}
+use Rattle.cell_script.proofs.Common.{digits_of, octet_count, packed_octets, padded, serial_digits, state_digits, all_clear, as_state}
+use Rattle.cell_script.proofs.Common.{text_after, bits_in_text, power_bits_in, digits_behind, hex_bits, hex_digit, hex_from, length_before}
+use Rattle.cell_script.proofs.Common.{number_up_to, octets_in, serial_number_in, state_in, unpadded, ℤ, FitsSigned, w16, signed_in}
+use Rattle.cell_script.proofs.Common.{signed_decimal}
+use Rattle.cell_script.proofs.ScriptNumerals.{one_numeral, one_signed_numeral}
 use Rattle.std.proofs.lemmas.List.{length-drop}
-use Rattle.trial_link.proofs.SpelledBytes.{are_within, at_below, before_high_mark, before_mark, bytes_are, decimal_within, digits_of_long}
-use Rattle.trial_link.proofs.SpelledBytes.{octet_digits, octet_digits_long, octets_are, serial_long, state_long}
+use Rattle.cell_script.proofs.SpelledBytes.{are_within, at_below, before_high_mark, before_mark, bytes_are, decimal_within, digits_of_long}
+use Rattle.cell_script.proofs.SpelledBytes.{octet_digits, octet_digits_long, octets_are, serial_long, state_long}
 use Rattle.cell_script.proofs.ScriptTexts.{hex_from-none}
 
 -- ---- numbers
@@ -20,6 +21,10 @@ use Rattle.cell_script.proofs.ScriptTexts.{hex_from-none}
 -- a number within its bound
 pub number_back : (most n : ℕ) → most < 2 ^ 64 → n ≤ most → number_up_to most (decimal n) ≡ Some n
 number_back most n small within = (one_numeral most n (decimal n) small).1 (refl, within)
+
+-- a number with a sign, of 16 bits
+pub signed_back : (z : ℤ) → FitsSigned w16 z → signed_in (signed_decimal z) ≡ Some z
+signed_back z fits = (one_signed_numeral z (signed_decimal z)).1 (refl, fits)
 
 -- ---- hex numbers
 

@@ -1,12 +1,14 @@
 -- The bytes of texts that values are spelled with: none is a space, an LF or a mark of another
 -- kind.
-use Rattle.trial_link.proofs.Common.{◌≡◌, ℕ, zero, suc, ◌+◌, ◌*◌, ◌/◌, ◌%◌, ◌^◌, ◌<◌, ◌≤◌, ◌==◌, Bool, true, false, ◌&&◌, nat_le, List, []}
-use Rattle.trial_link.proofs.Common.{◌∷◌, ◌++◌, length, refl, ap, ◌∙◌, arith, decimal, slice_index, take, drop, codes, inl, inr}
-use Rattle.trial_link.proofs.Common.{length-append, length-drop, is_ascii_digit, byte_at, bytes_high_first, to_be_bytes, w32, w64}
-use Rattle.trial_link.proofs.Common.{all_ascii_digits, pow-le-pow_right, and_from, and_parts, cases_lt, cond-false, cond-true, eq-eqb}
-use Rattle.trial_link.proofs.Common.{eqb-true, le-leb, leb-true, ne_eqb, digits_decimal, length-decimal-le, length-take, length-encode_with}
-use Rattle.trial_link.proofs.Common.{IsBytes, encode_lower, encode_with, lower_digits, number_lt, number, bit_text, digit_of, digits_of}
-use Rattle.trial_link.proofs.Common.{octet_count, packed_octets, padded, serial_digits, state_digits, is_line, length_before, own_numerals}
+use Rattle.cell_script.proofs.Common.{◌≡◌, ℕ, zero, suc, ◌+◌, ◌*◌, ◌/◌, ◌%◌, ◌^◌, ◌<◌, ◌≤◌, ◌==◌, Bool, true, false, ◌&&◌, nat_le, List, []}
+use Rattle.cell_script.proofs.Common.{◌∷◌, ◌++◌, length, refl, ap, ◌∙◌, arith, decimal, slice_index, take, drop, codes, inl, inr}
+use Rattle.cell_script.proofs.Common.{length-append, length-drop, is_ascii_digit, byte_at, bytes_high_first, to_be_bytes, w32, w64}
+use Rattle.cell_script.proofs.Common.{all_ascii_digits, pow-le-pow_right, and_from, and_parts, cases_lt, cond-false, cond-true, eq-eqb}
+use Rattle.cell_script.proofs.Common.{eqb-true, le-leb, leb-true, ne_eqb, digits_decimal, length-decimal-le, length-take}
+use Rattle.cell_script.proofs.Common.{length-encode_with, IsBytes, encode_lower, encode_with, lower_digits, number_lt, number, bit_text}
+use Rattle.cell_script.proofs.Common.{digit_of, digits_of, octet_count, packed_octets, padded, serial_digits, state_digits, is_line}
+use Rattle.cell_script.proofs.Common.{length_before}
+use Rattle.cell_script.proofs.ScriptNumerals.{own_numerals}
 
 -- whether all bytes are in a range
 abbrev pub are_within : ℕ → ℕ → List ℕ → Bool

@@ -1,9 +1,10 @@
 -- Texts of whole lines that lead from one draft to another.
-use Rattle.trial_link.proofs.Common.{◌≡◌, ℕ, ◌+◌, ◌-◌, true, List, [], ◌∷◌, ◌++◌, length, take, refl, sym, ap, ◌∙◌, arith, Option, Some}
-use Rattle.trial_link.proofs.Common.{append_assoc, length-append, Ok, append-nil, option_and_then, ok_or, take-append_seam, CellPlan}
-use Rattle.trial_link.proofs.Common.{Statement, draft_after, lines, stated, stated_plan, Draft, empty_draft, plan_at, with_line, with_next}
-use Rattle.trial_link.proofs.Common.{statement_in, with_line_feed, draft_after-line, lines-append, stated-next, stated-none}
-use Rattle.trial_link.proofs.SpelledBytes.{are_within, is_line-within}
+use Rattle.cell_script.proofs.Common.{◌≡◌, ℕ, ◌+◌, ◌-◌, true, List, [], ◌∷◌, ◌++◌, length, take, refl, sym, ap, ◌∙◌, arith, Option, Some}
+use Rattle.cell_script.proofs.Common.{append_assoc, length-append, Ok, append-nil, option_and_then, ok_or, take-append_seam, CellPlan}
+use Rattle.cell_script.proofs.Common.{Statement, draft_after, lines, stated, stated_plan, Draft, empty_draft, plan_at, with_line, with_next}
+use Rattle.cell_script.proofs.Common.{statement_in, with_line_feed}
+use Rattle.cell_script.proofs.ScriptSplits.{draft_after-line, lines-append, lines-none, stated-next, stated-none}
+use Rattle.cell_script.proofs.SpelledBytes.{are_within, is_line-within}
 
 -- ---- one line
 
@@ -64,10 +65,6 @@ both_lead draft middle next first second one two =
 -- no lines
 pub none_leads : (draft : Draft) → Leads draft [] draft
 none_leads draft = record { on = λ n behind. (n, refl) }
-
-lines-none : lines [] ≡ []
-unfolding lines
-lines-none = refl
 
 -- a text that leads to a whole plan states it
 pub leads_to_plan : (text : List ℕ) (draft : Draft) (plan : CellPlan) →

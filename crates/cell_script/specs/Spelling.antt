@@ -1,0 +1,183 @@
+-- How statements are written, the other side of how they are read, and the script of a plan.
+use Rattle.std.specs.Prelude.{ℕ, ◌+◌, ◌*◌, ◌^◌, ◌<◌, List, [], ◌∷◌, ◌++◌, codes, decimal, map, Bool}
+use Rattle.std.specs.Prelude.{Option, None, Some}
+use Rattle.std.specs.Fmt.{signed_decimal}
+use Rattle.std.specs.List.{flat_map}
+use Rattle.chip_core.specs.declared.check_form.CheckForm.{CheckForm}
+use Rattle.chip_core.specs.declared.check_form.CheckForm.TheVariants.{Plain, Complemented}
+use Rattle.line_text.specs.Texts.{bit_text, digits_of, serial_digits, state_digits}
+use Rattle.sync_message.specs.declared.fields.SyncFields.{SyncFields}
+use Rattle.cell_plan.specs.declared.plan.CellIdentity.{CellIdentity}
+use Rattle.cell_plan.specs.declared.plan.CellPlan.{CellPlan}
+use Rattle.cell_plan.specs.declared.plan.LinkPlan.{LinkPlan}
+use Rattle.cell_plan.specs.declared.plan.Page.{Page}
+use Rattle.cell_plan.specs.declared.plan.PagingPlan.{PagingPlan}
+use Rattle.cell_plan.specs.declared.plan.PilotPlan.{PilotPlan}
+use Rattle.cell_plan.specs.declared.plan.SyncPlan.{SyncPlan}
+use Rattle.cell_plan.specs.declared.plan.TrafficPlan.{TrafficPlan}
+use Rattle.cell_plan.specs.declared.traffic_frame.TrafficFrame.{TrafficFrame}
+use Rattle.cell_script.specs.declared.statements.PagingLine.{PagingLine}
+use Rattle.cell_script.specs.declared.statements.Statement.{Statement}
+use Rattle.cell_script.specs.declared.statements.Statement.TheVariants as statements
+use Rattle.cell_script.specs.declared.statements.TrafficLine.{TrafficLine}
+use Rattle.cell_script.specs.declared.tables.FieldForm.{FieldForm}
+use Rattle.cell_script.specs.declared.tables.FieldForm.TheVariants as forms
+use Rattle.cell_script.specs.Rows.{NumberRow, local_rows, network_rows}
+use Rattle.cell_script.specs.ScriptFields.{StatementRow, formed}
+use Rattle.cell_script.specs.ScriptLines.{cell_rows, frame_key, freq_number, gain_row}
+use Rattle.cell_script.specs.ScriptLines.{page_key, paging_rows, pilot_rows, traffic_rows}
+
+-- ---- fields
+
+-- the text of a value that has no sign, by the form of its field
+abbrev pub value_text : FieldForm → ℕ → List ℕ
+value_text (forms.UpTo most) n = decimal n
+value_text forms.Signed n = decimal n
+value_text forms.State n = state_digits n
+value_text forms.SerialNumber n = serial_digits n
+
+-- a value that is no serial number, or one of 32 bits
+abbrev pub HasDigits : FieldForm → ℕ → Type 0
+HasDigits (forms.UpTo most) n = Unit {0}
+HasDigits forms.Signed n = Unit {0}
+HasDigits forms.State n = Unit {0}
+HasDigits forms.SerialNumber n = n < 2 ^ 32
+
+-- each key, and after it its value
+abbrev pub fields_text : List StatementRow → List ℕ → List ℕ
+fields_text [] values = []
+fields_text (row ∷ rows) [] = []
+fields_text (row ∷ rows) (value ∷ values) =
+    row.key ++ (value_text row.form value ++ fields_text rows values)
+
+-- the same of fields of a message, whose values are numbers
+abbrev pub numbers_text : List NumberRow → List ℕ → List ℕ
+numbers_text [] numbers = []
+numbers_text (f ∷ fields) [] = []
+numbers_text (f ∷ fields) (number ∷ numbers) =
+    f.key ++ (decimal number ++ numbers_text fields numbers)
+
+-- ---- statements
+
+-- the bit of a form of checks
+abbrev pub form_bit : CheckForm → ℕ
+form_bit Plain = 0
+form_bit Complemented = 1
+
+-- `cell pn=P time=T lc=H checks=C`
+unfoldable pub written_cell : CellIdentity → List ℕ
+written_cell cell =
+    fields_text cell_rows
+    (cell.pn ∷ cell.time ∷ cell.lc ∷ (form_bit cell.check30 + 2 * form_bit cell.check16) ∷ [])
+
+-- `link re=A im=B start=S samples=N`
+abbrev pub span_rows : List StatementRow
+span_rows =
+    formed (codes " start=") (forms.UpTo 4294967295)
+    ∷ formed (codes " samples=") (forms.UpTo 18446744073709551615)
+    ∷ []
+
+unfoldable pub written_link : LinkPlan → List ℕ
+written_link link =
+    codes "link re=" ++ (signed_decimal link.factor.i
+    ++ (codes " im=" ++ (signed_decimal link.factor.q
+    ++ fields_text span_rows (link.start ∷ link.samples ∷ []))))
+
+-- `pilot gain=G`
+unfoldable pub written_pilot : PilotPlan → List ℕ
+written_pilot pilot = fields_text pilot_rows (pilot.gain ∷ [])
+
+-- `sync gain=G prev=.. min=.. sid=.. nid=.. lp=.. ltm=.. daylt=.. prat=.. [freq=..] rest=BITS`
+abbrev pub network_values : SyncFields → List ℕ
+network_values m = m.prev ∷ m.min ∷ m.sid ∷ m.nid ∷ []
+
+abbrev pub local_values : SyncFields → List ℕ
+local_values m = m.lp ∷ m.ltm ∷ m.daylt ∷ m.prat ∷ []
+
+abbrev pub written_freq : Option ℕ → List ℕ
+written_freq None = []
+written_freq (Some freq) = freq_number.key ++ decimal freq
+
+unfoldable pub written_sync : SyncPlan → List ℕ
+written_sync sync =
+    gain_row.key ++ (decimal sync.gain
+    ++ (numbers_text network_rows (network_values sync.message)
+    ++ (numbers_text local_rows (local_values sync.message)
+    ++ (written_freq sync.message.freq ++ (codes " rest=" ++ bit_text sync.message.rest)))))
+
+-- `paging channel=C gain=G`
+unfoldable pub written_paging : PagingLine → List ℕ
+written_paging line = fields_text paging_rows (line.number ∷ line.gain ∷ [])
+
+-- `page half BITS` or `page next BITS`
+unfoldable pub written_page : Page → List ℕ
+written_page page = page_key page.follows ++ bit_text page.body
+
+-- `traffic row=R esn=H offset=O gain=G`
+unfoldable pub written_traffic : TrafficLine → List ℕ
+written_traffic line =
+    fields_text traffic_rows (line.row ∷ line.esn ∷ line.offset ∷ line.gain ∷ [])
+
+-- `frame RATE BITS COMMANDS`, or `frame2 RATE BITS COMMANDS`
+unfoldable pub written_frame : TrafficFrame → List ℕ
+written_frame f =
+    frame_key f.rate ++ (bit_text f.information ++ (codes " " ++ digits_of f.power_bits))
+
+-- the text of a statement
+abbrev pub statement_text : Statement → List ℕ
+statement_text (statements.Cell cell) = written_cell cell
+statement_text (statements.Link link) = written_link link
+statement_text (statements.Pilot pilot) = written_pilot pilot
+statement_text (statements.Sync sync) = written_sync sync
+statement_text (statements.Paging line) = written_paging line
+statement_text (statements.Page page) = written_page page
+statement_text (statements.Traffic line) = written_traffic line
+statement_text (statements.Frame frame) = written_frame frame
+
+-- ---- scripts
+
+-- a line with its LF
+abbrev pub with_line_feed : List ℕ → List ℕ
+with_line_feed line = line ++ 10 ∷ []
+
+-- a statement's line
+abbrev pub statement_line : Statement → List ℕ
+statement_line statement = with_line_feed (statement_text statement)
+
+-- the lines of statements, one after another
+abbrev pub lines_of : List Statement → List ℕ
+lines_of statements = flat_map statement_line statements
+
+-- a paging channel: its line, and those of its pages
+abbrev pub line_of_paging : PagingPlan → PagingLine
+line_of_paging p = record { number = p.number; gain = p.gain }
+
+abbrev pub paging_statements : PagingPlan → List Statement
+paging_statements p = statements.Paging (line_of_paging p) ∷ map statements.Page p.pages
+
+-- a traffic channel: its line, and those of its frames
+abbrev pub line_of_traffic : TrafficPlan → TrafficLine
+line_of_traffic t = record { row = t.row; esn = t.esn; offset = t.offset; gain = t.gain }
+
+abbrev pub traffic_statements : TrafficPlan → List Statement
+traffic_statements t = statements.Traffic (line_of_traffic t) ∷ map statements.Frame t.frames
+
+abbrev pub sync_statements : Option SyncPlan → List Statement
+sync_statements None = []
+sync_statements (Some sync) = statements.Sync sync ∷ []
+
+-- the statements of the channels but the pilot
+abbrev pub channel_statements : CellPlan → List Statement
+channel_statements plan =
+    sync_statements plan.sync
+    ++ (flat_map paging_statements plan.paging ++ flat_map traffic_statements plan.traffic)
+
+-- all statements of a plan, in the order of a script
+abbrev pub statements_of : CellPlan → List Statement
+statements_of plan =
+    statements.Cell plan.cell
+    ∷ (statements.Link plan.link ∷ (statements.Pilot plan.pilot ∷ channel_statements plan))
+
+-- the script that states a plan
+unfoldable pub script_of : CellPlan → List ℕ
+script_of plan = lines_of (statements_of plan)
