@@ -313,7 +313,7 @@ class FadingTest(unittest.TestCase):
         return meter.ec_io
 
     def test_instants_come_to_those_of_a_file(self) -> None:
-        """By the first second alone the pilot's share is another one, by 0.4 dB over these fades."""
+        """By the first second alone the pilot's share is another one, by 0.7 dB over these fades."""
         pieces = taken(self.lock(), self.data, BLOCK)
         meter, since = PilotMeter(), self.SETTLED * CHIP_RATE
         first = next(piece.first for piece in pieces if isinstance(piece, Chips))
