@@ -22,7 +22,8 @@ pub use Rattle.std.specs.Char.{is_ascii_digit}
 pub use Rattle.std.specs.Fmt.{signed_decimal}
 pub use Rattle.std.specs.Int.{w16, byte_at, bytes_high_first, to_be_bytes, w32, w64}
 pub use Rattle.std.specs.Option.{option_map_or, option_or}
-pub use Rattle.std.specs.Prelude.{All, FitsSigned, codes, flat_map, map, nat_le, nat_lt, negsuc, ok_or, option_and_then, option_map, pos, ◌||◌}
+pub use Rattle.std.specs.Prelude.{All, FitsSigned, codes, flat_map, map, nat_le, nat_lt, negsuc, ok_or, option_and_then, option_map, pos}
+pub use Rattle.std.specs.Prelude.{◌||◌}
 pub use Rattle.std.specs.Prelude.{◌↔◌}
 pub use Rattle.std.specs.Str.{all_ascii_digits}
 pub use Rattle.cdma_io.specs.SampleFile.{most_samples}
@@ -96,7 +97,8 @@ unfoldable pub use Rattle.cell_script.specs.ScriptLines.{past_freq, pilot_in, st
 pub use Rattle.cell_script.specs.ScriptPlans.{IsLawfulStatement}
 unfoldable pub use Rattle.cell_script.specs.ScriptSplitting.{first_stated}
 pub use Rattle.cell_script.specs.ScriptStages.{after_cell, after_frame, after_link, after_page, after_paging, after_pilot}
-pub use Rattle.cell_script.specs.ScriptStages.{after_sync, after_traffic, behind_sync, count_behind, frames_stage, is_complete, is_cycle, may_follow}
+pub use Rattle.cell_script.specs.ScriptStages.{after_sync, after_traffic, behind_sync, count_behind, frames_stage, is_complete, is_cycle}
+pub use Rattle.cell_script.specs.ScriptStages.{may_follow}
 pub use Rattle.cell_script.specs.ScriptStages.{next_stage}
 unfoldable pub use Rattle.cell_script.specs.ScriptStages.{page_stage}
 pub use Rattle.cell_script.specs.ScriptValues.{all_clear, as_state, begins_with, text_after, binary_digit, hex_digit, is_plain, negative}

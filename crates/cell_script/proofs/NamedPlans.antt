@@ -4,17 +4,15 @@ use Rattle.cell_script.proofs.Common.{refl, sym, ap, subst, ◌∙◌, arith, Op
 use Rattle.cell_script.proofs.Common.{option_map, option_and_then, All, and_parts, cond-true, cond-false, eqb-true, leb-true, ltb-false}
 use Rattle.cell_script.proofs.Common.{All-nil, All-push, cond_some, same_Some, norm, most_samples, Width, FillsCapsule, M30, Rate, R9600}
 use Rattle.cell_script.proofs.Common.{R4800, HasMessage, bits_left, half_frame_body, half_frame_bits, laid_behind, sent_paging_rate}
-use Rattle.cell_script.proofs.Common.{AreSendable}
-use Rattle.cell_script.proofs.Common.{CellPlan, Page, PagingPlan, CellIdentity, LinkPlan, PilotPlan, SyncPlan, Stage, Cell, Link, Pilot}
-use Rattle.cell_script.proofs.Common.{Sync, Paging, FirstPage, Pages, Traffic, FirstFrame, Frames, TrafficPlan}
-use Rattle.cell_script.proofs.Common.{TrafficFrame, PagingLine, TrafficLine, Statement, ScriptFault, Gain, TooBig, Walsh}
-use Rattle.cell_script.proofs.Common.{loudness, most_part, IsLawfulPlan, IsSyncPlan, draft_after, gain_fault, is_line, lines, long_fault}
-use Rattle.cell_script.proofs.Common.{channel_lines, loud_fault, named, plan_fault, plan_named, traffic_lines, repeated, silent, stated}
-use Rattle.cell_script.proofs.Common.{stated_plan, sync_gain_fault, unless, walsh_fault, draft_at, Draft, empty_draft, empty_plan}
-use Rattle.cell_script.proofs.Common.{opened_paging}
+use Rattle.cell_script.proofs.Common.{AreSendable, CellPlan, Page, PagingPlan, CellIdentity, LinkPlan, PilotPlan, SyncPlan, Stage, Cell}
+use Rattle.cell_script.proofs.Common.{Link, Pilot, Sync, Paging, FirstPage, Pages, Traffic, FirstFrame, Frames, TrafficPlan, TrafficFrame}
+use Rattle.cell_script.proofs.Common.{PagingLine, TrafficLine, Statement, ScriptFault, Gain, TooBig, Walsh, loudness, most_part}
+use Rattle.cell_script.proofs.Common.{IsLawfulPlan, IsSyncPlan, draft_after, gain_fault, is_line, lines, long_fault, channel_lines}
+use Rattle.cell_script.proofs.Common.{loud_fault, named, plan_fault, plan_named, traffic_lines, repeated, silent, stated, stated_plan}
+use Rattle.cell_script.proofs.Common.{sync_gain_fault, unless, walsh_fault, draft_at, Draft, empty_draft, empty_plan, opened_paging}
 use Rattle.cell_script.proofs.Common.{on_last, opened_traffic, plan_at, with_line, with_next, with_page, with_statement, with_frame}
-use Rattle.cell_script.proofs.Common.{one_frame_more, one_page_more, rate_set, FrameRate, SetOne, SetTwo, RateSet, One, Two, IsTrafficFrame, IsInOrder}
-use Rattle.cell_script.proofs.Common.{statement_in, AreHeard, HasSaid, IsStatedCell, IsStatedLink, IsStatedPaging, IsStatedPlan}
+use Rattle.cell_script.proofs.Common.{one_frame_more, one_page_more, rate_set, FrameRate, SetOne, SetTwo, RateSet, One, Two, IsTrafficFrame}
+use Rattle.cell_script.proofs.Common.{IsInOrder, statement_in, AreHeard, HasSaid, IsStatedCell, IsStatedLink, IsStatedPaging, IsStatedPlan}
 use Rattle.cell_script.proofs.Common.{IsStatedSync, IsStatedTraffic, IsLawfulStatement, after_cell, after_frame, after_link, after_page}
 use Rattle.cell_script.proofs.Common.{after_paging, after_pilot, after_sync, after_traffic, frames_stage, behind_sync, count_behind}
 use Rattle.cell_script.proofs.Common.{is_cycle, may_follow, next_stage, page_stage}

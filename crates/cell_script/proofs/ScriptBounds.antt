@@ -1,21 +1,17 @@
 -- What the statements of a script say is within its bounds.
 use Rattle.cell_script.proofs.Common.{◌≡◌, ℕ, zero, suc, ◌+◌, ◌*◌, ◌^◌, ◌<◌, ◌≤◌, Bool, true, false, cond, List, [], ◌∷◌, length, get_or}
 use Rattle.cell_script.proofs.Common.{refl, sym, subst, ◌∙◌, arith, ℤ, unsigned_abs, Option, None, Some, IfSome, codes, nat_le, nat_lt}
-use Rattle.cell_script.proofs.Common.{◌==◌, option_and_then, option_map, and_parts, cond-false, cond-true, eqb-false}
-use Rattle.cell_script.proofs.Common.{eqb-true, leb-true, ltb-true, cond_some, same_Some, norm, FieldsFit, IsState, fixed_fields}
-use Rattle.cell_script.proofs.Common.{IsSyncMessage, SyncFields, admitted, SyncPlan, CellIdentity, LinkPlan, NumberRow, AreUpTo, at_end}
-use Rattle.cell_script.proofs.Common.{script_field, numbers_in, past, value_of, cell_in, cell_line, freq_in, has_lawful_rest, is_link}
-use Rattle.cell_script.proofs.Common.{link_in, abs_fits}
-use Rattle.cell_script.proofs.Common.{link_line, sync_behind, sync_fields, sync_in, traffic_frame_in, frame_key, frame_rate}
-use Rattle.cell_script.proofs.Common.{FrameRate, lawful_frame, traffic_in, stated_traffic_line, lawful_message, lawful_page}
-use Rattle.cell_script.proofs.Common.{stated_page_in}
-use Rattle.cell_script.proofs.Common.{page_key, page_with, paging_in, stated_paging_line, pilot_in, statement_in, Page, PagingLine}
-use Rattle.cell_script.proofs.Common.{TrafficLine}
-use Rattle.cell_script.proofs.Common.{TrafficFrame, IsTrafficFrame, information_bits_of, Statement, HasMessage}
-use Rattle.cell_script.proofs.Common.{is_body, FillsCapsule, M30, IsLawfulStatement, IsStatedCell, IsStatedLink, as_state, begins_with}
-use Rattle.cell_script.proofs.Common.{bits_in_text}
-use Rattle.cell_script.proofs.Common.{hex_from, number_in, power_bits_in, number_up_to, serial_number_in, signed_in, state_in, up_to}
-use Rattle.cell_script.proofs.Common.{gain_row, local_rows, network_rows, unsigned_of}
+use Rattle.cell_script.proofs.Common.{◌==◌, option_and_then, option_map, and_parts, cond-false, cond-true, eqb-false, eqb-true, leb-true}
+use Rattle.cell_script.proofs.Common.{ltb-true, cond_some, same_Some, norm, FieldsFit, IsState, fixed_fields, IsSyncMessage, SyncFields}
+use Rattle.cell_script.proofs.Common.{admitted, SyncPlan, CellIdentity, LinkPlan, NumberRow, AreUpTo, at_end, script_field, numbers_in}
+use Rattle.cell_script.proofs.Common.{past, value_of, cell_in, cell_line, freq_in, has_lawful_rest, is_link, link_in, abs_fits, link_line}
+use Rattle.cell_script.proofs.Common.{sync_behind, sync_fields, sync_in, traffic_frame_in, frame_key, frame_rate, FrameRate, lawful_frame}
+use Rattle.cell_script.proofs.Common.{traffic_in, stated_traffic_line, lawful_message, lawful_page, stated_page_in, page_key, page_with}
+use Rattle.cell_script.proofs.Common.{paging_in, stated_paging_line, pilot_in, statement_in, Page, PagingLine, TrafficLine, TrafficFrame}
+use Rattle.cell_script.proofs.Common.{IsTrafficFrame, information_bits_of, Statement, HasMessage, is_body, FillsCapsule, M30}
+use Rattle.cell_script.proofs.Common.{IsLawfulStatement, IsStatedCell, IsStatedLink, as_state, begins_with, bits_in_text, hex_from}
+use Rattle.cell_script.proofs.Common.{number_in, power_bits_in, number_up_to, serial_number_in, signed_in, state_in, up_to, gain_row}
+use Rattle.cell_script.proofs.Common.{local_rows, network_rows, unsigned_of}
 use Rattle.cell_script.proofs.ScriptMessages.{is_tail}
 use Rattle.cell_script.proofs.ScriptPages.{body_fills, body_message}
 use Rattle.cell_script.proofs.ScriptNumerals.{one_signed_numeral}

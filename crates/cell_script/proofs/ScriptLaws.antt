@@ -5,13 +5,11 @@ use Rattle.cell_script.proofs.Common.{take, refl, sym, ap, ◌∙◌, arith, app
 use Rattle.cell_script.proofs.Common.{codes, nat_lt, ok_or, option_map, ◌↔◌, take_at, length-take-le, binary, digits_from, decode_pairs}
 use Rattle.cell_script.proofs.Common.{admits, bits_left, fill, is_body, Rate, R9600, CellPlan, SyncPlan, Stage, Cell, Link, Pilot}
 use Rattle.cell_script.proofs.Common.{FirstPage, FirstFrame, ScriptFault, Line, Walsh, Gain, TooLoud, TooLong, TooBig, bits_in_text}
-use Rattle.cell_script.proofs.Common.{hex_bits}
-use Rattle.cell_script.proofs.Common.{hex_from, length_before, power_bits_in, digits_behind, number_up_to, signed_in, state_in}
-use Rattle.cell_script.proofs.Common.{script_field, past}
-use Rattle.cell_script.proofs.Common.{cell_in, traffic_frame_in, link_in, stated_page_in, pilot_in, statement_in, page_stage, Draft}
-use Rattle.cell_script.proofs.Common.{empty_draft}
-use Rattle.cell_script.proofs.Common.{plan_at, with_line, with_next, draft_after, is_line, lines, named, plan_fault, plan_named, stated}
-use Rattle.cell_script.proofs.Common.{stated_plan, sync_gain_fault, unless, Width, cond-true, cond-false, le-ltb, ltb-false}
+use Rattle.cell_script.proofs.Common.{hex_bits, hex_from, length_before, power_bits_in, digits_behind, number_up_to, signed_in, state_in}
+use Rattle.cell_script.proofs.Common.{script_field, past, cell_in, traffic_frame_in, link_in, stated_page_in, pilot_in, statement_in}
+use Rattle.cell_script.proofs.Common.{page_stage, Draft, empty_draft, plan_at, with_line, with_next, draft_after, is_line, lines, named}
+use Rattle.cell_script.proofs.Common.{plan_fault, plan_named, stated, stated_plan, sync_gain_fault, unless, Width, cond-true, cond-false}
+use Rattle.cell_script.proofs.Common.{le-ltb, ltb-false}
 use Rattle.cell_script.proofs.ScriptSplits.{lines-append, draft_after-other, stated-fault, stated-next, stated-none}
 
 -- ---- completions

@@ -1,8 +1,7 @@
 -- Pages: the test of their bodies.
 use Rattle.cell_script.proofs.Common.{◌≡◌, Bool, true, false, List, refl, sym, ap, subst, ◌∙◌, Option, None, Some, IfSome, drop, is_some}
-use Rattle.cell_script.proofs.Common.{cond-false, cond-true, FillsCapsule, M30, HasMessage}
-use Rattle.cell_script.proofs.Common.{message_body, IsPagingMessage, body_reading, is_body, message_at, number_at, PagingMessage}
-use Rattle.cell_script.proofs.Common.{message_fills, body_is_read, reads_body}
+use Rattle.cell_script.proofs.Common.{cond-false, cond-true, FillsCapsule, M30, HasMessage, message_body, IsPagingMessage, body_reading}
+use Rattle.cell_script.proofs.Common.{is_body, message_at, number_at, PagingMessage, message_fills, body_is_read, reads_body}
 
 abbrev message_in : List Bool → PagingMessage
 message_in body = message_at (number_at 0 8 body) (drop 8 body)

@@ -3,11 +3,10 @@ use Rattle.cell_script.proofs.Common.{◌≡◌, ℕ, ◌+◌, ◌*◌, ◌<◌,
 use Rattle.cell_script.proofs.Common.{ap, ◌∙◌, arith, append_assoc, replicate, subst, inl, inr, Option, None, Some, set, ◌||◌, unsigned_abs}
 use Rattle.cell_script.proofs.Common.{option_or, cases_eq, eq-eqb, ne_eqb, or_right, append-nil, get_or-set_other, get_or-set_same}
 use Rattle.cell_script.proofs.Common.{length-set, get_or-replicate, Width, paging_gains, sync_gain, traffic_gains, CellPlan, LinkPlan, Page}
-use Rattle.cell_script.proofs.Common.{PagingPlan, PilotPlan, SyncPlan, TrafficPlan, Judge, ChannelRows, ScriptFault, TrafficFrame, ChannelLine}
-use Rattle.cell_script.proofs.Common.{channel, channel_lines, first_channels, gain_fault, is_used, long_fault, loud_fault, paging_lines}
-use Rattle.cell_script.proofs.Common.{plan_fault, repeated, repeated_behind, silent, traffic_lines, walsh_fault, on_last, with_page}
-use Rattle.cell_script.proofs.Common.{map, one_frame_more, one_page_more, with_frame}
-use Rattle.cell_script.proofs.Common.{gains_of, judged_fault, HasJudged, HasSeen}
+use Rattle.cell_script.proofs.Common.{PagingPlan, PilotPlan, SyncPlan, TrafficPlan, Judge, ChannelRows, ScriptFault, TrafficFrame}
+use Rattle.cell_script.proofs.Common.{ChannelLine, channel, channel_lines, first_channels, gain_fault, is_used, long_fault, loud_fault}
+use Rattle.cell_script.proofs.Common.{paging_lines, plan_fault, repeated, repeated_behind, silent, traffic_lines, walsh_fault, on_last}
+use Rattle.cell_script.proofs.Common.{with_page, map, one_frame_more, one_page_more, with_frame, gains_of, judged_fault, HasJudged, HasSeen}
 
 -- ---- one line more
 

@@ -13,10 +13,6 @@ with_line-of : (draft : Draft) (text : List ℕ) (statement : Statement) →
 unfolding with_line
 with_line-of draft text statement is = ap (option_and_then (with_next draft)) is
 
--- how long a line is
-pub ended_long : (text : List ℕ) → length (with_line_feed text) ≡ length text + 1
-ended_long text = length-append text (10 ∷ [])
-
 line_text : (text : List ℕ) → take (length (with_line_feed text) - 1) (with_line_feed text) ≡ text
 line_text text =
     let long : length (with_line_feed text) - 1 ≡ length text =

@@ -1,6 +1,7 @@
 -- The lines of a script: what each kind of statement says, whatever stands before it.
 use Rattle.std.specs.Prelude.{ℕ, ◌+◌, ◌/◌, ◌%◌, ◌==◌, nat_le, nat_lt, Bool, false, if◌then◌else◌}
-use Rattle.std.specs.Prelude.{◌&&◌, ◌||◌, List, [], ◌∷◌, length, get_or, codes, Option, None, Some, ℤ}
+use Rattle.std.specs.Prelude.{◌&&◌, ◌||◌, List, [], ◌∷◌, length, get_or, codes, Option, None, Some}
+use Rattle.std.specs.Prelude.{ℤ}
 use Rattle.std.specs.Prelude.{unsigned_abs, option_map}
 use Rattle.chip_core.specs.declared.check_form.CheckForm.{CheckForm}
 use Rattle.chip_core.specs.declared.check_form.CheckForm.TheVariants.{Plain, Complemented}

@@ -1,6 +1,6 @@
 -- Worked values of scripts, which the checker computes.
-use Rattle.std.specs.Prelude.{ℕ, ◌≡◌, refl, ◌/◌, ◌^◌, ◌++◌, List, [], ◌∷◌, codes, map, false}
-use Rattle.std.specs.Prelude.{pos, negsuc, take, Some, Ok, Err}
+use Rattle.std.specs.Prelude.{ℕ, ◌≡◌, refl, ◌/◌, ◌^◌, ◌++◌, List, [], ◌∷◌, codes, map, false, pos}
+use Rattle.std.specs.Prelude.{negsuc, take, Some, Ok, Err}
 use Rattle.hex.specs.Hex.{decode_pairs}
 use Rattle.paging_message.specs.Admitted.{admits}
 use Rattle.paging_message.specs.HalfFrames.{bits_left}
@@ -25,9 +25,8 @@ use Rattle.cell_script.specs.Rows.{numbers_in, past_numbers}
 use Rattle.cell_script.specs.ScriptFields.{script_field, past}
 use Rattle.cell_script.specs.ScriptDrafts.{with_line, with_next}
 use Rattle.cell_script.specs.ScriptLines.{cell_in, freq_in, link_in, stated_page_in, paging_in}
-use Rattle.cell_script.specs.ScriptLines.{past_freq}
-use Rattle.cell_script.specs.ScriptLines.{pilot_in, statement_in, sync_behind, traffic_frame_in}
-use Rattle.cell_script.specs.ScriptLines.{sync_in, traffic_in}
+use Rattle.cell_script.specs.ScriptLines.{past_freq, pilot_in, statement_in, sync_behind}
+use Rattle.cell_script.specs.ScriptLines.{traffic_frame_in, sync_in, traffic_in}
 use Rattle.cell_script.specs.ScriptStages.{page_stage}
 use Rattle.cell_script.specs.Script.{is_line, lines, plan_named, draft_after, stated, stated_plan}
 

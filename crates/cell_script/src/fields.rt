@@ -4,12 +4,10 @@ ghost use Rattle.std.specs.Prelude.{◌≡◌, ◌<◌, ◌≤◌, ℕ, Bool, Li
 ghost use Rattle.std.specs.Prelude.{OnSome, MatchOption, IsTrue, ◌↔◌, unsigned_abs, [], None, Some};
 ghost use Rattle.std.specs.Prelude.{drop, take, ◌^◌, ◌-◌};
 ghost use Rattle.cell_script.specs.ScriptValues.{begins_with, bits_in_text, length_before};
-ghost use Rattle.cell_script.specs.ScriptValues.{number_up_to};
-ghost use Rattle.cell_script.specs.ScriptValues.{power_bits_in};
+ghost use Rattle.cell_script.specs.ScriptValues.{number_up_to, power_bits_in};
 ghost use Rattle.cell_script.specs.Rows.{key_of};
 ghost use Rattle.cell_script.specs.ScriptFields.{IsOfForm, script_field, past, signed_of};
-ghost use Rattle.cell_script.specs.ScriptFields.{unsigned_of};
-ghost use Rattle.cell_script.specs.ScriptFields.{value_of};
+ghost use Rattle.cell_script.specs.ScriptFields.{unsigned_of, value_of};
 
 use crate::tables::{FieldForm, StatementField};
 use crate::values::{

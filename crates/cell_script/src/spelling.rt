@@ -5,9 +5,8 @@ ghost use Rattle.cell_script.specs.Rows.{key_of, local_rows, network_rows};
 ghost use Rattle.cell_script.specs.Spelling.{HasDigits, form_bit, local_values, network_values};
 ghost use Rattle.cell_script.specs.Spelling.{numbers_text, statement_text, value_text};
 ghost use Rattle.cell_script.specs.Spelling.{written_cell, written_frame, written_freq};
-ghost use Rattle.cell_script.specs.Spelling.{written_link, written_page};
-ghost use Rattle.cell_script.specs.Spelling.{written_paging, written_pilot, written_sync};
-ghost use Rattle.cell_script.specs.Spelling.{written_traffic};
+ghost use Rattle.cell_script.specs.Spelling.{written_link, written_page, written_paging};
+ghost use Rattle.cell_script.specs.Spelling.{written_pilot, written_sync, written_traffic};
 
 use crate::statements::{PagingLine, Statement, TrafficLine, frame_key, page_key};
 use crate::tables::{

@@ -2,12 +2,11 @@
 
 ghost use Rattle.std.specs.Prelude.{◌≡◌, ◌≤◌, ◌<◌, ◌^◌, IfSome, IsAscii, OnSome, length};
 ghost use Rattle.cell_script.specs.ScriptLines.{cell_in, check_form, freq_in, link_in};
-ghost use Rattle.cell_script.specs.ScriptLines.{stated_page_in};
-ghost use Rattle.cell_script.specs.ScriptLines.{page_key, page_with, paging_in, past_freq};
-ghost use Rattle.cell_script.specs.ScriptLines.{pilot_in, sync_behind, sync_fields, statement_in};
-ghost use Rattle.cell_script.specs.ScriptLines.{sync_in, lawful_message, traffic_frame_in};
-ghost use Rattle.cell_script.specs.ScriptLines.{frame_key, frame_rate, frame_with, rate_by};
-ghost use Rattle.cell_script.specs.ScriptLines.{traffic_in};
+ghost use Rattle.cell_script.specs.ScriptLines.{stated_page_in, page_key, page_with, paging_in};
+ghost use Rattle.cell_script.specs.ScriptLines.{past_freq, pilot_in, sync_behind, sync_fields};
+ghost use Rattle.cell_script.specs.ScriptLines.{statement_in, sync_in, lawful_message};
+ghost use Rattle.cell_script.specs.ScriptLines.{traffic_frame_in, frame_key, frame_rate};
+ghost use Rattle.cell_script.specs.ScriptLines.{frame_with, rate_by, traffic_in};
 ghost use Rattle.cell_script.specs.Rows.{AreUpTo, local_rows, network_rows, numbers_in};
 ghost use Rattle.cell_script.specs.Rows.{past_numbers};
 ghost use Rattle.cell_script.specs.ScriptPlans.{HasRow};

@@ -2,9 +2,8 @@
 
 ghost use Rattle.std.specs.Prelude.{◌≡◌, ◌++◌, ◌∷◌, [], IfOk, OnOk, map};
 ghost use Rattle.std.specs.List.{flat_map};
-ghost use Rattle.cell_script.specs.Spelling.{lines_of, paging_statements};
-ghost use Rattle.cell_script.specs.Spelling.{script_of, statement_line, sync_statements};
-ghost use Rattle.cell_script.specs.Spelling.{traffic_statements};
+ghost use Rattle.cell_script.specs.Spelling.{lines_of, paging_statements, script_of};
+ghost use Rattle.cell_script.specs.Spelling.{statement_line, sync_statements, traffic_statements};
 ghost use Rattle.cell_script.specs.declared.statements.Statement.TheVariants as stated;
 
 use crate::spelling::append_statement;

@@ -7,10 +7,8 @@ use Rattle.command_line.proofs.Common.{length-map, take-map, take_all, AllPass, 
 use Rattle.command_line.proofs.Common.{result_ok, bytes_eq, digits_from, decode_sized, is_hex_digit, FromHexError, IsOk-decode_sized}
 use Rattle.command_line.proofs.Common.{long_of, long_of_rest, short_of, short_of_rest, strip_byte, OptionRule, ValueForm, Between}
 use Rattle.command_line.proofs.Common.{EightDigits, Given, OptionEntry, Text, added, form_admits, given_behind, has_name, is_allowed}
-use Rattle.command_line.proofs.Common.{is_joined}
-use Rattle.command_line.proofs.Common.{is_named_in, option_joined, names, argument_number_in, part_by, part_of, parted, eight_digits_in}
-use Rattle.command_line.proofs.Common.{value_spelled_in}
-use Rattle.command_line.proofs.Common.{text_in, value_in}
+use Rattle.command_line.proofs.Common.{is_joined, is_named_in, option_joined, names, argument_number_in, part_by, part_of, parted}
+use Rattle.command_line.proofs.Common.{eight_digits_in, value_spelled_in, text_in, value_in}
 
 -- ---- an item of a list after the first k of them
 

@@ -46,20 +46,6 @@ comma_item before text with_comma next items i item long is added behind =
     ∙ ap (λ (n : ℕ). before ++ ((commas items ++ comma_before n) ++ item)) (sym long)
     ∙ ap (λ (xs : List ℕ). before ++ xs) (sym (commas_push items item))
 
-pub below_of_all : (bound : ℕ) (numbers : List ℕ) (i number : ℕ) → All (λ n. n < bound) numbers →
-    slice_get numbers i ≡ Some number → number < bound
-below_of_all bound numbers i number all is =
-    subst (λ (n : ℕ). n < bound) (get_or_from_slice_get numbers i number 0 is)
-    (all i 0 (slice_get_within numbers i number is))
-
--- numbers of fields of one width
-pub fields-below : (width : ℕ) (numbers : List ℕ) → FieldsFit (map (field width) numbers) →
-    All (λ n. n < 2 ^ width) numbers
-fields-below width [] fit k d within = absurd (omega (arith, within))
-fields-below width (n ∷ numbers) fit zero d within = fit.0
-fields-below width (n ∷ numbers) fit (suc k) d within =
-    fields-below width numbers fit.1 k d (omega (arith, within))
-
 -- VALUES AFTER THEIR NAMES
 
 pub no_values : (before : List ℕ) → before ≡ before ++ named_values [] []

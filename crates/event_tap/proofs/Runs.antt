@@ -7,8 +7,7 @@ use Rattle.heard_events.specs.declared.event.Event.{Event}
 use Rattle.heard_events.specs.declared.event.Event.TheVariants.{Pilot}
 use Rattle.event_tap.specs.EventLines.{event_line, events_text}
 use Rattle.event_tap.specs.Taps.{IsKept, KeptTap, form_line, form_lines, heard_text, joined_lines, kept_by, kept_with, left_behind}
-use Rattle.event_tap.specs.Taps.{line_text}
-use Rattle.event_tap.specs.Taps.{line_list, run_taps, run_text, tap_behind, taps_behind}
+use Rattle.event_tap.specs.Taps.{line_text, line_list, run_taps, run_text, tap_behind, taps_behind}
 
 -- EVENTS THAT FOLLOW ONE ANOTHER
 
@@ -34,10 +33,6 @@ run_taps-append taps (event ∷ events) more = run_taps-append (taps_behind taps
 pub run_text-none : (taps : List KeptTap) → run_text taps [] ≡ []
 unfolding run_text
 run_text-none taps = refl
-
-pub run_taps-none : (taps : List KeptTap) → run_taps taps [] ≡ taps
-unfolding run_taps
-run_taps-none taps = refl
 
 -- one event
 pub run_text-one : (taps : List KeptTap) (event : Event) →
@@ -72,11 +67,6 @@ unfolding run_text
 run_text-no_taps [] = refl
 run_text-no_taps (event ∷ events) = run_text-no_taps events
 
-pub run_taps-no_taps : (events : List Event) → run_taps [] events ≡ []
-unfolding run_taps
-run_taps-no_taps [] = refl
-run_taps-no_taps (event ∷ events) = run_taps-no_taps events
-
 -- TAPS THAT ARE KEPT
 
 -- a tap of this form with so many events left
@@ -87,29 +77,6 @@ tap form left = record { form = form; left = left }
 kept_with-left : (form left : ℕ) → 1 ≤ left → kept_with form left ≡ tap form left ∷ []
 kept_with-left form zero some = absurd (omega (arith, some))
 kept_with-left form (suc left) some = search rules
-
-kept_with-kept : (form left : ℕ) → form ≤ 3 → All IsKept (kept_with form left)
-kept_with-kept form zero within = All-nil IsKept
-kept_with-kept form (suc left) within =
-    subst (All IsKept) (sym (kept_with-left form (suc left) (omega arith)))
-    (All-cons IsKept (tap form (suc left)) [] (omega arith, within) (All-nil IsKept))
-
--- each tap that is kept after an event has events left
-pub taps_behind-kept : (taps : List KeptTap) (event : Event) → All IsKept taps →
-    All IsKept (taps_behind taps event)
-taps_behind-kept [] event kept = All-nil IsKept
-taps_behind-kept (t ∷ taps) event kept =
-    All-append IsKept (tap_behind event t) (taps_behind taps event)
-    (kept_with-kept t.form (left_behind (form_line t.form event) t.left)
-    (All-head IsKept t taps kept).1)
-    (taps_behind-kept taps event (All-tail IsKept t taps kept))
-
-pub run_taps-kept : (taps : List KeptTap) (events : List Event) → All IsKept taps →
-    All IsKept (run_taps taps events)
-unfolding run_taps
-run_taps-kept taps [] kept = kept
-run_taps-kept taps (event ∷ events) kept =
-    run_taps-kept (taps_behind taps event) events (taps_behind-kept taps event kept)
 
 -- A SINGLE TAP
 

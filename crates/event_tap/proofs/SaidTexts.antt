@@ -22,7 +22,7 @@ use Rattle.paging_message.proofs.ByLayout.{passes}
 use Rattle.paging_message.specs.Layouts.{paging_names_of, paging_shape_of}
 use Rattle.event_tap.specs.Parts.{are_short}
 use Rattle.event_tap.specs.SaidTexts.{columns_text, digits_in, end_bytes, field_bytes, has_line, is_short_width, line_tests}
-use Rattle.event_tap.specs.SaidTexts.{list_bytes, record_bytes, slash_text, AreListed, IsShown}
+use Rattle.event_tap.specs.SaidTexts.{list_bytes, record_bytes, slash_text, FillColumns, IsShown}
 
 -- what stands after a text stands in front of what follows it
 pub in_front : (text a b c d e : List ℕ) →
@@ -35,7 +35,7 @@ in_front text a b c d e =
 
 -- RECORDS
 -- a number of a record has few digits
-digits_at : (widths : List ℕ) (columns : List (List ℕ)) (i j : ℕ) → AreListed widths columns →
+digits_at : (widths : List ℕ) (columns : List (List ℕ)) (i j : ℕ) → FillColumns widths columns →
     i < height columns → j < length widths →
     length (decimal (get_or (get_or columns j []) i 0)) ≤ digits_in (get_or widths j 0)
 digits_at widths columns i j l h within =
@@ -48,7 +48,7 @@ digits_at widths columns i j l h within =
     (omega (arith, fits, leb-true (2 ^ width) (2 ^ 32) test.0))
 
 -- and as little text
-slash_short : (widths : List ℕ) (columns : List (List ℕ)) (i j : ℕ) → AreListed widths columns →
+slash_short : (widths : List ℕ) (columns : List (List ℕ)) (i j : ℕ) → FillColumns widths columns →
     i < height columns → get_or (shares widths (height columns)) j 0 ≡ share widths (height columns) j →
     length (slash_text i (get_or columns j [])) ≤ field_bytes widths j
 slash_short widths columns i j l h here =
@@ -71,7 +71,7 @@ slash_short widths columns i j l h here =
           rw (outside, none) (omega arith)
     ]
 
-pub record_short : (widths : List ℕ) (columns : List (List ℕ)) (i : ℕ) → AreListed widths columns →
+pub record_short : (widths : List ℕ) (columns : List (List ℕ)) (i : ℕ) → FillColumns widths columns →
     i < height columns → length (columns_text columns i) < record_bytes widths
 record_short widths columns i l h =
     let one = decimal (get_or (get_or columns 0 []) i 0) in

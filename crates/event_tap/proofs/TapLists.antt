@@ -11,8 +11,7 @@ use Rattle.std.specs.Io.KnownBytes.{Appends}
 use Rattle.cdma_io.specs.Outside.{AppendsPrefix}
 use Rattle.heard_events.specs.declared.event.Event.{Event}
 use Rattle.event_tap.specs.Taps.{KeptTap, IsKept, kept_or_done, heard_text, kept_by, tap_behind, kept_with, left_behind, line_text}
-use Rattle.event_tap.specs.Taps.{form_line}
-use Rattle.event_tap.specs.Taps.{taps_behind}
+use Rattle.event_tap.specs.Taps.{form_line, taps_behind}
 use Rattle.event_tap.specs.declared.tap.Heard.{Heard}
 use Rattle.event_tap.specs.declared.tap.Heard.TheVariants.{Keep, Done}
 

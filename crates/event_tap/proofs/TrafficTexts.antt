@@ -10,12 +10,12 @@ use Rattle.traffic_message.proofs.Bodies.{length-message}
 use Rattle.traffic_message.proofs.ByLayout.{combs_paired, record_fits, rows_paired}
 use Rattle.traffic_message.proofs.Directions.{records_room}
 use Rattle.event_tap.specs.Parts.{are_short}
-use Rattle.event_tap.specs.SaidTexts.{has_line, AreListed}
+use Rattle.event_tap.specs.SaidTexts.{has_line, FillColumns}
 use Rattle.event_tap.specs.TrafficLines.{HasFewRecords}
 
 -- they are the records of a list
 pub listed_records : (m : DirectionFields) → IsHandoffDirection m →
-    AreListed (9 ∷ 8 ∷ 1 ∷ []) (m.pns ∷ m.rows ∷ m.combs ∷ [])
+    FillColumns (9 ∷ 8 ∷ 1 ∷ []) (m.pns ∷ m.rows ∷ m.combs ∷ [])
 listed_records m is =
     record {
       some = omega arith;

@@ -1,5 +1,6 @@
 -- What lines tell of messages, by the names of their layouts.
-use Rattle.std.specs.Prelude.{ℕ, ◌≡◌, ◌+◌, ◌*◌, ◌/◌, ◌^◌, ◌==◌, ◌≢◌, ◌<◌, ◌≤◌, ◌&&◌, if◌then◌else◌, Bool, true}
+use Rattle.std.specs.Prelude.{ℕ, ◌≡◌, ◌+◌, ◌*◌, ◌/◌, ◌^◌, ◌==◌, ◌≢◌, ◌<◌, ◌≤◌, ◌&&◌, if◌then◌else◌}
+use Rattle.std.specs.Prelude.{Bool, true}
 use Rattle.std.specs.Prelude.{List, [], ◌∷◌, ◌++◌, length, map, get_or, nat_le, nat_lt, codes}
 use Rattle.std.specs.Prelude.{decimal, Option, None, Some}
 use Rattle.std.specs.List.{list_all}
@@ -69,7 +70,7 @@ abbrev pub record_bytes : List ℕ → ℕ
 record_bytes widths = field_bytes widths 0 + field_bytes widths 1 + field_bytes widths 2
 
 -- the records of a list have each the same fields, whose numbers are that short
-pub record AreListed (widths : List ℕ) (columns : List (List ℕ)) : Type 0 where
+pub record FillColumns (widths : List ℕ) (columns : List (List ℕ)) : Type 0 where
   pub some : 1 ≤ length widths
   pub few : length widths ≤ 3
   pub even : map length columns ≡ shares widths (height columns)
@@ -112,7 +113,7 @@ pub record IsShown (layout : Layout) (c : Contents) : Type 0 where
   pub word : IsAscii layout.name.now
   pub list : IsAscii layout.records.name.now
   pub short : are_short (line_names layout).fixed (shape layout).fixed ≡ true
-  pub records : length layout.records.fields.now ≢ 0 → AreListed (shape layout).records c.columns
+  pub records : length layout.records.fields.now ≢ 0 → FillColumns (shape layout).records c.columns
   pub end : is_short_end layout.most ≡ true
   pub some : 44 ≤ end_bytes layout.most
   pub room : 96 + length layout.name.now + 16 * length layout.fixed.now

@@ -1,5 +1,6 @@
 -- The lines of the messages of the traffic channel, in the style of the lines of events.
-use Rattle.std.specs.Prelude.{ℕ, ◌≤◌, List, [], ◌∷◌, ◌++◌, length, codes, decimal, Option, Some, None}
+use Rattle.std.specs.Prelude.{ℕ, ◌≤◌, List, [], ◌∷◌, ◌++◌, length, codes, decimal, Option, Some}
+use Rattle.std.specs.Prelude.{None}
 use Rattle.traffic_message.specs.Handoff.{search_values, time_values}
 use Rattle.traffic_message.specs.Layouts.{form_in, traffic_contents_of, traffic_names_of}
 use Rattle.traffic_message.specs.Layouts.{traffic_shape_of}

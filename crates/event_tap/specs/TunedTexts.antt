@@ -17,8 +17,7 @@ use Rattle.heard_events.specs.declared.soft_frame.PowerControl.{PowerControl}
 use Rattle.heard_events.specs.declared.soft_frame.SoftFrame.{SoftFrame}
 use Rattle.event_tap.specs.Slots.{slot_more, slot_text}
 use Rattle.event_tap.specs.declared.tuned_text.TunedText.{TunedText}
-use Rattle.event_tap.specs.declared.tuned_text.TunedText.TheVariants.{Listed, RateSetTwo}
-use Rattle.event_tap.specs.declared.tuned_text.TunedText.TheVariants.{Slots}
+use Rattle.event_tap.specs.declared.tuned_text.TunedText.TheVariants.{Listed, RateSetTwo, Slots}
 
 -- ---- the frames after the mark, and their text
 

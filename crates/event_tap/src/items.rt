@@ -3,7 +3,7 @@
 ghost use Rattle.std.specs.Prelude.{ℕ, ◌≡◌, ◌<◌, ◌≤◌, ◌+◌, ◌*◌, List, [], ◌++◌, length};
 ghost use Rattle.std.specs.Prelude.{get_or, map, decimal, ⊤};
 ghost use Rattle.event_tap.specs.Parts.{comma_before, commas};
-ghost use Rattle.event_tap.specs.SaidTexts.{columns_texts, record_bytes, slash_text, AreListed};
+ghost use Rattle.event_tap.specs.SaidTexts.{columns_texts, record_bytes, slash_text, FillColumns};
 ghost use Rattle.event_tap.specs.SetsLines.{active_text};
 ghost use Rattle.message_layout.specs.Contents.{height};
 
@@ -111,7 +111,7 @@ pub(crate) struct Listed<'a> {
 }
 
 impl<'a> Items for Listed<'a> {
-    ghost fit = { λ l. AreListed (map (λ row. row.1) l.fields.now) l.columns.now };
+    ghost fit = { λ l. FillColumns (map (λ row. row.1) l.fields.now) l.columns.now };
 
     ghost size = { λ l. height l.columns.now };
 

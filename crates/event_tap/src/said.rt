@@ -6,7 +6,7 @@ ghost use Rattle.message_layout.specs.Spelling.{IsOf, IsRest};
 ghost use Rattle.event_tap.specs.Parts.{rest_text};
 ghost use Rattle.event_tap.specs.SaidTexts.{end_bytes, has_line, is_short_end, kind_text};
 ghost use Rattle.event_tap.specs.SaidTexts.{list_bytes, list_text, message_text, said_text};
-ghost use Rattle.event_tap.specs.SaidTexts.{AreListed, IsShown};
+ghost use Rattle.event_tap.specs.SaidTexts.{FillColumns, IsShown};
 
 use crate::items::{Listed, append_items};
 use crate::parts::{append_few_rest, append_rest, append_values};
@@ -64,7 +64,7 @@ fn append_said(text: &mut Text, layout: &Layout, contents: &Contents)
 fn append_list(text: &mut Text, records: &Records, columns: &[Numbers; 3])
     requires ascii { IsAscii records.now.name.now }
     requires listed { length records.now.fields.now ≢ 0 →
-        AreListed (map (λ row. row.1) records.now.fields.now) columns.now }
+        FillColumns (map (λ row. row.1) records.now.fields.now) columns.now }
     requires room { length text.old + list_bytes records.now.name.now
         (map (λ row. row.1) records.now.fields.now) + 44 ≤ 1024 }
     ensures value { text.new ≡ text.old ++ list_text records.now.name.now

@@ -5,11 +5,9 @@ use Rattle.mobile_core.proofs.Common.{PagingMessage, accepted_of, direction_faul
 use Rattle.mobile_core.proofs.Common.{with_thresholds, DirectionFault, Accepted, CapsuleStandsFor, TrafficBody, at_of, legs_of, legs_by}
 use Rattle.mobile_core.proofs.Common.{moment_place, all_noted, body_noted, moment_from, moments_before, noted, noted_with, page_noted}
 use Rattle.mobile_core.proofs.Common.{system_thresholds, capsule_with, signaling_message_at, message_events, signal_at, signal_in}
-use Rattle.mobile_core.proofs.Common.{signal_of}
-use Rattle.mobile_core.proofs.Common.{signals_before, GivesFirst, HearsTraffic, HearsWith, IsSoundHandoff, noted_by, told_left_with}
-use Rattle.mobile_core.proofs.Common.{frame_known, Tuning, Leg, kept_in, sets_left_of, clock_after_frame, Event, Mark, Traffic}
-use Rattle.mobile_core.proofs.Common.{SpelledSignal}
-use Rattle.mobile_core.proofs.Common.{SoftHandoff}
+use Rattle.mobile_core.proofs.Common.{signal_of, signals_before, GivesFirst, HearsTraffic, HearsWith, IsSoundHandoff, noted_by}
+use Rattle.mobile_core.proofs.Common.{told_left_with, frame_known, Tuning, Leg, kept_in, sets_left_of, clock_after_frame, Event, Mark}
+use Rattle.mobile_core.proofs.Common.{Traffic, SpelledSignal, SoftHandoff}
 use Rattle.heard_events.proofs.TrafficGrowth.{signals_more, told_left, told_next}
 use Rattle.mobile_core.proofs.FramesHeard.{closes, due_inside, left_unkept}
 use Rattle.heard_events.specs.TrafficEvents.{power_bits_at, decoded_at, frame_event, frame_heard as heard_frame}

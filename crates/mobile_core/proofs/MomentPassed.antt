@@ -2,9 +2,8 @@
 use Rattle.mobile_core.proofs.Common.{◌≡◌, ℕ, ◌+◌, ◌-◌, ◌<◌, ◌≤◌, List, [], ◌∷◌, ◌++◌, length, take, sym, ap, ◌∙◌, arith, subst, Option}
 use Rattle.mobile_core.proofs.Common.{None, inl, inr, true, false, ◌==◌, flat_map, option_to_list, cases_lt, eq-eqb, take_all, Sample}
 use Rattle.mobile_core.proofs.Common.{filter_ext_places, flat_map_ext_filter_places, Standing, CapsuleStandsFor, AreClose, event_list}
-use Rattle.mobile_core.proofs.Common.{all_fingers}
-use Rattle.mobile_core.proofs.Common.{legs_of, heard_from, kept_to, legs_by, moment_of, moment_place, passed, sets_events, all_noted}
-use Rattle.mobile_core.proofs.Common.{signal_at, signals_before, decoded_at, HearsTraffic, HearsUntuned, kept_in, sets_left_of}
+use Rattle.mobile_core.proofs.Common.{all_fingers, legs_of, heard_from, kept_to, legs_by, moment_of, moment_place, passed, sets_events}
+use Rattle.mobile_core.proofs.Common.{all_noted, signal_at, signals_before, decoded_at, HearsTraffic, HearsUntuned, kept_in, sets_left_of}
 use Rattle.mobile_core.proofs.Common.{told_left_with, traffic_left_of, frame_known, has_frame, Tuning, Event, Leg, IsSoundHandoff, Mark}
 use Rattle.mobile_core.proofs.Common.{SetsKeeper, Traffic, SoftHandoff}
 use Rattle.std.proofs.lemmas.List.{append-nil}

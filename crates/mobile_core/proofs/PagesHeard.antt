@@ -3,9 +3,8 @@ use Rattle.mobile_core.proofs.Common.{◌≡◌, ℕ, ◌+◌, ◌<◌, ◌≤�
 use Rattle.mobile_core.proofs.Common.{subst, arith, inl, inr, Option, Some, slice_get, nat_lt, option_to_list, cases_lt, lt-ltb, le-ltb}
 use Rattle.mobile_core.proofs.Common.{append_assoc, take_all, taken_more, Sample, Framing, half_frame_body, half_frame_capsule_ending}
 use Rattle.mobile_core.proofs.Common.{IsDueAt, clock_after_frame, paging_bits_before, bits_up_to, page_at, page_in, pages_from, HearsBit}
-use Rattle.mobile_core.proofs.Common.{HearsPaging}
-use Rattle.mobile_core.proofs.Common.{bit_passed, pages_left, paging_rate, paging_stream, Receives, frame_own_bits, Tuning, Continued, Mark}
-use Rattle.mobile_core.proofs.Common.{PagingReceiver, SpelledPage}
+use Rattle.mobile_core.proofs.Common.{HearsPaging, bit_passed, pages_left, paging_rate, paging_stream, Receives, frame_own_bits, Tuning}
+use Rattle.mobile_core.proofs.Common.{Continued, Mark, PagingReceiver, SpelledPage}
 use Rattle.std.proofs.lemmas.List.{append-nil}
 use Rattle.paging_message.specs.HalfFrames.{HalfFramesStandFor}
 use Rattle.reception.proofs.ClockSteps.{due_inside, due_known, before_next}

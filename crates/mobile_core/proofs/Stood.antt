@@ -3,8 +3,7 @@ use Rattle.mobile_core.proofs.Common.{◌≡◌, ℕ, ◌+◌, ◌<◌, ◌≤�
 use Rattle.mobile_core.proofs.Common.{Option, Some, None, Bool, true, IsTrue, is_some, list_any, ForSome, append_assoc, list_any-append}
 use Rattle.mobile_core.proofs.Common.{Sample, Best, Held, HoldsLast, IsDueAt, events, EndFrom, HearsFollowed, IsFollowedDue, CheckForm}
 use Rattle.mobile_core.proofs.Common.{WaitFrom, first_of, mark_before, marks_at, followed_events_left, event_list, pilot_left}
-use Rattle.mobile_core.proofs.Common.{sync_events_left}
-use Rattle.mobile_core.proofs.Common.{sets_mark, AreNear, SetsMark, IsSoundSync, IsDueIn, Stands, left_of, HearsSync}
+use Rattle.mobile_core.proofs.Common.{sync_events_left, sets_mark, AreNear, SetsMark, IsSoundSync, IsDueIn, Stands, left_of, HearsSync}
 use Rattle.mobile_core.proofs.Common.{HearsNext, Tuning, sync_stream, Event, Pilot, Followed, Mark, SyncReceiver, ◌||◌}
 use Rattle.std.proofs.lemmas.List.{append-nil}
 use Rattle.mobile_core.proofs.ChannelsFollowed.{ends_later, followed_more, goes_on}

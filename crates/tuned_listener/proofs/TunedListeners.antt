@@ -4,10 +4,9 @@ use Rattle.tuned_listener.proofs.Common.{append-nil, append_assoc, arith, subst,
 use Rattle.tuned_listener.proofs.Common.{Appends-nil, take-append-drop, take_all, CheckForm, Sample, Near, IsLawful, mark, AreNear}
 use Rattle.tuned_listener.proofs.Common.{soft_frames, frame_most, IsTunedTo, Tuning, sync_stream, Channel, Paging, Traffic, Mark, Mobile}
 use Rattle.tuned_listener.proofs.Common.{SoftFrame, Tuner, HoldsFrames, IsReady, WritesFrames, WritesFramesPart, tuned_text_of}
-use Rattle.tuned_listener.proofs.Common.{ListensAhead, nil_from_length}
-use Rattle.tuned_listener.proofs.Common.{ListensBehind, ListensFrom, ListensTuned, TellsTuned, TellsTunedPart, IsReadyForSlots, slot_behind}
-use Rattle.tuned_listener.proofs.Common.{behind_mark, frames_from, text_from, tuned_text, FrameWriter, SlotWriter, Behind, TunedListener}
-use Rattle.tuned_listener.proofs.Common.{TunedText}
+use Rattle.tuned_listener.proofs.Common.{ListensAhead, nil_from_length, ListensBehind, ListensFrom, ListensTuned, TellsTuned}
+use Rattle.tuned_listener.proofs.Common.{TellsTunedPart, IsReadyForSlots, slot_behind, behind_mark, frames_from, text_from, tuned_text}
+use Rattle.tuned_listener.proofs.Common.{FrameWriter, SlotWriter, Behind, TunedListener, TunedText}
 use Rattle.tuned_listener.proofs.FrameTexts.{kept_behind_none}
 use Rattle.heard_events.proofs.MarkGrowth.{none_marked}
 use Rattle.tuned_listener.proofs.TunedMarks.{mark_kept, there_eq, there_le}

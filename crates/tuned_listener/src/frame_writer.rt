@@ -14,8 +14,7 @@ ghost use Rattle.heard_events.specs.Tuning.{Tuning};
 ghost use Rattle.heard_events.specs.declared.channel.Channel.{Channel as TheChannel};
 ghost use Rattle.heard_events.specs.declared.soft_frame.SoftFrame.{SoftFrame as TheFrame};
 ghost use Rattle.tuned_listener.specs.FrameWriting.{HoldsFrames, IsLawfulText, IsReady};
-ghost use Rattle.tuned_listener.specs.FrameWriting.{tuned_text_of};
-ghost use Rattle.tuned_listener.specs.FrameWriting.{WritesFrames, WritesFramesPart};
+ghost use Rattle.tuned_listener.specs.FrameWriting.{tuned_text_of, WritesFrames, WritesFramesPart};
 ghost use Rattle.event_tap.specs.Slots.{slot_behind, slot_more};
 ghost use Rattle.event_tap.specs.TunedTexts.{listed_text, rate2_text, tuned_frame_text};
 
