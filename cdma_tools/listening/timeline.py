@@ -114,9 +114,8 @@ class Timeline:
         return Instants(times, rates, turns[number] + phase * (1 + slope))
 
     def path_times(self, chips: NDArray[numpy.float64]) -> NDArray[numpy.float64]:
-        """The nominal times at which chips come over the path that is followed: their instants without the shift."""
-        shifts = [node.shift for node in self.nodes]
-        return self.at(chips).times - numpy.interp(chips, [node.chip for node in self.nodes], shifts)
+        """The nominal times at which chips between the nodes come over the path that is followed, without the shift."""
+        return chips + numpy.interp(chips, [node.chip for node in self.nodes], [node.offset for node in self.nodes])
 
     def time_of(self, chip: float) -> float:
         """The nominal time of one chip."""
