@@ -168,11 +168,11 @@ pub use Rattle.rake_finger.specs.declared.finger.Finger.{Finger}
 pub use Rattle.rake_finger.specs.declared.form.Form.TheVariants.{Data, Sync}
 pub use Rattle.short_code.specs.Despread.{code_point}
 pub use Rattle.short_code.specs.ShortCode.{pilot_chip}
-pub use Rattle.symbol_path.proofs.Agreement.{get_or-sent, length-sent}
+pub use Rattle.symbol_path.proofs.Agreement.{get_or-sent_by, length-sent}
 pub use Rattle.symbol_path.proofs.Permutation.{address-place, place_lt}
 pub use Rattle.symbol_path.proofs.PowerPlaces.{ArePairs, pairs_below, pairs_in_groups, pairs_neighbours, power_place_in_groups}
 pub use Rattle.symbol_path.proofs.SentOnceTwo.{kept_once}
-pub use Rattle.symbol_path.proofs.SentTwo.{get_or-sent2, length-sent2}
+pub use Rattle.symbol_path.proofs.SentTwo.{length-sent2}
 pub use Rattle.symbol_path.proofs.SymbolChips.{on_again}
 pub use Rattle.symbol_path.specs.FramesTwo.{codeword_bits}
 pub use Rattle.symbol_path.specs.Scrambling.{group_scrambling, power_place, power_start, scrambling, symbol_or_power_bit}

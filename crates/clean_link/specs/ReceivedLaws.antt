@@ -15,7 +15,7 @@ use Rattle.clean_frames.specs.SentFrames.{IsAssigned, replaced_of, SendsSetTwo, 
 use Rattle.clean_frames.specs.SentFrames.{ShowPowerBits, IsDistinctFrame}
 use Rattle.clean_link.specs.ReceivedFrames.{IsDistinctFrame2, codeword_symbols2, cycled_frame2}
 use Rattle.clean_link.specs.ReceivedFrames.{AreReceived, IsReceived, IsReceivedAs, IsSentFrame2}
-use Rattle.clean_link.specs.TrafficLaws.{HavePowerSigns, IsOnlyBestFrame, IsOnlyBestFrame2}
+use Rattle.clean_link.specs.TrafficLaws.{HavePowerSigns, SetOneIsTheOnlyBest, SetTwoIsTheOnlyBest}
 use Rattle.clean_link.specs.TrafficLaws.{HearsSentTraffic, HoldsOfBearing, NoisyFrame}
 use Rattle.clean_signal.specs.BoundedNoise.{Bears}
 use Rattle.clean_link.specs.CleanLaws.{HearsSentSync}
@@ -125,23 +125,13 @@ NoisyFramesAreReceived = HoldsOfBearing (λ plan p t traffic m superframes sampl
 -- So of all codewords of every rate the one that a distinct frame of rate set 1 sends alone has the
 -- greatest score,
 abbrev pub NoisyReceivedAreTheOnlyBest : Type 0
-NoisyReceivedAreTheOnlyBest = (plan : CellPlan) (p : TrafficPlan) (frame : ℕ) (f : SetOneFrame)
-    (soft : SoftFrame) → IsSetOneFrame f →
-    IsReceivedBySigns plan p frame (codeword_symbols f) f.power_bits soft →
-    IsDistinctFrame (replaced_of plan p frame) f →
-    IsOnlyBestFrame (replaced_of plan p frame) soft.descrambled f.rate
-    (frame_codeword f.rate f.information)
+NoisyReceivedAreTheOnlyBest = SetOneIsTheOnlyBest IsReceivedBySigns
 
 -- ---- frames of rate set 2
 
 -- and so has the one that a distinct frame of rate set 2 sends.
 abbrev pub NoisySetTwoAreTheOnlyBest : Type 0
-NoisySetTwoAreTheOnlyBest = (plan : CellPlan) (p : TrafficPlan) (frame : ℕ) (f : SetTwoFrame)
-    (soft : SoftFrame) → IsSetTwoFrame f →
-    IsReceivedBySigns plan p frame (codeword_symbols2 f) f.power_bits soft →
-    IsDistinctFrame2 (replaced_of plan p frame) f →
-    IsOnlyBestFrame2 (replaced_of plan p frame) soft.descrambled f.rate
-    (second.frame_codeword2 f.rate f.information)
+NoisySetTwoAreTheOnlyBest = SetTwoIsTheOnlyBest IsReceivedBySigns
 
 -- What is decoded of a frame that comes back: its rate and its information bits, as a good frame,
 -- with any score.

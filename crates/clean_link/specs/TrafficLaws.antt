@@ -202,25 +202,34 @@ HeardAreTheOnlyBest = HoldsOfCleanFrames (λ plan p t traffic m legs k f.
     (frame_softs (made_samples plan) (stream_of t traffic m legs k) k) f.rate
     (frame_codeword f.rate f.information))
 
--- and of one that is received of the reference base station alone.
-abbrev pub ReceivedAreTheOnlyBest : Type 0
-ReceivedAreTheOnlyBest = (plan : CellPlan) (p : TrafficPlan) (frame : ℕ) (f : SetOneFrame)
+-- A distinct frame of rate set 1 of which something is received by the symbols that it sends.
+abbrev pub SetOneIsTheOnlyBest : (CellPlan → TrafficPlan → ℕ → List Bool → List Bool → SoftFrame →
+    Type 0) → Type 0
+SetOneIsTheOnlyBest Receives = (plan : CellPlan) (p : TrafficPlan) (frame : ℕ) (f : SetOneFrame)
     (soft : SoftFrame) → IsSetOneFrame f →
-    IsReceivedAs plan p frame (codeword_symbols f) f.power_bits soft →
+    Receives plan p frame (codeword_symbols f) f.power_bits soft →
     IsDistinctFrame (replaced_of plan p frame) f →
     IsOnlyBestFrame (replaced_of plan p frame) soft.descrambled f.rate
     (frame_codeword f.rate f.information)
 
+-- so it is of one that is received of the reference base station alone,
+abbrev pub ReceivedAreTheOnlyBest : Type 0
+ReceivedAreTheOnlyBest = SetOneIsTheOnlyBest IsReceivedAs
+
 -- ---- rate set 2
 
--- so it is of a distinct frame of that set
-abbrev pub SetTwoAreTheOnlyBest : Type 0
-SetTwoAreTheOnlyBest = (plan : CellPlan) (p : TrafficPlan) (frame : ℕ) (f : SetTwoFrame)
+abbrev pub SetTwoIsTheOnlyBest : (CellPlan → TrafficPlan → ℕ → List Bool → List Bool → SoftFrame →
+    Type 0) → Type 0
+SetTwoIsTheOnlyBest Receives = (plan : CellPlan) (p : TrafficPlan) (frame : ℕ) (f : SetTwoFrame)
     (soft : SoftFrame) → IsSetTwoFrame f →
-    IsReceivedAs plan p frame (codeword_symbols2 f) f.power_bits soft →
+    Receives plan p frame (codeword_symbols2 f) f.power_bits soft →
     IsDistinctFrame2 (replaced_of plan p frame) f →
     IsOnlyBestFrame2 (replaced_of plan p frame) soft.descrambled f.rate
     (second.frame_codeword2 f.rate f.information)
+
+-- and of a distinct frame of that set
+abbrev pub SetTwoAreTheOnlyBest : Type 0
+SetTwoAreTheOnlyBest = SetTwoIsTheOnlyBest IsReceivedAs
 
 -- ---- a channel that bears noise
 

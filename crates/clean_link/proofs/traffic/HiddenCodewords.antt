@@ -5,8 +5,8 @@ use Rattle.clean_link.proofs.Common.{and_from, and_parts, drop_at, drop-drop, xo
 use Rattle.clean_link.proofs.Common.{behind, length-state_after, pair, state_after-append, state_after-none, is_hidden, is_kept, is_seen}
 use Rattle.clean_link.proofs.Common.{stays_apart, ◌/◌, ⊎_elim, nat_eq, cases_Bool, eq-eqb, eqb-true, not-true, or_cases, or_left, or_right}
 use Rattle.clean_link.proofs.Common.{list_all_at, list_any-append, places, places-none, places-more, length-places, get_or-places}
-use Rattle.clean_link.proofs.Common.{get_or-sent, address, data_shape, place, sent, sent_by, address-place, place_lt, AgreeElsewhere}
-use Rattle.clean_link.proofs.Common.{is_replaced, lost_symbols, subst, length-append, code_symbols, symbols_at, quality_indicator}
+use Rattle.clean_link.proofs.Common.{get_or-sent_by, address, data_shape, place, sent, sent_by, address-place, place_lt, AgreeElsewhere}
+use Rattle.clean_link.proofs.Common.{is_replaced, lost_symbols, map, subst, length-append, code_symbols, symbols_at, quality_indicator}
 use Rattle.clean_link.proofs.Common.{quality_of, traffic_codeword, R9600, R4800, R2400, R1200, codeword_fills, codewords_same}
 use Rattle.clean_link.proofs.Common.{frame_codeword, shows_full_rate, tells_all_bits, full_rate_symbols, FullRateFramesAreDistinct, binary}
 use Rattle.clean_link.proofs.Common.{check_bits, IsAllowed, Zero, IsUnshared, frame_bits, frame_symbols, replaced_places, some_information}
@@ -53,51 +53,74 @@ at_one p (suc n) any = ⊎_elim
     (found.0, omega (arith, found.1), found.2))
     (cases_Bool (p n))
 
--- the symbol that is sent at a code symbol's place
-sent_there : (repeats : ℕ) (symbols : List Bool) (a : ℕ) → a < 384 →
-    get_or (sent data_shape repeats symbols) (place data_shape a) false
-    ≡ get_or symbols (a / repeats) false
-sent_there repeats symbols a below =
-    get_or-sent data_shape repeats symbols (place data_shape a) (place_lt Data a below)
-    ∙ ap (λ (n : ℕ). get_or symbols (n / repeats) false) (address-place Data a below)
+-- ---- repeated symbols that are known
 
--- a replaced place loses its code symbol
-replaced_lost : (replaced : List ℕ) (p : ℕ) → is_replaced replaced p ≡ true →
-    is_replaced (lost_symbols replaced) (address data_shape p) ≡ true
-replaced_lost [] p out = out
-replaced_lost (q ∷ places) p out =
-    let a = address data_shape p in
+-- repeated symbol k is sent at a place that isn't replaced, where these are sent at each place
+pub record IsThere (repeated : ℕ → ℕ) (replaced : List ℕ) (k : ℕ) : Type 0 where
+  pub sent_as : ℕ
+  pub below : sent_as < 384
+  pub is : repeated sent_as ≡ k
+  pub left : is_replaced replaced sent_as ≡ false
+
+-- a replaced place loses its repeated symbol
+replaced_lost : (repeated : ℕ → ℕ) (replaced : List ℕ) (i : ℕ) → is_replaced replaced i ≡ true →
+    is_replaced (map repeated replaced) (repeated i) ≡ true
+replaced_lost repeated [] i out = out
+replaced_lost repeated (q ∷ places) i out =
+    let k = repeated i in
     ⊎_elim
-    (λ (here : nat_eq p q ≡ true).
-    or_left (nat_eq a (address data_shape q)) (is_replaced (lost_symbols places) a)
-    (eq-eqb a (address data_shape q) (ap (address data_shape) (eqb-true p q here))))
-    (λ (behind : is_replaced places p ≡ true).
-    or_right (nat_eq a (address data_shape q)) (is_replaced (lost_symbols places) a)
-    (replaced_lost places p behind))
-    (or_cases (nat_eq p q) (is_replaced places p) out)
+    (λ (here : nat_eq i q ≡ true).
+    or_left (nat_eq k (repeated q)) (is_replaced (map repeated places) k)
+    (eq-eqb k (repeated q) (ap repeated (eqb-true i q here))))
+    (λ (behind : is_replaced places i ≡ true).
+    or_right (nat_eq k (repeated q)) (is_replaced (map repeated places) k)
+    (replaced_lost repeated places i behind))
+    (or_cases (nat_eq i q) (is_replaced places i) out)
 
--- so a kept symbol's place isn't replaced
-not_replaced : (replaced : List ℕ) (a : ℕ) → a < 384 → is_kept (lost_symbols replaced) a ≡ true →
-    is_replaced replaced (place data_shape a) ≡ false
-not_replaced replaced a below kept = ⊎_elim
-    (λ (out : is_replaced replaced (place data_shape a) ≡ true).
-    let lost : is_replaced (lost_symbols replaced) a ≡ true =
-    ap (is_replaced (lost_symbols replaced)) (sym (address-place Data a below))
-    ∙ replaced_lost replaced (place data_shape a) out in
-    let none = not-true (is_replaced (lost_symbols replaced) a) kept in
-    absurd (cc))
-    (λ (left : is_replaced replaced (place data_shape a) ≡ false). left)
-    (cases_Bool (is_replaced replaced (place data_shape a)))
+-- so the place of a kept one isn't replaced
+pub kept_there : (repeated : ℕ → ℕ) (replaced : List ℕ) (k i : ℕ) → i < 384 → repeated i ≡ k →
+    is_kept (map repeated replaced) k ≡ true → IsThere repeated replaced k
+kept_there repeated replaced k i below is kept =
+    let lost = map repeated replaced in record {
+      sent_as = i;
+      below = below;
+      is = is;
+      left = ⊎_elim
+          (λ (out : is_replaced replaced i ≡ true).
+          let gone : is_replaced lost k ≡ true =
+          ap (is_replaced lost) (sym is) ∙ replaced_lost repeated replaced i out in
+          let none = not-true (is_replaced lost k) kept in
+          absurd (cc))
+          (λ (left : is_replaced replaced i ≡ false). left)
+          (cases_Bool (is_replaced replaced i));
+    }
 
 -- where it is kept, two frames that agree elsewhere have the same one
-pub kept_agree : (replaced : List ℕ) (xs ys : List Bool) (r s a : ℕ) → a < 384 →
+pub known_agree : (repeated : ℕ → ℕ) (replaced : List ℕ) (xs ys : List Bool) (r s k : ℕ) →
+    IsThere repeated replaced k →
+    AgreeElsewhere replaced (sent_by (λ i. repeated i / r) 384 xs)
+    (sent_by (λ i. repeated i / s) 384 ys) →
+    get_or xs (k / r) false ≡ get_or ys (k / s) false
+known_agree repeated replaced xs ys r s k there agree =
+    sym (get_or-sent_by (λ i. repeated i / r) 384 xs there.sent_as there.below
+    ∙ ap (λ (n : ℕ). get_or xs (n / r) false) there.is)
+    ∙ agree there.sent_as there.below there.left
+    ∙ get_or-sent_by (λ i. repeated i / s) 384 ys there.sent_as there.below
+    ∙ ap (λ (n : ℕ). get_or ys (n / s) false) there.is
+
+-- as the code symbols of rate set 1 are
+pub symbol_there : (replaced : List ℕ) (a : ℕ) → a < 384 → is_kept (lost_symbols replaced) a ≡ true →
+    IsThere (address data_shape) replaced a
+symbol_there replaced a below =
+    kept_there (address data_shape) replaced a (place data_shape a) (place_lt Data a below)
+    (address-place Data a below)
+
+kept_agree : (replaced : List ℕ) (xs ys : List Bool) (r s a : ℕ) → a < 384 →
     is_kept (lost_symbols replaced) a ≡ true →
     AgreeElsewhere replaced (sent data_shape r xs) (sent data_shape s ys) →
     get_or xs (a / r) false ≡ get_or ys (a / s) false
-kept_agree replaced xs ys r s a below kept agree =
-    sym (sent_there r xs a below)
-    ∙ agree (place data_shape a) (place_lt Data a below) (not_replaced replaced a below kept)
-    ∙ sent_there s ys a below
+kept_agree replaced xs ys r s a below kept =
+    known_agree (address data_shape) replaced xs ys r s a (symbol_there replaced a below kept)
 
 -- ---- sums of codewords
 

@@ -1,16 +1,16 @@
 -- Frames of both rate sets are distinct where no other codeword shares their symbols.
 use Rattle.clean_link.proofs.Common.{◌≡◌, ℕ, ◌+◌, ◌-◌, ◌*◌, ◌/◌, ◌<◌, ◌≤◌, ◌⊎◌, Bool, true, false, not, List, [], ◌∷◌, ◌++◌, length, get_or}
-use Rattle.clean_link.proofs.Common.{drop, replicate, refl, sym, ap, ◌∙◌, arith, subst, ⊎_elim, inl, inr, nat_eq, ◌≢◌, list_any, and_parts}
-use Rattle.clean_link.proofs.Common.{cases_Bool, eq-eqb, eqb-true, not-true, or_cases, or_left, or_right, drop_at, drop-drop, code_symbols}
-use Rattle.clean_link.proofs.Common.{state_after, repeats_of, traffic_codeword, Rate, R9600, R4800, R2400, R1200, data_shape, sent}
-use Rattle.clean_link.proofs.Common.{codeword_bits, is_dropped, repeated_symbol, sent2, Rate2, R14400, R7200, R3600, R1800, kept_once}
-use Rattle.clean_link.proofs.Common.{get_or-sent2, IsAllowed, Codeword, Zero, codewords_same, frame_codeword, AgreeElsewhere, frame_bits}
-use Rattle.clean_link.proofs.Common.{frame_symbols, is_replaced, is_kept, lost_symbols, is_known2, lost_symbols2, symbols_known_of}
+use Rattle.clean_link.proofs.Common.{drop, replicate, refl, sym, ap, ◌∙◌, arith, subst, inl, inr, ◌≢◌, list_any, and_parts}
+use Rattle.clean_link.proofs.Common.{not-true, drop_at, drop-drop, code_symbols}
+use Rattle.clean_link.proofs.Common.{state_after, repeats_of, traffic_codeword, Rate, R9600, R4800, R2400, R1200, address, data_shape, sent_by}
+use Rattle.clean_link.proofs.Common.{codeword_bits, is_dropped, repeated_symbol, Rate2, R14400, R7200, R3600, R1800, kept_once}
+use Rattle.clean_link.proofs.Common.{IsAllowed, Codeword, Zero, codewords_same, frame_codeword, AgreeElsewhere, frame_bits}
+use Rattle.clean_link.proofs.Common.{is_kept, lost_symbols, is_known2, lost_symbols2, symbols_known_of}
 use Rattle.clean_link.proofs.Common.{codewords_giving, AreDistinctBySharing, AreDistinctBySharing2, bits_least, zero, suc, ◌&&◌, ◌||◌, map}
 use Rattle.clean_link.proofs.Common.{filter, if◌then◌else◌, flat_map, list_all, range_with_len, booleans_Decides, pointwise}
 use Rattle.clean_link.proofs.Common.{pointwise_decides, beq, and_from, list_all-append, list_all-map, g0, g1, symbol, before, behind, pair}
 use Rattle.clean_link.proofs.Common.{state_after-append, state_after-none, symbols_at, gives}
-use Rattle.clean_link.proofs.traffic.HiddenCodewords.{kept_agree, all_kept, either_bit, first_of, left_over, next_long, second_of}
+use Rattle.clean_link.proofs.traffic.HiddenCodewords.{IsThere, kept_there, known_agree, symbol_there, all_kept, either_bit, first_of, left_over, next_long, second_of}
 use Rattle.symbol_path.specs.RatesTwo as rates_two
 use Rattle.rate_set_two.specs.TrafficFrames as frames_two
 
@@ -246,6 +246,43 @@ one_codeword shown size rate r bits v own (inr other) enough allowed giving alon
     absurd (given_none (shown r) (size r) 0 (replicate 8 false) v.bits refl allowed.bits_long
     (closed (size r) v enough allowed) giving (others r other))
 
+-- ---- frames of any rate set
+
+-- Rates whose frames repeat each code symbol so often, and have so many bits. All repeated symbols
+-- are `all`, of which each known one is sent at a place that isn't replaced.
+module _ {R : Type 0} (repeats size : R → ℕ) (all : ℕ)
+    (copies : (r : R) (c k : ℕ) → c < 2 * size r → repeats r * c ≤ k →
+    k < repeats r * c + repeats r → (k < all) × (k / repeats r ≡ c))
+    (same : (r s : R) → (r ≡ s) ⊎ (r ≢ s)) (enough : (r : R) → 8 ≤ size r)
+    (repeated : ℕ → ℕ) (known : ℕ → Bool) (replaced : List ℕ)
+    (there : (k : ℕ) → k < all → known k ≡ true → IsThere repeated replaced k) where
+  abbrev sent_at : R → List Bool → List Bool
+  sent_at r xs = sent_by (λ i. repeated i / repeats r) 384 xs
+
+  abbrev shown_to : R → List Bool → R → ℕ → List Bool
+  shown_to rate bits r =
+      symbols_known_of known (code_symbols (replicate 8 false) bits) (repeats rate) (repeats r)
+
+  one_shares : (rate r : R) (bits : List Bool) (v own : Codeword) →
+      codewords_giving (shown_to rate bits rate) (size rate) 0 (replicate 8 false) ≡ bits ∷ [] →
+      ((q : R) → q ≢ rate →
+      codewords_giving (shown_to rate bits q) (size q) 0 (replicate 8 false) ≡ []) →
+      IsAllowed Zero (size r) v →
+      AgreeElsewhere replaced (sent_at rate (code_symbols (replicate 8 false) bits))
+      (sent_at r (code_symbols v.start v.bits)) → (bits ≡ v.bits → v ≡ own) →
+      (r ≡ rate) × (v ≡ own)
+  one_shares rate r bits v own alone others allowed agree is =
+      let xs = code_symbols (replicate 8 false) bits in
+      let from_zeros : AgreeElsewhere replaced (sent_at rate xs)
+      (sent_at r (code_symbols (replicate 8 false) v.bits)) =
+      subst (λ (s : List Bool). AgreeElsewhere replaced (sent_at rate xs)
+      (sent_at r (code_symbols s v.bits))) allowed.begins agree in
+      one_codeword (shown_to rate bits) size rate r bits v own (same r rate) (enough r) allowed
+      (agreeing_give known xs (repeats rate) (repeats r) (size r) all v.bits allowed.bits_long
+      (copies r)
+      (λ k low kept. known_agree repeated replaced xs (code_symbols (replicate 8 false) v.bits)
+      (repeats rate) (repeats r) k (there k low kept) from_zeros)) alone others is
+
 -- ---- rate set 1
 
 -- the repeated symbols of a code symbol
@@ -262,32 +299,12 @@ same_rate R2400 R2400 = inl refl
 same_rate R1200 R1200 = inl refl
 same_rate r s = inr (λ e. cc)
 
--- an allowed codeword that agrees with a frame elsewhere gives what the frame shows
-giving_codeword : (replaced : List ℕ) (rate r : Rate) (information : List Bool) (v : Codeword) →
-    IsAllowed Zero (frame_bits r) v →
-    AgreeElsewhere replaced (frame_symbols rate (frame_codeword rate information)) (frame_symbols r v) →
-    AreGiving (symbols_known_of (is_kept (lost_symbols replaced))
-    (code_symbols (replicate 8 false) (traffic_codeword rate information)) (repeats_of rate)
-    (repeats_of r)) 0 (replicate 8 false) v.bits
-giving_codeword replaced rate r information v allowed agree =
-    let xs = code_symbols (replicate 8 false) (traffic_codeword rate information) in
-    let from_zeros : AgreeElsewhere replaced (sent data_shape (repeats_of rate) xs)
-    (sent data_shape (repeats_of r) (code_symbols (replicate 8 false) v.bits)) =
-    subst (λ (s : List Bool). AgreeElsewhere replaced (sent data_shape (repeats_of rate) xs)
-    (sent data_shape (repeats_of r) (code_symbols s v.bits))) allowed.begins agree in
-    agreeing_give (is_kept (lost_symbols replaced)) xs (repeats_of rate) (repeats_of r)
-    (frame_bits r) 384 v.bits allowed.bits_long (copies_of r)
-    (λ k low kept. kept_agree replaced xs (code_symbols (replicate 8 false) v.bits)
-    (repeats_of rate) (repeats_of r) k low kept from_zeros)
-
 pub distinct_by_sharing : AreDistinctBySharing
 distinct_by_sharing replaced rate information none r v allowed agree =
-    one_codeword
-    (λ (q : Rate). symbols_known_of (is_kept (lost_symbols replaced))
-    (code_symbols (replicate 8 false) (traffic_codeword rate information)) (repeats_of rate)
-    (repeats_of q)) frame_bits rate r (traffic_codeword rate information) v
-    (frame_codeword rate information) (same_rate r rate) (bits_least r) allowed
-    (giving_codeword replaced rate r information v allowed agree) none.own none.others
+    one_shares repeats_of frame_bits 384 copies_of same_rate bits_least (address data_shape)
+    (is_kept (lost_symbols replaced)) replaced (symbol_there replaced) rate r
+    (traffic_codeword rate information) v (frame_codeword rate information) none.own none.others
+    allowed agree
     (λ same. codewords_same v (frame_codeword rate information) allowed.begins (sym same))
 
 -- ---- rate set 2
@@ -309,69 +326,18 @@ same_rate2 R3600 R3600 = inl refl
 same_rate2 R1800 R1800 = inl refl
 same_rate2 r s = inr (λ e. cc)
 
--- a replaced place loses its repeated symbol
-replaced_lost2 : (replaced : List ℕ) (i : ℕ) → is_replaced replaced i ≡ true →
-    is_replaced (lost_symbols2 replaced) (repeated_symbol i) ≡ true
-replaced_lost2 [] i out = out
-replaced_lost2 (q ∷ places) i out =
-    let k = repeated_symbol i in
-    ⊎_elim
-    (λ (here : nat_eq i q ≡ true).
-    or_left (nat_eq k (repeated_symbol q)) (is_replaced (lost_symbols2 places) k)
-    (eq-eqb k (repeated_symbol q) (ap repeated_symbol (eqb-true i q here))))
-    (λ (behind : is_replaced places i ≡ true).
-    or_right (nat_eq k (repeated_symbol q)) (is_replaced (lost_symbols2 places) k)
-    (replaced_lost2 places i behind))
-    (or_cases (nat_eq i q) (is_replaced places i) out)
-
--- where a repeated symbol is known, two frames that agree elsewhere have the same one
-known_agree : (replaced : List ℕ) (xs ys : List Bool) (r s : Rate2) (k : ℕ) → k < 576 →
-    is_known2 (lost_symbols2 replaced) k ≡ true →
-    AgreeElsewhere replaced (sent2 r xs) (sent2 s ys) →
-    get_or xs (k / rates_two.repeats_of2 r) false ≡ get_or ys (k / rates_two.repeats_of2 s) false
-known_agree replaced xs ys r s k low known agree =
-    let lost = lost_symbols2 replaced in
-    let both = and_parts (not (is_dropped k)) (is_kept lost k) known in
+-- a repeated symbol that is known is sent
+known_there2 : (replaced : List ℕ) (k : ℕ) → k < 576 → is_known2 (lost_symbols2 replaced) k ≡ true →
+    IsThere repeated_symbol replaced k
+known_there2 replaced k low known =
+    let both = and_parts (not (is_dropped k)) (is_kept (lost_symbols2 replaced) k) known in
     let once = kept_once k low (not-true (is_dropped k) both.0) in
-    let i = once.sent_as in
-    let left : is_replaced replaced i ≡ false = ⊎_elim
-    (λ (out : is_replaced replaced i ≡ true).
-    let gone : is_replaced lost k ≡ true =
-    ap (is_replaced lost) (sym once.is) ∙ replaced_lost2 replaced i out in
-    let kept = not-true (is_replaced lost k) both.1 in
-    absurd (cc))
-    (λ (in_place : is_replaced replaced i ≡ false). in_place)
-    (cases_Bool (is_replaced replaced i)) in
-    sym (get_or-sent2 r xs i once.below
-    ∙ ap (λ (n : ℕ). get_or xs (n / rates_two.repeats_of2 r) false) once.is)
-    ∙ agree i once.below left
-    ∙ get_or-sent2 s ys i once.below
-    ∙ ap (λ (n : ℕ). get_or ys (n / rates_two.repeats_of2 s) false) once.is
-
-giving_codeword2 : (replaced : List ℕ) (rate r : Rate2) (information : List Bool) (v : Codeword) →
-    IsAllowed Zero (rates_two.frame_bits2 r) v →
-    AgreeElsewhere replaced (frames_two.frame_symbols2 rate (frames_two.frame_codeword2 rate information))
-    (frames_two.frame_symbols2 r v) →
-    AreGiving (symbols_known_of (is_known2 (lost_symbols2 replaced))
-    (code_symbols (replicate 8 false) (codeword_bits rate information)) (rates_two.repeats_of2 rate)
-    (rates_two.repeats_of2 r)) 0 (replicate 8 false) v.bits
-giving_codeword2 replaced rate r information v allowed agree =
-    let xs = code_symbols (replicate 8 false) (codeword_bits rate information) in
-    let from_zeros : AgreeElsewhere replaced (sent2 rate xs)
-    (sent2 r (code_symbols (replicate 8 false) v.bits)) =
-    subst (λ (s : List Bool). AgreeElsewhere replaced (sent2 rate xs)
-    (sent2 r (code_symbols s v.bits))) allowed.begins agree in
-    agreeing_give (is_known2 (lost_symbols2 replaced)) xs (rates_two.repeats_of2 rate)
-    (rates_two.repeats_of2 r) (rates_two.frame_bits2 r) 576 v.bits allowed.bits_long (copies_of2 r)
-    (λ k low known. known_agree replaced xs (code_symbols (replicate 8 false) v.bits) rate r k low
-    known from_zeros)
+    kept_there repeated_symbol replaced k once.sent_as once.below once.is both.1
 
 pub distinct_by_sharing2 : AreDistinctBySharing2
 distinct_by_sharing2 replaced rate information none r v allowed agree =
-    one_codeword
-    (λ (q : Rate2). symbols_known_of (is_known2 (lost_symbols2 replaced))
-    (code_symbols (replicate 8 false) (codeword_bits rate information)) (rates_two.repeats_of2 rate)
-    (rates_two.repeats_of2 q)) rates_two.frame_bits2 rate r (codeword_bits rate information) v
-    (frames_two.frame_codeword2 rate information) (same_rate2 r rate) (enough_bits2 r) allowed
-    (giving_codeword2 replaced rate r information v allowed agree) none.own none.others
-    (λ same. codewords_same v (frames_two.frame_codeword2 rate information) allowed.begins (sym same))
+    let own = frames_two.frame_codeword2 rate information in
+    one_shares rates_two.repeats_of2 rates_two.frame_bits2 576 copies_of2 same_rate2 enough_bits2
+    repeated_symbol (is_known2 (lost_symbols2 replaced)) replaced (known_there2 replaced) rate r
+    (codeword_bits rate information) v own none.own none.others allowed agree
+    (λ same. codewords_same v own allowed.begins (sym same))
