@@ -1,5 +1,6 @@
 -- What the proofs of this crate cite of what lies below, and of its own definitions, passed on from one place.
-pub use Rattle.std.proofs.Common.{All, Bool, Err, IfSome, IsNone, IsOk, List, None, Ok, OnErr, OnOk, Option, Result, Some, [], ap}
+pub use Rattle.std.specs.Prelude.{IfOk}
+pub use Rattle.std.proofs.Common.{All, Bool, Err, IfSome, IsNone, IsOk, List, None, Ok, OnOk, Option, Result, Some, [], ap}
 pub use Rattle.std.proofs.Common.{append-nil, append_assoc, arith, drop, false, filter, inl, inr, le_refl, length, length-append}
 pub use Rattle.std.proofs.Common.{length-take-le, map, min, pos, refl, replicate, rules, slice_get, subst, suc, sym, take, true, zero, ℕ, ℤ}
 pub use Rattle.std.proofs.Common.{◌*◌, ◌++◌, ◌+◌, ◌-◌, ◌<◌, ◌∙◌, ◌∷◌, ◌≡◌, ◌≢◌, ◌≤◌}
@@ -87,11 +88,10 @@ pub use Rattle.owed_replies.specs.Find.{WritesText, ended}
 pub use Rattle.owed_replies.specs.Hearing.{AreNearTo, AreReady, ByFrames, ByTaps, HearsPart, Listening, Nobody, TellsMore, TellsPart}
 pub use Rattle.owed_replies.specs.Hearing.{end_when, first_text, is_told, listening, tuning_for, waiting}
 pub use Rattle.cdma_replay.specs.Listeners.{BeginsBehind, GivesAll, HasRoom, HasRoomFor, HasTold, HearsRest, IsFreshListener, Listens}
-pub use Rattle.cdma_replay.specs.Listeners.{ListenerTells}
+pub use Rattle.cdma_replay.specs.Listeners.{IsBest, ListenerTells}
 unfoldable pub use Rattle.owed_replies.specs.Hearing.{best_pilot, file_end_of, file_text, told}
 pub use Rattle.owed_replies.specs.Make.{WritesNoMoreMade, piece_bytes}
 unfoldable pub use Rattle.owed_replies.specs.Make.{made_file}
-pub use Rattle.cdma_replay.specs.Openings.{IsBest, Shows, listening_in, pilot_event, shown_text}
 pub use Rattle.owed_replies.specs.Ranks.{rank_line}
 unfoldable pub use Rattle.owed_replies.specs.Ranks.{ranks_text, survey_text}
 pub use Rattle.owed_replies.specs.Status.{file_status, script_status}
@@ -100,10 +100,8 @@ pub use Rattle.owed_replies.specs.Trials.{trial_tuning}
 unfoldable pub use Rattle.owed_replies.specs.Trials.{counts_of, trial_line}
 pub use Rattle.owed_replies.specs.declared.handset_options.HandsetOptions.{HandsetOptions}
 pub use Rattle.cdma_replay.specs.declared.listener.Listener.{Listener}
-pub use Rattle.cdma_replay.specs.declared.opening.Shown.{Shown}
-pub use Rattle.cdma_replay.specs.declared.opening.Shown.TheVariants.{Followed, Found, Ranks}
 pub use Rattle.owed_replies.specs.declared.purpose.Purpose.{Purpose}
-pub use Rattle.owed_replies.specs.declared.purpose.Purpose.TheVariants.{Find, Follow, Survey}
+pub use Rattle.owed_replies.specs.declared.purpose.Purpose.TheVariants.{Find, Survey}
 pub use Rattle.owed_replies.specs.declared.reception.Reception.{Reception}
 pub use Rattle.owed_replies.specs.declared.status.Status.{Status}
 pub use Rattle.owed_replies.specs.declared.counts.Counts.{Counts}

@@ -1,6 +1,6 @@
 -- Lemmas on a handset whose events are told to a sink.
 use Rattle.cdma_replay.proofs.Common.{◌≡◌, ℕ, zero, suc, ◌+◌, ◌-◌, ◌≤◌, ◌++◌, ◌∷◌, [], List, length, take, drop, refl, sym, ap, ◌∙◌, subst}
-use Rattle.cdma_replay.proofs.Common.{arith, append_assoc, append-nil, length-append, true, ℤ, pos, replicate, Option, None, Some, Result}
+use Rattle.cdma_replay.proofs.Common.{arith, append_assoc, append-nil, length-append, ℤ, pos, replicate, Option, None, Some, Result}
 use Rattle.cdma_replay.proofs.Common.{Ok, Err, OnOk, length-replicate, take_all, take_at, take_rest, flat_map-append, flat_map}
 use Rattle.cdma_replay.proofs.Common.{range_with_len, StartsWith, Appends, Appends-nil, Appends-trans, places, places-more}
 use Rattle.cdma_replay.proofs.Common.{flat_map_ext_places, Sample, AppendsPrefix, events, events_at, heard_within, event_list, ForSome}
@@ -13,8 +13,8 @@ use Rattle.cdma_replay.proofs.Common.{ListensTuned, TellsTuned, TellsTunedPart, 
 use Rattle.cdma_replay.proofs.Common.{TunedText, HandsetOptions, events_sooner, timed_of, Header, IsBestIn, near_deltas, Near, Best}
 use Rattle.cdma_replay.proofs.Common.{best_energy-only, best_phase-only, Settings, AreNearTo, AreReady, BeginsBehind, ByFrames, ByTaps}
 use Rattle.cdma_replay.proofs.Common.{HasRoom, HasRoomFor, HasTold, IsFreshListener, Listening, Listens, Nobody, GivesAll, ListenerTells}
-use Rattle.cdma_replay.proofs.Common.{TellsMore}
-use Rattle.cdma_replay.proofs.Common.{TellsPart, is_told, told, tuning_for, Listener, heard_none}
+use Rattle.cdma_replay.proofs.Common.{IfOk, TellsMore, Rank, event_line, ranks_text}
+use Rattle.cdma_replay.proofs.Common.{TellsPart, told, tuning_for, Listener, heard_none}
 use Rattle.std.proofs.Common.{Box, Global}
 use Rattle.std.proofs.lemmas.List.{take-append-drop}
 use Rattle.pilot_search.specs.Search.{best_phase, energy as energy_at}
@@ -359,20 +359,26 @@ all_part {l} {before} {heard} more = record {
 
 -- ---- nobody, and a handset
 
-pub hears_nobody : (l : Listening) (kept : List KeptTap) (heard samples : List Sample)
-    (old : Option (List ℕ)) → Listens l by.Nobody kept heard →
-    ListenerTells l by.Nobody kept heard (heard ++ samples) old old
-unfolding told
-hears_nobody Nobody kept heard samples old listens = record {
-  more = record { text = []; written = Appends-nil old; all = refl };
-  listens = tt;
-}
-hears_nobody l kept heard samples old listens = absurd listens
+-- what holds where nobody hears
+pub on_pilot : (P : Listening → Type 0) (l : Listening) (best : Best) (kept : List KeptTap)
+    (heard : List Sample) → Listens l (by.Pilot best) kept heard → P Nobody → P l
+on_pilot P Nobody best kept heard listens holds = holds
+on_pilot P l best kept heard listens holds = absurd listens
 
-pub nobody_told : (l : Listening) (kept : List KeptTap) (heard : List Sample) →
-    Listens l by.Nobody kept heard → true ≡ is_told l heard
-nobody_told Nobody kept heard listens = refl
-nobody_told l kept heard listens = absurd listens
+pub on_ranks : (P : Listening → Type 0) (l : Listening) (ranks : List Rank) (top : ℕ)
+    (kept : List KeptTap) (heard : List Sample) → Listens l (by.Ranks ranks top) kept heard →
+    P Nobody → P l
+on_ranks P Nobody ranks top kept heard listens holds = holds
+on_ranks P l ranks top kept heard listens holds = absurd listens
+
+pub tells_nobody : (listener : Listener) (kept : List KeptTap) (before heard : List Sample)
+    (old : Option (List ℕ)) → Listens Nobody listener kept heard →
+    ListenerTells Nobody listener kept before heard old old
+unfolding told
+tells_nobody listener kept before heard old listens = record {
+  more = record { text = []; written = Appends-nil old; all = refl };
+  listens = listens;
+}
 
 -- what holds where taps hear a handset
 pub on_handset : (P : Listening → Type 0) (l : Listening) (mobile : Box Mobile Global)
@@ -408,31 +414,42 @@ tuned_part part = record { text = part.text; written = part.written; begins = pa
 
 -- ---- before any sample
 
--- what holds where a handset has taken nothing
-pub on_fresh : (P : Listening → Type 0) (l : Listening) (mobile : Box Mobile Global)
-    (kept : List KeptTap) → IsFreshListener l (by.Handset mobile) kept →
-    ((t : Tuning) → StandsFor t mobile.value [] [] → P (ByTaps t kept)) → P l
-on_fresh P (ByTaps t taps) mobile kept fresh holds =
-    subst (λ (ks : List KeptTap). P (ByTaps t ks)) fresh.1 (holds t fresh.0)
-on_fresh P l mobile kept fresh holds = absurd fresh
+-- what holds where the pilot that was found is told
+pub on_fresh_pilot : (P : List ℕ → Listening → Type 0) (text : List ℕ) (l : Listening)
+    (best : Best) (kept : List KeptTap) → IsFreshListener text l (by.Pilot best) kept →
+    P (event_line (Pilot best.phase best.energy)) Nobody → P text l
+on_fresh_pilot P text Nobody best kept fresh holds = subst (λ (xs : List ℕ). P xs Nobody) (sym fresh) holds
+on_fresh_pilot P text l best kept fresh holds = absurd fresh
 
--- the others tell nothing
-pub nobody_begins : (l : Listening) (kept : List KeptTap) (old : Option (List ℕ)) →
-    IsFreshListener l by.Nobody kept → BeginsBehind [] l by.Nobody kept old old
-unfolding told
-nobody_begins Nobody kept old fresh = record { written = Appends-nil old; listens = tt }
-nobody_begins l kept old fresh = absurd fresh
+-- where the ranks are
+pub on_fresh_ranks : (P : List ℕ → Listening → Type 0) (text : List ℕ) (l : Listening)
+    (ranks : List Rank) (top : ℕ) (kept : List KeptTap) →
+    IsFreshListener text l (by.Ranks ranks top) kept → P (ranks_text (take top ranks)) Nobody → P text l
+on_fresh_ranks P text Nobody ranks top kept fresh holds = subst (λ (xs : List ℕ). P xs Nobody) (sym fresh) holds
+on_fresh_ranks P text l ranks top kept fresh holds = absurd fresh
 
-pub tuned_begins : (l : Listening) (tuned : Box TunedListener Global) (kept : List KeptTap)
-    (old : Option (List ℕ)) → IsFreshListener l (by.Tuned tuned) kept →
-    BeginsBehind [] l (by.Tuned tuned) kept old old
+-- and where a handset has taken nothing
+pub on_fresh : (P : List ℕ → Listening → Type 0) (text : List ℕ) (l : Listening)
+    (mobile : Box Mobile Global) (kept : List KeptTap) →
+    IsFreshListener text l (by.Handset mobile) kept →
+    ((t : Tuning) → StandsFor t mobile.value [] [] → P [] (ByTaps t kept)) → P text l
+on_fresh P text (ByTaps t taps) mobile kept fresh holds =
+    subst (λ (xs : List ℕ). P xs (ByTaps t taps)) (sym fresh.0)
+    (subst (λ (ks : List KeptTap). P [] (ByTaps t ks)) fresh.2 (holds t fresh.1))
+on_fresh P text l mobile kept fresh holds = absurd fresh
+
+-- who hears the frames of one channel tells nothing
+pub tuned_begins : (text : List ℕ) (l : Listening) (tuned : Box TunedListener Global)
+    (kept : List KeptTap) (old : Option (List ℕ)) →
+    IsFreshListener text l (by.Tuned tuned) kept → BeginsBehind text l (by.Tuned tuned) kept old old
 unfolding told
-tuned_begins (ByFrames t channel text) tuned kept old fresh = record {
-  written = subst (Appends old old) (sym (text_of_nothing t fresh.close text channel))
-      (Appends-nil old);
-  listens = fresh;
+tuned_begins text (ByFrames t channel form) tuned kept old fresh = record {
+  written = subst (λ (xs : List ℕ). Appends old old (xs ++ told (ByFrames t channel form) []))
+      (sym fresh.0)
+      (subst (Appends old old) (sym (text_of_nothing t fresh.1.close form channel)) (Appends-nil old));
+  listens = fresh.1;
 }
-tuned_begins l tuned kept old fresh = absurd fresh
+tuned_begins text l tuned kept old fresh = absurd fresh
 
 -- ---- a handset that has taken nothing
 
@@ -507,6 +524,11 @@ sound_assignment paging (Some channel) lawful =
 
 -- ---- what follows where a call went well, or failed
 
+pub if_ok : {T E : Type 0} (r : Result T E) (P Q : T → Type 0) → ((x : T) → P x → Q x) → IfOk r P →
+    IfOk r Q
+if_ok (Ok x) P Q f holds = f x holds
+if_ok (Err e) P Q f holds = tt
+
 pub on_ok_both : {T E : Type 0} (r : Result T E) (P Q S : Type 0) → (P → Q → S) → OnOk r P →
     OnOk r Q → OnOk r S
 on_ok_both (Ok x) P Q S f one other = f one other
@@ -522,5 +544,6 @@ room_tuned listener tuned n is room = subst (λ (h : Listener). HasRoomFor h n) 
 
 pub room_for : (listener : Listener) (left n : ℕ) → HasRoom listener left → n ≤ left →
     HasRoomFor listener n
-room_for by.Nobody left n room fits = tt
+room_for (by.Pilot best) left n room fits = tt
+room_for (by.Ranks ranks top) left n room fits = tt
 room_for listener left n room fits = omega (arith, room, fits)

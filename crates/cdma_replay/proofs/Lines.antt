@@ -1,15 +1,15 @@
 -- Lemmas on the text that is written, and on the file whose beginning it tells of.
 use Rattle.cdma_replay.proofs.Common.{◌≡◌, ℕ, ◌+◌, ◌≤◌, ◌++◌, List, [], length, take, refl, sym, ap, ◌∙◌, subst, arith, inr, append_assoc}
-use Rattle.cdma_replay.proofs.Common.{on_ok, on_err, OnOk, OnErr, Result, append-nil, length-append, All, Option, None, Some, IfSome}
+use Rattle.cdma_replay.proofs.Common.{append-nil, length-append, All, Option, None, Some, IfSome}
 use Rattle.cdma_replay.proofs.Common.{take_at, flat_map-append, All-append, flat_map, StartsWith, Appends, Consumes, IsAtEnd, Appends-trans}
 use Rattle.cdma_replay.proofs.Common.{Consumes-nil, Consumes-trans, Sample, Header, AppendsPrefix, HasBits, IsLawfulHeader, header_spelling}
 use Rattle.cdma_replay.proofs.Common.{sample_spelling, width_of, IsBestIn, best_phase, best_phase-only, best_energy-only, Pilot, event_line}
-use Rattle.cdma_replay.proofs.Common.{KeptTap, Rank, begins_more, prefix_of, taken_begins, HandsetOptions, Listener, Shown, Followed, Found}
-use Rattle.cdma_replay.proofs.Common.{Ranks, Purpose, Find, Follow, Survey, Reception, Status, TakesSpan, WritesNoMore, WritesText}
+use Rattle.cdma_replay.proofs.Common.{KeptTap, Rank, begins_more, prefix_of, taken_begins, Listener, Best}
+use Rattle.cdma_replay.proofs.Common.{Purpose, Find, Survey, Reception, Status, TakesSpan, WritesNoMore, WritesText}
 use Rattle.cdma_replay.proofs.Common.{BeginsBehind, HearsPart, HearsRest, IsFreshListener, Listening, Listens, Nobody, ListenerTells}
 use Rattle.cdma_replay.proofs.Common.{TellsMore, TellsPart}
-use Rattle.cdma_replay.proofs.Common.{best_pilot, end_when, file_end_of, file_text, first_text, is_told, listening, told, IsBest, Shows}
-use Rattle.cdma_replay.proofs.Common.{listening_in, shown_text, Best, ranking, ranks_text, survey_text}
+use Rattle.cdma_replay.proofs.Common.{best_pilot, end_when, file_end_of, file_text, first_text, is_told, listening, told, IsBest}
+use Rattle.cdma_replay.proofs.Common.{ranking, ranks_text, survey_text}
 use Rattle.cdma_replay.proofs.Hearings.{more_behind, part_behind}
 use Rattle.cdma_replay.specs.declared.listener.Listener.TheVariants as by
 use Rattle.owed_replies.proofs.Files.{none_within}
@@ -27,73 +27,33 @@ abbrev pub told_first : Reception → List Sample → List ℕ
 told_first r samples = first_text r.purpose samples
 
 -- what was found is told by that text
-pub found_shows : {first : List Sample} {best : Best} → IsBest first best →
-    Shows Find first (Found best)
-found_shows {first} {best} is = record {
-  text = ap event_line (pilot-best first best.phase best.energy is);
-  hears = λ (taps : List KeptTap) (header : Header). refl;
-}
+pub pilot_text : (first : List Sample) (best : Best) → IsBest first best →
+    first_text Find first ≡ event_line (Pilot best.phase best.energy)
+pilot_text first best is = sym (ap event_line (pilot-best first best.phase best.energy is))
 
-pub followed_shows : {first : List Sample} {best : Best} (options : HandsetOptions) →
-    Shows (Follow options) first (Followed best options)
-followed_shows options = record {
-  text = refl;
-  hears = λ (taps : List KeptTap) (header : Header). refl;
-}
-
-pub ranks_show : {first : List Sample} {ranks : List Rank} (base width top : ℕ) →
-    ranks ≡ ranking first base width → Shows (Survey base width top) first (Ranks ranks top)
+pub survey_is : (first : List Sample) (ranks : List Rank) (base width top : ℕ) →
+    ranks ≡ ranking first base width →
+    first_text (Survey base width top) first ≡ ranks_text (take top ranks)
 unfolding survey_text
-ranks_show base width top is = record {
-  text = ap (λ (rs : List Rank). ranks_text (take top rs)) is;
-  hears = λ (taps : List KeptTap) (header : Header). refl;
-}
+survey_is first ranks base width top is = sym (ap (λ (rs : List Rank). ranks_text (take top rs)) is)
 
 -- ---- before any sample
 
 -- nothing is told beyond what was found where nobody hears the file
 pub alone_begins : (text : List ℕ) (listener : Listener) (kept : List KeptTap)
-    (old new : Option (List ℕ)) → Appends old new text → IsFreshListener Nobody listener kept →
+    (old new : Option (List ℕ)) → Appends old new text → Listens Nobody listener kept [] →
     BeginsBehind text Nobody listener kept old new
 unfolding told
-alone_begins text by.Nobody kept old new written fresh = record {
+alone_begins text listener kept old new written listens = record {
   written = subst (Appends old new) (sym (append-nil text)) written;
-  listens = tt;
+  listens = listens;
 }
-alone_begins text listener kept old new written fresh = absurd fresh
 
 pub alone_part : (text : List ℕ) (samples : List Sample) (old new : Option (List ℕ)) →
     AppendsPrefix old new text → AppendsPrefix old new (text ++ told Nobody samples)
 unfolding told
 alone_part text samples old new part =
     subst (AppendsPrefix old new) (sym (append-nil text)) part
-
--- where nothing is told of what is shown, who hears the file begins
-pub silent_ok : {T E : Type 0} (ran : Result T E) (shown : Shown) (one behind : Listener)
-    (taps kept : List KeptTap) (old new : Option (List ℕ)) → shown_text shown ≡ [] →
-    OnOk ran ((l : Listening) → IsFreshListener l one taps → BeginsBehind [] l behind kept old new) →
-    OnOk ran ((header : Header) (first : List Sample) →
-    IsFreshListener (listening_in taps shown header first) one taps →
-    BeginsBehind (shown_text shown) (listening_in taps shown header first) behind kept old new)
-silent_ok ran shown one behind taps kept old new none =
-    on_ok ran _ _
-    (λ begins header first fresh.
-    let l = listening_in taps shown header first in
-    subst (λ (text : List ℕ). BeginsBehind text l behind kept old new) (sym none) (begins l fresh))
-
-pub silent_err : {T E : Type 0} (ran : Result T E) (shown : Shown) (one : Listener)
-    (taps : List KeptTap) (old new : Option (List ℕ)) → shown_text shown ≡ [] →
-    OnErr ran ((l : Listening) (samples : List Sample) → IsFreshListener l one taps →
-    AppendsPrefix old new (told l samples)) →
-    OnErr ran ((header : Header) (first samples : List Sample) →
-    IsFreshListener (listening_in taps shown header first) one taps →
-    AppendsPrefix old new (shown_text shown ++ told (listening_in taps shown header first) samples))
-silent_err ran shown one taps old new none =
-    on_err ran _ _
-    (λ part header first samples fresh.
-    let l = listening_in taps shown header first in
-    subst (λ (text : List ℕ). AppendsPrefix old new (text ++ told l samples)) (sym none)
-    (part l samples fresh))
 
 -- ---- the text of a file
 
@@ -177,28 +137,30 @@ begins_text {taps} {r} {rest} {left} mid header samples others more counted lawf
       });
     }
 
+-- the new listener of a file of this header hears it
+fresh_there : (taps : List KeptTap) (r : Reception) (samples : List Sample) (listener : Listener)
+    {header same : Header} → same ≡ header →
+    IsFreshListener (told_first r samples) (listening taps r.purpose same samples) listener taps →
+    IsFreshListener (told_first r samples) (listening taps r.purpose header samples) listener taps
+fresh_there taps r samples listener is fresh =
+    subst (λ (h : Header).
+    IsFreshListener (told_first r samples) (listening taps r.purpose h samples) listener taps) is fresh
+
 -- a beginning of the text of the first samples, and of what is told of them
 pub writes_first_text : {taps : List KeptTap} {r : Reception} {header same : Header}
-    {samples : List Sample} {count left : ℕ} {rest mid old new : Option (List ℕ)} (shown : Shown)
+    {samples : List Sample} {count left : ℕ} {rest mid old new : Option (List ℕ)}
     (listener : Listener) → count ≡ r.span → TakesSpan count header samples left rest mid →
-    Shows r.purpose samples shown → same ≡ header →
-    ((taps : List KeptTap) → IsFreshListener (listening_in taps shown same samples) listener taps) →
-    ((header : Header) (first samples : List Sample) →
-    let l = listening_in taps shown header first in
-    IsFreshListener l listener taps → AppendsPrefix old new (shown_text shown ++ told l samples)) →
-    WritesNoMore taps r rest mid old new
-writes_first_text {taps} {r} {header} {same} {samples} {count} {left} {rest} {mid} {old} {new} shown
-    listener alike t shows is fresh part =
-    let all = samples ++ [] in
+    same ≡ header →
+    ((taps : List KeptTap) →
+    IsFreshListener (told_first r samples) (listening taps r.purpose same samples) listener taps) →
+    ((text : List ℕ) (l : Listening) (samples : List Sample) → IsFreshListener text l listener taps →
+    AppendsPrefix old new (text ++ told l samples)) → WritesNoMore taps r rest mid old new
+writes_first_text {taps} {r} {header} {same} {samples} {count} {left} {rest} {mid} listener alike t is
+    fresh part =
     begins_text mid header samples [] [] (t.counted ∙ alike) t.lawful t.in_range
     (omega (arith, t.counted, t.left)) t.consumed (none_within (width_of header)) (Consumes-nil mid)
-    (subst (λ (xs : List ℕ). AppendsPrefix old new
-    (xs ++ told (listening taps r.purpose header samples) all)) shows.text
-    (subst (λ (l : Listening). AppendsPrefix old new (shown_text shown ++ told l all))
-    (shows.hears taps header)
-    (subst (λ (h : Header).
-    AppendsPrefix old new (shown_text shown ++ told (listening_in taps shown h samples) all)) is
-    (part same samples all (fresh taps)))))
+    (part (told_first r samples) (listening taps r.purpose header samples) (samples ++ [])
+    (fresh_there taps r samples listener is (fresh taps)))
 
 -- ---- the first samples, and those after them
 
@@ -217,27 +179,20 @@ pub record HasBegun (taps : List KeptTap) (r : Reception) (header : Header) (sam
       (told_first r samples ++ told (listening taps r.purpose header samples) [])
   pub listens : Listens (listening taps r.purpose header samples) listener kept []
 
--- from what was found in the first samples, and the new listener
+-- from the new listener
 pub has_begun : (taps : List KeptTap) (r : Reception) {header same : Header}
-    {samples : List Sample} {count left : ℕ} (shown : Shown) (one : Listener) {other : Listener}
+    {samples : List Sample} {count left : ℕ} (one : Listener) {other : Listener}
     {kept : List KeptTap} {rest mid old new : Option (List ℕ)} → count ≡ r.span →
-    TakesSpan count header samples left rest mid → Shows r.purpose samples shown → same ≡ header →
-    ((taps : List KeptTap) → IsFreshListener (listening_in taps shown same samples) one taps) →
-    ((header : Header) (first : List Sample) →
-    let l = listening_in taps shown header first in
-    IsFreshListener l one taps → BeginsBehind (shown_text shown) l other kept old new) →
+    TakesSpan count header samples left rest mid → same ≡ header →
+    ((taps : List KeptTap) →
+    IsFreshListener (told_first r samples) (listening taps r.purpose same samples) one taps) →
+    ((text : List ℕ) (l : Listening) → IsFreshListener text l one taps →
+    BeginsBehind text l other kept old new) →
     HasBegun taps r header samples other kept rest mid old new
-has_begun taps r {header} {same} {samples} {count} {left} shown one {other} {kept} {rest} {mid} {old}
-    {new} alike t shows is fresh begins =
-    let begun : BeginsBehind (told_first r samples) (listening taps r.purpose header samples) other
-    kept old new =
-    subst (λ (xs : List ℕ).
-    BeginsBehind xs (listening taps r.purpose header samples) other kept old new) shows.text
-    (subst (λ (l : Listening). BeginsBehind (shown_text shown) l other kept old new)
-    (shows.hears taps header)
-    (subst (λ (h : Header).
-    BeginsBehind (shown_text shown) (listening_in taps shown h samples) other kept old new) is
-    (begins same samples (fresh taps)))) in
+has_begun taps r {header} {same} {samples} one alike t is fresh begins =
+    let begun =
+    begins (told_first r samples) (listening taps r.purpose header samples)
+    (fresh_there taps r samples one is (fresh taps)) in
     record {
       counted = t.counted ∙ alike;
       lawful = t.lawful;

@@ -1,3 +1,2 @@
 -- The modules of definitions of `cdma_replay`.
 pub mod Listeners
-pub mod Openings

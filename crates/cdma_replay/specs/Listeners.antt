@@ -1,29 +1,49 @@
 -- Who hears a file on the way: what was taken and told so far, and what is still to come.
-use Rattle.std.specs.Prelude.{◌≡◌, ℕ, ◌≤◌, List, [], ◌++◌, length, All, Option}
+use Rattle.std.specs.Prelude.{◌≡◌, ℕ, ◌≤◌, List, [], ◌++◌, length, take, All, Option}
 use Rattle.std.specs.List.{flat_map}
 use Rattle.std.specs.Io.KnownBytes.{Appends, Consumes}
 use Rattle.chip_core.specs.declared.sample.Sample.{Sample}
 use Rattle.chip_core.specs.declared.width.Width.{Width}
 use Rattle.cdma_io.specs.SampleFile.{HasBits, sample_spelling}
+use Rattle.cdma_io.specs.declared.header.Header.{Header}
 use Rattle.heard_events.specs.Events.{events}
 use Rattle.mobile_core.specs.Standing.{StandsFor, has_room}
 use Rattle.heard_events.specs.Tuning.{Tuning}
 use Rattle.heard_events.specs.declared.event.Event.{Event}
+use Rattle.heard_events.specs.declared.event.Event.TheVariants.{Pilot}
 use Rattle.mobile_core.specs.declared.mobile.Mobile.{Mobile}
+use Rattle.pilot_search.specs.BestIn.{IsBestIn}
+use Rattle.pilot_search.specs.declared.sweeping.Best.{Best}
+use Rattle.event_tap.specs.EventLines.{event_line}
 use Rattle.event_tap.specs.Taps.{KeptTap, run_taps, run_text}
 use Rattle.tuned_listener.specs.TunedListening.{ListensTuned, tuned_room}
 use Rattle.cdma_replay.specs.declared.listener.Listener.{Listener}
 use Rattle.cdma_replay.specs.declared.listener.Listener.TheVariants as by
-use Rattle.owed_replies.specs.Hearing.{ByFrames, ByTaps, Listening, Nobody, TellsMore, told}
+use Rattle.owed_replies.specs.Hearing.{ByFrames, ByTaps, Listening, Nobody, TellsMore, first_text}
+use Rattle.owed_replies.specs.Hearing.{listening, told}
+use Rattle.owed_replies.specs.Ranks.{ranks_text}
+use Rattle.owed_replies.specs.declared.purpose.Purpose.{Purpose}
 
--- it has taken no sample and told nothing, and these taps are to hear it
-abbrev pub IsFreshListener : Listening → Listener → List KeptTap → Type 0
-IsFreshListener Nobody by.Nobody kept = Unit {0}
-IsFreshListener (ByTaps t taps) (by.Handset mobile) kept = StandsFor t mobile.value [] []
-    × (kept ≡ taps)
-IsFreshListener (ByFrames t channel text) (by.Tuned tuned) kept =
-    ListensTuned t channel text tuned.value []
-IsFreshListener l listener kept = ⊥
+-- the phase of greatest energy of all
+abbrev pub IsBest : List Sample → Best → Type 0
+IsBest first best = IsBestIn first 0 32768 best.phase best.energy
+
+-- there are as many ranks as are told
+abbrev pub IsTellable : Listener → Type 0
+IsTellable (by.Ranks ranks top) = top ≤ 512
+IsTellable listener = Unit {0}
+
+-- it has taken no sample and told nothing, this text is that of the first samples, and these taps
+-- are to hear it
+abbrev pub IsFreshListener : List ℕ → Listening → Listener → List KeptTap → Type 0
+IsFreshListener text Nobody (by.Pilot best) kept =
+    text ≡ event_line (Pilot best.phase best.energy)
+IsFreshListener text Nobody (by.Ranks ranks top) kept = text ≡ ranks_text (take top ranks)
+IsFreshListener text (ByTaps t taps) (by.Handset mobile) kept =
+    (text ≡ []) × StandsFor t mobile.value [] [] × (kept ≡ taps)
+IsFreshListener text (ByFrames t channel form) (by.Tuned tuned) kept =
+    (text ≡ []) × ListensTuned t channel form tuned.value []
+IsFreshListener text l listener kept = ⊥
 
 -- a handset has taken these samples and given all that is heard in them, and these taps are kept
 -- after that
@@ -33,7 +53,8 @@ GivesAll t taps mobile kept heard =
 
 -- it has taken these samples and told all of them, and these taps are kept after them
 abbrev pub Listens : Listening → Listener → List KeptTap → List Sample → Type 0
-Listens Nobody by.Nobody kept heard = Unit {0}
+Listens Nobody (by.Pilot best) kept heard = Unit {0}
+Listens Nobody (by.Ranks ranks top) kept heard = Unit {0}
 Listens (ByTaps t taps) (by.Handset mobile) kept heard = GivesAll t taps mobile.value kept heard
 Listens (ByFrames t channel text) (by.Tuned tuned) kept heard =
     ListensTuned t channel text tuned.value heard
@@ -41,15 +62,26 @@ Listens l listener kept heard = ⊥
 
 -- it takes just so many samples more
 abbrev pub HasRoom : Listener → ℕ → Type 0
-HasRoom by.Nobody count = Unit {0}
+HasRoom (by.Pilot best) count = Unit {0}
+HasRoom (by.Ranks ranks top) count = Unit {0}
 HasRoom (by.Handset mobile) count = has_room mobile.value ≡ count
 HasRoom (by.Tuned tuned) count = tuned_room tuned.value ≡ count
 
 -- it takes so many samples more, or others too
 abbrev pub HasRoomFor : Listener → ℕ → Type 0
-HasRoomFor by.Nobody count = Unit {0}
+HasRoomFor (by.Pilot best) count = Unit {0}
+HasRoomFor (by.Ranks ranks top) count = Unit {0}
 HasRoomFor (by.Handset mobile) count = count ≤ has_room mobile.value
 HasRoomFor (by.Tuned tuned) count = count ≤ tuned_room tuned.value
+
+-- a listener to a file of this header for a purpose, before any sample: its text of the first
+-- samples is the purpose's, and so is who hears
+pub record IsListenerFor (purpose : Purpose) (header : Header) (first : List Sample)
+    (listener : Listener) : Type 0 where
+  pub fresh : (taps : List KeptTap) → IsFreshListener (first_text purpose first)
+      (listening taps purpose header first) listener taps
+  pub tellable : IsTellable listener
+  pub room : HasRoom listener header.count
 
 -- it has taken no sample, and a sink got a text and what is told before any sample: the pilot,
 -- where taps hear a handset

@@ -3,9 +3,9 @@
 ghost use Rattle.std.specs.Prelude.{◌≡◌, List, [], IfOk};
 ghost use Rattle.chip_core.specs.declared.sample.Sample.{Sample as TheSample};
 ghost use Rattle.cdma_io.specs.SampleFile.{IsLawfulHeader};
-ghost use Rattle.pilot_search.specs.BestIn.{IsBestIn};
 ghost use Rattle.mobile_core.specs.Standing.{StandsFor, has_room};
 ghost use Rattle.tuned_listener.specs.Marking.{IsUntold};
+ghost use Rattle.cdma_replay.specs.Listeners.{IsBest};
 ghost use Rattle.owed_replies.specs.Hearing.{AreNearTo, AreReady, IsLawfulHandset, tuning_for};
 
 use cdma_io::Header;
@@ -16,11 +16,40 @@ use pilot_search::{Best, Near};
 use short_code::Codes;
 use std::alloc::Global;
 
-/// A handset for samples of this header, with paths near the pilot's phase, in memory of its own.
-// Its frame holds the handset several times over, and is free again before the handset hears.
-#[inline(never)]
+/// A handset for samples of this header, with paths near the pilot's phase.
 #[tactic(auto, using(crate::proofs::Hearings::sound_assignment))]
 pub fn handset(
+    alloc: Global,
+    header: Header,
+    options: HandsetOptions,
+    best: Best,
+    near: Near,
+    codes: Codes,
+) -> Result<Mobile, OutOfMemory>
+    requires header { IsLawfulHeader header }
+    requires options { IsLawfulHandset options }
+    requires near { AreReady near }
+    ensures given { (first : List TheSample) → IsBest first best →
+        AreNearTo first best.phase options near →
+        IfOk result (λ mobile. StandsFor (tuning_for header first options) mobile [] []) }
+    ensures untold { IfOk result IsUntold }
+    ensures room { IfOk result (λ mobile. has_room mobile ≡ header.count) }
+{
+    let settings = Settings {
+        fingers: near.count,
+        paging: options.paging,
+        traffic: options.traffic,
+        check30: header.check30,
+        check16: header.check16,
+        count: header.count,
+    };
+    Mobile::new(alloc, settings, codes, best, near)
+}
+
+/// Such a handset in memory of its own.
+// Its frame holds the handset several times over, and is free again before the handset hears.
+#[inline(never)]
+pub fn boxed_handset(
     alloc: Global,
     header: Header,
     options: HandsetOptions,
@@ -31,21 +60,11 @@ pub fn handset(
     requires header { IsLawfulHeader header }
     requires options { IsLawfulHandset options }
     requires near { AreReady near }
-    ensures given { (first : List TheSample) →
-        IsBestIn first 0 32768 best.phase best.energy →
+    ensures given { (first : List TheSample) → IsBest first best →
         AreNearTo first best.phase options near →
         IfOk result (λ mobile. StandsFor (tuning_for header first options) mobile.value [] []) }
-    ensures untold { IfOk result (λ mobile. IsUntold mobile.value) }
     ensures room { IfOk result (λ mobile. has_room mobile.value ≡ header.count) }
 {
-    let settings = Settings {
-        fingers: near.count,
-        paging: options.paging,
-        traffic: options.traffic,
-        check30: header.check30,
-        check16: header.check16,
-        count: header.count,
-    };
-    let mobile = Mobile::new(alloc, settings, codes, best, near)?;
+    let mobile = handset(alloc, header, options, best, near, codes)?;
     Ok(Box::new(alloc, mobile)?)
 }

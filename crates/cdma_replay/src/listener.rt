@@ -11,17 +11,28 @@ ghost use Rattle.event_tap.specs.Taps.{IsKept, KeptTap, run_taps};
 ghost use Rattle.owed_replies.specs.Hearing.{ByTaps, TellsMore, TellsPart, told};
 ghost use Rattle.cdma_replay.specs.Listeners.{GivesAll};
 
+use crate::ranks::write_ranks;
 use cdma_io::{Failed, Sink};
 use chip_core::Sample;
-use event_tap::KeepsTaps;
+use event_tap::{KeepsTaps, write_event};
+use heard_events::hearing::pilot_event;
 use mobile_core::Mobile;
+use pilot_search::Best;
+use pilot_survey::Survey;
 use tuned_listener::TunedListener;
 
-/// Who hears the samples of a file.
+/// Who hears the samples of a file, with what is told of its first ones.
 #[derive(Drop)]
 pub enum Listener {
-    /// Nobody: nothing is wanted of the samples after the first ones.
-    Nobody,
+    /// Nobody: the pilot that the first samples show is all that is wanted.
+    Pilot(Best),
+    /// Nobody: how strong each pilot is in the first samples is all that is wanted.
+    Ranks {
+        /// The ranks of all pilots.
+        ranks: Survey,
+        /// How many of them are told.
+        top: u16,
+    },
     /// A handset, whose events taps hear.
     Handset(Box<Mobile>),
     /// Who writes what is made of the frames of one channel.
@@ -34,29 +45,33 @@ impl Listener {
     ghost use Rattle.cdma_io.specs.Outside.{AppendsPrefix, HasCause};
     ghost use Rattle.event_tap.specs.Taps.{IsKept, KeptTap};
     ghost use Rattle.cdma_replay.specs.Listeners.{BeginsBehind, HasRoom, HasRoomFor};
-    ghost use Rattle.cdma_replay.specs.Listeners.{IsFreshListener};
+    ghost use Rattle.cdma_replay.specs.Listeners.{IsFreshListener, IsTellable};
     ghost use Rattle.owed_replies.specs.Hearing.{Listening, TellsPart, is_told};
     ghost use Rattle.cdma_replay.specs.Listeners.{Listens, ListenerTells};
     ghost use Rattle.owed_replies.specs.Hearing.{told};
 
-    /// Tells what is told before any sample is taken: the taps hear the pilot of a handset.
+    /// Tells what is told before any sample is taken: the pilot's line, or those of the ranks; and
+    /// the taps hear the pilot of a handset.
     ///
     /// [`Failed`] comes only where the sink's count of faults rose, and the sink got then a
     /// beginning of the text.
     pub fn begin<T: KeepsTaps, K: Sink>(&mut self, taps: &mut T, sink: &mut K) -> Result<(), Failed>
-        requires { All IsKept (T.kept taps.old) }
+        requires tellable { IsTellable self.old }
+        requires kept { All IsKept (T.kept taps.old) }
         ensures room { (left : ℕ) → HasRoom self.old left → HasRoom self.new left }
         ensures kept { All IsKept (T.kept taps.new) }
-        ensures ok { OnOk result ((l : Listening) → IsFreshListener l self.old (T.kept taps.old) →
-            BeginsBehind [] l self.new (T.kept taps.new)
+        ensures ok { OnOk result ((text : List ℕ) (l : Listening) →
+            IsFreshListener text l self.old (T.kept taps.old) →
+            BeginsBehind text l self.new (T.kept taps.new)
             (K.written sink.old) (K.written sink.new)) }
-        ensures err { OnErr result ((l : Listening) (samples : List TheSample) →
-            IsFreshListener l self.old (T.kept taps.old) →
-            AppendsPrefix (K.written sink.old) (K.written sink.new) (told l samples)) }
+        ensures err { OnErr result ((text : List ℕ) (l : Listening) (samples : List TheSample) →
+            IsFreshListener text l self.old (T.kept taps.old) →
+            AppendsPrefix (K.written sink.old) (K.written sink.new) (text ++ told l samples)) }
         ensures cause { HasCause (K.faults sink.old) (K.faults sink.new) result }
     {
         match self {
-            Listener::Nobody => Ok(()),
+            Listener::Pilot(best) => write_event(&pilot_event(best), sink),
+            Listener::Ranks { ranks, top } => write_ranks(ranks, *top, sink),
             Listener::Handset(mobile) => tell_pilot(mobile, taps, sink),
             Listener::Tuned(_) => Ok(()),
         }
@@ -88,7 +103,8 @@ impl Listener {
         ensures cause { HasCause (K.faults sink.old) (K.faults sink.new) result }
     {
         match self {
-            Listener::Nobody => Ok(()),
+            Listener::Pilot(_) => Ok(()),
+            Listener::Ranks { .. } => Ok(()),
             Listener::Handset(mobile) => tell(mobile, samples, taps, sink),
             Listener::Tuned(tuned) => tuned.hear(samples, sink),
         }
@@ -100,7 +116,8 @@ impl Listener {
             Listens l self.now kept heard → result ≡ is_told l heard }
     {
         match self {
-            Listener::Nobody => true,
+            Listener::Pilot(_) => true,
+            Listener::Ranks { .. } => true,
             Listener::Handset(mobile) => mobile.synced(),
             Listener::Tuned(tuned) => tuned.is_told(),
         }

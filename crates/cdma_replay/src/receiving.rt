@@ -20,7 +20,7 @@ ghost use Rattle.owed_replies.specs.Status.{file_status};
 ghost use Rattle.owed_replies.specs.TaskRuns.{ReceivesFile};
 
 use crate::listener::Listener;
-use crate::opening::{find_first, listener_for, tell_first};
+use crate::opening::listener_for;
 use crate::workspace::Workspace;
 use cdma_io::{Failed, FileFault, SampleReader, Sink, Source};
 use chip_core::Sample;
@@ -164,10 +164,18 @@ fn receive_file<R: Threads + Sync, S: Source, K: Sink, T: KeepsTaps, G: Gate + S
         purpose,
         ..
     } = reception;
-    let shown = find_first(rt, alloc, purpose, &codes, span, workers, gate)?;
-    let mut listener = listener_for(alloc, reader.header(), codes, span, &shown)?;
+    let mut listener = listener_for(
+        rt,
+        alloc,
+        purpose,
+        reader.header(),
+        codes,
+        span,
+        workers,
+        gate,
+    )?;
     let mut taps = taps;
-    match tell_first(&shown, &mut listener, &mut taps, sink) {
+    match listener.begin(&mut taps, sink) {
         Ok(()) => {}
         Err(Failed) => return Err(Status::WriteFault),
     }

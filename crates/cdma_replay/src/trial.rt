@@ -17,7 +17,7 @@ ghost use Rattle.heard_events.specs.declared.event.Event.{Event as TheEvent};
 ghost use Rattle.owed_replies.specs.Trials.{LeavesRoom, counts_of, summary, trial_line};
 ghost use Rattle.owed_replies.specs.Trials.{trial_options};
 
-use crate::handset::handset;
+use crate::handset::boxed_handset;
 use crate::workspace::Workspace;
 use base_modulator::{Cell, trial_script, trial_serial_number};
 use cdma_io::{Failed, Sink, Width, write_all};
@@ -160,7 +160,7 @@ fn follow_cell<R: Threads + Sync, G: Gate + Sync>(
     let best = search(rt, alloc, span, &codes, workers, gate)?;
     let options = options_for(number);
     let paths = near(span, &codes, best, options.fingers);
-    let mut boxed = handset(alloc, header, options, best, paths, codes)?;
+    let mut boxed = boxed_handset(alloc, header, options, best, paths, codes)?;
     let mobile = &mut *boxed;
     let mut counts = Counts::none();
     count(mobile, span, &mut counts);

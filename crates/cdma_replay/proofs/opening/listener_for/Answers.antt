@@ -1,21 +1,14 @@
 -- Why `listener_for` of `opening` keeps its contract.
-use Rattle.cdma_replay.proofs.Common.{refl, rules, AreNearTo, waiting}
 use Rattle.cdma_replay.proofs.opening.listener_for.Goals as goal
 
-pub returns-in_ok-mobile-in-Followed-clause-fresh : goal.returns-in_ok-mobile-in-Followed-clause-fresh
-returns-in_ok-mobile-in-Followed-clause-fresh c =
-    let first = c.args.first.now in
-    let best = c.in-Followed.best in
-    let near : AreNearTo first best.phase c.in-Followed.options c.near-paths.result =
-    search rules in
-    rw c.in-Followed.is
-    (λ taps. (c.in_ok-mobile-in-Followed.ensures.given first (search rules) near, refl))
+pub returns-in-Find : goal.returns-in-Find
+returns-in-Find g c = rw c.in-Find.is (c.find_pilot.ensures c.args.header)
 
-pub returns-in_ok-tuned-in-TunedTo-clause-fresh : goal.returns-in_ok-tuned-in-TunedTo-clause-fresh
-returns-in_ok-tuned-in-TunedTo-clause-fresh c =
-    let first = c.args.first.now in
-    let best = c.in-TunedTo.best in
-    let near : AreNearTo first best.phase (waiting c.in-TunedTo.fingers)
-    c.near-paths-in-TunedTo.result = search rules in
-    rw c.in-TunedTo.is
-    (λ taps. c.in_ok-tuned-in-TunedTo.ensures.listens first (search rules) near)
+pub returns-in_ok-best-in-Follow : goal.returns-in_ok-best-in-Follow
+returns-in_ok-best-in-Follow g c = rw c.in-Follow.is c.handset_near.ensures
+
+pub returns-in_ok-best-in-Tuned : goal.returns-in_ok-best-in-Tuned
+returns-in_ok-best-in-Tuned g c = rw c.in-Tuned.is c.tuned_near.ensures
+
+pub returns-in-Survey : goal.returns-in-Survey
+returns-in-Survey g c = rw c.in-Survey.is (c.rank_pilots.ensures c.args.header)

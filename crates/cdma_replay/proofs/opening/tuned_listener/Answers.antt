@@ -10,7 +10,7 @@ returns-clause-listens c first found near =
     let fingers = c.args.fingers in
     let boxed : c.in_ok-new.field-0.value ≡ c.in_ok-tuned.tuned = search rules in
     rw boxed (c.in_ok-tuned.ensures.listens (tuning_for c.args.header first (waiting fingers))
-    (rw c.into_inner-mobile.ensures (c.in_ok-handset.ensures.given first found near))
+    (c.in_ok-mobile.ensures.given first found near)
     (sym (best_phase-only first best.phase best.energy found))
     (sym (near_taken first fingers best c.args.near found near.0 c.requires.fingers.1 long near.1))
     refl)

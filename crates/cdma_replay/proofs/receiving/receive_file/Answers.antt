@@ -61,12 +61,6 @@ returns-in_err-reader g c =
     })
 
 -- there is no memory for the search, or for the listener
-pub returns-in_err-shown : goal.returns-in_err-shown
-returns-in_err-shown g c =
-    rw (ended_by c.from_residual-in_err-shown.result Status.NoMemory c.from_residual-in_err-shown.ensures.1)
-    (starved_file refl (inr (begins_file _ _ c.requires.span.0 c.in_ok-reader.ensures.taken))
-    (rest_most c.in_ok-reader.ensures.taken (none_most _ _)) c.open_span.ensures.later)
-
 pub returns-in_err-listener : goal.returns-in_err-listener
 returns-in_err-listener g c =
     rw (ended_by c.from_residual-in_err-listener.result Status.NoMemory c.from_residual-in_err-listener.ensures.1)
@@ -80,21 +74,20 @@ returns-in-Err g c =
     (begins_file _ _ c.requires.span.0 c.in_ok-reader.ensures.taken)
     (search rules)
     (rest_most c.in_ok-reader.ensures.taken (none_most _ _))
-    (writes_first_text c.in_ok-shown.shown c.in_ok-listener.listener c.requires.span.0
-    c.in_ok-reader.ensures.taken c.in_ok-shown.ensures.shown c.header.ensures.value
-    c.in_ok-listener.ensures.fresh c.in-Err.ensures.err)
+    (writes_first_text c.in_ok-listener.listener c.requires.span.0 c.in_ok-reader.ensures.taken
+    c.header.ensures.value c.in_ok-listener.ensures.fresh c.in-Err.ensures.err)
     c.open_span.ensures.later (search rules)
 
 -- what is told before any sample was written
 begun_of : (g : Over) (c : In-Ok g) →
     HasBegun (g.T.KeepsTaps.kept c.args.taps) c.args.reception c.in_ok-reader.reader.header
-    c.open_span.new.span c.tell_first.new.listener (g.T.KeepsTaps.kept c.tell_first.new.taps)
+    c.open_span.new.span c.begin.new.self (g.T.KeepsTaps.kept c.begin.new.taps)
     (g.S.Source.rest c.args.source.now) (g.S.Source.rest c.open_span.new.source)
-    (g.K.Sink.written c.args.sink.now) (g.K.Sink.written c.tell_first.new.sink)
+    (g.K.Sink.written c.args.sink.now) (g.K.Sink.written c.begin.new.sink)
 begun_of g c =
-    has_begun _ c.args.reception c.in_ok-shown.shown c.in_ok-listener.listener c.requires.span.0
-    c.in_ok-reader.ensures.taken c.in_ok-shown.ensures.shown c.header.ensures.value
-    c.in_ok-listener.ensures.fresh c.in-Ok.ensures.ok
+    has_begun _ c.args.reception c.in_ok-listener.listener c.requires.span.0
+    c.in_ok-reader.ensures.taken c.header.ensures.value c.in_ok-listener.ensures.fresh
+    c.in-Ok.ensures.ok
 
 pub returns-in-Err-hear : goal.returns-in-Err-hear
 returns-in-Err-hear g c =

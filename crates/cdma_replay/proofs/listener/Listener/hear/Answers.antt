@@ -1,7 +1,8 @@
 -- Why `hear` of `listener::Listener` keeps its contract.
-use Rattle.cdma_replay.proofs.Common.{◌++◌, subst, sym, on_err, on_ok, Listening, Listens, ListenerTells, TellsPart, Listener}
+use Rattle.cdma_replay.proofs.Common.{◌++◌, subst, sym, on_err, on_ok, Listening, Listens, ListenerTells, Nobody, TellsPart, Listener}
 use Rattle.std.specs.Box.{with_value}
-use Rattle.cdma_replay.proofs.Hearings.{hears_nobody, on_handset, on_tuned, room_some, room_tuned, tuned_part, tuned_tells}
+use Rattle.cdma_replay.proofs.Hearings.{on_handset, on_pilot, on_ranks, on_tuned, room_some, room_tuned, tells_nobody}
+use Rattle.cdma_replay.proofs.Hearings.{tuned_part, tuned_tells}
 use Rattle.cdma_replay.specs.declared.listener.Listener.TheVariants as by
 use Rattle.cdma_replay.proofs.listener.Listener.hear.Goals as goal
 
@@ -68,11 +69,24 @@ returns-in-Tuned-clause-err g c =
     tuned_part (tells t channel text heard (rw c.deref_mut-in-Tuned.ensures.value listens))))
     c.hear.ensures.err
 
-pub returns-in-Nobody-clause-ok : goal.returns-in-Nobody-clause-ok
-returns-in-Nobody-clause-ok g c l heard is =
+pub returns-in-Pilot-clause-ok : goal.returns-in-Pilot-clause-ok
+returns-in-Pilot-clause-ok g c l heard is =
     let kept = g.T.KeepsTaps.kept c.args.taps.now in
     let held = g.K.Sink.written c.args.sink.now in
-    subst (λ (h : Listener). ListenerTells l h kept heard (heard ++ c.args.samples.now) held held)
-    (sym c.in-Nobody.is)
-    (hears_nobody l kept heard c.args.samples.now held
-    (subst (λ (h : Listener). Listens l h kept heard) c.in-Nobody.is is))
+    let self = c.args.self.now in
+    let all = heard ++ c.args.samples.now in
+    on_pilot (λ (m : Listening). ListenerTells m self kept heard all held held) l _ kept heard
+    (subst (λ (h : Listener). Listens l h kept heard) c.in-Pilot.is is)
+    (tells_nobody self kept heard all held
+    (subst (λ (h : Listener). Listens Nobody h kept all) (sym c.in-Pilot.is) tt))
+
+pub returns-in-Ranks-clause-ok : goal.returns-in-Ranks-clause-ok
+returns-in-Ranks-clause-ok g c l heard is =
+    let kept = g.T.KeepsTaps.kept c.args.taps.now in
+    let held = g.K.Sink.written c.args.sink.now in
+    let self = c.args.self.now in
+    let all = heard ++ c.args.samples.now in
+    on_ranks (λ (m : Listening). ListenerTells m self kept heard all held held) l _ _ kept heard
+    (subst (λ (h : Listener). Listens l h kept heard) c.in-Ranks.is is)
+    (tells_nobody self kept heard all held
+    (subst (λ (h : Listener). Listens Nobody h kept all) (sym c.in-Ranks.is) tt))

@@ -1,11 +1,17 @@
 -- Why `is_told` of `listener::Listener` keeps its contract.
-use Rattle.cdma_replay.proofs.Common.{◌≡◌, subst, Listening, Listens, is_told, Listener}
-use Rattle.cdma_replay.proofs.Hearings.{nobody_told, on_handset, on_tuned}
+use Rattle.cdma_replay.proofs.Common.{◌≡◌, true, refl, subst, Listening, Listens, is_told, Listener}
+use Rattle.cdma_replay.proofs.Hearings.{on_handset, on_pilot, on_ranks, on_tuned}
 use Rattle.cdma_replay.proofs.listener.Listener.is_told.Goals as goal
 
-pub returns-in-Nobody : goal.returns-in-Nobody
-returns-in-Nobody c l kept heard is =
-    nobody_told l kept heard (subst (λ (h : Listener). Listens l h kept heard) c.in-Nobody.is is)
+pub returns-in-Pilot : goal.returns-in-Pilot
+returns-in-Pilot c l kept heard is =
+    on_pilot (λ (m : Listening). true ≡ is_told m heard) l _ kept heard
+    (subst (λ (h : Listener). Listens l h kept heard) c.in-Pilot.is is) refl
+
+pub returns-in-Ranks : goal.returns-in-Ranks
+returns-in-Ranks c l kept heard is =
+    on_ranks (λ (m : Listening). true ≡ is_told m heard) l _ _ kept heard
+    (subst (λ (h : Listener). Listens l h kept heard) c.in-Ranks.is is) refl
 
 pub returns-in-Handset : goal.returns-in-Handset
 returns-in-Handset c l kept heard is =
