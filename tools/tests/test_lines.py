@@ -348,7 +348,7 @@ class Documents(unittest.TestCase):
     def test_the_crates_have_the_same_fields(self) -> None:
         """The names and widths of the tables by which the program reads messages and writes lines."""
         traffic = text_of("crates", "traffic_message", "src", "table.rt")
-        paging = text_of("crates", "paging_message", "src", "table.rt")
+        paging = text_of("crates", "paging_message", "src", "system.rt")
         sync = text_of("crates", "sync_message", "src", "table.rt")
         for name, fields, source in (
             ("SYNC_FIELDS", SYNC_FIELDS, sync),
