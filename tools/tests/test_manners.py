@@ -566,9 +566,18 @@ class Interrupts(Folder):
         self.broken_off("tools/scan", "--type", "ci8", "--rate", "2457600", "--all", noise, waits=3)
 
     def test_a_tool_that_reads(self) -> None:
-        fifo = self.at("fifo")
+        """A tool that waits for more of an input that it has opened."""
+        fifo, opened, over = self.at("fifo"), self.at("opened"), threading.Event()
         os.mkfifo(fifo)
-        self.broken_off("tools/lines", fifo, waits=1)
+
+        def hold_open() -> None:
+            """Makes a file once someone reads the pipe, and keeps the pipe open until the test is over."""
+            with open(fifo, "wb"), open(opened, "wb"):
+                over.wait(SECONDS)
+
+        self.addCleanup(over.set)
+        threading.Thread(target=hold_open, daemon=True).start()
+        self.broken_off("tools/lines", fifo, marker=opened, waits=0.2)
 
 
 def end_group(child: subprocess.Popen[bytes]) -> None:
