@@ -407,11 +407,11 @@ def stream_row(bench: Bench, case: Case) -> str:
 def print_minute(bench: Bench) -> None:
     """What tools/listen takes for a minute, lines and all."""
     cell, sent = CELLS["quiet"], bench.at("minute.is95")
-    half = MINUTE // 2 * CHIP_RATE
-    scripts = [script_of(cell, half, start=start).encode("ascii") for start in (0, half)]
+    third = MINUTE // 3 * CHIP_RATE  # a file has 27 seconds at most
+    scripts = [script_of(cell, third, start=start).encode("ascii") for start in (0, third, 2 * third)]
     parts = [bench.run([bench.program, "make"], script) for script in scripts]
     with open(sent, "wb") as file:
-        file.write(header(1, 0, 2 * half) + b"".join(part[HEADER.size :] for part in parts))
+        file.write(header(1, 0, 3 * third) + b"".join(part[HEADER.size :] for part in parts))
     recording = bench.record([sent], "--type cu8 --carrier 2000 --clock 5 --ec-io -8".split(), "minute.sigmf-meta")
     with open(bench.at("minute.txt"), "wb") as file:
         command = [*process_arguments("listen"), "--program", bench.program, recording, *cell.words]

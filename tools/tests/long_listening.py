@@ -1,6 +1,6 @@
 """A listening of minutes or hours, run by hand: what is heard against what the script owes, memory and speed.
 
-    CDMA_REPLAY=PROGRAM python3 -B -m tools.tests.long_listening --seconds 3600
+    CDMA_REPLAY=PROGRAM python3 -B -m tools.tests.long_listening --seconds 3495
 
 A recording is made piece by piece, of 8-bit samples at about 2.46 million a second, and goes through a pipe to
 tools/listen, so nothing of it is kept. Its carrier drifts by 1 Hz a second, the radio's clock is 4 millionths off, and
@@ -36,7 +36,8 @@ from tools.tests.listening_cell import (
 )  # fmt: skip
 
 SEED, PRAT = 1, 1
-LEAST_SECONDS = 20
+# A piece's script begins at a chip below 2^32, so a recording ends there.
+LEAST_SECONDS, MOST_SECONDS = 20, (1 << 32) // CHIP_RATE
 # Samples a second, of which a chip has two, and as they are told: 4 millionths fewer.
 RATE, TOLD_RATE = 2 * CHIP_RATE, round(2 * CHIP_RATE * (1 - 4e-6))
 CARRIER, DRIFT = 3_000.0, 1.0  # Hz, and Hz a second
@@ -187,7 +188,7 @@ def unexplained(result: Compared, lines: list[Owed]) -> int:
 def parser() -> argparse.ArgumentParser:
     """The command line."""
     words = argparse.ArgumentParser(description=__doc__, formatter_class=argparse.RawDescriptionHelpFormatter)
-    words.add_argument("--seconds", type=int, default=600, help=f"of the recording, {LEAST_SECONDS} or more [600]")
+    words.add_argument("--seconds", type=int, default=600, help=f"of the recording, {LEAST_SECONDS} to {MOST_SECONDS} [600]")
     words.add_argument("--lines", metavar="FILE", help="keep the lines here")
     return words
 
@@ -214,8 +215,8 @@ def main(arguments: list[str] | None = None) -> int:
     options = words.parse_args(arguments)
     if not PROGRAM:
         words.error(NO_PROGRAM)
-    if options.seconds < LEAST_SECONDS:
-        words.error(f"--seconds {options.seconds} are fewer than {LEAST_SECONDS}")
+    if not LEAST_SECONDS <= options.seconds <= MOST_SECONDS:
+        words.error(f"--seconds {options.seconds} isn't one of {LEAST_SECONDS} to {MOST_SECONDS}")
     try:
         with tempfile.TemporaryDirectory() as folder:
             path = options.lines or os.path.join(folder, "lines.txt")
