@@ -152,6 +152,9 @@ record Totals (bytes rest : List ℕ) (reading : Reading) (samples : List Sample
       sample_len (width_of reading.header) * length samples ≡
       sample_len (width_of reading.header) * reading.header.count
 
+-- The lengths that place a fault follow from the bytes that were read: 16 are the header's, each
+-- sample has as many as the width says, and the rest comes after them. The samples that were read
+-- and those that are left are together the ones that the header counts.
 totals : (bytes rest : List ℕ) (reading : Reading) (samples : List Sample) →
     IsLawfulHeader reading.header → reading.left + length samples ≡ reading.header.count →
     bytes ≡ (header_spelling reading.header ++ flat_map (sample_spelling (width_of reading.header))

@@ -134,6 +134,8 @@ module _ (samples : List Sample) where
       subst AreFollowable (sym (one_delta samples best (energy samples best) is_best))
       (followed_first [] (All-nil IsPath))
 
+  -- The search's two paths are near enough to be followed: the first has the distance 0 from the
+  -- best phase, and the second is one of the 65 phases round it, so it lies 32 chips away at most.
   two_followed : AreFollowable (near_deltas samples best 2)
   two_followed =
       let (second, next) = next_found samples best 32 in
@@ -145,6 +147,9 @@ module _ (samples : List Sample) where
       (followed_first (d ∷ [])
       (All-cons IsPath d [] (place_is_path second next.below) (All-nil IsPath)))
 
+  -- The search's three paths are near enough to be followed: the second and the third are the next
+  -- two of the 65 phases round the best one, the third with the second left out, so both lie 32
+  -- chips away at most.
   three_followed : AreFollowable (near_deltas samples best 3)
   three_followed =
       let (second, next) = next_found samples best 32 in

@@ -23,6 +23,9 @@ borne {e} {plan = plan} noisy = record {
 
 -- ---- the laws
 
+-- The one reply that is owed is the text of the handset's events, with the end of a clean link,
+-- since the sync channel bears the noise and so a mark is set where a clean link sets one. The
+-- handset is on the cell's path, so each channel that bears the noise comes back in these events.
 pub noisy_follow : laws.NoisyFollowRepliesComeBack
 noisy_follow forms limits bytes e width plan span workers options header samples reply noisy undirected
     owed =

@@ -56,6 +56,9 @@ module _ (t : Tuning) (near : AreNear (sync_stream t).fingers) (m : Mark) (one o
     abbrev stream : Stream
     stream = channel_stream t (Paging number) m
 
+    -- Two files that agree in the samples of a slot give the same soft values for each of its four
+    -- frames: the frame begins a whole number of frames after the slot does, and each finger reads
+    -- it as far after the slot's beginning as the reference path does.
     softs_same : (i : ℕ) → i < 4 →
         frame_softs one stream (frame_of_slot slot i) ≡ frame_softs other stream (frame_of_slot slot i)
     softs_same i few =

@@ -26,6 +26,9 @@ use Rattle.paging_message.specs.Laying as laying
 abbrev pub later : ℕ → Placed → Placed
 later x p = record { run = x + p.run; last = x + p.last; page = p.page }
 
+-- A run that begins x half-frames later has all its pages x half-frames later, by induction over
+-- the pages: the last bit of each comes x times a half-frame's bits later, so the half-frame in
+-- which it ends has a number greater by x.
 run_later : (size : ℕ) (spell : Page → List Bool) (x run at at' y : ℕ) (pages : List Page) →
     0 < size → AreChained size y (map spell pages) → at' ≡ size * x + at →
     placed_run size spell (x + run) at' pages ≡ map (later x) (placed_run size spell run at pages)
@@ -43,6 +46,9 @@ run_later size spell x run at at' y (page ∷ pages) large chained e =
     (run_later size spell x run (at + n) (at' + n) (y + n) pages large chained.2
     (omega (arith, e)))
 
+-- Runs of which the first begins x half-frames later have all their pages that much later, by
+-- induction over the runs: the next run begins as many half-frames after the first one as it did
+-- before.
 runs_later : (size : ℕ) (spell : Page → List Bool) (x o o' : ℕ) (runs : List (List Page)) →
     0 < size → AreRuns size spell runs → o' ≡ x + o →
     placed_runs size spell o' runs ≡ map (later x) (placed_runs size spell o runs)
@@ -500,6 +506,9 @@ abbrev pub EndLater : List Placed → Type 0
 EndLater [] = Unit {0}
 EndLater (p ∷ ps) = (p.run ≤ p.last) × EndLater ps
 
+-- No page ends before the half-frame in which its run begins, by induction over the pages: a
+-- capsule isn't empty, so its last bit comes no earlier than the run's first, whether it follows
+-- the page before it or begins a run of its own.
 end_later : (size : ℕ) (form : CheckForm) (at run : ℕ) (pages : List Page) → 0 < size →
     size * run ≤ at → EndLater (placed size form at run pages)
 end_later size form at run [] large begun = tt
@@ -522,6 +531,9 @@ end_later size form at run (page ∷ pages) large begun =
           )
     ]
 
+-- No page is whole from frame `first` on where the file ends before that frame does: a page whose
+-- run begins earlier isn't counted, and any other ends in that frame or later, which the file
+-- doesn't have whole.
 none_whole : (first end_chip x : ℕ) (ps : List Placed) → end_chip / 24576 ≤ first → EndLater ps →
     filter (is_whole_page (24576 * first) end_chip x) ps ≡ []
 none_whole first end_chip x [] past are = refl

@@ -153,6 +153,9 @@ zero_frames own many (suc n) zeros =
     ∙ replicate-append-replicate (many * n) many false
     ∙ ap (λ (k : ℕ). replicate k false) e
 
+-- A frame of zeros after frames of zeros ends no capsule: with any number of its bits taken all
+-- bits so far are zeros, and no capsule ends in them, since no half-frame has an SCI bit of 1 to
+-- begin one.
 zero_frame_ends_none : (size : ℕ) (own : ℕ → List Bool) (many n k : ℕ) → k < n →
     ((j : ℕ) → j < n → own j ≡ replicate many false) → frame_capsules size own k ≡ []
 zero_frame_ends_none size own many n k lt zeros =

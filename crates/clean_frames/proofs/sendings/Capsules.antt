@@ -150,6 +150,9 @@ capsule_states : (form : CheckForm) (m : SyncFields) → FillsCapsule M30 (sync_
 unfolding sync_capsule
 capsule_states form m fills = sym (whole-capsule M30 form (sync_body m) fills).all
 
+-- The first bits of a transmission, eight or more, state the length of its capsule: the length
+-- field is the first eight of them, and what is filled into the message for each transmission has
+-- the same number of bits every time.
 stated : (plan : CellPlan) (m : SyncFields) (q n : ℕ) → FillsCapsule M30 (sync_body m) → 8 ≤ n →
     stated_bits (take n (padded_sending plan.cell m q)) ≡ length (sync_capsule plan.cell.check30 m)
 stated plan m q n fills enough =

@@ -243,6 +243,9 @@ same_scrambling plan p m superframes k at =
     (ap (after plan.cell.lc) chips ∙ sym (at.state (24576 * k)))
     ∙ ap (λ (pn : ℕ). scrambling (after m.state (24576 * k)) (paging_mask p.number pn)) (sym at.pn)
 
+-- Given a true mark a handset reads the paging channel as it is sent. Its frames have as many bits
+-- as the mark's rate gives them, and they are scrambled by the long code from the mark's state on,
+-- which is the state that the cell's own code has there.
 paging_read : (plan : CellPlan) (p : PagingPlan) (t : Tuning) (m : Mark) (superframes : ℕ) →
     IsTrueMark plan m superframes → pages.sent_paging_rate plan.sync ≡ paging_rate m.prat →
     AreReadBy (paging_carrier plan p) (paging_stream t p.number m)
@@ -277,6 +280,9 @@ paging_gain width plan p lawful has =
 
 -- ---- the laws
 
+-- The soft values of a paging frame are one positive number times the signs of its symbols before
+-- scrambling: from a true mark on the handset reads the frame that the channel sends, and neither
+-- the channel's gain nor the pilot's nor the link's factor is 0.
 pub paging_signs : PagingHaveSentSigns
 paging_signs width plan sync p t m superframes k is sends has on at told here =
     let s = paging_stream t p.number m in
@@ -328,6 +334,9 @@ paging_codewords_alone width plan sync p t m superframes k is sends has on at to
     (paging_shown width plan sync p t m superframes 0 (made_samples plan) is sends has on at told
     (near-self 0 (made_samples plan)) (paging_borne width plan p is has)) k here
 
+-- A frame of a paging channel that isn't sent has soft values of 0. It lies in the file and begins
+-- with a block of 64 chips, so its row is orthogonal to all that the cell sends, and 0 stays 0 when
+-- the scrambling is undone.
 pub silent_paging_zero : SilentPagingIsZero
 silent_paging_zero width plan t m superframes channel k is first last none free on at here =
     let s = paging_stream t channel m in

@@ -76,6 +76,10 @@ at_mark : (start u pn n q : ℕ) → pn < 512 → start + u ≡ 64 * pn + 98304 
     start + (u + 98304 * (n + 4) - 64 * pn) ≡ 98304 * ((q + 1) * n + 4)
 at_mark start u pn n q low begins = omega (arith, begins, low)
 
+-- The mark that a transmission of the sync message sets is true. The transmission begins later than
+-- a superframe by the pilot's offset, 64 chips for each PN. The mark takes that offset off again
+-- and lies four superframes after the transmission's last one, where the message's time and
+-- long-code state are the cell's.
 is_true : (width : Width) (plan : CellPlan) (m : SyncFields) (t : Tuning) (k q w : ℕ) →
     IsLawfulPlan width plan → IsOnPath plan t → EndsAt plan m k q w →
     IsTrueMark plan (sent_mark plan m q (frame_start (sync_stream t) (k - w)))
@@ -160,6 +164,9 @@ module _ {width : Width} {plan : CellPlan} {samples : List Sample} {t : Tuning}
         (heard_sending is tuned sync sends k q w there at.place at.ends)
         ∙ marks_sent plan m q (frame_start (sync_stream t) (k - w)) is.receivable.lawful.lc
 
+    -- A frame that sets a mark ends a transmission, and the mark is that transmission's: the
+    -- frame's number, divided by the frames of a transmission, tells which one it lies in, and a
+    -- frame that doesn't end its transmission sets none.
     frame_sets : (k : ℕ) (m : Mark) → in_file t k ≡ true →
         first_of (marks_at t samples k) ≡ Some m → IsOfSending plan sync.message t k m
     frame_sets k m there set =

@@ -253,6 +253,9 @@ module _ {width : Width} {plan : CellPlan} {t : Tuning} {samples : List Sample}
 
 -- ---- the laws
 
+-- Each channel of a clean link comes back, since the made samples show the frames of the sync
+-- channel, of the paging channel and of the traffic channel as they are sent. The number of a
+-- paging channel that is sent is no traffic channel's row, so it is heard as a free one is.
 pub each_channel : EachChannelComesBack
 each_channel width plan t is tuned least most not_directed =
     let samples = made_samples plan in

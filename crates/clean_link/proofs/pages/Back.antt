@@ -609,6 +609,9 @@ pages_back width plan sync t channel m superframes receivable stated tuned first
 
 -- ---- the channel's pages by its number
 
+-- The pages that a channel's number stands for are those of that channel, by induction over the
+-- cell's paging channels: no two of them have the same number, so the first one with this number is
+-- the channel itself.
 numbered_alone : (plan : CellPlan) (q : PagingPlan) (chip i : ℕ) (paging : List PagingPlan) →
     HaveOwnNumbers paging → i < length paging → get_or paging i q ≡ q →
     pages_numbered plan paging q.number chip ≡ pages_of_channel plan q chip

@@ -200,6 +200,9 @@ pub record Ends (plan : CellPlan) (m : SyncFields) (k w : ℕ) : Type 0 where
   pub begun : w ≤ k
   pub last : w ≡ last_frame plan m
 
+-- A frame that ends a transmission is its last one, and the file has its first one too. The test
+-- asks that the capsule goes on after the 31 bits of each earlier frame and is whole with this
+-- frame's, which only the frame with the capsule's last bit does.
 pub ends_tells : (plan : CellPlan) (m : SyncFields) (k w : ℕ) → ends_sending plan m k w ≡ true →
     Ends plan m k w
 ends_tells plan m k w h =
@@ -272,6 +275,9 @@ pub record IsInside (plan : CellPlan) (m : SyncFields) (t : Tuning) (k q : ℕ) 
   pub begun : last_frame plan m ≤ k
   pub there : in_file t k ≡ true
 
+-- A transmission that is whole has all of its frames in the file: it begins in the file, so its
+-- first frame is the file's first one or a later one, and it ends in the file, so its last frame
+-- does too.
 pub whole_to : (width : Width) (plan : CellPlan) (m : SyncFields) (t : Tuning) (q : ℕ) →
     IsLawfulPlan width plan → IsOnPath plan t → is_whole plan m q ≡ true →
     (first_sync_frame plan ≤ q * sending_frames plan m) ×
@@ -372,6 +378,9 @@ module _ {width : Width} {plan : CellPlan} {samples : List Sample} {t : Tuning}
     tells_none k q w there place over =
         ap (events_of (known t k)) (heard_nothing is tuned sync sends k q w there place over)
 
+    -- The last frame of a transmission that the file holds tells the event of this transmission:
+    -- its message is heard there, and it is known when the definition says, since the frame and the
+    -- transmission end at the same chip.
     tells_sending : (k q : ℕ) → IsInside plan sync.message t k q →
         frame_events t samples k ≡ sending_event plan sync.message q ∷ []
     tells_sending k q inside =

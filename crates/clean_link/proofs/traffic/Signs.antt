@@ -488,6 +488,8 @@ heard_sign : (b : Bool) (y z : ℤ) → HasSign b y → HasSign b z → not (int
 heard_sign true y z p q = ap not (le_false (pos 0) (y +ℤ z) (omega (arith, ints, p, q)))
 heard_sign false y z p q = ap not (lt_true (pos 0) (y +ℤ z) (omega (arith, ints, p, q)))
 
+-- A power control bit is heard as it was sent: the two places that it replaces lie in its own
+-- group, so both soft values have its sign, and their sum, of which the sign is heard, has it too.
 heard_power_bit : (state mask : ℕ) (power_bits : List Bool) (softs : List ℤ) (g : ℕ) → g < 16 →
     HavePowerSigns (power_places state mask) power_bits softs →
     power_bit (group_sums (power_places state mask) softs ∷ []) g ≡ get_or power_bits g false

@@ -198,6 +198,9 @@ louder g more g0 l n e bears =
 
 -- ---- the laws
 
+-- Lesser noise takes less from a soft value, and a louder channel bears as much: each unit more of
+-- gain adds more to the soft value than to what the noise takes from it at most, or else the
+-- channel wouldn't bear the noise as it is.
 pub less_borne : laws.LessIsBorne
 less_borne plan gain loud d e bears less more =
     let l = unsigned_abs plan.link.factor.i + unsigned_abs plan.link.factor.q in

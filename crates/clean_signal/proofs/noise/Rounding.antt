@@ -82,6 +82,8 @@ other_cells plan other e loud =
 
 -- ---- no noise
 
+-- Samples with a noise of 0 are the same, by induction over both lists: neither part of a sample
+-- differs from the other's, and lists of different lengths aren't near.
 pub near-same : (xs ys : List Sample) → IsNear 0 xs ys → xs ≡ ys
 near-same [] [] near = refl
 near-same [] (y ∷ ys) near = absurd near

@@ -238,6 +238,8 @@ traffic_sent plan p has =
     (pilot_carrier plan ∷ continued plan plan.sync) (map (traffic_carrier plan) plan.traffic)
     (traffic_carrier plan p) (has_mapped (traffic_carrier plan) plan.traffic p has)
 
+-- A cell without a sync channel sends nothing on row 32: the pilot has row 0, a paging channel its
+-- number as its row, which is 7 at most, and no traffic channel of a lawful plan has row 32.
 without_sync : (width : Width) (plan : CellPlan) → IsLawfulPlan width plan →
     All (λ (c : Carrier). c.row ≢ 32) (pilot_carrier plan ∷ others plan None)
 without_sync width plan lawful =

@@ -124,6 +124,9 @@ square_is : (z : ℤ) → z *ℤ z ≡ pos (square z)
 square_is (pos n) = refl
 square_is (negsuc n) = refl
 
+-- A symbol's sum, turned by the pilot's, is the product of both levels and the norm of the link's
+-- factor: both sums are multiples of that factor, so the products of their real parts and of their
+-- imaginary parts add up to its norm.
 turned_is : (a b : ℤ) (h : Pair) → turned_part (scaled a h) (scaled b h) ≡ (a *ℤ b) *ℤ pos (norm h)
 turned_is a b h =
     let e : (a *ℤ h.i) *ℤ (b *ℤ h.i) ≡ (a *ℤ b) *ℤ pos (square h.i) = swap_products a h.i b h.i ∙

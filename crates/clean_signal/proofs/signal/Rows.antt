@@ -59,6 +59,9 @@ symbol_same n m f s e =
     (block_within n f ∙ rw (e, frame_same n m f e) (sym (block_within m f)))
     ∙ div-div-eq-div-mul (m % (64 * f)) 64 s
 
+-- A channel sends one symbol over each block of 64 chips, where its first chip, its frames and its
+-- symbols are made of whole blocks: either the block lies before the channel's first chip, or all
+-- of its chips lie in one frame and in one symbol of it.
 symbol_stays : (a f s b k : ℕ) (symbols : ℕ → List Bool) → k < 64 →
     symbol_at (64 * a) (64 * f) (64 * s) symbols (64 * b + k) ≡
     symbol_at (64 * a) (64 * f) (64 * s) symbols (64 * b)
@@ -180,6 +183,9 @@ chips_sum row b m cs l low are each =
 
 -- ---- a channel
 
+-- The symbol at a chip is found by two divisions: counted from the channel's first chip, the chips
+-- of a frame divide the chip's number into its frame and a remainder, and the chips of a symbol
+-- divide that remainder into its symbol and the chip in it.
 symbol_at-is : (first frame_chips symbol_chips frame j r chip : ℕ) (symbols : ℕ → List Bool) →
     chip ≡ first + (frame * frame_chips + (j * symbol_chips + r)) → r < symbol_chips →
     j * symbol_chips + r < frame_chips →

@@ -21,6 +21,8 @@ loop-event-init g c = record {
   later = omega arith;
 }
 
+-- A step that gives no event took all samples that were left, and leaves no event of theirs untold.
+-- So the taps have heard all events of these samples, and the sink has the whole text.
 pub returns-in_default-clause-ok : goal.returns-in_default-clause-ok
 returns-in_default-clause-ok g c t first heard stands behind =
     let inv = c.loop-event.invariant in
@@ -38,6 +40,8 @@ returns-in_default-clause-ok g c t first heard stands behind =
     subst (λ (xs : List Sample). before ≡ events t ((heard ++ take taken samples) ++ xs)) left
     (none.1 t (heard ++ take taken samples) before is))
 
+-- One event more is told: the handset now stands for the samples of this step and for this event
+-- after those before it, and the taps wrote their lines of the event after the text so far.
 pub loop-event-preserved : goal.loop-event-preserved
 loop-event-preserved g c =
     let inv = c.loop-event.invariant in
@@ -59,6 +63,9 @@ loop-event-preserved g c =
       later = search rules;
     }
 
+-- Where the taps can't write an event, the sink has the text of all events before it and a
+-- beginning of this one's. That is a beginning of the whole text, since the event is the next one
+-- that is heard in the samples.
 pub returns-in_err-tell-clause-err : goal.returns-in_err-tell-clause-err
 returns-in_err-tell-clause-err g c =
     let inv = c.loop-event.invariant in

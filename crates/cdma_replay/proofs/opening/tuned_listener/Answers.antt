@@ -3,6 +3,9 @@ use Rattle.cdma_replay.proofs.Common.{◌≡◌, length, refl, rules, sym, best_
 use Rattle.cdma_replay.proofs.Hearings.{near_taken}
 use Rattle.cdma_replay.proofs.opening.tuned_listener.Goals as goal
 
+-- The listener is tuned as the file's first samples tell: the phase that was searched is the only
+-- best one, its paths are those that are found near it, and the handset up to the mark was opened
+-- with the same ones.
 pub returns-clause-listens : goal.returns-clause-listens
 returns-clause-listens c first found near =
     let best = c.args.best in

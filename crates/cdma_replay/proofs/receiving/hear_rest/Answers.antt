@@ -92,6 +92,9 @@ loop-reader-preserved g c =
       later_sink = search rules;
     }
 
+-- Where the listener fails at a piece, the pieces before it were told of whole, and the sink has a
+-- beginning of what is told of this one. The piece's samples are the file's next ones, and no more
+-- than were left.
 pub returns-in-Err-clause-written : goal.returns-in-Err-clause-written
 returns-in-Err-clause-written g c =
     let inv = c.loop-reader.invariant in
@@ -111,6 +114,9 @@ pub returns-in_err-finish-clause-written : goal.returns-in_err-finish-clause-wri
 returns-in_err-finish-clause-written g c =
     hears_part c.args.reader.now.left c.loop-reader.invariant.hears (omega arith) c.finish.ensures.taken
 
+-- A byte too many is reported at the place where the file should end: no sample is left when the
+-- loop is over, so the first byte that the check reads comes after the header and all samples that
+-- it counts.
 pub returns-in_err-finish-clause-place : goal.returns-in_err-finish-clause-place
 returns-in_err-finish-clause-place g c fault is =
     let inv = c.loop-reader.invariant in
@@ -144,6 +150,8 @@ returns-clause-ok g c =
     hears_all c.args.reader.now.left c.loop-reader.reader.left c.loop-reader.invariant.hears done
     (search rules)
 
+-- Where a piece can't be read, the listener has heard all samples before it, and the bytes that
+-- were taken after them are no more than those of a piece, which has 4,096 samples.
 pub returns-in_err-count-clause-cut : goal.returns-in_err-count-clause-cut
 returns-in_err-count-clause-cut g c cut =
     let inv = c.loop-reader.invariant in
@@ -157,6 +165,8 @@ returns-in_err-count-clause-cut g c cut =
     (sample_len-mono width (min (length c.loop-reader.piece) c.loop-reader.reader.left) 4096
     (omega (arith, inv.room)))
 
+-- A piece that can't be read never ends the run as a file that is too long does: its file was cut
+-- short or reading it failed, and only a byte after the last sample makes a file too long.
 pub returns-in_err-count-clause-long : goal.returns-in_err-count-clause-long
 returns-in_err-count-clause-long g c long =
     let inv = c.loop-reader.invariant in
@@ -200,6 +210,8 @@ returns-in_err-count-clause-bound g c =
 pub returns-in-Err-clause-bound : goal.returns-in-Err-clause-bound
 returns-in-Err-clause-bound g c = read_most g (goal.at.returns-in-Err-clause-bound g c).After-read
 
+-- The check at the file's end takes one byte at most, and the samples that were heard before it are
+-- no more than those that were left at first, so all the bytes taken are within the bound.
 finished_most : (g : Over) (c : After-finish g) →
     ConsumesAtMost (sample_len (width_of c.args.reader.now.header) * c.args.reader.now.left + 1)
     (g.S.Source.rest c.args.source.now) (g.S.Source.rest c.finish.new.source)

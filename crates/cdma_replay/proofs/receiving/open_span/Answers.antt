@@ -18,6 +18,9 @@ returns-then-count-span-clause-place g c other =
     fault_of_count (g.S.Source.rest c.args.source.now) (length c.args.span.now) _
     c.in_ok-reader.reader c.in_ok-reader.ensures.told (search rules) (search rules)
 
+-- Where the first samples can't be read, the fault names the place at which the file breaks off:
+-- its header was read whole and counts as many samples as are searched, so the bytes end among
+-- these samples.
 pub returns-in_err-read-clause-place : goal.returns-in_err-read-clause-place
 returns-in_err-read-clause-place g c =
     let reading = c.in_ok-reader.reader in
@@ -58,6 +61,8 @@ pub returns-then-count-span-clause-few : goal.returns-then-count-span-clause-few
 returns-then-count-span-clause-few g c =
     opening_few (length c.args.span.now) _ _ c.open.ensures.taken
 
+-- Where the first samples can't be read, fewer bytes were taken than those of the header and the
+-- samples that are searched: after the header's 16 the read took fewer than it was to take.
 pub returns-in_err-read-clause-few : goal.returns-in_err-read-clause-few
 returns-in_err-read-clause-few g c =
     let reading = c.in_ok-reader.reader in
@@ -76,6 +81,9 @@ returns-in_err-reader-clause-no_longer g c =
     rw (p.1, p.2)
     (unopened _ (g.S.Source.rest c.args.source.now) c.in_err-reader.ensures.told)
 
+-- Where the first samples can't be read, the file isn't reported as too long: the header was read
+-- without a fault, and a read that fails after it tells of a file that is cut short, or that
+-- reading failed.
 pub returns-in_err-read-clause-no_longer : goal.returns-in_err-read-clause-no_longer
 returns-in_err-read-clause-no_longer g c =
     let reading = c.in_ok-reader.reader in

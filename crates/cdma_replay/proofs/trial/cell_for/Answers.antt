@@ -3,6 +3,8 @@ use Rattle.cdma_replay.proofs.Common.{◌≡◌, ◌∙◌, ap, sym, Ok, rules, 
 use Rattle.cdma_replay.proofs.Counting.{state_is}
 use Rattle.cdma_replay.proofs.trial.cell_for.Goals as goal
 
+-- The cell is that of the trial's number before its first sample: its script is the one that the
+-- number tells, and the plan that these items name is the trial's and no other.
 pub returns-in-Ok : goal.returns-in-Ok
 returns-in-Ok c =
     let cell = c.in-Ok.cell in

@@ -24,6 +24,8 @@ returns-in_default-clause-few c =
     room_left c.loop-event.counts _ _ c.loop-event.invariant.few
     (omega (arith, c.step-step.ensures.steps.fewer))
 
+-- A step that gives no event took all samples that were left, and leaves no event of theirs untold.
+-- So the events that were counted are all that a handset hears of these samples.
 pub returns-in_default-clause-told : goal.returns-in_default-clause-told
 returns-in_default-clause-told c t heard given stands is =
     let taken = c.loop-event.taken in
@@ -48,6 +50,9 @@ add-requires c =
     room_for_one c.loop-event.counts (steps_left c.loop-event.mobile) c.loop-event.invariant.few
     (omega (arith, fewer))
 
+-- One event more is counted: the handset now stands for the samples of this step and for this event
+-- after those before it, and the counts still leave room for the steps that are left, which are
+-- fewer by one at least.
 pub loop-event-preserved : goal.loop-event-preserved
 loop-event-preserved c =
     let inv = c.loop-event.invariant in

@@ -3,6 +3,8 @@ use Rattle.cdma_replay.proofs.Common.{◌≡◌, List, length, subst, take, Samp
 use Rattle.cdma_replay.proofs.Counting.{made_more, next_made}
 use Rattle.cdma_replay.proofs.trial.count_next.Goals as goal
 
+-- The samples that are filled in are the link's next ones, so with those before them they are a
+-- longer first part of the link, and what a handset hears of that part is counted.
 pub returns-clause-told : goal.returns-clause-told
 returns-clause-told c t given stands is =
     let plan = c.args.cell.now.plan in

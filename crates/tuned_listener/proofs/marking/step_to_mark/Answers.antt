@@ -3,6 +3,8 @@ use Rattle.tuned_listener.proofs.Common.{◌≡◌, ◌∙◌, List, None, Some,
 use Rattle.tuned_listener.proofs.TunedMarks.{ahead_all, mark_is_ahead, marked_here, no_mark_here, unset_untold, unset_without, untold_more}
 use Rattle.tuned_listener.proofs.marking.step_to_mark.Goals as goal
 
+-- A step that gives no event leaves the handset without a mark: the events that it has given are
+-- the same as before, and none of them sets one.
 pub returns-then-is_none-clause-untold : goal.returns-then-is_none-clause-untold
 returns-then-is_none-clause-untold c = λ _.
     let before = c.loop-taken.mobile in
@@ -41,6 +43,9 @@ returns-in-Some-clause-set c = λ m e t heard is.
     (c.loop-taken.invariant.none t heard is.has)
     (λ now given stands. c.mark.ensures.set t now given stands m told)
 
+-- A step after which the handset tells no mark leaves it ahead of its mark: it tells one just where
+-- one of the events that it has given sets it, so this step's event sets none, and neither did
+-- those before.
 pub loop-taken-preserved : goal.loop-taken-preserved
 loop-taken-preserved c =
     let inv = c.loop-taken.invariant in

@@ -11,6 +11,8 @@ loop-i-init c = record {
   few = omega arith;
 }
 
+-- One bit more of a slot is read: the framer stands for the bits with this one, and the count goes
+-- up by one just where the bit ends a capsule that is a page.
 pub loop-i-preserved : goal.loop-i-preserved
 loop-i-preserved c =
     let inv = c.loop-i.invariant in

@@ -17,6 +17,8 @@ loop-i-init g c = record {
   later = omega arith;
 }
 
+-- One bit more of a slot is read: the framer stands for the bits with this one, and where the bit
+-- ends a page that page's line was written after those of the pages before it.
 pub loop-i-preserved : goal.loop-i-preserved
 loop-i-preserved g c =
     let inv = c.loop-i.invariant in
@@ -35,6 +37,9 @@ loop-i-preserved g c =
       later = omega (arith, inv.later, c.write_page.ensures.cause.later);
     }
 
+-- Where a page's line can't be written whole, the sink has the lines of the pages before it and a
+-- beginning of this one's. That is a beginning of the slot's lines, since this page is the next
+-- that ends in its bits.
 pub returns-in_err-write_page-clause-err : goal.returns-in_err-write_page-clause-err
 returns-in_err-write_page-clause-err g c =
     let inv = c.loop-i.invariant in

@@ -22,6 +22,8 @@ loop-width-init g c = record {
   later = c.write_all.ensures.cause.later;
 }
 
+-- One piece more is written: its bytes spell the cell's next samples, 4,096 or as many as are left,
+-- so the sink has the header and all samples that the cell has given by then.
 pub loop-width-preserved : goal.loop-width-preserved
 loop-width-preserved g c =
     let inv = c.loop-width.invariant in
@@ -41,6 +43,9 @@ loop-width-preserved g c =
       later = search (rules, c.write_all-in-loop-width.ensures.cause.later);
     }
 
+-- Where a piece can't be written whole, the sink has a beginning of the file: the header, the
+-- samples before the piece, and a beginning of the piece's bytes, which spell the samples that come
+-- next.
 pub returns-in_err-write_all-2-clause-err : goal.returns-in_err-write_all-2-clause-err
 returns-in_err-write_all-2-clause-err g c =
     let inv = c.loop-width.invariant in

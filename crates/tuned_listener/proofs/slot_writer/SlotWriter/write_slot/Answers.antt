@@ -10,6 +10,9 @@ slot_bits-bits-requires-clause-bound g c =
     spans_small c.args.self.now.softs
     (λ frame below. c.requires.ready.small frame (omega (arith, below, c.requires.whole)))
 
+-- What is written of a slot is the text that is defined of it, or a beginning of it where writing
+-- fails: the handset is awake in the slot, the soft values that are kept are those of its four
+-- frames, and its pages are read at the rate that the mark tells.
 pub returns : goal.returns
 returns g c =
     let w = c.args.self.now in

@@ -5,6 +5,8 @@ use Rattle.mobile_core.specs.Standing.{StandsFor}
 use Rattle.tuned_listener.proofs.TunedListeners.{handset_alone, lawful_channel, listens_ahead, listens_behind, silent_ahead, silent_at_mark}
 use Rattle.tuned_listener.proofs.tuned.TunedListener.reach_mark.Goals as goal
 
+-- Where the handset takes all samples and tells no mark, nothing is to be written: no mark is set
+-- in the samples before nor with these, and without a mark the channel's text is empty.
 pub returns-in_default-mark-clause-silent : goal.returns-in_default-mark-clause-silent
 returns-in_default-mark-clause-silent c = λ t channel form heard is.
     let l = c.args.self.now in

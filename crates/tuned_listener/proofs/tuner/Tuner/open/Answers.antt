@@ -15,6 +15,8 @@ returns-clause-tuned c = λ t heard count phase deltas holds.
           (omega (arith, taken, within, count)) (omega (arith, taken, early));
     }
 
+-- The samples that were heard before the receiver is opened hold none of its frames: they reach as
+-- far as the mark at most, and the receiver's first frame ends after it.
 pub returns-clause-none : goal.returns-clause-none
 returns-clause-none c = λ t heard count phase deltas holds.
     let taken = holds.taken in
