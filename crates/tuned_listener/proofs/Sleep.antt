@@ -123,6 +123,9 @@ module _ (t : Tuning) (near : AreNear (sync_stream t).fingers) (m : Mark) (one o
             mark_stays t (low_of t) (timed_of t near) other m.sample (length other) m few' set
       ]
 
+-- Two files that agree up to the mark and in the slots that are heard have the same text: the mark
+-- depends on the samples before it alone, so both set the same one, and the text is the lines of
+-- the slots that are heard after it, each of which depends on its own slot's samples.
 pub sleeps : SleepsThroughTheRest
 sleeps key cycle t number m one other near long marked same agree =
     let s = channel_stream t (Paging number) m in

@@ -258,6 +258,8 @@ in_phase : (plan : CellPlan) (t : ℕ) → t < plan.link.samples →
     (code_point (plan.link.start + t + 32768 - 64 * plan.cell.pn))).i
 in_phase plan t lt = ap (λ (z : Pair). z.i) (made_at plan t lt ∙ signal_of_carriers plan t)
 
+-- The noise of the file is 54 in size and no less: at the sync channel's first chip the amplitude
+-- that is taken away is 18 in size, and the link's factor of -3j makes 54 of it in I.
 no_nearer : ¬ (IsNear 53 file (made_samples cell))
 no_nearer near =
     let all : IsNear 53 (made_samples quiet) (made_samples cell) =

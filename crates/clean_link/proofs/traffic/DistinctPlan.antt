@@ -70,8 +70,7 @@ bit_is mask v i low = sym (get_or-map-places (λ i. long_chip v mask (64 * i)) 2
 
 -- Stepping the long code tells where a group's power control bit begins: its start depends on the
 -- last four of the group's 24 scrambling bits, which are the code's chips 1,280, 1,344, 1,408 and
--- 1,472 chips after the group's first, and each of these states is 64 steps after the one before
--- it.
+-- 1,472 after the group's first, each of the last three 64 steps after the one before it.
 group_start_is : (mask v : ℕ) → v < 2 ^ 42 →
     group_start mask v ≡ power_start (group_scrambling v mask)
 group_start_is mask v low =

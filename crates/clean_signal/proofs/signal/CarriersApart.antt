@@ -178,6 +178,9 @@ continued_rows width plan lawful =
     (λ s. paging_all (λ (d : Carrier). d.row ≢ 32) plan (sent_paging_rate plan.sync) plan.paging
     (λ p first last e. omega (arith, last, e)) lawful.paging))
 
+-- All channels besides the pilot have rows of their own: the sync channel and the paging channels
+-- have, the traffic channels of a lawful plan have among themselves, and no traffic channel has row
+-- 32 or the row of a paging channel.
 others_rows : (width : Width) (plan : CellPlan) → IsLawfulPlan width plan →
     HaveOwnRows (others plan plan.sync)
 others_rows width plan lawful =

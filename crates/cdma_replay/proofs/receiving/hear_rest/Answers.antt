@@ -29,6 +29,9 @@ pub returns-in_err-count-clause-written : goal.returns-in_err-count-clause-writt
 returns-in_err-count-clause-written g c =
     hears_part c.args.reader.now.left c.loop-reader.invariant.hears (omega arith) c.read.ensures.taken
 
+-- Where a piece breaks off, the fault names the place at which the file ends: the reader has
+-- counted all samples before the piece, and the bytes after them are fewer than those of the
+-- samples that are left.
 pub returns-in_err-count-clause-place : goal.returns-in_err-count-clause-place
 returns-in_err-count-clause-place g c fault is =
     let inv = c.loop-reader.invariant in

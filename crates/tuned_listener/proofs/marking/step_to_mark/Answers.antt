@@ -14,6 +14,9 @@ returns-then-is_none-clause-untold c = λ _.
     untold_more before after _ c.step-step.result does
     (unset_without before after _ c.step-step.result does none) c.loop-taken.invariant.untold
 
+-- A step that gives no event took all samples that were left, and leaves no event of theirs untold.
+-- None of those that were given sets a mark, so the handset stands for all samples and is still
+-- ahead of its mark.
 pub returns-then-is_none-clause-none : goal.returns-then-is_none-clause-none
 returns-then-is_none-clause-none c = λ _ t heard is.
     let taken = c.loop-taken.taken in

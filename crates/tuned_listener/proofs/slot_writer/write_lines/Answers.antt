@@ -4,6 +4,8 @@ use Rattle.std.specs.List.{flat_map}
 use Rattle.event_tap.proofs.Prefixes.{on_err, prefix_behind}
 use Rattle.tuned_listener.proofs.slot_writer.write_lines.Goals as goal
 
+-- Where the lines of a slot's pages can't be written whole, the sink has the slot's own line, with
+-- their number, and a beginning of theirs, which is a beginning of all lines of the slot.
 pub returns-clause-err : goal.returns-clause-err
 returns-clause-err g c =
     let at = c.args.at in

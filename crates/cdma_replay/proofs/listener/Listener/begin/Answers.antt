@@ -7,6 +7,8 @@ use Rattle.cdma_replay.proofs.Lines.{alone_begins, alone_part}
 use Rattle.cdma_replay.specs.declared.listener.Listener.TheVariants as by
 use Rattle.cdma_replay.proofs.listener.Listener.begin.Goals as goal
 
+-- Where nobody hears the file and its pilot is told, the pilot's line is all of its text: it was
+-- written whole, and so nothing is left to be told.
 pub returns-in-Pilot-clause-ok : goal.returns-in-Pilot-clause-ok
 returns-in-Pilot-clause-ok g c =
     let kept = g.T.KeepsTaps.kept c.args.taps.now in
@@ -21,6 +23,8 @@ returns-in-Pilot-clause-ok g c =
     (subst (λ (e : Event). Appends old new (event_line e)) c.pilot_event.ensures written) tt))
     c.write_event.ensures.ok)
 
+-- Where the pilot's line couldn't be written whole, the sink got a beginning of it, which is a
+-- beginning of the file's text too, since nothing comes after that line.
 pub returns-in-Pilot-clause-err : goal.returns-in-Pilot-clause-err
 returns-in-Pilot-clause-err g c =
     let kept = g.T.KeepsTaps.kept c.args.taps.now in
@@ -35,6 +39,8 @@ returns-in-Pilot-clause-err g c =
     (subst (λ (e : Event). AppendsPrefix old new (event_line e)) c.pilot_event.ensures part)))
     c.write_event.ensures.err)
 
+-- Where pilots are ranked, the lines of the first ranks are all of the text: they were written
+-- whole, and so nothing is left to be told.
 pub returns-in-Ranks-clause-ok : goal.returns-in-Ranks-clause-ok
 returns-in-Ranks-clause-ok g c =
     let kept = g.T.KeepsTaps.kept c.args.taps.now in
@@ -50,6 +56,8 @@ returns-in-Ranks-clause-ok g c =
     (alone_begins (ranks_text (take top ranks)) (by.Ranks ranks top) kept old new written tt))
     c.write_ranks.ensures.ok)
 
+-- Where they couldn't be written whole, the sink got a beginning of these lines, and so of the
+-- file's text.
 pub returns-in-Ranks-clause-err : goal.returns-in-Ranks-clause-err
 returns-in-Ranks-clause-err g c =
     let kept = g.T.KeepsTaps.kept c.args.taps.now in
@@ -64,6 +72,8 @@ returns-in-Ranks-clause-err g c =
     (alone_part (ranks_text (take top ranks)) samples old new part))
     c.write_ranks.ensures.err)
 
+-- Where a handset hears the file, it begins as defined: before any sample it has given no event, so
+-- what the taps hear is its pilot, and their text and what they keep follow from this event alone.
 pub returns-in-Handset-clause-ok : goal.returns-in-Handset-clause-ok
 returns-in-Handset-clause-ok g c =
     let kept = g.T.KeepsTaps.kept c.args.taps.now in

@@ -13,6 +13,9 @@ tell-requires g c = record {
   kept = c.requires.kept;
 }
 
+-- Where a handset hears the file, it tells what is defined: who listens by a handset is the taps
+-- that heard its events so far, and for them the text, the taps and the handset after these samples
+-- are those that `tell` promises.
 pub returns-in-Handset-clause-ok : goal.returns-in-Handset-clause-ok
 returns-in-Handset-clause-ok g c =
     let kept = g.T.KeepsTaps.kept c.args.taps.now in
@@ -44,6 +47,9 @@ hear-requires g c =
     let room = room_tuned _ c.in-Tuned.tuned _ c.in-Tuned.is c.requires.room in
     record { room = rw c.deref_mut-in-Tuned.ensures.value room }
 
+-- Where the frames of one channel are heard, what is told is what is defined: who listens by such a
+-- listener wants the text of that channel, which is what the listener promises to write, and the
+-- taps hear nothing of it.
 pub returns-in-Tuned-clause-ok : goal.returns-in-Tuned-clause-ok
 returns-in-Tuned-clause-ok g c =
     let kept = g.T.KeepsTaps.kept c.args.taps.now in

@@ -4,6 +4,8 @@ use Rattle.event_tap.proofs.Prefixes.{on_err, on_ok}
 use Rattle.tuned_listener.proofs.TunedListeners.{cut_after, tells_after}
 use Rattle.tuned_listener.proofs.tuned.TunedListener.hear.Goals as goal
 
+-- What is written is what all samples add to the text: those up to the mark add nothing to it, and
+-- what those after the mark add is what their frames are written as.
 pub returns-clause-ok : goal.returns-clause-ok
 returns-clause-ok g c =
     let samples = c.args.samples.now in
@@ -15,6 +17,8 @@ returns-clause-ok g c =
     (tells t channel form (heard ++ take taken samples) (reached.listens t channel form heard is)))
     c.write_frames.ensures.ok
 
+-- Where writing fails, the sink has a beginning of what all samples add to the text: those up to
+-- the mark add nothing, so it is a beginning of what those after the mark add.
 pub returns-clause-err : goal.returns-clause-err
 returns-clause-err g c =
     let samples = c.args.samples.now in

@@ -17,6 +17,9 @@ returns-in_default-mark-clause-silent c = λ t channel form heard is.
     silent_ahead t channel form heard c.args.samples.now reached.result.taken
     (reached.ensures.all none) ahead.unmarked (reached.ensures.none none t heard ahead).unmarked
 
+-- Where the handset takes all samples and tells no mark, the listener goes on as before: the
+-- handset stands for these samples too and is still ahead of its mark, and no receiver has taken
+-- its place.
 pub returns-in_default-mark-clause-listens : goal.returns-in_default-mark-clause-listens
 returns-in_default-mark-clause-listens c = λ t channel form heard is.
     let l = c.args.self.now in
