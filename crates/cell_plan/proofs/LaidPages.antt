@@ -278,6 +278,9 @@ fill_more size q r some low =
     ∙ sym (small (size - r) size (omega (arith, some, low)))
     ∙ sym (fill_at size q r low)
 
+-- The zeros that complete a channel's last half-frame are as many whether its SCI bits are counted
+-- or not: after whole half-frames there are none, and in a begun one the SCI bit lengthens both the
+-- half-frame and what is filled of it by one.
 fill_same : (size count : ℕ) → 0 < size →
     laying.fill (size + 1) (specs.half_frame_bits size count) ≡ laying.fill size count
 fill_same size count large =
@@ -298,6 +301,9 @@ size_large rates.R4800 = omega arith
 size_large rates.R2400 = omega arith
 size_large rates.R1200 = omega arith
 
+-- Half-frames that are laid for all pages and completed with zeros are the channel's page cycle:
+-- their length is that of the pages' bits with one SCI bit for each half-frame, so the zeros that
+-- were added are those of the definition.
 pub cycle_is : (rate : Rate) (form : CheckForm) (pages : List Page) (half : ℕ)
     (bits cycle : List Bool) → half ≡ half_frame_body rate + 1 →
     bits

@@ -115,6 +115,9 @@ nothing_summed chip factor cs k below =
     (same_parts (row_total k (replicate 64 origin)) origin i q)
     ∙ origin-plus (scaled (amplitudes (chip + k) cs) factor)
 
+-- One channel more is in the sums: its level, added to the entry at its Walsh row, adds its
+-- amplitude to each of the block's 64 chips, so what the entries hold and what is left together
+-- stay the amplitude of all channels.
 pub one_summed : (chip done row : ℕ) (factor : Pair) (cs : List Carrier) (c : Carrier)
     (values : List Pair) (new : Pair) (l : ℤ) (none : Carrier) →
     chip % 64 ≡ 0 → done < length cs → get_or cs done none ≡ c → row ≡ c.row → row < length values →
@@ -172,6 +175,8 @@ widened a b xs h all = λ k d inside.
     let here = all k d inside in
     (omega (arith, h, here.0), omega (arith, h, here.1))
 
+-- One channel more makes an entry greater by at most 2^31 in each branch, since its level is at
+-- most 2^16 - 1 and each part of the link's factor at most 2^15 in size; all other entries stay.
 pub grows : (done row : ℕ) (values : List Pair) (new factor : Pair) (l : ℤ) → row < length values →
     unsigned_abs l ≤ 65535 → IsWithin 32768 factor →
     new ≡ plus (get_or values row origin) (scaled l factor) →

@@ -100,6 +100,9 @@ are_given plan block given phase n signs out pilot sent link code ahead long wit
       turned = subst (λ (m : ℕ). AreTurned chips signs m out) (sym long) turned;
     }
 
+-- Each sample that a block gave is the plan's at its place: the block's chip is the sum of what the
+-- channels send there, and the pilot codes that turn it are those of the sample's own phase, which
+-- doesn't come round to 0 within the block.
 given_one : (plan : CellPlan) (block : BlockState) (given phase : ℕ) (signs : List (ℤ × ℤ))
     (out : List Sample) → AreGiven plan block given phase signs out → (k : ℕ) → k < length out →
     of_sample (get_or out k no_sample) ≡ sample_of plan (given + k)

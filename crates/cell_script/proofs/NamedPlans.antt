@@ -257,6 +257,9 @@ follow_room : (rate : Rate) (count : ℕ) (follows : Bool) → may_follow rate c
 follow_room rate count true test same = leb-true 8 (bits_left (half_frame_body rate) count) test
 follow_room rate count false test same = absurd (cc same)
 
+-- A page that a script may have at this place leaves the channels as they have to be: the stage
+-- after it exists only where a page that follows has the eight bits it needs in its half-frame and
+-- where the cycle is of at most 8,192 bits.
 page_taken : (rate : Rate) (count : ℕ) (next : Stage) (plan : CellPlan) (page : Page) →
     FillsCapsule M30 page.body × HasMessage page.body → IsOpen rate count plan →
     page_stage rate count page ≡ Some next → HasChannels next (with_more plan page)

@@ -108,6 +108,9 @@ same_head a b ls os e = cc
 same_tail : (a b : List ℕ) (ls os : List (List ℕ)) → a ∷ ls ≡ b ∷ os → ls ≡ os
 same_tail a b ls os e = cc
 
+-- No script that begins with the same lines up to the fault is whole, one line at a time: where
+-- this line is at fault the other script stops there too, and where it isn't both go on from the
+-- same draft, for which it is known already.
 refuses_step : (draft : Draft) (k j : ℕ) (line other : List ℕ) (more others : List (List ℕ))
     (next : Option Draft) → draft_after draft line ≡ next →
     other ≡ line → stated draft k (line ∷ more) ≡ Err (k + j) →
@@ -195,6 +198,9 @@ stated_plan-lines : (script : List ℕ) → stated_plan script ≡ stated empty_
 unfolding stated_plan
 stated_plan-lines script = refl
 
+-- Where a script has its fault at line n, no other script with the same first n lines names a plan:
+-- a script is read line by line, and what is read of it up to a line depends on the lines up to
+-- there alone.
 pub refused : (script other : List ℕ) (n : ℕ) → stated_plan script ≡ Err n →
     n ≤ length (lines script) → IsOk (stated_plan other) →
     take n (lines other) ≢ take n (lines script)
@@ -223,6 +229,9 @@ pub counted : (script : List ℕ) (n : ℕ) → stated_plan script ≡ Err n →
 counted script n fault =
     (within empty_draft 1 n (lines script) (sym (stated_plan-lines script) ∙ fault)).0
 
+-- Lines that come before the fault are the beginning of some script that names a plan: what they
+-- told so far can be completed from any stage, so the line at fault is the first that no such
+-- script has.
 pub least : (script : List ℕ) (n m : ℕ) → stated_plan script ≡ Err n → m < n →
     (other : List ℕ) × IsOk (stated_plan other) × (take m (lines other) ≡ take m (lines script))
 least script n m fault before =

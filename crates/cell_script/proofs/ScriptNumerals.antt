@@ -100,6 +100,8 @@ number_told : (text : List ℕ) (n : ℕ) (plain : Bool) → is_plain text ≡ p
 number_told text n true e some = (e, sym (cond-true _ _ _ e) ∙ some)
 number_told text n false e some = absurd (cc (cond-false _ (digits_from 0 text) None e, some))
 
+-- A text that is read as the number n is the one that is printed for n: it is within the range, has
+-- digits only and no leading zero, and of such a text the digits are those of its value.
 spelled : (most n : ℕ) (text : List ℕ) → most < 2 ^ 64 → number_up_to most text ≡ Some n →
     (text ≡ decimal n) × (n ≤ most)
 unfolding number_up_to
@@ -183,6 +185,9 @@ negative_told digits z (Some (suc n)) is some =
     (ap (λ (ds : List ℕ). 45 ∷ ds) told.0, record { sfits = omega (arith, told.1) })
 negative_told digits z number is some = absurd (cc some)
 
+-- A text that is read as a signed number is the one that is printed for it: one that begins with a
+-- minus sign is that sign and the one spelling of the size, and any other is the spelling of a
+-- number without a sign.
 signed_told : (byte : ℕ) (bytes : List ℕ) (z : ℤ) (minus : Bool) → (byte == 45) ≡ minus →
     signed_in (byte ∷ bytes) ≡ Some z → Spells (byte ∷ bytes) z
 signed_told byte bytes z true minus some =

@@ -87,6 +87,8 @@ left_refused script rest plan stage n statement is after before =
     sym (line_refused script (draft_at plan stage) n end rest refl told.0
     (with_line-refused plan stage (take end rest) statement told.1 after) before)
 
+-- A line that states nothing is the script's fault: where an LF ends it the definition refuses that
+-- line, and where bytes are left without an LF it refuses them as a line that isn't whole.
 left_faulty : (script rest : List ℕ) (plan : CellPlan) (stage : Stage) (n : ℕ) (ended : Bool) →
     nat_lt (length_before 10 rest) (length rest) ≡ ended → first_stated rest ≡ None →
     0 < length rest → Left script plan stage n rest → stated_plan script ≡ Err n

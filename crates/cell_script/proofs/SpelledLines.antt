@@ -167,6 +167,9 @@ cell_back cell is =
     (number_back 3 checks (omega arith) few))
     (ap Some (same_cell cell))
 
+-- A cell's line is read back as that cell, and has no LF: its keys and its four values are of
+-- printable bytes, as PILOT_PN, the time and the checks are printed as numbers and the long code
+-- state as digits.
 cell_spelled : (cell : CellIdentity) → IsStatedCell cell →
     ReadsBack (written_cell cell) (statements.Cell cell)
 unfolding statement_in written_cell
@@ -227,6 +230,8 @@ link_back link is =
     (number_back 18446744073709551615 link.samples (omega arith) is.samples))
     (cond-true _ _ _ is.some)
 
+-- A link's line is read back as that link, and has no LF: both parts of its factor are printed as
+-- signed numbers, and its start and its samples as plain ones, so all of its bytes are printable.
 link_spelled : (link : LinkPlan) → IsWritableLink link →
     ReadsBack (written_link link) (statements.Link link)
 unfolding statement_in written_link
@@ -253,6 +258,8 @@ pilot_back : (pilot : PilotPlan) (text : List ℕ) →
 unfolding pilot_in
 pilot_back pilot text told = rw (told.1, told.0) refl
 
+-- The pilot's line is read back as that pilot, and has no LF: its gain is at most 65,535, the bound
+-- with which the field is read, and is printed with digits.
 pilot_spelled : (pilot : PilotPlan) → pilot.gain ≤ 65535 →
     ReadsBack (written_pilot pilot) (statements.Pilot pilot)
 unfolding statement_in written_pilot
@@ -312,6 +319,9 @@ unfolding numbers_in past_numbers
 no_numbers numbers rest none ends =
     record { numbers_read = ap Some (sym none); passed = refl; spaced = ends }
 
+-- Numbers that are written with their keys are read back, by induction over the fields: a field's
+-- value ends where the next key's space begins, or what comes after all of them, so each is read
+-- and passed by itself.
 numbers_back : (fields : List NumberRow) (numbers rest : List ℕ) → AreNumbersOf fields numbers →
     length_before 32 rest ≡ 0 → AreBack fields numbers (numbers_text fields numbers ++ rest) rest
 numbers_back [] numbers rest are ends = no_numbers numbers rest are ends
@@ -334,6 +344,8 @@ numbers_back (f ∷ fields) (n ∷ numbers) rest are ends =
       spaced = is.spaced (decimal n ++ more);
     })
 
+-- A line with numbers in it has no LF where the rest of it has none, by induction over the fields:
+-- keys and digits are printable bytes.
 numbers_within : (fields : List NumberRow) (numbers rest : List ℕ) →
     AreNumbersOf fields numbers → are_within 32 126 rest ≡ true →
     are_within 32 126 (numbers_text fields numbers ++ rest) ≡ true
@@ -378,6 +390,9 @@ some_freq freq text rest begins told = (
       (λ is. is) told.1,
 )
 
+-- CDMA_FREQ is read back where it is written, and where it isn't nothing is read: a line without it
+-- goes on with the key of the rest at once, and its value is at most 2,047 and ends at that key's
+-- space.
 freq_back : (freq : Option ℕ) (rest : List Bool) → IsTail freq rest →
     IsFreqBack freq (written_freq freq ++ rest_part rest) (rest_part rest)
 freq_back None rest is = no_freq rest
@@ -421,6 +436,9 @@ rest_short : (freq : Option ℕ) (rest : List Bool) → IsTail freq rest → len
 rest_short None rest is = omega (arith, is)
 rest_short (Some freq) rest is = is.2
 
+-- P_REV, MIN_P_REV, SID and NID are numbers that their fields of a sync line hold: each fits into
+-- the bits that a sync message has for it, and the field's bound is the greatest number of these
+-- bits.
 network_numbers : (m : SyncFields) → FieldsFit (fixed_fields m) →
     AreNumbersOf network_rows (network_values m)
 network_numbers m fit =
@@ -438,6 +456,9 @@ network_numbers m fit =
       ),
     )
 
+-- LP_SEC, LTM_OFF, DAYLT and PRAT are numbers that their fields of a sync line hold: each fits into
+-- the bits that a sync message has for it, and the field's bound is the greatest number of these
+-- bits.
 local_numbers : (m : SyncFields) → FieldsFit (fixed_fields m) →
     AreNumbersOf local_rows (local_values m)
 local_numbers m fit =
@@ -542,6 +563,9 @@ sync_back sync is =
     (bits_word m.rest (omega (arith, few))) (bits_back m.rest (omega (arith, few))))
     (message_back m is.message is.pn is.lc is.time))
 
+-- A sync channel's line is read back as that channel, and has no LF: the message's numbers fit
+-- their fields, so they are written with printable bytes, and so are CDMA_FREQ and the bits of the
+-- rest.
 sync_spelled : (sync : SyncPlan) → IsWritableSync sync →
     ReadsBack (written_sync sync) (statements.Sync sync)
 unfolding statement_in written_sync
@@ -586,6 +610,8 @@ some_paging : (line : PagingLine) → 1 ≤ line.number →
     stated_paging_line line.number line.gain ≡ Some line
 some_paging line some = cond-false _ _ _ (ne_eqb line.number 0 (λ none. omega (arith, some, none)))
 
+-- A paging channel's line is read back as that channel, and has no LF: its number is from 1 to 7
+-- and its gain at most 65,535, each of which is read back from its own field.
 paging_spelled : (line : PagingLine) → IsWritablePaging line →
     ReadsBack (written_paging line) (statements.Paging line)
 unfolding statement_in written_paging
@@ -700,6 +726,8 @@ traffic_back line is =
     (number_back 65535 line.gain (omega arith) is.gain))
     refl
 
+-- A traffic channel's line is read back as that channel, and has no LF: row, offset and gain are
+-- printed as numbers and the serial number as digits, all of printable bytes.
 traffic_spelled : (line : TrafficLine) → IsWritableTraffic line →
     ReadsBack (written_traffic line) (statements.Traffic line)
 unfolding statement_in written_traffic
@@ -740,6 +768,8 @@ abbrev frame_parts : FrameRate → List Bool → List Bool → List ℕ
 frame_parts rate information power_bits =
     frame_key rate ++ (bit_text information ++ (codes " " ++ digits_of power_bits))
 
+-- A frame's line is read back as that frame by the rate that its key tells: its information bits
+-- end at the space, and the sixteen power control bits are all that comes after it.
 frame_back : (rate : FrameRate) (information power_bits : List Bool) →
     length information ≡ information_bits_of rate → length power_bits ≡ 16 →
     frame_with rate (frame_parts rate information power_bits)
@@ -771,6 +801,8 @@ frame_key_within (SetOne rate) = refl
 frame_key_within (SetTwo R14400) = refl
 frame_key_within (SetTwo rate) = refl
 
+-- A frame's line is read back as that frame, and has no LF: the key tells its rate, and the digits
+-- of its bits are printable bytes.
 frame_spelled : (f : TrafficFrame) → IsTrafficFrame f → length f.power_bits ≡ 16 →
     ReadsBack (written_frame f) (statements.Frame f)
 unfolding written_frame

@@ -190,6 +190,8 @@ behind_told sync plan said false false other more told =
     ∙ cond-false _ (Paging R4800) Traffic more))
     told
 
+-- After a sync line the statements so far are those of the plan with that sync channel: no channel
+-- was stated before it, so it is the only one, and PRAT tells which stage comes next.
 told_sync : (stage next : Stage) (plan : CellPlan) (sync : SyncPlan) (said : List Statement) →
     HasChannels stage plan → HasTold stage plan said → after_sync stage sync ≡ Some next →
     HasTold next (record plan { sync = Some sync }) (said ++ statements.Sync sync ∷ [])
@@ -235,6 +237,9 @@ page_statements_more last page =
     ap (λ (ss : List Statement). statements.Paging (line_of_paging last) ∷ ss)
     (map-append statements.Page last.pages (page ∷ []))
 
+-- After a page's line the statements so far are those of the plan with the page in its last paging
+-- channel: that channel's statements end with its pages and no traffic channel comes after it, so
+-- the new one is added at the end.
 page_told : (plan : CellPlan) (page : Page) (before : List PagingPlan) (last : PagingPlan)
     (said : List Statement) → plan.paging ≡ before ++ last ∷ [] → plan.traffic ≡ [] →
     said ≡ statements_of plan →
@@ -302,6 +307,9 @@ frame_statements_more last frame =
     ap (λ (ss : List Statement). statements.Traffic (line_of_traffic last) ∷ ss)
     (map-append statements.Frame last.frames (frame ∷ []))
 
+-- After a frame's line the statements so far are those of the plan with the frame in its last
+-- traffic channel: that channel's statements end with its frames, so the new one is added at the
+-- end.
 frame_told : (plan : CellPlan) (frame : TrafficFrame) (before : List TrafficPlan)
     (last : TrafficPlan) (said : List Statement) → plan.traffic ≡ before ++ last ∷ [] →
     said ≡ statements_of plan →
@@ -366,6 +374,8 @@ record IsMade (draft : Draft) (said : List Statement) : Type 0 where
   told : HasTold draft.stage draft.plan said
   leads : Leads empty_draft (lines_of said) draft
 
+-- One statement more keeps what a draft is made of: its line leads on to the next draft, whose plan
+-- is lawful and is stated by just the statements so far and this one.
 made_next : (draft next : Draft) (said : List Statement) (statement : Statement)
     (stage : Option Stage) → IsMade draft said → IsLawfulStatement statement →
     IsWritable statement → with_next draft statement ≡ Some next →

@@ -20,6 +20,8 @@ least_bit (suc zero) (suc zero) h k = refl
 least_bit (suc (suc p)) q h k = absurd (omega (arith, h))
 least_bit p (suc (suc q)) h k = absurd (omega (arith, k))
 
+-- The lowest bit of the common bits of two numbers is set just where both numbers are odd: bit 0 of
+-- a conjunction is the lesser of both bits 0.
 low_and : (a b : ℕ) → nat_eq (bit_and a b % 2) 1 ≡ both (nat_eq (a % 2) 1) (nat_eq (b % 2) 1)
 low_and a b =
     let e : bit_and a b / 2 ^ 0 % 2 ≡ min (a / 2 ^ 0 % 2) (b / 2 ^ 0 % 2) = bit_at_and a b 0 in

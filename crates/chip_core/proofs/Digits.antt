@@ -23,6 +23,8 @@ one_bit_xor (suc zero) (suc zero) h k = refl
 one_bit_xor (suc (suc p)) q h k = absurd (omega (arith, h))
 one_bit_xor p (suc (suc q)) h k = absurd (omega (arith, k))
 
+-- The lowest bit of an exclusive or is set just where one of both numbers is odd: bit 0 of it is
+-- the sum of both bits 0, modulo 2.
 low_xor : (a b : ℕ) → nat_eq (bit_xor a b % 2) 1 ≡ xor (nat_eq (a % 2) 1) (nat_eq (b % 2) 1)
 low_xor a b =
     let e : bit_xor a b / 2 ^ 0 % 2 ≡ (a / 2 ^ 0 % 2 + b / 2 ^ 0 % 2) % 2 = bit_at_xor a b 0 in
@@ -32,6 +34,8 @@ low_xor a b =
     ap (λ n. nat_eq n 1) (rw (p, q, r) at e) ∙
     one_bit_xor (a % 2) (b % 2) (omega arith) (omega arith)
 
+-- The bits of an exclusive or are the sums of both numbers' bits, place by place, by induction over
+-- the width: half of it is that of both halves, and its lowest bit is that of both lowest bits.
 pub binary-xor : (w a b : ℕ) → binary w (bit_xor a b) ≡ add (binary w a) (binary w b)
 unfolding binary
 binary-xor zero a b = refl

@@ -44,6 +44,8 @@ filter_none_range p a (suc n) h =
     let here : p a ≡ false = h a (omega arith) (omega arith) in
     rw here (filter_none_range p (a + 1) n (λ k low high. h k (omega arith) (omega arith)))
 
+-- Where the first of some places passes a test, the places that pass are that one and then those
+-- after it that pass: asking of each place that it lie after this one leaves out just the first.
 first_here : (p : ℕ → Bool) (a n m : ℕ) → a ≡ m → p m ≡ true →
     filter p (range_with_len a (suc n))
     ≡ m ∷ filter (λ k. nat_le (m + 1) k && p k) (range_with_len a (suc n))

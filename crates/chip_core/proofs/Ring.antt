@@ -26,6 +26,9 @@ diff_is : (p q : ℕ) → up (diff p q) + q ≡ p + down (diff p q)
 unfolding diff
 diff_is p q = omega (arith, ints)
 
+-- The product of two differences is a difference again, multiplied out term by term: either
+-- difference is its positive part less its negative one, and the equations for both are scaled by
+-- what the other has.
 pub diff-times : (p q r s : ℕ) → diff p q *ℤ diff r s ≡ diff (p * r + q * s) (p * s + q * r)
 diff-times p q r s =
     let x = diff p q in

@@ -132,6 +132,8 @@ picked : (taken : List ℕ) (f : ℕ → ℤ) (n best : ℕ) → IsGreatestUnles
 picked taken f n best is e true t = takes taken f n best is e (tested (f best) (f n) t)
 picked taken f n best is e false t = keeps taken f n best is (untested (f best) (f n) t)
 
+-- One place more that isn't taken keeps the greatest of all that aren't: the new one is picked
+-- where its value is above the best so far, and else the best stays, so at a tie the first is kept.
 next_best-picked : (taken : List ℕ) (f : ℕ → ℤ) (n best : ℕ) → IsGreatestUnless taken f n best →
     list_any (nat_eq n) taken ≡ false → IsGreatestUnless taken f (n + 1) (next_best taken f n best)
 next_best-picked taken f n best is e =

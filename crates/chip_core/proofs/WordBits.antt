@@ -58,6 +58,8 @@ word_bit-same words count v bit s =
     let within = s.within in
     ap (λ (n : ℕ). bit_of n (count % 64)) (get_or-set_same words (count / 64) v 0 within) ∙ s.here
 
+-- Setting one bit of a packed list changes no other: a bit of another word stays with its word, and
+-- one of the same word lies at another of its 64 places, which the new word has as before.
 pub word_bit-other : (words : List ℕ) (count v : ℕ) (bit : Bool) → SetsBit words count v bit →
     (i : ℕ) → i ≢ count →
     word_bit (set words (count / 64) v) i ≡ word_bit words i

@@ -9,6 +9,8 @@ use Rattle.conv_code.proofs.Common.{IsContinuedCode, flat_map_ext_places}
 abbrev pub pair : List Bool → ℕ → List Bool
 pair joined j = symbol g0 joined j ∷ symbol g1 joined j ∷ []
 
+-- What m + n places give is what the first m give, followed by what the n places after them give,
+-- by induction over n.
 split : {X : Type 0} (f : ℕ → List X) (m n : ℕ) →
     flat_map f (places (m + n)) ≡ flat_map f (places m) ++ flat_map (λ j. f (m + j)) (places n)
 split f m zero =
@@ -57,6 +59,9 @@ before start xs ys j eight lt =
     ap (λ (r : List Bool). get_or r (8 + j - back) false) (sym (append_assoc start xs ys))
     ∙ get_or_append_left (start ++ xs) ys false (8 + j - back) within)
 
+-- A pair of symbols of later bits is the one that an encoder gives which begins with the state
+-- after the bits before: the pair depends on its own bit and the eight before it, and these are in
+-- that state or among the later bits.
 pub behind : (start xs ys : List Bool) (j : ℕ) → length start ≡ 8 →
     pair (start ++ (xs ++ ys)) (length xs + j) ≡ pair (state_after start xs ++ ys) j
 behind start xs ys j eight =
@@ -70,6 +75,9 @@ behind start xs ys j eight =
     rw place (sym (get_or-drop m (start ++ (xs ++ ys)) (8 + j - back) false)
     ∙ ap (λ (r : List Bool). get_or r (8 + j - back) false) joined))
 
+-- The symbols of some bits followed by others are those of the first, and then those of the others
+-- from the state that the first leave: each pair of either part depends on nine bits that are the
+-- same in both encodings.
 pub continued : IsContinuedCode
 continued start xs ys eight =
     let joined = start ++ (xs ++ ys) in

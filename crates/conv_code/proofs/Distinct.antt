@@ -49,6 +49,9 @@ up_to x y n (suc d) long h k room i lt =
     below_more (λ i. get_or x i false ≡ get_or y i false) (8 + (8 + d)) before here i
     (omega (arith, lt))
 
+-- Equal code symbols of at least eight bits come from equal bits and equal states before them: the
+-- first eight pairs of symbols have one solution for the sixteen bits that they depend on, and each
+-- later symbol fixes one bit more.
 pub distinct : IsDistinctCode
 distinct start start' bits bits' s s' long same h =
     let x = start ++ bits in

@@ -68,6 +68,8 @@ one_gathered c code symbols k softs out part e f long room before here =
     ∙ sym (frames-more f' k)
     ∙ ap (λ (n : ℕ). gathered_span c n softs) (sym (add-one k))
 
+-- What is gathered stays within the soft values' sizes with one frame more: the new frame's values
+-- add up to at most that of its own soft values, and so do those of the frames before.
 pub one_small : (bits size code symbols k : ℕ) (softs out part : List ℤ) → code ≡ 2 * bits →
     symbols ≡ size → length part ≡ code → code * k ≤ length out →
     sum_by unsigned_abs (take (2 * bits * k) out) ≤ sum_by unsigned_abs (take (size * k) softs) →

@@ -34,6 +34,8 @@ front_is format information long =
     ∙ take_at information (quality_indicator format.quality information ++ replicate 8 false)
     format.information long
 
+-- A sent codeword's quality indicator is right: the bits after the information bits are the
+-- indicator that was computed for these, and the tail bits come only after it.
 codeword_right : {R : Type 0} (format : FrameFormat R) (information : List Bool) →
     length information ≡ format.information → is_right format (sent_bits format information) ≡ true
 codeword_right format information long =

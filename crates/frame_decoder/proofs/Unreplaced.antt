@@ -85,6 +85,8 @@ either_zero : (b : Bool) (x : ℤ) → x ≡ pos 0 → (if b then pos 0 else x) 
 either_zero true x e = refl
 either_zero false x e = e
 
+-- Soft values that are all 0 stay so where 0 is put at the places of power control bits: at each
+-- place there is a 0, either the one that was heard or the one that is put there.
 pub zeros_kept : (replaced : List ℕ) (n : ℕ) →
     unreplaced replaced (replicate n (pos 0)) ≡ replicate n (pos 0)
 zeros_kept replaced n =

@@ -72,6 +72,8 @@ module _ (t : Tuning) (samples : List Sample) (n : ℕ) where
       (frames_now t traffic m legs n)
       (λ k. signal_here n (signaling_message_at t traffic m legs (take n samples) k))
 
+  -- The event of the pilot sets that ends at n samples has the number n: there is one only where
+  -- the next moment lies just there, and it is told with that moment's place.
   moment_here : (traffic : Traffic) (m : Mark) → AreAt n (sets_at t traffic m samples n)
   unfolding sets_at
   moment_here traffic m =

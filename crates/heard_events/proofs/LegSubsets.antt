@@ -70,6 +70,8 @@ pub on_rows : (c : ℕ) (legs : List Leg) → legs_rows legs ≡ true →
     legs_rows (on_subchannel c legs) ≡ true
 on_rows c legs h = filter_all (λ (leg : Leg). nat_lt leg.finger.row 64) (is_on c) legs h
 
+-- What holds of all fingers holds of those of one power control subchannel, by induction over the
+-- active pilots: a pilot that is on it keeps its fingers, and those of any other are left out.
 pub on_all : (P : Finger → Type 0) (phase : ℕ) (deltas : List ℤ) (c : ℕ) (legs : List Leg) →
     All P (all_fingers phase deltas legs) → All P (all_fingers phase deltas (on_subchannel c legs))
 on_all P phase deltas c [] h = h

@@ -67,6 +67,8 @@ bodies_long (p ∷ pieces) h =
     omega (arith, one, rest, length-append p.body (bodies pieces))
 
 -- THE CAPSULE ENDS IN ITS LAST FRAME
+-- A capsule that a frame ends is longer than the bits before that frame: it is as long as it
+-- states, and where that were no more it would have ended before.
 ends_late : (bits : List Bool) (before : ℕ) (capsule : List Bool) →
     (if nat_le (stated_bits bits) before then None else front_capsule bits) ≡ Some capsule →
     before < length capsule
@@ -158,6 +160,9 @@ module _ (t : Tuning) (samples : List Sample) (k low : ℕ) (near : AreNear (syn
       let ends = (ends_bounds Sync (frame_start s (k + 1)) s.fingers near).1 in
       omega (arith, high, ends)
 
+  -- A mark lies after the samples within which its message is known: it is set four superframes
+  -- after the message's last one, less at most 511 times 64 chips for the pilot's offset, and the
+  -- last frame is known little more than a frame after it ends.
   pub mark_later : (m : Mark) → first_of (marks_at t samples k) ≡ Some m →
       known_at t.count (sync_stream t) k < m.sample
   unfolding marks_at heard_at

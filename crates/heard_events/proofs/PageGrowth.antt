@@ -115,6 +115,8 @@ module _ (t : Tuning) (channel : ℕ) (m : Mark) where
         (bits_before_sooner s refl timed) xs ys k inside known in
         rw (before, own) refl
 
+    -- The pages that a frame gives from one of its bits on stay as they are where more samples
+    -- follow: the frame's own bits do, and so does what each of them completes.
     pages_from_sooner : (from : ℕ) →
         Stays (page_frames t channel m) (λ xs k. pages_from t channel m xs k from)
     unfolding pages_from

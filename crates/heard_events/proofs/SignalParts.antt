@@ -20,6 +20,8 @@ primary_most true false = omega arith
 primary_most false true = omega arith
 primary_most false false = omega arith
 
+-- The signaling of a frame at 9600 bps has at least two bits where there is any: of its 172
+-- information bits four tell the format and at most 80 are primary traffic.
 full_long : (bits : List Bool) → length bits ≡ 172 → IsLongSignal (split_9600 bits).signal
 unfolding split_9600
 full_long bits long =

@@ -170,6 +170,8 @@ module _ (t : Tuning) (traffic : Traffic) (m : Mark) (legs : ℕ → List Leg) w
         (λ n xs ys k inside known. ap (message_events n) (message_sooner close xs ys k inside known))
 
 -- A LIST THAT HAS GROWN BY ITS LAST PIECE
+-- Where the first pieces stay as they were and those after them are empty but the last, the list
+-- has grown by that last piece, by induction over how many are empty.
 pub last_piece : {A : Type 0} (f g : ℕ → List A) (a d : ℕ) →
     ((i : ℕ) → i < a → g i ≡ f i) → ((i : ℕ) → a ≤ i → i < a + d → g i ≡ []) →
     flat_map g (places (a + d + 1)) ≡ flat_map f (places a) ++ g (a + d)

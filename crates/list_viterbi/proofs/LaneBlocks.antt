@@ -83,6 +83,9 @@ picks_same ss ss' c c' picks p q h =
     subst (λ (xs : List ℤ). HasPicks xs c picks) (sym p)
     (subst (λ (n : ℕ). HasPicks ss' n picks) (sym q) h)
 
+-- The lower two states of a pair of blocks get their picks: the even state before comes with the
+-- gain added and the odd one with it taken off, and what is put 128 states further up overwrites
+-- nothing of them.
 pub pair_lower : (ranks gain next : List ℤ) (choices : List ℕ) (block : ℕ) → length next ≡ 1024 →
     length choices ≡ 256 → length gain ≡ 2 → block < 64 → (l : ℕ) → l < 2 →
     HasPicks (four_of (with_both ranks gain block next) (2 * block + l))
@@ -103,6 +106,9 @@ pair_lower ranks gain next choices block whole long two below l b =
     (block_picks (λ x y. x +ℤ y) (λ x y. x -ℤ y) ranks gain (4 * block) l (2 * block + l)
     (get_or gain l (pos 0)) b two (λ x. refl) (λ x. omega (arith, ints)) (omega (arith, below, b)))
 
+-- The upper two states of a pair of blocks get their picks: they are put last, and the gain is
+-- taken off after the even state and added after the odd one, so it is the lower states' gain
+-- turned.
 pub pair_upper : (ranks gain next : List ℤ) (choices : List ℕ) (block : ℕ) → length next ≡ 1024 →
     length choices ≡ 256 → length gain ≡ 2 → block < 64 → (l : ℕ) → l < 2 →
     HasPicks (four_of (with_both ranks gain block next) (128 + 2 * block + l))

@@ -37,6 +37,8 @@ pub scores_long : (e o : Heads) → HeadsLong e → HeadsLong o → HeadsLong (f
 scores_long e o p q =
     by_pairs (λ x y. HeadsLong (four_scores x y)) e o p q (scores_of_long e o)
 
+-- The scores of four turns fit into 64 bits: each turn takes one of two heads and moves the list
+-- that it was taken from by one, so only scores that were there before are chosen.
 pub scores_fit : (e o : Heads) → HeadsFit e → HeadsFit o → HeadsFit (four_scores e o)
 unfolding four_scores
 scores_fit e o p q =

@@ -17,6 +17,7 @@ pub ups_fit : (n : ℕ) (xs : List ℤ) → n ≤ 64 → Each1 (UpTo n) xs → E
 ups_fit n [] few h = tt
 ups_fit n (x ∷ xs) few h = (up_fits n x few h.0, ups_fit n xs few h.1)
 
+-- Two lanes of numbers from 0 to n add up to numbers from 0 to 2n, lane by lane.
 pub sums_up : (n : ℕ) (xs ys : List ℤ) → n ≤ 32 → Each1 (UpTo n) xs → Each1 (UpTo n) ys →
     Each1 (UpTo (2 * n)) (zip2 (λ x y. x +ℤ y) xs ys)
 sums_up n [] ys few p q = tt
@@ -25,6 +26,8 @@ sums_up n (x ∷ xs) (y ∷ ys) few p q =
     let a = p.0.0 in let b = p.0.1 in let c = q.0.0 in let d = q.0.1 in
     ((omega (arith, ints, a, c), omega (arith, ints, b, d)), sums_up n xs ys few p.1 q.1)
 
+-- Small numbers can be added on lanes: with n of at most 32 both numbers and their sum are at most
+-- 64, which fits into 64 bits.
 pub sums_fit : (n : ℕ) (xs ys : List ℤ) → n ≤ 32 → Each1 (UpTo n) xs → Each1 (UpTo n) ys →
     Each2 (λ x y. Fit x y (x +ℤ y)) xs ys
 sums_fit n [] ys few p q = tt

@@ -65,6 +65,9 @@ choices_push c d place (q ∷ ps) p same last h = (
 abbrev pub pointer_by : Bool → ℕ → ℕ → ℕ
 pointer_by b ones place = if b then 2 * ones + 1 else 2 * (place - ones)
 
+-- One choice more is told by one bit more above the choices so far: these keep their bits and so
+-- their pointers, and the new one's pointer counts the odd picks before it, or for an even pick the
+-- others.
 pub chosen_more : (c new m : ℕ) (b : Bool) (ps : List Pick) (p : Pick) → length ps ≡ m →
     c < 2 ^ m → new ≡ digit b * 2 ^ m + c → p.back ≡ pointer_by b (ones_below c m) m →
     HasChoices c 0 ps → HasChoices new 0 (ps ++ p ∷ [])

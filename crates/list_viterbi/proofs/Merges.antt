@@ -140,6 +140,9 @@ pushed_better score bit gain long a v ga gv la lv h =
     λ r. rw (rank_of-pushed a bit long la, rank_of-pushed v bit long lv) (omega (arith, r)) in
     leads_both (score a) (score v) (score (pushed a bit)) (score (pushed v bit)) gain ga gv ranks h
 
+-- A list of the first codewords of a kind stays one where each gets the same bit at its end, by
+-- induction over the list: the bit adds the same to all of their scores and their lengths are
+-- equal, so their order stays.
 pub extended_lists : (softs : List ℤ) (Kind : Codeword → Type 0) (bit : Bool) (gain : ℤ) (long k : ℕ)
     (es : List Entry) →
     ((w : Codeword) → Kind w → score_of softs (pushed w bit) ≡ score_of softs w +ℤ gain) →

@@ -88,6 +88,9 @@ none_below : (softs : List ℤ) (ends : Ends) (n k : ℕ) → Lists softs (IntoB
 none_below softs ends n zero = (tt, tt)
 none_below softs ends n (suc k) = (λ w p. let b = p.below in omega (arith, b), tt)
 
+-- The merge of the first states' lists is a list of the first codewords into any of these states,
+-- by induction over their count: one state more is merged in, and at a tie codewords into lower
+-- states come first.
 pub first_lists_lists : (softs : List ℤ) (ends : Ends) (k n : ℕ) (column : List (List Entry))
     (count : ℕ) → count ≤ 256 → Listed softs ends k n column →
     Lists softs (IntoBelow ends n count) k (first_lists column k count)

@@ -42,6 +42,9 @@ none_lower : (c : Option (DecodedFrame Rate)) → c ≡ preferred c None
 none_lower None = refl
 none_lower (Some f) = refl
 
+-- The frame that the code chooses is the definition's: the first listed codeword of 9600 bps is the
+-- best one, each rate's candidate is its first listed codeword with a right indicator, and a higher
+-- rate's candidate is preferred only where it isn't worse than the lower one's.
 pub decoded_by : (k : ℕ) (replaced : List ℕ) (softs kept : List ℤ) (format : FrameFormat Rate)
     (entries : List Entry) (first : Entry)
     (eighth quarter half full low mid all : Option (DecodedFrame Rate)) (f : DecodedFrame Rate)

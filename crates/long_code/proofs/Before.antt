@@ -59,6 +59,8 @@ step_back front false rest h =
     ap (shifted (front ++ true ∷ [])) (reverse-append rest (false ∷ []))
     ∙ sym (reverse-cons false rest)
 
+-- A division by x n times undoes n steps of the register, by induction over n: the last step is
+-- undone first, as one division takes one step back.
 steps_back : (n : ℕ) (front s : List Bool) → length s ≡ suc (length front) →
     times_x n (front ++ true ∷ []) (reverse (times_x n (reverse (true ∷ front)) s)) ≡ reverse s
 steps_back zero front s h = refl

@@ -24,6 +24,9 @@ one_more_is u chips bit h =
     ap (λ (v : ℕ). cond bit (bit_xor v (after 1 chips)) v) (sym (after_one (after u chips))) ∙
     digit_more u chips bit h
 
+-- The loop over a state's bits gives what the state becomes so many chips later, by induction over
+-- the bits: one bit more doubles the state and adds the bit, so what it becomes is multiplied by x
+-- and, where the bit is 1, gets what 1 becomes added.
 product_from_is : (chips u : ℕ) (bits : List Bool) → number_from u bits < 2 ^ 42 →
     product_from (after 1 chips) (after u chips) bits ≡ after (number_from u bits) chips
 product_from_is chips u [] h = refl
@@ -53,6 +56,8 @@ abbrev power_of_ones : ℕ → ℕ
 power_of_ones zero = 1
 power_of_ones (suc k) = squared (power_of_ones k)
 
+-- Squaring and stepping k times gives the state 2^k - 1 chips after 1, by induction over k: a
+-- square doubles the count of chips, and a step adds one to it.
 power_of_ones_is : (k : ℕ) → power_of_ones k ≡ after 1 (2 ^ k - 1)
 power_of_ones_is zero = sym (after_none 1 (omega arith))
 power_of_ones_is (suc k) =

@@ -175,6 +175,9 @@ more_columns : (ws : List ℕ) (columns : List (List ℕ)) → length ws ≤ len
     length ws ≤ length (map tail columns)
 more_columns ws columns room = omega (arith, room, length-map columns tail)
 
+-- The records of a message are as many times a record's bits long as there are records, by
+-- induction over them: the first numbers of the columns are one record, and the columns' tails have
+-- the others.
 pub length-records : (ws : List ℕ) (n : ℕ) (columns : List (List ℕ)) →
     length ws ≤ length columns → length (spelled (record_fields ws n columns)) ≡ n * total_width ws
 length-records ws zero columns room = let none : 0 ≡ 0 * total_width ws = omega arith in none
@@ -290,6 +293,8 @@ record_tail (w ∷ ws) i (c ∷ columns) =
     ap (λ (v : ℕ). field w v ∷ in_widths ws (record_at i (map tail columns))) (second_at i c)
     ∙ ap (λ (fs : List Field). field w (get_or c (suc i) 0) ∷ fs) (record_tail ws i columns)
 
+-- One record more is spelled after those before, by induction over the records: record i of the
+-- columns' tails is record i + 1 of the columns themselves.
 pub record_more : (ws : List ℕ) (i : ℕ) (columns : List (List ℕ)) →
     record_fields ws (i + 1) columns
     ≡ record_fields ws i columns ++ in_widths ws (record_at i columns)

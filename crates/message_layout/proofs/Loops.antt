@@ -77,6 +77,8 @@ fields_more ws i bits reader after values next w n h so_far width room value beh
       );
     }
 
+-- After all fields of the table the values that were read are those of the definition, and so are
+-- the bits that are left: there was room for each field, so there is room for all.
 pub fields_end : (ws : List ℕ) (i : ℕ) (bits reader : List Bool) (values : List ℕ) →
     length ws ≤ i → FieldsRead ws i bits values reader →
     Some (values, reader) ≡ fields_at ws bits

@@ -32,6 +32,8 @@ guard_some true read y e = (refl, e)
 guard_some false read y e = absurd (cc)
 
 -- FIELDS
+-- Spelled fields are read back: as many bits as the table's widths add up to are there, their
+-- numbers are the values, and what is left is what comes after them.
 pub fields_again : (ws vs : List ℕ) (rest : List Bool) → HaveValues ws vs →
     fields_at ws (spelled (in_widths ws vs) ++ rest) ≡ Some (vs, rest)
 unfolding fields_at
@@ -124,6 +126,8 @@ abbrev GroupThere : Presence → List ℕ → List Bool → Option (List ℕ) ×
 GroupThere p ws bits read =
     IsGroup p ws read.0 (length read.1) × (bits ≡ spelled (group_fields p ws read.0) ++ read.1)
 
+-- A group that was read after its flag is spelled as it stood: a flag of 0 is followed by no group,
+-- one of 1 by the fields that were read, and one bit tells nothing else.
 flag_there : (ws : List ℕ) (group : Option (List ℕ)) (bits behind after : List Bool) (n : ℕ) →
     number_part 1 bits ≡ Some (n, behind) → present_at ws (n == 1) behind ≡ Some (group, after) →
     GroupThere Flagged ws bits (group, after)
@@ -145,6 +149,8 @@ flag_there ws group bits behind after (suc zero) a b =
 flag_there ws group bits behind after (suc (suc n)) a b =
     absurd (omega (arith, (number_there 1 (suc (suc n)) bits behind a).0))
 
+-- What was read of a group spells the bits that were read, whichever way tells that it is there: it
+-- never is, a flag says so, or it is there unless just so many bits are left.
 pub group_there : (p : Presence) (ws : List ℕ) (group : Option (List ℕ)) (bits after : List Bool) →
     group_at p ws bits ≡ Some (group, after) → GroupThere p ws bits (group, after)
 unfolding group_at presence_at
@@ -183,6 +189,8 @@ octet_parts z w octets rest =
     ∙ append_assoc (binary z 0 ++ count) octets rest
     ∙ append_assoc (binary z 0) count (octets ++ rest)
 
+-- Spelled octets are read back: after the bits that are 0 the count is read, which is that of the
+-- octets and fits into its bits, and eight times as many bits are the octets themselves.
 pub octets_again : (z w : ℕ) (octets rest : List Bool) → length octets % 8 ≡ 0 →
     length octets / 8 < 2 ^ w →
     octets_at z w (octet_bits z w octets ++ rest) ≡ Some (octets, rest)
@@ -226,6 +234,8 @@ octets_there z w bits octets after e =
     )
 
 -- RECORDS
+-- Spelled records are read back: the bits after them are too few for one more, so their count is
+-- told by how many bits are left, and each column is read again from its places.
 pub records_part_again : (ws : List ℕ) (least : ℕ) (most : Option ℕ) (columns : List (List ℕ))
     (rest : List Bool) → length ws ≤ 3 → ends ws most ≡ true →
     map length columns ≡ shares ws (height columns) →

@@ -2,6 +2,8 @@
 use Rattle.message_layout.proofs.Common.{◌≡◌, ℕ, ◌+◌, ◌-◌, ◌≤◌, Bool, List, take, drop, sym, ap, ◌∙◌, arith}
 use Rattle.message_layout.proofs.Common.{drop-drop, drop-take, take-take}
 
+-- A part of a slice is the part of the list as far past the slice's start, where it lies within the
+-- slice: cutting the list off after the slice takes nothing of it away.
 pub slice_part : (start count from n : ℕ) (bits : List Bool) → from + n ≤ count →
     take n (drop (start + from) bits) ≡ take n (drop from (take count (drop start bits)))
 slice_part start count from n bits h =

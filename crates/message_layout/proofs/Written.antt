@@ -34,6 +34,9 @@ pub longer : (before part after : List Bool) → after ≡ before ++ part →
     length after ≡ length before + length part
 longer before part after is = ap length is ∙ length-append before part
 
+-- A body to which the fixed fields, the group, the octets, the records and the rest were added one
+-- after the other has the contents' spelling at its end: it makes no difference which of these are
+-- joined first.
 pub written : (s : MessageShape) (c : Contents) (first a b d e after : List Bool) →
     a ≡ first ++ fixed_bits s c → b ≡ a ++ group_bits s c → d ≡ b ++ octets_of s c →
     e ≡ d ++ record_bits s c → after ≡ e ++ c.rest → after ≡ first ++ spelling s c

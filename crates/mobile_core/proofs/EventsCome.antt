@@ -41,6 +41,9 @@ module _ (t : Tuning) (low : ℕ) (timed : IsSyncTimed t low)
         events_at_by t (xs ++ ys) n (mark_before t xs next) (mark_here n (omega (arith, past)) less)
         ∙ goes.quiet ys n past less
 
+    -- The events that end at the last of the new samples are what the sync channel and the followed
+    -- channels had left: a mark that a message sets just there changes none, as channels that begin
+    -- at it tell nothing yet.
     last_events : events_at t (xs ++ ys) (length (xs ++ ys))
         ≡ sync_events_left t (xs ++ ys) next
         ++ followed_events_left t (mark_before t xs next) (xs ++ ys) f
@@ -57,6 +60,9 @@ module _ (t : Tuning) (low : ℕ) (timed : IsSyncTimed t low)
         ∙ ap (λ (es : List Event). sync_events_at t all (length (xs ++ ys)) ++ es) others
         ∙ sym (goes.come ys some (omega (arith, length-append xs ys)))
 
+    -- With more samples a handset's events are those before and then what was left: the events
+    -- before stay, none ends at the new samples before the last, and there the ones that were left
+    -- do.
     pub events_grown : events t (xs ++ ys)
         ≡ events t xs ++ (sync_events_left t (xs ++ ys) next
         ++ followed_events_left t (mark_before t xs next) (xs ++ ys) f)

@@ -87,6 +87,9 @@ module _ {t : Tuning} {traffic : Traffic} {m : Mark} {r : SoftHandoff} {heard : 
       parts : (end ≤ r.receiver.frames.clock.end) × (end ≤ moment_place m (r.sets.passed + 1))
       parts = ends_at end ends
 
+      -- The frames and messages of a traffic channel go on as those that its receiver has left: up
+      -- to the next moment it is heard from the active pilots that the moments before it left,
+      -- however many samples follow.
       told_goes : GoesOn
           (λ samples n. told_at t traffic m (legs_at t traffic m samples n) (take n samples) n)
           (λ samples. told_left_with t traffic m samples r.receiver (kept_in t traffic m r samples)) heard end

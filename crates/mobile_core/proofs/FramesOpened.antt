@@ -45,6 +45,9 @@ module _ {t : Tuning} {traffic : Traffic} {m : Mark} {r : TrafficReceiver} {hear
     (legs_is : r.legs ≡ legs_of m (new_standing m.pilot traffic.row))
     (close : AreClose (all_fingers t.phase t.deltas (legs_of m (new_standing m.pilot traffic.row))))
     (within : length heard ≤ t.count) (early : length heard ≤ m.sample) where
+  -- A traffic channel that is opened at its mark stands for no frame heard: no sample after the
+  -- mark has been taken, so no frame and no moment has come, no message is begun, and the reference
+  -- pilot alone is active.
   pub hears_opened : r.frames.clock.start ≡ traffic_start traffic m 0 → CapsuleStandsFor r.framer [] →
       HearsTraffic t traffic m (beside (first_keeper m traffic.row) r) heard []
   unfolding kept_to

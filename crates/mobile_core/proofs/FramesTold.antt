@@ -56,6 +56,9 @@ moments_are m j n early behind =
     ]
 
 -- THE SETS TAKE WHAT AN EVENT TELLS
+-- The pilot sets stand for the same with one event of the paging channel or the traffic channel
+-- noted: it ends at the samples taken so far, so it is noted for the moment that comes next, and no
+-- active pilot changes before that.
 pub hears_noted : {t : Tuning} {traffic : Traffic} {m : Mark} {heard : List Sample}
     {kept : ℕ → Standing} {r : SoftHandoff} {pages : List Event} (event : Event) →
     HearsWith t traffic m r heard (event ∷ pages) kept → at_of event ≡ length heard →

@@ -81,6 +81,9 @@ module _ (t : Tuning) (mark : Option Mark) (heard : List Sample) where
       (none_between (page_frames t t.paging behind.set) r.received.clock.next (length heard) end n
       (before_next is) (from_next is end none (ends r refl)) past before))
 
+  -- The pages of a paging channel go on as those that its receiver has left, up to the end of its
+  -- next frame: where none is open there are none, and else every bit of the frames so far has been
+  -- heard.
   pub pages_go : (receiver : Option PagingReceiver) → HearsPages t mark receiver heard →
       ¬ IsSomeAnd receiver (λ r. IsDueAt t.count r.received.clock) → (end : ℕ) →
       ForSome receiver (λ r. end ≤ r.received.clock.end) →

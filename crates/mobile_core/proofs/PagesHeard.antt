@@ -91,6 +91,8 @@ module _ {t : Tuning} {channel : ℕ} {m : Mark} {r : PagingReceiver} {heard : L
       (framed : (bits : List Bool) → HalfFramesStandFor r.framer bits → HalfFramesStandFor framer (bits ++ bit ∷ []))
       (page_is : (bits : List Bool) → HalfFramesStandFor r.framer bits →
       page ≡ page_in t.check30 (half_frame_capsule_ending r.framer.size (bits ++ bit ∷ []))) where
+    -- With the bit that is heard the paging channel's bits are those of the frames before and of
+    -- this frame up to there, since it is the frame's own bit at this place.
     taken_bits : paging_bits_before t.count heard (paging_stream t channel m) r.received.clock.next
         ++ take r.place
         (frame_own_bits t.count heard (paging_stream t channel m) r.received.clock.next)

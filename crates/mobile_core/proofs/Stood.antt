@@ -59,6 +59,8 @@ stands_new {t} {sync = sync} {followed = followed} untold holds hears follows so
 module _ {t : Tuning} {count : ℕ} {check : CheckForm} {pilot : Option Best} {ring : Held}
     {sync : SyncReceiver} {followed : Followed} {heard : List Sample} {given : List Event}
     (st : Stands t count check pilot ring sync followed heard given) where
+  -- The sync channel has nothing left to tell where no frame is due and the next one hasn't ended:
+  -- every frame that is known within the samples has been heard.
   sync_given : ¬ IsDueAt t.count sync.received.clock → length heard < sync.received.clock.end →
       sync_events_left t heard sync.received.clock.next ≡ []
   sync_given none waits =
@@ -172,6 +174,9 @@ module _ {t : Tuning} {count : ℕ} {check : CheckForm} {pilot : Option Best} {r
       SetsMark (length heard) sync.mark after.mark
   heard_sets after hears sound due next = by_mark sync.mark refl
     where
+      -- A mark that is set stays as it was. Where none was set before and one is now, the frame
+      -- just heard completed its message, and such a mark lies after the samples within which the
+      -- message is known.
       by_mark : (before : Option Mark) → sync.mark ≡ before →
           SetsMark (length heard) before after.mark
       by_mark (Some m) e =

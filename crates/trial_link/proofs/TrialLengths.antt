@@ -33,6 +33,8 @@ written_cell_short cell is =
     (decimal_short cell.pn (omega (arith, is.pn))) second in
     omega (arith, first)
 
+-- A traffic channel's line has at most 200 bytes: the four fields are summed up from the last to
+-- the first, each of a known key and a number of at most 20 digits, or 8 for the serial number.
 pub written_traffic_short : (line : TrafficLine) → IsWritableTraffic line →
     length (written_traffic line) ≤ 200
 unfolding written_traffic

@@ -165,6 +165,9 @@ head_statements cell more =
     ∷ (statements.Sync trial_sync ∷ (statements.Paging trial_paging_line
     ∷ (statements.Page (trial_page cell.pn) ∷ more)))))
 
+-- The first six lines of a trial's script lead to a plan with one page, whatever lines come after
+-- them: each of cell, link, pilot, sync, paging and page is told as a script may tell it and comes
+-- where it may come.
 head_leads : (cell : CellIdentity) (more : List Statement) (last : Draft) → IsStatedCell cell →
     Leads (draft_at (with_page cell) (behind_page cell.pn)) (lines_of more) last →
     Leads empty_draft (lines_of (head_statements cell more)) last
@@ -249,6 +252,9 @@ first_statements number =
     statements.Traffic (followed_line (trial_serial_number number))
     ∷ (map statements.Frame (trial_frames number) ++ second_statements)
 
+-- The lines of the three traffic channels lead from the paging channel's page to the trial's whole
+-- plan: each channel's line is followed by its frames, first the followed channel with the drawn
+-- ones and then the two others with one frame each.
 traffic_leads : (number : ℕ) →
     Leads (draft_at (with_page (trial_cell number)) (behind_page (trial_cell number).pn))
     (lines_of (first_statements number)) (draft_at (with_third number) (Frames One))

@@ -15,6 +15,8 @@ loop-n-init c = record {
       blocks.nothing_summed first c.args.factor (map carrier_of c.args.channels.now);
 }
 
+-- There is room for one channel more in a sum: of at most 127 channels each has added at most 2^31
+-- in size to either branch.
 pub with_level-requires-clause-sum : goal.with_level-requires-clause-sum
 with_level-requires-clause-sum c =
     let inv = c.loop-n.invariant in

@@ -3,6 +3,9 @@ use Rattle.cell_samples.proofs.Common.{◌≡◌, ◌+◌, ◌*◌, ◌<◌, ◌
 use Rattle.cell_samples.proofs.Common.{told_early}
 use Rattle.cell_samples.proofs.sendings.message_for.Goals as goal
 
+-- The message that is made for a transmission is the definition's: it tells the time at which it
+-- holds, the superframes of all transmissions so far and four more, and the long code state of that
+-- time, which is the cell's jumped as many chips ahead.
 pub returns-clause-value : goal.returns-clause-value
 unfolding message_of
 returns-clause-value c =
@@ -19,6 +22,8 @@ returns-clause-value c =
     ∙ ap (λ (t : ℕ). refilled m cell.pn (cell.time + t) (after cell.lc (98304 * t)))
     same
 
+-- The message fits its fields: the cell's time and the superframes that are added stay below 2^36,
+-- and the long code state after them is still one of 42 bits.
 pub returns-clause-is : goal.returns-clause-is
 returns-clause-is c =
     let cell = c.args.cell.now in

@@ -3,6 +3,8 @@ use Rattle.cell_script.proofs.Common.{refl, sym, ap, ◌∙◌, traffic_in}
 use Rattle.cell_script.proofs.ScriptTables.{traffic_read}
 use Rattle.cell_script.proofs.statements.traffic_in.Goals as goal
 
+-- A traffic channel's line is read as the definition reads it: the four fields were read one after
+-- the other, each from what the one before it left, and nothing was left after the last.
 pub returns-clause-value : goal.returns-clause-value
 returns-clause-value c =
     let first = c.in_ok-row.ensures in

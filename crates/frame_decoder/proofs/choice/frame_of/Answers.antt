@@ -2,6 +2,9 @@
 use Rattle.frame_decoder.proofs.FormatChoice.{candidate_is, frame_is}
 use Rattle.frame_decoder.proofs.choice.frame_of.Goals as goal
 
+-- The frame that is chosen is the definition's: the soft values are those without power control
+-- bits, the candidate of the highest rate is preferred to the best of the lower ones at a tie, and
+-- where the best isn't good the highest rate's best codeword is told as a frame that isn't.
 pub returns-clause-value : goal.returns-clause-value
 returns-clause-value g c =
     let highest = c.args.highest.now in

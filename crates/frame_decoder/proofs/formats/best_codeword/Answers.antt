@@ -10,6 +10,8 @@ gather_frame_into-requires-clause-zeros g c =
     let few : c.code_symbols.result ≤ 576 = c.code_symbols.ensures.most in
     λ k. first_zeros_read c.code_symbols.result 576 k few
 
+-- The bits are those of the format's best codeword: the decoder's codeword has the best score over
+-- the gathered soft values, and this is the best one over the values as they were sent.
 pub returns-clause-bits : goal.returns-clause-bits
 returns-clause-bits g c =
     let softs = c.args.softs.now in

@@ -4,6 +4,8 @@ use Rattle.frame_decoder.proofs.Common.{is_up, power_bit}
 use Rattle.frame_decoder.proofs.PowerSums.{set_more}
 use Rattle.frame_decoder.proofs.power.commands.Goals as goal
 
+-- One power control group more has its bit: it is set where the sums of this group don't say that
+-- power is to go up, and the bits of the groups before stay.
 pub loop-group-preserved : goal.loop-group-preserved
 loop-group-preserved c =
     let p = c.args.softs.now in

@@ -4,6 +4,8 @@ use Rattle.frame_decoder.proofs.Common.{group_sum}
 use Rattle.frame_decoder.proofs.PowerSums.{set_more, pair_small, pair_is}
 use Rattle.frame_decoder.proofs.power.group_sums.Goals as goal
 
+-- A group's two soft values can be added: the places of its power control bit are two different
+-- ones of the frame, so both sizes together are at most that of all of the frame's soft values.
 pub overflow_add-sums : goal.overflow_add-sums
 overflow_add-sums c =
     let softs = c.args.softs.now in

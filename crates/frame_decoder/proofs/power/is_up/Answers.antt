@@ -2,6 +2,8 @@
 use Rattle.frame_decoder.proofs.Common.{◌<◌, ◌∙◌, ap, sym, Bool, List, ℤ, [], length, get_or, pos, ◌&&◌, int_lt, list_all_more}
 use Rattle.frame_decoder.proofs.power.is_up.Goals as goal
 
+-- One base station more is asked: power is to go up only where all base stations so far and this
+-- one have a sum above 0 for the group.
 pub loop-sums-preserved : goal.loop-sums-preserved
 loop-sums-preserved c =
     let heard = c.args.heard.now in

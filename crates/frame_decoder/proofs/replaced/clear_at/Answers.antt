@@ -7,6 +7,8 @@ returns-then-at-lt384 c =
     let e = c.from-at.ensures in
     ap (λ n. set c.args.values.now n (pos 0)) e
 
+-- Nothing is cleared at a place past the frame: it has 384 soft values, and a list stays as it is
+-- where it is set at a place that it doesn't have.
 pub returns-else-at-lt384 : goal.returns-else-at-lt384
 returns-else-at-lt384 c =
     let e = c.from-at.ensures in

@@ -20,6 +20,8 @@ best_codeword-codeword-requires c =
       bound = search rules;
     }
 
+-- The codeword has all bits of the frame that is asked for: the best codeword has the bits of the
+-- whole span, and the frame is one of those that were sent in it.
 pub part-requires : goal.part-requires
 part-requires c =
     let l = c.args.span_format in
@@ -31,6 +33,9 @@ part-requires c =
     (own_within l.kind l.bits l.repeats c.args.frames c.args.own softs codeword c.requires.sent
     c.requires.own best)
 
+-- The bits are the frame's own part of the span's best codeword: the decoder's codeword is the best
+-- one for the gathered soft values, and each frame's bits lie in it after those of the frames
+-- before.
 pub returns-clause-value : goal.returns-clause-value
 returns-clause-value c =
     let l = c.args.span_format in

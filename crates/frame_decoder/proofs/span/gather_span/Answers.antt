@@ -14,6 +14,8 @@ loop-frame-init c =
       sizes = none_small (2 * l.bits) (size (shape_of l.kind)) softs out;
     }
 
+-- The frame's part of the code symbols lies within the list: there is room for all frames of the
+-- span, and this is one of them.
 pub slice_bounds-gather_into-end-in-loop-frame : goal.slice_bounds-gather_into-end-in-loop-frame
 slice_bounds-gather_into-end-in-loop-frame c =
     let code = c.code_symbols-code.result in
@@ -27,6 +29,8 @@ slice_bounds-gather_into-end-in-loop-frame c =
     let room : code * frame + code ≤ length c.loop-frame.out = omega (arith, in_span, long) in
     search rules
 
+-- The sizes of one frame's soft values add up to no more than those of the whole span, which are
+-- bounded.
 pub gather_into-requires-clause-bounded : goal.gather_into-requires-clause-bounded
 gather_into-requires-clause-bounded c =
     let softs = c.args.softs.now in

@@ -3,6 +3,8 @@ use Rattle.heard_events.proofs.Common.{◌≡◌, ◌∙◌, [], ap, arith, leng
 use Rattle.heard_events.proofs.LegFingers.{all_rows, all_some}
 use Rattle.heard_events.proofs.fingers.leg_fingers.Goals as goal
 
+-- There is always a finger: one active pilot or more, heard over one path or more, give at least
+-- one, so the definition's list of all fingers isn't empty.
 pub unreachable-requires : goal.unreachable-requires
 unreachable-requires c =
     let count = c.args.near.now.count in

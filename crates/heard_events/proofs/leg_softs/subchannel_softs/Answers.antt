@@ -22,6 +22,8 @@ leg_softs-requires c =
       };
     })
 
+-- Where as many pilots are on the subchannel as there are, it is all of them that are, so its soft
+-- values are those of all fingers, which are given.
 pub returns-then-all-clause-value : goal.returns-then-all-clause-value
 returns-then-all-clause-value c = λ heard holds.
     let legs = c.args.legs.now in

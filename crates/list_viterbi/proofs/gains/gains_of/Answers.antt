@@ -2,6 +2,8 @@
 use Rattle.list_viterbi.proofs.Common.{◌+◌, ◌*◌, ◌/◌, ◌%◌, ◌∙◌, ℕ, get_or, pos, arith, ap, w64, SFits, gains_read, pattern_small}
 use Rattle.list_viterbi.proofs.gains.gains_of.Goals as goal
 
+-- Each lane has its state's gain: the two states of a block are neighbours in the table's row for
+-- the block's pattern, and are read from there two at a time.
 pub returns-clause-lanes : goal.returns-clause-lanes
 returns-clause-lanes c l b =
     let block = c.args.block in

@@ -6,6 +6,8 @@ use Rattle.list_viterbi.proofs.lanes.parted.Goals as goal
 two_are : {a b c d : ℤ} → a ≡ b → c ≡ d → (a ∷ c ∷ []) ≡ (b ∷ d ∷ [])
 two_are p q = λ i. p i ∷ q i ∷ []
 
+-- The even lanes are the scores at the first and the third place of four, which are those of the
+-- states before with oldest bit 0.
 pub returns-clause-even : goal.returns-clause-even
 returns-clause-even c =
     let column = c.args.ranks.now in
@@ -18,6 +20,8 @@ returns-clause-even c =
     (c.requires.fit _ (omega (arith, c.requires.room)))
     ∙ read_at column (at + 2) (at + 2) (omega arith))
 
+-- The odd lanes are the scores at the second and the fourth place of four, which are those of the
+-- states before with oldest bit 1.
 pub returns-clause-odd : goal.returns-clause-odd
 returns-clause-odd c =
     let column = c.args.ranks.now in

@@ -10,6 +10,8 @@ picked-requires-clause-even_room c =
     (item_room c.args.column.now c.args.gain (2 * (c.args.state % 128)) c.index-column-before.result
     c.requires.whole (omega arith) c.requires.room c.index-column-before.is)
 
+-- There is room to take the gain off the odd state's scores: the turned gain has the same size, and
+-- each score in the column leaves room for that.
 pub picked-requires-clause-odd_room : goal.picked-requires-clause-odd_room
 picked-requires-clause-odd_room c =
     let gain = c.args.gain in
@@ -22,6 +24,8 @@ picked-requires-clause-odd_room c =
     (item_room c.args.column.now gain (2 * (c.args.state % 128) + 1) c.index-column-before-2.result
     c.requires.whole (omega arith) c.requires.room c.index-column-before-2.is))
 
+-- The picks are the definition's for this state: it is reached from the two neighbouring states of
+-- the column, the even one with the gain added and the odd one with it taken off.
 pub returns : goal.returns
 returns c =
     let gain = c.args.gain in

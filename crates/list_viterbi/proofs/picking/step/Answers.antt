@@ -4,6 +4,8 @@ use Rattle.list_viterbi.proofs.StateCodes.{code_small, gain_passed, given_gain_s
 use Rattle.list_viterbi.proofs.PickSteps.{gain_room, each_more}
 use Rattle.list_viterbi.proofs.picking.step.Goals as goal
 
+-- The gain of a state is small enough: it is the sum or difference of the two soft values, so its
+-- size is at most that of both.
 pub picked_into-requires-clause-small : goal.picked_into-requires-clause-small
 picked_into-requires-clause-small c =
     let gain = c.gain_at-gain.result in
@@ -14,6 +16,8 @@ picked_into-requires-clause-small c =
     let pair = c.requires.fits in
     rw (to_z-of_z w64 gain (record { sfits = c.gain_at-gain.type_inv })) (omega (arith, size, pair))
 
+-- Each score in the column leaves room for the gain of this state, since the gain is at most the
+-- size of both soft values together, and there is room for these.
 pub picked_into-requires-clause-room : goal.picked_into-requires-clause-room
 picked_into-requires-clause-room c =
     let gain = c.gain_at-gain.result in

@@ -3,6 +3,7 @@ use Rattle.list_viterbi.proofs.Common.{◌≡◌, ◌+ℤ◌, ℤ, get_or, pos, 
 use Rattle.list_viterbi.proofs.Common.{get_or_from_slice_get, SFits, sum_fits}
 use Rattle.list_viterbi.proofs.picking.sum_at.Goals as goal
 
+-- The sum fits into 64 bits: the score at this place leaves room for the gain.
 pub overflow_add-result : goal.overflow_add-result
 overflow_add-result c =
     let fits : SFits w64 c.get.result.now = search rules in

@@ -13,6 +13,8 @@ returns-then-i-len c =
     sym (odd_only c.args.i c.args.j c.args.even_gain c.args.odd_gain c.args.even.now c.args.odd.now
     (omega arith) (omega arith))
 
+-- Where both lists have a codeword left, the odd one comes next just where its sum with its gain is
+-- greater: at a tie the even one goes first.
 pub returns : goal.returns
 returns c =
     let fits : SFits w64 c.sum_at.result = search rules in

@@ -8,6 +8,8 @@ returns-then-i-len g c =
     sym (second_only g.T.Scored.score c.args.first.now c.args.second.now c.args.i c.args.j
     (omega arith) (omega arith))
 
+-- Where both lists have a thing left, the second one's comes next just where its score is greater:
+-- at a tie the first one's goes first.
 pub returns : goal.returns
 returns g c =
     let fits : SFits w64 c.score.result = search rules in

@@ -7,6 +7,8 @@ use Rattle.frame_decoder.specs.Formats.{is_right, frame_in}
 use Rattle.chip_core.proofs.Finds.{found_here, found_later}
 use Rattle.listed_frame.proofs.frame.candidate.Goals as goal
 
+-- The codeword that was found is the candidate: it is the first of the list with a right quality
+-- indicator, since none before it had one, and its score is the one that it was listed with.
 pub returns-then-is_right : goal.returns-then-is_right
 returns-then-is_right c =
     let format = c.args.format.now in

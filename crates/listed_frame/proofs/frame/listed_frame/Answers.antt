@@ -11,6 +11,9 @@ good_or-requires c =
     first_bits c.format_of-format.result c.codewords_in-codewords.result c.get-first.result.now
     c.codewords_in-codewords.ensures.sizes c.get-first.ensures.value
 
+-- The frame is the definition's, since each part of it is: the codewords that are listed for 9600
+-- bps, the candidates of all four rates, the choice among them, and the first codeword, which is
+-- told where no candidate is good.
 pub returns-clause-value : goal.returns-clause-value
 returns-clause-value c =
     let kept = c.without_power_bits-kept in

@@ -12,6 +12,8 @@ loop-place-init c = record {
       rw none (sym (after-zero chips));
 }
 
+-- One bit more of the value, which is 1, is taken in: what the bits so far become is multiplied by
+-- x, and what 1 becomes in as many chips, the power, is added.
 pub loop-place-preserved-then-value-place-eq1 : goal.loop-place-preserved-then-value-place-eq1
 loop-place-preserved-then-value-place-eq1 c =
     let next = c.times_x-sum.ensures in
@@ -26,6 +28,8 @@ loop-place-preserved-then-value-place-eq1 c =
           c.if-value-place-eq1.true));
     }
 
+-- One bit more of the value, which is 0, is taken in: what the bits so far become is multiplied by
+-- x, and nothing is added.
 pub loop-place-preserved : goal.loop-place-preserved
 loop-place-preserved c =
     let next = c.times_x-sum.ensures in

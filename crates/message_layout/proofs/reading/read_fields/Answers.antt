@@ -11,6 +11,8 @@ read_number-requires-clause-width c =
     (width_within ws c.loop-i.i c.requires.widths
     (omega (arith, length-map rows (λ row. row.1), c.loop-i-test.true))).1
 
+-- Where a field's number can't be read the table's fields can't either: the bits that are left
+-- after the fields before it are fewer than its width.
 pub returns-in_err-value-clause-values : goal.returns-in_err-value-clause-values
 returns-in_err-value-clause-values c =
     let rows = c.args.rows.now in
@@ -38,6 +40,8 @@ append-requires c =
       c.requires.room,
     )
 
+-- One field more is read: its number stands at the front of the bits that were left, and what is
+-- left now is what comes after it.
 pub loop-i-preserved : goal.loop-i-preserved
 loop-i-preserved c =
     let rows = c.args.rows.now in

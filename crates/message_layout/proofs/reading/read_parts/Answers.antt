@@ -46,6 +46,8 @@ read_records-requires-clause-few c =
       length-map c.args.layout.now.records.fields.now (λ row. row.1),
     )
 
+-- There is room for the records: no more of them fit into the bits left after the octets than into
+-- all bits of the message, and those are at most 128.
 pub read_records-requires-clause-room : goal.read_records-requires-clause-room
 read_records-requires-clause-room c =
     let s = shape c.args.layout.now in

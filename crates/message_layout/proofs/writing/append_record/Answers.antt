@@ -66,6 +66,8 @@ loop-j-preserved c =
     (c.append_number.ensures ∙ ap (λ n. c.loop-j.body ++ binary c.width_in.result n) sent
     ∙ ap (λ w. c.loop-j.body ++ binary w (get_or vs j 0)) c.width_in.ensures)
 
+-- After all fields of the table the whole record is added: it has one number for each field and no
+-- more.
 pub returns : goal.returns
 returns c =
     let rows = c.args.fields.now in

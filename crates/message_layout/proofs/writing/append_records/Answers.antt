@@ -3,6 +3,8 @@ use Rattle.message_layout.proofs.Common.{length, map, ap, arith, length-append, 
 use Rattle.message_layout.proofs.Columns.{height_at, record_fit, record_room, record_written, three_long}
 use Rattle.message_layout.proofs.writing.append_records.Goals as goal
 
+-- The numbers of this record fit their fields: it is one of the records that the columns hold, as
+-- the first column has one number for each, and all of these fit.
 pub append_record-requires-clause-fit : goal.append_record-requires-clause-fit
 append_record-requires-clause-fit c =
     let ws = map (λ row. row.1) c.args.fields.now in
@@ -12,6 +14,8 @@ append_record-requires-clause-fit c =
     record_fit ws (height columns) c.loop-i.i columns
     (omega (arith, c.loop-i-test.true, c.len-i-end.ensures.value, tall)) c.requires.fit
 
+-- There is room for this record: the body has grown by the records before it, and there was room
+-- for all of them.
 pub append_record-requires-clause-room : goal.append_record-requires-clause-room
 append_record-requires-clause-room c =
     let rows = c.args.fields.now in

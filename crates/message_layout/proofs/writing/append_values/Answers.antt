@@ -11,6 +11,8 @@ append_number-requires-clause-width c =
     (width_within ws c.loop-i.i c.requires.widths
     (omega (arith, length-map rows (λ row. row.1), c.loop-i-test.true)))
 
+-- The number that is added fits into its field's bits: it is the value at this place, and all
+-- values fit.
 pub append_number-requires-clause-fits : goal.append_number-requires-clause-fits
 append_number-requires-clause-fits c =
     let rows = c.args.rows.now in
@@ -42,6 +44,8 @@ append_number-requires-clause-room c =
       c.requires.room,
     )
 
+-- One value more is added in its field's width, so the body ends with the spelling of all values up
+-- to it.
 pub loop-i-preserved : goal.loop-i-preserved
 loop-i-preserved c =
     let rows = c.args.rows.now in

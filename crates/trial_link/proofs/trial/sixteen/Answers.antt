@@ -3,6 +3,8 @@ use Rattle.trial_link.proofs.Common.{◌≡◌, ◌≢◌, ◌<◌, false, ◌�
 use Rattle.trial_link.proofs.Common.{ext_get_or, get_or-set_other, get_or-set_same, length-set}
 use Rattle.trial_link.proofs.trial.sixteen.Goals as goal
 
+-- One power control group more has its bit: it is the one at the group's place among the sixteen
+-- that are given, and writing it changes none of the groups before.
 pub loop-group-preserved : goal.loop-group-preserved
 loop-group-preserved c =
     let inv = c.loop-group.invariant in

@@ -28,6 +28,8 @@ renewed c = (
       c.deref_mut.ensures.value c.renew.ensures.sums,
 )
 
+-- The chips that are to be turned are not too loud: each one that is kept is the block's chip at
+-- its own place, and the block promises that all of its chips are quiet.
 pub turn-requires-clause-quiet : goal.turn-requires-clause-quiet
 turn-requires-clause-quiet c k low =
     let s = c.self.inside in
@@ -39,6 +41,8 @@ turn-requires-clause-quiet c k low =
     refl held sums (omega arith) (omega (arith, low, c.requires.within))))
     (c.self.invariant.quiet (chip + k))
 
+-- The block keeps its promises: renewing it changed no channel, and the levels and chips that it
+-- keeps now are those of these channels in the block of 64 that was asked for.
 pub invariant_of-self : goal.invariant_of-self
 invariant_of-self c =
     let s = c.self.inside in
@@ -50,6 +54,8 @@ invariant_of-self c =
     c.self.invariant.few c.self.invariant.low c.self.invariant.quiet made.ensures.small
     (renewed (goal.at.invariant_of-self c).After-renew).1
 
+-- The samples are the block's chips turned by the codes: the kept chips are what the channels send
+-- in this block of 64, and they are turned from the place of the first chip in it on.
 pub returns-clause-value : goal.returns-clause-value
 returns-clause-value c k low =
     let s = c.self.inside in
@@ -62,6 +68,8 @@ returns-clause-value c k low =
     ∙ ap (λ (b : BlockState). chip_at b (chip + k)) c.self.view_is)
     (c.turn.ensures k low)
 
+-- The channels and the link's factor stay as they were: the channels were lent to renew the block,
+-- which changes none of them, and are written back where they stood.
 pub returns-clause-same : goal.returns-clause-same
 returns-clause-same c =
     let s = c.self.inside in

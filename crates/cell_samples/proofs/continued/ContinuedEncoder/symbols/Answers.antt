@@ -3,6 +3,8 @@ use Rattle.cell_samples.proofs.Common.{◌≡◌, ℕ, ap, ◌∙◌, sent, shap
 use Rattle.cell_samples.proofs.SentFrames.{symbols_are}
 use Rattle.cell_samples.proofs.continued.ContinuedEncoder.symbols.Goals as goal
 
+-- The symbols are the definition's for this frame: coding leaves the source of the frames as it
+-- was, so repetition, interleaving and scrambling are those of the same source.
 pub returns-clause-value : goal.returns-clause-value
 returns-clause-value c =
     let source = c.args.self.now in

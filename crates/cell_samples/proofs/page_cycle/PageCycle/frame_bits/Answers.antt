@@ -10,6 +10,8 @@ loop-k-init c = record {
   count = ap length c.empty-bits.ensures;
 }
 
+-- One bit more of the frame is appended: it is the one at the frame's place in the cycle, counted
+-- on from the frame's first bit, and the cycle begins again after its last one.
 pub loop-k-preserved : goal.loop-k-preserved
 loop-k-preserved c =
     let i = c.loop-k.invariant in
@@ -33,6 +35,8 @@ loop-k-preserved c =
       );
     }
 
+-- After as many bits as the channel's rate has in a frame, the bits taken from the cycle are the
+-- frame's of the definition.
 pub returns-clause-value : goal.returns-clause-value
 returns-clause-value c =
     let size = c.frame_bits-size in

@@ -6,6 +6,9 @@ use Rattle.cell_samples.proofs.page_cycle.PageCycle.new.Goals as goal
 abbrev cycle_with : CellIdentity → ℕ → Rate → List Bool → Cycle
 cycle_with cell mask rate bits = record { cell = cell; mask = mask; rate = rate; bits = bits }
 
+-- The cycle is that of the channel's pages: half a frame of the rate is a half-frame with its SCI
+-- bit, and the pages that are laid in half-frames and completed with zeros are the cycle by
+-- definition.
 pub returns : goal.returns
 returns c =
     let rate = c.args.rate in

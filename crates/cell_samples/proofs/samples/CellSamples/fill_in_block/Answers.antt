@@ -13,6 +13,9 @@ within c =
     subst (λ (v : CellState). (v.plan.link.start + v.given) % 64 + length c.args.out.now ≤ 64)
     (sym c.self.view_is) c.requires.within
 
+-- There is a chip of the pilot codes for each sample: the codes are read from the first sample's
+-- phase on, and as the samples lie in one block of 64 the codes don't come to their end within
+-- them.
 pub spread-requires-clause-signs : goal.spread-requires-clause-signs
 spread-requires-clause-signs c =
     let s = c.self.inside in

@@ -27,6 +27,8 @@ loop-i-preserved c =
       omega (arith, ap length more, length-append c.loop-i.legs (c.leg.result ∷ []), had.1),
     )
 
+-- The active pilots have eight places at most: the reference's pilot is heard over up to three
+-- paths and each of the others at one place, at most six are active, and none is listed twice.
 pub returns-clause-few : goal.returns-clause-few
 returns-clause-few c =
     let k = c.args.self.now in

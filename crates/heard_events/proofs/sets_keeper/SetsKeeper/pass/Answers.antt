@@ -27,6 +27,9 @@ returns-clause-passes c = λ heard holds.
           ∙ ap (moment_events k.mark j (changed k.mark heard j k.sets)) sets,
     )
 
+-- The pilot sets stay sound after a moment has passed: each pilot was measured within half a search
+-- window, the moment that was due lay within the longest file, so one more may be counted, and none
+-- is due now.
 pub returns-clause-sound : goal.returns-clause-sound
 returns-clause-sound c =
     let is = c.requires.sound in

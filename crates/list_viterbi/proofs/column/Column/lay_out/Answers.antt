@@ -4,6 +4,8 @@ use Rattle.list_viterbi.proofs.LanePicks.{column_read}
 use Rattle.list_viterbi.proofs.ColumnLayouts.{scores_by_state}
 use Rattle.list_viterbi.proofs.column.Column.lay_out.Goals as goal
 
+-- Laying scores out by place changes no state's list: the places are those of the same scores, and
+-- read state by state they are the four that the state had.
 pub returns-then-has_four-clause-scores : goal.returns-then-has_four-clause-scores
 returns-then-has_four-clause-scores c t b =
     let inside = c.self.inside in

@@ -4,6 +4,8 @@ use Rattle.list_viterbi.proofs.Common.{column_of, four_of, HasPicks, picks_into}
 use Rattle.list_viterbi.proofs.ColumnLayouts.{scores_by_place, scores_by_state, codewords_of, each_rank, places_stepped, states_stepped}
 use Rattle.list_viterbi.proofs.column.Column.step.Goals as goal
 
+-- There is room for a step over scores by place: each of them is one of some state's list, and
+-- those leave room for both soft values.
 pub step_four-requires-clause-room : goal.step_four-requires-clause-room
 step_four-requires-clause-room c =
     let f = c.args.first in

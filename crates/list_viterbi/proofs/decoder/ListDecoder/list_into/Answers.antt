@@ -18,6 +18,8 @@ loop-bit-init c = record {
 pub step-requires-clause-fits : goal.step-requires-clause-fits
 step-requires-clause-fits c = pair_small c.args.softs.now c.loop-bit.bit (omega (arith, c.loop-bit-test.true)) c.requires.softs.bound
 
+-- There is room for one bit more: the column's scores are those of codewords of at most 576 bits,
+-- and a score is at most the sum of the sizes of its soft values, which is bounded.
 pub step-requires-clause-room : goal.step-requires-clause-room
 step-requires-clause-room c =
     let softs = c.args.softs.now in

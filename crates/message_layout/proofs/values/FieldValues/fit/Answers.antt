@@ -13,6 +13,8 @@ has_width-requires c =
     (width_within ws c.loop-i.i c.requires.widths
     (omega (arith, length-map rows (λ row. row.1), c.loop-i-test.true)))
 
+-- Where one value has more bits than its field the answer is no, and the values don't all fit: if
+-- they did, this one would be below two to the power of its field's width.
 pub returns-then-not-has_width : goal.returns-then-not-has_width
 returns-then-not-has_width c =
     let rows = c.args.rows.now in
@@ -28,6 +30,8 @@ returns-then-not-has_width c =
           absurd (not_both c.if-not-has_width.true (c.has_width.ensures.1 small)),
     )
 
+-- One value more fits its field, as it is below two to the power of the field's width, and the
+-- values before it do.
 pub loop-i-preserved : goal.loop-i-preserved
 loop-i-preserved c =
     let rows = c.args.rows.now in
@@ -40,6 +44,7 @@ loop-i-preserved c =
     rw (← c.get.ensures, ← c.width_in.ensures) (c.has_width.ensures.0 c.if-not-has_width.false) in
     fit_more ws vs i lt few c.loop-i.invariant small
 
+-- Where no value was too great all of them fit: as many were tried as the table has fields.
 pub returns : goal.returns
 returns c =
     let rows = c.args.rows.now in

@@ -29,6 +29,8 @@ returns-in-Some-traffic-clause-waits c = λ n before x e.
     subst (WaitsAt n) (noted r x c.in-Some.event c.note.new.self c.note.ensures.value e)
     (noted_waits n r c.in-Some.event (before r (search rules)))
 
+-- The traffic channel stands for what it heard with the paging channel's event noted: its pilot
+-- sets take what the event tells, which ends at the samples taken so far.
 pub returns-in-Some-traffic-clause-hears : goal.returns-in-Some-traffic-clause-hears
 returns-in-Some-traffic-clause-hears c = λ t assigned mark heard pages ends st.
     let r = c.in-Some-traffic.handoff in

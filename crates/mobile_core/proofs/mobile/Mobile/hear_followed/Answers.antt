@@ -4,6 +4,9 @@ use Rattle.mobile_core.proofs.StepJoins.{ends_here, one_or_none}
 use Rattle.mobile_core.proofs.Stood.{stands_followed}
 use Rattle.mobile_core.proofs.mobile.Mobile.hear_followed.Goals as goal
 
+-- The handset stands for the same samples with one event more told, if there is one: only the
+-- followed channels have changed, their event sets no mark, and the sync channel has nothing left
+-- to tell before it.
 pub returns-clause-steps : goal.returns-clause-steps
 returns-clause-steps c =
     let m = c.args.self.now in

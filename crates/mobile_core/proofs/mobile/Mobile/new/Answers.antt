@@ -3,6 +3,8 @@ use Rattle.mobile_core.proofs.Common.{[], refl, tuning_by}
 use Rattle.mobile_core.proofs.Stood.{stands_new}
 use Rattle.mobile_core.proofs.mobile.Mobile.new.Goals as goal
 
+-- A new handset stands for no samples and no events: its pilot is still to be told, its sync
+-- receiver has taken nothing, and without a mark no other channel is open.
 pub returns-clause-stands : goal.returns-clause-stands
 returns-clause-stands c =
     let t = tuning_by c.args.settings c.args.best c.args.near in

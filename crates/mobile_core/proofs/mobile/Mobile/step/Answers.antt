@@ -13,6 +13,8 @@ returns-in-Some c = record {
   none = λ e. absurd (cc);
 }
 
+-- A step that gives no event has taken all samples, and all events that end within them have been
+-- given: nothing is due any more, and the pilot has been told.
 pub returns-then-taken-samples : goal.returns-then-taken-samples
 returns-then-taken-samples c =
     let samples = c.args.samples.now in
@@ -34,6 +36,8 @@ returns-then-taken-samples c =
       );
     }
 
+-- The samples up to the next frame's end are taken after those before, and no event is given: what
+-- was due has been heard without one, and the two steps join to one.
 pub loop-event-preserved : goal.loop-event-preserved
 loop-event-preserved c =
     let samples = c.args.samples.now in

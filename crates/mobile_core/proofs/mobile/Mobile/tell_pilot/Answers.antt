@@ -4,6 +4,8 @@ use Rattle.mobile_core.proofs.Common.{Event, Pilot}
 use Rattle.mobile_core.proofs.Stood.{stands_told}
 use Rattle.mobile_core.proofs.mobile.Mobile.tell_pilot.Goals as goal
 
+-- The pilot is told first: as long as it hasn't been told no other event has been given, and its
+-- event has the phase and the energy that the search found, after which it isn't told again.
 pub returns-clause-steps : goal.returns-clause-steps
 returns-clause-steps c =
     let m = c.args.self.now in

@@ -4,6 +4,9 @@ use Rattle.mobile_core.proofs.ChannelsOpened.{receives_opened}
 use Rattle.mobile_core.proofs.PagesHeard.{hears_none}
 use Rattle.mobile_core.proofs.paging_receiver.PagingReceiver.open.Goals as goal
 
+-- A paging channel that is opened at a mark stands for no bit heard: it has the fingers of the
+-- reference base station, the long code state and mask of the channel, and the rate that the mark's
+-- PRAT tells.
 pub returns-clause-hears : goal.returns-clause-hears
 returns-clause-hears c = λ t heard phase deltas within early.
     let m = c.args.mark.now in

@@ -3,6 +3,8 @@ use Rattle.mobile_core.proofs.Common.{◌++◌, ◌∙◌, ℕ, List, ap, option
 use Rattle.mobile_core.proofs.PagesFollowed.{bit_left, follows_on}
 use Rattle.mobile_core.proofs.paging_receiver.PagingReceiverReceive.hear_next.Goals as goal
 
+-- The page that the next bit completes is told at the samples taken so far, if there is one, and
+-- what the receiver has left after it are the pages that it had left but this one.
 pub returns-clause-hears : goal.returns-clause-hears
 returns-clause-hears c = λ t _ mark heard holds check count behind.
     let r = c.args.self.now in

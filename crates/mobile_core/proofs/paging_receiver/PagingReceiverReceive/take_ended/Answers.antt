@@ -4,6 +4,8 @@ use Rattle.mobile_core.proofs.PagesFollowed.{come_left, follows_on}
 use Rattle.mobile_core.proofs.PagesHeard.{hears_come}
 use Rattle.mobile_core.proofs.paging_receiver.PagingReceiverReceive.take_ended.Goals as goal
 
+-- A frame that has come leaves the pages that are still to tell as they are: its soft values are
+-- taken with the chips of the long code for this frame, and none of its bits is heard yet.
 pub returns-then-self-taken-clause-hears : goal.returns-then-self-taken-clause-hears
 returns-then-self-taken-clause-hears c = λ t _ mark heard pages holds none behind.
     let st = behind.hears in

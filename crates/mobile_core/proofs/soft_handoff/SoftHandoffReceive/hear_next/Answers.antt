@@ -5,6 +5,8 @@ use Rattle.mobile_core.proofs.FramesTold.{hears_noted}
 use Rattle.mobile_core.specs.TrafficReceiving.{beside}
 use Rattle.mobile_core.proofs.soft_handoff.SoftHandoffReceive.hear_next.Goals as goal
 
+-- The event of a frame or of its message is the first that the traffic channel had left, and the
+-- pilot sets take what it tells, which ends at the samples taken so far.
 pub returns-clause-hears : goal.returns-clause-hears
 returns-clause-hears c = λ t _ mark heard holds check count behind.
     let event = c.hear_told-event.result in

@@ -6,6 +6,9 @@ use Rattle.mobile_core.proofs.ChannelsOpened.{receives_opened}
 use Rattle.mobile_core.proofs.SyncHeard.{hears_new}
 use Rattle.mobile_core.proofs.sync_receiver.SyncReceiver.new.Goals as goal
 
+-- A new sync receiver stands for no samples: it has the fingers of the base station at the phase
+-- that was found, and its first frame begins where the pilot code begins next, as many samples on
+-- as the phase falls short of the code's 32,768 chips.
 pub returns-clause-hears : goal.returns-clause-hears
 returns-clause-hears c = λ t phase deltas.
     let fingers = c.reference_fingers-fingers.result in

@@ -3,6 +3,8 @@ use Rattle.mobile_core.proofs.Common.{◌≡◌, ◌<◌, None, rules, []}
 use Rattle.mobile_core.proofs.FramesTold.{hears_heard}
 use Rattle.mobile_core.proofs.traffic_receiver.TrafficReceiver.hear_told.Goals as goal
 
+-- The frame's event is the first that the channel had left: what it decodes to is what the
+-- definition hears of it, and the message that its signaling completes is kept, to be told next.
 pub returns-clause-hears : goal.returns-clause-hears
 returns-clause-hears c = λ t traffic m sets heard at' check sound st.
     let r = c.args.self.now in

@@ -7,6 +7,8 @@ use Rattle.mobile_core.proofs.SoundFrames.{legs_held, sound_taken}
 use Rattle.mobile_core.proofs.traffic_receiver.TrafficReceiver.take_softs.Goals.{After-raw}
 use Rattle.mobile_core.proofs.traffic_receiver.TrafficReceiver.take_softs.Goals as goal
 
+-- The sizes of a frame's soft values add up to at most 3 times 2^60: the active pilots have eight
+-- fingers at most, and each adds no more than a bounded part.
 raw_small : (c : After-raw) → sum_by unsigned_abs c.raw.result ≤ 3 * 2 ^ 60
 raw_small c =
     let r = c.args.self.now in
@@ -23,6 +25,8 @@ pub power_softs-requires-clause-legs : goal.power_softs-requires-clause-legs
 power_softs-requires-clause-legs c =
     legs_held c.requires.sound c.args.ring.now c.requires.room c.requires.ended
 
+-- The receiver stays sound with the frame's soft values and those of its power control bits: both
+-- are bounded, and its clock goes on to a frame that ends early enough to be counted.
 pub returns-clause-sound : goal.returns-clause-sound
 returns-clause-sound c =
     let value = c.advance.ensures.value in

@@ -14,6 +14,8 @@ loop-bit-init c = record {
 pub append-requires : goal.append-requires
 append-requires c = omega (arith, c.loop-bit.invariant.count, c.loop-bit-test.true, c.requires)
 
+-- One bit more is drawn: it is the lowest one of the number drawn from the state after the draws so
+-- far, and the state goes on by one draw.
 pub loop-bit-preserved : goal.loop-bit-preserved
 loop-bit-preserved c =
     let inv = c.loop-bit.invariant in
