@@ -8,6 +8,9 @@ use Rattle.cdma_io.specs.SampleFile.{HasBits, IsSampleFile, header_spelling, ope
 use Rattle.cdma_io.proofs.Opening.{length-header_spelling, opening-spelled}
 use Rattle.cdma_io.proofs.Spelling.{flat_map-sample_spelling}
 
+-- A file has one header and one list of samples: both headers are what `opening` reads out of its
+-- bytes, so they and their widths are the same, and the bytes after the first 16 are one spelling
+-- of both lists of samples, which fixes each sample.
 pub file_unique : (bytes : List ℕ) (header other_header : Header)
     (samples other_samples : List Sample) → IsSampleFile bytes header samples →
     IsSampleFile bytes other_header other_samples →

@@ -277,6 +277,8 @@ pub part_named : (other : Text) (args : List Text) (part : Part) → part_of arg
 part_named other [] part e plain = search rules
 part_named other (arg ∷ args) part e plain = go (long_of arg) args refl e
   where
+    -- By how the option is written: `--name=TEXT` is one argument, which names the option itself.
+    -- With `--name` the value is a second argument, and a plain one names no option.
     go : (p : Option (Text × Option Text)) (args : List Text) → long_of arg ≡ p →
         part_by p args ≡ Some part → Named other (arg ∷ args) part
     go None ws is found = search rules

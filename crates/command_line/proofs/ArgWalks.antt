@@ -531,6 +531,9 @@ pub record Reads (command : Text) (rows : List OptionEntry) (args : List Text)
   pub passes : level_passes (shape command (names_in rows)) [] nothing_held args false ≡ true
   pub found : rows_after (opts (names_in rows)) [] args ≡ found_rows given
 
+-- Arguments that the grammar takes are read by clap's walk to their end, and it finds what they
+-- give: from nothing held the walk leads to what holds just these options, and the defaults and the
+-- tests that come after the walk pass and change nothing.
 pub args_read : (command : Text) (rows : List OptionEntry) (args : List Text) (given : Given) →
     given_behind rows (Some []) args ≡ Some given → Reads command rows args given
 unfolding walk_passes

@@ -52,6 +52,8 @@ pub no_values : (before : List ℕ) → before ≡ before ++ named_values [] []
 unfolding named_values
 no_values before = sym (append-nil before)
 
+-- The text of i + 1 values is that of the first i, and then the next value after its name, by
+-- induction over the fields: the first field's text stands in front of both.
 named_values-more : (names : List (List ℕ)) (values : List ℕ) (i : ℕ) → i < length names →
     i < length values →
     named_values (take (i + 1) names) (take (i + 1) values) ≡

@@ -120,6 +120,9 @@ numbers_fit s c i j is few h within =
     (record_fit s.records (height c.columns) i c.columns h is.records) within
     (omega (arith, length-map c.columns number, inside)))
 
+-- Contents of a layout that passes the tests of lines have all that writing the line asks for: each
+-- of the seven tests gives one bound or says that a name is ASCII, and that values fit their widths
+-- is known of the contents.
 pub is_shown : (layout : Layout) (c : Contents) → IsOf (shape layout) c →
     has_line (line_names layout) (shape layout) ≡ true → IsShown layout c
 unfolding has_line

@@ -107,6 +107,8 @@ runs_end size before o (run ∷ runs) large are =
     ∙ ap (λ (l : List (List Bool)). run ++ l)
     (runs_end size (before ++ own) (o + length own) runs large are.2)
 
+-- Each half-frame of a run is full: the run's bits are filled with zeros up to whole half-frames,
+-- so from the beginning of each one on there are `size` bits to take.
 pub run_pieces_whole : (size : ℕ) (cs : List (List Bool)) → 0 < size →
     AreWhole size (run_pieces size cs)
 run_pieces_whole size cs large =
@@ -158,6 +160,9 @@ nothing_framed size large =
     ∙ framed_whole size 0 [] [] large (omega arith)
     ∙ flat_map-zero (laying.half_frame size [] [])
 
+-- The half-frames of laid capsules end just these capsules, in order: what is laid is the
+-- half-frames of the runs one after another, from the first capsule's on, and the half-frames of a
+-- run end its own capsules. Where nothing is laid there is no half-frame, and nothing ends.
 pub laid_is_carried : (size : ℕ) (puts : List laying.Put) → 2 ≤ size →
     laying.AreLawful size laying.nothing_laid puts →
     capsules_in size (laying.half_frames_of size (laying.laid_all size laying.nothing_laid puts))

@@ -262,6 +262,9 @@ open_more (suc fuel) size count bits b room =
           ]
     ]
   where
+    -- The bit that completes an awaited capsule ends it: the length that the capsule states is then
+    -- that of all bits so far, so none are left over, and another can follow in this half-frame
+    -- where it has eight bits left.
     now_there : (fuel size count : ℕ) (bits : List Bool) (b : Bool) → awaits_more bits ≡ true →
         is_there (bits ++ b ∷ []) ≡ true → length (bits ++ b ∷ []) < suc fuel →
         open_chain (suc fuel) size count (bits ++ b ∷ [])

@@ -33,6 +33,9 @@ halves_whole size n front long =
     ∙ div-mul-add n (size + 1) size (omega arith) in
     ap (λ (k : ℕ). map (part size front) (places k)) count
 
+-- Up to one half-frame of bits after n whole ones is one piece more: the count of the pieces is
+-- rounded up to n + 1, the first n are cut from the same bits as before, and the last one is what
+-- was added.
 pub halves_more : (size n : ℕ) (front q : List Bool) → length front ≡ (size + 1) * n →
     0 < length q → length q ≤ size + 1 →
     halves.half_frames size (front ++ q) ≡ map (part size front) (places n) ++ piece q ∷ []
@@ -143,6 +146,8 @@ body_long : (size : ℕ) (xs : List Bool) → length xs ≡ size + 1 → length 
 body_long size [] long = absurd (omega (arith, long))
 body_long size (x ∷ xs) long = omega (arith, long)
 
+-- The first m of n whole half-frames are all full, by induction over m: half-frame m ends within
+-- the bits, so an SCI bit and `size` bits after it can be taken there.
 parts_long : (size n m : ℕ) (front : List Bool) → length front ≡ (size + 1) * n → m ≤ n →
     AreLong size (map (part size front) (places m))
 parts_long size n zero front long le = rw places-none tt
@@ -224,6 +229,9 @@ way_of size n front body s long most =
     ∙ opened_told size (from_last_start (ps ++ record { starts = s; body = body } ∷ []))
     ∙ ap (open_of size) (told_more ps s body)
 
+-- What the last bit of a half-frame ends is told by the half-frames since the last one that starts
+-- a capsule, grown by the bits of this one. The bits are n whole half-frames and this piece, and
+-- since it has a bit after its SCI bit, the last bit is no SCI bit, which would end nothing.
 end_at : (size n : ℕ) (front body : List Bool) (s : Bool) → 0 < length body →
     length front ≡ (size + 1) * n → length body ≤ size →
     halves.half_frame_capsule_ending size (front ++ s ∷ body)
@@ -350,6 +358,9 @@ sci_ends size bits b large placed =
     omega (arith, whole_of size bits, placed) in
     sym (mark_ends size (length bits / (size + 1)) bits b large long)
 
+-- A bit in the body of half-frame n ends what the definition says, and leaves what it says open:
+-- the half-frame has its SCI bit and some of its body already, and what is kept is what those bits
+-- leave open.
 body_at : (size place left n : ℕ) (bits front q : List Bool) (b : Bool) (o : Option (List Bool)) →
     bits ≡ front ++ q → length front ≡ (size + 1) * n → length q ≡ place → 0 < place →
     left + place ≡ size → o ≡ halves.half_under_way size bits →
@@ -370,6 +381,9 @@ body_at size place left n bits front (s ∷ body) b o is long own some room stan
           (continued p (b ∷ []))) state ∙ sym known.1 ∙ ap (halves.half_under_way size) grouped,
     )
 
+-- A bit that doesn't begin a half-frame ends what the definition says, and leaves what it says
+-- open: the bits so far are cut into whole half-frames and the one under way, which has as many
+-- bits as the place tells.
 pub body_step : (size place left : ℕ) (bits : List Bool) (b : Bool) (o : Option (List Bool)) →
     place ≡ length bits % (size + 1) → 0 < place → left + place ≡ size →
     o ≡ halves.half_under_way size bits →

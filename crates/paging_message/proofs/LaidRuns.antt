@@ -89,6 +89,9 @@ any_from size n i starts begun =
         let b : (suc i == 0) ≡ false = ne_eqb (suc i) 0 (λ e. omega (arith, e)) in
         rw (a, b) refl
 
+-- Half-frame i of the last run, which has n half-frames before it, is laid as the run's own: no run
+-- before starts as far on, so its SCI bit is set where i is 0 alone, and its bits are those i
+-- half-frames after the first n.
 half_frame_of_run : (size n i : ℕ) (starts : List ℕ) (front : List Bool)
     (cs : List (List Bool)) → laying.HaveBegun size (size * n) starts →
     length front ≡ size * n →
@@ -141,6 +144,9 @@ laid-follows size starts n front bits c follow t =
     rw t (ap (λ (l : List Bool). let x : laying.Laid =
     record { body = l; starts = starts ++ n ∷ [] } in x) (append_assoc front bits c))
 
+-- A capsule that doesn't follow the one before it begins a run: the bits of the run before are
+-- filled with zeros up to w half-frames, so what is laid is n + w whole ones, and the capsule
+-- starts at the next.
 laid-begins : (size : ℕ) (starts : List ℕ) (n w : ℕ) (front bits c : List Bool) (follow : Bool) →
     0 < size → follow ≡ false → length front ≡ size * n →
     length (laying.padded_to size bits) ≡ size * w →
@@ -177,6 +183,9 @@ first_laid size c follow large f =
     ∙ ap (λ (l : List Bool). let x : laying.Laid =
     record { body = l ++ c; starts = 0 ∷ [] } in x) none)
 
+-- What is laid is sent as the half-frames of the runs before, and then those of the last run:
+-- together they are n + w half-frames when the last run is filled with zeros, and no start of one
+-- run lies in another.
 last_run_laid : (size : ℕ) (starts : List ℕ) (n : ℕ) (front : List Bool)
     (cs : List (List Bool)) → 0 < size → laying.HaveBegun size (size * n) starts →
     length front ≡ size * n →
@@ -265,6 +274,9 @@ puts_laid size (p ∷ puts) run starts n front large each some begun long =
 
 -- ---- chained capsules
 
+-- A whole capsule can be put at the end of a chain that leaves it eight bits of a half-frame, by
+-- induction over the chain: the capsules before the last have their room already, and the last
+-- one's is what is asked for.
 chained-push : (size at : ℕ) (cs : List (List Bool)) (c : List Bool) → AreChained size at cs →
     (0 < length (joined cs 0) → 8 ≤ bits_left size (at + length (joined cs 0))) → IsWhole c →
     AreChained size at (cs ++ c ∷ [])

@@ -37,6 +37,9 @@ framed_whole size n starts front large long =
     ∙ div-mul-add n size (size - 1) (omega (arith, large)) in
     ap (λ (k : ℕ). flat_map (laying.half_frame size starts front) (places k)) count
 
+-- Up to one half-frame of bits after n whole ones is sent as one half-frame more: their number is
+-- rounded up to n + 1, the first n keep their bits and their SCI bits, and the last has what was
+-- added.
 pub framed_more : (size n : ℕ) (starts starts' : List ℕ) (front q : List Bool) → 0 < size →
     length front ≡ size * n → 0 < length q → length q ≤ size →
     ((h : ℕ) → h < n → list_any (λ s. s == h) starts' ≡ list_any (λ s. s == h) starts) →

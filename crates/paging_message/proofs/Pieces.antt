@@ -25,6 +25,8 @@ pub run-places : (f : ℕ → Piece) (n : ℕ) → map f (places n) ≡ run f 0 
 unfolding places
 run-places f n = run-range f 0 n
 
+-- A run of a + b pieces is a run of a and then one of b from there on, by induction over a: only
+-- the sums of the places have to be regrouped.
 pub run-append : (f : ℕ → Piece) (at a b : ℕ) → run f at (a + b) ≡ run f at a ++ run f (at + a) b
 run-append f at zero b = let e : at + 0 ≡ at = omega arith in let g : 0 + b ≡ b = omega arith in
     rw (e, g) refl

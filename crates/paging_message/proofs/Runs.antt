@@ -357,6 +357,9 @@ joined_zeros (c ∷ cs) n =
     ap (λ (l : List Bool). c ++ l) (joined_zeros cs n)
     ∙ sym (append_assoc c (joined cs 0) (replicate n false))
 
+-- The first m bits of a run end the capsule whose last bit is bit m, if there is one: the run is
+-- its capsules and then zeros, and a chain that begins a half-frame is followed from capsule to
+-- capsule, through zeros as well.
 front_ends : (size : ℕ) (cs : List (List Bool)) (m : ℕ) → AreChained size 0 cs →
     m ≤ length (run_bits size cs) → chain_of size (take m (run_bits size cs)) ≡ ended_of cs m
 front_ends size cs m chained room =

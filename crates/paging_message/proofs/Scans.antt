@@ -278,6 +278,9 @@ half_frame_ends size before p large are long =
     (half_frame_capsule_ending size (stream before ++ take k (bits_of p)))) e
     ∙ ap option_to_list (body_bit_ends size before p i are long lt))
 
+-- What a list of bits ends is what its first part ends and then what its second part does: the
+-- fronts that reach into the second part are the first part and a front of the second, and the
+-- others are fronts of the first.
 pub ended_by-append : (size : ℕ) (bits xs ys : List Bool) →
     ended_by_bits size bits (xs ++ ys)
     ≡ ended_by_bits size bits xs ++ ended_by_bits size (bits ++ xs) ys

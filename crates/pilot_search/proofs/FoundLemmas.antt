@@ -48,6 +48,9 @@ both_found samples from middle to (Some x) None low high most l r = record {
 both_found samples from middle to (Some x) (Some y) low high most l r =
     go (nat_lt x.energy y.energy) refl
   where
+    -- Where the right energy is greater, no phase of the left range has the greatest of all. Where
+    -- it isn't, a phase of the right range that has the greatest comes after the left one, whose
+    -- energy is then as great.
     go : (t : Bool) → nat_lt x.energy y.energy ≡ t →
         IsFound samples from to (if t then Some y else Some x)
     go true less =

@@ -127,6 +127,8 @@ with_signs-bound x g hx hy u =
     near_sum (x.0 *ℤ g.0) (x.1 *ℤ g.1) (product_bound x.0 g.0 hx u.i)
     (product_bound x.1 g.1 hy u.q)
 
+-- Two products of a sample's part and a sign, multiplied and added modulo 2^32, give their true
+-- sum: each is at most 2^15 in size, so their sum fits into a signed lane.
 pair_sum : (x y s t : ℤ) → unsigned_abs x ≤ 32768 → unsigned_abs y ≤ 32768 → unsigned_abs s ≤ 1 →
     unsigned_abs t ≤ 1 →
     to_z w32 ((of_z w32 x * of_z w32 s % 4294967296 + of_z w32 y * of_z w32 t % 4294967296) %
@@ -356,6 +358,8 @@ regroup : (s a b c d e f g h : ℤ) →
     (((((((s +ℤ a) +ℤ b) +ℤ c) +ℤ d) +ℤ e) +ℤ f) +ℤ g) +ℤ h
 regroup s a b c d e f g h = omega (arith, ints)
 
+-- Eight products more in the lanes leave the correlation as it was: what the lanes gain is the
+-- products of samples 8k to 8k + 7, and these are missing from the samples that are left.
 pub lanes_more : (samples : List Sample) (signs : List (ℤ × ℤ)) (k : ℕ)
     (real imaginary more_real more_imaginary : List ℤ) → 8 * k + 8 ≤ length samples →
     8 * k + 8 ≤ length signs →

@@ -88,6 +88,9 @@ are_more k sums products after few long long' h g e =
       bound = subst (Each1 (λ x. unsigned_abs x ≤ 65536 * (k + 1))) (sym same) near;
     }
 
+-- The lanes hold one group more: each has gained a sum of two products, at most 65,536 in size, so
+-- nothing wraps after k + 1 groups either, and with the correlation of the samples that are left
+-- the lanes still add up to the whole one.
 pub sums_more : (samples : List Sample) (signs : List (ℤ × ℤ)) (k : ℕ)
     (real imaginary more_real more_imaginary real' imaginary' : List ℤ) → k < 4096 →
     8 * k + 8 ≤ length samples → 8 * k + 8 ≤ length signs →
@@ -135,6 +138,8 @@ pub record IsTotal (k : ℕ) (xs : List ℤ) (sum : ℤ) : Type 0 where
   pub is : to_z w64 (of_z w64 sum) ≡ total xs
   pub bound : unsigned_abs (to_z w64 (of_z w64 sum)) ≤ 65536 * (8 * k)
 
+-- Kept in 64 bits, the total of eight lanes is their true sum: after k groups each lane is at most
+-- 65,536 k in size, so all eight are at most 65,536 times 8k, far below 2^63.
 pub is_total : (k : ℕ) (xs : List ℤ) (sum : ℤ) → k ≤ 4096 → length xs ≡ 8 →
     Each1 (λ x. unsigned_abs x ≤ 65536 * k) xs → sum ≡ total (kept xs) → IsTotal k xs sum
 is_total k xs sum few long h e =

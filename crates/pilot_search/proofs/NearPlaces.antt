@@ -132,6 +132,8 @@ one_place samples best most is =
     (first_places-none (near_value samples best) 32768) (omega arith)
     (best_is samples best most is)
 
+-- The two best places near the best phase are that phase and the second one of its round: the
+-- second lies at another phase, and no phase of the round that is free comes before it.
 two_places : (samples : List Sample) (best most : ℕ) (round : List Best) (second : ℕ) →
     IsBestIn samples 0 32768 best most → IsRound samples best 65 round →
     IsNext round 32 32 65 second →
@@ -147,6 +149,9 @@ two_places samples best most round second is r next =
     (λ k free. let ne = not_one k best free in (λ e. ne (e ∙ mid), λ e. ne (e ∙ mid)))
     (free_of_one (near_phase_at best second) best here))
 
+-- The three best places near the best phase are the first two and the third one of its round: the
+-- third lies at another phase than both, and no phase of the round that is free of them comes
+-- before it.
 three_places : (samples : List Sample) (best most : ℕ) (round : List Best) (second third : ℕ) →
     IsBestIn samples 0 32768 best most → IsRound samples best 65 round →
     IsNext round 32 32 65 second → IsNext round 32 second 65 third →

@@ -158,6 +158,8 @@ start_sound samples start begun = let nothing = begun.nothing in record {
   parts = begun.ranges;
 }
 
+-- When all workers are done, one of them has evaluated the best phase: it is in some worker's
+-- share, and what that worker skipped has an energy below the greatest.
 pub finds_best : (samples : List Sample) → FindsBest samples
 finds_best samples start end steps begun run done =
     let last = run_sound samples start steps end run (start_sound samples start begun) in

@@ -123,6 +123,9 @@ splits id v held s kept at =
     ))
     kept.1
 
+-- Joining two seats keeps the rule of the shared word: what both know of it holds, so what the
+-- joined seat knows does as well, and the other one is spent and knows nothing. Neither seat is the
+-- fresh one of the start, since both hold the word already.
 pub joins : (id other : ℕ) (v w : View) → v.spent ≡ false → w.spent ≡ false →
     Joins IsSharedState id v other w (joined_views v w) spent
 joins id other v w held held' s kept at apart there =

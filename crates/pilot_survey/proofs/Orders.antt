@@ -27,6 +27,8 @@ neighbours e e' p p' h = grind (arith, nat_tests)
 abbrev pub NotAfter : Rank → Rank → Type 0
 NotAfter x y = (y.energy < x.energy) ⊎ ((x.energy ≡ y.energy) × (x.pilot ≤ y.pilot))
 
+-- The order of ranks can be chained: a greater energy comes first, and the lesser pilot among equal
+-- ones, and in each of the four cases one of the two comparisons decides, or both do together.
 pub chained : (x y z : Rank) → NotAfter x y → NotAfter y z → NotAfter x z
 chained x y z h g = ⊎_elim
     (λ less. ⊎_elim

@@ -55,6 +55,8 @@ but_last-more message p =
 abbrev pub chosen : List Bool → List Bool → Option (List Bool)
 chosen before bits = cond (nat_le (stated_bits bits) (length before)) None (front_capsule bits)
 
+-- Where the bits before awaited more, a capsule at the front of all bits ends in the new ones: a
+-- stated length within the bits before is no lawful one, so there is no capsule at the front then.
 chosen_awaiting : (before more : List Bool) → awaits_more before ≡ true →
     chosen before (before ++ more) ≡ front_capsule (before ++ more)
 chosen_awaiting before more h =
@@ -141,6 +143,9 @@ under_way-on pieces p (q ∷ message) h e =
     ] in
     rw (all, e, some, was, b) now
 
+-- A piece that starts no message ends the capsule that it completes: where no message is under way
+-- there is none, else the piece belongs to that message, and a capsule ends in it where the bits
+-- before awaited more and those with it have a whole one.
 ending-on : (pieces : List Piece) (p : Piece) (message : List Piece) → p.starts ≡ false →
     from_last_start pieces ≡ message →
     capsule_ending (pieces ++ p ∷ []) ≡ completed (under_way pieces) p.body

@@ -79,6 +79,8 @@ checked-capsule kind form body = checked-sent kind form (capsule_front kind body
 abbrev pub inner : Kind → List Bool → List Bool
 inner kind bits = take (length bits - 8 - (generator_of kind).degree) (drop 8 bits)
 
+-- A capsule's inner bits are its body: the front is the number of octets in 8 bits and the body,
+-- the check comes after it, and what the length leaves without both is as long as the body.
 pub inner-capsule : (kind : Kind) (form : CheckForm) (body : List Bool) →
     inner kind (capsule kind form body) ≡ body
 unfolding capsule

@@ -104,6 +104,9 @@ max_test a b n =
           ]
     ]
 
+-- The frame lies within the first n samples on each finger where it has begun on all and the latest
+-- of its ends is at most n, by induction over the fingers: one finger's two tests are joined with
+-- those of the others.
 pub within_is : (form : Form) (u n : ℕ) (fingers : List Finger) →
     is_within n fingers form u ≡ (all_begun u fingers && nat_le (frame_end fingers form u) n)
 within_is form u n [] = let e = le-leb 0 n (omega arith) in rw e refl

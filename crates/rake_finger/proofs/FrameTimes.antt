@@ -79,6 +79,9 @@ module _ {C : Type 0} {count low : ℕ} (s : StreamOf C) (t : IsTimed count s lo
         | inr waits ↦ inl (known_own k waits)
       ]
 
+  -- A frame of the file is known no sooner than it ends, no later than the frame after it does, and
+  -- within the file: it is known at its own end, or waits for that of the next, which is then in
+  -- the file.
   pub known_between : (k : ℕ) → is_in_file count s k ≡ true → KnownBetween count s k
   known_between k h =
       let i = inside_to k h in

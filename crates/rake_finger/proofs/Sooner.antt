@@ -99,6 +99,9 @@ place_fits : (u m : ℕ) (d : ℤ) (n : ℕ) → int_le d (pos u) ≡ true →
     unsigned_abs ((pos u -ℤ d) +ℤ pos m) ≤ n → unsigned_abs (pos u -ℤ d) + m ≤ n
 place_fits u m d n h e = grind (arith, ints)
 
+-- A frame that lies in the stream on each finger, and ends at n or before, has each finger's
+-- samples among the first n, by induction over the fingers: each has begun, so its place isn't
+-- below 0, and its end is at most the latest one.
 pub all_fit : (count n : ℕ) (fingers : List Finger) (form : Form) (u : ℕ) →
     is_within count fingers form u ≡ true → frame_end fingers form u ≤ n → AllFit n form u fingers
 all_fit count n [] form u within ends = All-nil (Fits n form u)

@@ -91,6 +91,9 @@ module _ {C : Type 0} {count low : ℕ} (s : StreamOf C) (t : IsTimed count s lo
       ap (unscrambled (s.scrambling k))
       (softs_sooner xs ys s.fingers s.form u (all_fit count (length xs) s.fingers s.form u h ends))
 
+  -- What is read of a span stays where more samples follow its last frame's known time: each of the
+  -- span's frames is in the file and has ended by then, so its soft values are made of samples that
+  -- were there.
   pub span_softs_sooner : (xs ys : List Sample) (k : ℕ) → s.waits ≡ true →
       is_in_file count s k ≡ true → known_at count s k ≤ length xs →
       span_softs count (xs ++ ys) s k ≡ span_softs count xs s k

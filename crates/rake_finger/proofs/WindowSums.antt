@@ -62,6 +62,9 @@ abbrev pub sum_before : List Sample → ℕ → ℕ → ℕ → Pair
 sum_before samples phase place count =
     sum_of (despread (phase + place) (take count (drop place samples)))
 
+-- The pilot's sum with one piece more is the sum over the samples up to the piece's end: the piece
+-- goes on where the samples before ended, with the code's chips in step, and sums of products
+-- despread one after another are added.
 pub pilot_more : (samples : List Sample) (phase place before chips after : ℕ) (sum piece : Pair)
     (i q : ℤ) → place + before ≤ length samples → after ≡ before + chips →
     sum ≡ sum_before samples phase place before →

@@ -4,6 +4,8 @@ use Rattle.cdma_io.proofs.ByteNumbers.{AreBytes}
 use Rattle.cdma_io.proofs.Spelling.{spelled_narrow, widened}
 use Rattle.cdma_io.proofs.samples.parse_narrow.Goals as goal
 
+-- Two bytes spell the sample that is made of them: each part is its own byte read as a signed
+-- number, and keeping that in 16 bits changes no value.
 pub returns-clause-spelled : goal.returns-clause-spelled
 returns-clause-spelled c =
     let bytes = c.args.bytes.now in

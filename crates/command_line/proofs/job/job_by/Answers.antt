@@ -33,6 +33,8 @@ returns-then-is_none-clause-bad c = (
   λ e. refl,
 )
 
+-- Where clap has no memory the arguments still aren't bad: they are lawful, and the job that was
+-- read of them before is the definition's, so there is one.
 pub returns-in_default-clause-bad : goal.returns-in_default-clause-bad
 returns-in_default-clause-bad c =
     let entry = command_entry c.args.command in

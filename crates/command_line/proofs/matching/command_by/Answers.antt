@@ -5,6 +5,8 @@ use Rattle.command_line.proofs.ArgTests.{item_first, no_rule}
 use Rattle.command_line.proofs.ArgApps.{app-more, app-none}
 use Rattle.command_line.proofs.matching.command_by.Goals as goal
 
+-- The command with one rule's option more leads to the same command of all rules: the option that
+-- was added is the rule's own, and the rules that are left are those after it.
 pub loop-rule-preserved : goal.loop-rule-preserved
 loop-rule-preserved c =
     let entry = entry_of (get_or c.args.rules.now c.loop-rule.rule-index no_rule) in

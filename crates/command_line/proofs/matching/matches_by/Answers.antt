@@ -7,6 +7,9 @@ use Rattle.command_line.proofs.ArgJobs.{given_of}
 use Rattle.command_line.proofs.ArgWalks.{finds_args, takes_args, value_is}
 use Rattle.command_line.proofs.matching.matches_by.Goals as goal
 
+-- Each option's value is the text that the arguments give it: the command is the one of the rules,
+-- which has nothing but options, so clap finds what its walk over the arguments finds, and that is
+-- what the grammar gives.
 pub returns-clause-ok : goal.returns-clause-ok
 returns-clause-ok c = λ given is.
     let name = c.args.name.now in
@@ -19,6 +22,8 @@ returns-clause-ok c = λ given is.
     ∙ finds_args (arg_app name entries) name entries texts given (app_bare name entries)
     (app_built name entries) is)) c.try_get_matches_from.ensures.matches
 
+-- Clap fails for want of memory alone: it promises this for arguments that its walk takes, and
+-- arguments that the grammar takes are such.
 pub returns-clause-err : goal.returns-clause-err
 returns-clause-err c =
     let name = c.args.name.now in

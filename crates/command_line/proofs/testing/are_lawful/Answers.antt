@@ -6,6 +6,8 @@ use Rattle.command_line.proofs.ArgTests.{texts_behind}
 use Rattle.command_line.proofs.testing.are_lawful.Goals.{In-Some}
 use Rattle.command_line.proofs.testing.are_lawful.Goals as goal
 
+-- Arguments aren't lawful where some are left that begin with no option: those before were taken,
+-- and the definition finds no option at this place either and gives nothing.
 pub returns-in_default : goal.returns-in_default
 returns-in_default c =
     let args = c.args.args.now in

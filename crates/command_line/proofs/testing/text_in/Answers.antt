@@ -4,6 +4,9 @@ use Rattle.command_line.proofs.Common.{drop_all, length-map, Text, names, part_o
 use Rattle.command_line.proofs.ArgTests.{text_here, text_there, texts_behind}
 use Rattle.command_line.proofs.testing.text_in.Goals as goal
 
+-- Where the argument at this place names the option, the text is the one that the arguments from
+-- here on begin with: no argument before it named the option, so the definition's search has come
+-- just as far.
 pub returns-then-names : goal.returns-then-names
 returns-then-names c =
     let name = c.args.name.now in
@@ -18,6 +21,8 @@ returns-then-names c =
     ∙ sym (c.loop-place.invariant
     ∙ text_here name args place c.index-args-place.result inside c.index-args-place.is named)
 
+-- An argument that doesn't name the option is passed by: the definition, too, finds in the
+-- arguments from it on what it finds in those after it.
 pub loop-place-preserved : goal.loop-place-preserved
 loop-place-preserved c =
     let name = c.args.name.now in
@@ -29,6 +34,8 @@ loop-place-preserved c =
     c.loop-place.invariant
     ∙ text_there name args place c.index-args-place.result inside c.index-args-place.is unnamed
 
+-- There is no text where no argument names the option: all of them were passed by, so what the
+-- definition finds is what it finds in no arguments.
 pub returns : goal.returns
 returns c =
     let name = c.args.name.now in

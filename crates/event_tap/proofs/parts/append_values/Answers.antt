@@ -35,6 +35,8 @@ append_value-requires-clause-few c =
     (omega (arith, length-map table (λ row. row.1), c.loop-i-test.true))
     (omega (arith, c.requires.all, c.loop-i-test.true))
 
+-- One value more stands in the text, after its own name, and the text is at most 16 bytes longer:
+-- name and value are both at place i of their lists.
 pub loop-i-preserved : goal.loop-i-preserved
 loop-i-preserved c =
     let table = c.args.table.now in

@@ -6,6 +6,8 @@ use Rattle.event_tap.specs.SaidTexts.{list_text, said_text}
 use Rattle.message_layout.specs.Shapes.{line_names, shape}
 use Rattle.event_tap.proofs.said.append_said.Goals as goal
 
+-- The text is the message's as the definition has it: a space and its name, the named values, the
+-- list and the rest are each added to what the one before it left, and only the brackets differ.
 pub returns-clause-value : goal.returns-clause-value
 unfolding said_text
 returns-clause-value c =

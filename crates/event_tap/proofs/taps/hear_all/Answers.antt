@@ -59,6 +59,8 @@ returns-in_err-gave-clause-kept g c =
           c.index_mut.ensures.value w.in-Done.is tt).kept)
     ]
 
+-- Where writing a tap's line fails, the sink has a beginning of the event's text: the lines of all
+-- taps before it whole, and of its own line a part.
 pub returns-in_err-gave-clause-err : goal.returns-in_err-gave-clause-err
 returns-in_err-gave-clause-err g c =
     let inv = c.loop-place.invariant in

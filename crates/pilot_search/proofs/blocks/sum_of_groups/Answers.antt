@@ -8,6 +8,9 @@ with_products-requires-clause-more c =
     kept_near c.args.samples.now (map both c.args.points.now) (8 * c.loop-k.k)
     c.products_by.result.0 c.products_by.result.1 c.products_by.ensures
 
+-- The lanes hold one group of eight samples more: the group lies within the samples and within the
+-- points of the code, its products are those of the definition, and there are too few groups for a
+-- lane to wrap.
 pub loop-k-preserved : goal.loop-k-preserved
 loop-k-preserved c =
     let xs = c.args.samples.now in

@@ -30,6 +30,9 @@ returns-then-is_empty-clause-value c =
     c.table.ensures.value (omega arith)
     ∙ all_before samples c.args.phase c.min.result (omega arith) c.requires (omega arith) past
 
+-- The correlation at a phase is the sum of two: the code repeats after 32,768 chips, so the first
+-- samples meet its signs from the phase on, and those that are left meet its signs from the
+-- beginning.
 pub returns-clause-value : goal.returns-clause-value
 returns-clause-value c =
     let samples = c.args.samples.now in

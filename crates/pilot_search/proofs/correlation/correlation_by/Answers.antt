@@ -31,6 +31,8 @@ sum_of_groups-requires-clause-across c =
     (ahead c.straight.result.now c.split_at.result.1.now c.from-from.result
     c.split_at.ensures.back c.straight.ensures.value))
 
+-- The sum over the groups is the correlation at the phase: the points are the code's signs from the
+-- phase on, and phase and samples together don't reach past the end of the code.
 pub returns-clause-value : goal.returns-clause-value
 returns-clause-value c =
     let samples = c.args.samples.now in

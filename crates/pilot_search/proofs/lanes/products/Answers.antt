@@ -3,6 +3,9 @@ use Rattle.pilot_search.proofs.Common.{ap, sample_at, signs_at, across, refl, Ar
 use Rattle.pilot_search.proofs.LaneLemmas.{all_units, are_products, keep, kept16, kept_short, kept_units, units_across}
 use Rattle.pilot_search.proofs.lanes.products.Goals as goal
 
+-- The lanes hold the group's products: the parts of samples and the signs are kept in 16 bits
+-- without loss, and pair by pair they are summed up with the signs for the real parts, and with the
+-- signs turned across for the imaginary ones.
 pub returns : goal.returns
 returns c =
     let first = c.args.at in

@@ -8,6 +8,8 @@ with_products-requires-clause-more c =
     kept_near c.args.samples.now c.args.signs.now (8 * c.loop-k.k) c.products.result.0
     c.products.result.1 c.products.ensures
 
+-- The lanes hold one group more: its eight samples and signs are there, its products are those of
+-- the definition, and there are too few groups for a lane to wrap.
 pub loop-k-preserved : goal.loop-k-preserved
 loop-k-preserved c =
     let xs = c.args.samples.now in

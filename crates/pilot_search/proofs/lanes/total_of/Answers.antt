@@ -34,6 +34,8 @@ loop-lane-preserved c =
           (omega arith));
     }
 
+-- After all eight lanes the sum is their total: each lane fits into 32 bits, so what is read of it
+-- is what it holds.
 pub returns : goal.returns
 returns c =
     let lanes = c.args.lanes in

@@ -9,6 +9,8 @@ try_phase-requires-clause-energy c =
     let most = at_most_greatest c.args.samples.now c.unwrap-phase.result below in
     omega (arith, most, c.requires.ceiling)
 
+-- Nothing is found at a phase that was left: its energy is bounded below the seat's floor, and that
+-- is no greater than the greatest energy, so this phase doesn't have it.
 pub returns-in_err-energy-clause-found : goal.returns-in_err-energy-clause-found
 returns-in_err-energy-clause-found c =
     let e = c.in_err-energy.ensures in

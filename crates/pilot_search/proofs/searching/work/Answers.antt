@@ -4,6 +4,8 @@ use Rattle.pilot_search.proofs.FoundLemmas.{both_found}
 use Rattle.pilot_search.proofs.searching.work.Goals.{then-is_none, else-is_none}
 use Rattle.pilot_search.proofs.searching.work.Goals as goal
 
+-- One phase more is tried: the better of what was found before it and of what was found at it is
+-- what is found in both, and at most one phase more was left.
 pub loop-n-preserved : goal.loop-n-preserved
 loop-n-preserved c =
     let inv = c.loop-n.invariant in

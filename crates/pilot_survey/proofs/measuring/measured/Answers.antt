@@ -7,6 +7,9 @@ use Rattle.pilot_survey.specs.Survey.{survey_phase}
 use Rattle.pilot_survey.proofs.Strength.{surveyed_is}
 use Rattle.pilot_survey.proofs.measuring.measured.Goals as goal
 
+-- The rank is the definition's: after the last place the best is the first with the greatest energy
+-- of all 2 width + 1, and its delta, the place less the width, fits into 8 bits, since the width is
+-- at most 31.
 pub returns : goal.returns
 returns c =
     let best : ℕ = c.loop-place.best in

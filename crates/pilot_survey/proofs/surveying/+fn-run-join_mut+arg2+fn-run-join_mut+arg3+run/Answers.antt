@@ -4,6 +4,9 @@ use Rattle.pilot_survey.specs.Survey.{surveyed, survey_start}
 use Rattle.pilot_survey.proofs.Parts.{both}
 use Rattle.pilot_survey.proofs.surveying.+fn-run-join_mut+arg2+fn-run-join_mut+arg3+run.Goals as goal
 
+-- All ranks of these workers are written where both halves have written theirs: the list is cut at
+-- the pilot with which the right half of the workers begins, so the two parts are one range of
+-- pilots.
 pub returns : goal.returns
 returns g t c =
     let m = length c.split_at_mut-left.result.0.now in

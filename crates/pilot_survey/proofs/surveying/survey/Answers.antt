@@ -16,6 +16,8 @@ run-requires-clause-room g c κs within =
     let long : length c.as_mut_slice.result.now ≡ 512 = search rules in
     omega (arith, none, end, long)
 
+-- There are 512 ranks to sort: the workers together write one for each pilot, and the list has just
+-- that many places.
 pub of-requires : goal.of-requires
 of-requires g c =
     let f : ℕ → Rank = surveyed c.args.samples.now c.args.base c.args.width in
@@ -26,6 +28,8 @@ of-requires g c =
     (drop (length c.run.new.ranks) c.in_ok-ranks.ranks.items) (omega arith) long room c.run.ensures)
     ∙ length-map-range_with_len f 0 512
 
+-- The survey is the ranking: the workers have written the ranks of all 512 pilots, whatever their
+-- number, and there is one order of these in which none comes after a later one.
 pub returns : goal.returns
 returns g c =
     let f : ℕ → Rank = surveyed c.args.samples.now c.args.base c.args.width in

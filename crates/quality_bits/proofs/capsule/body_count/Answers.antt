@@ -18,6 +18,8 @@ returns-then-not-check-clause-only c body fills is =
     (checked-capsule c.args.kind c.args.form body) in
     absurd (cc (c.if-not-check.ensures.1 checked))
 
+-- Where both tests pass, the bits are the capsule of the body that they hold: their number is the
+-- one that they state, and their last bits are the check of the bits before.
 pub returns-clause-found : goal.returns-clause-found
 returns-clause-found c =
     let bits = c.args.bits.now in

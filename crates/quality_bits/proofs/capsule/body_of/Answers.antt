@@ -4,6 +4,8 @@ use Rattle.quality_bits.specs.Kinds.{generator_of}
 use Rattle.quality_bits.proofs.Wholes.{inner, inner-capsule, length-capsule}
 use Rattle.quality_bits.proofs.capsule.body_of.Goals as goal
 
+-- The capsule of a body gives that body: the count is the body's length, so the bits that are taken
+-- after the first 8 are the capsule's inner ones.
 pub returns-clause-only : goal.returns-clause-only
 returns-clause-only c body fills is =
     let bits = c.args.bits.now in

@@ -22,6 +22,8 @@ append_check-requires c =
     )
     (omega (arith, c.requires.whole, c.requires.most))
 
+-- What is appended is the capsule: the number of octets in 8 bits and then the body are its front,
+-- and the check that follows is that of this front.
 pub returns : goal.returns
 unfolding capsule
 returns c =

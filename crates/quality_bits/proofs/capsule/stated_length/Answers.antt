@@ -4,6 +4,8 @@ use Rattle.quality_bits.specs.Capsules.{stated_bits}
 use Rattle.quality_bits.proofs.Opened.{stated_bounds, stated_from, stated_is}
 use Rattle.quality_bits.proofs.capsule.stated_length.Goals as goal
 
+-- Where eight bits could be read, the bits state a length, and it is eight times the number of
+-- octets that was read; the test of its bounds says the same as the definition's.
 pub returns-in-Ok : goal.returns-in-Ok
 returns-in-Ok c =
     let bits = c.args.bits.now in

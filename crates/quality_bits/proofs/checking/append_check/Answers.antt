@@ -12,6 +12,8 @@ append_number-requires-clause-fits c =
     c.divisor.result.degree c.from.result c.divisor.ensures.degree
     (c.from.ensures ∙ c.sent_after-sent.ensures)).0
 
+-- The bits that are added are the check of all bits before: the check is computed after the last of
+-- them, and its number is written in as many bits as the generator's degree.
 pub returns : goal.returns
 returns c =
     let kind = c.args.kind in

@@ -6,6 +6,8 @@ use Rattle.quality_bits.specs.Kinds.{sent_check, body_length}
 use Rattle.quality_bits.proofs.Ends.{length-sent_check, same_numbers}
 use Rattle.quality_bits.proofs.checking.check.Goals as goal
 
+-- The answer tells whether the last bits are the check of those before: both are compared as
+-- numbers, and since they are as long as the generator's degree, equal numbers are equal bits.
 pub returns : goal.returns
 returns c =
     let kind = c.args.kind in

@@ -5,6 +5,8 @@ use Rattle.chip_core.specs.Bits.{digit}
 use Rattle.chip_core.proofs.Numerals.{read_more, digit_below, bool_byte-digit}
 use Rattle.quality_bits.proofs.checking.number_from.Goals as goal
 
+-- One bit more is read: twice the number of the k bits so far, and the bit, is the number of k + 1
+-- bits, and it is below 2^(k + 1).
 pub loop-i-preserved : goal.loop-i-preserved
 loop-i-preserved c =
     let from = c.args.from in

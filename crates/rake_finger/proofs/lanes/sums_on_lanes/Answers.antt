@@ -21,6 +21,8 @@ with_products-requires-clause-more c =
     kept_near c.args.samples.now c.args.signs.now (8 * c.loop-k.k) c.products.result.0
     c.products.result.1 c.products.ensures
 
+-- The turned products that are added are small enough for their lanes: they are the products of the
+-- samples with the signs covered by the row, and a row's sign changes no size.
 pub with_products-requires-in-loop-k-clause-more : goal.with_products-requires-in-loop-k-clause-more
 with_products-requires-in-loop-k-clause-more c =
     let gs = c.args.signs.now in

@@ -17,6 +17,8 @@ returns-clause-energy c = λ samples held.
     ∙ ap (λ (xs : List Sample). (strength xs phase window).energy)
     (c.samples_before-samples.ensures.value samples held)
 
+-- The delta is the definition's: the strongest place was counted from half a window below the phase
+-- that meets the first of the last 512 samples, and the place less that half fits into 16 bits.
 pub returns-clause-delta : goal.returns-clause-delta
 returns-clause-delta c = λ samples held.
     let phase = c.args.phase + (c.args.end - 512) in
@@ -33,6 +35,7 @@ returns-clause-delta c = λ samples held.
     ∙ ap (λ (xs : List Sample). (strength xs phase window).delta)
     (c.samples_before-samples.ensures.value samples held)
 
+-- The energy is at most 2^51: it is that of 512 samples, each of which fits into 16 bits.
 pub returns-clause-most : goal.returns-clause-most
 returns-clause-most c =
     let samples = c.samples_before-samples.result in

@@ -11,6 +11,8 @@ loop-place-init c =
     (c.energy_at-most.ensures.value ∙
     energy_again c.args.samples.now c.phase_of.result c.args.lowest (omega arith))
 
+-- One place more is measured: its energy takes the place of the most so far only where it is
+-- greater, so of several places with the greatest energy the first is kept.
 pub loop-place-preserved : goal.loop-place-preserved
 loop-place-preserved c =
     let samples = c.args.samples.now in

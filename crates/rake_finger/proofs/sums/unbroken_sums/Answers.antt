@@ -13,6 +13,9 @@ sums_on_lanes-requires-clause-units c =
     rw (c.split_at.ensures.back, c.table.ensures.value)
     (All-drop IsUnit c.from.result pilot_signs units)
 
+-- Both sums of an unbroken run are the definition's: the ring's run is the samples from the place
+-- on, the table from its first chip on is the code's signs from there, and neither reaches past its
+-- end.
 pub returns-clause-sums : goal.returns-clause-sums
 returns-clause-sums c = λ samples row phase place held row_signs in_ring cell first.
     let at : c.from.result ≡ c.args.first = omega arith in

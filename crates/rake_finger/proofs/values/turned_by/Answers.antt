@@ -4,6 +4,8 @@ use Rattle.std.proofs.lemmas.Int.{ints, to_z-of_z}
 use Rattle.rake_finger.proofs.SoftValues.{turned_part-is}
 use Rattle.rake_finger.proofs.values.turned_by.Goals as goal
 
+-- The value is the real part of the pilot's conjugate times the symbol: each of the two products is
+-- the true one, and their sum fits into 64 bits.
 pub returns-clause-value : goal.returns-clause-value
 returns-clause-value c =
     let p = c.args.pilot in

@@ -5,6 +5,9 @@ use Rattle.cdma_io.specs.Memory.{SourceState}
 use Rattle.cdma_io.proofs.Moves.{moved}
 use Rattle.cdma_io.proofs.memory_source.MemorySourceSource.take.Goals as goal
 
+-- A take gives the next bytes of the source and leaves those after them: what is copied to the
+-- buffer's front begins at the source's place. Where it gives none to a buffer that has room, the
+-- place is at the end and none are left.
 pub returns-clause-bytes : goal.returns-clause-bytes
 returns-clause-bytes c =
     let bytes = c.self.inside.bytes.items in

@@ -12,6 +12,8 @@ returns-then-count-lt-HEADER_LEN-clause-told g c =
     c.if-count-lt-HEADER_LEN.true c.in_ok-count.ensures.bytes
     (c.in_ok-count.ensures.ends (search rules))
 
+-- Where the header has a fault, that fault is the answer: all 16 bytes came, so the buffer is the
+-- front of what the source had, and what `opening` says of it is what was read.
 pub returns-in_err-header-clause-told : goal.returns-in_err-header-clause-told
 returns-in_err-header-clause-told g c =
     let long : length c.fill.new.buf ≡ 16 = search rules in

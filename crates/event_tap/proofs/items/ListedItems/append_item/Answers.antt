@@ -8,6 +8,9 @@ use Rattle.event_tap.proofs.SaidTexts.{column_number, record_short}
 use Rattle.event_tap.specs.SaidTexts.{columns_text, columns_texts, slash_text}
 use Rattle.event_tap.proofs.items.ListedItems.append_item.Goals as goal
 
+-- The text of a record is its number in the first column, and then those of the second and the
+-- third after a slash: the three are added one after another, and a column that the records don't
+-- have adds nothing, as in the definition.
 pub returns-clause-value : goal.returns-clause-value
 returns-clause-value c =
     let widths = map (λ row. row.1) c.args.self.now.fields.now in

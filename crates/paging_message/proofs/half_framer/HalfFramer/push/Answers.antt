@@ -60,6 +60,9 @@ returns-clause-stands c bits stood =
       under_way = state;
     }
 
+-- A bit that doesn't begin a half-frame gives the capsule that the definition says: the place and
+-- the open capsule are those of the bits so far, and the capsule is complete where the definition
+-- has it end.
 pub returns-clause-capsule : goal.returns-clause-capsule
 returns-clause-capsule c bits stood =
     let size = c.self.inside.size in

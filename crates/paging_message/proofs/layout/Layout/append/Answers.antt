@@ -4,6 +4,8 @@ use Rattle.paging_message.proofs.Common.{bit_on}
 use Rattle.paging_message.proofs.Layings.{bit_first, bit_next}
 use Rattle.paging_message.proofs.layout.Layout.append.Goals as goal
 
+-- A bit at place 0 begins a half-frame and is sent after the half-frame's SCI bit: the half-frames
+-- before are whole, so the two bits are all of this one, and the place after them is 2.
 pub returns-then-self-eq0-clause-laid : goal.returns-then-self-eq0-clause-laid
 returns-then-self-eq0-clause-laid c l laid whole =
     let size = c.self.inside.size in
@@ -24,6 +26,9 @@ returns-then-self-eq0-clause-laid c l laid whole =
     (subst (HasLaid (record { size = size; place = 2 })
     (bit_on size l c.args.sci c.args.bit)) bits done)
 
+-- A bit at any other place goes on with the half-frame under way, whose SCI bit is sent already:
+-- the half-frame's bits are those before and this one, and the place is the next, which is 0 after
+-- the last.
 pub returns-clause-laid : goal.returns-clause-laid
 returns-clause-laid c l laid whole =
     let size = c.self.inside.size in

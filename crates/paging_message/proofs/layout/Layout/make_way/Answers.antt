@@ -16,6 +16,8 @@ append-requires c =
       );
     }
 
+-- One zero more is laid after the bits and the zeros before it: it isn't a capsule's first bit, so
+-- the places at which capsules start stay as they were.
 pub loop-zero-preserved : goal.loop-zero-preserved
 loop-zero-preserved c =
     let inv = c.loop-zero.invariant in
@@ -45,6 +47,8 @@ returns-clause-longer c =
           c.padding-zero-end.ensures.lawful.most c.padding-zero-end.ensures.value,
     )
 
+-- What is laid is the way that the definition makes: no zeros for a capsule that follows, and else
+-- as many as fill the half-frame under way, which its place tells.
 pub returns-clause-laid : goal.returns-clause-laid
 returns-clause-laid c l laid =
     let size = c.args.self.now.size in

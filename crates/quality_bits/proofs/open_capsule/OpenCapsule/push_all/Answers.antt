@@ -13,6 +13,8 @@ loop-i-init c =
       gives = completed_none c.args.self.now c.is_open.ensures.awaits;
     })
 
+-- One bit more of the piece is pushed: going on with the bits so far and then with this one is
+-- going on with all of them, and the capsule was completed either by those before or by this bit.
 pub loop-i-preserved : goal.loop-i-preserved
 loop-i-preserved c =
     let s = c.args.self.now in

@@ -7,6 +7,8 @@ use Rattle.quality_bits.specs.Kinds.{generator_of}
 use Rattle.quality_bits.proofs.Steps.{check_none}
 use Rattle.quality_bits.proofs.register.Register.new.Goals as goal
 
+-- A new register holds the check of no bits, which is all ones: that is 2^degree - 1, and since the
+-- degree is at most 30 it fits into the register.
 pub returns : goal.returns
 returns c =
     let g = generator_of c.args.kind in

@@ -8,6 +8,8 @@ use Rattle.quality_bits.proofs.Steps.{next, next_then, next_else, next_lt, check
 use Rattle.quality_bits.proofs.register.Register.push.Goals as goal
 use Rattle.quality_bits.proofs.register.Register.push.Goals.{then-lead-bit, else-lead-bit}
 
+-- A register stays below 2^degree: whether the bit that leaves it differs from the new one or not,
+-- the next value is the definition's, which is below that bound where the value before was.
 pub invariant_of-self : goal.invariant_of-self
 invariant_of-self c =
     let g = generator_of c.self.inside.kind in
