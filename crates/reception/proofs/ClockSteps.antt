@@ -69,6 +69,9 @@ module _ {C : Type 0} {count : ℕ} {s : StreamOf C} {c : FrameClock} {n : ℕ} 
       let ended = r.ended c.next r.low_next d.0 in
       inside_from s is.timed c.next r.low_next (omega (arith, ended, r.within))
 
+  -- A frame that is due is known just now: it has ended, and so has the frame that it waits for,
+  -- while the clock is never later than the next frame is known. Where the frame after it hasn't
+  -- come it ends after the file, and then nothing waits for it.
   pub due_known : IsDueAt count c → known_at count s c.next ≡ n
   due_known d =
       let r = is.reached in

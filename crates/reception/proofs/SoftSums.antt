@@ -51,6 +51,9 @@ last_none symbols softs fresh long =
     drop_all' [] = refl
     drop_all' (x ∷ xs) = drop_all' xs
 
+-- When a frame's soft values are shifted in, those of the last one, two and three frames stay
+-- within their bounds: they are the new ones, and those of one frame less from before, so each sum
+-- grows by at most one frame's.
 pub shifted_small : (symbols : ℕ) (softs fresh : List ℤ) → symbols ≤ 384 →
     length softs ≡ 1152 → AreSmall symbols softs → sum_by unsigned_abs fresh ≤ frame_most →
     AreSmall symbols (drop symbols softs ++ fresh)

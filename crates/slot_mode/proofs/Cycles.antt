@@ -37,6 +37,8 @@ has_remainder from p r some below =
 comes_before : (from p d : ℕ) → d < p → from + d < from + p
 comes_before from p d below = omega (arith, below)
 
+-- The next monitored slot comes within one cycle, and is one: what is added to the time is what its
+-- remainder lacks to the key's slot, which is less than the cycle's period.
 pub comes_in_time : ComesInTime
 comes_in_time from key cycle =
     let p = slot_period cycle in

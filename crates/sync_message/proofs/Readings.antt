@@ -14,6 +14,8 @@ use Rattle.sync_message.specs.declared.fields.SyncFields.{SyncFields}
 use Rattle.sync_message.proofs.Bodies.{fills_from, length-body}
 use Rattle.sync_message.proofs.ByLayout.{body_again, body_is, body_there}
 
+-- The capsule of a sync message is read as that message: it is whole octets and at most 1,184 bits
+-- long, its check is that of its body, and the body's fields are read back as they were spelled.
 pub reads_capsule : (form : CheckForm) (m : SyncFields) → IsSyncMessage m →
     sync_reading form (sync_capsule form m) ≡ Some m
 unfolding sync_reading sync_capsule

@@ -25,6 +25,8 @@ admitted_has body fills h =
     let spelled = message_there body m (body_read body part.0 t part.1) in
     record { message = m; spelled = spelled.0; same = spelled.1 }
 
+-- The body of a message is admitted: the message is read back from it, so it has the 17 bits of
+-- type and head, and what comes after them can be read by that type.
 pub has_admitted : (body : List Bool) → HasTrafficMessage body → traffic_admits body ≡ true
 unfolding traffic_admits
 has_admitted body has =

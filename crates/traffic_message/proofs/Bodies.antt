@@ -194,6 +194,8 @@ is_body_from body fills least =
     (le-leb 17 (length body) least)
     (le-leb (length body) 1160 (omega (arith, fills.whole, fills.most))))
 
+-- A body that passes the test fits a capsule and has a type and a head: the test joins three
+-- conditions on its length, whole octets, 17 bits at least and 1,160 at most.
 pub is_body_parts : (body : List Bool) → reading.is_traffic_body body ≡ true →
     FillsCapsule M16 body × (17 ≤ length body) × (length body ≤ 1160)
 unfolding reading.is_traffic_body
@@ -213,6 +215,8 @@ is_body_parts body h =
       most,
     )
 
+-- A message's body gives its type, its head and its own bits: type and head are the first 17 bits
+-- and fit their widths, so they are read as they were spelled, and its own bits come after them.
 body_parts : (m : messages.Message) (body : List Bool) → messages.IsTrafficMessage m →
     body ≡ messages.traffic_message_body m →
     (number_at 0 8 body ≡ messages.kind_of m.body) × (reading.head_at body ≡ m.head)
@@ -246,6 +250,8 @@ message_again m is =
 abbrev Spells : List Bool → messages.Message → Type 0
 Spells body m = messages.IsTrafficMessage m × (body ≡ messages.traffic_message_body m)
 
+-- A body is spelled by the message that its parts make: type and head spell the 17 bits that they
+-- were read from, and what the message says spells the bits after them.
 spelled_from : (body : List Bool) (b : TrafficBody) → reading.is_traffic_body body ≡ true →
     Says (number_at 0 8 body) (reading.head_at body).encryption (drop 17 body) b →
     Spells body (record { head = reading.head_at body; body = b })
@@ -342,6 +348,9 @@ no_head body t none =
     let some : None ≡ Some (head_said body) = none ∙ head_there body t in
     absurd (cc)
 
+-- The values that the code reads are the body's type and head, each within its width, and what it
+-- leaves is what comes after the first 17 bits: a body that passes the test has those bits, so the
+-- reading gives just what the definition takes.
 pub are_parts : (body : List Bool) (vs : List ℕ) (rest : List Bool) →
     reading.is_traffic_body body ≡ true → Some (vs, rest) ≡ fields_at typed_widths body →
     AreParts body vs rest

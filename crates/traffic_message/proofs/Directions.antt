@@ -21,6 +21,9 @@ place_clear bits f = rw f refl
 abbrev search_bits : Option Search → List Bool
 search_bits s = spelled (group_fields Flagged search_widths (handoff.search_group s))
 
+-- From HARD_INCLUDED on the bits are those after the search parameters: where SEARCH_INCLUDED, at
+-- bit 9, is 0 there are none and it is bit 10, and where it is 1 they take 24 bits and it is bit
+-- 34.
 behind_search : (s : Option Search) (bits behind : List Bool) →
     drop 9 bits ≡ search_bits s ++ behind →
     drop (handoff.hard_place bits) bits ≡ behind
@@ -54,6 +57,8 @@ bits m = spelling handoff.direction_shape (handoff.direction_contents m)
 abbrev behind_hard : DirectionFields → List Bool
 behind_hard m = binary 3 (length m.extra / 8) ++ (m.extra ++ (records m ++ m.rest))
 
+-- In the bits of a direction HARD_INCLUDED is 0 where the definition looks for it: the action time
+-- and the sequence number take the first 9 bits, the search parameters follow, and it comes next.
 hard_at : (m : DirectionFields) →
     drop (handoff.hard_place (bits m)) (bits m) ≡ binary 1 0 ++ behind_hard m
 unfolding spelling

@@ -53,6 +53,9 @@ plain_split bits mm p long read clear is =
     is ∙ take_all 171 (drop 1 bits) (omega (arith, long, length-drop 1 bits)) in
     rw (f, all) refl
 
+-- A full frame whose first bit is 1 is taken apart as the definition does: its traffic type and
+-- mode are the next three bits, primary traffic has as many bits as the mode tells, and all that is
+-- left of the 172 is secondary traffic or signaling.
 pub mixed_split : (bits : List Bool) (mm tt tm1 tm0 : Bool) (size : ℕ) (p o : List Bool) →
     length bits ≡ 172 → slice_get bits 0 ≡ Some mm → slice_get bits 1 ≡ Some tt →
     slice_get bits 2 ≡ Some tm1 → slice_get bits 3 ≡ Some tm0 → mm ≡ true →

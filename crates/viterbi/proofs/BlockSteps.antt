@@ -79,6 +79,8 @@ lanes_made f s four small is j b =
     (omega (arith, b, lanes_long))
     ∙ rw (is c few) (to_z-of_z w64 (gain_by f s c) (fits_signed_from_abs w64 (gain_by f s c) size))
 
+-- A lane of gains has the gain at its own place: the lanes are the n of the 32 gains that begin at
+-- the place `at`, and a gain that fits into 64 bits is read as it was written.
 pub gains_read : (n : ℕ) (xs : List ℤ) (at l : ℕ) → length xs ≡ 32 → at + n ≤ 32 → l < n →
     FitsSigned w64 (get_or xs (at + l) (pos 0)) →
     get_or (passed (chunk 0 n (take (32 - at) (drop at xs)))) l (pos 0) ≡ get_or xs (at + l) (pos 0)
@@ -198,6 +200,9 @@ plus_less x top g = omega (arith, ints)
 minus_less : (x top g : ℤ) → (x -ℤ top) -ℤ g ≡ (x +ℤ (pos 0 -ℤ g)) -ℤ top
 minus_less x top g = omega (arith, ints)
 
+-- A lane's sum is the metric out of the even state, less the top: lane l of block k is for state 8k
+-- + l, its even predecessor stands at that lane's place, and the gain is that of the two symbols on
+-- the way.
 pub from_even : (column : List ℤ) (top f s : ℤ) (k l : ℕ) (a g : ℤ) → k < 32 → l < 8 →
     a ≡ get_or column (16 * (k % 16) + 2 * l) (pos 0) -ℤ top →
     g ≡ gain_by f s (get_or lane_codes (8 * get_or patterns k 0 + l) 0) →
@@ -213,6 +218,8 @@ from_even column top f s k l a g p b ais gis =
     ∙ ap (λ (z : ℤ). (get_or column (2 * (t % 128) + 0) (pos 0) -ℤ top) +ℤ z) gain
     ∙ plus_less (get_or column (2 * (t % 128) + 0) (pos 0)) top _
 
+-- A lane's difference is the metric out of the odd state, less the top: out of the odd predecessor
+-- both code symbols are the opposite ones, so the gain is taken off instead of added.
 pub from_odd : (column : List ℤ) (top f s : ℤ) (k l : ℕ) (a g : ℤ) → k < 32 → l < 8 →
     a ≡ get_or column (16 * (k % 16) + 1 + 2 * l) (pos 0) -ℤ top →
     g ≡ gain_by f s (get_or lane_codes (8 * get_or patterns k 0 + l) 0) →
@@ -281,6 +288,9 @@ pub gain_fits : (f s : ℤ) (c : ℕ) → unsigned_abs f + unsigned_abs s ≤ 2 
 gain_fits f s c pair =
     fits_signed_from_abs w64 _ (let size = gain_size f s c in omega (arith, pair, size))
 
+-- A block's metrics and gains fit into their lanes, and so do their sums and differences: each
+-- metric is near the top, which is taken off it, and a gain is no greater than both soft values
+-- together.
 pub lanes_fit : (column a g : List ℤ) (top f s : ℤ) (k at : ℕ) → at + 15 ≤ 256 →
     CanStep column top f s → AreEveryOther (λ x. x -ℤ top) column at a → length g ≡ 8 →
     ((l : ℕ) → l < 8 →
@@ -331,6 +341,9 @@ pub record BlockLanes (column : List ℤ) (top f s : ℤ) (k : ℕ) (a o g : Lis
   pub odd_is : (l : ℕ) → l < 8 →
       get_or o l (pos 0) -ℤ get_or g l (pos 0) ≡ metric_from column f s (8 * k + l) 1 -ℤ top
 
+-- The lanes of a block hold what the step of its eight states needs: the metrics of the even and of
+-- the odd states, and gains of the block's pattern, all of which fit into 64 bits, so sums and
+-- differences are the definition's metrics, less the top.
 pub block_lanes : (column gains a o g : List ℤ) (top f s : ℤ) (k : ℕ) → k < 32 →
     FitsSigned w64 top → CanStep column top f s → length g ≡ 8 →
     ((j : ℕ) → j < 32 → get_or gains j (pos 0) ≡ gain_by f s (get_or lane_codes j 0)) →

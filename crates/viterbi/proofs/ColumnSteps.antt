@@ -49,6 +49,8 @@ pub metric_fits : (forced : Bool) (column : List ℤ) (top f s : ℤ) (t : ℕ) 
     CanStep column top f s → FitsSigned w64 (metric_into forced column f s t -ℤ top)
 unfolding metric_into metric_from
 metric_fits forced column top f s t can = either (choice_into forced column f s t) where
+  -- The metric out of either predecessor, less the top, fits into 64 bits: the predecessor's metric
+  -- is at most the top and near it, and the gain is no greater than both soft values together.
   from : (oldest : ℕ) → oldest < 2 →
       FitsSigned w64
       ((get_or column (2 * (t % 128) + oldest) (pos 0) +ℤ gain_of f s (low_bits 9 (2 * t + oldest)))

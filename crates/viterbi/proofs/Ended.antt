@@ -115,6 +115,9 @@ ends_best softs ends n taken metrics columns end free h g b s = record {
       let e : score_of softs v ≡ score_of softs a = omega (arith, ints, le, back) in
       inr (e, omega (arith, order)))
 
+  -- The codeword of the chosen end state is at least as good as any that ends in state u, since
+  -- that one is at most as good as the survivor of u: before the chosen state all metrics are
+  -- lesser, after it none is greater, and at a tie the codeword of the lesser state comes first.
   against : (w : Codeword) (u : ℕ) → u < end_count ends → Into ends n (low_bits 8 u) w →
       AtLeast (score_of softs) a w
   against w u below into =

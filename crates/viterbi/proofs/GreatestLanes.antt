@@ -103,6 +103,8 @@ tops_more value k most m n inner next few before wings all here there = record {
       (wings.least bound l b (rw (here l b) (each (8 * k + l) (omega (arith, b, few))))
       (rw (there l b) (each (8 * (16 + k) + l) (omega (arith, b, few)))));
 } where
+  -- The lane's greatest value is at least that of each state that is done: a state of one of the
+  -- two new blocks is compared in this step, and any other was compared before.
   by_block : (t : ℕ) → t < 256 → t / 8 % 16 < k + 1 → (t / 8 ≡ k) ⊎ (¬ (t / 8 ≡ k)) →
       (t / 8 ≡ 16 + k) ⊎ (¬ (t / 8 ≡ 16 + k)) →
       value t ≤ℤ get_or next (t % 8) (pos 0)

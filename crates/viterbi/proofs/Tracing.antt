@@ -7,6 +7,8 @@ pub origin-back : (columns : List (List ℕ)) (n j t before : ℕ) → n ≡ suc
 unfolding path_origin
 origin-back columns n j t before size is = rw (size, is) refl
 
+-- One step back along the columns puts a state's newest bit at its place before the bits that were
+-- found, and the rest of the path is that of the state before.
 pub path-back : (columns : List (List ℕ)) (n j t before : ℕ) (bits : List Bool) → n ≡ suc j →
     j < length bits → before ≡ state_before columns j t →
     path columns j before ++ drop j (set bits j (nat_le 128 t)) ≡ path columns n t ++ drop n bits

@@ -53,6 +53,9 @@ second_of_both : (a b : Bool) → (a && b) ≡ true → b ≡ true
 second_of_both true b h = h
 second_of_both false b h = cc
 
+-- A place that passes the test is the lower of a butterfly: its partner is one of the 64 places and
+-- has the bit set, and both stand at the same place of their blocks. The test joins these facts by
+-- `and`, and they are taken off it one after another.
 low_facts : (bit n : ℕ) → is_low bit n ≡ true → IsLow bit n
 low_facts bit n h =
     let room : nat_lt (n + 2 ^ bit) 64 ≡ true = first_of_both _ _ h in
@@ -68,6 +71,9 @@ low_facts bit n h =
       partner_in_block = grind (arith, fourth);
     }
 
+-- A place that passes the test is the upper of a butterfly: its partner lies below it and has the
+-- bit clear, and the block of the next stage has it half a block after the partner. The test joins
+-- these facts by `and`, and they are taken off it one after another.
 high_facts : (bit n : ℕ) → is_high bit n ≡ true → IsHigh bit n
 high_facts bit n h =
     let room : nat_le (2 ^ bit) n ≡ true = first_of_both _ _ h in

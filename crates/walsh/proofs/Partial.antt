@@ -60,6 +60,8 @@ odd-far s r j h k =
     let none : 0 * 1 + count_ones (bit_and r j) ≡ count_ones (bit_and r j) = omega arith in
     ap (λ (m : ℕ). nat_eq (m % 2) 1) (rw (first, second) at e ∙ none)
 
+-- Row 2^s + r has the sign of row r at place j, where r and j are below 2^s: the bit that the row
+-- has more is none of j's, so the bits that both have in common are the same.
 odd-near : (s r j : ℕ) → r < 2 ^ s → j < 2 ^ s → odd (2 ^ s + r) j ≡ odd r j
 unfolding odd
 odd-near s r j h k =
@@ -160,6 +162,9 @@ partial-none x n =
 doubled : (s : ℕ) → 2 ^ (suc s) ≡ 2 ^ s + 2 ^ s
 doubled s = omega arith
 
+-- The sum of a butterfly's two entries is the lower one's partial sum after the next stage: each
+-- entry is the sum over its own half of a block twice as long, and the row has the same signs in
+-- both halves.
 sum_more : (s n : ℕ) (x f : ℕ → ℤ) → IsLow s n → f n ≡ partial s x n →
     f (n + 2 ^ s) ≡ partial s x (n + 2 ^ s) → f n +ℤ f (n + 2 ^ s) ≡ partial (suc s) x n
 unfolding partial
@@ -214,6 +219,8 @@ partial-more s n x f p q h = by_bit (bit_of n s) refl
 
 -- THE SUMS of the definition
 
+-- A Walsh sum from place k on is a sum over places, each with the row's sign there, by induction
+-- over the list: the first entry is the sum's first term, and the others move up by one place.
 by_index : (n k : ℕ) (xs : List ℤ) →
     walsh_sum_from n k xs ≡
     sum_below (length xs) (λ j. sign (walsh n (k + j)) *ℤ get_or xs j (pos 0))
@@ -233,6 +240,8 @@ by_index n k (x ∷ xs) =
     ap (λ (m : ℕ). (sign (walsh n m) *ℤ x) +ℤ
     sum_below (length xs) (λ j. sign (walsh n (k + suc j)) *ℤ get_or xs j (pos 0))) here))
 
+-- After all six stages an entry is the Walsh sum of its row: the block is the whole list, and the
+-- signs of row n in it are those of the Walsh function.
 pub partial-all : (n : ℕ) (xs : List ℤ) → n < 64 → length xs ≡ 64 →
     partial 6 (λ k. get_or xs k (pos 0)) n ≡ walsh_sum_from n 0 xs
 unfolding partial

@@ -198,6 +198,8 @@ has_room bit x y p e (a, b) =
     let P : Pair → Type 0 = λ v. IsWithin (2 ^ 45) v in
     subst P (sym e) (omega (arith, a, most), omega (arith, b, most))
 
+-- The two entries that a butterfly reads are at most 2^45: the stage hasn't changed them yet,
+-- before it all were at most 2^(40 + bit), and the bit is at most 5.
 pub have_room : (bit l : ℕ) (old new : List Pair) → bit < 6 → l < 64 → bit_and l (step bit) ≡ 0 →
     IsPartway bit l old new → EntriesAreWithin (2 ^ (40 + bit)) old →
     IsWithin (2 ^ 45) (entry new l) × IsWithin (2 ^ 45) (entry new (l + step bit))

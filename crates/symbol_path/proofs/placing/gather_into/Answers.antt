@@ -3,6 +3,8 @@ use Rattle.symbol_path.proofs.Common.{◌≡◌, ◌*◌, ℕ, length, sym, ap, 
 use Rattle.symbol_path.proofs.Interleaving.{size_some, count_is}
 use Rattle.symbol_path.proofs.placing.gather_into.Goals as goal
 
+-- Each code symbol gets the sum of the soft values that were sent for it: there are as many sums as
+-- code symbols, since their number times the repeats is that of the frame's symbols.
 pub returns-clause-value : goal.returns-clause-value
 returns-clause-value c =
     let s = shape_of c.args.kind in

@@ -15,6 +15,8 @@ pub append-requires : goal.append-requires
 append-requires c =
     omega (arith, c.loop-i.invariant.count, sent_most c.args.symbols, c.count-i-end.ensures, c.loop-i-test.true)
 
+-- One symbol more is written: the one sent at place i is a repetition, and the number of that
+-- repetition over the repeats is the code symbol that was read.
 pub loop-i-preserved : goal.loop-i-preserved
 loop-i-preserved c =
     let symbol : ℕ → Bool =

@@ -17,6 +17,8 @@ loop-group-init c = record {
   };
 }
 
+-- One power control group more has its two places: its start is told by the scrambling of the group
+-- before it, as the definition has it, and the state is then the one that is 1,536 chips later.
 pub loop-group-preserved : goal.loop-group-preserved
 loop-group-preserved c =
     let g = c.loop-group.group in
@@ -40,6 +42,8 @@ loop-group-preserved c =
 all_pairs : (f : ℕ → ℕ) (xs : List ℕ) (n : ℕ) → n ≡ 16 → ArePairs f xs n → ArePairs f xs 16
 all_pairs f xs n e pairs = let P : ℕ → Type 0 = λ n. ArePairs f xs n in subst P e pairs
 
+-- After all 16 groups the places are the definition's: each group has a pair of neighbours that
+-- begins in the first 16 of its 24 symbols, so all 32 places rise and stay below 384.
 pub returns : goal.returns
 returns c =
     let place = power_place c.args.state.now c.args.mask in

@@ -4,6 +4,8 @@ use Rattle.symbol_path.proofs.Common.{get_or-set_other, after, long_chip}
 use Rattle.symbol_path.proofs.SymbolChips.{long_chip-same, later_by_symbol, symbol_chips_all}
 use Rattle.symbol_path.proofs.scramble.symbol_chips.Goals as goal
 
+-- One symbol more has its chip of the long code: it is the chip of the state that is 64 i chips
+-- later, the chips before it stay, and 64 chips further on is where the next symbol begins.
 pub loop-chip-preserved : goal.loop-chip-preserved
 loop-chip-preserved c =
     let at = c.loop-chip.state in

@@ -10,6 +10,8 @@ use Rattle.viterbi.proofs.lanes.step_all.Goals as goal
 nothing_yet : {A : Type 0} (t : ℕ) → t / 8 % 16 < 0 → A
 nothing_yet t none = absurd (omega (arith, none))
 
+-- Before the first block no state is done, so nothing is claimed of any, and the greatest values
+-- begin at the least number of 64 bits, which no metric is below.
 pub loop-k-init : goal.loop-k-init
 loop-k-init g c =
     let forced = FORCED-type (number g.row.FORCED) in

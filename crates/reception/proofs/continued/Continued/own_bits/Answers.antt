@@ -3,6 +3,9 @@ use Rattle.reception.proofs.Common.{◌≡◌, ℕ, ◌-◌, ◌*◌, List, take
 use Rattle.reception.proofs.Received.{own_bits_are}
 use Rattle.reception.proofs.continued.Continued.own_bits.Goals as goal
 
+-- The bits are the own ones of the next frame: the last of the 1,152 soft values, as many as the
+-- span has, are those of the frames about it, and the span and the frame's place in it are the
+-- definition's.
 pub returns-clause-value : goal.returns-clause-value
 returns-clause-value c = λ count s heard r channel d.
     let span = c.span-span.result in

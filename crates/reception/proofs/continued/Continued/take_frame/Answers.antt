@@ -12,6 +12,8 @@ combine_into-requires-clause-ring c =
     in_ring c.args.ring.now k.clock.form k.clock.start k.fingers sound.near sound.begun
     c.requires.room (c.requires.ended ∙ sound.ends)
 
+-- The channel is sound after a frame was taken: the next one begins and ends a frame's chips later
+-- on every finger, and the soft values are as many as before and within their bounds.
 pub returns-clause-sound : goal.returns-clause-sound
 returns-clause-sound c =
     let sound = c.requires.sound in

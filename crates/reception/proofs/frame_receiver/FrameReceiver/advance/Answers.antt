@@ -4,6 +4,8 @@ use Rattle.rake_finger.proofs.CloseFingers.{later_by}
 use Rattle.rake_finger.proofs.FingerTimes.{begun_on}
 use Rattle.reception.proofs.frame_receiver.FrameReceiver.advance.Goals as goal
 
+-- The receiver is sound after a frame: the next one begins 24,576 chips later, on every finger and
+-- so at the latest of their ends too, and fingers, rows and mask stay as they were.
 pub returns-clause-sound : goal.returns-clause-sound
 returns-clause-sound c =
     let r = c.args.self.now in

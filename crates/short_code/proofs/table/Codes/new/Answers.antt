@@ -21,6 +21,8 @@ loop-n-init c =
       q = Holds-start;
     }
 
+-- One chip more is in the table: the parity of each register's taps is the next chip of its code by
+-- the code's recurrence, and once that is shifted in, the register stands for the chip after it.
 pub loop-n-preserved : goal.loop-n-preserved
 loop-n-preserved c =
     let n = c.loop-n._n in
