@@ -13,6 +13,8 @@ pub flat-none : {X : Type 0} (f : ℕ → List X) → flat_map f (places 0) ≡ 
 flat-none f = ap (flat_map f) places-none
 
 -- HALF-FRAMES
+-- A half-frame that lies in the first bits is the same whatever follows them: it ends among the
+-- first n, so its bits are cut out of these alone, and its SCI bit is asked to be the same.
 pub half_front : (size n h : ℕ) (starts starts' : List ℕ) (front more : List Bool) →
     length front ≡ size * n → h < n →
     list_any (λ s. s == h) starts' ≡ list_any (λ s. s == h) starts →

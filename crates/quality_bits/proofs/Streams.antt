@@ -119,6 +119,9 @@ ending-start pieces p h =
     rw (e, bits) (chosen_started p.body)
 
 -- A PIECE THAT GOES ON
+-- A piece that starts no message goes on with what is under way: where no message is, nothing is
+-- after it either, else the piece belongs to that message, which stays open where its bits still
+-- await more, and once they don't, no further bits open it again.
 under_way-on : (pieces : List Piece) (p : Piece) (message : List Piece) → p.starts ≡ false →
     from_last_start pieces ≡ message →
     under_way (pieces ++ p ∷ []) ≡ continued (under_way pieces) p.body

@@ -36,6 +36,9 @@ soft_bound-most Sync = omega arith
 soft_bound-most Data = omega arith
 
 -- ONE FINGER
+-- One soft value more is added to its entry: that entry held what was there before and now holds
+-- the finger's value on top, the entries before it are done already, and those after it are as they
+-- were.
 pub IsAdded-more : (ring : Held) (finger : Finger) (form : Form) (start done : ℕ) (old new : List ℤ)
     (value entry : ℤ) →
     IsAdded ring finger form start done old new → done < length new →

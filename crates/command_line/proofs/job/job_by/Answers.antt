@@ -6,6 +6,8 @@ use Rattle.command_line.proofs.ArgJobs.{AreLawful, bad_where, job_found, job_non
 use Rattle.command_line.proofs.job.job_by.Goals.{After-is_none, After-ok_or}
 use Rattle.command_line.proofs.job.job_by.Goals as goal
 
+-- Options that aren't lawful are bad, and the definition has no job for them either: it reads them
+-- by the command's rules, and the test has just said that by these they give nothing.
 pub returns-then-not-are_lawful-clause-bad : goal.returns-then-not-are_lawful-clause-bad
 returns-then-not-are_lawful-clause-bad c =
     let entry = command_entry c.args.command in

@@ -3,6 +3,8 @@ use Rattle.paging_message.proofs.Common.{◌≡◌, length, ◌∙◌, arith, le
 use Rattle.paging_message.proofs.Layings.{left_is, same_left}
 use Rattle.paging_message.proofs.layout.Layout.fits.Goals as goal
 
+-- The answer is yes just where eight bits of the half-frame under way are left: what the place
+-- leaves is what the length of the laid bits leaves.
 pub returns : goal.returns
 returns c l bits laid =
     let size = c.args.self.now.size in

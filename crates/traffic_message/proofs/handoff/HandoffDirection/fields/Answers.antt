@@ -13,6 +13,8 @@ returns-clause-pilots c =
       (record_fits m i is h).0,
     ))
 
+-- Each row that a direction names is below 256: it is a field of eight bits of its own record, and
+-- there are as many rows as records.
 pub returns-clause-channels : goal.returns-clause-channels
 returns-clause-channels c =
     let m = c.self.inside.fields in
