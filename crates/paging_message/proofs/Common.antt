@@ -1,5 +1,5 @@
 -- What the proofs of this crate cite of what lies below, and of its own definitions, passed on from one place.
-pub use Rattle.std.proofs.Common.{Bool, List, None, Ok, Option, Some, [], ap, append_assoc, arith, cond, drop, false, get_or, if◌then◌else◌}
+pub use Rattle.std.proofs.Common.{Bool, List, None, Option, Some, [], ap, append_assoc, arith, cond, drop, false, get_or, if◌then◌else◌}
 pub use Rattle.std.proofs.Common.{inl, inr, length, length-append, length-drop, map, nat_le, nat_lt, not, refl, replicate, rules, subst}
 pub use Rattle.std.proofs.Common.{suc, sym, take, true, zero, ℕ, ◌%◌, ◌&&◌, ◌*◌, ◌++◌, ◌+◌, ◌-◌, ◌/◌, ◌<◌, ◌==◌, ◌^◌, ◌||◌, ◌∙◌, ◌∷◌, ◌≡◌}
 pub use Rattle.std.proofs.Common.{◌≢◌, ◌≤◌}
@@ -38,8 +38,7 @@ pub use Rattle.message_layout.specs.Shapes.{MessageShape, shape}
 unfoldable pub use Rattle.message_layout.specs.Shapes.{is_lawful}
 pub use Rattle.message_layout.specs.Spelling.{IsOf, spelling}
 pub use Rattle.message_layout.specs.declared.contents.Contents.{Contents}
-pub use Rattle.quality_bits.proofs.Decoded.{AreRead, IsDecoded, IsNone, decoded, fault_read, if_spelled-again, if_spelled-there, uncapsuled}
-pub use Rattle.quality_bits.proofs.Decoded.{undecoded, whole_checked}
+pub use Rattle.quality_bits.proofs.Decoded.{AreRead, Tells, bad_body_told, one_message, read_by_spelling, told, turned_back, uncapsuled}
 pub use Rattle.quality_bits.proofs.Opened.{stated_bounds, stated_from}
 pub use Rattle.quality_bits.proofs.Streams.{bodies-more, extended, from_last_start_more, from_last_start_new}
 pub use Rattle.quality_bits.specs.Capsules.{FillsCapsule, IsWhole, awaits_more, capsule, completed, continued, is_stated, stated_bits}

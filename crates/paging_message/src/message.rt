@@ -75,10 +75,7 @@ impl PagingMessage {
     {
         let count = body_count(Kind::M30, form, capsule)?;
         let body = BitSlice::of(capsule, 8, count);
-        match PagingMessage::read(&body) {
-            Some(message) => Ok(message),
-            None => Err(MessageFault::BadBody),
-        }
+        PagingMessage::read(&body).ok_or(MessageFault::BadBody)
     }
 
     /// The message that a body spells.

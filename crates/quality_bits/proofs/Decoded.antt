@@ -1,7 +1,7 @@
 -- Capsules decoded as messages, whatever the messages are: what each exit of a decoder says.
 use Rattle.std.proofs.Common.{◌≡◌, ℕ, ◌+◌, ◌-◌, Bool, true, false, List, length, take, drop, refl, sym, ap, subst, ◌∙◌, arith, Option, Some}
 use Rattle.std.proofs.Common.{None, Result, Ok, Err, inl, inr}
-use Rattle.std.specs.Prelude.{IfOk}
+use Rattle.std.specs.Prelude.{IfOk, ok_or, ◌↔◌}
 use Rattle.std.proofs.lemmas.Bool.{cases_Bool}
 use Rattle.chip_core.proofs.BitLists.{same_from, same_refl}
 use Rattle.chip_core.specs.Bits.{are_same}
@@ -9,20 +9,36 @@ use Rattle.chip_core.specs.declared.check_form.CheckForm.{CheckForm}
 use Rattle.quality_bits.specs.declared.kind.Kind.{Kind}
 use Rattle.quality_bits.specs.Kinds.{IsChecked, generator_of}
 use Rattle.quality_bits.specs.declared.message_fault.MessageFault.{MessageFault}
+use Rattle.quality_bits.specs.declared.message_fault.MessageFault.TheVariants.{BadBody}
 use Rattle.quality_bits.specs.Faults.{reading_of}
 use Rattle.quality_bits.specs.Capsules.{FillsCapsule, IsWhole, capsule, if_spelled}
 use Rattle.quality_bits.proofs.Wholes.{checked-capsule, inner, inner-capsule, whole-capsule}
 
 -- messages that are spelled as bodies of capsules, and read of bodies and of capsules
 pub record AreRead {M : Type 0} (kind : Kind) (form : CheckForm) (Is : M → Type 0)
-    (body : M → List Bool) (of_body of_capsule : List Bool → Option M) : Type 0 where
+    (body spelled : M → List Bool) (of_body of_capsule : List Bool → Option M) : Type 0 where
+  pub spells : (m : M) → spelled m ≡ capsule kind form (body m)
   pub fills : (m : M) → Is m → FillsCapsule kind (body m)
   pub again : (m : M) → Is m → of_body (body m) ≡ Some m
   pub there : (bits : List Bool) (m : M) → FillsCapsule kind bits → of_body bits ≡ Some m →
       Is m × (bits ≡ body m)
-  pub capsule_again : (m : M) → Is m → of_capsule (capsule kind form (body m)) ≡ Some m
-  pub capsule_there : (bits : List Bool) (m : M) → of_capsule bits ≡ Some m →
-      Is m × (bits ≡ capsule kind form (body m))
+  pub capsule_again : (m : M) → Is m → of_capsule (spelled m) ≡ Some m
+  pub capsule_there : (bits : List Bool) (m : M) → of_capsule bits ≡ Some m → Is m × (bits ≡ spelled m)
+
+-- reading turns spelling back
+pub turned_back : {M : Type 0} {kind : Kind} {form : CheckForm} {Is : M → Type 0} {body spelled : M → List Bool}
+    {of_body of_capsule : List Bool → Option M} → AreRead kind form Is body spelled of_body of_capsule →
+    (bits : List Bool) (m : M) → (of_capsule bits ≡ Some m) ↔ (Is m × (bits ≡ spelled m))
+turned_back {of_capsule = of_capsule} are bits m =
+    (λ read. are.capsule_there bits m read, λ is. ap of_capsule is.1 ∙ are.capsule_again m is.0)
+
+-- and so messages with one spelling are the same
+pub one_message : {M : Type 0} {kind : Kind} {form : CheckForm} {Is : M → Type 0} {body spelled : M → List Bool}
+    {of_body of_capsule : List Bool → Option M} → AreRead kind form Is body spelled of_body of_capsule →
+    (m n : M) → Is m → Is n → spelled m ≡ spelled n → m ≡ n
+one_message {of_capsule = of_capsule} are m n p q same =
+    let both : Some m ≡ Some n = sym (are.capsule_again m p) ∙ ap of_capsule same ∙ are.capsule_again n q in
+    cc
 
 -- the body of a message's capsule
 pub body_of_capsule : (kind : Kind) (form : CheckForm) (bits body other : List Bool) →
@@ -64,80 +80,100 @@ if_spelled-there spelled bits m (Some n) e =
           absurd (cc)
     ]
 
+-- bodies that are read, and capsules that are read where their message is spelled so
+pub read_by_spelling : {M : Type 0} (kind : Kind) (form : CheckForm) (Is : M → Type 0) (body spelled : M → List Bool)
+    (of_body of_capsule : List Bool → Option M) (cut : ℕ) → cut ≡ 8 + (generator_of kind).degree →
+    ((m : M) → spelled m ≡ capsule kind form (body m)) →
+    ((bits : List Bool) → of_capsule bits
+    ≡ if_spelled (λ n. capsule kind form (body n)) bits (of_body (take (length bits - cut) (drop 8 bits)))) →
+    ((m : M) → Is m → FillsCapsule kind (body m)) → ((m : M) → Is m → of_body (body m) ≡ Some m) →
+    ((bits : List Bool) (m : M) → of_body bits ≡ Some m → Is m × (bits ≡ body m)) →
+    AreRead kind form Is body spelled of_body of_capsule
+read_by_spelling kind form Is body spelled of_body of_capsule cut is spells reads fills again there =
+    record {
+      spells = spells;
+      fills = fills;
+      again = again;
+      there = λ bits m full e. there bits m e;
+      capsule_again = λ m p. ap of_capsule (spells m) ∙ reads (capsule kind form (body m))
+          ∙ if_spelled-again kind form body of_body cut m is (again m p);
+      capsule_there = λ bits m e.
+          let inside = take (length bits - cut) (drop 8 bits) in
+          let both = if_spelled-there (λ n. capsule kind form (body n)) bits m (of_body inside) (sym (reads bits) ∙ e) in
+          ((there inside m both.0).0, both.1 ∙ sym (spells m));
+    }
+
 -- WHAT A DECODER SAYS
--- the bits are the capsule of this message
-pub record IsDecoded {M : Type 0} (kind : Kind) (form : CheckForm) (Is : M → Type 0)
-    (body : M → List Bool) (of_capsule : List Bool → Option M) (bits : List Bool) (m : M) : Type 0 where
-  pub found : Is m × (bits ≡ capsule kind form (body m))
-  pub only : (n : M) → Is n → bits ≡ capsule kind form (body n) → m ≡ n
-  pub reading : of_capsule bits ≡ Some m
+-- the result is the message whose capsule the bits are, and a fault where there is none
+pub record Tells {M : Type 0} (Is : M → Type 0) (spelled : M → List Bool) (of_capsule : List Bool → Option M)
+    (bits : List Bool) (result : Result M MessageFault) : Type 0 where
+  pub found : IfOk result (λ m. Is m × (bits ≡ spelled m))
+  pub only : (m : M) → Is m → bits ≡ spelled m → result ≡ Ok m
+  pub reading : reading_of result ≡ of_capsule bits
 
--- they are no message's capsule
-pub record IsNone {M : Type 0} (kind : Kind) (form : CheckForm) (Is : M → Type 0)
-    (body : M → List Bool) (of_capsule : List Bool → Option M) (bits : List Bool) : Type 0 where
-  pub never : (n : M) → Is n → ¬ (bits ≡ capsule kind form (body n))
-  pub reading : of_capsule bits ≡ None
-
-no_reading : {M : Type 0} (of_capsule : List Bool → Option M) (bits : List Bool)
-    (read : Option M) → of_capsule bits ≡ read →
-    ((m : M) → ¬ (of_capsule bits ≡ Some m)) → of_capsule bits ≡ None
-no_reading of_capsule bits None e never = e
+no_reading : {M : Type 0} (of_capsule : List Bool → Option M) (bits : List Bool) (read : Option M) →
+    of_capsule bits ≡ read → ((m : M) → ¬ (of_capsule bits ≡ Some m)) → None ≡ of_capsule bits
+no_reading of_capsule bits None e never = sym e
 no_reading of_capsule bits (Some m) e never = absurd (never m e)
 
-none_from : {M : Type 0} (kind : Kind) (form : CheckForm) (Is : M → Type 0)
-    (body : M → List Bool) (of_body of_capsule : List Bool → Option M) (bits : List Bool) →
-    AreRead kind form Is body of_body of_capsule →
-    ((n : M) → Is n → ¬ (bits ≡ capsule kind form (body n))) →
-    IsNone kind form Is body of_capsule bits
-none_from kind form Is body of_body of_capsule bits are never =
+tells_none : {M : Type 0} {kind : Kind} {form : CheckForm} {Is : M → Type 0} {body spelled : M → List Bool}
+    {of_body of_capsule : List Bool → Option M} (bits : List Bool) (fault : MessageFault) →
+    AreRead kind form Is body spelled of_body of_capsule → ((m : M) → Is m → ¬ (bits ≡ spelled m)) →
+    Tells Is spelled of_capsule bits (Err fault)
+tells_none {of_capsule = of_capsule} bits fault are never =
     record {
-      never = never;
+      found = tt;
+      only = λ m is same. absurd (never m is same);
       reading = no_reading of_capsule bits (of_capsule bits) refl (λ m e.
           let is = are.capsule_there bits m e in
           never m is.0 is.1);
     }
 
--- where the body is read
-pub decoded : {M : Type 0} (kind : Kind) (form : CheckForm) (Is : M → Type 0)
-    (body : M → List Bool) (of_body of_capsule : List Bool → Option M) (bits inside : List Bool)
-    (m : M) → AreRead kind form Is body of_body of_capsule →
-    FillsCapsule kind inside × (bits ≡ capsule kind form inside) → Some m ≡ of_body inside →
-    IsDecoded kind form Is body of_capsule bits m
-decoded {M} kind form Is body of_body of_capsule bits inside m are found e =
+-- where there is no capsule
+pub uncapsuled : {M : Type 0} {kind : Kind} {form : CheckForm} {Is : M → Type 0} {body spelled : M → List Bool}
+    {of_body of_capsule : List Bool → Option M} (bits : List Bool) (result : Result M MessageFault) →
+    AreRead kind form Is body spelled of_body of_capsule →
+    ((inside : List Bool) → FillsCapsule kind inside → ¬ (bits ≡ capsule kind form inside)) →
+    IfOk result (λ m. true ≡ false) → Tells Is spelled of_capsule bits result
+uncapsuled bits (Ok m) are none fault = absurd (cc)
+uncapsuled {body = body} bits (Err fault) are none is_fault =
+    tells_none bits fault are (λ m is same. none (body m) (are.fills m is) (same ∙ are.spells m))
+
+-- what the body of a message's capsule is read as
+body_read : {M : Type 0} {kind : Kind} {form : CheckForm} {Is : M → Type 0} {body spelled : M → List Bool}
+    {of_body of_capsule : List Bool → Option M} (bits inside : List Bool) (m : M) →
+    AreRead kind form Is body spelled of_body of_capsule → bits ≡ capsule kind form inside → Is m → bits ≡ spelled m →
+    of_body inside ≡ Some m
+body_read {kind = kind} {form = form} {body = body} {of_body = of_body} bits inside m are found is same =
+    ap of_body (body_of_capsule kind form bits inside (body m) found (same ∙ are.spells m)) ∙ are.again m is
+
+told_of_body : {M : Type 0} {kind : Kind} {form : CheckForm} {Is : M → Type 0} {body spelled : M → List Bool}
+    {of_body of_capsule : List Bool → Option M} (bits inside : List Bool) (read : Option M) →
+    AreRead kind form Is body spelled of_body of_capsule →
+    FillsCapsule kind inside × (bits ≡ capsule kind form inside) → read ≡ of_body inside →
+    Tells Is spelled of_capsule bits (ok_or read BadBody)
+told_of_body bits inside None are found e =
+    tells_none bits BadBody are (λ m is same.
+    let both : None ≡ Some m = e ∙ body_read bits inside m are found.1 is same in
+    absurd (cc))
+told_of_body {kind = kind} {form = form} {spelled = spelled} {of_capsule = of_capsule} bits inside (Some m) are found e =
     let is = are.there inside m found.0 (sym e) in
-    let same : bits ≡ capsule kind form (body m) = found.1 ∙ ap (capsule kind form) is.1 in
+    let same : bits ≡ spelled m = found.1 ∙ ap (capsule kind form) is.1 ∙ sym (are.spells m) in
     record {
       found = (is.0, same);
-      only = λ n other spelled.
-          let there : inside ≡ body n =
-          body_of_capsule kind form bits inside (body n) found.1 spelled in
-          let both : Some m ≡ Some n = e ∙ ap of_body there ∙ are.again n other in
+      only = λ n other there.
+          let both : Some m ≡ Some n = e ∙ body_read bits inside n are found.1 other there in
           cc;
-      reading = ap of_capsule same ∙ are.capsule_again m is.0;
+      reading = sym (ap of_capsule same ∙ are.capsule_again m is.0);
     }
 
--- where the body is that of no message
-pub undecoded : {M : Type 0} (kind : Kind) (form : CheckForm) (Is : M → Type 0)
-    (body : M → List Bool) (of_body of_capsule : List Bool → Option M) (bits inside : List Bool) →
-    AreRead kind form Is body of_body of_capsule →
-    FillsCapsule kind inside × (bits ≡ capsule kind form inside) → None ≡ of_body inside →
-    IsNone kind form Is body of_capsule bits
-undecoded {M} kind form Is body of_body of_capsule bits inside are found e =
-    none_from kind form Is body of_body of_capsule bits are (λ n other spelled.
-    let there : inside ≡ body n =
-    body_of_capsule kind form bits inside (body n) found.1 spelled in
-    let both : None ≡ Some n = e ∙ ap of_body there ∙ are.again n other in
-    absurd (cc))
-
--- where there is no capsule
-pub uncapsuled : {M : Type 0} (kind : Kind) (form : CheckForm) (Is : M → Type 0)
-    (body : M → List Bool) (of_body of_capsule : List Bool → Option M) (bits : List Bool) →
-    AreRead kind form Is body of_body of_capsule →
-    ((inside : List Bool) → FillsCapsule kind inside → ¬ (bits ≡ capsule kind form inside)) →
-    IsNone kind form Is body of_capsule bits
-uncapsuled kind form Is body of_body of_capsule bits are none =
-    none_from kind form Is body of_body of_capsule bits are (λ n other spelled.
-    none (body n) (are.fills n other) spelled)
+-- where its body is read, or is that of no message
+pub told : {M : Type 0} {kind : Kind} {form : CheckForm} {Is : M → Type 0} {body spelled : M → List Bool}
+    {of_body of_capsule : List Bool → Option M} (bits inside : List Bool) (read : Option M)
+    (result : Result M MessageFault) → AreRead kind form Is body spelled of_body of_capsule →
+    FillsCapsule kind inside × (bits ≡ capsule kind form inside) → read ≡ of_body inside →
+    result ≡ ok_or read BadBody → Tells Is spelled of_capsule bits result
+told bits inside read result are found e is = rw is (told_of_body bits inside read are found e)
 
 -- it was a capsule
 pub whole_checked : (kind : Kind) (form : CheckForm) (bits inside : List Bool) →
@@ -148,8 +184,16 @@ whole_checked kind form bits inside found = (
   subst (IsChecked kind form) (sym found.1) (checked-capsule kind form inside),
 )
 
--- a fault reads as nothing
-pub fault_read : {M : Type 0} (result : Result M MessageFault) →
-    IfOk result (λ m. true ≡ false) → reading_of result ≡ None
-fault_read (Ok m) none = absurd (cc)
-fault_read (Err fault) none = refl
+-- its body is that of no message
+pub bad_body_told : {M : Type 0} {Is : M → Type 0} {spelled : M → List Bool} {of_capsule : List Bool → Option M}
+    (kind : Kind) (form : CheckForm) (bits inside : List Bool) (read : Option M) (result : Result M MessageFault) →
+    FillsCapsule kind inside × (bits ≡ capsule kind form inside) → result ≡ ok_or read BadBody →
+    Tells Is spelled of_capsule bits result →
+    (result ≡ Err BadBody)
+    ↔ (IsWhole bits × IsChecked kind form bits × ((m : M) → Is m → ¬ (bits ≡ spelled m)))
+bad_body_told kind form bits inside None result found fault tells =
+    let whole = whole_checked kind form bits inside found in
+    (λ bad. (whole.0, whole.1, λ m is same. absurd (cc (tells.only m is same))), λ none. fault)
+bad_body_told {Is = Is} {spelled = spelled} kind form bits inside (Some m) result found message tells =
+    let is : Is m × (bits ≡ spelled m) = rw message at tells.found in
+    (λ bad. absurd (cc (bad, message)), λ none. absurd (none.2 m is.0 is.1))

@@ -47,10 +47,11 @@ reading_is_message form bits m e =
 
 -- WHAT THE CODE GIVES
 pub are_read : (form : CheckForm) →
-    AreRead M30 form IsSyncMessage sync_body sync_body_reading (sync_reading form)
+    AreRead M30 form IsSyncMessage sync_body (sync_capsule form) sync_body_reading (sync_reading form)
 unfolding sync_capsule
 are_read form =
     record {
+      spells = λ m. refl;
       fills = λ m is. is.fills;
       again = body_again;
       there = body_there;

@@ -1,5 +1,5 @@
 -- What the proofs of this crate cite of what lies below, and of its own definitions, passed on from one place.
-pub use Rattle.std.proofs.Common.{Bool, List, None, Ok, Option, Some, [], ap, append_assoc, arith, cond, drop, false, get_or, inl, inr}
+pub use Rattle.std.proofs.Common.{Bool, List, None, Option, Some, [], ap, append_assoc, arith, cond, drop, false, get_or, inl, inr}
 pub use Rattle.std.proofs.Common.{is_some, length, length-append, nat_le, refl, rules, slice_get, subst, sym, take, true, ℕ, ◌%◌, ◌&&◌, ◌*◌}
 pub use Rattle.std.proofs.Common.{◌++◌, ◌+◌, ◌-◌, ◌/◌, ◌<◌, ◌==◌, ◌^◌, ◌∙◌, ◌∷◌, ◌≡◌, ◌≢◌, ◌≤◌, ◌⊎◌}
 pub use Rattle.std.proofs.lemmas.Bool.{and_from, and_parts, cases_Bool, eq-eqb, eqb-false, eqb-true, le-leb, leb-true}
@@ -31,8 +31,7 @@ pub use Rattle.message_layout.specs.Spelling.{IsGroup, IsOf, behind_group, group
 unfoldable pub use Rattle.message_layout.specs.Spelling.{spelling}
 pub use Rattle.message_layout.specs.declared.contents.Contents.{Contents}
 pub use Rattle.message_layout.specs.declared.layout.Presence.TheVariants.{Flagged}
-pub use Rattle.quality_bits.proofs.Decoded.{AreRead, IsDecoded, IsNone, decoded, fault_read, if_spelled-again, if_spelled-there, uncapsuled}
-pub use Rattle.quality_bits.proofs.Decoded.{undecoded, whole_checked}
+pub use Rattle.quality_bits.proofs.Decoded.{AreRead, Tells, bad_body_told, one_message, read_by_spelling, told, turned_back, uncapsuled}
 pub use Rattle.quality_bits.specs.Capsules.{FillsCapsule, capsule}
 pub use Rattle.quality_bits.specs.declared.kind.Kind.TheVariants.{M16}
 pub use Rattle.traffic_message.specs.Admitted.{HasTrafficMessage}

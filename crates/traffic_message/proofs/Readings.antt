@@ -1,7 +1,6 @@
 -- Bodies and capsules read as messages.
-use Rattle.traffic_message.proofs.Common.{◌≡◌, ◌-◌, Bool, List, length, take, drop, refl, sym, ap, ◌∙◌, Option, Some, None, IfSome}
-use Rattle.traffic_message.proofs.Common.{CheckForm, M16, Message, traffic_message_body, traffic_capsule, IsTrafficMessage, AreRead}
-use Rattle.traffic_message.proofs.Common.{if_spelled-again, if_spelled-there}
+use Rattle.traffic_message.proofs.Common.{◌≡◌, Bool, List, refl, sym, ap, ◌∙◌, Option, Some, None, IfSome, CheckForm, M16, Message}
+use Rattle.traffic_message.proofs.Common.{traffic_message_body, traffic_capsule, IsTrafficMessage, AreRead, read_by_spelling}
 use Rattle.traffic_message.proofs.Bodies.{message_again, message_there}
 use Rattle.traffic_message.specs.Reading as reading
 
@@ -18,31 +17,11 @@ pub body_only : (body : List Bool) (result : Option Message) (m : Message) →
 body_only body result m e is same = e ∙ ap reading.traffic_body_reading same ∙ message_again m is
 
 -- CAPSULES
-pub reads_capsule : (form : CheckForm) (m : Message) → IsTrafficMessage m →
-    reading.traffic_reading form (traffic_capsule form m) ≡ Some m
-unfolding reading.traffic_reading traffic_capsule
-reads_capsule form m is =
-    if_spelled-again M16 form traffic_message_body reading.traffic_body_reading 24 m refl (message_again m is)
-
-pub capsule_is_read : (form : CheckForm) (bits : List Bool) (m : Message) →
-    reading.traffic_reading form bits ≡ Some m →
-    IsTrafficMessage m × (bits ≡ traffic_capsule form m)
-unfolding reading.traffic_reading
-capsule_is_read form bits m e =
-    let inside = take (length bits - 24) (drop 8 bits) in
-    let both = if_spelled-there (traffic_capsule form) bits m (reading.traffic_body_reading inside) e in
-    ((message_there inside m both.0).0, both.1)
-
--- WHAT THE CODE GIVES
 pub are_read : (form : CheckForm) →
-    AreRead M16 form IsTrafficMessage traffic_message_body reading.traffic_body_reading
+    AreRead M16 form IsTrafficMessage traffic_message_body (traffic_capsule form) reading.traffic_body_reading
     (reading.traffic_reading form)
-unfolding traffic_capsule
+unfolding traffic_capsule reading.traffic_reading
 are_read form =
-    record {
-      fills = λ m is. is.fills;
-      again = message_again;
-      there = λ bits m fills e. message_there bits m e;
-      capsule_again = reads_capsule form;
-      capsule_there = capsule_is_read form;
-    }
+    read_by_spelling M16 form IsTrafficMessage traffic_message_body (traffic_capsule form)
+    reading.traffic_body_reading (reading.traffic_reading form) 24 refl (λ m. refl) (λ bits. refl)
+    (λ m is. is.fills) message_again message_there

@@ -98,10 +98,7 @@ impl TrafficMessage {
     {
         let count = body_count(Kind::M16, form, capsule)?;
         let body = BitSlice::of(capsule, 8, count);
-        match TrafficMessage::read(&body) {
-            Some(message) => Ok(message),
-            None => Err(MessageFault::BadBody),
-        }
+        TrafficMessage::read(&body).ok_or(MessageFault::BadBody)
     }
 
     /// The message that a body spells.

@@ -1,14 +1,11 @@
 -- Why the law `reading_turns_spelling_back` holds.
-use Rattle.traffic_message.proofs.Common.{ap, ◌∙◌, traffic_body_reading, traffic_reading}
+use Rattle.traffic_message.proofs.Common.{ap, ◌∙◌, traffic_body_reading, turned_back}
 use Rattle.traffic_message.proofs.Bodies.{message_again, message_there}
-use Rattle.traffic_message.proofs.Readings.{capsule_is_read, reads_capsule}
+use Rattle.traffic_message.proofs.Readings.{are_read}
 use Rattle.traffic_message.proofs.laws.reading_turns_spelling_back.Goals as goal
 
 pub returns-clause-capsule : goal.returns-clause-capsule
-returns-clause-capsule c form capsule m = (
-  λ read. capsule_is_read form capsule m read,
-  λ is. ap (traffic_reading form) is.1 ∙ reads_capsule form m is.0,
-)
+returns-clause-capsule c form capsule m = turned_back (are_read form) capsule m
 
 pub returns-clause-body : goal.returns-clause-body
 returns-clause-body c body m = (

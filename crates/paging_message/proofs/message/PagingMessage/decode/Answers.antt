@@ -1,68 +1,39 @@
 -- Why `decode` of `message::PagingMessage` keeps its contract.
-use Rattle.paging_message.proofs.Common.{rules, refl, sym, ap, ◌∙◌, Ok, M30, IsDecoded, IsNone, fault_read, whole_checked, message_body}
-use Rattle.paging_message.proofs.Common.{IsPagingMessage, paging_capsule, paging_reading, body_reading, decoded, uncapsuled, undecoded}
+use Rattle.paging_message.proofs.Common.{rules, M30, IsPagingMessage, paging_capsule, paging_reading, Tells, bad_body_told, told}
+use Rattle.paging_message.proofs.Common.{uncapsuled}
 use Rattle.paging_message.proofs.Readings.{are_read}
 use Rattle.paging_message.proofs.message.PagingMessage.decode.Goals as goal
-use Rattle.paging_message.proofs.message.PagingMessage.decode.Goals.{After-from_residual, In-None, In-Some}
+use Rattle.paging_message.proofs.message.PagingMessage.decode.Goals.{After-from_residual, After-ok_or}
 
--- what is known at the three exits
+-- what is known at the two exits
 uncapsuled_at : (c : After-from_residual) →
-    IsNone M30 c.args.form IsPagingMessage message_body (paging_reading c.args.form) c.args.capsule.now
+    Tells IsPagingMessage (paging_capsule c.args.form) (paging_reading c.args.form) c.args.capsule.now c.from_residual.result
 uncapsuled_at c =
-    uncapsuled M30 c.args.form IsPagingMessage message_body body_reading (paging_reading c.args.form)
-    c.args.capsule.now (are_read c.args.form)
-    (λ inside fills spelled. cc (c.in_err-count.ensures.only inside fills spelled))
+    uncapsuled c.args.capsule.now c.from_residual.result (are_read c.args.form)
+    (λ inside fills spelled. cc (c.in_err-count.ensures.only inside fills spelled)) (search rules)
 
-read_at : (c : In-Some) →
-    IsDecoded M30 c.args.form IsPagingMessage message_body (paging_reading c.args.form)
-    c.args.capsule.now c.in-Some.message
-read_at c =
-    decoded M30 c.args.form IsPagingMessage message_body body_reading (paging_reading c.args.form)
-    c.args.capsule.now c.of-body.result c.in-Some.message (are_read c.args.form)
-    (rw c.of-body.ensures c.in_ok-count.ensures.found) c.in-Some.ensures
-
-unread_at : (c : In-None) →
-    IsNone M30 c.args.form IsPagingMessage message_body (paging_reading c.args.form) c.args.capsule.now
-unread_at c =
-    undecoded M30 c.args.form IsPagingMessage message_body body_reading (paging_reading c.args.form)
-    c.args.capsule.now c.of-body.result (are_read c.args.form) (rw c.of-body.ensures c.in_ok-count.ensures.found)
-    c.in-None.ensures
+told_at : (c : After-ok_or) →
+    Tells IsPagingMessage (paging_capsule c.args.form) (paging_reading c.args.form) c.args.capsule.now c.ok_or.result
+told_at c =
+    told c.args.capsule.now c.of-body.result c.read.result c.ok_or.result (are_read c.args.form)
+    (rw c.of-body.ensures c.in_ok-count.ensures.found) c.read.ensures c.ok_or.ensures.value
 
 pub returns-in_err-count-clause-only : goal.returns-in_err-count-clause-only
-unfolding paging_capsule
-returns-in_err-count-clause-only c m is same = absurd ((uncapsuled_at c).never m is same)
+returns-in_err-count-clause-only c = (uncapsuled_at c).only
 
 pub returns-in_err-count-clause-reading : goal.returns-in_err-count-clause-reading
-returns-in_err-count-clause-reading c =
-    fault_read c.from_residual.result (search rules) ∙ sym (uncapsuled_at c).reading
+returns-in_err-count-clause-reading c = (uncapsuled_at c).reading
 
-pub returns-in-Some-clause-found : goal.returns-in-Some-clause-found
-unfolding paging_capsule
-returns-in-Some-clause-found c = (read_at c).found
+pub returns-clause-found : goal.returns-clause-found
+returns-clause-found c = (told_at c).found
 
-pub returns-in-Some-clause-only : goal.returns-in-Some-clause-only
-unfolding paging_capsule
-returns-in-Some-clause-only c m is same = ap Ok ((read_at c).only m is same)
+pub returns-clause-only : goal.returns-clause-only
+returns-clause-only c = (told_at c).only
 
-pub returns-in-Some-clause-reading : goal.returns-in-Some-clause-reading
-returns-in-Some-clause-reading c = sym (read_at c).reading
+pub returns-clause-reading : goal.returns-clause-reading
+returns-clause-reading c = (told_at c).reading
 
-pub returns-in-Some-clause-bad_body : goal.returns-in-Some-clause-bad_body
-unfolding paging_capsule
-returns-in-Some-clause-bad_body c =
-    let found = (read_at c).found in
-    (λ bad. absurd (cc bad), λ none. absurd (none.2 c.in-Some.message found.0 found.1))
-
-pub returns-in-None-clause-only : goal.returns-in-None-clause-only
-unfolding paging_capsule
-returns-in-None-clause-only c m is same = absurd ((unread_at c).never m is same)
-
-pub returns-in-None-clause-reading : goal.returns-in-None-clause-reading
-returns-in-None-clause-reading c = sym (unread_at c).reading
-
-pub returns-in-None-clause-bad_body : goal.returns-in-None-clause-bad_body
-unfolding paging_capsule
-returns-in-None-clause-bad_body c =
-    let told = whole_checked M30 c.args.form c.args.capsule.now c.of-body.result
-    (rw c.of-body.ensures c.in_ok-count.ensures.found) in
-    (λ bad. (told.0, told.1, (unread_at c).never), λ none. refl)
+pub returns-clause-bad_body : goal.returns-clause-bad_body
+returns-clause-bad_body c =
+    bad_body_told M30 c.args.form c.args.capsule.now c.of-body.result c.read.result c.ok_or.result
+    (rw c.of-body.ensures c.in_ok-count.ensures.found) c.ok_or.ensures.value (told_at c)

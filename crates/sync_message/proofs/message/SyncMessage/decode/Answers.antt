@@ -1,75 +1,63 @@
 -- Why `decode` of `message::SyncMessage` keeps its contract.
-use Rattle.std.proofs.Common.{rules, refl, sym, ap, ◌∙◌, Ok}
-use Rattle.quality_bits.proofs.Decoded.{decoded, fault_read, uncapsuled, undecoded, whole_checked, IsDecoded, IsNone}
+use Rattle.std.proofs.Common.{rules, refl, None, Some, Ok, Err}
+use Rattle.quality_bits.proofs.Decoded.{Tells, bad_body_told, told, uncapsuled}
 use Rattle.quality_bits.specs.declared.kind.Kind.TheVariants.{M30}
-use Rattle.sync_message.specs.Layouts.{sync_body_reading}
+use Rattle.quality_bits.specs.declared.message_fault.MessageFault.TheVariants.{BadBody}
 use Rattle.sync_message.specs.Reading.{sync_reading}
-use Rattle.sync_message.specs.SyncMessage.{sync_body, sync_capsule, IsSyncMessage}
+use Rattle.sync_message.specs.SyncMessage.{sync_capsule, IsSyncMessage}
 use Rattle.sync_message.proofs.Readings.{are_read}
 use Rattle.sync_message.proofs.message.SyncMessage.decode.Goals as goal
 use Rattle.sync_message.proofs.message.SyncMessage.decode.Goals.{After-from_residual, In-None, In-Some}
 
 -- what is known at the three exits
 uncapsuled_at : (c : After-from_residual) →
-    IsNone M30 c.args.form IsSyncMessage sync_body (sync_reading c.args.form) c.args.capsule.now
+    Tells IsSyncMessage (sync_capsule c.args.form) (sync_reading c.args.form) c.args.capsule.now c.from_residual.result
 uncapsuled_at c =
-    uncapsuled M30 c.args.form IsSyncMessage sync_body sync_body_reading (sync_reading c.args.form)
-    c.args.capsule.now (are_read c.args.form)
-    (λ inside fills spelled. cc (c.in_err-count.ensures.only inside fills spelled))
+    uncapsuled c.args.capsule.now c.from_residual.result (are_read c.args.form)
+    (λ inside fills spelled. cc (c.in_err-count.ensures.only inside fills spelled)) (search rules)
 
 read_at : (c : In-Some) →
-    IsDecoded M30 c.args.form IsSyncMessage sync_body (sync_reading c.args.form) c.args.capsule.now
-    c.in-Some.fields
+    Tells IsSyncMessage (sync_capsule c.args.form) (sync_reading c.args.form) c.args.capsule.now (Ok c.in-Some.fields)
 read_at c =
-    decoded M30 c.args.form IsSyncMessage sync_body sync_body_reading (sync_reading c.args.form)
-    c.args.capsule.now c.of-body.result c.in-Some.fields (are_read c.args.form)
-    (rw c.of-body.ensures c.in_ok-count.ensures.found) c.in-Some.ensures
+    told c.args.capsule.now c.of-body.result (Some c.in-Some.fields) (Ok c.in-Some.fields) (are_read c.args.form)
+    (rw c.of-body.ensures c.in_ok-count.ensures.found) c.in-Some.ensures refl
 
 unread_at : (c : In-None) →
-    IsNone M30 c.args.form IsSyncMessage sync_body (sync_reading c.args.form) c.args.capsule.now
+    Tells IsSyncMessage (sync_capsule c.args.form) (sync_reading c.args.form) c.args.capsule.now (Err BadBody)
 unread_at c =
-    undecoded M30 c.args.form IsSyncMessage sync_body sync_body_reading (sync_reading c.args.form)
-    c.args.capsule.now c.of-body.result (are_read c.args.form) (rw c.of-body.ensures c.in_ok-count.ensures.found)
-    c.in-None.ensures
+    told c.args.capsule.now c.of-body.result None (Err BadBody) (are_read c.args.form)
+    (rw c.of-body.ensures c.in_ok-count.ensures.found) c.in-None.ensures refl
 
 pub returns-in_err-count-clause-only : goal.returns-in_err-count-clause-only
-unfolding sync_capsule
-returns-in_err-count-clause-only c m is same = absurd ((uncapsuled_at c).never m is same)
+returns-in_err-count-clause-only c = (uncapsuled_at c).only
 
 pub returns-in_err-count-clause-reading : goal.returns-in_err-count-clause-reading
-returns-in_err-count-clause-reading c =
-    fault_read c.from_residual.result (search rules) ∙ sym (uncapsuled_at c).reading
+returns-in_err-count-clause-reading c = (uncapsuled_at c).reading
 
 pub returns-in-Some-clause-found : goal.returns-in-Some-clause-found
-unfolding sync_capsule
 returns-in-Some-clause-found c = (read_at c).found
 
 pub returns-in-Some-clause-only : goal.returns-in-Some-clause-only
-unfolding sync_capsule
-returns-in-Some-clause-only c m is same = ap Ok ((read_at c).only m is same)
+returns-in-Some-clause-only c = (read_at c).only
 
 pub returns-in-Some-clause-reading : goal.returns-in-Some-clause-reading
-returns-in-Some-clause-reading c = sym (read_at c).reading
+returns-in-Some-clause-reading c = (read_at c).reading
 
 pub returns-in-Some-clause-bad_body : goal.returns-in-Some-clause-bad_body
-unfolding sync_capsule
 returns-in-Some-clause-bad_body c =
-    let found = (read_at c).found in
-    (λ bad. absurd (cc bad), λ none. absurd (none.2 c.in-Some.fields found.0 found.1))
+    bad_body_told M30 c.args.form c.args.capsule.now c.of-body.result (Some c.in-Some.fields) (Ok c.in-Some.fields)
+    (rw c.of-body.ensures c.in_ok-count.ensures.found) refl (read_at c)
 
 pub invariant_of-result : goal.invariant_of-result
 invariant_of-result c = (read_at c).found.0
 
 pub returns-in-None-clause-only : goal.returns-in-None-clause-only
-unfolding sync_capsule
-returns-in-None-clause-only c m is same = absurd ((unread_at c).never m is same)
+returns-in-None-clause-only c = (unread_at c).only
 
 pub returns-in-None-clause-reading : goal.returns-in-None-clause-reading
-returns-in-None-clause-reading c = sym (unread_at c).reading
+returns-in-None-clause-reading c = (unread_at c).reading
 
 pub returns-in-None-clause-bad_body : goal.returns-in-None-clause-bad_body
-unfolding sync_capsule
 returns-in-None-clause-bad_body c =
-    let told = whole_checked M30 c.args.form c.args.capsule.now c.of-body.result
-    (rw c.of-body.ensures c.in_ok-count.ensures.found) in
-    (λ bad. (told.0, told.1, (unread_at c).never), λ none. refl)
+    bad_body_told M30 c.args.form c.args.capsule.now c.of-body.result None (Err BadBody)
+    (rw c.of-body.ensures c.in_ok-count.ensures.found) refl (unread_at c)
