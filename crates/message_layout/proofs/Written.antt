@@ -29,10 +29,20 @@ length-spelling s c =
       length-append (record_bits s c) c.rest,
     )
 
--- so many bits were written
-pub longer : (before part after : List Bool) → after ≡ before ++ part →
-    length after ≡ length before + length part
-longer before part after is = ap length is ∙ length-append before part
+-- There is room for what is left to write: for all at the start, and after each part that was
+-- written for the parts after it.
+pub room_first : (s : MessageShape) (c : Contents) (first : List Bool) →
+    length first + length (spelling s c) ≤ 1184 →
+    length first + (length (fixed_bits s c) + (length (group_bits s c)
+    + (length (octets_of s c) + (length (record_bits s c) + length c.rest)))) ≤ 1184
+room_first s c first room = omega (arith, room, length-spelling s c)
+
+pub room_after : (before part after : List Bool) (more : ℕ) → after ≡ before ++ part →
+    length before + (length part + more) ≤ 1184 → length after + more ≤ 1184
+room_after before part after more is room = omega (arith, room, ap length is ∙ length-append before part)
+
+pub room_of_part : (before part more : ℕ) → before + (part + more) ≤ 1184 → before + part ≤ 1184
+room_of_part before part more room = omega (arith, room)
 
 -- A body to which the fixed fields, the group, the octets, the records and the rest were added one
 -- after the other has the contents' spelling at its end: it makes no difference which of these are

@@ -1,6 +1,6 @@
 -- Why `read_parts` of `reading` keeps its contract.
-use Rattle.message_layout.proofs.Common.{drop, length, arith, length-map, shape}
-use Rattle.message_layout.proofs.Lawful.{count_below, lawful}
+use Rattle.message_layout.proofs.Common.{drop, length, arith, shape}
+use Rattle.message_layout.proofs.Lawful.{count_below, fixed_few, group_few, lawful, records_few}
 use Rattle.message_layout.proofs.Parts.{octets_left}
 use Rattle.message_layout.proofs.reading.read_parts.Goals as goal
 
@@ -8,23 +8,13 @@ pub read_fields-requires-clause-widths : goal.read_fields-requires-clause-widths
 read_fields-requires-clause-widths c = (lawful (shape c.args.layout.now) c.requires.lawful).fixed
 
 pub read_fields-requires-clause-room : goal.read_fields-requires-clause-room
-read_fields-requires-clause-room c =
-    omega (
-      arith,
-      (lawful (shape c.args.layout.now) c.requires.lawful).fixed_room,
-      length-map c.args.layout.now.fixed.now (λ row. row.1),
-    )
+read_fields-requires-clause-room c = fixed_few c.args.layout.now c.requires.lawful
 
 pub read_group-requires-clause-widths : goal.read_group-requires-clause-widths
 read_group-requires-clause-widths c = (lawful (shape c.args.layout.now) c.requires.lawful).group
 
 pub read_group-requires-clause-room : goal.read_group-requires-clause-room
-read_group-requires-clause-room c =
-    omega (
-      arith,
-      (lawful (shape c.args.layout.now) c.requires.lawful).group_room,
-      length-map c.args.layout.now.group.fields.now (λ row. row.1),
-    )
+read_group-requires-clause-room c = group_few c.args.layout.now c.requires.lawful
 
 pub read_octets-requires-clause-zeros : goal.read_octets-requires-clause-zeros
 read_octets-requires-clause-zeros c = (lawful (shape c.args.layout.now) c.requires.lawful).zeros
@@ -39,12 +29,7 @@ pub read_records-requires-clause-narrow : goal.read_records-requires-clause-narr
 read_records-requires-clause-narrow c = (lawful (shape c.args.layout.now) c.requires.lawful).narrow
 
 pub read_records-requires-clause-few : goal.read_records-requires-clause-few
-read_records-requires-clause-few c =
-    omega (
-      arith,
-      (lawful (shape c.args.layout.now) c.requires.lawful).few,
-      length-map c.args.layout.now.records.fields.now (λ row. row.1),
-    )
+read_records-requires-clause-few c = records_few c.args.layout.now c.requires.lawful
 
 -- There is room for the records: no more of them fit into the bits left after the octets than into
 -- all bits of the message, and those are at most 128.
