@@ -17,6 +17,7 @@ pub use Rattle.std.specs.Option.{option_map_or}
 pub use Rattle.std.specs.Prelude.{All, MatchOption, not, option_and_then, option_map, option_to_list}
 pub use Rattle.cdma_io.specs.SampleFile.{HasBits, integer_width_of}
 pub use Rattle.chip_core.proofs.BitLists.{taken_more, zip_push}
+pub use Rattle.chip_core.proofs.Counted.{flat_map-zero}
 pub use Rattle.chip_core.proofs.FieldLists.{length-binary}
 pub use Rattle.chip_core.proofs.Places.{get_or-map-places, length-map-places, map-places-all, map-places-more, places-none}
 pub use Rattle.chip_core.proofs.Ranges.{flat_map-places-more}
@@ -32,7 +33,7 @@ pub use Rattle.chip_core.specs.declared.width.Width.{Width}
 pub use Rattle.chip_core.specs.declared.width.Width.TheVariants.{Eight, Sixteen}
 pub use Rattle.conv_code.specs.ConvCode.{code_symbols, state_after}
 pub use Rattle.paging_message.proofs.Carried.{laid_is_carried, rate_large}
-pub use Rattle.paging_message.proofs.Layings.{flat-none, padded_framed}
+pub use Rattle.paging_message.proofs.Layings.{padded_framed}
 pub use Rattle.paging_message.specs.Admitted.{HasMessage}
 pub use Rattle.paging_message.specs.HalfFrames.{bits_left, half_frame_body}
 pub use Rattle.quality_bits.proofs.Wholes.{length-capsule, whole-capsule}

@@ -3,7 +3,7 @@ use Rattle.cell_plan.proofs.Common.{◌≡◌, ℕ, zero, suc, ◌+◌, ◌-◌,
 use Rattle.cell_plan.proofs.Common.{take, drop, map, get_or, replicate, refl, sym, ap, ◌∙◌, arith, length-append, length-drop, inl, inr}
 use Rattle.cell_plan.proofs.Common.{subst, flat_map, cases_lt, at_drop_more, length-replicate, length-take-le, map-append, take_all}
 use Rattle.cell_plan.proofs.Common.{take_more, div-mul-add, mod-mul-add, div-add-mod, mod-lt, mod_self, places, CheckForm, capsule, M30}
-use Rattle.cell_plan.proofs.Common.{length-capsule, Rate, half_frame_body, flat_map-places-more, flat-none, padded_framed, Page}
+use Rattle.cell_plan.proofs.Common.{length-capsule, Rate, half_frame_body, flat_map-places-more, flat_map-zero, padded_framed, Page}
 use Rattle.quality_bits.specs.declared.rate.Rate.TheVariants as rates
 use Rattle.paging_message.specs.Laying as laying
 use Rattle.cell_plan.specs.Pages as specs
@@ -52,7 +52,7 @@ length-on size l false c =
 whole_halves : (size : ℕ) (starts : List ℕ) (body : List Bool) (h : ℕ) → size * h ≤ length body →
     length (flat_map (laying.half_frame size starts body) (places h)) ≡ h + size * h
 whole_halves size starts body zero within =
-    ap length (flat-none (laying.half_frame size starts body)) ∙ omega arith
+    ap length (flat_map-zero (laying.half_frame size starts body)) ∙ omega arith
 whole_halves size starts body (suc h) within =
     let next : suc h ≡ h + 1 = omega arith in
     let more : size * suc h ≡ size * h + size = omega arith in

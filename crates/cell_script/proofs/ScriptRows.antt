@@ -7,6 +7,7 @@ use Rattle.cell_script.proofs.Common.{PagingPlan, PilotPlan, SyncPlan, TrafficPl
 use Rattle.cell_script.proofs.Common.{ChannelLine, channel, channel_lines, first_channels, gain_fault, is_used, long_fault, loud_fault}
 use Rattle.cell_script.proofs.Common.{paging_lines, plan_fault, repeated, repeated_behind, silent, traffic_lines, walsh_fault, on_last}
 use Rattle.cell_script.proofs.Common.{with_page, map, one_frame_more, one_page_more, with_frame, gains_of, judged_fault, HasJudged, HasSeen}
+use Rattle.std.proofs.Math.Bool.{or-false}
 
 -- ---- one line more
 
@@ -83,12 +84,8 @@ used_row used ls l k long inside before = elim (cases_eq l.row k) [
       ∙ before
       ∙ sym (used-append k ls l
       ∙ ap (λ (b : Bool). is_used k ls || b) (ne_eqb l.row k other)
-      ∙ or_false (is_used k ls))
+      ∙ or-false (is_used k ls))
 ]
-  where
-    or_false : (b : Bool) → (b || false) ≡ b
-    or_false true = refl
-    or_false false = refl
 
 pub one_row : (rows more : ChannelRows) (ls : List ChannelLine) (l : ChannelLine) (is : Bool) →
     l.row < 64 → is ≡ get_or rows.used l.row false →

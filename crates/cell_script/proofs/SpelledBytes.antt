@@ -8,6 +8,7 @@ use Rattle.cell_script.proofs.Common.{eqb-true, le-leb, leb-true, ne_eqb, digits
 use Rattle.cell_script.proofs.Common.{length-encode_with, IsBytes, encode_lower, encode_with, lower_digits, number_lt, number, bit_text}
 use Rattle.cell_script.proofs.Common.{digit_of, digits_of, octet_count, packed_octets, padded, serial_digits, state_digits, is_line}
 use Rattle.cell_script.proofs.Common.{length_before}
+use Rattle.line_text.proofs.Digits.{length-packed}
 use Rattle.cell_script.proofs.ScriptNumerals.{own_numerals}
 
 -- whether all bytes are in a range
@@ -222,17 +223,12 @@ octet_small bits =
     let most : 2 ^ length (take 8 bits) ≤ 2 ^ 8 = pow-le-pow_right (omega arith) few in
     omega (arith, number_lt (take 8 bits), most)
 
--- the octets of bits, and how many
+-- the octets of bits
 pub octets_are : (count : ℕ) (bits : List Bool) → IsBytes (packed_octets count bits)
 unfolding packed_octets
 octets_are zero bits i = omega arith
 octets_are (suc count) bits zero = octet_small bits
 octets_are (suc count) bits (suc i) = octets_are count (drop 8 bits) i
-
-pub octets_long : (count : ℕ) (bits : List Bool) → length (packed_octets count bits) ≡ count
-unfolding packed_octets
-octets_long zero bits = refl
-octets_long (suc count) bits = ap suc (octets_long count (drop 8 bits))
 
 abbrev pub octet_digits : List Bool → List ℕ
 octet_digits bits = encode_lower (packed_octets (octet_count bits) (padded bits))
@@ -246,7 +242,7 @@ octet_digits_within bits =
 pub octet_digits_long : (bits : List Bool) → length (octet_digits bits) ≡ 2 * octet_count bits
 octet_digits_long bits =
     let all = length-encode_with lower_digits (packed_octets (octet_count bits) (padded bits)) in
-    omega (arith, all, octets_long (octet_count bits) (padded bits))
+    omega (arith, all, length-packed (octet_count bits) (padded bits))
 
 -- the whole text of bits
 pub bit_text_within : (bits : List Bool) → length bits < 2 ^ 64 →

@@ -1,10 +1,10 @@
 -- Sums of complex numbers, and products with a conjugate.
-use Rattle.std.proofs.Common.{◌≡◌, zero, suc, ◌*◌, List, [], ◌∷◌, ◌++◌, refl, sym, ap, ◌∙◌, arith, ℤ, pos, negsuc, ◌+ℤ◌, ◌-ℤ◌, ◌*ℤ◌}
+use Rattle.std.proofs.Common.{◌≡◌, List, [], ◌∷◌, ◌++◌, sym, ap, ◌∙◌, arith, ℤ, pos, ◌+ℤ◌, ◌-ℤ◌, ◌*ℤ◌}
 use Rattle.std.proofs.lemmas.Int.{ints}
-use Rattle.std.proofs.Math.IntN.{neg_ℤ, neg_ℤ-neg_ℤ, +ℤ_assoc}
-use Rattle.std.proofs.Math.Nat.{mul-zero}
+use Rattle.std.proofs.Math.IntN.{neg_ℤ, +ℤ_assoc}
 use Rattle.chip_core.specs.Complex.{origin, plus, sum_of}
 use Rattle.chip_core.specs.declared.sample.Pair.{Pair}
+use Rattle.chip_core.proofs.Ring.{times_neg}
 
 pub plus_assoc : (x y z : Pair) → plus (plus x y) z ≡ plus x (plus y z)
 plus_assoc x y z =
@@ -29,17 +29,9 @@ sum_of-append [] ys = sym (origin-plus (sum_of ys))
 sum_of-append (x ∷ xs) ys =
     ap (plus x) (sum_of-append xs ys) ∙ sym (plus_assoc x (sum_of xs) (sum_of ys))
 
-pub times-neg : (x y : ℤ) → x *ℤ neg_ℤ y ≡ neg_ℤ (x *ℤ y)
-times-neg (pos m) (pos zero) = rw (mul-zero m)
-times-neg (pos m) (pos (suc k)) = refl
-times-neg (pos m) (negsuc k) = sym (neg_ℤ-neg_ℤ (pos (m * suc k)))
-times-neg (negsuc m) (pos zero) = rw (mul-zero (suc m))
-times-neg (negsuc m) (pos (suc k)) = sym (neg_ℤ-neg_ℤ (pos (suc m * suc k)))
-times-neg (negsuc m) (negsuc k) = refl
-
 -- the parts of (x + iy) times the conjugate of (c + id)
 pub real_part : (x y c d : ℤ) → (x *ℤ c) +ℤ (y *ℤ d) ≡ (x *ℤ c) -ℤ (y *ℤ neg_ℤ d)
-real_part x y c d = rw (times-neg y d) (omega (arith, ints))
+real_part x y c d = rw (times_neg y d) (omega (arith, ints))
 
 pub imaginary_part : (x y c d : ℤ) → (y *ℤ c) -ℤ (x *ℤ d) ≡ (x *ℤ neg_ℤ d) +ℤ (y *ℤ c)
-imaginary_part x y c d = rw (times-neg x d) (omega (arith, ints))
+imaginary_part x y c d = rw (times_neg x d) (omega (arith, ints))

@@ -1,10 +1,18 @@
 -- A list that a loop reads from its start: what stands at a place, what is left, what is found first.
 use Rattle.std.proofs.Common.{◌≡◌, ℕ, zero, suc, ◌+◌, ◌<◌, Bool, true, false, List, [], ◌∷◌, length, drop, get_or, refl, ap, ◌∙◌}
-use Rattle.std.proofs.Common.{arith, Some}
+use Rattle.std.proofs.Common.{arith, nat_eq, Some, sym, ⊎_elim}
 use Rattle.std.specs.Prelude.{cond, slice_get}
 use Rattle.std.specs.List.{find}
+use Rattle.std.proofs.lemmas.Bool.{cases_eq, eq-eqb, ne_eqb}
 use Rattle.std.proofs.lemmas.List.{drop_more}
 use Rattle.std.proofs.lemmas.Option.{get_or_from_slice_get}
+
+-- whether two numbers are the same is asked either way round
+pub nat_eq-flipped : (x y : ℕ) → nat_eq x y ≡ nat_eq y x
+nat_eq-flipped x y = ⊎_elim
+    (λ same. eq-eqb x y same ∙ sym (eq-eqb y x (sym same)))
+    (λ other. ne_eqb x y other ∙ sym (ne_eqb y x (λ same. other (sym same))))
+    (cases_eq x y)
 
 -- at a place within a list it doesn't matter what stands for its end
 pub any_default : {A : Type 0} (xs : List A) (n : ℕ) (d e : A) → n < length xs →

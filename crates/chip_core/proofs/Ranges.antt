@@ -128,6 +128,15 @@ pub filter_none_places : (p : ℕ → Bool) (n : ℕ) → ((k : ℕ) → k < n �
 unfolding places
 filter_none_places p n h = filter_none_range p 0 n (λ k l below. h k (omega arith))
 
+-- all pass a test that each passes
+pub every : (xs : List ℕ) → filter (λ k. true) xs ≡ xs
+every [] = refl
+every (x ∷ xs) = ap (λ (ys : List ℕ). x ∷ ys) (every xs)
+
+pub filter_all_places : (p : ℕ → Bool) (n : ℕ) → ((k : ℕ) → k < n → p k ≡ true) →
+    filter p (places n) ≡ places n
+filter_all_places p n all = filter_ext_places p (λ k. true) n all ∙ every (places n)
+
 pub filter_first_places : (p : ℕ → Bool) (n m : ℕ) → m < n → p m ≡ true →
     ((k : ℕ) → k < m → p k ≡ false) →
     filter p (places n) ≡ m ∷ filter (λ k. nat_le (m + 1) k && p k) (places n)

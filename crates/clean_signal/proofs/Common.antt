@@ -33,6 +33,7 @@ pub use Rattle.cell_plan.specs.declared.plan.CellPlan.{CellPlan}
 pub use Rattle.cell_plan.specs.declared.plan.PagingPlan.{PagingPlan}
 pub use Rattle.cell_plan.specs.declared.plan.SyncPlan.{SyncPlan}
 pub use Rattle.cell_plan.specs.declared.plan.TrafficPlan.{TrafficPlan}
+pub use Rattle.chip_core.proofs.Counted.{flat_map-next, flat_map-zero}
 pub use Rattle.chip_core.proofs.IndexSums.{sum_append, sum_none, sum_same}
 pub use Rattle.chip_core.proofs.Places.{get_or-map-places, length-map-places, map-places-all}
 pub use Rattle.chip_core.proofs.Ranges.{flat_map_ext_places}
@@ -51,7 +52,7 @@ pub use Rattle.conv_code.proofs.Distinct.{distinct}
 pub use Rattle.conv_code.specs.ConvCode.{code_symbols, state_after}
 pub use Rattle.frame_decoder.proofs.BestCodewords.{best_codeword-same, own_is}
 pub use Rattle.frame_decoder.proofs.Gathered.{length-gathered_span}
-pub use Rattle.frame_decoder.proofs.Parts.{frames-more, frames-none, length-frames, take-frames, within}
+pub use Rattle.frame_decoder.proofs.Parts.{length-frames, take-frames, within}
 pub use Rattle.frame_decoder.proofs.Scores.{score_is}
 pub use Rattle.frame_decoder.specs.Spans.{Channel, channel_for, gathered_span, own_bits, score, sending, sent_symbols}
 pub use Rattle.frame_decoder.specs.declared.span_format.FrameKind.{FrameKind}

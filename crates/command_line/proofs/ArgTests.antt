@@ -9,6 +9,7 @@ use Rattle.command_line.proofs.Common.{long_of, long_of_rest, short_of, short_of
 use Rattle.command_line.proofs.Common.{EightDigits, Given, OptionEntry, Text, added, form_admits, given_behind, has_name, is_allowed}
 use Rattle.command_line.proofs.Common.{is_joined, is_named_in, option_joined, names, argument_number_in, part_by, part_of, parted}
 use Rattle.command_line.proofs.Common.{eight_digits_in, value_spelled_in, text_in, value_in}
+use Rattle.std.proofs.Math.Bool.{or-false}
 
 -- ---- an item of a list after the first k of them
 
@@ -249,10 +250,6 @@ part_missing entries given (arg ∷ args) inside e = go (long_of arg) args refl 
 
 -- ---- names before a place
 
-or_none : (b : Bool) → b || false ≡ b
-or_none true = refl
-or_none false = refl
-
 any-append : {X : Type 0} (p : X → Bool) (xs ys : List X) →
     list_any p (xs ++ ys) ≡ list_any p xs || list_any p ys
 any-append p [] ys = refl
@@ -284,7 +281,7 @@ part_named other (arg ∷ args) part e plain = go (long_of arg) args refl e
     go None ws is found = search rules
     go (Some (name, Some text)) ws is found =
         subst (Named other (arg ∷ ws)) (same_part (name, text, 1) part found)
-        (or_none (names other arg) ∙ names_of_long other arg name (Some text) is)
+        (or-false (names other arg) ∙ names_of_long other arg name (Some text) is)
     go (Some (name, None)) [] is found = search rules
     go (Some (name, None)) (text ∷ ws) is found =
         let same = same_part (name, text, 2) part found in
@@ -294,7 +291,7 @@ part_named other (arg ∷ args) part e plain = go (long_of arg) args refl e
         ap (λ (p : Option (Text × Option Text)). option_map_or (λ q. bytes_eq q.0 other) p false)
         quiet.long in
         subst (Named other (arg ∷ text ∷ ws)) same
-        (ap (λ (b : Bool). names other arg || (b || false)) unnamed ∙ or_none (names other arg)
+        (ap (λ (b : Bool). names other arg || (b || false)) unnamed ∙ or-false (names other arg)
         ∙ names_of_long other arg name None is)
 
 -- ---- the test of all arguments
@@ -345,7 +342,7 @@ stands_next entries texts place next part next_is is unnamed allowed s =
           ∙ ap (λ (g : Option Given). given_behind entries g (drop part.2 (drop place texts))) added_is
           ∙ ap (given_behind entries (Some more)) (sym (drop-plus next place part.2 texts next_is)),
       λ name. any-append (λ (p : Text × Text). bytes_eq p.0 name) given ((part.0, part.1) ∷ [])
-          ∙ ap (λ (b : Bool). has_name name given || b) (or_none (bytes_eq part.0 name))
+          ∙ ap (λ (b : Bool). has_name name given || b) (or-false (bytes_eq part.0 name))
           ∙ ap₂ (λ (a b : Bool). a || b) (s.2 name)
           (sym (part_named name (drop place texts) part is
           (value_plain entries part.0 part.1 allowed)))

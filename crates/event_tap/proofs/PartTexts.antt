@@ -1,7 +1,7 @@
 -- Lemmas on what lines of messages have in common: items joined by commas, values after their
 -- names, and the text of few bits.
 use Rattle.std.proofs.Common.{◌≡◌, ℕ, zero, suc, ◌+◌, ◌^◌, ◌<◌, ◌≤◌, ◌&&◌, nat_lt, Bool, true, All, List, [], ◌∷◌, Some, slice_get}
-use Rattle.std.proofs.Common.{◌++◌, length, get_or, map, take, drop, codes, decimal, refl, sym, ap, ◌∙◌, arith, rules, append_assoc}
+use Rattle.std.proofs.Common.{◌++◌, length, get_or, map, take, codes, decimal, sym, ap, ◌∙◌, arith, rules, append_assoc}
 use Rattle.std.proofs.Common.{append-nil, length-append, subst}
 use Rattle.std.specs.List.{list_all}
 use Rattle.std.specs.Str.{IsAscii}
@@ -16,7 +16,7 @@ use Rattle.hex.proofs.HexLemmas.{length-encode_with}
 use Rattle.chip_core.specs.Fields.{field, FieldsFit, in_widths}
 use Rattle.chip_core.proofs.ValueLists.{fit_value}
 use Rattle.line_text.specs.Texts.{bit_text, spaced_key, octet_count, packed_octets, padded}
-use Rattle.line_text.proofs.Digits.{all_below}
+use Rattle.line_text.proofs.Digits.{all_below, length-packed}
 use Rattle.event_tap.specs.Parts.{are_short, commas, comma_before, named_values}
 
 -- no items yet
@@ -137,11 +137,6 @@ value_short names widths values i short fit within behind =
 
 -- THE TEXT OF FEW BITS
 
-length-octets : (count : ℕ) (bits : List Bool) → length (packed_octets count bits) ≡ count
-unfolding packed_octets
-length-octets zero bits = refl
-length-octets (suc count) bits = ap suc (length-octets count (drop 8 bits))
-
 -- two digits for each octet, after at most two for the count and a colon
 length-few_bits : (bits : List Bool) → length bits ≤ 56 → length (bit_text bits) ≤ 17
 unfolding bit_text
@@ -154,7 +149,7 @@ length-few_bits bits few =
       length-append (decimal (length bits)) (codes ":"),
       length-decimal-le 2 (length bits) (omega arith) (omega (arith, few)) (omega (arith, few)),
       length-encode_with lower_digits inside,
-      length-octets (octet_count bits) (padded bits),
+      length-packed (octet_count bits) (padded bits),
     )
 
 -- they stand alone in a text

@@ -4,7 +4,7 @@ pub use Rattle.std.proofs.Common.{false, filter, get_or, inl, inr, length, lengt
 pub use Rattle.std.proofs.Common.{negsuc, pos, refl, replicate, reverse, rules, set, subst, suc, sum_by, sym, take, take_all, true}
 pub use Rattle.std.proofs.Common.{unsigned_abs, zero, ℕ, ℤ, ⊎_elim, ◌&&◌, ◌*◌, ◌++◌, ◌+ℤ◌, ◌+◌, ◌-◌, ◌<◌, ◌^◌, ◌||◌, ◌∙◌, ◌∷◌, ◌≡◌, ◌≢◌}
 pub use Rattle.std.proofs.Common.{◌≤ℤ◌, ◌≤◌, ◌⊎◌}
-pub use Rattle.std.proofs.Math.Bool.{beq}
+pub use Rattle.std.proofs.Math.Bool.{beq, or-false}
 pub use Rattle.std.proofs.Math.Seq.{take-add}
 pub use Rattle.std.proofs.lemmas.Bool.{cases_Bool, cases_eq, cases_lt, eq-eqb, ne_eqb}
 pub use Rattle.std.proofs.lemmas.Grind.{flat_map-append}
@@ -25,7 +25,8 @@ pub use Rattle.std.specs.List.{find, flat_map, range_with_len}
 pub use Rattle.std.specs.List.Sorted.{IsStrictlyIncreasing}
 pub use Rattle.std.specs.Option.{option_map}
 pub use Rattle.std.specs.Prelude.{IsTrue, None, Option, Some, if◌then◌else◌, int_lt, ◌*ℤ◌, ◌<ℤ◌, ◌↔◌}
-pub use Rattle.chip_core.proofs.Greatest.{first_greatest-is}
+pub use Rattle.chip_core.proofs.Counted.{flat_map-next, flat_map-zero}
+pub use Rattle.chip_core.proofs.Greatest.{first_greatest-is, tested, untested}
 pub use Rattle.chip_core.proofs.Places.{get_or-map-places, length-map-places, map-places-all, places-more, places-none, places_is}
 pub use Rattle.chip_core.specs.Bits.{binary, places, sign}
 pub use Rattle.chip_core.specs.Sums.{IsFirstGreatest}

@@ -2,7 +2,8 @@
 use Rattle.frame_decoder.proofs.Common.{◌≡◌, ℕ, ◌+◌, ◌-◌, ◌*◌, ◌≤◌, List, ◌++◌, length, take, drop, sym, ap, ◌∙◌, arith, add-one, ℤ, sum_by}
 use Rattle.frame_decoder.proofs.Common.{unsigned_abs, sum_by-append, sum_by-take-le, sum_by-take-drop, take-put_mid, put_mid, shape_of}
 use Rattle.frame_decoder.proofs.Common.{size, gathered, Kind, length-gathered, size_some, count_is, Channel, gathered_span}
-use Rattle.frame_decoder.proofs.Parts.{frames-none, frames-more, length-frames, take-frames}
+use Rattle.frame_decoder.proofs.Common.{flat_map-next, flat_map-zero}
+use Rattle.frame_decoder.proofs.Parts.{length-frames, take-frames}
 
 -- a channel whose frames are of a kind
 abbrev pub channel : Kind → ℕ → ℕ → Channel
@@ -31,7 +32,7 @@ pub none_gathered : (c : Channel) (softs out : List ℤ) →
     take (2 * c.bits * 0) out ≡ gathered_span c 0 softs
 none_gathered c softs out =
     let none : 2 * c.bits * 0 ≡ 0 = omega arith in
-    rw none (sym (frames-none (λ k. gathered c.shape c.repeats (frame_of (size c.shape) k softs))))
+    rw none (sym (flat_map-zero (λ k. gathered c.shape c.repeats (frame_of (size c.shape) k softs))))
 
 pub none_small : (code size : ℕ) (softs out : List ℤ) →
     sum_by unsigned_abs (take (code * 0) out) ≤ sum_by unsigned_abs (take (size * 0) softs)
@@ -65,7 +66,7 @@ one_gathered c code symbols k softs out part e f long room before here =
     written c.bits code k out part e long room
     ∙ ap (λ (xs : List ℤ). xs ++ part) before
     ∙ ap (λ (xs : List ℤ). gathered_span c k softs ++ xs) is
-    ∙ sym (frames-more f' k)
+    ∙ sym (flat_map-next f' k)
     ∙ ap (λ (n : ℕ). gathered_span c n softs) (sym (add-one k))
 
 -- What is gathered stays within the soft values' sizes with one frame more: the new frame's values

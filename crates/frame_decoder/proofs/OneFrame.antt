@@ -3,7 +3,7 @@ use Rattle.frame_decoder.proofs.Common.{◌≡◌, ℕ, ◌*◌, Bool, List, ◌
 use Rattle.frame_decoder.proofs.Common.{length-code_symbols, sent, Codeword, correlation, best_codeword, Free, Channel, sending}
 use Rattle.frame_decoder.proofs.Common.{sent_frames, score, IsOneFrame}
 use Rattle.frame_decoder.specs.Laws.{channel_frame_score}
-use Rattle.frame_decoder.proofs.Parts.{frames-none, frames-more}
+use Rattle.frame_decoder.proofs.Common.{flat_map-next, flat_map-zero}
 use Rattle.frame_decoder.proofs.BestCodewords.{length-best_codeword, best_codeword-same}
 
 sent_one : (c : Channel) (symbols : List Bool) → length symbols ≡ 2 * c.bits →
@@ -11,8 +11,8 @@ sent_one : (c : Channel) (symbols : List Bool) → length symbols ≡ 2 * c.bits
 sent_one c symbols long =
     let f = λ (k : ℕ). sent c.shape c.repeats (take (2 * c.bits) (drop (2 * c.bits * k) symbols)) in
     let none : 2 * c.bits * 0 ≡ 0 = omega arith in
-    frames-more f 0
-    ∙ ap (λ (xs : List Bool). xs ++ f 0) (frames-none f)
+    flat_map-next f 0
+    ∙ ap (λ (xs : List Bool). xs ++ f 0) (flat_map-zero f)
     ∙ ap (λ (k : ℕ). sent c.shape c.repeats (take (2 * c.bits) (drop k symbols))) none
     ∙ ap (sent c.shape c.repeats) (take_all (2 * c.bits) symbols (omega (arith, long)))
 

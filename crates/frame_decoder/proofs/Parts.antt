@@ -1,7 +1,6 @@
 -- Lists that are made frame by frame.
-use Rattle.frame_decoder.proofs.Common.{◌≡◌, ℕ, zero, suc, ◌+◌, ◌*◌, ◌<◌, ◌≤◌, List, [], ◌∷◌, ◌++◌, length, take, drop, refl, sym, ap, ◌∙◌}
-use Rattle.frame_decoder.proofs.Common.{arith, add-one, length-append, append-nil, flat_map, take-add, flat_map-append, places, places-none}
-use Rattle.frame_decoder.proofs.Common.{places-more}
+use Rattle.frame_decoder.proofs.Common.{◌≡◌, ℕ, zero, suc, ◌+◌, ◌*◌, ◌<◌, ◌≤◌, List, ◌++◌, length, take, drop, sym, ap, ◌∙◌}
+use Rattle.frame_decoder.proofs.Common.{arith, length-append, flat_map, flat_map-next, flat_map-zero, take-add, places}
 
 -- a frame lies within the span
 pub within : (size frames k : ℕ) → k < frames → size * k + size ≤ size * frames
@@ -15,27 +14,16 @@ within size (suc frames) (suc k) h =
     let other : size * suc k ≡ size + size * k = omega arith in
     omega (arith, rest, one, other)
 
--- what is made frame by frame, of no frame and of one more
-pub frames-none : {A : Type 0} (f : ℕ → List A) → flat_map f (places 0) ≡ []
-frames-none f = rw places-none refl
-
-pub frames-more : {A : Type 0} (f : ℕ → List A) (n : ℕ) →
-    flat_map f (places (suc n)) ≡ flat_map f (places n) ++ f n
-frames-more f n =
-    ap (λ (m : ℕ). flat_map f (places m)) (sym (add-one n))
-    ∙ ap (flat_map f) (places-more n)
-    ∙ flat_map-append f (places n) (n ∷ [])
-    ∙ ap (λ (xs : List _). flat_map f (places n) ++ xs) (append-nil (f n))
-
+-- what is made frame by frame is as long as its frames
 pub length-frames : {A : Type 0} (f : ℕ → List A) (size n : ℕ) → ((k : ℕ) → length (f k) ≡ size) →
     length (flat_map f (places n)) ≡ size * n
 length-frames f size zero each =
     let none : size * 0 ≡ 0 = omega arith in
-    ap length (frames-none f) ∙ sym none
+    ap length (flat_map-zero f) ∙ sym none
 length-frames f size (suc n) each =
     let rest = length-frames f size n each in
     let here = each n in
-    ap length (frames-more f n) ∙ length-append (flat_map f (places n)) (f n)
+    ap length (flat_map-next f n) ∙ length-append (flat_map f (places n)) (f n)
     ∙ omega (arith, rest, here)
 
 -- the first frames, and one more

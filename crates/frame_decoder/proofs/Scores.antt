@@ -3,7 +3,8 @@ use Rattle.frame_decoder.proofs.Common.{◌≡◌, ℕ, zero, suc, ◌+◌, ◌*
 use Rattle.frame_decoder.proofs.Common.{arith, ℤ, ◌+ℤ◌, length-drop, length-take-le, take_all, ints, code_symbols, length-code_symbols}
 use Rattle.frame_decoder.proofs.Common.{shape_of, size, sent, gathered, Kind, length-sent, agreement-gathered, Codeword, correlation}
 use Rattle.frame_decoder.proofs.Common.{score_of, sending, sent_frames, score, gathered_span}
-use Rattle.frame_decoder.proofs.Parts.{frames-none, frames-more, length-frames, take-frames}
+use Rattle.frame_decoder.proofs.Common.{flat_map-next, flat_map-zero}
+use Rattle.frame_decoder.proofs.Parts.{length-frames, take-frames}
 use Rattle.frame_decoder.proofs.Gathered.{channel, frame_of, length-gathered_span}
 
 correlation-append : (xs ys : List ℤ) (bs cs : List Bool) → length xs ≡ length bs →
@@ -50,7 +51,7 @@ frames_agree : (kind : Kind) (bits repeats n : ℕ) (softs : List ℤ) (symbols 
 frames_agree kind bits repeats zero softs symbols e room room' =
     let none : size (shape_of kind) * 0 ≡ 0 = omega arith in
     let gathered_none =
-    frames-none (λ k. gathered (shape_of kind) repeats (frame_of (size (shape_of kind)) k softs)) in
+    flat_map-zero (λ k. gathered (shape_of kind) repeats (frame_of (size (shape_of kind)) k softs)) in
     rw (none, gathered_none) refl
 frames_agree kind bits repeats (suc n) softs symbols e room room' =
     let s = shape_of kind in
@@ -77,7 +78,7 @@ frames_agree kind bits repeats (suc n) softs symbols e room room' =
     let sent_long = length-sent_frames kind bits repeats n symbols in
     let gathered_long = length-gathered_span kind bits repeats n softs e in
     ap (λ (xs : List ℤ). correlation xs sent_all) (take-frames softs (size s) n)
-    ∙ ap (correlation (front ++ here)) (frames-more (sent_frame kind bits repeats symbols) n)
+    ∙ ap (correlation (front ++ here)) (flat_map-next (sent_frame kind bits repeats symbols) n)
     ∙ correlation-append front here sent_front (sent s repeats here')
     (front_long ∙ sym sent_long)
     ∙ ap (λ (z : ℤ). z +ℤ correlation here (sent s repeats here')) rest
@@ -86,7 +87,7 @@ frames_agree kind bits repeats (suc n) softs symbols e room room' =
     ∙ sym
     (correlation-append gathered_front (gathered s repeats here) front' here'
     (gathered_long ∙ sym front_long'))
-    ∙ ap (λ (xs : List ℤ). correlation xs (front' ++ here')) (sym (frames-more gathered_frame n))
+    ∙ ap (λ (xs : List ℤ). correlation xs (front' ++ here')) (sym (flat_map-next gathered_frame n))
     ∙ ap (correlation (gathered_span c (suc n) softs)) (sym (take-frames symbols (2 * bits) n))
 
 -- and so for a codeword of the span's length

@@ -13,7 +13,8 @@ use Rattle.frame_decoder.specs.Signs.{DecodesBySigns, KeepSigns}
 use Rattle.frame_decoder.specs.Laws.{DecodesSentFrames, IsUnsharedIn, good_frame, sent_codeword}
 use Rattle.frame_decoder.proofs.FormatChoice.{Below, IsAmong, chosen_is, candidate_below, first_found, rising_rates, silent_shown}
 use Rattle.frame_decoder.proofs.FormatCodewords.{bits_least, length-symbols_in}
-use Rattle.frame_decoder.proofs.ShownSymbols.{lt_true, le_of_false, lt_of_true}
+use Rattle.frame_decoder.proofs.Common.{tested, untested}
+use Rattle.frame_decoder.proofs.ShownSymbols.{lt_true}
 use Rattle.frame_decoder.proofs.Unreplaced.{zeros_kept}
 use Rattle.frame_decoder.proofs.ZeroCodewords.{best_zero_codeword_allowed, best_zero_codeword_greatest, best_zero_codeword-same}
 
@@ -152,9 +153,9 @@ signs_chosen {R} format_of rates replaced rate information softs codewords named
     Below d (frame_in (format_of r) v.bits (score_in kept (format_of r) v)) = λ r v allowed.
     let s = score_in kept (format_of r) v in
     ⊎_elim
-    (λ (t : int_lt s m ≡ true). inr (lt_of_true s m t))
+    (λ (t : int_lt s m ≡ true). inr (tested s m t))
     (λ (t : int_lt s m ≡ false).
-    let e = same r v allowed (le_of_false s m t) in
+    let e = same r v allowed (untested s m t) in
     inl (frame_same format_of kept rate r information v more (named rate) long' e.0 e.1))
     (cases_Bool (int_lt s m)) in
     let found : codeword_in kept format ≡ w =

@@ -4,7 +4,7 @@ use Rattle.frame_decoder.proofs.Common.{◌∙◌, arith, ℤ, pos, nat_eq, map,
 use Rattle.frame_decoder.proofs.Common.{ne_eqb, eq-eqb, cases_eq, cases_lt, get_or-set_same, get_or-set_other, length-set, set_past}
 use Rattle.frame_decoder.proofs.Common.{ext_get_or, length-replicate, get_or-replicate, get_or-take, get_or_past, list_any-append}
 use Rattle.frame_decoder.proofs.Common.{sum_by-set, places, length-map-places, get_or-map-places, map-places-all, is_replaced, unreplaced}
-use Rattle.frame_decoder.proofs.Common.{length-take-le}
+use Rattle.frame_decoder.proofs.Common.{length-take-le, or-false}
 
 -- each soft value
 abbrev pub kept : List ℕ → List ℤ → ℕ → ℤ
@@ -29,10 +29,6 @@ or_true : (b : Bool) → (b || (true || false)) ≡ true
 or_true true = refl
 or_true false = refl
 
-or_false : (b : Bool) → (b || (false || false)) ≡ b
-or_false true = refl
-or_false false = refl
-
 -- a place more
 replaced_here : (replaced : List ℕ) (p : ℕ) → is_replaced (replaced ++ p ∷ []) p ≡ true
 replaced_here replaced p =
@@ -45,7 +41,7 @@ replaced_other : (replaced : List ℕ) (p i : ℕ) → i ≢ p →
 replaced_other replaced p i other =
     list_any-append (nat_eq i) replaced (p ∷ [])
     ∙ ap (λ (b : Bool). is_replaced replaced i || (b || false)) (ne_eqb i p other)
-    ∙ or_false (is_replaced replaced i)
+    ∙ or-false (is_replaced replaced i)
 
 here_is : (b : Bool) (x : ℤ) → b ≡ true → pos 0 ≡ (if b then pos 0 else x)
 here_is true x e = refl

@@ -51,7 +51,7 @@ and_under : (b c d : Bool) → (b ≡ true → c ≡ d) → (b && c) ≡ (b && d
 and_under true c d h = h refl
 and_under false c d h = refl
 
-and_none : (b c : Bool) → (b ≡ true → c ≡ false) → (b && c) ≡ false
+pub and_none : (b c : Bool) → (b ≡ true → c ≡ false) → (b && c) ≡ false
 and_none true c h = h refl
 and_none false c h = refl
 
@@ -274,11 +274,6 @@ pub given_less : (inside : ℕ → Bool) (k : ℕ) → inside k ≡ false →
     filter inside (places (k + 1)) ≡ filter inside (places k)
 given_less inside k gone =
     rw (places-more k, filter-append, gone) (append-nil (filter inside (places k)))
-
--- all pass a test that each passes
-pub every : (xs : List ℕ) → filter (λ k. true) xs ≡ xs
-every [] = refl
-every (x ∷ xs) = ap (λ (ys : List ℕ). x ∷ ys) (every xs)
 
 -- THE FRAMES OF A STREAM
 -- none lies in the file before the first that does

@@ -10,7 +10,8 @@ use Rattle.std.specs.List.{filter}
 use Rattle.heard_events.proofs.EventPlaces.{AreAt, IsAt, all_at}
 use Rattle.rake_finger.proofs.FrameTimes.{known_between}
 use Rattle.heard_events.proofs.Growth.{IsSyncTimed, sync_in_file, sync_known, sync_frames}
-use Rattle.heard_events.proofs.Arrivals.{every, given_less, given_more, is_now}
+use Rattle.chip_core.proofs.Ranges.{every}
+use Rattle.heard_events.proofs.Arrivals.{given_less, given_more, is_now}
 
 -- WHAT STANDS IN LISTS
 -- of numbers that pass a test, one whose piece has one gives one

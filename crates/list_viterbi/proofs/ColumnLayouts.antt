@@ -2,7 +2,7 @@
 use Rattle.list_viterbi.proofs.Common.{◌≡◌, ℕ, zero, suc, ◌+◌, ◌-◌, ◌<◌, List, [], ◌∷◌, length, get_or, set, refl, sym, ap, subst, ◌∙◌}
 use Rattle.list_viterbi.proofs.Common.{⊎_elim, arith, ℤ, pos, Some, Bool, true, false, slice_get, All, if◌then◌else◌, cases_lt}
 use Rattle.list_viterbi.proofs.Common.{get_or_from_slice_get, get_or-set_same, get_or-set_other, length-set, find_score, finds_from}
-use Rattle.list_viterbi.proofs.Common.{first_finds, merge, Find, four_of, column_of, ColumnValue, HasPicks, picks_into}
+use Rattle.list_viterbi.proofs.Common.{first_finds, merge, Find, four_of, column_of, ColumnValue, HasPicks, picks_into, true≢false}
 use Rattle.list_viterbi.proofs.LanePuts.{four_are, read_at}
 use Rattle.list_viterbi.proofs.LanePicks.{column_read}
 
@@ -85,17 +85,14 @@ same_finds a b k (suc n) each =
 abbrev pub view_of : ℕ → Bool → List (List ℤ) → List (List ℤ) → ColumnValue
 view_of k by_place ranks states = record { k = k; scores = if by_place then ranks else states }
 
-no_both : {A : Type 0} → true ≡ false → A
-no_both e = absurd (grind (arith, e))
-
 pub scores_by_place : (k : ℕ) (by_place : Bool) (ranks states : List (List ℤ)) (value : ColumnValue) →
     view_of k by_place ranks states ≡ value → by_place ≡ true → value.scores ≡ ranks
 scores_by_place k true ranks states value is e = sym (ap (λ (v : ColumnValue). v.scores) is)
-scores_by_place k false ranks states value is e = no_both (sym e)
+scores_by_place k false ranks states value is e = absurd (true≢false (sym e))
 
 pub scores_by_state : (k : ℕ) (by_place : Bool) (ranks states : List (List ℤ)) (value : ColumnValue) →
     view_of k by_place ranks states ≡ value → by_place ≡ false → value.scores ≡ states
-scores_by_state k true ranks states value is e = no_both e
+scores_by_state k true ranks states value is e = absurd (true≢false e)
 scores_by_state k false ranks states value is e = sym (ap (λ (v : ColumnValue). v.scores) is)
 
 pub codewords_of : (k : ℕ) (by_place : Bool) (ranks states : List (List ℤ)) (value : ColumnValue) →

@@ -5,7 +5,7 @@ pub use Rattle.std.proofs.Common.{rules, set, subst, suc, sym, take, to_z, true,
 pub use Rattle.std.proofs.Common.{◌*◌, ◌++◌, ◌+ℤ◌, ◌+◌, ◌-ℤ◌, ◌-◌, ◌/◌, ◌<ℤ◌, ◌<◌, ◌^◌, ◌∙◌, ◌∷◌, ◌≡◌, ◌≤ℤ◌, ◌≤◌, ◌⊎◌}
 pub use Rattle.std.proofs.Math.Nat.{two-pow-succ}
 pub use Rattle.std.proofs.Math.Pow.{pow_mono}
-pub use Rattle.std.proofs.lemmas.Bool.{cases_eq, cases_lt, cases_order}
+pub use Rattle.std.proofs.lemmas.Bool.{cases_eq, cases_lt, cases_order, false≢true, true≢false}
 pub use Rattle.std.proofs.lemmas.Bool.Decides.{nat_tests}
 pub use Rattle.std.proofs.lemmas.Int.{by_lt_z, fits_signed_from_abs, ints, to_z-of_z}
 pub use Rattle.std.proofs.lemmas.List.{drop-set, drop_all, drop_more, get_or-map, get_or-set_other, get_or-set_same, get_or-take}

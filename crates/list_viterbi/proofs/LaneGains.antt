@@ -2,7 +2,7 @@
 use Rattle.list_viterbi.proofs.Common.{◌≡◌, ℕ, zero, suc, ◌+◌, ◌-◌, ◌*◌, ◌/◌, ◌%◌, ◌<◌, Bool, true, false, List, get_or, refl, sym, ap}
 use Rattle.list_viterbi.proofs.Common.{subst, ◌∙◌, ⊎_elim, arith, ℤ, pos, ◌-ℤ◌, nat_eq, list_all, range_with_len, ints, cases_eq, cases_lt}
 use Rattle.list_viterbi.proofs.Common.{nat_tests, list_all_at, get_or-range_with_len, length-range_with_len, lane_codes, patterns, gain_by}
-use Rattle.list_viterbi.proofs.Common.{lane_code_of, HasPicks, picks_by, picks_into, four_of, column_of, PairPicked}
+use Rattle.list_viterbi.proofs.Common.{lane_code_of, HasPicks, picks_by, picks_into, four_of, column_of, PairPicked, true≢false}
 
 -- two states' places in the table of gains
 pub code_two : (block l : ℕ) → l < 2 →
@@ -21,9 +21,6 @@ all_turned : list_all is_turned (range_with_len 0 128) ≡ true
 unfolding patterns lane_codes
 all_turned = refl
 
-no_both : {A : Type 0} → true ≡ false → A
-no_both e = absurd (grind (arith, e))
-
 turned_code : (t : ℕ) → t < 128 → lane_code_of (128 + t) + lane_code_of t ≡ 3
 turned_code t b = by_test (is_turned t) refl where
   by_test : (r : Bool) → is_turned t ≡ r → lane_code_of (128 + t) + lane_code_of t ≡ 3
@@ -31,8 +28,8 @@ turned_code t b = by_test (is_turned t) refl where
   by_test false e =
       let place : get_or (range_with_len 0 128) t 0 ≡ t =
       get_or-range_with_len 0 128 t 0 b ∙ (let same : 0 + t ≡ t = omega arith in same) in
-      no_both (sym all_turned ∙ list_all_at is_turned (range_with_len 0 128) t 0
-      (omega (arith, b, length-range_with_len 0 128)) (ap is_turned place ∙ e))
+      absurd (true≢false (sym all_turned ∙ list_all_at is_turned (range_with_len 0 128) t 0
+      (omega (arith, b, length-range_with_len 0 128)) (ap is_turned place ∙ e)))
 
 turned_gain : (f s : ℤ) (c d : ℕ) → d + c ≡ 3 → gain_by f s d ≡ pos 0 -ℤ gain_by f s c
 unfolding gain_by

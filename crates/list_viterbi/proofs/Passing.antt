@@ -1,14 +1,11 @@
 -- The first codeword that passes a test, and the best codeword.
 use Rattle.list_viterbi.proofs.Common.{◌≡◌, ℕ, zero, suc, ◌<◌, Bool, true, false, List, [], ◌∷◌, length, refl, sym, ap, subst, ◌∙◌, arith}
 use Rattle.list_viterbi.proofs.Common.{ℤ, ◌⊎◌, ⊎_elim, Option, Some, None, slice_get, cond, find, Codeword, score_of, IsBetter, IsAllowed}
-use Rattle.list_viterbi.proofs.Common.{NamesOneList, HaveBestFirst, HaveFirstPassing}
+use Rattle.list_viterbi.proofs.Common.{NamesOneList, HaveBestFirst, HaveFirstPassing, false≢true}
 use Rattle.list_viterbi.proofs.Firsts.{After, Firsts, firsts_of, one_list, not_both, not_self}
 
 pub one_list_law : NamesOneList
 one_list_law score ends n k codewords others p q = one_list score (IsAllowed ends n) k codewords others p q
-
-no_true : {A : Type 0} → false ≡ true → A
-no_true e = absurd (grind (arith, e))
 
 no_codeword : {A : Type 0} (w : Codeword) → None ≡ Some w → A
 no_codeword w e = absurd (grind (arith, e))
@@ -47,7 +44,7 @@ found_passes score Kind test (suc k) (x ∷ xs) w h e =
           record {
             kind = p.kind.0;
             passes = p.passes;
-            first = λ v k t. ⊎_elim (λ same. no_true (sym is ∙ ap test (sym same) ∙ t))
+            first = λ v k t. ⊎_elim (λ same. absurd (false≢true (sym is ∙ ap test (sym same) ∙ t)))
                 (λ better. p.first v (k, better) t) (h.0.first v k);
           }
 

@@ -5,7 +5,7 @@ use Rattle.list_viterbi.proofs.Common.{nat_lt, if◌then◌else◌, All, AllPair
 use Rattle.list_viterbi.proofs.Common.{cases_lt, nat_tests, All-nil, All-push, All-map, All-tail, All-head, All-contains, all_pairs_push}
 use Rattle.list_viterbi.proofs.Common.{AllPairs-cons, length-le_from_distinct_below, IsDistinct-from_apart, Contains-from_any, get_or-map}
 use Rattle.list_viterbi.proofs.Common.{length-map, first_places, greatest_unless, Codeword, score_of, IsBetter, codeword_at, codeword_count}
-use Rattle.list_viterbi.proofs.Common.{IsAllowed, Ends, Zero, Free, AreFirst, first_codewords, codeword_at_allowed, step_of}
+use Rattle.list_viterbi.proofs.Common.{IsAllowed, Ends, Zero, Free, AreFirst, first_codewords, codeword_at_allowed, step_of, false≢true}
 use Rattle.list_viterbi.proofs.Common.{rank-codeword_at, allowed_at, IsGreatestUnless, AllTaken, scanned, nat_lt-true}
 use Rattle.list_viterbi.proofs.Firsts.{one_list}
 
@@ -36,12 +36,9 @@ count_grows n [] = omega arith
 count_grows n (p ∷ ps) = let one = one_grows n p in let rest = count_grows n ps in
     omega (arith, one, rest)
 
-no_true : {A : Type 0} → false ≡ true → A
-no_true e = absurd (grind (arith, e))
-
 count_more : (n : ℕ) (ps : List ℕ) → list_any (nat_eq n) ps ≡ true →
     below_count n ps + 1 ≤ below_count (suc n) ps
-count_more n [] e = no_true e
+count_more n [] e = absurd (false≢true e)
 count_more n (p ∷ ps) e = by_test (nat_eq n p) refl (count_more n ps) where
   by_test : (t : Bool) → nat_eq n p ≡ t →
       (list_any (nat_eq n) ps ≡ true → below_count n ps + 1 ≤ below_count (suc n) ps) →
@@ -102,19 +99,19 @@ free_parts : (i b : ℕ) (ps : List ℕ) → list_any (nat_eq i) (ps ++ b ∷ []
 free_parts i b [] e = (refl, by_test (nat_eq i b) refl) where
   by_test : (t : Bool) → nat_eq i b ≡ t → nat_eq i b ≡ false
   by_test false is = is
-  by_test true is = no_true (sym (rw is at e))
+  by_test true is = absurd (false≢true (sym (rw is at e)))
 free_parts i b (p ∷ ps) e = by_test (nat_eq i p) refl (free_parts i b ps) where
   by_test : (t : Bool) → nat_eq i p ≡ t → (list_any (nat_eq i) (ps ++ b ∷ []) ≡ false →
       (list_any (nat_eq i) ps ≡ false) × (nat_eq i b ≡ false)) →
       (list_any (nat_eq i) (p ∷ ps) ≡ false) × (nat_eq i b ≡ false)
-  by_test true is rest = no_true (sym (rw is at e))
+  by_test true is rest = absurd (false≢true (sym (rw is at e)))
   by_test false is rest = let parts = rest (rw is at e) in (rw is parts.0, parts.1)
 
 greatest_before : (taken : List ℕ) (f : ℕ → ℤ) (n b i : ℕ) → IsGreatestUnless taken f n b → i < n →
     list_any (nat_eq i) taken ≡ false → nat_eq i b ≡ false → IsBefore f b i
 greatest_before taken f n b i g within free other = ⊎_elim
     (λ same. absurd (let no : nat_eq i b ≡ true = grind (arith, nat_tests, same) in
-    no_true (sym other ∙ no)))
+    absurd (false≢true (sym other ∙ no))))
     (⊎_elim
     (λ lt. inl (g.first i lt free))
     (λ gt. by_lt_z (f i) (f b) (λ less. inl less)

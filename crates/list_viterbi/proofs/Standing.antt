@@ -1,6 +1,6 @@
 -- Scores and columns of choices stand for the lists of the first codewords into each state.
 use Rattle.list_viterbi.proofs.Common.{◌≡◌, ℕ, suc, ◌+◌, ◌*◌, ◌^◌, ◌<◌, ◌≤◌, Bool, true, false, List, [], ◌∷◌, length, get_or, map, set}
-use Rattle.list_viterbi.proofs.Common.{take, refl, sym, subst, ◌∙◌, arith, ℤ, pos, unsigned_abs, nat_eq, if◌then◌else◌, All}
+use Rattle.list_viterbi.proofs.Common.{take, refl, sym, subst, ◌∙◌, arith, ℤ, pos, unsigned_abs, nat_eq, if◌then◌else◌, All, false≢true}
 use Rattle.list_viterbi.proofs.Common.{reverse_bits_onto, range_with_len, sum_by, get_or-set_same, get_or-set_other, get_or-take}
 use Rattle.list_viterbi.proofs.Common.{get_or-map-range_with_len, low_bits, HasStart, Ends, Zero, Free, binary-turned, Into, zero_start}
 use Rattle.list_viterbi.proofs.Common.{Entry, list_into, EntriesStart, picks_into, HasPicks, starts_at, start_scores, list_origin}
@@ -31,9 +31,7 @@ may_start Free t below is = tt
 may_not : (ends : Ends) (t : ℕ) → t < 256 → starts_at ends t ≡ false →
     ¬ (HasStart ends (low_bits 8 t))
 may_not Zero t below is h = let yes : nat_eq t 0 ≡ true = (zero_start t below).1 h in
-    no_both (sym is ∙ yes) where
-      no_both : ¬ (false ≡ true)
-      no_both e = grind (arith, e)
+    false≢true (sym is ∙ yes)
 may_not Free t below is h = grind (arith, is)
 
 list_starts : (ends : Ends) (t : ℕ) → t < 256 → EntriesStart ends t (start_list ends t)

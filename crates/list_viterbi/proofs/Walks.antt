@@ -1,10 +1,7 @@
 -- A merge, one element after another.
 use Rattle.list_viterbi.proofs.Common.{◌≡◌, ℕ, zero, suc, ◌+◌, ◌<◌, ◌≤◌, true, false, List, [], ◌∷◌, ◌++◌, length, map, take, drop, refl}
 use Rattle.list_viterbi.proofs.Common.{sym, ap, ◌∙◌, arith, ℤ, Some, append_assoc, append-nil, int_lt, slice_get, drop_more, drop_all}
-use Rattle.list_viterbi.proofs.Common.{take_more, map-append, get_or_from_slice_get, second_is_next, merge, left_at}
-
-no_true : ¬ (true ≡ false)
-no_true e = grind (arith, e)
+use Rattle.list_viterbi.proofs.Common.{take_more, map-append, get_or_from_slice_get, second_is_next, merge, left_at, true≢false}
 
 pub second_over : {A : Type 0} (f : A → ℤ) (xs ys : List A) (i j : ℕ) → length ys ≤ j →
     second_is_next f (drop i xs) (drop j ys) ≡ false
@@ -49,7 +46,7 @@ head_none : {A : Type 0} (f : A → ℤ) (k : ℕ) (ys : List A) → second_is_n
 unfolding merge
 head_none f zero ys next = refl
 head_none f (suc k) [] next = refl
-head_none f (suc k) (y ∷ ys) next = absurd (no_true next)
+head_none f (suc k) (y ∷ ys) next = absurd (true≢false next)
 
 -- ONE MORE OF THE MERGE
 -- what was taken and what is left is the whole merge

@@ -1,10 +1,11 @@
 -- What a handset stands for, step by step.
 use Rattle.mobile_core.proofs.Common.{◌≡◌, ℕ, ◌+◌, ◌<◌, ◌≤◌, false, List, [], ◌∷◌, ◌++◌, length, refl, sym, ap, subst, ◌∙◌, arith, inl, inr}
-use Rattle.mobile_core.proofs.Common.{Option, Some, None, Bool, true, IsTrue, is_some, list_any, ForSome, append_assoc, list_any-append}
+use Rattle.mobile_core.proofs.Common.{Option, Some, None, IsTrue, is_some, list_any, ForSome, append_assoc, list_any-append}
 use Rattle.mobile_core.proofs.Common.{Sample, Best, Held, HoldsLast, IsDueAt, events, EndFrom, HearsFollowed, IsFollowedDue, CheckForm}
 use Rattle.mobile_core.proofs.Common.{WaitFrom, first_of, mark_before, marks_at, followed_events_left, event_list, pilot_left}
 use Rattle.mobile_core.proofs.Common.{sync_events_left, sets_mark, AreNear, SetsMark, IsSoundSync, IsDueIn, Stands, left_of, HearsSync}
 use Rattle.mobile_core.proofs.Common.{HearsNext, Tuning, sync_stream, Event, Pilot, Followed, Mark, SyncReceiver, ◌||◌}
+use Rattle.std.proofs.Math.Bool.{or-false}
 use Rattle.std.proofs.lemmas.List.{append-nil}
 use Rattle.mobile_core.proofs.ChannelsFollowed.{ends_later, followed_more, goes_on}
 use Rattle.reception.proofs.ClockSteps.{before_next, from_next, due_inside, due_known}
@@ -15,10 +16,6 @@ use Rattle.heard_events.proofs.MarkGrowth.{mark_before_more}
 use Rattle.heard_events.proofs.MarkLater.{mark_later}
 use Rattle.mobile_core.proofs.SyncHeard.{hears_more}
 use Rattle.mobile_core.specs.SoundHandset.{IsSound}
-
-or-false : (b : Bool) → (b || false) ≡ b
-or-false true = refl
-or-false false = refl
 
 -- where the pilot has been told, how many samples were taken doesn't matter
 told_before : {pilot : Option Best} {n : ℕ} → pilot ≡ None → ForSome pilot (λ best. n ≡ 0)

@@ -5,12 +5,8 @@ use Rattle.paging_message.proofs.Common.{length-append, length-drop, not, inl, i
 use Rattle.paging_message.proofs.Common.{eq-eqb, eqb-true, eqb-false, ne_eqb, append-nil, length-take-le, take-append-drop, mod-eq_of_lt}
 use Rattle.paging_message.proofs.Common.{take-append-le, drop-append-le, drop_at, take_all, length-replicate, replicate-append-replicate}
 use Rattle.paging_message.proofs.Common.{list_any-append, div-mul-add, mod-mul-add, div-add-mod, mod-lt, mod_self, mul-le-mul_left, places}
-use Rattle.paging_message.proofs.Common.{places-none, bits_left, flat_map_ext_places, flat_map-places-more}
+use Rattle.paging_message.proofs.Common.{flat_map-zero, or-false, bits_left, flat_map_ext_places, flat_map-places-more}
 use Rattle.paging_message.specs.Laying as laying
-
--- before any half-frame
-pub flat-none : {X : Type 0} (f : ℕ → List X) → flat_map f (places 0) ≡ []
-flat-none f = ap (flat_map f) places-none
 
 -- HALF-FRAMES
 -- A half-frame that lies in the first bits is the same whatever follows them: it ends among the
@@ -119,11 +115,7 @@ any_other h n starts lt =
     let other : (n == h) ≡ false = ne_eqb n h (λ same. omega (arith, lt, same)) in
     list_any-append (λ s. s == h) starts (n ∷ [])
     ∙ ap (λ (b : Bool). list_any (λ s. s == h) starts || (b || false)) other
-    ∙ or_false (list_any (λ s. s == h) starts)
-  where
-    or_false : (b : Bool) → (b || (false || false)) ≡ b
-    or_false true = refl
-    or_false false = refl
+    ∙ or-false (list_any (λ s. s == h) starts)
 
 any_own : (n : ℕ) (starts : List ℕ) → list_any (λ s. s == n) (starts ++ n ∷ []) ≡ true
 any_own n starts =
@@ -389,7 +381,7 @@ none_laid size large =
     record {
       placed = sym (place-none size 0 (mod-eq_of_lt large));
       spelled = sym (framed_whole size 0 [] [] large none
-          ∙ flat-none (laying.half_frame size [] []));
+          ∙ flat_map-zero (laying.half_frame size [] []));
       begun = tt;
     }
 

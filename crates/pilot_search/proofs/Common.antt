@@ -1,14 +1,14 @@
 -- What the proofs of this crate cite of what lies below, and of its own definitions, passed on from one place.
 pub use Rattle.std.proofs.Common.{All, Bool, FitsSigned, List, None, Option, Some, [], add-one, ap, arith, drop, false, get_or}
 pub use Rattle.std.proofs.Common.{get_or-set_same, inl, inr, length, length-set, map, max, min, nat_eq, negsuc, of_z, pos, refl, rules, set}
-pub use Rattle.std.proofs.Common.{subst, suc, sym, take, to_z, true, true≢false, unsigned_abs, w16, w32, w64, w8, zero, ℕ, ℤ, ⊎_elim, ◌%◌}
+pub use Rattle.std.proofs.Common.{subst, suc, sym, take, to_z, true, unsigned_abs, w16, w32, w64, w8, zero, ℕ, ℤ, ⊎_elim, ◌%◌}
 pub use Rattle.std.proofs.Common.{◌*ℤ◌, ◌*◌, ◌++◌, ◌+ℤ◌, ◌+◌, ◌-ℤ◌, ◌-◌, ◌/◌, ◌<◌, ◌^◌, ◌∙◌, ◌∷◌, ◌≡◌, ◌≢◌, ◌≤◌, ◌⊎◌}
 pub use Rattle.std.proofs.Math.Facts.{Fits-of_z}
 pub use Rattle.std.proofs.Math.IntN.{+ℤ_assoc, neg_ℤ}
 pub use Rattle.std.proofs.Math.ListN.{get_or-map as map_at}
 pub use Rattle.std.proofs.Math.Nat.{div-le_self, div-mul-le_self, mul-div_cancel, mul-le-mul}
 pub use Rattle.std.proofs.Math.Seq.{drop-cons, take-add}
-pub use Rattle.std.proofs.lemmas.Bool.{cases_lt, cases_order}
+pub use Rattle.std.proofs.lemmas.Bool.{cases_lt, cases_order, false≢true}
 pub use Rattle.std.proofs.lemmas.Bool.Decides.{nat_tests}
 pub use Rattle.std.proofs.lemmas.Grind.{common_steps}
 pub use Rattle.std.proofs.lemmas.Int.{fits_signed_from_abs, int_wrap_fits, ints, to_z-of_z, unsigned_abs-mul, wrapping_add-bits}

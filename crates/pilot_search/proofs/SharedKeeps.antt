@@ -1,6 +1,6 @@
 -- Each step on the shared word keeps its rule.
 use Rattle.pilot_search.proofs.Common.{◌≡◌, ◌≢◌, ℕ, zero, suc, ◌≤◌, true, false, List, [], ◌∷◌, length, set, get_or, inr, refl, sym, ap}
-use Rattle.pilot_search.proofs.Common.{◌∙◌, subst, ⊎_elim, arith, length-set, get_or-set_same, true≢false, none, some, some-ne-none}
+use Rattle.pilot_search.proofs.Common.{◌∙◌, subst, ⊎_elim, arith, length-set, get_or-set_same, false≢true, none, some, some-ne-none}
 use Rattle.pilot_search.proofs.Common.{some-injective, get_elem?, State, Me, step, keeps, stepped, Allows, Splits, Joins, at_set, at_snoc}
 use Rattle.pilot_search.proofs.Common.{set_again, View, holding, spent, fresh_view, Lies, AllLie, IsSharedState, Begun, joined_views}
 
@@ -9,9 +9,6 @@ Sat = Me (Unit {0}) View
 
 abbrev At : Type 0
 At = State (Unit {0}) View
-
-off : ¬ (false ≡ true)
-off e = true≢false (sym e)
 
 only_fresh : (id : ℕ) (v : View) → get_elem? (fresh_view ∷ []) id ≡ some v → fresh_view ≡ v
 only_fresh zero v e = some-injective fresh_view v e
@@ -25,7 +22,7 @@ only_first (suc id) v e = absurd (some-ne-none v (sym e))
 not_fresh : {X : Type 0} (views : List View) (id : ℕ) (v : View) → get_elem? views id ≡ some v →
     v.spent ≡ false → views ≡ fresh_view ∷ [] → X
 not_fresh views id v at held is =
-    absurd (off (sym held ∙
+    absurd (false≢true (sym held ∙
     sym (ap (λ (u : View). u.spent)
     (only_fresh id v (subst (λ (l : List View). get_elem? l id ≡ some v) is at)))))
 
@@ -88,7 +85,7 @@ begins slots id me ceiling is s kept _ at _ =
       placed s (get_or s.words 0 0) id ceiling me w kept.0 (alone s.views first.0 first.1 at),
       refl,
     ))
-    (λ lie. absurd (off (sym (lie.1 id me.0 at).0 ∙ is)))
+    (λ lie. absurd (false≢true (sym (lie.1 id me.0 at).0 ∙ is)))
     kept.1
   where
     alone : (views : List View) → views ≡ fresh_view ∷ [] → get_or s.words 0 0 ≡ 0 →
@@ -146,7 +143,7 @@ joins id other v w held held' s kept at apart there =
       inr (
         lie.0,
         lie_set word word lie.0 other (set s.views id (joined_views v w)) spent (omega arith)
-            mine.1 both refl (λ no. absurd (off (sym no))),
+            mine.1 both refl (λ no. absurd (false≢true (sym no))),
       ),
     ))
     kept.1

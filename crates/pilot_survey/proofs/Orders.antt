@@ -4,12 +4,13 @@ use Rattle.std.proofs.Common.{◌∙◌, arith, nat_eq}
 use Rattle.std.specs.List.{IsDistinct, range_with_len}
 use Rattle.std.specs.List.Sorted.{IsPermutation}
 use Rattle.std.specs.Ordering.{is_lt, ordering_then, nat_cmp}
-use Rattle.std.proofs.lemmas.Bool.{cases_eq, eq-eqb, ne_eqb, eqb-false}
+use Rattle.std.proofs.lemmas.Bool.{ne_eqb, eqb-false}
 use Rattle.std.proofs.lemmas.Bool.Decides.{nat_tests}
 use Rattle.std.proofs.lemmas.List.{get_or-map, length-map}
 use Rattle.std.proofs.lemmas.List.FromFn.{length-map-range_with_len, get_or-map-range_with_len}
 use Rattle.std.proofs.lemmas.List.Sorted.{IsPermutation-map, length_permutation, All-permutation, Contains-permutation}
 use Rattle.std.proofs.lemmas.Map.Keys.{IsDistinct-from_apart, IsDistinct-IsPermutation, apart_from_distinct}
+use Rattle.chip_core.proofs.Finds.{nat_eq-flipped}
 use Rattle.chip_core.specs.declared.sample.Sample.{Sample}
 use Rattle.pilot_survey.specs.Ranking.{ComesBefore, AreInOrder, IsRanking}
 use Rattle.pilot_survey.specs.Survey.{surveyed}
@@ -89,19 +90,13 @@ pilots_differ samples base width =
     (get_or (map pilot_of (by_number samples base width)) j d)
     (λ same. absurd (omega (arith, low, high, less, same))))
 
-flipped : (x y : ℕ) → nat_eq x y ≡ nat_eq y x
-flipped x y = ⊎_elim
-    (λ same. eq-eqb x y same ∙ sym (eq-eqb y x (sym same)))
-    (λ other. ne_eqb x y other ∙ sym (ne_eqb y x (λ same. other (sym same))))
-    (cases_eq x y)
-
 -- and in each other order too
 still_differ : (samples : List Sample) (base width : ℕ) (ranks : List Rank) →
     IsPermutation (by_number samples base width) ranks → (i j : ℕ) (d : Rank) → i < j →
     j < length ranks → (get_or ranks i d).pilot ≢ (get_or ranks j d).pilot
 still_differ samples base width ranks moved i j d less lt =
     let distinct =
-    IsDistinct-IsPermutation nat_eq flipped (map pilot_of (by_number samples base width))
+    IsDistinct-IsPermutation nat_eq nat_eq-flipped (map pilot_of (by_number samples base width))
     (map pilot_of ranks) (IsPermutation-map pilot_of (by_number samples base width) ranks moved)
     (pilots_differ samples base width) in
     let long = length-map ranks pilot_of in

@@ -26,13 +26,13 @@ part_same one other place off count m fits same =
     ∙ part_is other place off count m fits
 
 -- symbols and their windows lie in the frame
-window_inside : (form : Form) (j : ℕ) → j < symbols form →
+pub window_inside : (form : Form) (j : ℕ) → j < symbols form →
     window_chips form * (symbol_chips form * j / window_chips form) + window_chips form
     ≤ frame_chips form
 window_inside Sync j h = omega arith
 window_inside Data j h = omega arith
 
-symbol_inside : (form : Form) (j : ℕ) → j < symbols form →
+pub symbol_inside : (form : Form) (j : ℕ) → j < symbols form →
     symbol_chips form * j + symbol_chips form ≤ frame_chips form
 symbol_inside Sync j h = omega arith
 symbol_inside Data j h = omega arith

@@ -2,7 +2,7 @@
 use Rattle.tuned_listener.proofs.Common.{◌≡◌, ℕ, zero, suc, ◌+◌, ◌*◌, ◌/◌, ◌%◌, ◌<◌, ◌≤◌, ◌&&◌, Bool, true, false, List, [], ◌∷◌, ◌++◌}
 use Rattle.tuned_listener.proofs.Common.{length, map, filter, nat_le, refl, sym, ap, ◌∙◌, subst, arith, inl, inr, Option, Some, None}
 use Rattle.tuned_listener.proofs.Common.{if◌then◌else◌, nat_lt, range_with_len, and_from, and_parts, and_right, cases_Bool, cases_lt}
-use Rattle.tuned_listener.proofs.Common.{false_from_ne_true, le-leb, leb-true, lt-leb, places, CheckForm, Sample, places-more}
+use Rattle.tuned_listener.proofs.Common.{false_from_ne_true, le-leb, leb-true, lt-leb, places, CheckForm, Sample}
 use Rattle.tuned_listener.proofs.Common.{channel_stream, mark, AreNear, all_begun, low_in, paging_bound, paging_rate, frames_within}
 use Rattle.tuned_listener.proofs.Common.{soft_frame, soft_frames, Stream, is_in_file, known_at, IsTimed, stream_end, Tuning, sync_stream}
 use Rattle.tuned_listener.proofs.Common.{Paging, Mark, SoftFrame, close_begun, near_are_close, timed_in, timed_of, ends_lt, inside_from}
@@ -180,16 +180,6 @@ pub record IsFront (p : ℕ → Bool) (bound count : ℕ) : Type 0 where
   pub passes : (k : ℕ) → p k ≡ nat_le (k + 1) count
   pub kept : filter p (places bound) ≡ places count
 
-all_kept : (p : ℕ → Bool) (n : ℕ) → ((k : ℕ) → k < n → p k ≡ true) → filter p (places n) ≡ places n
-unfolding places
-all_kept p zero h = refl
-all_kept p (suc n) h =
-    let e : suc n ≡ n + 1 = omega arith in
-    subst (λ (k : ℕ). filter p (places k) ≡ places k) (sym e)
-    (ranges.filter-places-more p n (h n (omega arith))
-    ∙ ap (λ (ks : List ℕ). ks ++ n ∷ []) (all_kept p n (λ k below. h k (omega (arith, below))))
-    ∙ sym (places-more n))
-
 module _ (p : ℕ → Bool) (down : (j k : ℕ) → j < k → p k ≡ true → p j ≡ true) where
   front : (bound : ℕ) → ((k : ℕ) → bound ≤ k → p k ≡ false) → (count : ℕ) × IsFront p bound count
   unfolding places
@@ -219,7 +209,7 @@ module _ (p : ℕ → Bool) (down : (j k : ℕ) → j < k → p k ≡ true → p
                       past k (omega (arith, more))
                       ∙ sym (lt-leb (k + 1) (suc bound) (omega (arith, more)))
                 ];
-                kept = all_kept p (suc bound) below;
+                kept = ranges.filter_all_places p (suc bound) below;
               },
             )
         | inr none ↦

@@ -22,7 +22,8 @@ use Rattle.clean_link.proofs.frames.ChannelFrames.{noisy_paging_back, paging_bor
 use Rattle.clean_signal.proofs.noise.Near.{near-self}
 use Rattle.clean_link.proofs.frames.Times.{paging_file_from, paging_file_to, paging_known_is, paging_timed}
 use Rattle.heard_events.specs.PagingEvents.{paging_bits_before}
-use Rattle.clean_link.proofs.sendings.Order.{all_kept, at_key, below_key, in_order, IsRising}
+use Rattle.chip_core.proofs.Ranges.{filter_all_places}
+use Rattle.clean_link.proofs.sendings.Order.{at_key, below_key, in_order, IsRising}
 use Rattle.heard_events.specs.PagingStreams as streams
 
 -- ---- lists of lists
@@ -133,7 +134,7 @@ module _ {count low : ℕ} (s : Stream) (timed : IsTimed count s low) (bound : �
       let early = known_early count k there (known_between s timed k there).most in
       omega (arith, early, past)))
       has.outside
-      ∙ all_kept (is_in_file count s) frames has.inside
+      ∙ filter_all_places (is_in_file count s) frames has.inside
 
 -- ---- the capsules of a frame, as they are read
 
@@ -183,7 +184,7 @@ module _ (t : Tuning) (channel : ℕ) (m : Mark) (samples : List Sample) (own : 
       flat_map_ext_filter_places inside
       (frame_own_bits t.count samples (paging_stream t channel m)) own k
       (λ j less there. bits j there)
-      ∙ ap (flat_map own) (all_kept inside k (λ j less. has.inside j (omega arith)))
+      ∙ ap (flat_map own) (filter_all_places inside k (λ j less. has.inside j (omega arith)))
 
   -- the capsule that bit i of frame k ends
   abbrev ending : ℕ → ℕ → Option (List Bool)

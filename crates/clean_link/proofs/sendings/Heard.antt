@@ -15,7 +15,8 @@ use Rattle.sync_message.proofs.Readings.{reads_capsule}
 use Rattle.paging_message.proofs.Pieces.{run, run-places, none_starts}
 use Rattle.clean_frames.proofs.sendings.Capsules.{IsSentAt, piece_of, pieces_end, sending_frames}
 use Rattle.clean_link.proofs.frames.Times.{frames_begin, in_file_from, in_file_to, one_path, end_of_frame, known_is, sync_timed}
-use Rattle.clean_link.proofs.sendings.Order.{in_file, all_kept, blocks, given_where, flat_map-filter, map-filter, moved_up, quiet}
+use Rattle.chip_core.proofs.Ranges.{filter_all_places}
+use Rattle.clean_link.proofs.sendings.Order.{in_file, blocks, given_where, flat_map-filter, map-filter, moved_up, quiet}
 use Rattle.clean_link.proofs.sendings.Order.{events_by_frames, frame_events, frames_of, known}
 use Rattle.heard_events.specs.declared.event.Event.TheVariants.{Sync}
 use Rattle.clean_link.proofs.frames.ChannelFrames.{clean_sync, heard_sync}
@@ -44,7 +45,7 @@ pieces_from t samples bits k alone there back =
     ∙ map_ext_filter_places (in_file t) (frame_own_bits t.count samples (sync_stream t)) bits
     (k + 1) (λ j lt here. back j here)
     ∙ ap (map bits)
-    (all_kept (in_file t) (k + 1)
+    (filter_all_places (in_file t) (k + 1)
     (λ j lt. earlier_there t j k alone (omega (arith, lt)) there)))
     ∙ map-map piece bits (places (k + 1))
     ∙ run-places (λ j. piece (bits j)) (k + 1)

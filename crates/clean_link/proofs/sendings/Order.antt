@@ -7,7 +7,7 @@ use Rattle.clean_link.proofs.Common.{length, Some, is_some, and_parts, eqb-true,
 use Rattle.clean_link.proofs.Common.{mark_before, is_in_file, known_at, heard_at, events_of, sync_events_at, IsTimed, Tuning, sync_stream}
 use Rattle.clean_link.proofs.Common.{sync_bound, Event, known_between, known_le, mark_is, filter_enough, flat_map_ext_places}
 use Rattle.clean_link.proofs.Common.{flat_map_ext_filter}
-use Rattle.heard_events.proofs.Arrivals.{every}
+use Rattle.heard_events.proofs.Arrivals.{and_none}
 
 -- ---- by key
 abbrev pub at_key : (ℕ → Bool) → (ℕ → ℕ) → ℕ → ℕ → Bool
@@ -30,16 +30,12 @@ filter_push f n = ap (filter f) (places-next n) ∙ filter-append f (places n) (
 filter_zero : (f : ℕ → Bool) → filter f (places 0) ≡ []
 filter_zero f = ap (filter f) places-none
 
-false_and : (p q : Bool) → (p ≡ true → q ≡ false) → (p && q) ≡ false
-false_and true q h = h refl
-false_and false q h = refl
-
 -- none of the earlier numbers has the key, where number b has a lesser one
 none_at : (P : ℕ → Bool) (key : ℕ → ℕ) (n b : ℕ) → IsRising P key → P b ≡ true → key b < n →
     filter (at_key P key n) (places b) ≡ []
 none_at P key n b rising there less =
     filter_none_places (at_key P key n) b
-    (λ k lt. false_and (P k) (key k == n)
+    (λ k lt. and_none (P k) (key k == n)
     (λ p. ne_eqb (key k) n (λ e. let most = rising.rises k b lt p there in
     omega (arith, most, e, less))))
 
@@ -105,11 +101,6 @@ split_key P key n (suc b) rising =
     (ends_none a c))))
     (cases_Bool (P b))
 
--- a test that all pass
-pub all_kept : (p : ℕ → Bool) (n : ℕ) → ((k : ℕ) → k < n → p k ≡ true) →
-    filter p (places n) ≡ places n
-all_kept p n all = filter_ext_places p (λ k. true) n all ∙ every (places n)
-
 -- all events, number by number
 pub in_order : {X : Type 0} (P : ℕ → Bool) (key : ℕ → ℕ) (g : ℕ → List X) (b n : ℕ) →
     IsRising P key →
@@ -119,7 +110,7 @@ in_order P key g b zero rising =
     flat_map-zero (λ m. flat_map g (filter (at_key P key m) (places b)))
     ∙ sym (ap (flat_map g)
     (filter_none_places (below_key P key 0) b
-    (λ k lt. false_and (P k) (nat_lt (key k) 0) (λ p. le-ltb (key k) 0 (omega arith)))))
+    (λ k lt. and_none (P k) (nat_lt (key k) 0) (λ p. le-ltb (key k) 0 (omega arith)))))
 in_order {X} P key g b (suc n) rising =
     let each = λ (m : ℕ). flat_map g (filter (at_key P key m) (places b)) in
     flat_map-next each n

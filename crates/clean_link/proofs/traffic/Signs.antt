@@ -10,12 +10,13 @@ use Rattle.clean_link.proofs.Common.{raw_softs, frame_state, replaced_in, stream
 use Rattle.clean_link.proofs.Common.{Mark, Traffic, IsTrueMark, soft_strength, codeword_symbols, IsAssigned, SendsSymbols, ShowPowerBits}
 use Rattle.clean_link.proofs.Common.{ShowFrame, IsFrameOf, path_finger, SetOneSends, SetTwoSends, HearsSentTraffic, IsHeardAs}
 use Rattle.clean_link.proofs.Common.{TrafficHaveSentSigns, ◌<◌, AllZip, AreKept, HasSign, Sample, AllZip-long, Bears, IsNear, ArePowered}
-use Rattle.clean_link.proofs.Common.{HavePowerSigns, NoisyFrame, NoisyTrafficHasSentSigns, ◌/◌, get_or, nat_eq, ⊎_elim, ◌⊎◌, pos, list_any}
-use Rattle.clean_link.proofs.Common.{cases_order, eq-eqb, ne_eqb, get_or-map-places, length-map-places, power_places, symbol_or_power_bit}
+use Rattle.clean_link.proofs.Common.{HavePowerSigns, NoisyFrame, NoisyTrafficHasSentSigns, ◌/◌, get_or, nat_eq, pos, list_any}
+use Rattle.clean_link.proofs.Common.{eq-eqb, get_or-map-places, length-map-places, power_places, symbol_or_power_bit}
 use Rattle.clean_link.proofs.Common.{is_replaced, unscrambled, zipped_at, not, map, ◌+ℤ◌, ◌&&◌, int_lt, range_with_len, ints, list_any_at}
 use Rattle.clean_link.proofs.Common.{places, map-places-all, power_place, power_place_in_groups, pairs_below, pairs_in_groups}
 use Rattle.clean_link.proofs.Common.{pairs_neighbours, ArePairs, power_bit, group_sum, group_sums, map_ext_places, power_bits_at, sent_bits}
 use Rattle.clean_link.proofs.Common.{PowerBitsComeBack, SixteenPowerBitsAreSent, NoisyPowerBitsComeBack, le_false, lt_true}
+use Rattle.chip_core.proofs.Finds.{nat_eq-flipped}
 use Rattle.clean_signal.proofs.signal.CarriersApart.{plan_apart, traffic_sent}
 use Rattle.clean_signal.proofs.frames.ChannelSigns.{strength_some}
 use Rattle.clean_link.proofs.frames.ChannelFrames.{length-scrambling, fingers_are}
@@ -52,23 +53,12 @@ descrambled_some (b ∷ bits) values some = refl
 
 -- ---- replaced places
 
-same_either_way : (a b : ℕ) → nat_eq a b ≡ nat_eq b a
-same_either_way a b = ⊎_elim
-    (λ (same : a ≡ b). rw (eq-eqb a b same, eq-eqb b a (sym same)) refl)
-    (λ (other : (a < b) ⊎ (b < a)). ⊎_elim
-    (λ (less : a < b).
-    rw (ne_eqb a b (λ e. omega (arith, less, e)), ne_eqb b a (λ e. omega (arith, less, e))) refl)
-    (λ (more : b < a).
-    rw (ne_eqb a b (λ e. omega (arith, more, e)), ne_eqb b a (λ e. omega (arith, more, e))) refl)
-    other)
-    (cases_order a b)
-
 -- both tests of a place are one
 same_test : (i : ℕ) (replaced : List ℕ) →
     list_any (λ place. nat_eq place i) replaced ≡ is_replaced replaced i
 same_test i [] = refl
 same_test i (place ∷ replaced) =
-    let here = same_either_way place i in
+    let here = nat_eq-flipped place i in
     let rest = same_test i replaced in
     rw (here, rest) refl
 

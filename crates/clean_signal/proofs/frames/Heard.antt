@@ -4,10 +4,10 @@ use Rattle.clean_signal.proofs.Common.{AllZip, HasSign, HaveSigns, path_finger, 
 use Rattle.clean_signal.proofs.Common.{false, List, [], ◌∷◌, ◌++◌, length, replicate, refl, sym, ap, subst, ◌∙◌, ⊎_elim, arith, ℤ, pos}
 use Rattle.clean_signal.proofs.Common.{flat_map, mul-le-mul_left, replicate-append-replicate, places, xor, zip_with, Sample, frame_chips}
 use Rattle.clean_signal.proofs.Common.{softs, symbols, Finger, Form, Sync, Data, sent, length-sent, IsAllowed, Codeword, Free, own_bits}
-use Rattle.clean_signal.proofs.Common.{frames-none, frames-more, length-frames, CellPlan, continued_symbols, Carrier, phase_at, Scrambles}
+use Rattle.clean_signal.proofs.Common.{flat_map-next, length-frames, CellPlan, continued_symbols, Carrier, phase_at, Scrambles}
 use Rattle.clean_signal.proofs.Common.{frame_softs, frame_start, is_in_file, span_first, span_frames, flat_map_ext_places, AreReadBy}
 use Rattle.clean_signal.proofs.Common.{IsOnlyBest, IsWholeChannel, scrambled_with, span_frame_softs, span_codeword, IsFrameOf, IsHeardBy}
-use Rattle.clean_signal.proofs.Common.{if◌then◌else◌, cases_eq, StreamOf, Channel}
+use Rattle.clean_signal.proofs.Common.{if◌then◌else◌, cases_eq, StreamOf, Channel, flat_map-zero}
 use Rattle.clean_signal.proofs.frames.Scores.{ShowCodeword, shown_codeword_alone, shown_codeword_own, silent_own, frame_at, length-before}
 use Rattle.clean_signal.proofs.frames.Scores.{sent_as_one}
 use Rattle.clean_signal.proofs.noise.Near.{Relates, Turns, signs_turn, unscrambled_related, zipped_frames}
@@ -180,10 +180,10 @@ constant_frames : {A : Type 0} (m n : ℕ) (x : A) →
     flat_map (λ j. replicate m x) (places n) ≡ replicate (m * n) x
 constant_frames {A} m zero x =
     let e : 0 ≡ m * 0 = omega arith in
-    frames-none (λ j. replicate m x) ∙ ap (λ (k : ℕ). replicate k x) e
+    flat_map-zero (λ j. replicate m x) ∙ ap (λ (k : ℕ). replicate k x) e
 constant_frames {A} m (suc n) x =
     let e : m * n + m ≡ m * suc n = omega arith in
-    frames-more (λ j. replicate m x) n
+    flat_map-next (λ j. replicate m x) n
     ∙ ap (λ (r : List A). r ++ replicate m x) (constant_frames m n x)
     ∙ replicate-append-replicate (m * n) m x
     ∙ ap (λ (k : ℕ). replicate k x) e

@@ -7,7 +7,7 @@ use Rattle.clean_signal.proofs.Common.{distinct, Shape, place, sent, shape_of, s
 use Rattle.clean_signal.proofs.Common.{FrameKind, Paging, length-sent, get_or-sent, repeats_some, size_some, place_lt, address-place}
 use Rattle.clean_signal.proofs.Common.{IsAllowed, IsBestCodeword, Codeword, best_codeword, score_of, Free, codewords_same}
 use Rattle.clean_signal.proofs.Common.{zero_codeword_best, by_definition, Channel, channel_for, gathered_span, own_bits, score, sending}
-use Rattle.clean_signal.proofs.Common.{sent_symbols, best_codeword-same, own_is, length-gathered_span, within, frames-none, frames-more}
+use Rattle.clean_signal.proofs.Common.{sent_symbols, best_codeword-same, own_is, length-gathered_span, within, flat_map-zero, flat_map-next}
 use Rattle.clean_signal.proofs.Common.{length-frames, take-frames, score_is, flat_map_ext_places, IsWholeChannel, length-drop, AllZip-long}
 use Rattle.clean_signal.proofs.Common.{signs_agree_alone, inr, cases_lt, drop_at, drop-append-le, take-append-le, state_after, continued}
 use Rattle.clean_signal.proofs.Common.{code_symbols-none, length-state_after, state_after-none, state_after-append, bits_before}
@@ -22,7 +22,7 @@ frame_at f b zero k each lt = absurd (omega (arith, lt))
 frame_at {A} f b (suc m) k each lt =
     let front = flat_map f (places m) in
     let long : length front ≡ b * m = length-frames f b m each in
-    ap (λ (xs : List A). take b (drop (b * k) xs)) (frames-more f m)
+    ap (λ (xs : List A). take b (drop (b * k) xs)) (flat_map-next f m)
     ∙ elim (cases_lt k m) [
       | inl low ↦
           let room = within b m k low in
@@ -59,7 +59,7 @@ state_behind : (bits_of : ℕ → List Bool) (n first frames : ℕ) → 8 ≤ n 
     bits_before bits_of (first + frames)
 state_behind bits_of n first zero enough each =
     let none : first ≡ first + 0 = omega arith in
-    ap (state_after (bits_before bits_of first)) (frames-none (λ j. bits_of (first + j)))
+    ap (state_after (bits_before bits_of first)) (flat_map-zero (λ j. bits_of (first + j)))
     ∙ state_after-none (bits_before bits_of first)
     ∙ ap (bits_before bits_of) none
 state_behind bits_of n first (suc m) enough each =
@@ -69,7 +69,7 @@ state_behind bits_of n first (suc m) enough each =
     let here = bits_of (first + m) in
     let eight : length (state_after start front) ≡ 8 = length-state_after start front ∙
     length-before bits_of n first enough each in
-    ap (state_after start) (frames-more (λ j. bits_of (first + j)) m)
+    ap (state_after start) (flat_map-next (λ j. bits_of (first + j)) m)
     ∙ state_after-append start front here
     ∙ last_eight (state_after start front) here eight (omega (arith, enough, each (first + m)))
     ∙ next_before bits_of (first + m)
@@ -81,22 +81,22 @@ one_codeword : (bits_of : ℕ → List Bool) (n first frames : ℕ) → 8 ≤ n 
     flat_map (λ j. continued_symbols bits_of (first + j)) (places frames) ≡
     code_symbols (bits_before bits_of first) (span_codeword bits_of first frames).bits
 one_codeword bits_of n first zero enough each =
-    frames-none (λ j. continued_symbols bits_of (first + j))
+    flat_map-zero (λ j. continued_symbols bits_of (first + j))
     ∙ sym (ap (code_symbols (bits_before bits_of first))
-    (frames-none (λ j. bits_of (first + j))) ∙
+    (flat_map-zero (λ j. bits_of (first + j))) ∙
     code_symbols-none (bits_before bits_of first))
 one_codeword bits_of n first (suc m) enough each =
     let start = bits_before bits_of first in
     let front = (span_codeword bits_of first m).bits in
     let here = bits_of (first + m) in
-    frames-more (λ j. continued_symbols bits_of (first + j)) m
+    flat_map-next (λ j. continued_symbols bits_of (first + j)) m
     ∙ ap (λ (xs : List Bool). xs ++ continued_symbols bits_of (first + m))
     (one_codeword bits_of n first m enough each)
     ∙ ap (λ (xs : List Bool). code_symbols start front ++ xs) (continued_is bits_of (first + m))
     ∙ ap (λ (xs : List Bool). code_symbols start front ++ code_symbols xs here)
     (sym (state_behind bits_of n first m enough each))
     ∙ sym (continued start front here (length-before bits_of n first enough each))
-    ∙ ap (code_symbols start) (sym (frames-more (λ j. bits_of (first + j)) m))
+    ∙ ap (code_symbols start) (sym (flat_map-next (λ j. bits_of (first + j)) m))
 
 length-continued : (bits_of : ℕ → List Bool) (n k : ℕ) → ((j : ℕ) → length (bits_of j) ≡ n) →
     length (continued_symbols bits_of k) ≡ 2 * n
@@ -160,11 +160,11 @@ pieces_of : (xs : List Bool) (size n : ℕ) →
     take (size * n) xs ≡ flat_map (λ k. take size (drop (size * k) xs)) (places n)
 pieces_of xs size zero =
     let none : size * 0 ≡ 0 = omega arith in
-    ap (λ (k : ℕ). take k xs) none ∙ sym (frames-none (λ k. take size (drop (size * k) xs)))
+    ap (λ (k : ℕ). take k xs) none ∙ sym (flat_map-zero (λ k. take size (drop (size * k) xs)))
 pieces_of xs size (suc n) =
     take-frames xs size n
     ∙ ap (λ (front : List Bool). front ++ take size (drop (size * n) xs)) (pieces_of xs size n)
-    ∙ sym (frames-more (λ k. take size (drop (size * k) xs)) n)
+    ∙ sym (flat_map-next (λ k. take size (drop (size * k) xs)) n)
 
 piece_long : (xs : List Bool) (size n k : ℕ) → length xs ≡ size * n → k < n →
     length (take size (drop (size * k) xs)) ≡ size

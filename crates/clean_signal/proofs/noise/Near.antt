@@ -7,7 +7,7 @@ use Rattle.clean_signal.proofs.Common.{length_all_zip, finger_place, IsClosePair
 use Rattle.clean_signal.proofs.Common.{mul-pos, cases_order, mul-le-mul_right, mul-le, lt_of_mul-lt-mul_left, AllBear, Bears, All-contains}
 use Rattle.clean_signal.proofs.Common.{All-weaker, HasSign, ◌/◌, ap, ◌∙◌, negsuc, diff-plus, diff-same, diff-times, split, soft}
 use Rattle.clean_signal.proofs.Common.{turned_part, Sync, Data, soft_is, scaled, unsigned_abs-mul, mul-lt-mul_of_pos_left, turned_part-is}
-use Rattle.clean_signal.proofs.Common.{sym, xor, zip_with, frames-none, frames-more, signed, symbols, flat_map, places, Scrambles}
+use Rattle.clean_signal.proofs.Common.{sym, xor, zip_with, flat_map-zero, flat_map-next, signed, symbols, flat_map, places, Scrambles}
 use Rattle.clean_signal.proofs.Common.{descrambled, unscrambled, scrambled_with, softs, CellPlan, Carrier, IsFrameOf, path_finger, AllZip}
 use Rattle.clean_signal.proofs.Common.{AllZip-map, zipped_append}
 use Rattle.clean_signal.specs.BoundedNoise as laws
@@ -424,9 +424,9 @@ Relates R plan c form samples = (u frame : ℕ) → IsFrameOf plan c form u fram
 pub zipped_frames : {A B : Type 0} (R : A → B → Type 0) (f : ℕ → List A) (g : ℕ → List B) (n : ℕ) →
     ((j : ℕ) → j < n → AllZip R (f j) (g j)) →
     AllZip R (flat_map f (places n)) (flat_map g (places n))
-zipped_frames R f g zero each = rw (frames-none f, frames-none g) tt
+zipped_frames R f g zero each = rw (flat_map-zero f, flat_map-zero g) tt
 zipped_frames R f g (suc n) each =
-    rw (frames-more f n, frames-more g n)
+    rw (flat_map-next f n, flat_map-next g n)
     (zipped_append R (flat_map f (places n)) (f n) (flat_map g (places n)) (g n)
     (zipped_frames R f g n (λ j lt. each j (omega (arith, lt)))) (each n (omega arith)))
 

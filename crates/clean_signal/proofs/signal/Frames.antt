@@ -8,6 +8,7 @@ use Rattle.clean_signal.proofs.Common.{length-replicate, get_or-replicate, sum_o
 use Rattle.clean_signal.proofs.Common.{swap_products, neg_times, split, diff-times, diff-same, walsh, covered_from, despread_at, pilot_sum}
 use Rattle.clean_signal.proofs.Common.{symbol_sum, turned_part, Finger, pilot_is, symbol_is, soft_is, amplitudes, scaled, phase_at, AllZip}
 use Rattle.clean_signal.proofs.Common.{get_or-map-places, length-map-places, places, zipped_by_place}
+use Rattle.rake_finger.proofs.Sooner.{symbol_inside, window_inside}
 use Rattle.clean_signal.proofs.signal.Rows.{level_at-alone, level_in, chips_sum}
 use Rattle.clean_signal.proofs.noise.Near.{IsSigned, Relates, soft_sign}
 use Rattle.clean_signal.proofs.signal.Samples.{file_total}
@@ -30,18 +31,6 @@ symbol_is_blocks Data = refl
 window_is_blocks : (form : Form) → window_chips form ≡ 64 * window_blocks form
 window_is_blocks Sync = refl
 window_is_blocks Data = refl
-
--- symbols lie in their frame, and so do the windows whose pilot turns them
-pub symbol_room : (form : Form) (j : ℕ) → j < symbols form →
-    symbol_chips form * j + symbol_chips form ≤ frame_chips form
-symbol_room Sync j lt = omega (arith, lt)
-symbol_room Data j lt = omega (arith, lt)
-
-pub window_room : (form : Form) (j : ℕ) → j < symbols form →
-    window_chips form * (symbol_chips form * j / window_chips form) + window_chips form
-    ≤ frame_chips form
-window_room Sync j lt = omega (arith, lt)
-window_room Data j lt = omega (arith, lt)
 
 -- ---- what a row finds over whole blocks of the file
 
@@ -166,8 +155,8 @@ soft_at plan form row u b j l low apart below at room lt each =
     let samples = made_samples plan in
     let finger = path_finger plan row in
     let w = symbol_chips form * j / window_chips form in
-    let window = window_room form j lt in
-    let symbol = symbol_room form j lt in
+    let window = window_inside form j lt in
+    let symbol = symbol_inside form j lt in
     sym (soft_is samples finger form u j)
     ∙ ap (λ (z : Pair). turned_part z (symbol_sum samples finger form u j))
     (window_total plan form row u b w low apart at (omega (arith, room, window)))
@@ -337,8 +326,8 @@ noisy_sign plan c form u frame j e samples low apart has is near bears few =
     let b = start / 64 in
     let at : start ≡ 64 * b = omega (arith, whole) in
     let bit = get_or (c.symbols frame) j false in
-    let window = window_room form j few in
-    let symbol = symbol_room form j few in
+    let window = window_inside form j few in
+    let symbol = symbol_inside form j few in
     let room = is.room in
     soft_sign e c.gain plan.pilot.gain bit plan.link.factor form samples (made_samples plan)
     (path_finger plan c.row) u j near

@@ -4,7 +4,7 @@ use Rattle.std.specs.List.{flat_map}
 use Rattle.chip_core.specs.Bits.{places}
 use Rattle.chip_core.proofs.Ranges.{flat_map-places-more}
 use Rattle.frame_decoder.specs.Spans.{paging_channel}
-use Rattle.frame_decoder.proofs.Parts.{frames-none}
+use Rattle.chip_core.proofs.Counted.{flat_map-zero}
 use Rattle.slot_mode.specs.Frames.{slot_frame_bits, slot_bits}
 use Rattle.slot_mode.proofs.frames.slot_bits.Goals as goal
 
@@ -13,7 +13,7 @@ loop-frame-init c =
     let size = (paging_channel c.args.rate).bits in
     let none : 0 ≡ size * 0 = omega arith in
     record {
-      value = c.empty-bits.ensures ∙ sym (frames-none (slot_frame_bits c.args.rate c.args.softs.now));
+      value = c.empty-bits.ensures ∙ sym (flat_map-zero (slot_frame_bits c.args.rate c.args.softs.now));
       long = ap length c.empty-bits.ensures ∙ none;
       kept = refl;
     }
