@@ -1,15 +1,17 @@
 -- The sample file: its header and samples as bytes, and what a reader of it answers.
 use Rattle.std.specs.Prelude.{◌≡◌, ◌≢◌, ℕ, ◌+◌, ◌*◌, ◌-◌, ◌/◌, ◌%◌, ◌<◌, ◌≤◌, ◌==◌, nat_eq, nat_le}
 use Rattle.std.specs.Prelude.{nat_lt, Bool, true, if◌then◌else◌, List, [], ◌∷◌, ◌++◌, length, drop}
-use Rattle.std.specs.Prelude.{All, Option, None, Some, Result, Ok, Err, ℤ, FitsSigned, ⊤}
+use Rattle.std.specs.Prelude.{All, Option, None, Some, Result, Ok, Err, OnOk, OnErr, IfErr, ℤ}
+use Rattle.std.specs.Prelude.{⊤, FitsSigned}
 use Rattle.std.specs.Int.{cast_unsigned, w8, w16}
 use Rattle.std.specs.Int as integers
 use Rattle.std.specs.List.{flat_map, starts_with}
-use Rattle.std.specs.Io.KnownBytes.{IsAtEnd}
+use Rattle.std.specs.Io.KnownBytes.{Consumes, IsAtEnd}
 use Rattle.byteorder.specs.Endian.{big_bytes, big_number}
 use Rattle.chip_core.specs.declared.check_form.CheckForm.{CheckForm}
 use Rattle.chip_core.specs.declared.check_form.CheckForm.TheVariants.{Plain, Complemented}
 use Rattle.chip_core.specs.declared.sample.Sample.{Sample}
+use Rattle.cdma_io.specs.Outside.{ConsumesAtMost, ConsumesFewer, Rose}
 use Rattle.cdma_io.specs.declared.file_fault.FileFault.{FileFault}
 use Rattle.cdma_io.specs.declared.file_fault.FileFault.TheVariants.{Magic, Version, Flags, Count}
 use Rattle.cdma_io.specs.declared.file_fault.FileFault.TheVariants.{Short, Extra, ReadFault, TooFew}
@@ -160,6 +162,20 @@ CutsShort (Short place) wanted from (Some bytes) new =
     (length bytes < wanted) × (place ≡ from + length bytes) × IsAtEnd new
 CutsShort ReadFault wanted from old new = ⊤
 CutsShort _ wanted from old new = ⊥
+
+-- What a read of so many samples says, which begin at a place of the file. Where it answers, the
+-- bytes that were consumed are those of the samples, whose parts fit the width. Where it fails, the
+-- file ends before them, or a take failed and the count of faults rose. No more bytes than theirs
+-- are consumed, and fewer where it fails.
+pub record ReadsSamples {T : Type 0} (width : Width) (place count : ℕ) (old new : Option (List ℕ))
+    (before now : ℕ) (samples : List Sample) (result : Result T FileFault) : Type 0 where
+  pub spelled : OnOk result (Consumes old new (flat_map (sample_spelling width) samples))
+  pub in_range : OnOk result (All (HasBits width) samples)
+  pub fault : IfErr result (λ e. CutsShort e (sample_len width * count) place old new)
+  pub taken : ConsumesAtMost (sample_len width * count) old new
+  pub fewer : OnErr result (ConsumesFewer (sample_len width * count) old new)
+  pub later : before ≤ now
+  pub cause : result ≡ Err ReadFault → Rose before now
 
 -- the file has more bytes than its samples, or a read failed
 abbrev pub RunsOn : FileFault → ℕ → Option (List ℕ) → Type 0

@@ -1,11 +1,8 @@
 //! The samples of a file, as bytes.
 
-ghost use Rattle.std.specs.Prelude.{◌≡◌, ◌<◌, ◌≤◌, ◌+◌, ◌*◌, ◌^◌, length, All, OnOk, OnErr, IfErr};
-ghost use Rattle.std.specs.Prelude.{Err};
+ghost use Rattle.std.specs.Prelude.{◌≡◌, ◌<◌, ◌≤◌, ◌+◌, ◌*◌, ◌^◌, length, All};
 ghost use Rattle.std.specs.List.{flat_map};
-ghost use Rattle.std.specs.Io.KnownBytes.{Consumes};
-ghost use Rattle.cdma_io.specs.Outside.{ConsumesAtMost, ConsumesFewer, Rose};
-ghost use Rattle.cdma_io.specs.SampleFile.{CutsShort, HasBits, sample_len, sample_spelling};
+ghost use Rattle.cdma_io.specs.SampleFile.{HasBits, ReadsSamples, sample_len, sample_spelling};
 
 use crate::file_fault::FileFault;
 use crate::filling::fill;
@@ -76,18 +73,8 @@ fn read_piece<S: Source>(
 ) -> Result<(), FileFault>
     requires few { length out.old ≤ MOST_AT_ONCE }
     requires place_fits { place + 4 * length out.old < 2 ^ 64 }
-    ensures spelled { OnOk result (Consumes (S.rest source.old) (S.rest source.new)
-        (flat_map (sample_spelling width) out.new)) }
-    ensures in_range { OnOk result (All (HasBits width) out.new) }
-    ensures fault { IfErr result (λ e. CutsShort e (sample_len width * length out.old) place
-        (S.rest source.old) (S.rest source.new)) }
-    ensures taken { ConsumesAtMost (sample_len width * length out.old)
-        (S.rest source.old) (S.rest source.new) }
-    ensures fewer { OnErr result (ConsumesFewer (sample_len width * length out.old)
-        (S.rest source.old) (S.rest source.new)) }
-    ensures later { S.faults source.old ≤ S.faults source.new }
-    ensures cause { result ≡ Err FileFault.ReadFault →
-        Rose (S.faults source.old) (S.faults source.new) }
+    ensures { ReadsSamples width place (length out.old) (S.rest source.old) (S.rest source.new)
+        (S.faults source.old) (S.faults source.new) out.new result }
 {
     let mut bytes = [0; 4 * MOST_AT_ONCE];
     let wanted = bytes_for(width, out.len() as u64) as usize;
@@ -109,18 +96,8 @@ pub fn read_samples<S: Source>(
     out: &mut [Sample],
 ) -> Result<(), FileFault>
     requires { place + 4 * length out.old < 2 ^ 64 }
-    ensures spelled { OnOk result (Consumes (S.rest source.old) (S.rest source.new)
-        (flat_map (sample_spelling width) out.new)) }
-    ensures in_range { OnOk result (All (HasBits width) out.new) }
-    ensures fault { IfErr result (λ e. CutsShort e (sample_len width * length out.old) place
-        (S.rest source.old) (S.rest source.new)) }
-    ensures taken { ConsumesAtMost (sample_len width * length out.old)
-        (S.rest source.old) (S.rest source.new) }
-    ensures fewer { OnErr result (ConsumesFewer (sample_len width * length out.old)
-        (S.rest source.old) (S.rest source.new)) }
-    ensures later { S.faults source.old ≤ S.faults source.new }
-    ensures cause { result ≡ Err FileFault.ReadFault →
-        Rose (S.faults source.old) (S.faults source.new) }
+    ensures { ReadsSamples width place (length out.old) (S.rest source.old) (S.rest source.new)
+        (S.faults source.old) (S.faults source.new) out.new result }
 {
     let mut done = 0;
     while done < out.len() {
