@@ -5,11 +5,11 @@ ghost use Rattle.std.specs.Prelude.{◌≡◌, ◌<◌, ◌≤◌, List, [], ◌
 use std::alloc::AllocError;
 use std::marker::Model;
 
-/// What stands in the places of a list that aren't used.
-pub(crate) trait Filler: Copy {
+/// What a short list holds.
+pub trait Filler: Copy {
     ghost filler: { Self };
 
-    /// The filler.
+    /// What stands in the places of a list that aren't used.
     fn filler() -> Self
         ensures { result ≡ filler };
 }

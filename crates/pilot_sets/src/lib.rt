@@ -9,6 +9,7 @@
 
 mod change;
 mod directing;
+mod each_pilot;
 mod fault;
 mod few;
 mod handoff;
@@ -27,7 +28,9 @@ mod thresholds;
 mod timers;
 
 pub use change::SetChange;
+pub use each_pilot::EachPilot;
 pub use fault::DirectionFault;
+pub use few::Filler;
 pub use lists::{Active, ActiveList, PilotList};
 pub use sets::Sets;
 pub use strengths::{Strength, Strengths};

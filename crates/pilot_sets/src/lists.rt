@@ -1,9 +1,9 @@
 //! The lists that the sets show.
 
-ghost use Rattle.std.specs.Prelude.{◌≡◌, ◌<◌, ◌≤◌, ◌+◌, ◌++◌, [], length, map, slice_get, Some};
-ghost use Rattle.std.specs.Prelude.{◌↔◌, IsTrue};
+ghost use Rattle.std.specs.Prelude.{◌≡◌, ◌<◌, ◌≤◌, length, map, slice_get, Some};
 ghost use Rattle.pilot_sets.specs.Standing.{shown_active};
 
+use crate::each_pilot::EachPilot;
 use crate::few::{Few, Filler};
 use crate::standing::ActivePilot;
 use std::marker::Model;
@@ -70,63 +70,8 @@ impl ActiveList {
     }
 }
 
-/// A list of at most 36 pilots, each its offset (PILOT_PN). Contracts see the list.
-#[derive(Clone, Copy, PartialEq, Eq, Debug)]
-pub struct PilotList {
-    list: Few<u16, 36>,
-}
-
-impl Model for PilotList {
-    ghost use Rattle.std.specs.Prelude.{List, ℕ};
-
-    ghost Value = { List ℕ };
-
-    ghost view = { λ l. l.list };
-
-    ghost inverse = { λ l. record { list = l } };
-}
-
-impl PilotList {
-    /// The list of no pilots.
-    pub(crate) fn empty() -> PilotList
-        ensures { result ≡ [] }
-    {
-        PilotList { list: Few::empty() }
-    }
-
-    /// How many pilots the list has.
-    pub fn len(&self) -> u8
-        ensures value { result ≡ length self.now }
-        ensures most { result ≤ 36 }
-    {
-        self.list.all().len() as u8
-    }
-
-    /// Whether the list has no pilots.
-    pub fn is_empty(&self) -> bool
-        ensures { IsTrue result ↔ (self.now ≡ []) }
-    {
-        self.list.all().is_empty()
-    }
-
-    /// Pilot `i`, counted from 0.
-    pub fn get(&self, i: u8) -> u16
-        requires { i < length self.now }
-        ensures { slice_get self.now i ≡ Some result }
-    {
-        self.list.all()[usize::from(i)]
-    }
-
-    /// Adds pilots at the end.
-    pub(crate) fn add(&mut self, pilots: &[u16])
-        requires { length self.old + length pilots.now ≤ 36 }
-        ensures { self.new ≡ self.old ++ pilots.now }
-    {
-        for p in pilots {
-            self.list.push(*p);
-        }
-    }
-}
+/// A list of at most 36 pilots, each its offset (PILOT_PN).
+pub type PilotList = EachPilot<u16>;
 
 /// The active set, as it is shown.
 pub(crate) fn active_list(actives: &[ActivePilot]) -> ActiveList
