@@ -183,7 +183,8 @@ best_codewords format_of kept = record {
   first = λ r. refl;
 }
 
--- so that frame is decoded, among the rates of a set,
+-- Soft values with the signs of a frame's symbols, which no other codeword shares, are decoded as that frame:
+-- to choose the highest rate after the lower ones is the rising choice among all rates, which takes that frame.
 pub signs_decoded : {R D : Type 0} (format_of : R → FrameFormat R) (shown : DecodedFrame R → D) (highest : R)
     (lower : List R) → ((r : R) → (format_of r).rate ≡ r) → ((r : R) → IsAmong r (lower ++ highest ∷ [])) →
     DecodesBySigns format_of shown
@@ -200,7 +201,8 @@ signs_decoded {R} format_of shown highest lower named among replaced rate inform
     (λ ks r. codeword_in ks (format_of r) ∷ []) named among (best_codewords format_of) few long long' keeps
     unshared)
 
--- and one number times the signs has the signs, and its sum is the score
+-- A decoder that goes by signs decodes sent frames: soft values that show a frame's symbols with one strength
+-- have their signs, and the score is that strength once for each place that no power control bit replaces.
 pub shown_decoded : {R D : Type 0} (format_of : R → FrameFormat R) (shown : DecodedFrame R → D)
     (decoded : List ℕ → List ℤ → D) → DecodesBySigns format_of shown decoded →
     DecodesSentFrames format_of shown decoded
@@ -213,7 +215,8 @@ shown_decoded format_of shown decoded signs n replaced rate information softs so
     (shown_score n replaced xs softs some long (length-symbols_in format w) shows)
 
 -- ---- nothing heard
--- the best codeword is that of zeros
+-- Where nothing was heard the best codeword is that of zeros: every codeword scores 0 for the
+-- frame, as it does for code symbols of 0, where the codeword of zeros is the best one.
 zeros_codeword : {R : Type 0} (n : ℕ) (format : FrameFormat R) → codeword_in (replicate n (pos 0)) format
     ≡ record { start = replicate 8 false; bits = replicate (bits_in format) false }
 unfolding codeword_in

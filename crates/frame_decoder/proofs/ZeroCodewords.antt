@@ -28,7 +28,8 @@ pub best_zero_codeword_allowed : (f : Codeword → ℤ) (n : ℕ) → 8 ≤ n �
 unfolding best_codeword
 best_zero_codeword_allowed f n least = codeword_at_allowed Zero n _ least
 
--- and no allowed codeword has a greater score
+-- No allowed codeword has a greater score than the best one: it has a number among all of them, and
+-- the best one's number has the greatest score.
 pub best_zero_codeword_greatest : (f : Codeword → ℤ) (n : ℕ) (w : Codeword) → 8 ≤ n → IsAllowed Zero n w →
     f w ≤ℤ f (best_codeword f Zero n)
 unfolding best_codeword

@@ -19,7 +19,8 @@ pilots_shown : (actives : List ActivePilot) →
 pilots_shown [] = refl
 pilots_shown (a ∷ actives) = ap (λ (ps : List ℕ). a.pilot ∷ ps) (pilots_shown actives)
 
--- an active pilot is an offset
+-- An active pilot is an offset below 512: orderly sets list no number more often than it has
+-- places, a number from 512 on has none, and what is shown of the sets has the same pilots.
 pub active_offset : (s : PilotSets) → IsOrderly s → (i : ℕ) (a : Active) →
     slice_get (map shown_active s.active) i ≡ Some a → a.pilot < 512
 active_offset s is i a read =

@@ -143,7 +143,8 @@ frames_ordered {count} s timed bound enough = record {
 }
 
 module _ (a : Arrivals) (o : AreOrdered a) where
-  -- the next one is the first of those that are left
+  -- The next thing, where it is known just now, is the first of those that are left: those before
+  -- it are not left, and it is below the bound, since all from the bound on are known later.
   pub next_left : (next n : ℕ) → a.inside next ≡ true → a.known next ≡ n →
       left a next n ≡ next ∷ left a (next + 1) n
   next_left next n inside known =

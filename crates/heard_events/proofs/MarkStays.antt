@@ -101,7 +101,8 @@ module _ (t : Tuning) (low : ℕ) (timed : IsSyncTimed t low) where
       let parts = by_parts (sync_frames t) n k h in
       marks_at_sooner t low timed xs ys k parts.0 (omega (arith, parts.1, few))))
 
-  -- where it isn't set no frame that is known sets it
+  -- Where the mark isn't set, no frame that is known sets it: a frame that set one, or one before
+  -- it, would give a mark up to there, and such a mark is told within these samples.
   unset : (samples : List Sample) (n k : ℕ) (m : Mark) → mark t samples n ≡ None →
       sync_in_file t k ≡ true → sync_known t k ≤ n → ¬ (first_of (marks_at t samples k) ≡ Some m)
   unset samples n k m none inside known = λ sets.
@@ -193,7 +194,8 @@ module _ (t : Tuning) (near : AreNear (sync_stream t).fingers) (channel : ℕ) w
       IsTimed t.count (paging_stream t channel m) (low_in (paging_stream t channel m))
   paging_timed m = timed_in t.count (paging_stream t channel m) (paging_near m)
 
-  -- no frame is known before the mark
+  -- No frame is known before the mark: the channel's frames start there or later, take 24,576
+  -- chips, and are known when they have ended on all fingers.
   pub paging_later : (m : Mark) (k : ℕ) → is_in_file t.count (paging_stream t channel m) k ≡ true →
       m.sample + 24576 ≤ known_at t.count (paging_stream t channel m) k
   unfolding stream_end
@@ -231,7 +233,8 @@ pilot_alone phase deltas true f c h = refl
 pilot_alone phase deltas false f c h = absurd (cc)
 
 module _ (t : Tuning) (near : AreNear (sync_stream t).fingers) (traffic : Traffic) where
-  -- before the first moment it is active alone, and its paths are close
+  -- Before the first moment the mark's pilot is active alone, and its paths are close: they are those
+  -- of the reference on another Walsh row, which are near there as they are on the sync channel's.
   first_close : (m : Mark) →
       AreClose (all_fingers t.phase t.deltas (legs_of m (new_standing m.pilot traffic.row)))
   first_close m =

@@ -115,7 +115,8 @@ module _ (t : Tuning) (samples : List Sample) (k low : ℕ) (timed : IsSyncTimed
       (frame_start (sync_stream t) (k + 1 - frames_open t samples (k + 1))) (sync_known t k))
       ∙ ap is_some sets
 
-  -- it is among those of the number of samples at which its frame is known
+  -- The event that sets the mark is among those of the number of samples at which its frame is known:
+  -- the frame lies in the file and is known then, and it is below the bound of the frames asked.
   among_sync : list_any sets_mark (sync_events_at t samples (sync_known t k)) ≡ true
   unfolding sync_events_at
   among_sync =

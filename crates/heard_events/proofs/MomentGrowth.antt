@@ -35,7 +35,8 @@ module _ (t : Tuning) (traffic : Traffic) (m : Mark) where
       let early : nat_le i j ≡ true = le-leb i j most in
       rw (add-one, early) refl
 
-  -- more samples after a moment leave what is kept up to it
+  -- What is kept up to a moment stays where more samples follow it: by induction over the moments,
+  -- each of which hears only samples up to its own place, and these are the same.
   pub kept_sooner : (xs ys : List Sample) (j : ℕ) → (0 < j → moment_place m j ≤ length xs) →
       kept_to t traffic m (xs ++ ys) j ≡ kept_to t traffic m xs j
   unfolding kept_to

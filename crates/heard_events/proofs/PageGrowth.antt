@@ -136,7 +136,8 @@ module _ (t : Tuning) (channel : ℕ) (m : Mark) where
         stays_now frames (λ xs n k. pages_from t channel m xs k 0)
         (λ n. pages_from_sooner 0)
 
-    -- the messages of a frame that is known just now are the first of those left
+    -- The messages of a frame that is known just now are the first of those left: it is the first
+    -- frame left, they begin at the place asked for, and each later frame gives all of its own.
     pub left_next : (heard : List Sample) (next place : ℕ) →
         (page_frames t channel m).inside next ≡ true →
         (page_frames t channel m).known next ≡ length heard →

@@ -46,7 +46,8 @@ pub upper_gain : (f s : ℤ) (t : ℕ) → t < 128 →
     gain_by f s (lane_code_of (128 + t)) ≡ pos 0 -ℤ gain_by f s (lane_code_of t)
 upper_gain f s t b = turned_gain f s (lane_code_of t) (lane_code_of (128 + t)) (turned_code t b)
 
--- one pair of blocks more
+-- After one pair of blocks more all states of the pairs so far have their picks: the lower block's by its
+-- gain, the upper block's by the opposite gain, which its code symbols have, and all others stay as before.
 pub pair_more : (ranks gain next new : List ℤ) (choices chosen : List ℕ) (f s : ℤ) (block : ℕ) →
     block < 64 →
     ((l : ℕ) → l < 2 → get_or gain l (pos 0) ≡ gain_by f s (lane_code_of (2 * block + l))) →

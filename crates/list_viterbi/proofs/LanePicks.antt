@@ -47,7 +47,8 @@ lane_sums made ranks at (suc zero) (x ∷ y ∷ []) g b long is (suc (suc (suc (
     absurd (omega (arith, c))
 lane_sums made ranks at (suc (suc l)) (x ∷ y ∷ []) g b long is r c = absurd (omega (arith, b))
 
--- the turns of a lane are the picks into its state
+-- The turns of a lane are the picks into its state: its two lists are the sums of the scores of the
+-- state's even and odd predecessor, and turns of both lists of sums are the picks of their merge.
 pub lane_picks : (ranks xs ys : List ℤ) (t : ℕ) (g : ℤ) → length xs ≡ 4 → length ys ≡ 4 →
     AreSums (four_of ranks (2 * (t % 128) + 0)) g 0 xs →
     AreSums (four_of ranks (2 * (t % 128) + 1)) (pos 0 -ℤ g) 0 ys →
@@ -66,7 +67,8 @@ lane_picks ranks xs ys t g m n p q =
     (all_turns 4 (four_of ranks a) (four_of ranks b) g (pos 0 -ℤ g) xs ys (omega arith)
     (omega arith) m n p q))
 
--- both scores and choices of a lane of four turns
+-- After four turns a lane has the scores and choices of the picks into its state: read on that lane
+-- they are the turns of its two lists, and these are the sums of the state's two predecessors.
 pub block_picks : (made made' : ℤ → ℤ → ℤ) (ranks gain : List ℤ) (at l t : ℕ) (g : ℤ) → l < 2 →
     length gain ≡ 2 → ((x : ℤ) → made x (get_or gain l (pos 0)) ≡ x +ℤ g) →
     ((x : ℤ) → made' x (get_or gain l (pos 0)) ≡ x +ℤ (pos 0 -ℤ g)) →

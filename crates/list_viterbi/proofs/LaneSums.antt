@@ -73,7 +73,8 @@ weight_at [] l b h = absurd (omega (arith, b))
 weight_at (x ∷ xs) zero b h = h.0
 weight_at (x ∷ xs) (suc l) b h = weight_at xs l (omega (arith, b)) h.1
 
--- Four weights, each of 0 to 8, add up to 0 to 32 in either lane.
+-- Four weights, each of 0 to 8, add up to 0 to 32 in either lane, since the lane's sum is that of
+-- the one weight which each of the four heads has there.
 pub lane_up : (l : ℕ) (h : Heads) → l < 2 → HeadsLong h → AreWeights h → UpTo 32 (lane_sum l h)
 lane_up l h b long small =
     let first = weight_at h.first l (omega (arith, b, long.first)) small.first in
@@ -90,7 +91,8 @@ lane_up l h b long small =
     let i = fourth.1 in
     (omega (arith, ints, a, b', c, d), omega (arith, ints, e, f, g, i))
 
--- a state's sum is read
+-- What is read of a lane is the sum of its state's four weights: two are added to each half and
+-- both halves to the sum, none of which is above 32, so each fits and is read as it is.
 pub sum_read : (h : Heads) (low high sums : List ℤ) (l : ℕ) → l < 2 → HeadsLong h → AreWeights h →
     low ≡ zip2 (λ x y. x +ℤ y) (passed h.first) (passed h.second) →
     high ≡ zip2 (λ x y. x +ℤ y) (passed h.third) (passed h.fourth) →

@@ -14,7 +14,8 @@ chosen : {A B : Type 0} (R : A → B → Type 0) (t : Bool) (x y : A) (u v : B) 
 chosen R true x y u v xs ys us vs p q ps qs = (q, qs)
 chosen R false x y u v xs ys us vs p q ps qs = (p, ps)
 
--- where pairs have the same score, merges of pairs are pairs
+-- Where paired things have the same score, merges of lists that are paired place by place are paired
+-- too: by induction over how many are merged, since equal scores decide each step the same way.
 pub merge_pairs : {A B : Type 0} (R : A → B → Type 0) (f : A → ℤ) (g : B → ℤ) →
     ((x : A) (u : B) → R x u → f x ≡ g u) → (k : ℕ) (xs ys : List A) (us vs : List B) →
     Pairs R xs us → Pairs R ys vs → Pairs R (merge f k xs ys) (merge g k us vs)

@@ -94,7 +94,8 @@ pub picked_long : (k : ℕ) (xs ys : List Pick) (i j n : ℕ) (scores : List ℤ
 picked_long k xs ys i j n scores choices p =
     sym (length-map p.taken pick_score) ∙ ap length (sym p.values)
 
--- one pick more
+-- With one pick more the scores and choices are again those of the picks taken: its score comes
+-- last, its bit is put on top of the choices, and the ones among them count the odd list's picks.
 picked_more : (k : ℕ) (xs ys : List Pick) (i j n i' j' : ℕ) (scores : List ℤ) (choices new : ℕ)
     (value : ℤ) (b : Bool) (pick : Pick) (p : IsPicked k xs ys i j n scores choices) →
     IsPart pick_score k xs ys i' j' (n + 1) (p.taken ++ pick ∷ []) → value ≡ pick.score →
@@ -188,7 +189,8 @@ picked_over k i j n even g ys scores choices over next p =
       chosen = p.chosen;
     }
 
--- where both lists go on, by the test of their sums
+-- Where both lists go on, the next pick is taken by the test of their sums: the odd list has it exactly
+-- where its sum is the greater one, so the step is the one for the odd list or for the even one.
 pub picked_next : (k i j n i' j' : ℕ) (even odd : List ℤ) (g h : ℤ) (scores : List ℤ)
     (choices new weight : ℕ) (value : ℤ) (b : Bool) → weight ≡ 2 ^ length scores →
     i < length even → j < length odd →

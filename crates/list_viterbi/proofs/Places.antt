@@ -77,7 +77,8 @@ apart f a b h = by_test (eqb a b) refl where
       absurd (⊎_elim (λ less. less_self (f a) (f b) (ap f same) less) (λ tie. let r = tie.1 in
       omega (arith, r, same)) h)
 
--- n places leave none
+-- Where n places or more are taken, no number below n is free: with a free one after them they
+-- would be more than n distinct numbers below n, since each is before the ones that follow it.
 none_free : (f : ℕ → ℤ) (n k : ℕ) (ps : List ℕ) → ArePlaces f n k ps → n ≤ length ps → (i : ℕ) →
     i < n → list_any (nat_eq i) ps ≡ false → ⊥
 none_free f n k ps h full i within free =

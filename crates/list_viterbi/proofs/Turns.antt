@@ -79,7 +79,8 @@ next_even : (i : ℕ) (b : Bool) → i + 1 - digit b + digit b ≡ i + 1
 next_even i true = omega arith
 next_even i false = omega arith
 
--- so many turns more
+-- The picks so far and m turns more are all picks of the merge: by induction over the turns, each
+-- of which takes the next pick by the first two sums and leaves the sums from the next places on.
 pub turns_pick : (m k i j n : ℕ) (even odd : List ℤ) (g h : ℤ) (xs ys scores : List ℤ)
     (choices weight : ℕ) → weight ≡ 2 ^ length scores → i + m ≤ length even →
     j + m ≤ length odd → length xs ≡ m → length ys ≡ m →

@@ -86,7 +86,8 @@ first_codewords-same f g n k least h =
     (first_places-same k (λ r. f (codeword_at Zero n r)) (λ r. g (codeword_at Zero n r)) (codeword_count Zero n)
     (λ r. h (codeword_at Zero n r) ((codeword_at_allowed Zero n r least).bits_long)))
 
--- each is allowed
+-- Each of the first codewords is allowed, since it is the codeword of one of their numbers, and
+-- every codeword that has a number is allowed where a format has at least 8 bits.
 pub codewords_allowed : (k : ℕ) (softs : List ℤ) (format : FrameFormat Rate) →
     All (IsAllowed Zero (bits_in format)) (codewords_in k softs format)
 codewords_allowed k softs format = λ i d b.
@@ -104,7 +105,8 @@ one_codeword softs format =
     ap (map (codeword_at Zero n))
     (first_place (λ r. score_in softs format (codeword_at Zero n r)) (codeword_count Zero n) (pow_pos (n - 8)))
 
--- and always the best codeword is the first
+-- The best codeword is always the first of the codewords: the first of the places is that of the
+-- greatest score, however many places there are, and the codewords are those at these places.
 pub best_first : (k : ℕ) (softs : List ℤ) (format : FrameFormat Rate) → 0 < k →
     take 1 (codewords_in k softs format) ≡ codeword_in softs format ∷ []
 unfolding codeword_in best_codeword

@@ -24,7 +24,8 @@ bits_left v k left is =
     let place : 2 * k + 2 ≡ 2 * (k + 1) = omega arith in
     ap (λ (n : ℕ). n / 4) is ∙ shr-shr v (2 * k) 2 ∙ ap (λ (e : ℕ). v / 2 ^ e) place
 
--- the product of two bits more, by a table of these products
+-- The table adds the product of two bits more: its entry is the product of these two bits at their
+-- place, and the product of the joined bits is the exclusive or of the parts' products.
 pub pair_more : (table : List (List ℕ)) (v k left sum : ℕ) → table ≡ products → k < 21 →
     left ≡ v / 2 ^ (2 * k) → sum ≡ after (v % 2 ^ (2 * k)) 64 →
     bit_xor sum (slice_index_or (slice_index_or table k []) (bit_and left 3) 0)

@@ -9,7 +9,8 @@ use Rattle.long_code.proofs.Common.{permuted, traffic_mask, number-binary, numbe
 number-push : (bs : List Bool) (b : Bool) → number (bs ++ b ∷ []) ≡ 2 * number bs + digit b
 number-push bs b = number_from-append 0 bs (b ∷ [])
 
--- one field more
+-- A field of w bits more multiplies the number by 2^w and adds the field's own number: by induction
+-- over w, since each last bit doubles the number before it and adds its digit.
 number-field : (bs : List Bool) (w n : ℕ) → n < 2 ^ w →
     number (bs ++ binary w n) ≡ number bs * 2 ^ w + n
 unfolding binary

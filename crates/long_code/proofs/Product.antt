@@ -69,7 +69,8 @@ digits_more value place h =
     let next : place - 1 + 1 ≡ place = omega (arith, h) in
     shr-shr value (place - 1) 1 ∙ ap (λ (e : ℕ). value / 2 ^ e) next
 
--- one turn of the product's loop
+-- One turn of the loop gives the product of the value with one digit more: one chip more doubles
+-- the value's digits so far, and the bit, which is the next digit, adds the product of 1.
 pub product_more : (value place chips sum : ℕ) (bit : Bool) → 0 < place → value < 2 ^ 42 →
     sum ≡ after (value / 2 ^ place) chips → bit ≡ nat_eq (bit_and (value / 2 ^ (place - 1)) 1) 1 →
     cond bit (bit_xor (after sum 1) (after 1 chips)) (after sum 1) ≡

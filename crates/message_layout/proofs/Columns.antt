@@ -115,7 +115,8 @@ columns_head (a ∷ b ∷ c ∷ []) n bits h =
     ∷ field c v ∷ []) (in_row ws 2 bits (omega arith))
 columns_head (a ∷ b ∷ c ∷ d ∷ ws) n bits h = absurd (omega (arith, h))
 
--- what is read is spelled so
+-- The bits are the spelling of the records that are read, whose fields all fit, and then what comes
+-- after it: by induction over the records, the first one being read before the others.
 pub records_there : (ws : List ℕ) (n : ℕ) (bits : List Bool) → length ws ≤ 3 →
     n * total_width ws ≤ length bits →
     FieldsFit (record_fields ws n (columns_in ws n bits))
@@ -201,7 +202,8 @@ whole : (column : List ℕ) (n : ℕ) → length column ≡ suc n → head colum
 whole [] n h = absurd (omega (arith, h))
 whole (x ∷ column) n h = refl
 
--- a column is read again
+-- A column is read again from the spelled records: by induction over them, since the first record
+-- gives the column's head, and what is left of the bits spells the tails of all columns.
 column_again : (ws : List ℕ) (n : ℕ) (columns : List (List ℕ)) (bits rest : List Bool) (j : ℕ) →
     length ws ≤ length columns → j < length ws →
     ((i : ℕ) → i < length ws → length (get_or columns i []) ≡ n) →
@@ -262,7 +264,8 @@ three_columns (a ∷ b ∷ []) h = absurd (omega (arith, h))
 three_columns (a ∷ b ∷ c ∷ []) h = refl
 three_columns (a ∷ b ∷ c ∷ d ∷ columns) h = absurd (omega (arith, h))
 
--- what was spelled is read again
+-- What was spelled is read again: there are three columns, and each of them is read again where a
+-- record has a field for it, and is empty where it has none.
 pub columns_again : (ws : List ℕ) (n : ℕ) (columns : List (List ℕ)) (rest : List Bool) →
     length ws ≤ 3 → map length columns ≡ shares ws n → FieldsFit (record_fields ws n columns) →
     columns_in ws n (spelled (record_fields ws n columns) ++ rest) ≡ columns
@@ -340,7 +343,8 @@ record_room ws n i columns room h =
       length-records ws n columns room,
     )
 
--- one more record is written
+-- After one more record is written, the records with it are spelled: their fields are those of the
+-- records before with its own at the end, and the spelling of joined fields is both spellings joined.
 pub record_written : (ws : List ℕ) (i : ℕ) (columns : List (List ℕ))
     (first before after : List Bool) →
     before ≡ first ++ spelled (record_fields ws i columns) →

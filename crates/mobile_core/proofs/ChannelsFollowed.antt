@@ -100,7 +100,8 @@ module _ {t : Tuning} {f : Followed} {mark : Option Mark} {heard : List Sample}
         sound.traffic (λ d. idle (inr d)) end ends.traffic))
         (λ samples n. joined (told_paged t mark samples n) (append-nil _)) (λ samples. refl)
 
-    -- more samples, up to the end of a frame that comes next
+    -- The followed channels have heard more samples, up to the end of their next frame: the pages have, the
+    -- traffic channel has, and only with the last sample is there a page to tell, which is what is left.
     pub followed_more : AreNear (sync_stream t).fingers → (more : List Sample) → 0 < length more →
         length heard + length more ≤ t.count → WaitFrom (length heard) f →
         EndFrom (length heard + length more) f → HearsFollowed t f mark (heard ++ more)

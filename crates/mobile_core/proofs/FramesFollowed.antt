@@ -195,7 +195,8 @@ module _ (t : Tuning) (assigned : Option Traffic) (mark : Option Mark) (heard : 
       goes_as (receiver_goes behind.hears (sound r refl) none end (ends r refl)) (told_is behind)
       (λ samples. left_is behind samples r)
 
-  -- more samples, up to the end of the frame that comes next
+  -- A traffic channel has heard more samples, up to the end of its next frame: where none is followed
+  -- nothing changes, and else its receiver has, since no page is told before the last of these samples.
   pub frames_more : (receiver : Option SoftHandoff) → HearsFrames t assigned mark receiver heard pages →
       ForSome receiver IsSoundHandoff → ¬ IsSomeAnd receiver IsTrafficDue →
       (more : List Sample) → 0 < length more → length heard + length more ≤ t.count →

@@ -241,7 +241,8 @@ module _ {t : Tuning} {traffic : Traffic} {m : Mark} {r : SoftHandoff} {heard : 
         (λ k inside e.
         let low = known_low t traffic m legs closes k in omega (arith, low, e, at_mark))
 
-    -- the sets, after the mark and before it
+    -- The sets with what is left to take are those the definition has after more samples: after the moment
+    -- only the last of these tells anything, which is what is left, and up to the mark nothing is told.
     sets_more : all_noted m (later ++ left_of samples) r.sets.sets
         ≡ heard_from t traffic m kept samples r.sets.passed (taken - place)
     sets_more =
@@ -379,7 +380,8 @@ module _ {t : Tuning} {traffic : Traffic} {m : Mark} {r : SoftHandoff} {heard : 
       let within = st.among.within in
       has_here t traffic m legs closes far next (omega (arith, here, within))
 
-  -- what is decoded of the frame that is due, and its power control bits
+  -- What is decoded of the frame that is due, and its power control bits, are the definition's: its scrambling
+  -- and replaced places are those of its own state and mask, and so were its soft values and sums when they came.
   pub next_here : next < coming → (replaced : List ℕ) (descrambled : List ℤ) (frame : Decoded)
       (told : List Bool) →
       replaced ≡ power_places (after r.receiver.frames.scrambling.state (24576 * next)) r.receiver.frames.scrambling.mask →

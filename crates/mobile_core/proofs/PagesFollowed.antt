@@ -40,7 +40,8 @@ module _ {t : Tuning} {mark : Option Mark} {r : PagingReceiver} {heard : List Sa
       paging_left t mark heard after ≡ paging_left t mark heard r
   come_left after next place = rw (st.set_is, next, place) refl
 
-  -- a bit has been heard
+  -- After a bit has been heard, its message and what is left give what was left before: hearing it
+  -- says so of the messages, and the events are made of the messages one by one.
   pub bit_left : (after : PagingReceiver) (page : Option SpelledPage) →
       HearsBit t t.paging st.set heard r after page →
       map (page_event (length heard)) (option_to_list page) ++ paging_left t mark heard after
@@ -111,7 +112,8 @@ module _ (t : Tuning) (mark : Option Mark) (heard : List Sample) where
       follows_on behind r (heard ++ more)
       (pages.hears_more behind.hears more none within (ends r refl))
 
--- a receiver that is open now has heard nothing
+-- A receiver that is opened now has heard nothing, with no message left to tell: none of its frames
+-- is due, and the first one ends after the mark, which lies after all samples so far.
 pub pages_opened : (t : Tuning) (heard : List Sample) (m : Mark) (channel : ℕ) →
     channel ≡ t.paging → length heard < m.sample → (opened : Option PagingReceiver) →
     is_some opened ≡ nat_lt m.prat 2 → IfSome opened (λ r. m.sample < r.received.clock.end) →

@@ -19,7 +19,8 @@ take_none (x ∷ xs) = refl
 none_taken : (place : ℕ) (bits : List Bool) → place ≡ 0 → take place bits ≡ []
 none_taken place bits none = ap (λ (n : ℕ). take n bits) none ∙ take_none bits
 
--- before any frame is heard
+-- Before any frame is heard the receiver has heard its channel: no frame comes before its first
+-- one, and its place in that one is 0, so no bits are taken, and its framer stands for none.
 pub hears_none : (t : Tuning) (channel : ℕ) (m : Mark) (r : PagingReceiver)
     (heard : List Sample) → Receives t.count (paging_stream t channel m) r.received heard →
     r.received.clock.next ≡ r.received.clock.low →
@@ -49,7 +50,8 @@ module _ {t : Tuning} {channel : ℕ} {m : Mark} {r : PagingReceiver} {heard : L
         | inr least ↦ omega arith
       ]
 
-  -- more samples, up to the end of the frame that comes next
+  -- The receiver has heard more samples, up to the end of its next frame: no frame is due, so none
+  -- is under way, and the bits of the frames before, which are known, stay the same.
   pub hears_more : (more : List Sample) → ¬ IsDueAt t.count r.received.clock →
       length heard + length more ≤ t.count →
       length heard + length more ≤ r.received.clock.end →
@@ -125,7 +127,8 @@ module _ {t : Tuning} {channel : ℕ} {m : Mark} {r : PagingReceiver} {heard : L
         ∙ ap (λ (bits : List Bool). page_in t.check30 (half_frame_capsule_ending size bits))
         taken_bits
 
-    -- the message that the bit completes is the first of those left
+    -- The message that the bit completes is the first of those left: its frame is the next one known,
+    -- so its messages come first, and among them that of this bit before those of the bits after.
     left_here : (rest : List SpelledPage) →
         rest ≡ pages_from t channel m heard r.received.clock.next (r.place + 1)
         ++ pages_left t channel m heard (r.received.clock.next + 1) 0 →
@@ -162,7 +165,8 @@ module _ {t : Tuning} {channel : ℕ} {m : Mark} {r : PagingReceiver} {heard : L
               (due_inside is d) (due_known is d));
         }
 
-    -- its last
+    -- With its last bit the frame has been heard: all of its bits are taken, so they join those of
+    -- the frames before, and it has no message left after the one that this bit may complete.
     hears_last : length frame ≤ r.place + 1 →
         HearsBit t channel m heard r
         (record r {

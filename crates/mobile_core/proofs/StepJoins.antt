@@ -35,7 +35,8 @@ steps_told {two = two} event next samples = record {
       rw (take_none samples, append-nil heard) (next.told t heard given st).1;
 }
 
--- samples were taken, then more, or an event was given
+-- A step that took samples and then one that took more, or gave an event, are one step: the numbers
+-- of samples add up, and the second step goes on from what the first one leaves.
 pub steps_joined : {one two three : Mobile} {samples : List Sample} {n : ℕ} (m k : ℕ)
     (event : Option Event) → n + m ≡ k →
     Steps one two samples (record { taken = n; event = None }) →

@@ -28,7 +28,8 @@ was_told : (pilot : Option Best) → ¬ IsTrue (is_some pilot) → pilot ≡ Non
 was_told None none = refl
 was_told (Some best) none = absurd (none refl)
 
--- a handset that has taken nothing, and given nothing
+-- A handset that has taken nothing and given nothing stands for no samples: only the pilot is left to tell,
+-- since no frame is known before any sample is taken, and its event is all that the definition has there.
 pub stands_new : {t : Tuning} {pilot : Option Best} {ring : Held} {sync : SyncReceiver}
     {followed : Followed} → pilot_left pilot ≡ Pilot t.phase t.energy ∷ [] →
     HoldsLast ring [] → HearsSync t sync [] → HearsFollowed t followed None [] →
@@ -84,7 +85,8 @@ module _ {t : Tuning} {count : ℕ} {check : CheckForm} {pilot : Option Best} {r
     others_wait_here : WaitFrom (length heard) followed
     others_wait_here = subst (λ (n : ℕ). WaitFrom n followed) st.ring.taken sound.others_wait
 
-    -- all events have been given
+    -- Where nothing is due all events have been given, since the pilot has been told, and neither
+    -- the sync channel nor another one has anything left before its next frame ends.
     pub all_given : given ≡ events t heard
     all_given =
         let taken = st.ring.taken in
@@ -95,7 +97,8 @@ module _ {t : Tuning} {count : ℕ} {check : CheckForm} {pilot : Option Best} {r
         rw (ap pilot_left is_told, left, others) at st.told in
         sym (append-nil given) ∙ all
 
-    -- more samples are taken, up to the end of the frame that comes next
+    -- The handset stands for more samples, up to the end of the frame that comes next: nothing is
+    -- due, so all events were given, and the events that the samples add are what is left now.
     pub stands_taken : (more : List Sample) (kept : Held) → 0 < length more →
         length heard + length more ≤ count →
         length heard + length more ≤ sync.received.clock.end →
@@ -199,7 +202,8 @@ module _ {t : Tuning} {count : ℕ} {check : CheckForm} {pilot : Option Best} {r
                 omega (arith, later, known),
           )
 
-  -- the sync channel's frame that is due has been heard
+  -- After the sync channel's due frame was heard the handset stands with the event that it gave: the event
+  -- and what is left of the sync channel are what was left of it before, and the others have the same left.
   pub stands_heard : (after : SyncReceiver) (others : Followed) (event : Option Event) →
       pilot ≡ None → HearsNext t heard sync after event → HearsFollowed t others after.mark heard →
       followed_events_left t after.mark heard others

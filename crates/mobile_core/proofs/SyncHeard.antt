@@ -19,7 +19,8 @@ pub starts_is : (bits : List Bool) (begins : Bool) → slice_get bits 0 ≡ Some
 starts_is [] begins read = absurd (cc)
 starts_is (b ∷ bits) begins read = cc
 
--- before any sample is taken
+-- Before any sample is taken the receiver stands for nothing heard: no frame before its first one
+-- lies in the file, so there are no bits, no message is under way and no mark is set.
 pub hears_new : (t : Tuning) (r : SyncReceiver) → Receives t.count (sync_stream t) r.received [] →
     r.received.clock.next ≡ r.received.clock.low → framing.CapsuleStandsFor r.framer [] →
     r.message_frames ≡ 0 → r.mark ≡ None → HearsSync t r []
@@ -38,7 +39,8 @@ hears_new t r receives next framed frames none =
     }
 
 module _ {t : Tuning} {r : SyncReceiver} {heard : List Sample} (st : HearsSync t r heard) where
-  -- more samples, up to the end of the frame that comes next
+  -- The receiver has heard more samples, up to the end of its next frame: the frames before that
+  -- one are known, so they give the same bits and the same mark as before.
   pub hears_more : (more : List Sample) → ¬ IsDueAt t.count r.received.clock →
       length heard + length more ≤ t.count →
       length heard + length more ≤ r.received.clock.end → HearsSync t r (heard ++ more)
