@@ -194,8 +194,8 @@ module _ (t : Tuning) (near : AreNear (sync_stream t).fingers) (channel : ℕ) w
       IsTimed t.count (paging_stream t channel m) (low_in (paging_stream t channel m))
   paging_timed m = timed_in t.count (paging_stream t channel m) (paging_near m)
 
-  -- No frame is known before the mark: the channel's frames start there or later, take 24,576
-  -- chips, and are known when they have ended on all fingers.
+  -- No frame is known until 24,576 chips after the mark: the channel's frames start there or later,
+  -- take as many chips at least, and are known when they have ended on all fingers.
   pub paging_later : (m : Mark) (k : ℕ) → is_in_file t.count (paging_stream t channel m) k ≡ true →
       m.sample + 24576 ≤ known_at t.count (paging_stream t channel m) k
   unfolding stream_end

@@ -86,8 +86,8 @@ first_codewords-same f g n k least h =
     (first_places-same k (λ r. f (codeword_at Zero n r)) (λ r. g (codeword_at Zero n r)) (codeword_count Zero n)
     (λ r. h (codeword_at Zero n r) ((codeword_at_allowed Zero n r least).bits_long)))
 
--- Each of the first codewords is allowed, since it is the codeword of one of their numbers, and
--- every codeword that has a number is allowed where a format has at least 8 bits.
+-- Each of the first codewords is allowed, since it is the one at some number, and the codeword at
+-- any number is allowed where there are at least 8 bits, which a format has.
 pub codewords_allowed : (k : ℕ) (softs : List ℤ) (format : FrameFormat Rate) →
     All (IsAllowed Zero (bits_in format)) (codewords_in k softs format)
 codewords_allowed k softs format = λ i d b.
@@ -106,7 +106,7 @@ one_codeword softs format =
     (first_place (λ r. score_in softs format (codeword_at Zero n r)) (codeword_count Zero n) (pow_pos (n - 8)))
 
 -- The best codeword is always the first of the codewords: the first of the places is that of the
--- greatest score, however many places there are, and the codewords are those at these places.
+-- greatest score, however many places are asked for, and the codewords are those at these places.
 pub best_first : (k : ℕ) (softs : List ℤ) (format : FrameFormat Rate) → 0 < k →
     take 1 (codewords_in k softs format) ≡ codeword_in softs format ∷ []
 unfolding codeword_in best_codeword

@@ -4,8 +4,8 @@ use Rattle.mobile_core.proofs.Common.{clock_from, first_frame, AreNear, Receives
 use Rattle.reception.specs.Sound.{IsSoundChannel}
 use Rattle.reception.proofs.Received.{receives_more, receives_new}
 
--- A channel that is opened now has received the samples so far, and no frame of them: as a new one
--- it has received nothing and has no frame due, and its first frame starts after these samples.
+-- A channel that is opened now has received the samples so far, and heard no frame: as a new one it
+-- has received nothing and has no frame due, and its first frame starts after these samples.
 pub receives_opened : (count : ℕ) (s : Stream) (c : Continued) (fingers : List Finger)
     (first : ℕ) → s.waits ≡ true → fingers ≡ s.fingers →
     first ≡ s.first → c.fingers ≡ fingers → IsSoundChannel c →
