@@ -6,7 +6,8 @@ use Rattle.cell_plan.proofs.Common.{AreSendable, AreHeard, IsCarried, IsStatedPa
 use Rattle.cell_plan.proofs.LaidPages.{length-on}
 use Rattle.paging_message.specs.Laying as laying
 
--- pages after what was laid are lawful puts
+-- By induction over the pages, they are lawful puts after what was laid: each fills a capsule and
+-- follows only where eight bits are left, and the count after it is that of all bits laid.
 pub puts_lawful : (size : ℕ) (form : CheckForm) (l : laying.Laid) (pages : List Page) (count : ℕ) →
     length l.body ≡ count → AreSendable size count pages → AreHeard size count pages →
     laying.AreLawful size l (map (put_of form) pages)

@@ -48,7 +48,8 @@ length-on size l false c =
       length-replicate (laying.fill size (length l.body)) false,
     )
 
--- whole half-frames
+-- By induction over h, the first h half-frames have one bit more than `size` each: the next one has
+-- its SCI bit and `size` body bits, since the body is long enough for it.
 whole_halves : (size : ℕ) (starts : List ℕ) (body : List Bool) (h : ℕ) → size * h ≤ length body →
     length (flat_map (laying.half_frame size starts body) (places h)) ≡ h + size * h
 whole_halves size starts body zero within =

@@ -14,7 +14,8 @@ differ_is true false = refl
 differ_is false true = refl
 differ_is false false = refl
 
--- one symbol more
+-- With symbol k added to its chip, the output is the sum, bit by bit, of k + 1 symbols and chips:
+-- both parts grow by their bit k, and since they are equally long these bits meet.
 pub mixed_more : (symbols chips out : List Bool) (k : ℕ) (symbol chip : Bool) →
     slice_get symbols k ≡ Some symbol → k < length symbols → k < length chips →
     get_or chips k false ≡ chip → out ≡ zip_with xor (take k symbols) (take k chips) →

@@ -77,7 +77,8 @@ length-padded : (capsule : List Bool) → length (padded capsule) ≡ length cap
 length-padded capsule = length-append capsule (replicate 93 false)
     ∙ ap (λ (n : ℕ). length capsule + n) (length-replicate 93 false)
 
--- one more bit of a frame
+-- One bit more makes the frame's piece k + 1 bits long: the bit is the capsule's, k places after the
+-- piece begins, or 0 after its end, and so is the padded capsule's, whose 93 zeros reach so far.
 pub piece_more : (capsule bits : List Bool) (place k : ℕ) (som bit : Bool) →
     31 * place ≤ length capsule + 62 → k < 31 →
     bits ≡ som ∷ (take k (drop (31 * place) (padded capsule))) →

@@ -13,7 +13,8 @@ frame_bits-is : (cell : CellIdentity) (m : SyncFields) (frame : ℕ) →
 unfolding sync_frame_bits
 frame_bits-is cell m frame = refl
 
--- a frame has 32 bits
+-- A frame has 32 bits, its SOM bit and 31 of the padded capsule: the piece begins at most 62 bits
+-- after the capsule's end (`piece_within`), and 93 zeros follow the capsule.
 pub length-sync_frame_bits : (cell : CellIdentity) (m : SyncFields) (frame : ℕ) →
     length (sync_frame_bits cell m frame) ≡ 32
 length-sync_frame_bits cell m frame =

@@ -145,7 +145,8 @@ one_summed chip done row factor cs c values new l none whole inside is row_is ro
     done none inside)
     ∙ before k below
 
--- the transform of the entries, where no channel is left
+-- Where no channel is left, the transform of the entries is what all channels send at the block's
+-- 64 chips: it is made of the entries' Walsh sums, and what is left adds nothing to them.
 pub all_summed : (chip done : ℕ) (factor : Pair) (cs : List Carrier) (values sums : List Pair) →
     length cs ≤ done →
     IsSummed chip factor cs done values → in_phase sums ≡ transform (in_phase values) →

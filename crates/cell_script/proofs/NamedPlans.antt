@@ -220,7 +220,8 @@ channels_paging stage next plan line number has e = absurd (cc e)
 abbrev pub with_more : CellPlan → Page → CellPlan
 with_more plan page = record plan { paging = with_page plan.paging page }
 
--- the channel under way has one page more
+-- With one page more the channel under way is open with pages: the count before is that of its
+-- pages' bits, so the page can be sent and heard after them, and the new count is that of all.
 page_laid : (rate : Rate) (count : ℕ) (plan : CellPlan) (page : Page) →
     FillsCapsule M30 page.body × HasMessage page.body → IsOpen rate count plan →
     (page.follows ≡ true → 8 ≤ bits_left (half_frame_body rate) count) →
@@ -571,7 +572,8 @@ sync_gains None said e = tt
 sync_gains (Some sync) said e =
     (some_gain sync.gain (failed (sync.gain == 0) (Gain 32) None e).0, said)
 
--- what was said and no fault make a lawful plan
+-- A plan that was stated and has no fault is lawful: what the law asks of fields was stated, and
+-- each test that found no fault gives what it asks of rows, gains, loudness or length.
 lawful : (width : Width) (plan : CellPlan) → IsStatedPlan plan → plan_fault width plan ≡ None →
     IsLawfulPlan width plan
 lawful width plan said e =

@@ -359,7 +359,8 @@ step_told f read false other statement here rest e = rest e
 no_line : (statement : Statement) → None ≡ Some statement → IsLawfulStatement statement
 no_line statement e = absurd (cc e)
 
--- what a line states is within its bounds
+-- What a line states is within its bounds: of the eight kinds of line that are tried in turn, the
+-- first whose name the line begins with reads it, and what each kind reads is within its bounds.
 pub line_bounds : (text : List ℕ) (statement : Statement) → statement_in text ≡ Some statement →
     IsLawfulStatement statement
 unfolding statement_in

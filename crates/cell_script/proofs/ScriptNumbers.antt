@@ -339,7 +339,8 @@ all_sent (t ∷ traffic) are gains unused =
     (All-tail (λ (u : TrafficPlan). 0 < u.gain) t traffic gains)
     (All-tail (λ (u : TrafficPlan). is_used u.row first_channels ≡ false) t traffic unused))
 
--- there are 63 rows but the pilot's, and one of them is the sync channel's
+-- At most 62 traffic channels have rows of their own: these are from 1 to 63 and other than 32, so
+-- with the sync channel's row 32 they are different ones of 63 rows (`at_most`).
 few_rows : (traffic : List TrafficPlan) → All IsTrafficPlan traffic →
     HaveOwnRows (traffic_lines traffic) → length traffic ≤ 62
 few_rows traffic are own =
@@ -359,7 +360,8 @@ few_rows traffic are own =
       length-map traffic traffic_line_of,
     )
 
--- traffic channels that can be sent beside the paging channels
+-- Stated traffic channels can be sent beside the paging channels: as no row is repeated, theirs
+-- differ from each other and from all others, and as no row is silent, each has a gain.
 pub lawful_beside : (paging : List PagingPlan) (traffic : List TrafficPlan) →
     All IsStatedTraffic traffic → repeated (paging_lines paging ++ traffic_lines traffic) ≡ None →
     silent (paging_lines paging ++ traffic_lines traffic) ≡ None → AreLawfulBeside paging traffic

@@ -36,7 +36,8 @@ digit_most byte value e =
     let told = cond_some (nat_lt (digit_value byte) 16) (digit_value byte) value e in
     omega (arith, ltb-true (digit_value byte) 16 told.0, told.1)
 
--- so many hex digits spell a number below that power of sixteen
+-- By induction over the digits, hex digits that follow a number below 16^k spell one below 16 to
+-- the power of k plus their count: each value is below 16, so each digit adds one to the exponent.
 hex_most : (text : List ℕ) (k most number n : ℕ) → most ≡ k + length text → number < 16 ^ k →
     hex_from number text ≡ Some n → n < 16 ^ most
 unfolding hex_from
@@ -256,7 +257,8 @@ step_writable f read false other statement here rest e = rest e
 no_line_writable : (statement : Statement) → None ≡ Some statement → IsWritable statement
 no_line_writable statement e = absurd (cc e)
 
--- what a line states can be written
+-- What a line states can be written: of the eight kinds of line that are tried in turn, the first
+-- whose name the line begins with reads it, and what each kind reads can be written.
 pub line_writable : (text : List ℕ) (statement : Statement) →
     statement_in text ≡ Some statement → IsWritable statement
 unfolding statement_in

@@ -112,7 +112,8 @@ one_row rows more ls l is inside is_used_is used repeated_is silent_is gains bef
   gains = gains ∙ ap (λ (n : ℕ). n + l.gain) before.gains ∙ sym (gains-append ls l);
 }
 
--- before all channels of the script the pilot and the sync channel have rows
+-- Before the first channel of the script just rows 0 and 32 are used, the pilot's and the sync
+-- channel's: of 64 places that were all false these two were set, one for each (`used_row`).
 pub first_rows : (rows : ChannelRows) (pilot sync : ℕ) → pilot ≡ 0 → sync ≡ 32 →
     rows.used ≡ set (set (replicate 64 false) pilot true) sync true → rows.repeated ≡ None →
     rows.silent ≡ None → rows.gains ≡ 0 → HasSeen rows []

@@ -177,7 +177,8 @@ unended (byte ∷ bytes) none some = unended_step byte bytes (byte == 10) refl n
 
 -- ---- reading a script line by line
 
--- the first line can stand
+-- After a first line that can stand, the script's plan is what the lines after it state from the
+-- next draft on: the line ends before the first LF, and the rest is all that stands after that LF.
 pub line_read : (script : List ℕ) (draft next : Draft) (n end : ℕ) (rest : List ℕ) →
     end ≡ length_before 10 rest → end < length rest → with_line draft (take end rest) ≡ Some next →
     stated_plan script ≡ stated draft n (lines rest) →

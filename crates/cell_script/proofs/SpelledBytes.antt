@@ -168,7 +168,8 @@ digit_within : (d : ℕ) → d < 16 →
 digit_within d below =
     byte_in 48 102 (slice_index lower_digits d) (at_below is_of_digits 16 d refl below)
 
--- octets are spelled with hex digits alone
+-- By induction over the octets, all codes of their text are from 48 to 102: each half of an octet
+-- is below 16, and the hex digit of such a number is in this range (`digit_within`).
 pub encoded_within : (bytes : List ℕ) → IsBytes bytes →
     are_within 48 102 (encode_lower bytes) ≡ true
 unfolding encode_with

@@ -100,7 +100,8 @@ lawful_state n is =
     cond-false _ _ _ (ne_eqb n 0 (λ none. omega (arith, is.0, none)))
     ∙ cond-true _ _ _ (lt-ltb n (2 ^ 42) is.1)
 
--- a state of the long code
+-- A state that was spelled is read again: its eleven digits are half an octet and five octets,
+-- which have its value since it is below 2^42, and a lawful state is admitted (`lawful_state`).
 pub state_back : (n : ℕ) → IsState n → state_in (state_digits n) ≡ Some n
 unfolding state_in
 state_back n is =
@@ -200,7 +201,8 @@ bits_in-parts front hex are =
     (take-append_seam front (58 ∷ hex))
     ∙ ap (λ (t : List ℕ). bits_of_parts front t) (drop-append_seam front (58 ∷ hex))
 
--- bits
+-- Bits that were spelled are read again: the text is split at its colon into count and hex digits,
+-- which give the padded bits (`hex_bits_back`), and the first so many of these are the bits.
 pub bits_back : (bits : List Bool) → length bits ≤ 1184 → bits_in_text (bit_text bits) ≡ Some bits
 unfolding bit_text
 bits_back bits few =

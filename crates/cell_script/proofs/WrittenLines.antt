@@ -28,7 +28,8 @@ item_written told items k item start old new inside item_is old_is new_is =
     ∙ ap (λ (ss : List Statement). start ++ lines_of ss)
     (ap (λ x. map told (take k items) ++ told x ∷ []) item_is ∙ sym (map_more told items k item inside))
 
--- one more item with its first line and more
+-- After item k's first line and its further ones the text has the lines of k + 1 items: their
+-- statements are those of k items and those of item k after them (`flat_map-append`).
 pub channel_written : {A : Type 0} (told : A → List Statement) (items : List A) (k : ℕ) (item : A)
     (first : Statement) (more : List Statement) (start old middle new : List ℕ) →
     k < length items → item ≡ get_or items k item → told item ≡ first ∷ more →

@@ -30,7 +30,8 @@ low_and a b =
     let r : b / 2 ^ 0 ≡ b = omega arith in
     ap (λ n. nat_eq n 1) (rw (p, q, r) at e) ∙ least_bit (a % 2) (b % 2) (omega arith) (omega arith)
 
--- the digits that both numbers have
+-- By induction over the width, the digits of a conjunction are those that both numbers have: half
+-- of it is that of both halves, and its lowest digit is set where both lowest are (`low_and`).
 binary-and : (w a b : ℕ) → binary w (bit_and a b) ≡ zip_with both (binary w a) (binary w b)
 unfolding binary
 binary-and zero a b = refl
@@ -58,7 +59,8 @@ odd_sum m p h =
     ap (λ n. nat_eq n 1) (let e : (m + p) % 2 ≡ (m % 2 + p) % 2 = omega arith in e) ∙
     one_bit_xor (m % 2) p (omega arith) h
 
--- whether a number has an odd count of set digits
+-- By induction over the width, the count of a number's set digits is odd just where their parity
+-- says so: the lowest digit is added to the count of the half, and to its parity (`odd_sum`).
 odd_ones : (w n : ℕ) → n < 2 ^ w → nat_eq (count_ones n % 2) 1 ≡ parity (binary w n)
 unfolding binary
 odd_ones zero n h = let none : n ≡ 0 = omega (arith, h) in rw (none, one_digit 0 (omega arith))

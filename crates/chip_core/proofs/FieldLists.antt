@@ -28,7 +28,8 @@ spelled_more fs i d within =
     ap spelled (take_more fs i d within) ∙ spelled-append (take i fs) (f ∷ []) ∙
     ap (λ (r : List Bool). spelled (take i fs) ++ r) (append-nil (binary f.width f.value))
 
--- there is room for the next field where there is for all
+-- Field i fits between the bits of the first i fields and the end of all: the first i + 1 fields
+-- are longer than the first i by its width, and are a part of all fields.
 pub spelled_room : (fs : List Field) (i : ℕ) (d : Field) → i < length fs →
     length (spelled (take i fs)) + (get_or fs i d).width ≤ length (spelled fs)
 spelled_room fs i d within =

@@ -24,7 +24,8 @@ xor_step false true false = refl
 xor_step false false true = refl
 xor_step false false false = refl
 
--- the step of a loop over the places
+-- One place more moves its bit out of what is left and into the sum: the bit that is read is the
+-- register's at place i, and the code's `!=` adds it (`xor_step`).
 pub parity_more : (n : ℕ) (sum : Bool) (at : List ℕ) (i : ℕ) → i < length at →
     xor (not (beq sum (nat_eq (bit_and (n / 2 ^ get_or at i 0) 1) 1)))
     (parity (map (bit_of n) (drop (i + 1) at)))
@@ -45,7 +46,8 @@ parity_done f sum all at i done is =
     let none : drop i at ≡ [] = drop_all i at done in
     sym (xor_false sum) ∙ rw none at is
 
--- bit k of the low w bits
+-- Bit k of the low w bits is that of the number, for k below w: shifted by k, the low w bits are
+-- the low w - k bits of the shifted number (`field_of`), and their lowest bit is its own.
 pub low_bit : (n w k : ℕ) → k < w → bit_of (n % 2 ^ w) k ≡ bit_of n k
 low_bit n w k h =
     let parts : w - k - 1 + 1 + k ≡ w = omega arith in
@@ -75,7 +77,8 @@ pub binary-none : (n : ℕ) → binary 0 n ≡ []
 unfolding binary
 binary-none n = refl
 
--- the digits of a number, the highest first
+-- By induction over the width, the digits of a number are its bits, the highest first: bit 0 is the
+-- last digit, and a higher bit is that of the half one place lower, whose digits stand before it.
 pub get_or-binary : (w n k : ℕ) → k < w → get_or (binary w n) (w - 1 - k) false ≡ bit_of n k
 unfolding binary
 get_or-binary zero n k h = absurd (omega (arith, h))

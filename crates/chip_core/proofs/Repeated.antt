@@ -19,7 +19,8 @@ length-repeated zero xs = omega arith
 length-repeated (suc n) xs =
     omega (arith, length-append (repeated n xs) xs, length-repeated n xs)
 
--- what stands at a place of the rounds
+-- By induction over the rounds, place i of a repeated list has what the list has at i modulo its
+-- length: i lies in the rounds before the last, or in the last one at i less their length.
 pub get_or-repeated : {X : Type 0} (n : ℕ) (xs : List X) (i : ℕ) (d : X) → i < length xs * n →
     get_or (repeated n xs) i d ≡ get_or xs (i % length xs) d
 get_or-repeated zero xs i d lt = absurd (omega (arith, lt))

@@ -70,7 +70,8 @@ fit_value (w ∷ ws) (v ∷ vs) zero fit a b = fit.0
 fit_value (w ∷ ws) (v ∷ vs) (suc i) fit a b =
     fit_value ws vs i fit.1 (omega (arith, a)) (omega (arith, b))
 
--- what was spelled is read again
+-- By induction over the widths, values that were spelled are read again: the first field is read as
+-- its value, which fits its width, and what is left after it spells the other values.
 pub values_again : (ws vs : List ℕ) (rest : List Bool) → length ws ≡ length vs →
     FieldsFit (in_widths ws vs) → values_at ws (spelled (in_widths ws vs) ++ rest) ≡ vs
 values_again [] [] rest h fit = refl
@@ -88,7 +89,8 @@ values_again (w ∷ ws) (v ∷ vs) rest h fit =
     ∙ values_again ws vs rest (omega (arith, h)) fit.1 in
     rw (first, later) refl
 
--- what is read is spelled so
+-- By induction over the widths, what is read has a value for each width, which fits it, and spells
+-- the bits that were read: the first w bits are the w digits of their own number (`front`).
 pub values_there : (ws : List ℕ) (bits : List Bool) → total_width ws ≤ length bits →
     (length (values_at ws bits) ≡ length ws) × FieldsFit (in_widths ws (values_at ws bits))
     × (bits ≡ spelled (in_widths ws (values_at ws bits)) ++ drop (total_width ws) bits)
@@ -152,7 +154,8 @@ written_more ws vs i before after first a b is next =
     write_push (get_or ws i 0) (get_or vs i 0) fs first before after is next
     ∙ ap (λ (gs : List Field). first ++ spelled gs) (sym (taken_more ws vs i a b))
 
--- one more value is read
+-- By induction over the widths, one width more gives one value more, the number of its bits after
+-- the total of the widths before: dropping width by width drops their total (`dropped`).
 pub values_more : (ws : List ℕ) (i : ℕ) (bits : List Bool) → i < length ws →
     values_at (take (i + 1) ws) bits
     ≡ values_at (take i ws) bits ++ number_at (total_width (take i ws)) (get_or ws i 0) bits ∷ []

@@ -141,7 +141,8 @@ and_swap true false = refl
 and_swap false true = refl
 and_swap false false = refl
 
--- whether two lists are equal, by their words
+-- Two lists are compared by their counts and words: packing the bits that words hold gives these
+-- words again (`words_again`), and the counts are the lists' lengths.
 pub same_words : (r s : Bool) (words words' : List ℕ) (count count' : ℕ) (bits bits' : List Bool) →
     unpacked words count ≡ bits → unpacked words' count' ≡ bits' → IsPacked words count →
     IsPacked words' count' →

@@ -107,7 +107,8 @@ length-state_after start bits =
 pub state_after-none : (start : List Bool) → state_after start [] ≡ start
 state_after-none start = append-nil start
 
--- the state after more bits
+-- The state after xs and ys is that after ys from the state after xs: dropping as many bits as both
+-- have is dropping as many as xs has, which all lie before ys, and then as many as ys has.
 pub state_after-append : (start xs ys : List Bool) →
     state_after start (xs ++ ys) ≡ state_after (state_after start xs) ys
 state_after-append start xs ys =

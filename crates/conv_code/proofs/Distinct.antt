@@ -18,7 +18,8 @@ tail_same x y (back ∷ backs) m p all h =
     let rest = tail_same x y backs m p parts.1 h in
     cc
 
--- one entry more
+-- One entry more is the same where symbol j of g0 is: that symbol is the sum of entry 8 + j and of
+-- entries before it, which are the same (`tail_same`), so they cancel (`xor_cancel`).
 next_same : (x y : List Bool) (j : ℕ) → symbol g0 x j ≡ symbol g0 y j →
     ((i : ℕ) → i < 8 + j → get_or x i false ≡ get_or y i false) →
     get_or x (8 + j) false ≡ get_or y (8 + j) false

@@ -43,7 +43,8 @@ pub symbols_at : (start bits : List Bool) (j : ℕ) → j < length bits →
 symbols_at start bits j lt =
     pairs_at (symbol g0 (start ++ bits)) (symbol g1 (start ++ bits)) (length bits) j lt
 
--- a place's pair comes from the state before and the bit
+-- The pair at place j is made of the state before it and of bit j alone: the code after the first j
+-- bits goes on from their state (`behind`), and later bits don't enter the pair (`before`).
 pub pair_from_state : (start codeword : List Bool) (j : ℕ) → length start ≡ 8 → j < length codeword →
     pair (start ++ codeword) j ≡ pair (state_after start (take j codeword) ++ get_or codeword j false ∷ []) 0
 pair_from_state start codeword j eight lt =

@@ -13,7 +13,8 @@ either symbols joined j zero lt is = let place : 2 * j + 0 ≡ 2 * j = omega ari
 either symbols joined j (suc zero) lt is = is.odd
 either symbols joined j (suc (suc r)) lt is = absurd (omega (arith, lt))
 
--- symbol k is equation k's
+-- Code symbol k, for k below 16, is that of equation k: it is one of pair k / 2 (`symbols_at`),
+-- whose even entry is g0's symbol and whose odd one is g1's (`either`).
 symbol_of : (start bits : List Bool) (k : ℕ) → k < 16 → 8 ≤ length bits →
     get_or (code_symbols start bits) k false ≡ symbol (generator_of k) (start ++ bits) (place_of k)
 symbol_of start bits k lt long =
@@ -40,7 +41,8 @@ are_early i = list_all (λ k. nat_lt k 16) (get_or solutions i [])
 all_early : agree_below are_early (λ i. true) 16 ≡ true
 all_early = refl
 
--- each start bit is the sum of its row's symbols
+-- Each start bit is the sum of the symbols that its row of `solutions` names (`entry_solved`): all
+-- of these are among the first 16 code symbols, which are those of the equations (`symbol_of`).
 pub start_entry : (start bits symbols : List Bool) (i : ℕ) → i < 8 → length start ≡ 8 →
     16 ≤ length symbols → code_symbols start bits ≡ symbols →
     get_or start i false ≡
@@ -67,7 +69,8 @@ pub eight_entries : (s : List Bool) → length s ≡ 8 →
 eight_entries (a ∷ b ∷ c ∷ d ∷ e ∷ f ∷ g ∷ h ∷ []) eight = refl
 eight_entries s eight = absurd (omega (arith, eight))
 
--- a register that took eight bits holds them
+-- A register of eight bits that took eight more holds just these: each step drops the oldest bit
+-- and puts the new one at the end, so that after eight steps no bit from before is left.
 pub eight_pushed : (s s1 s2 s3 s4 s5 s6 s7 s8 : List Bool) (b1 b2 b3 b4 b5 b6 b7 b8 : Bool) →
     length s ≡ 8 →
     s1 ≡ state_after s (b1 ∷ []) → s2 ≡ state_after s1 (b2 ∷ []) → s3 ≡ state_after s2 (b3 ∷ []) →

@@ -9,7 +9,8 @@ use Rattle.conv_code.proofs.Common.{get_or-binary, symbol, state_after}
 abbrev pub window : ℕ → Bool → ℕ
 window state bit = 2 * state + digit bit
 
--- bit k of the window lies k back from the end of the joined list
+-- Bit k of the window lies k back from the end of the joined list: bit 0 is the new bit, which
+-- stands last, and bit k + 1 is bit k of the state (`bit_of-next`), whose digits stand before it.
 window_bits : (state : ℕ) (bit : Bool) (k : ℕ) → k ≤ 8 →
     bit_of (window state bit) k ≡ get_or (binary 8 state ++ bit ∷ []) (8 + 0 - k) false
 window_bits state bit zero lt =
@@ -42,7 +43,8 @@ pub window_symbol : (state : ℕ) (bit : Bool) (generator : List ℕ) →
     symbol generator (binary 8 state ++ bit ∷ []) 0
 window_symbol state bit generator all = ap parity (window_taps state bit generator all)
 
--- the window's low eight bits are the last eight bits
+-- The window's low eight bits are the last eight of the joined list, place by place: digit j is bit
+-- 7 - j of the window (`low_bit`), which is entry j + 1 of that list (`window_bits`).
 pub window_state : (state : ℕ) (bit : Bool) →
     binary 8 (window state bit % 2 ^ 8) ≡ state_after (binary 8 state) (bit ∷ [])
 window_state state bit =

@@ -59,7 +59,8 @@ own_within kind bits repeats n own softs best e h is =
     let long = length-best kind bits repeats n softs best e is in
     omega (arith, room, long)
 
--- and its bits are those of the definition
+-- The bits of frame `own` are the definition's: codewords of the span's length have the same scores
+-- under the gathered soft values (`score_is`), so the best one is the same (`by_definition`).
 pub own_is : (kind : Kind) (bits repeats n own : ℕ) (softs : List ℤ) (best : Codeword) → 8 ≤ bits →
     2 * bits * repeats ≡ size (shape_of kind) →
     length softs ≡ size (shape_of kind) * n → own < n →

@@ -81,7 +81,8 @@ check_fits format check bits checked count told e long few is =
     ∙ length-take-le count bits (omega (arith, few)) in
     omega (arith, size, few, fills, told)
 
--- the code's test of the bits before the tail
+-- The code's test of the bits before the tail is the format's: these are the information and the
+-- quality indicator, and both tests ask whether the indicator is the one made of the information.
 pub right_is : {R : Type 0} (format : FrameFormat R) (check : Check) (bits : List Bool) (count : ℕ)
     (right : Bool) → format.quality ≡ Some check → length bits ≡ bits_in format →
     count ≡ length bits - 8 →

@@ -38,7 +38,8 @@ or_long told format bits score (Some best) is long low =
     either_of (IsLong told) (not_good format bits best.score) best best.good (bits_long told format bits is long)
     low
 
--- of the rates of a set with these formats
+-- A frame of a set of formats has as many bits as its rate says: so has each candidate
+-- (`candidate_long`), and the highest rate's frame that is shown where none is good (`or_long`).
 pub frame_long : {R : Type 0} (told : R → ℕ) (format_of : R → FrameFormat R) (highest : R) (lower : List R)
     (replaced : List ℕ) (softs : List ℤ) → ((r : R) → (format_of r).information ≡ told (format_of r).rate) →
     let frame = frame_of (format_of highest) (map format_of lower) replaced softs in

@@ -13,7 +13,8 @@ set_more f xs n v d within is each =
     get_or-set_other xs n k v d other ∙ each k lt)
     (get_or-set_same xs n v d within ∙ is)
 
--- two soft values at different places
+-- The sizes of two soft values at different places add up to at most 2^62: with the first one set
+-- to 0, the sum of all sizes is less by its size and still has the second one as a part.
 two_small : (xs : List ℤ) (p q : ℕ) → p < q → q < length xs →
     sum_by unsigned_abs xs ≤ 2 ^ 62 →
     unsigned_abs (get_or xs p (pos 0)) + unsigned_abs (get_or xs q (pos 0)) ≤ 2 ^ 62

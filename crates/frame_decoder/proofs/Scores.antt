@@ -41,7 +41,8 @@ length-front xs size n room =
     let more : size * suc n ≡ size * n + size = omega arith in
     length-take-le (size * n) xs (omega (arith, room, more))
 
--- for the first n frames
+-- By induction over n, the first n frames have one correlation, as sent and as gathered: it is so
+-- for the last one (`agreement-gathered`), and those of parts add up (`correlation-append`).
 frames_agree : (kind : Kind) (bits repeats n : ℕ) (softs : List ℤ) (symbols : List Bool) →
     2 * bits * repeats ≡ size (shape_of kind) →
     size (shape_of kind) * n ≤ length softs → 2 * bits * n ≤ length symbols →
@@ -90,7 +91,8 @@ frames_agree kind bits repeats (suc n) softs symbols e room room' =
     ∙ ap (λ (xs : List ℤ). correlation xs (front' ++ here')) (sym (flat_map-next gathered_frame n))
     ∙ ap (correlation (gathered_span c (suc n) softs)) (sym (take-frames symbols (2 * bits) n))
 
--- and so for a codeword of the span's length
+-- A codeword of the span's length has the same score under the gathered soft values as under those
+-- that were sent: it is `frames_agree` for n frames, which are all of the soft values and symbols.
 pub score_is : (kind : Kind) (bits repeats n : ℕ) (softs : List ℤ) (w : Codeword) →
     2 * bits * repeats ≡ size (shape_of kind) →
     length softs ≡ size (shape_of kind) * n → length w.bits ≡ bits * n →

@@ -50,7 +50,8 @@ frame_added plan before line got f stage is =
     ∙ ap (λ (ts : List TrafficPlan). Some (draft_at (record plan { traffic = ts }) (Frames One)))
     (on_last-last (one_frame_more f) before (traffic_plan_of line got))
 
--- a list of frames, and what lines after theirs lead to
+-- If lines lead to a draft from the plan with a list of frames, the frames' lines and then those
+-- lead there from the plan without it, by induction: each line adds its frame (`frame_added`).
 frames_lead : (plan : CellPlan) (before : List TrafficPlan) (line : TrafficLine)
     (got frames : List TrafficFrame) (more : List Statement) (last : Draft) →
     AreToldFrames frames → Leads (on_frames plan before line (got ++ frames)) (lines_of more) last →

@@ -315,7 +315,8 @@ paging_text_is : written_paging trial_paging_line ≡ codes "paging channel=1 ga
 unfolding written_paging digits
 paging_text_is = refl
 
--- the lines before those of the traffic channels
+-- The lines before those of the traffic channels have at most 2,000 octets: four of the six are
+-- fixed and have 150 together, and the cell's has at most 200 and the page's at most 1,200.
 head_short : (cell : CellIdentity) (more : List Statement) → IsStatedCell cell →
     length (lines_of (head_statements cell more)) ≤ 2000 + length (lines_of more)
 head_short cell more is =
