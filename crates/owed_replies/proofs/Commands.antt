@@ -24,10 +24,6 @@ pub write_fault_end : (task : Task) → IsTaskEnd task Status.WriteFault
 write_fault_end (Receive r limits) = each_purpose r.purpose Status.WriteFault tt tt
 write_fault_end task = tt
 
-no_memory_end : (task : Task) → IsTaskEnd task Status.NoMemory
-no_memory_end (Receive r limits) = each_purpose r.purpose Status.NoMemory tt tt
-no_memory_end task = tt
-
 -- ---- the task of the job that is named
 
 named_end : {P : Type 0} (task : Task) (status : Status) → IsTaskEnd task status →
@@ -83,53 +79,3 @@ module _ {rest left : Option (List ℕ)} {misread misread_now : ℕ} {SameSource
         later_source = ran.later_source;
         later_sink = ran.later_sink;
       }
-
--- ---- nothing is moved
-
--- arguments name no job, or memory ran out
-pub still_run : (forms : List ℕ) (named : Option Job) (status : Status) (rest old : Option (List ℕ))
-    (misread miswritten : ℕ) {SameSource SameSink Unwritten : Type 0} →
-    ((status ≡ Status.BadWords) ↔ (named ≡ None)) →
-    (status ≡ Status.BadWords) ⊎ (status ≡ Status.NoMemory) → SameSource → SameSink →
-    RunsCommand forms named status rest rest misread misread SameSource old old miswritten miswritten
-    SameSink Unwritten
-still_run forms named status rest old misread miswritten bad either source sink =
-    let want : (job : Job) → named ≡ Some job → status ≡ Status.NoMemory = λ job is.
-    elim either [
-      | inl words ↦ let none : named ≡ None = bad.0 words in absurd (cc)
-      | inr none ↦ none
-    ] in
-    let never : (other : Status) → status ≡ other → ¬ (other ≡ Status.BadWords) →
-    ¬ (other ≡ Status.NoMemory) → ⊥ = λ other is not_bad not_want.
-    elim either [
-      | inl words ↦ not_bad (cc)
-      | inr none ↦ not_want (cc)
-    ] in
-    record {
-      bad_words = bad;
-      untouched = λ is. (source, sink);
-      exact = λ job bytes held reply is told was owed reads writes. inl (want job is);
-      clean = λ width script bytes held plan span workers fingers paging traffic limits header
-          samples is told was file enough clean reads writes.
-          inl (want (Follow span workers fingers paging traffic limits) is);
-      all_distinct = λ width script bytes held plan span workers fingers paging traffic limits header
-          samples is told was file enough clean free follows reads writes.
-          inl (want (Follow span workers fingers paging traffic limits) is);
-      complete = λ job is well writes. inl (want job is);
-      kind = λ job is. subst (IsEndOf job) (sym (want job is)) (no_memory_end (task_of job));
-      verdict = λ job is verdict. absurd (subst IsVerdict (want job is) verdict);
-      read_fault = λ is. absurd (never Status.ReadFault is (λ s. cc) (λ s. cc));
-      write_fault = λ job is lost. absurd (never Status.WriteFault lost (λ s. cc) (λ s. cc));
-      memory = λ job is none. (sink, inl source);
-      unread = λ job is unread. source;
-      trial = λ number workers is done. absurd (never Status.Done done (λ s. cc) (λ s. cc));
-      at_end = λ job is reads end. absurd (subst IsEnd (want job is) end);
-      early = λ early. sink;
-      header = λ fault is header. none_most 16 rest;
-      bound = λ job is. unread_most (task_of job) rest;
-      written = λ job is. record { text = []; written = Appends-nil old; part = inl refl };
-      cut = λ job is cut. absurd (subst IsCut (want job is) cut);
-      long = λ job is long. absurd (subst IsLong (want job is) long);
-      later_source = omega arith;
-      later_sink = omega arith;
-    }
