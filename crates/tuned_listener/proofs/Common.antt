@@ -48,6 +48,7 @@ pub use Rattle.heard_events.specs.Marks.{sets_mark}
 unfoldable pub use Rattle.heard_events.specs.Marks.{mark}
 pub use Rattle.rake_finger.specs.Near.{AreNear, all_begun, all_near, has_reference, low_in}
 pub use Rattle.heard_events.specs.Near.{low_of}
+pub use Rattle.heard_events.specs.SoundMarks.{IsSoundMark}
 pub use Rattle.heard_events.specs.PagingStreams.{paging_bound, paging_rate}
 pub use Rattle.heard_events.specs.SoftFrames.{power_of, soft_frame, soft_frames}
 unfoldable pub use Rattle.heard_events.specs.SoftFrames.{frames_within}
@@ -95,14 +96,17 @@ pub use Rattle.tuned_listener.specs.SlotLaws.{AgreeInSlot, IsWrittenByTimes, Nee
 pub use Rattle.tuned_listener.specs.SlotWriting.{HoldsSlot, IsReadyForSlots, page_list, pages_ending}
 pub use Rattle.event_tap.specs.Slots.{slot_more, slot_text}
 unfoldable pub use Rattle.event_tap.specs.Slots.{slot_behind}
-pub use Rattle.tuned_listener.specs.TunedListening.{ListensBehind, ListensFrom, ListensTuned, TellsTuned, TellsTunedPart}
+pub use Rattle.tuned_listener.specs.SoundListener.{CanOpen, CanOpenFor, IsSoundHearer}
+pub use Rattle.tuned_listener.specs.TunedListening.{ListensAfter, ListensFrom, ListensTuned, OpensFor, TellsTuned, TellsTunedPart}
+pub use Rattle.tuned_listener.specs.TunedListening.{WaitsFor, WasTold}
 pub use Rattle.event_tap.specs.TunedTexts.{behind_mark, tuned_frame_text, frames_from, listed_text, rate2_text, text_behind, text_from}
 unfoldable pub use Rattle.event_tap.specs.TunedTexts.{frames_text, tuned_text}
 pub use Rattle.tuned_listener.specs.declared.channel_receiver.ChannelReceiver.{ChannelReceiver}
 pub use Rattle.tuned_listener.specs.declared.frame_writer.FrameWriter.{FrameWriter}
 pub use Rattle.tuned_listener.specs.declared.slot_writer.Page.{Page}
 pub use Rattle.tuned_listener.specs.declared.slot_writer.SlotWriter.{SlotWriter}
-pub use Rattle.tuned_listener.specs.declared.tuned.Behind.{Behind}
+pub use Rattle.tuned_listener.specs.declared.tuned.Hearer.{Hearer}
+pub use Rattle.tuned_listener.specs.declared.tuned.Hearer.TheVariants.{After, Ahead}
 pub use Rattle.tuned_listener.specs.declared.tuned.TunedListener.{TunedListener}
 pub use Rattle.event_tap.specs.declared.tuned_text.TunedText.{TunedText}
 pub use Rattle.event_tap.specs.declared.tuned_text.TunedText.TheVariants.{Listed, RateSetTwo, Slots}

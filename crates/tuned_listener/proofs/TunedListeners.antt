@@ -1,12 +1,14 @@
 -- A listener, and what it writes, where samples are taken.
-use Rattle.tuned_listener.proofs.Common.{◌≡◌, ℕ, ◌+◌, true, List, [], ◌++◌, length, take, drop, refl, sym, ap, ◌∙◌, Option, None, Some}
-use Rattle.tuned_listener.proofs.Common.{append-nil, append_assoc, arith, subst, ◌*◌, ◌<◌, ◌≤◌, sum_by, unsigned_abs, StartsWith, is_some}
+use Rattle.tuned_listener.proofs.Common.{◌≡◌, ℕ, ◌+◌, List, [], ◌++◌, length, take, drop, refl, sym, ap, ◌∙◌, Option, None, Some}
+use Rattle.tuned_listener.proofs.Common.{append-nil, append_assoc, arith, subst, ◌*◌, ◌<◌, ◌≤◌, sum_by, unsigned_abs, StartsWith}
 use Rattle.tuned_listener.proofs.Common.{Appends-nil, take-append-drop, take_all, CheckForm, Sample, Near, IsLawful, mark, AreNear}
 use Rattle.tuned_listener.proofs.Common.{soft_frames, frame_most, IsTunedTo, Tuning, sync_stream, Channel, Paging, Traffic, Mark, Mobile}
 use Rattle.tuned_listener.proofs.Common.{SoftFrame, Tuner, HoldsFrames, IsReady, WritesFrames, WritesFramesPart, tuned_text_of}
-use Rattle.tuned_listener.proofs.Common.{ListensAhead, nil_from_length, ListensBehind, ListensFrom, ListensTuned, TellsTuned}
+use Rattle.tuned_listener.proofs.Common.{nil_from_length, ListensAfter, ListensFrom, ListensTuned, TellsTuned, WaitsFor}
 use Rattle.tuned_listener.proofs.Common.{TellsTunedPart, IsReadyForSlots, slot_behind, behind_mark, frames_from, text_from, tuned_text}
-use Rattle.tuned_listener.proofs.Common.{FrameWriter, SlotWriter, Behind, TunedListener, TunedText}
+use Rattle.tuned_listener.proofs.Common.{CanOpen, CanOpenFor, IsMarkedAt, IsSoundHearer, IsSoundMark, IsUntold, OpensFor, WasTold}
+use Rattle.tuned_listener.proofs.Common.{samples_taken}
+use Rattle.tuned_listener.proofs.Common.{FrameWriter, SlotWriter, Hearer, After, Ahead, TunedListener, TunedText}
 use Rattle.tuned_listener.proofs.FrameTexts.{kept_behind_none}
 use Rattle.heard_events.proofs.MarkGrowth.{none_marked}
 use Rattle.tuned_listener.proofs.TunedMarks.{mark_kept, there_eq, there_le}
@@ -15,41 +17,58 @@ use Rattle.tuned_listener.specs.declared.frame_writer.FrameWriter.TheVariants as
 
 -- ---- who listens
 
-module _ (t : Tuning) (channel : Channel) (heard : List Sample) where
-  -- a receiver of frames listens alone
-  receiver_parts : (ahead : Option Mobile) (b : Behind) →
-      ListensFrom t channel ahead (Some b) heard →
-      (ahead ≡ None) × ListensBehind t channel b heard
-  receiver_parts None b from = (refl, from)
-  receiver_parts (Some mobile) b from = absurd from
+module _ (t : Tuning) (channel : Channel) (heard : List Sample) (hearer : Hearer)
+    (from : ListensFrom t channel hearer heard) where
+  -- a handset ahead of the mark
+  pub waits : (mobile : Mobile) (for_channel : Channel) (phase : ℕ) (near : Near) →
+      hearer ≡ Ahead mobile for_channel phase near →
+      WaitsFor t channel mobile for_channel phase near heard
+  waits mobile for_channel phase near is =
+      subst (λ (h : Hearer). ListensFrom t channel h heard) is from
 
-  pub behind_alone : (ahead : Option Mobile) (behind : Option Behind) (b : Behind) →
-      behind ≡ Some b → ListensFrom t channel ahead behind heard →
-      (ahead ≡ None) × ListensBehind t channel b heard
-  behind_alone ahead behind b is from =
-      receiver_parts ahead b
-      (subst (λ (x : Option Behind). ListensFrom t channel ahead x heard) is from)
+  -- or a receiver after it
+  pub receives : (m : Mark) (tuner : Tuner) → hearer ≡ After m tuner →
+      ListensAfter t channel m tuner heard
+  receives m tuner is = subst (λ (h : Hearer). ListensFrom t channel h heard) is from
 
-  -- and so does a handset
-  handset_parts : (behind : Option Behind) (mobile : Mobile) →
-      ListensFrom t channel (Some mobile) behind heard →
-      (behind ≡ None) × ListensAhead t mobile heard
-  handset_parts None mobile from = (refl, from)
-  handset_parts (Some b) mobile from = absurd from
+-- which is sound
+pub ahead_sound : (mobile : Mobile) (channel : Channel) (phase : ℕ) (near : Near) →
+    IsUntold mobile → CanOpenFor channel near → IsSoundHearer (Ahead mobile channel phase near)
+ahead_sound mobile channel phase near untold can = record {
+  ahead = λ (mobile' : Mobile) (channel' : Channel) (phase' : ℕ) (near' : Near)
+      (is : Ahead mobile channel phase near ≡ Ahead mobile' channel' phase' near').
+      let same : mobile ≡ mobile' = cc in
+      let same_channel : channel ≡ channel' = cc in
+      let same_near : near ≡ near' = cc in (
+        subst IsUntold same untold,
+        subst (λ (c : Channel). CanOpenFor c near') same_channel
+            (subst (CanOpenFor channel) same_near can),
+      );
+  after = λ (m : Mark) (tuner : Tuner) (is : Ahead mobile channel phase near ≡ After m tuner).
+      absurd (cc);
+}
 
-  pub handset_alone : (ahead : Option Mobile) (behind : Option Behind) (mobile : Mobile) →
-      ahead ≡ Some mobile → ListensFrom t channel ahead behind heard →
-      (behind ≡ None) × ListensAhead t mobile heard
-  handset_alone ahead behind mobile is from =
-      handset_parts behind mobile
-      (subst (λ (a : Option Mobile). ListensFrom t channel a behind heard) is from)
+pub after_sound : (m : Mark) (tuner : Tuner) → IsSoundMark m → IsSoundHearer (After m tuner)
+after_sound m tuner sound = record {
+  ahead = λ (mobile : Mobile) (channel : Channel) (phase : ℕ) (near : Near)
+      (is : After m tuner ≡ Ahead mobile channel phase near). absurd (cc);
+  after = λ (m' : Mark) (tuner' : Tuner) (is : After m tuner ≡ After m' tuner').
+      let same : m ≡ m' = cc in subst IsSoundMark same sound;
+}
 
-  -- without a receiver a handset listens
-  pub ahead_alone : (ahead : Option Mobile) (behind : Option Behind) → behind ≡ None →
-      ListensFrom t channel ahead behind heard → is_some ahead ≡ true
-  ahead_alone (Some mobile) behind is from = refl
-  ahead_alone None None is from = absurd from
-  ahead_alone None (Some b) is from = absurd (cc)
+-- in whose place a receiver can be opened
+pub can_open : (hearer : Hearer) (m : Mark) (mobile : Mobile) (channel : Channel) (phase : ℕ)
+    (near : Near) → hearer ≡ Ahead mobile channel phase near → CanOpen hearer m →
+    (samples_taken mobile ≤ m.sample) × CanOpenFor channel near
+can_open hearer m mobile channel phase near is opens = subst (λ (h : Hearer). CanOpen h m) is opens
+
+-- who was told a mark
+pub was_told : (t : Tuning) (channel : Channel) (hearer : Hearer) (m : Mark) (heard : List Sample)
+    (mobile : Mobile) (for_channel : Channel) (phase : ℕ) (near : Near) →
+    hearer ≡ Ahead mobile for_channel phase near → WasTold t channel hearer m heard →
+    OpensFor t channel for_channel phase near × IsMarkedAt t mobile m heard
+was_told t channel hearer m heard mobile for_channel phase near is told =
+    subst (λ (h : Hearer). WasTold t channel h m heard) is told
 
 -- ---- the frames after the mark
 
@@ -75,78 +94,64 @@ holds_nothing t channel writer check near same holds =
 
 module _ (t : Tuning) (channel : Channel) (form : TunedText) (l : TunedListener)
     (heard : List Sample) (is : ListensTuned t channel form l heard) where
-  -- another takes its place, on the same channel
-  pub listens_on : (l' : TunedListener) (heard' : List Sample) → l'.phase ≡ l.phase →
-      l'.near ≡ l.near → l'.channel ≡ l.channel → tuned_text_of l'.writer ≡ tuned_text_of l.writer →
+  -- another takes its place, for the same text
+  pub listens_on : (l' : TunedListener) (heard' : List Sample) →
+      tuned_text_of l'.writer ≡ tuned_text_of l.writer →
       HoldsFrames l'.writer t.check30 (slot_behind [] (behind_mark t channel heard')) →
-      ListensFrom t channel l'.ahead l'.behind heard' → ListensTuned t channel form l' heard'
-  listens_on l' heard' phase near same text holds from = record {
-    phase_is = is.phase_is ∙ sym phase;
-    deltas_are = is.deltas_are ∙ ap (λ (paths : Near). take paths.count paths.deltas) (sym near);
-    channel_is = same ∙ is.channel_is;
+      ListensFrom t channel l'.hearer heard' → ListensTuned t channel form l' heard'
+  listens_on l' heard' text holds from = record {
     form_is = text ∙ is.form_is;
     close = is.close;
     holds = holds;
     listens = from;
   }
 
-  -- what the writer keeps doesn't change where the frames after the mark are the same
-  pub holds_on : (heard' : List Sample) → behind_mark t channel heard' ≡ behind_mark t channel heard →
-      HoldsFrames l.writer t.check30 (slot_behind [] (behind_mark t channel heard'))
-  holds_on heard' same =
-      subst (λ (fs : List SoftFrame). HoldsFrames l.writer t.check30 (slot_behind [] fs)) (sym same)
-      is.holds
+  -- its writer keeps the same where no frame has ended since
+  listens_silent : (l' : TunedListener) (heard' : List Sample) → l'.writer ≡ l.writer →
+      behind_mark t channel heard' ≡ behind_mark t channel heard →
+      ListensFrom t channel l'.hearer heard' → ListensTuned t channel form l' heard'
+  listens_silent l' heard' writer silent =
+      listens_on l' heard' (ap tuned_text_of writer)
+      (subst (λ (w : FrameWriter). HoldsFrames w t.check30 (slot_behind [] (behind_mark t channel heard')))
+      (sym writer)
+      (subst (λ (fs : List SoftFrame). HoldsFrames l.writer t.check30 (slot_behind [] fs)) (sym silent)
+      is.holds))
 
   -- a handset hears on ahead of the mark
-  pub listens_ahead : (l' : TunedListener) (mobile : Mobile) (samples : List Sample) (taken : ℕ) →
-      taken ≡ length samples → l'.phase ≡ l.phase → l'.near ≡ l.near → l'.channel ≡ l.channel →
-      l'.writer ≡ l.writer → l'.ahead ≡ Some mobile → l'.behind ≡ None →
-      mark t heard (length heard) ≡ None → ListensAhead t mobile (heard ++ samples) →
+  pub listens_ahead : (l' : TunedListener) (mobile : Mobile) (for_channel : Channel) (phase : ℕ)
+      (near : Near) (samples : List Sample) (taken : ℕ) → taken ≡ length samples →
+      l'.writer ≡ l.writer → l'.hearer ≡ Ahead mobile for_channel phase near →
+      mark t heard (length heard) ≡ None →
+      WaitsFor t channel mobile for_channel phase near (heard ++ samples) →
       ListensTuned t channel form l' (heard ++ take taken samples)
-  listens_ahead l' mobile samples taken all phase near same writer ahead behind unmarked hears =
+  listens_ahead l' mobile for_channel phase near samples taken all writer ahead unmarked hears =
       let now = heard ++ samples in
       let joined : heard ++ take taken samples ≡ now =
       ap (λ (xs : List Sample). heard ++ xs) (take_all taken samples (omega (arith, all))) in
-      let silent = frames_unmarked t channel now hears.unmarked
+      let silent = frames_unmarked t channel now hears.ahead.unmarked
       ∙ sym (frames_unmarked t channel heard unmarked) in
       subst (ListensTuned t channel form l') (sym joined)
-      (listens_on l' now phase near same (ap tuned_text_of writer)
-      (subst (λ (w : FrameWriter). HoldsFrames w t.check30 (slot_behind [] (behind_mark t channel now)))
-      (sym writer) (holds_on now silent))
-      (subst (λ (a : Option Mobile). ListensFrom t channel a l'.behind now) (sym ahead)
-      (subst (λ (b : Option Behind). ListensFrom t channel (Some mobile) b now) (sym behind) hears)))
+      (listens_silent l' now writer silent
+      (subst (λ (h : Hearer). ListensFrom t channel h now) (sym ahead) hears))
 
   -- a receiver of frames takes the place of a handset where the mark is set
-  pub listens_behind : (l' : TunedListener) (b : Behind) (heard' : List Sample) →
-      l'.phase ≡ l.phase → l'.near ≡ l.near → l'.channel ≡ l.channel → l'.writer ≡ l.writer →
-      l'.ahead ≡ None → l'.behind ≡ Some b → mark t heard (length heard) ≡ None →
-      mark t heard' (length heard') ≡ Some b.mark →
-      soft_frames t l.channel b.mark heard' ≡ [] →
-      IsTunedTo t l.channel b.mark b.tuner heard' → ListensTuned t channel form l' heard'
-  listens_behind l' b heard' phase near same writer ahead behind unmarked marked none tuned =
-      let there : ListensFrom t channel None (Some b) heard' =
-      record {
-        marked = marked;
-        tuned = subst (λ (c : Channel). IsTunedTo t c b.mark b.tuner heard') is.channel_is tuned;
-      } in
-      let silent : behind_mark t channel heard' ≡ behind_mark t channel heard =
-      frames_marked t channel heard' b.mark marked
-      ∙ subst (λ (c : Channel). soft_frames t c b.mark heard' ≡ []) is.channel_is none
-      ∙ sym (frames_unmarked t channel heard unmarked) in
-      listens_on l' heard' phase near same (ap tuned_text_of writer)
-      (subst (λ (w : FrameWriter). HoldsFrames w t.check30
-      (slot_behind [] (behind_mark t channel heard'))) (sym writer) (holds_on heard' silent))
-      (subst (λ (a : Option Mobile). ListensFrom t channel a l'.behind heard') (sym ahead)
-      (subst (λ (x : Option Behind). ListensFrom t channel None x heard') (sym behind) there))
+  pub listens_after : (l' : TunedListener) (m : Mark) (heard' : List Sample) →
+      l'.writer ≡ l.writer → mark t heard (length heard) ≡ None →
+      mark t heard' (length heard') ≡ Some m → soft_frames t channel m heard' ≡ [] →
+      ListensFrom t channel l'.hearer heard' → ListensTuned t channel form l' heard'
+  listens_after l' m heard' writer unmarked marked none =
+      listens_silent l' heard' writer
+      (frames_marked t channel heard' m marked ∙ none
+      ∙ sym (frames_unmarked t channel heard unmarked))
 
-  -- no frame has ended there
-  pub silent_at_mark : (m : Mark) (heard' : List Sample) → mark t heard (length heard) ≡ None →
-      mark t heard' (length heard') ≡ Some m → soft_frames t l.channel m heard' ≡ [] →
-      tuned_text form t channel heard' ≡ tuned_text form t channel heard
-  silent_at_mark m heard' unmarked marked none =
-      text_at_mark form t channel heard' m marked
-      (subst (λ (c : Channel). soft_frames t c m heard' ≡ []) is.channel_is none)
-      ∙ sym (text_unmarked form t channel heard unmarked)
+-- no frame has ended at the mark
+pub silent_at_mark : (t : Tuning) (channel : Channel) (form : TunedText) (m : Mark)
+    (heard heard' : List Sample) → mark t heard (length heard) ≡ None →
+    mark t heard' (length heard') ≡ Some m → soft_frames t channel m heard' ≡ [] →
+    tuned_text form t channel heard' ≡ tuned_text form t channel heard
+silent_at_mark t channel form m heard heard' unmarked marked none =
+    text_at_mark form t channel heard' m marked none
+    ∙ sym (text_unmarked form t channel heard unmarked)
 
 -- nor does one end ahead of it
 pub silent_ahead : (t : Tuning) (channel : Channel) (form : TunedText)
@@ -200,39 +205,36 @@ ready_writer (writers.Slots slots) is = ready_slots slots is
 module _ (t : Tuning) (channel : Channel) (form : TunedText) (l : TunedListener)
     (heard samples : List Sample) (old new : Option (List ℕ))
     (is : ListensTuned t channel form l heard) where
-  module _ (b : Behind) (here : l.behind ≡ Some b) where
-    from : ListensBehind t channel b heard
-    from = (behind_alone t channel heard l.ahead l.behind b here is.listens).1
+  module _ (m : Mark) (tuner : Tuner) (here : l.hearer ≡ After m tuner) where
+    from : ListensAfter t channel m tuner heard
+    from = receives t channel heard l.hearer is.listens m tuner here
 
     abbrev now : List Sample
     now = heard ++ samples
 
-    marked : mark t now (length now) ≡ Some b.mark
-    marked = mark_kept t is.close heard samples b.mark from.marked
+    marked : mark t now (length now) ≡ Some m
+    marked = mark_kept t is.close heard samples m from.marked
 
     -- what the writer keeps, by the frames from the mark on
     pub keeps_behind : HoldsFrames l.writer t.check30
-        (slot_behind [] (soft_frames t channel b.mark heard))
+        (slot_behind [] (soft_frames t channel m heard))
     keeps_behind =
         subst (λ (fs : List SoftFrame). HoldsFrames l.writer t.check30 (slot_behind [] fs))
-        (frames_marked t channel heard b.mark from.marked) is.holds
+        (frames_marked t channel heard m from.marked) is.holds
 
     -- the frames were written
-    pub tells_behind : (l' : TunedListener) (tuner' : Tuner) → l'.phase ≡ l.phase →
-        l'.near ≡ l.near → l'.channel ≡ l.channel → tuned_text_of l'.writer ≡ tuned_text_of l.writer →
-        l'.ahead ≡ l.ahead → l'.behind ≡ Some (record { mark = b.mark; tuner = tuner' }) →
+    pub tells_behind : (l' : TunedListener) (tuner' : Tuner) →
+        tuned_text_of l'.writer ≡ tuned_text_of l.writer → l'.hearer ≡ After m tuner' →
         ((t : Tuning) (channel : Channel) (heard : List Sample) →
-        IsTunedTo t channel b.mark b.tuner heard →
-        HoldsFrames l.writer t.check30 (slot_behind [] (soft_frames t channel b.mark heard)) →
-        WritesFrames t channel b.mark (tuned_text_of l.writer) tuner' l'.writer heard (heard ++ samples)
+        IsTunedTo t channel m tuner heard →
+        HoldsFrames l.writer t.check30 (slot_behind [] (soft_frames t channel m heard)) →
+        WritesFrames t channel m (tuned_text_of l.writer) tuner' l'.writer heard (heard ++ samples)
         old new) →
         TellsTuned t channel form l' heard (heard ++ samples) old new
-    tells_behind l' tuner' phase near same text ahead behind writes =
-        let m = b.mark in
-        let none = (behind_alone t channel heard l.ahead l.behind b here is.listens).0 in
+    tells_behind l' tuner' text after writes =
         let wrote = subst (λ (f : TunedText). WritesFrames t channel m f tuner' l'.writer heard now
         old new) is.form_is (writes t channel heard from.tuned keeps_behind) in
-        let there : ListensFrom t channel None (Some (record { mark = m; tuner = tuner' })) now =
+        let there : ListensFrom t channel (After m tuner') now =
         record { marked = marked; tuned = wrote.tuned } in
         record {
           text = wrote.text;
@@ -242,22 +244,19 @@ module _ (t : Tuning) (channel : Channel) (form : TunedText) (l : TunedListener)
               ∙ wrote.all
               ∙ sym (text_marked form t channel now m marked);
           listens =
-              listens_on t channel form l heard is l' now phase near same text
+              listens_on t channel form l heard is l' now text
               (subst (λ (fs : List SoftFrame). HoldsFrames l'.writer t.check30 (slot_behind [] fs))
               (sym (frames_marked t channel now m marked)) wrote.holds)
-              (subst (λ (a : Option Mobile). ListensFrom t channel a l'.behind now)
-              (sym (ahead ∙ none))
-              (subst (λ (x : Option Behind). ListensFrom t channel None x now) (sym behind) there));
+              (subst (λ (h : Hearer). ListensFrom t channel h now) (sym after) there);
         }
 
     -- a write failed
     pub tells_cut : ((t : Tuning) (channel : Channel) (heard : List Sample) →
-        IsTunedTo t channel b.mark b.tuner heard →
-        HoldsFrames l.writer t.check30 (slot_behind [] (soft_frames t channel b.mark heard)) →
-        WritesFramesPart t channel b.mark (tuned_text_of l.writer) heard (heard ++ samples) old new) →
+        IsTunedTo t channel m tuner heard →
+        HoldsFrames l.writer t.check30 (slot_behind [] (soft_frames t channel m heard)) →
+        WritesFramesPart t channel m (tuned_text_of l.writer) heard (heard ++ samples) old new) →
         TellsTunedPart t channel form heard (heard ++ samples) old new
     tells_cut writes =
-        let m = b.mark in
         let wrote = subst (λ (f : TunedText). WritesFramesPart t channel m f heard now old new)
         is.form_is (writes t channel heard from.tuned keeps_behind) in
         record {
@@ -272,27 +271,21 @@ module _ (t : Tuning) (channel : Channel) (form : TunedText) (l : TunedListener)
               (sym (text_marked form t channel heard m from.marked)) wrote.begins);
         }
 
--- without a receiver of frames no sample is left
+-- a handset ahead of the mark has no sample left to hear
 pub tells_nothing : (t : Tuning) (channel : Channel) (form : TunedText) (l l' : TunedListener)
     (heard samples : List Sample) (old : Option (List ℕ)) → ListensTuned t channel form l heard →
-    l.behind ≡ None → (is_some l.ahead ≡ true → length samples ≡ 0) → l'.phase ≡ l.phase →
-    l'.near ≡ l.near → l'.channel ≡ l.channel → l'.writer ≡ l.writer →
-    ListensFrom t channel l'.ahead l'.behind heard →
+    length samples ≡ 0 → l'.writer ≡ l.writer → l'.hearer ≡ l.hearer →
     TellsTuned t channel form l' heard (heard ++ samples) old old
-tells_nothing t channel form l l' heard samples old is none empty phase near same writer from =
-    let left = nil_from_length samples (empty (ahead_alone t channel heard l.ahead l.behind none is.listens))
-    in
+tells_nothing t channel form l l' heard samples old is empty writer hearer =
     let now : heard ++ samples ≡ heard =
-    ap (λ (xs : List Sample). heard ++ xs) left ∙ append-nil heard in
+    ap (λ (xs : List Sample). heard ++ xs) (nil_from_length samples empty) ∙ append-nil heard in
     record {
       text = [];
       written = Appends-nil old;
       all = append-nil (tuned_text form t channel heard) ∙ ap (tuned_text form t channel) (sym now);
       listens = subst (ListensTuned t channel form l') (sym now)
-          (listens_on t channel form l heard is l' heard phase near same (ap tuned_text_of writer)
-          (subst (λ (w : FrameWriter). HoldsFrames w t.check30
-          (slot_behind [] (behind_mark t channel heard))) (sym writer) is.holds)
-          from);
+          (listens_silent t channel form l heard is l' heard writer refl
+          (subst (λ (h : Hearer). ListensFrom t channel h heard) (sym hearer) is.listens));
     }
 
 -- ---- samples ahead of the mark, and those after it

@@ -1,24 +1,40 @@
 -- What always holds of a listener.
-use Rattle.std.specs.Prelude.{◌≡◌, ◌≤◌, pos, Option, Some, slice_get}
-use Rattle.std.specs.Option.{ForSome}
+use Rattle.std.specs.Prelude.{◌≡◌, ◌≤◌, ℕ, pos, Some, slice_get}
 use Rattle.pilot_search.specs.declared.paths.Near.{Near}
 use Rattle.heard_events.specs.Channels.{IsLawful}
 use Rattle.heard_events.specs.SoundMarks.{IsSoundMark}
 use Rattle.heard_events.specs.declared.channel.Channel.{Channel}
+use Rattle.heard_events.specs.declared.mark.Mark.{Mark}
+use Rattle.mobile_core.specs.Standing.{samples_taken}
 use Rattle.mobile_core.specs.declared.mobile.Mobile.{Mobile}
 use Rattle.tuned_listener.specs.FrameWriting.{IsReady}
 use Rattle.tuned_listener.specs.Marking.{IsUntold}
 use Rattle.tuned_listener.specs.declared.frame_writer.FrameWriter.{FrameWriter}
-use Rattle.tuned_listener.specs.declared.tuned.Behind.{Behind}
+use Rattle.tuned_listener.specs.declared.tuned.Hearer.{Hearer}
+use Rattle.tuned_listener.specs.declared.tuned.Hearer.TheVariants.{Ahead, After}
+use Rattle.tuned_listener.specs.declared.tuner.Tuner.{Tuner}
 
--- a handset ahead of the mark was told none, a mark is one of a file, there are one to three paths,
--- the reference's first, and the writer takes a frame
-pub record IsSoundListener (ahead : Option Mobile) (behind : Option Behind) (channel : Channel)
-    (writer : FrameWriter) (near : Near) : Type 0 where
-  pub untold : ForSome ahead IsUntold
-  pub marked : ForSome behind (λ (b : Behind). IsSoundMark b.mark)
+-- a receiver of frames can be opened for a channel and one to three paths, the reference's first
+pub record CanOpenFor (channel : Channel) (near : Near) : Type 0 where
   pub lawful : ∥ IsLawful channel ∥₁
   pub least : 1 ≤ near.count
   pub most : near.count ≤ 3
   pub first : slice_get near.deltas 0 ≡ Some (pos 0)
+
+-- a handset ahead of the mark was told none, and a receiver can be opened in its place; and the
+-- mark that a receiver is after is one of a file
+pub record IsSoundHearer (hearer : Hearer) : Type 0 where
+  pub ahead : (mobile : Mobile) (channel : Channel) (phase : ℕ) (near : Near) →
+      hearer ≡ Ahead mobile channel phase near → IsUntold mobile × CanOpenFor channel near
+  pub after : (m : Mark) (tuner : Tuner) → hearer ≡ After m tuner → IsSoundMark m
+
+-- a handset has taken no sample after this mark, and a receiver can be opened in its place
+abbrev pub CanOpen : Hearer → Mark → Type 0
+CanOpen (Ahead mobile channel phase near) m =
+    (samples_taken mobile ≤ m.sample) × CanOpenFor channel near
+CanOpen (After already tuner) m = ⊥
+
+-- so it is with who hears, and the writer takes a frame
+pub record IsSoundListener (hearer : Hearer) (writer : FrameWriter) : Type 0 where
+  pub hears : IsSoundHearer hearer
   pub ready : ∥ IsReady writer ∥₁

@@ -1,5 +1,5 @@
 -- Who hears the frames of one channel.
-use Rattle.std.specs.Prelude.{◌≡◌, ℕ, List, [], ◌++◌, length, take, Option, None, Some}
+use Rattle.std.specs.Prelude.{◌≡◌, ℕ, Bool, true, false, List, [], ◌++◌, length, take, Option, Some}
 use Rattle.std.specs.Io.{StartsWith}
 use Rattle.std.specs.Io.KnownBytes.{Appends}
 use Rattle.chip_core.specs.declared.sample.Sample.{Sample}
@@ -9,49 +9,72 @@ use Rattle.mobile_core.specs.Standing.{has_room}
 use Rattle.tuned_listener.specs.Tuners.{IsTunedTo, samples_left}
 use Rattle.heard_events.specs.Tuning.{Tuning, sync_stream}
 use Rattle.heard_events.specs.declared.channel.Channel.{Channel}
+use Rattle.heard_events.specs.declared.mark.Mark.{Mark}
 use Rattle.mobile_core.specs.declared.mobile.Mobile.{Mobile}
+use Rattle.pilot_search.specs.declared.paths.Near.{Near}
 use Rattle.tuned_listener.specs.FrameWriting.{HoldsFrames, tuned_text_of}
-use Rattle.tuned_listener.specs.Marking.{ListensAhead}
+use Rattle.tuned_listener.specs.Marking.{IsMarkedAt, ListensAhead}
 use Rattle.event_tap.specs.Slots.{slot_behind}
 use Rattle.event_tap.specs.TunedTexts.{behind_mark, tuned_text}
-use Rattle.tuned_listener.specs.declared.tuned.Behind.{Behind}
+use Rattle.tuned_listener.specs.declared.tuned.Hearer.{Hearer}
+use Rattle.tuned_listener.specs.declared.tuned.Hearer.TheVariants.{Ahead, After}
 use Rattle.tuned_listener.specs.declared.tuned.TunedListener.{TunedListener}
+use Rattle.tuned_listener.specs.declared.tuner.Tuner.{Tuner}
 use Rattle.event_tap.specs.declared.tuned_text.TunedText.{TunedText}
 
--- a receiver has taken these samples, which set the mark that it is after
-pub record ListensBehind (t : Tuning) (channel : Channel) (b : Behind) (heard : List Sample)
+-- what a receiver after the mark is opened for is what a handset is tuned to
+pub record OpensFor (t : Tuning) (channel for_channel : Channel) (phase : ℕ) (near : Near)
     : Type 0 where
-  pub marked : mark t heard (length heard) ≡ Some b.mark
-  pub tuned : IsTunedTo t channel b.mark b.tuner heard
+  pub phase_is : t.phase ≡ phase
+  pub deltas_are : t.deltas ≡ take near.count near.deltas
+  pub channel_is : for_channel ≡ channel
+
+-- a handset ahead of the mark has taken these samples, in whose place such a receiver is opened
+pub record WaitsFor (t : Tuning) (channel : Channel) (mobile : Mobile) (for_channel : Channel)
+    (phase : ℕ) (near : Near) (heard : List Sample) : Type 0 where
+  pub opens : OpensFor t channel for_channel phase near
+  pub ahead : ListensAhead t mobile heard
+
+-- a receiver has taken these samples, which set the mark that it is after
+pub record ListensAfter (t : Tuning) (channel : Channel) (m : Mark) (tuner : Tuner)
+    (heard : List Sample) : Type 0 where
+  pub marked : mark t heard (length heard) ≡ Some m
+  pub tuned : IsTunedTo t channel m tuner heard
 
 -- the one or the other
-abbrev pub ListensFrom : Tuning → Channel → Option Mobile → Option Behind → List Sample → Type 0
-ListensFrom t channel (Some mobile) None heard = ListensAhead t mobile heard
-ListensFrom t channel None (Some b) heard = ListensBehind t channel b heard
-ListensFrom t channel (Some mobile) (Some b) heard = ⊥
-ListensFrom t channel None None heard = ⊥
+abbrev pub ListensFrom : Tuning → Channel → Hearer → List Sample → Type 0
+ListensFrom t channel (Ahead mobile for_channel phase near) heard =
+    WaitsFor t channel mobile for_channel phase near heard
+ListensFrom t channel (After m tuner) heard = ListensAfter t channel m tuner heard
+
+-- a handset was told this mark, which the samples set that it has taken
+abbrev pub WasTold : Tuning → Channel → Hearer → Mark → List Sample → Type 0
+WasTold t channel (Ahead mobile for_channel phase near) m heard =
+    OpensFor t channel for_channel phase near × IsMarkedAt t mobile m heard
+WasTold t channel (After already tuner) m heard = ⊥
 
 -- A listener for this text of this channel has taken these samples of a file, and written the lines
 -- of the frames that end within them.
 pub record ListensTuned (t : Tuning) (channel : Channel) (form : TunedText) (l : TunedListener)
     (heard : List Sample) : Type 0 where
-  pub phase_is : t.phase ≡ l.phase
-  pub deltas_are : t.deltas ≡ take l.near.count l.near.deltas
-  pub channel_is : l.channel ≡ channel
   pub form_is : tuned_text_of l.writer ≡ form
   pub close : AreNear (sync_stream t).fingers
   pub holds : HoldsFrames l.writer t.check30 (slot_behind [] (behind_mark t channel heard))
-  pub listens : ListensFrom t channel l.ahead l.behind heard
+  pub listens : ListensFrom t channel l.hearer heard
+
+-- a handset waits for the mark
+abbrev pub is_ahead : Hearer → Bool
+is_ahead (Ahead mobile channel phase near) = true
+is_ahead (After m tuner) = false
 
 -- how many samples of the file are left to whom
-abbrev pub room_of : Option Mobile → Option Behind → ℕ
-room_of (Some mobile) behind = has_room mobile
-room_of None (Some b) = samples_left b.tuner
-room_of None None = 0
+abbrev pub room_of : Hearer → ℕ
+room_of (Ahead mobile channel phase near) = has_room mobile
+room_of (After m tuner) = samples_left tuner
 
 -- how many samples of the file are left to it
 abbrev pub tuned_room : TunedListener → ℕ
-tuned_room l = room_of l.ahead l.behind
+tuned_room l = room_of l.hearer
 
 -- It has taken these samples after those, and a sink got the text of the frames that end within
 -- them.

@@ -8,17 +8,69 @@ use crate::marking::{Reached, step_to_mark};
 use crate::tuner::Tuner;
 use cdma_io::{Failed, Sink};
 use chip_core::{CheckForm, OutOfMemory, Phase, Sample};
+use core::mem::replace_with;
 use event_tap::TunedText;
 use heard_events::{Channel, Mark};
 use mobile_core::{HeardRing, Mobile};
 use pilot_search::Near;
 use std::alloc::Global;
 
-/// The receiver of a channel's frames, and the mark that it is after.
+/// Who hears the samples that come next.
 #[derive(Drop)]
-struct Behind {
-    mark: Mark,
-    tuner: Tuner,
+enum Hearer {
+    /// The handset that waits for the mark, and for what the receiver after it is opened.
+    Ahead {
+        mobile: Mobile,
+        /// The channel.
+        channel: Channel,
+        /// The phase of the reference base station's codes.
+        phase: Phase,
+        /// The paths near it.
+        near: Near,
+    },
+    /// The receiver of the channel's frames, and the mark that it is after.
+    After {
+        mark: Mark,
+        tuner: Tuner,
+    },
+}
+
+impl Hearer {
+    ghost use Rattle.std.specs.Prelude.{◌≡◌, List, [], false};
+    ghost use Rattle.chip_core.specs.declared.sample.Sample.{Sample as TheSample};
+    ghost use Rattle.heard_events.specs.SoftFrames.{soft_frames};
+    ghost use Rattle.heard_events.specs.SoundMarks.{IsSoundMark};
+    ghost use Rattle.heard_events.specs.Tuning.{Tuning};
+    ghost use Rattle.heard_events.specs.declared.channel.Channel.{Channel as TheChannel};
+    ghost use Rattle.tuned_listener.specs.SoundListener.{CanOpen, IsSoundHearer};
+    ghost use Rattle.tuned_listener.specs.TunedListening.{ListensFrom, WasTold, is_ahead, room_of};
+
+    /// The receiver of the frames after a mark, in place of the handset that was told it. A
+    /// receiver that is there already stays.
+    fn opened(self, mark: Mark) -> (Hearer, ())
+        requires mark { IsSoundMark mark }
+        requires opens { CanOpen self mark }
+        ensures sound { IsSoundHearer result.0 }
+        ensures after { is_ahead result.0 ≡ false }
+        ensures room { room_of result.0 ≡ room_of self }
+        ensures listens { (t : Tuning) (channel : TheChannel) (heard : List TheSample) →
+            WasTold t channel self mark heard → ListensFrom t channel result.0 heard
+            × (soft_frames t channel mark heard ≡ []) }
+    {
+        match self {
+            Hearer::Ahead {
+                mobile,
+                channel,
+                phase,
+                near,
+            } => {
+                let HeardRing { count, ring, codes } = mobile.into_ring();
+                let tuner = Tuner::open(count, ring, codes, &mark, &channel, phase, &near);
+                (Hearer::After { mark, tuner }, ())
+            }
+            Hearer::After { .. } => (self, ()),
+        }
+    }
 }
 
 /// The listener of one channel of the reference base station, which writes what is made of its
@@ -28,18 +80,10 @@ struct Behind {
 /// channel's frames, in place of the handset.
 #[derive(Drop)]
 pub struct TunedListener {
-    /// The handset that waits for the mark; `None` once it is set.
-    ahead: Option<Mobile>,
-    /// The receiver of the frames; `None` until the mark is set.
-    behind: Option<Behind>,
-    channel: Channel,
+    hearer: Hearer,
     /// What decodes the frames, and writes what is made of them.
     writer: FrameWriter,
-    /// The phase of the reference base station's codes.
-    phase: Phase,
-    /// The paths near it.
-    near: Near,
-    ghost sound: { IsSoundListener ahead behind channel writer near },
+    ghost sound: { IsSoundListener hearer writer },
 }
 
 impl TunedListener {
@@ -53,7 +97,7 @@ impl TunedListener {
     ghost use Rattle.heard_events.specs.declared.channel.Channel.{Channel as TheChannel};
     ghost use Rattle.tuned_listener.specs.Marking.{IsUntold};
     ghost use Rattle.tuned_listener.specs.TunedListening.{ListensTuned, TellsTuned, TellsTunedPart};
-    ghost use Rattle.tuned_listener.specs.TunedListening.{tuned_room};
+    ghost use Rattle.tuned_listener.specs.TunedListening.{is_ahead, tuned_room};
     ghost use Rattle.event_tap.specs.TunedTexts.{IsLawfulTuned, tuned_text};
     ghost use Rattle.event_tap.specs.declared.tuned_text.TunedText.{TunedText as TheText};
 
@@ -81,14 +125,14 @@ impl TunedListener {
             t.phase ≡ phase → t.deltas ≡ take near.count near.deltas → t.check30 ≡ check →
             ListensTuned t channel text l []) }
     {
-        Ok(TunedListener {
-            ahead: Some(mobile),
-            behind: None,
+        let writer = FrameWriter::open(alloc, text, check)?;
+        let hearer = Hearer::Ahead {
+            mobile,
             channel,
-            writer: FrameWriter::open(alloc, text, check)?,
             phase,
             near,
-        })
+        };
+        Ok(TunedListener { hearer, writer })
     }
 
     /// Whether a mark is set.
@@ -97,7 +141,7 @@ impl TunedListener {
             ListensTuned t channel form self.now heard →
             result ≡ is_some (mark t heard (length heard)) }
     {
-        self.behind.is_some()
+        matches!(self.hearer, Hearer::After { .. })
     }
 
     /// Takes samples, and writes what is made of each frame that ends within them.
@@ -132,7 +176,7 @@ impl TunedListener {
         requires room { length samples.now ≤ tuned_room self.old }
         ensures most { result ≤ length samples.now }
         ensures room { tuned_room self.new + result ≡ tuned_room self.old }
-        ensures all { is_some self.new.ahead ≡ true → result ≡ length samples.now }
+        ensures all { is_ahead self.new.hearer ≡ true → result ≡ length samples.now }
         ensures listens { (t : Tuning) (channel : TheChannel) (form : TheText)
             (heard : List TheSample) → ListensTuned t channel form self.old heard →
             ListensTuned t channel form self.new (heard ++ take result samples.now) }
@@ -141,25 +185,12 @@ impl TunedListener {
             tuned_text form t channel (heard ++ take result samples.now)
             ≡ tuned_text form t channel heard }
     {
-        let TunedListener {
-            ahead,
-            behind,
-            channel,
-            phase,
-            near,
-            ..
-        } = self;
-        let Some(mobile) = ahead else {
+        let Hearer::Ahead { mobile, .. } = &mut self.hearer else {
             return 0;
         };
         let Reached { taken, mark } = step_to_mark(mobile, samples);
-        let Some(mark) = mark else {
-            return taken;
-        };
-        if let Some(mobile) = ahead.take() {
-            let HeardRing { count, ring, codes } = mobile.into_ring();
-            let tuner = Tuner::open(count, ring, codes, &mark, channel, *phase, near);
-            *behind = Some(Behind { mark, tuner });
+        if let Some(mark) = mark {
+            replace_with(&mut self.hearer, mark, Hearer::opened);
         }
         taken
     }
@@ -168,7 +199,7 @@ impl TunedListener {
     /// each frame that ends within them.
     fn write_frames<K: Sink>(&mut self, samples: &[Sample], sink: &mut K) -> Result<(), Failed>
         requires room { length samples.now ≤ tuned_room self.old }
-        requires all { is_some self.old.ahead ≡ true → length samples.now ≡ 0 }
+        requires all { is_ahead self.old.hearer ≡ true → length samples.now ≡ 0 }
         ensures room { OnOk result (tuned_room self.new + length samples.now
             ≡ tuned_room self.old) }
         ensures ok { OnOk result ((t : Tuning) (channel : TheChannel) (form : TheText)
@@ -181,10 +212,11 @@ impl TunedListener {
             (K.written sink.old) (K.written sink.new)) }
         ensures cause { HasCause (K.faults sink.old) (K.faults sink.new) result }
     {
-        let TunedListener { behind, writer, .. } = self;
-        match behind {
-            Some(Behind { mark, tuner }) => hear_frames(tuner, mark, writer, samples, sink),
-            None => Ok(()),
+        match &mut self.hearer {
+            Hearer::Ahead { .. } => Ok(()),
+            Hearer::After { mark, tuner } => {
+                hear_frames(tuner, mark, &mut self.writer, samples, sink)
+            }
         }
     }
 }

@@ -9,15 +9,15 @@ pub returns-clause-listens : goal.returns-clause-listens
 returns-clause-listens c t stands phase deltas check =
     let near = stands_near t c.args.mobile [] [] stands in
     record {
-      phase_is = phase;
-      deltas_are = deltas;
-      channel_is = refl;
-      form_is = c.in_ok-open.ensures.text;
+      form_is = c.in_ok-writer.ensures.text;
       close = near;
-      holds = holds_nothing t c.args.channel c.in_ok-open.field-0 c.args.check near check
-          c.in_ok-open.ensures.holds;
+      holds = holds_nothing t c.args.channel c.in_ok-writer.writer c.args.check near check
+          c.in_ok-writer.ensures.holds;
       listens = record {
-        has = record { given = []; stands = stands; unset = refl };
-        unmarked = none_marked t near;
+        opens = record { phase_is = phase; deltas_are = deltas; channel_is = refl };
+        ahead = record {
+          has = record { given = []; stands = stands; unset = refl };
+          unmarked = none_marked t near;
+        };
       };
     }
