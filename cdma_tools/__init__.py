@@ -17,6 +17,8 @@
 | `program` | the one way to the program |
 | `workers` | processes that share work |
 | `places` | where the checkout's program and data stand |
+| `starting` | the one way into every command, and what each is called |
+| `entries` | the commands that are installed |
 | `radio` | from a radio's recording to chips, and back |
 | `analysis` | what a cell sends, row by row, and how well |
 | `curves` | how often a receiver loses frames in noise |

@@ -1,19 +1,20 @@
 """`python3 -m cdma_tools NAME ARGUMENT ..` runs a command of the package."""
 
+import os
 import pkgutil
 import sys
 
-from cdma_tools import commands
+from cdma_tools.starting import start
 
 
 def main() -> int:
     """Runs the command that the first argument names, and answers its exit status."""
-    names = [module.name for module in pkgutil.iter_modules(commands.__path__)]
+    folder = os.path.join(os.path.dirname(os.path.abspath(__file__)), "commands")
+    names = [module.name for module in pkgutil.iter_modules([folder])]
     if len(sys.argv) < 2 or sys.argv[1] not in names:
         print(f"usage: python3 -m cdma_tools NAME ARGUMENT ..\nNAME is one of {', '.join(names)}", file=sys.stderr)
         return 2
-    name = sys.argv.pop(1)
-    return commands.start(name)
+    return start(sys.argv.pop(1))
 
 
 if __name__ == "__main__":

@@ -2,7 +2,6 @@
 
 import argparse
 import math
-import os
 import re
 import sys
 from collections.abc import Callable, Sequence
@@ -11,48 +10,13 @@ from typing import Any, NoReturn
 
 from cdma_tools import __version__
 from cdma_tools.errors import printable
+from cdma_tools.starting import INSTALLED, INTERRUPTED, called, is_installed
 
 # An argument that begins so after an option is its value, and no option.
 NEGATIVE = re.compile(r"-[.\d]|-inf|-nan", re.IGNORECASE)
 LONGEST = 100  # characters of a number: more would take long to read, and none is meant
 WRONG = 2  # the status of wrong arguments
-INTERRUPTED = 130  # and of a tool that Ctrl-C ended
 STATUS = "Exit status:"  # with which the last paragraph of each help begins
-# What a checkout calls a tool, and what it is called where it is installed.
-INSTALLED = {
-    "import_capture": "cdma-import",
-    "channel": "cdma-channel",
-    "scan": "cdma-scan",
-    "report": "cdma-report",
-    "lines": "cdma-lines",
-    "draw": "cdma-draw",
-    "explain": "cdma-explain",
-    "curve": "cdma-curve",
-    "conformance": "cdma-conformance",
-    "margin": "cdma-margin",
-    "listen": "cdma-listen",
-    "domain": "cdma-domain",
-    "adapt": "cdma-adapt",
-}
-
-
-IN_CHECKOUT = {
-    "make_capture": "make_capture.py",
-    "conformance": "conformance/run",
-    "conformance_recordings": "conformance/run_recordings",
-    "conformance_check": "conformance/check",
-    "conformance_write": "conformance/write",
-}
-
-
-def is_installed() -> bool:
-    """Whether this process was started as an installed command, `cdma-NAME`."""
-    return os.path.basename(sys.argv[0] if sys.argv else "").startswith("cdma-")
-
-
-def called(tool: str) -> str:
-    """What a tool is called: `scan` in a checkout, `cdma-scan` where it is installed."""
-    return INSTALLED.get(tool, tool) if is_installed() else IN_CHECKOUT.get(tool, tool)
 
 
 def shown(text: str) -> str:
@@ -84,6 +48,10 @@ class PartParser(argparse.ArgumentParser):
     def __init__(self, **more: Any) -> None:
         more.setdefault("formatter_class", Help)
         super().__init__(**more)
+
+    def print_help(self, file: Any = None) -> None:
+        """Writes the help; that nobody takes it isn't passed over, as argparse does."""
+        (file or sys.stdout).write(self.format_help())
 
     def error(self, message: str) -> NoReturn:
         """Ends with one line, and status 2."""

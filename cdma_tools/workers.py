@@ -10,8 +10,9 @@ from contextlib import AbstractContextManager
 from multiprocessing import resource_tracker
 from typing import Any, TypeVar
 
-from cdma_tools.arguments import INTERRUPTED, Parser, whole_within
+from cdma_tools.arguments import Parser, whole_within
 from cdma_tools.errors import Refused
+from cdma_tools.starting import INTERRUPTED
 
 Item = TypeVar("Item")
 Made = TypeVar("Made")
@@ -25,24 +26,39 @@ def end(*_: object) -> None:
 
 
 def hear_interrupts() -> None:
-    """Lets Ctrl-C end this process at once; what it runs gets the signal itself."""
+    """Lets Ctrl-C or SIGTERM end this process at once; what it runs gets the signal itself."""
     signal.signal(signal.SIGINT, end)
+    signal.signal(signal.SIGTERM, end)
+
+
+@contextlib.contextmanager
+def noted_interrupts(*numbers: signal.Signals) -> Iterator[None]:
+    """Holds back signals that interrupt until this is left; processes that are started in it hear them as ever."""
+    heard: list[bool] = []
+    before = {
+        number: signal.signal(number, lambda *_: heard.append(True))
+        for number in numbers
+        if signal.getsignal(number) is not signal.SIG_IGN
+    }
+    try:
+        yield
+    finally:
+        for number, handler in before.items():
+            signal.signal(number, handler)
+    if heard:
+        raise KeyboardInterrupt
 
 
 @contextlib.contextmanager
 def held_interrupts() -> Iterator[None]:
     """Holds back Ctrl-C until this is left: processes that are started in it aren't told of it at all."""
     resource_tracker.ensure_running()  # which would let the thread that first starts a process hear Ctrl-C again
-    heard: list[bool] = []
-    before = signal.signal(signal.SIGINT, lambda *_: heard.append(True))
-    signal.pthread_sigmask(signal.SIG_BLOCK, {signal.SIGINT})
-    try:
-        yield
-    finally:
-        signal.pthread_sigmask(signal.SIG_UNBLOCK, {signal.SIGINT})
-        signal.signal(signal.SIGINT, before)
-    if heard:
-        raise KeyboardInterrupt
+    with noted_interrupts(signal.SIGINT):
+        signal.pthread_sigmask(signal.SIG_BLOCK, {signal.SIGINT})
+        try:
+            yield
+        finally:
+            signal.pthread_sigmask(signal.SIG_UNBLOCK, {signal.SIGINT})
 
 
 def pass_over_interrupts() -> None:
@@ -53,8 +69,12 @@ def pass_over_interrupts() -> None:
 
 @contextlib.contextmanager
 def quietly(cluster: AbstractContextManager[Any]) -> Iterator[Any]:
-    """The client of a cluster of processes of this machine, which Ctrl-C leaves to this process to end, unsaid."""
+    """The client of a cluster of processes of this machine, which Ctrl-C leaves to this process to end, unsaid.
+
+    SIGTERM ends this process at once: a cluster can't be taken down whose processes have had the signal too.
+    """
     with contextlib.ExitStack() as stack:
+        stack.callback(signal.signal, signal.SIGTERM, signal.signal(signal.SIGTERM, signal.SIG_DFL))
         with held_interrupts():
             client = stack.enter_context(cluster)
             client.run(pass_over_interrupts)

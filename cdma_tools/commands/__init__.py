@@ -1,19 +1,20 @@
 """The commands: a module for each, whose `main` takes the arguments and answers the exit status.
 
-`start(NAME)` runs one as a process of its own, and ends it as a shell expects: faults are one line, a closed pipe
-ends it quietly, and Ctrl-C with one line and status 130. In a checkout `tools/NAME` and `conformance/NAME` call it,
-installed commands do (`entries`), and `python3 -m cdma_tools NAME` does the same.
+A process of its own runs one by `starting.start(NAME)`, and it ends as a shell expects: faults are one line, a closed
+pipe ends it quietly, and Ctrl-C or SIGTERM with one line and status 130. In a checkout `tools/NAME` and
+`conformance/NAME` call that, installed commands do (`entries`), and so does `python3 -m cdma_tools NAME`.
 """
 
 import importlib
 import io
 import os
-import signal
 import sys
+from collections.abc import Callable
 
-from cdma_tools.arguments import INTERRUPTED, WRONG, called
+from cdma_tools.arguments import WRONG
 from cdma_tools.errors import Refused, WrongArguments, said, text_of
 from cdma_tools.places import TOP
+from cdma_tools.starting import called
 
 FAILED = 1
 # The statuses of commands in which 1 says something else.
@@ -28,11 +29,11 @@ FAILED_AS = {
 }
 
 
-def start(name: str) -> int:
-    """Runs a command with the arguments of this process, and answers its exit status."""
+def run(name: str, ready: Callable[[], None]) -> int:
+    """Runs a command with the arguments of this process, and answers its exit status; see `status_of` for `ready`."""
     open_streams()
     try:
-        status = status_of(name)
+        status = status_of(name, ready=ready)
         sys.stdout.flush()
         return status
     except BrokenPipeError:
@@ -42,16 +43,20 @@ def start(name: str) -> int:
         close_quietly()
         return FAILED
     except KeyboardInterrupt:
-        signal.signal(signal.SIGINT, signal.SIG_IGN)
-        said(called(name), "broken off")
         close_quietly()
-        return INTERRUPTED
+        raise
 
 
-def status_of(name: str, arguments: list[str] | None = None) -> int:
-    """The exit status of a command, whose faults are said in one line; without arguments it takes the process's."""
+def status_of(name: str, arguments: list[str] | None = None, ready: Callable[[], None] | None = None) -> int:
+    """The exit status of a command, whose faults are said in one line; without arguments it takes the process's.
+
+    `ready` is called when the command is imported, before it runs.
+    """
     try:
-        return int(importlib.import_module(f"cdma_tools.commands.{name}").main(arguments))
+        command = importlib.import_module(f"cdma_tools.commands.{name}")
+        if ready:
+            ready()
+        return int(command.main(arguments))
     except SystemExit as end:
         return end.code if isinstance(end.code, int) else WRONG if end.code else 0
     except WrongArguments as why:
@@ -95,6 +100,6 @@ def close_quietly() -> int:
 def process_arguments(name: str) -> list[str]:
     """How another process runs a command by the same Python and the same package: its arguments go after these."""
     setting = (
-        f"import sys; sys.path.insert(0, {TOP!r}); from cdma_tools.commands import start; sys.exit(start({name!r}))"
+        f"import sys; sys.path.insert(0, {TOP!r}); from cdma_tools.starting import start; sys.exit(start({name!r}))"
     )
     return [sys.executable, "-B", "-P", "-c", setting]

@@ -53,17 +53,14 @@ import argparse
 import io
 import os
 import shlex
-import signal
 import sys
 from decimal import Decimal
 from typing import NoReturn, Sequence
 
 from cdma_tools.arguments import (
-    INTERRUPTED,
     Parser,
     PartParser,
     Within,
-    called,
     joined,
     number_above,
     whole_within,
@@ -90,6 +87,7 @@ from cdma_tools.radio.air import CHIP_RATE
 from cdma_tools.reading import MEGABYTE, read_within
 from cdma_tools.results import Result, Results, add_result_options, check_place
 from cdma_tools.scripts import chosen_channel, read_script
+from cdma_tools.starting import broken_off, called, pass_over_interrupts
 from cdma_tools.workers import quietly
 
 MINUTES = 5.0
@@ -377,8 +375,7 @@ def main(arguments: list[str] | None = None) -> int:
     try:
         return run(options)
     except KeyboardInterrupt:
-        signal.signal(signal.SIGINT, signal.SIG_IGN)
-        said(called("curve"), "broken off; the same command goes on from what was counted")
-        return INTERRUPTED
+        pass_over_interrupts()
+        return broken_off("curve", "; the same command goes on from what was counted")
     except MemoryError:
         raise Refused("out of memory: give the script fewer samples, or fewer --workers") from None

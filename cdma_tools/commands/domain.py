@@ -42,7 +42,7 @@ import tempfile
 
 from cdma_tools.analysis.measuring import Analysis, analysis_of_file, analysis_of_recording
 from cdma_tools.analysis.telling import draw, object_of, text_of
-from cdma_tools.arguments import Parser, called, count_of, hertz_of, number_above, rate_of
+from cdma_tools.arguments import Parser, count_of, hertz_of, number_above, rate_of
 from cdma_tools.errors import Refused, printable, said
 from cdma_tools.program import add_program_option, find_program
 from cdma_tools.plots import picture_of, plain, save
@@ -52,6 +52,7 @@ from cdma_tools.radio.air import CHIP_RATE
 from cdma_tools.radio.locking import Options
 from cdma_tools.radio.plain import TYPE_CHOICES, assumed, recording_told, with_hints
 from cdma_tools.sigmf import META
+from cdma_tools.starting import called
 from cdma_tools.writing import STANDARD, write_out
 
 MOST_SEARCH = CHIP_RATE / 2

@@ -64,7 +64,6 @@ from cdma_tools import sigmf
 from cdma_tools.arguments import (
     MOST_COUNT,
     Parser,
-    called,
     count_of,
     hertz_of,
     number_above,
@@ -79,6 +78,7 @@ from cdma_tools.progress import bar
 from cdma_tools.radio.air import CHIP_RATE
 from cdma_tools.radio.plain import TYPE_CHOICES, assumed, plain_chips, recording_told, with_hints
 from cdma_tools.sample_file import GREATEST, header
+from cdma_tools.starting import called
 from cdma_tools.writing import write_out
 
 if TYPE_CHECKING:

@@ -24,7 +24,7 @@ import argparse
 import sys
 
 from cdma_tools import sigmf
-from cdma_tools.arguments import MOST_HERTZ, Parser, called, count_of, number_above, number_within, rate_of, text_of
+from cdma_tools.arguments import MOST_HERTZ, Parser, count_of, number_above, number_within, rate_of, text_of
 from cdma_tools.errors import Refused, said
 from cdma_tools.progress import bar
 from cdma_tools.radio.acquisition import SPAN, TRIES, bins_within
@@ -34,6 +34,7 @@ from cdma_tools.radio.front import Front
 from cdma_tools.radio.plain import TYPE_CHOICES, assumed, recording_told, with_hints
 from cdma_tools.radio.scanning import RASTER, Seen, everywhere, raster, scan
 from cdma_tools.recordings import Recording
+from cdma_tools.starting import called
 
 MOST_CENTRES = 100_000
 MOST_CARRIERS = 2_000_000  # that are tried round all centres; each takes some 7 ms

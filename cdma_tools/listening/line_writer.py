@@ -6,11 +6,11 @@ from collections import Counter
 from collections.abc import Callable
 from dataclasses import dataclass, field
 
-from cdma_tools.arguments import called
 from cdma_tools.errors import Refused, said
 from cdma_tools.lines import TIME_NAME, NoLine, read_line
 from cdma_tools.listening.events import AT, Event, Remark
 from cdma_tools.listening.system_time import SystemTime, time_told
+from cdma_tools.starting import called
 
 # What each of the options that count hears, by the first words of lines.
 TAPS = {

@@ -7,10 +7,10 @@ import subprocess
 from collections.abc import Iterable, Iterator
 from typing import NamedTuple
 
-from cdma_tools.arguments import INSTALLED
 from cdma_tools.errors import Refused
 from cdma_tools.packaging import completions, manuals
 from cdma_tools.places import PACKAGE, TOP
+from cdma_tools.starting import INSTALLED
 from cdma_tools.writing import write_beside
 
 NAME = "cdma-replay"
@@ -25,14 +25,19 @@ FOLDERS = ("cdma_tools", "model", "conformance", "examples")
 # Pages outside docs/ to which those that are installed lead, each at its place in the checkout.
 PAGES = ("README.md", "CONTRIBUTING.md", "CHANGELOG.md", "conformance/README.md")
 # What a command is: it finds the package beside it, wherever the prefix lies, and leaves nothing behind.
-COMMAND = """#!/usr/bin/python3
+COMMAND = """#!/usr/bin/python3 -S
 \"\"\"The command `{module}` of the package cdma_tools.\"\"\"
-import os
 import sys
 
-sys.dont_write_bytecode = True
-sys.path[0] = os.path.join(os.path.dirname(os.path.dirname(os.path.realpath(__file__))), "share", "{name}")
-from cdma_tools.commands import start
+try:
+    import os
+
+    sys.dont_write_bytecode = True
+    sys.path[0] = os.path.join(os.path.dirname(os.path.dirname(os.path.realpath(__file__))), "share", "{name}")
+    from cdma_tools.starting import start
+except KeyboardInterrupt:
+    print("{command}: broken off", file=sys.stderr)
+    raise SystemExit(130) from None
 
 if __name__ == "__main__":
     sys.exit(start("{module}"))
@@ -109,7 +114,7 @@ def entries(program: str) -> Iterator[Entry]:
     yield Entry(f"{MANUALS}/cdma_replay.1", read(os.path.join(TOP, "docs", "cdma_replay.1")), PLAIN)
     yield Entry("bin/cdma_replay", read(program), EXECUTABLE)
     for name, module in commands().items():
-        yield Entry(f"bin/{name}", COMMAND.format(module=module, name=NAME).encode(), EXECUTABLE)
+        yield Entry(f"bin/{name}", COMMAND.format(module=module, command=name, name=NAME).encode(), EXECUTABLE)
         yield Entry(f"{MANUALS}/{name}.1", manuals.manual_of(name, module).encode(), PLAIN)
         yield Entry(
             f"share/bash-completion/completions/{name}", completions.completion_of(name, module).encode(), PLAIN

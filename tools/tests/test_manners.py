@@ -21,11 +21,13 @@ from tools.tests.helping import EXAMPLES, PYTHON, ROOT, example, is_gone, needs,
 needs("numpy", "scipy", "matplotlib")
 
 import cdma_tools  # noqa: E402
-from cdma_tools.arguments import IN_CHECKOUT, INSTALLED, called, joined  # noqa: E402
-from cdma_tools.commands import channel, entries  # noqa: E402
+from cdma_tools import entries  # noqa: E402
+from cdma_tools.arguments import joined  # noqa: E402
+from cdma_tools.commands import channel  # noqa: E402
 from cdma_tools.errors import Refused  # noqa: E402
 from cdma_tools.hostile_tools import told_fault  # noqa: E402
 from cdma_tools.program import NOT_FOUND, find_program  # noqa: E402
+from cdma_tools.starting import IN_CHECKOUT, INSTALLED, called  # noqa: E402
 from cdma_tools.writing import write_beside  # noqa: E402
 from tools.tests.radio_helping import run_main  # noqa: E402
 
@@ -102,13 +104,13 @@ class Command(unittest.TestCase):
 
     def test_installed_commands_are_entries(self) -> None:
         with open(os.path.join(ROOT, "pyproject.toml"), encoding="utf-8") as file:
-            named = re.findall(r'(?m)^(cdma-\w+) = "cdma_tools\.commands\.entries:(\w+)"$', file.read())
+            named = re.findall(r'(?m)^(cdma-\w+) = "cdma_tools\.entries:(\w+)"$', file.read())
         self.assertEqual([(name, name.replace("-", "_")) for name in INSTALLED.values()], named)
         for module, name in INSTALLED.items():
             self.assertEqual(getattr(entries, name.replace("-", "_")).args, (module,))
 
     def test_an_installed_command_has_its_own_name_in_its_help(self) -> None:
-        setting = "import sys; sys.argv[0] = '/usr/bin/cdma-scan'; from cdma_tools.commands import entries"
+        setting = "import sys; sys.argv[0] = '/usr/bin/cdma-scan'; from cdma_tools import entries"
         setting += "; sys.exit(entries.cdma_scan())"
         ran = subprocess.run(
             [PYTHON, "-B", "-c", setting, "--help"], capture_output=True, text=True, cwd=ROOT, timeout=SECONDS
@@ -511,9 +513,20 @@ class Random(unittest.TestCase):
 
 
 class Interrupts(Folder):
-    """Ctrl-C, to the group as a terminal sends it, ends a tool with one line and status 130, and leaves no process."""
+    """Ctrl-C, to the group as a terminal sends it, ends a tool with one line and status 130, and leaves no process.
 
-    def broken_off(self, way: str, *words: str, said: str = "broken off", waits: float = 0.0, marker: str = "") -> None:
+    So does SIGTERM, as `timeout` sends it to the group.
+    """
+
+    def broken_off(
+        self,
+        way: str,
+        *words: str,
+        said: str = "broken off",
+        waits: float = 0.0,
+        marker: str = "",
+        number: signal.Signals = signal.SIGINT,
+    ) -> None:
         """A run that is interrupted when a file is there, or some seconds after it has begun."""
         command = [os.path.join(ROOT, way), *words]
         child = subprocess.Popen(
@@ -530,7 +543,7 @@ class Interrupts(Folder):
             time.sleep(0.05)
         self.assertTrue(not marker or os.path.exists(marker), "what it should be broken off in hasn't begun")
         time.sleep(waits)
-        os.killpg(child.pid, signal.SIGINT)
+        os.killpg(child.pid, number)
         _, told = child.communicate(timeout=SECONDS)
         self.assertEqual((child.returncode, told.count(b"\n")), (130, 1), told)
         self.assertIn(said.encode(), told)
@@ -553,6 +566,17 @@ class Interrupts(Folder):
             program, marker = self.slow(number)
             with self.subTest(way):
                 self.broken_off(way, *(program if word == "PROGRAM" else word for word in words), marker=marker)
+
+    def test_sigterm(self) -> None:
+        """Of a tool that writes a page, and of one whose work is shared by processes."""
+        for number, (way, *words) in enumerate((
+            ("tools/report", self.cell, "--out", self.at("page.html"), "--program", "PROGRAM"),
+            ("tools/agree", "--seed", "1", "--count", "8", "--jobs", "2", "PROGRAM"),
+        )):  # fmt: skip
+            program, marker = self.slow(number)
+            with self.subTest(way):
+                words = [program if word == "PROGRAM" else word for word in words]
+                self.broken_off(way, *words, marker=marker, number=signal.SIGTERM)
 
     @unittest.skipUnless(importlib.util.find_spec("distributed"), "no distributed: install python3-distributed")
     def test_a_cluster(self) -> None:

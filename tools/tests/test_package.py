@@ -18,10 +18,10 @@ from tools.tests.helping import NO_PROGRAM, PROGRAM, PYTHON, ROOT, needs, run_to
 needs("numpy", "scipy")
 
 import cdma_tools  # noqa: E402
-from cdma_tools.arguments import INSTALLED  # noqa: E402
 from cdma_tools.errors import Refused  # noqa: E402
 from cdma_tools.packaging import completions, debian, tree  # noqa: E402
 from cdma_tools.places import data_folder  # noqa: E402
+from cdma_tools.starting import INSTALLED  # noqa: E402
 
 SECONDS = 300
 # Cases of several commands; all of them are asked where WHOLE_CONFORMANCE is set, which takes some minutes.

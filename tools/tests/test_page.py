@@ -6,8 +6,8 @@ import shutil
 import subprocess
 import unittest
 
-from cdma_tools.arguments import INSTALLED
 from cdma_tools.lines import SHAPES
+from cdma_tools.starting import INSTALLED
 from tools.tests.helping import ROOT
 
 PAGE = os.path.join(ROOT, "docs", "cdma_replay.1")

@@ -2,7 +2,7 @@
 
 from functools import partial
 
-from cdma_tools.commands import start
+from cdma_tools.starting import start
 
 cdma_import = partial(start, "import_capture")
 cdma_channel = partial(start, "channel")

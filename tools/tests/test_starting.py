@@ -1,0 +1,137 @@
+"""How each tool begins: an interrupt ends it with one line while it still imports, and a closed pipe with none."""
+
+from __future__ import annotations
+
+import os
+import re
+import signal
+import subprocess
+import time
+import unittest
+
+from cdma_tools.starting import called
+from tools.tests.helping import PYTHON, ROOT
+
+SECONDS = 300  # that a tool may take on a machine that is busy with other things; alone it takes less than one
+WAYS = [f"tools/{name}" for name in sorted(os.listdir(os.path.join(ROOT, "tools"))) if name != "tests"]
+WAYS += [f"conformance/{name}" for name in ("check", "run", "run_recordings", "write")]
+# Runs a text as a process's own, and gets a signal when a certain import is about to be made.
+AT_AN_IMPORT = """
+import os, signal, sys
+number, left, text, sys.argv = int(sys.argv[1]), [int(sys.argv[2])], sys.argv[3], sys.argv[4:]
+def count(event, _):
+    left[0] -= event == "import"
+    if event == "import" and left[0] == 0:
+        os.kill(os.getpid(), number)
+sys.addaudithook(count)
+sys.path.insert(0, "")
+exec(compile(text, sys.argv[0], "exec"), {"__name__": "__main__", "__file__": sys.argv[0]})
+"""
+INSTALLED = "import sys; from cdma_tools import entries; sys.exit(entries.cdma_report())"
+FIRST_OF_COMMAND = 25  # an import that comes after those of `start`, and before each command's last one
+
+
+def told_at_import(way: str, number: int, count: int, text: str = "") -> tuple[int, str]:
+    """How a tool ends whose import of this count is met by a signal: its status, and what it says."""
+    path = os.path.join(ROOT, way)
+    if not text:
+        with open(path, encoding="utf-8") as file:
+            text = file.read()
+    words = [PYTHON, "-S", "-B", "-c", AT_AN_IMPORT, str(int(number)), str(count), text, path, "--help"]
+    ran = subprocess.run(words, capture_output=True, text=True, cwd=ROOT, preexec_fn=hear, timeout=SECONDS)
+    return ran.returncode, ran.stderr
+
+
+def name_of(way: str) -> str:
+    """What a tool calls itself."""
+    with open(os.path.join(ROOT, way), encoding="utf-8") as file:
+        return called(re.findall(r'start\("(\w+)"\)', file.read())[0])
+
+
+class Imports(unittest.TestCase):
+    """An interrupt at a certain import, whatever the machine's speed is."""
+
+    def test_each_tool(self) -> None:
+        for way in WAYS:
+            with self.subTest(way):
+                told = told_at_import(way, signal.SIGINT, FIRST_OF_COMMAND)
+                self.assertEqual(told, (130, f"{name_of(way)}: broken off\n"))
+
+    def test_at_many_imports(self) -> None:
+        """The first ones are those of the script itself."""
+        for way in ("tools/report", "conformance/run"):
+            for count in (1, 2, 3, 5, 8, 13, 34, 55, 89, 144, 233, 377):
+                with self.subTest(way, count=count):
+                    status, said = told_at_import(way, signal.SIGINT, count)
+                    line = f"{name_of(way)}: broken off\n"
+                    self.assertIn((status, said), ((130, line), (0, "")))
+                    self.assertFalse(status == 0 and count <= FIRST_OF_COMMAND)
+
+    def test_an_installed_command(self) -> None:
+        told = told_at_import("bin/cdma-report", signal.SIGINT, FIRST_OF_COMMAND, INSTALLED)
+        self.assertEqual(told, (130, "cdma-report: broken off\n"))
+
+    def test_sigterm(self) -> None:
+        for count in (FIRST_OF_COMMAND, 89):
+            self.assertEqual(told_at_import("tools/scan", signal.SIGTERM, count), (130, "scan: broken off\n"))
+
+
+class Instants(unittest.TestCase):
+    """An interrupt some time after a tool has begun to hear them: it ends so, or has done what it was asked for."""
+
+    def test_instants(self) -> None:
+        for way in ("tools/report", "tools/curve", "conformance/run"):
+            for seconds in (0.0, 0.03, 0.1, 0.2, 0.4, 0.8):
+                with self.subTest(way, seconds=seconds):
+                    child = subprocess.Popen(
+                        [os.path.join(ROOT, way), "--help"], stdout=subprocess.PIPE, stderr=subprocess.PIPE,
+                        preexec_fn=hear, text=True,
+                    )  # fmt: skip
+                    self.addCleanup(child.kill)
+                    wait_until_heard(child)
+                    time.sleep(seconds)
+                    child.send_signal(signal.SIGINT)
+                    _, said = child.communicate(timeout=SECONDS)
+                    self.assertIn((child.returncode, said), ((130, f"{name_of(way)}: broken off\n"), (0, "")))
+
+
+class ClosedPipes(unittest.TestCase):
+    """A help whose reader takes a line, or none."""
+
+    def test_head(self) -> None:
+        for way in ("tools/report", "tools/curve", "conformance/run"):
+            with self.subTest(way):
+                line = f"'{ROOT}/{way}' --help | head -1"
+                ran = subprocess.run(["sh", "-c", line], capture_output=True, text=True, timeout=SECONDS)
+                self.assertRegex(ran.stdout, r"\Ausage: .*\n\Z")
+                self.assertEqual(ran.stderr, "")
+
+    def test_a_reader_that_has_gone(self) -> None:
+        for way in ("tools/report", "tools/draw", "conformance/run"):
+            with self.subTest(way):
+                reader, writer = os.pipe()
+                os.close(reader)
+                words = [os.path.join(ROOT, way), "--help"]
+                ran = subprocess.run(words, stdout=writer, stderr=subprocess.PIPE, timeout=SECONDS)
+                os.close(writer)
+                self.assertEqual((ran.returncode, ran.stderr), (1, b""))
+
+
+def wait_until_heard(child: subprocess.Popen[str]) -> None:
+    """Waits until a tool hears interrupts, as a Python by itself doesn't hear SIGTERM."""
+    until = time.monotonic() + SECONDS
+    while child.poll() is None and time.monotonic() < until:
+        with open(f"/proc/{child.pid}/status", encoding="ascii") as file:
+            caught = int(re.findall(r"SigCgt:\s*(\w+)", file.read())[0], 16)
+        if caught >> (signal.SIGTERM - 1) & 1:
+            return
+        time.sleep(0.001)
+
+
+def hear() -> None:
+    """Lets a process hear interrupts, though the tests themselves may run under a shell that has them ignored."""
+    signal.signal(signal.SIGINT, signal.SIG_DFL)
+
+
+if __name__ == "__main__":
+    unittest.main()
