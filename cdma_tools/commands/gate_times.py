@@ -21,7 +21,6 @@ Exit status: 0, or 2 where the arguments, the log or crates.txt can't be read.
 
 from __future__ import annotations
 
-import os
 import re
 import sys
 from collections.abc import Iterable, Iterator
@@ -30,12 +29,9 @@ from dataclasses import dataclass, field
 from cdma_tools.arguments import Parser
 from cdma_tools.errors import Refused
 from cdma_tools.places import TOP
-from cdma_tools.repository.crate_list import NoList, all_below, crates_below, longest_chain
+from cdma_tools.repository.crate_list import NoList, longest_chain
+from cdma_tools.repository.plan import Crate, clock_text, crates_of, planned, stands_on
 
-# The folders of a crate that a check reads.
-PARTS = ("src", "specs", "proofs")
-# Of a check, in MB: the least, and that of a line of .rt, of .antt, and of .rt in the crates below.
-LEAST, OF_CODE, OF_PROOF, OF_BELOW = 1_000.0, 1.0, 0.2, 0.08
 MONTHS = ("Jan", "Feb", "Mar", "Apr", "May", "Jun", "Jul", "Aug", "Sep", "Oct", "Nov", "Dec")
 # The days before each month; that February has a day more in some years shifts a log over its end by a day at most.
 DAYS_BEFORE = (0, 31, 59, 90, 120, 151, 181, 212, 243, 273, 304, 334)
@@ -52,18 +48,6 @@ PROVED = re.compile(rf"rt: {NAME}(: its tests are)? (NOT PROVED|proved)(?:$|: )"
 KEPT = re.compile(rf"rt: {NAME} is kept: ")
 BEGUN = re.compile(rf"rt: {NAME}: trying its must-fail edits \((\d+)\)")
 TOLD = re.compile(rf"rt: must-fail {NAME}/(\S+): ")
-
-
-@dataclass
-class Crate:
-    """A crate: the crates that it stands on, how many lines its files have, and whether it has tests and edits."""
-
-    name: str
-    below: list[str]
-    code: int = 0
-    proof: int = 0
-    has_tests: bool = False
-    edits: int = 0
 
 
 @dataclass
@@ -151,49 +135,9 @@ def take_told(times: Times, _match: re.Match[str], at: float) -> None:
     times.told = at
 
 
-def crates_of(root: str) -> dict[str, Crate]:
-    """The crates of a repository by their names, in the order of crates.txt, with the lines of their files."""
-    found = {name: Crate(name, below) for name, below in crates_below(root).items()}
-    for crate in found.values():
-        count_lines(crate, os.path.join(root, "crates", crate.name))
-    return found
-
-
-def count_lines(crate: Crate, folder: str) -> None:
-    """Counts the lines of a crate's files."""
-    if not os.path.isdir(folder):
-        raise Refused(f"no folder {folder}, which crates.txt names")
-    for part in PARTS:
-        for at, _, names in os.walk(os.path.join(folder, part)):
-            for name in names:
-                with open(os.path.join(at, name), "rb") as file:
-                    text = file.read()
-                crate.code += text.count(b"\n") * name.endswith(".rt")
-                crate.proof += text.count(b"\n") * name.endswith(".antt")
-                crate.has_tests |= name.endswith(".rt") and b"#[test]" in text
-    edits = os.path.join(folder, "must-fail")
-    if os.path.isdir(edits):
-        crate.edits = sum(name.endswith(".edit") for name in os.listdir(edits))
-
-
-def stands_on(crates: dict[str, Crate]) -> dict[str, list[str]]:
-    """The crates right below each."""
-    return {name: crate.below for name, crate in crates.items()}
-
-
-def planned(crates: dict[str, Crate], name: str) -> float:
-    """The memory that a check of a crate is planned with, in MB."""
-    crate = crates[name]
-    below = sum(crates[it].code for it in all_below(stands_on(crates), name))
-    return LEAST + OF_CODE * crate.code + OF_PROOF * crate.proof + OF_BELOW * below
-
-
 def clock(seconds: float | None) -> str:
     """A time as H:MM:SS, or - for none."""
-    if seconds is None:
-        return "-"
-    whole = int(seconds)
-    return f"{whole // 3600}:{whole // 60 % 60:02}:{whole % 60:02}"
+    return "-" if seconds is None else clock_text(seconds)
 
 
 def row(crate: Crate, plan: float, times: Times) -> tuple[str, ...]:
