@@ -2,16 +2,20 @@
 
     python3 -m model make < SCRIPT > FILE
     python3 -m model follow --esn 0000abcd --row 10 < FILE
+
+Ctrl-C ends it with one line and status 130, also while numpy is imported.
 """
 
 import os
 import sys
 
-from model.run import WRITE_FAULT, run
+INTERRUPTED = 130
 
 
 def main() -> int:
     """Runs a command on standard input, and answers its exit status."""
+    from model.run import WRITE_FAULT, run
+
     outcome = run(sys.argv[1:], sys.stdin.buffer.read)
     try:
         for piece in outcome.written:
@@ -26,4 +30,9 @@ def main() -> int:
 
 
 if __name__ == "__main__":
-    sys.exit(main())
+    try:
+        status = main()
+    except KeyboardInterrupt:
+        os.write(2, b"model: broken off\n")
+        os._exit(INTERRUPTED)  # what was written stays as it is
+    sys.exit(status)

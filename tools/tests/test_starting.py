@@ -27,6 +27,7 @@ sys.addaudithook(count)
 sys.path.insert(0, "")
 exec(compile(text, sys.argv[0], "exec"), {"__name__": "__main__", "__file__": sys.argv[0]})
 """
+MODEL = "import runpy, site; site.main(); runpy.run_module('model', run_name='__main__')"
 INSTALLED = "import sys; from cdma_tools import entries; sys.exit(entries.cdma_report())"
 FIRST_OF_COMMAND = 25  # an import that comes after those of `start`, and before each command's last one
 
@@ -70,6 +71,10 @@ class Imports(unittest.TestCase):
     def test_an_installed_command(self) -> None:
         told = told_at_import("bin/cdma-report", signal.SIGINT, FIRST_OF_COMMAND, INSTALLED)
         self.assertEqual(told, (130, "cdma-report: broken off\n"))
+
+    def test_the_model(self) -> None:
+        told = told_at_import("model", signal.SIGINT, 89, MODEL)
+        self.assertEqual(told, (130, "model: broken off\n"))
 
     def test_sigterm(self) -> None:
         for count in (FIRST_OF_COMMAND, 89):
