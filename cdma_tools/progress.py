@@ -48,5 +48,5 @@ def bar(over: Iterable[Any] | None = None, *, total: float | None = None, text: 
         return Silent(over)
     return tqdm(
         over, total=total, desc=text or None, unit=unit or "it", unit_scale=bool(unit), leave=False, file=sys.stderr,
-        disable=None,  # unless standard error is a terminal
+        disable=not sys.stderr.isatty(),
     )  # fmt: skip
