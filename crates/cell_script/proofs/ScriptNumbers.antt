@@ -1,11 +1,18 @@
 -- Rows and gains of the channels of a script: there are at most seven paging channels of different
 -- numbers, and 62 traffic channels of different rows.
-use Rattle.cell_script.proofs.Common.{◌≡◌, ◌≢◌, ℕ, zero, suc, ◌+◌, ◌<◌, ◌≤◌, Bool, true, false, cond, List, [], ◌∷◌, ◌++◌, length, refl}
-use Rattle.cell_script.proofs.Common.{sym, subst, arith, None, Some, ◌==◌, All, eqb-false, eqb-true, length-map, All-cons, All-head}
-use Rattle.cell_script.proofs.Common.{All-map, All-nil, All-tail, All-weaker, Rate, PagingPlan, TrafficPlan, AreLawfulBeside}
-use Rattle.cell_script.proofs.Common.{HaveOwnNumbers, HaveOwnTrafficRows, IsFreeOf, IsPagingPlan, IsTrafficPlan, ChannelLine, channel}
-use Rattle.cell_script.proofs.Common.{first_channels, is_used, paging_lines, repeated, repeated_behind, silent, traffic_lines}
-use Rattle.cell_script.proofs.Common.{IsStatedPaging, IsStatedTraffic}
+use Rattle.cell_script.proofs.Common.{◌≡◌, ◌≢◌, ℕ, suc, ◌<◌, ◌≤◌, Bool, true, false, cond, List, [], ◌∷◌, ◌++◌, length, refl, sym, arith}
+use Rattle.cell_script.proofs.Common.{None, Some, ◌==◌, All, eqb-false, length-map, All-cons, All-head, All-map, All-nil, All-tail}
+use Rattle.cell_script.proofs.Common.{All-weaker, Rate, PagingPlan, TrafficPlan, AreLawfulBeside, HaveOwnNumbers, HaveOwnTrafficRows}
+use Rattle.cell_script.proofs.Common.{IsFreeOf, IsPagingPlan, IsTrafficPlan, ChannelLine, channel, first_channels, is_used, paging_lines}
+use Rattle.cell_script.proofs.Common.{repeated, repeated_behind, silent, traffic_lines, IsStatedPaging, IsStatedTraffic, map, nat_eq}
+use Rattle.cell_script.proofs.Common.{ne_eqb, ◌∙◌}
+use Rattle.std.specs.List.{IsDistinct}
+use Rattle.std.proofs.lemmas.Bool.{or_parts}
+use Rattle.std.proofs.lemmas.Bool.Decides.{Decides-eqb}
+use Rattle.std.proofs.lemmas.List.Elements.{All-contains, recursion_from_All}
+use Rattle.std.proofs.lemmas.Map.Made.{is_member-Decides}
+use Rattle.std.proofs.lemmas.Map.Steps.{length-le_from_distinct_below}
+use Rattle.cell_script.proofs.ScriptRows.{used-append}
 
 -- ---- gains
 
@@ -39,19 +46,9 @@ unused-cons k l ls e = step (l.row == k) refl e
 
 used-front : (k : ℕ) (before : List ChannelLine) (l : ChannelLine) →
     is_used k (before ++ l ∷ []) ≡ false → (is_used k before ≡ false) × (l.row ≢ k)
-used-front k [] l e = (refl, (unused-cons k l [] e).0)
-used-front k (x ∷ before) l e =
-    let told = unused-cons k x (before ++ l ∷ []) e in
-    let rest = used-front k before l told.1 in
-    (unused-both k x before told.0 rest.0, rest.1)
-  where
-    unused-both : (k : ℕ) (x : ChannelLine) (before : List ChannelLine) → x.row ≢ k →
-        is_used k before ≡ false → is_used k (x ∷ before) ≡ false
-    unused-both k x before other rest = step (x.row == k) refl
-      where
-        step : (same : Bool) → (x.row == k) ≡ same → cond same true (is_used k before) ≡ false
-        step true is = absurd (other (eqb-true x.row k is))
-        step false is = rest
+used-front k before l e =
+    let parts = or_parts (is_used k before) (l.row == k) (sym (used-append k before l) ∙ e) in
+    (parts.0, eqb-false l.row k parts.1)
 
 -- no two lines have one row
 abbrev HaveOwnRows : List ChannelLine → Type 0
@@ -92,104 +89,45 @@ apart_behind before (l ∷ ls) none =
 
 -- ---- at most so many rows
 
-abbrev keep : Bool → ChannelLine → List ChannelLine → List ChannelLine
-keep drops l ls = cond drops ls (l ∷ ls)
-
--- those with another row
-abbrev without : ℕ → List ChannelLine → List ChannelLine
-without k [] = []
-without k (l ∷ ls) = keep (l.row == k) l (without k ls)
-
-abbrev Others : ℕ → List ChannelLine → Type 0
-Others k ls = All (λ (q : ChannelLine). q.row ≢ k) ls
-
 abbrev IsWithin : ℕ → ChannelLine → Type 0
 IsWithin most q = (1 ≤ q.row) × (q.row ≤ most)
 
-abbrev Within : ℕ → List ChannelLine → Type 0
-Within most ls = All (IsWithin most) ls
+abbrev line_row : ChannelLine → ℕ
+line_row l = l.row
 
--- what holds of all holds of those that are kept
-kept_all : (P : ChannelLine → Type 0) (k : ℕ) (ls : List ChannelLine) → All P ls →
-    All P (without k ls)
-kept_all P k [] are = are
-kept_all P k (l ∷ ls) are =
-    step (l.row == k) (All-head P l ls are) (kept_all P k ls (All-tail P l ls are))
-  where
-    step : (drops : Bool) → P l → All P (without k ls) → All P (keep drops l (without k ls))
-    step true here rest = rest
-    step false here rest = All-cons P l (without k ls) here rest
+distinct_rows : (ls : List ChannelLine) → HaveOwnRows ls → IsDistinct nat_eq (map line_row ls)
+unfolding IsDistinct
+distinct_rows [] own = tt
+distinct_rows (l ∷ ls) own =
+    let other = λ (n : ℕ). nat_eq l.row n ≡ false in (
+      recursion_from_All other (map line_row ls)
+          (All-map other line_row ls
+          (All-weaker (λ (q : ChannelLine). q.row ≢ l.row)
+          (λ (q : ChannelLine). nat_eq l.row q.row ≡ false)
+          (λ q apart. ne_eqb l.row q.row (λ same. apart (sym same))) ls own.0)),
+      distinct_rows ls own.1,
+    )
 
-kept_own : (k : ℕ) (ls : List ChannelLine) → HaveOwnRows ls → HaveOwnRows (without k ls)
-kept_own k [] own = tt
-kept_own k (l ∷ ls) own =
-    step (l.row == k)
-    (kept_all (λ (q : ChannelLine). q.row ≢ l.row) k ls own.0, kept_own k ls own.1)
-  where
-    step : (drops : Bool) → HaveOwnRows (l ∷ without k ls) →
-        HaveOwnRows (keep drops l (without k ls))
-    step true both = both.1
-    step false both = both
-
-kept_others : (k : ℕ) (ls : List ChannelLine) → Others k (without k ls)
-kept_others k [] = All-nil (λ (q : ChannelLine). q.row ≢ k)
-kept_others k (l ∷ ls) = step (l.row == k) refl (kept_others k ls)
-  where
-    step : (drops : Bool) → (l.row == k) ≡ drops → Others k (without k ls) →
-        Others k (keep drops l (without k ls))
-    step true is rest = rest
-    step false is rest =
-        All-cons (λ (q : ChannelLine). q.row ≢ k) l (without k ls) (eqb-false l.row k is) rest
-
--- where none has the row, all are kept
-none_dropped : (k : ℕ) (ls : List ChannelLine) → Others k ls → length (without k ls) ≡ length ls
-none_dropped k [] are = refl
-none_dropped k (l ∷ ls) are =
-    step (l.row == k) refl
-    (none_dropped k ls (All-tail (λ (q : ChannelLine). q.row ≢ k) l ls are))
-  where
-    step : (drops : Bool) → (l.row == k) ≡ drops → length (without k ls) ≡ length ls →
-        length (keep drops l (without k ls)) ≡ length (l ∷ ls)
-    step true is rest =
-        absurd (All-head (λ (q : ChannelLine). q.row ≢ k) l ls are (eqb-true l.row k is))
-    step false is rest = omega (arith, rest)
-
--- at most one has it
-one_dropped : (k : ℕ) (ls : List ChannelLine) → HaveOwnRows ls →
-    length ls ≤ length (without k ls) + 1
-one_dropped k [] own = omega arith
-one_dropped k (l ∷ ls) own = step (l.row == k) refl (one_dropped k ls own.1)
-  where
-    step : (drops : Bool) → (l.row == k) ≡ drops → length ls ≤ length (without k ls) + 1 →
-        length (l ∷ ls) ≤ length (keep drops l (without k ls)) + 1
-    step true is rest =
-        let others : Others k ls =
-        subst (λ (n : ℕ). Others n ls) (eqb-true l.row k is) own.0 in
-        omega (arith, none_dropped k ls others)
-    step false is rest = omega (arith, rest)
-
-within_less : (most : ℕ) (ls : List ChannelLine) → Within (suc most) ls → Others (suc most) ls →
-    Within most ls
-within_less most [] are others = All-nil (IsWithin most)
-within_less most (l ∷ ls) are others =
-    let here = All-head (IsWithin (suc most)) l ls are in
-    let other = All-head (λ (q : ChannelLine). q.row ≢ suc most) l ls others in
-    All-cons (IsWithin most) l ls (here.0, omega (arith, here.1, other))
-    (within_less most ls (All-tail (IsWithin (suc most)) l ls are)
-    (All-tail (λ (q : ChannelLine). q.row ≢ suc most) l ls others))
-
-at_most : (most : ℕ) (ls : List ChannelLine) → HaveOwnRows ls → Within most ls → length ls ≤ most
-at_most zero [] own are = omega arith
-at_most zero (l ∷ ls) own are =
-    let here = All-head (IsWithin 0) l ls are in
-    absurd (omega (arith, here.0, here.1))
-at_most (suc most) ls own are =
-    let fewer = without (suc most) ls in
-    let within : Within most fewer =
-    within_less most fewer (kept_all (IsWithin (suc most)) (suc most) ls are)
-    (kept_others (suc most) ls) in
-    let rest = at_most most fewer (kept_own (suc most) ls own) within in
-    omega (arith, rest, one_dropped (suc most) ls own)
+-- lines with rows of their own are at most as many as there are rows, of which 0 is the pilot's
+at_most : (most : ℕ) (ls : List ChannelLine) → HaveOwnRows ls → All (IsWithin most) ls →
+    length ls ≤ most
+at_most most ls own are =
+    let rows = map line_row (channel 0 1 ∷ ls) in
+    let others : All (λ (q : ChannelLine). q.row ≢ 0) ls =
+    All-weaker (IsWithin most) (λ (q : ChannelLine). q.row ≢ 0)
+    (λ q is none. omega (arith, is.0, none)) ls are in
+    let below : All (λ (n : ℕ). n < suc most) rows =
+    All-cons (λ (n : ℕ). n < suc most) 0 (map line_row ls) (omega arith)
+    (All-map (λ (n : ℕ). n < suc most) line_row ls
+    (All-weaker (IsWithin most) (λ (q : ChannelLine). q.row < suc most)
+    (λ q is. omega (arith, is.1)) ls are)) in
+    omega (
+      arith,
+      length-le_from_distinct_below rows (suc most) (distinct_rows (channel 0 1 ∷ ls) (others, own))
+          (λ n is. All-contains (λ (k : ℕ). k < suc most) rows n below
+          ((is_member-Decides Decides-eqb rows n).0 is)),
+      length-map ls line_row,
+    )
 
 -- ---- the paging channels
 
@@ -232,7 +170,7 @@ own_lines (p ∷ paging) own =
 pub few_channels : (rate : Rate) (paging : List PagingPlan) → All (IsStatedPaging rate) paging →
     HaveOwnNumbers paging → length paging ≤ 7
 few_channels rate paging are own =
-    let within : Within 7 (paging_lines paging) =
+    let within : All (IsWithin 7) (paging_lines paging) =
     All-map (IsWithin 7) line_of paging
     (All-weaker (IsStatedPaging rate) (λ (q : PagingPlan). IsWithin 7 (line_of q))
     (λ q is. (is.first, is.last)) paging are) in
@@ -242,30 +180,21 @@ few_channels rate paging are own =
       length-map paging line_of,
     )
 
-gains_of_all : (rate : Rate) (paging : List PagingPlan) → All (IsStatedPaging rate) paging →
-    All (λ (p : PagingPlan). 0 < p.gain) paging → All (IsPagingPlan rate) paging
-gains_of_all rate [] are gains = All-nil (IsPagingPlan rate)
-gains_of_all rate (p ∷ paging) are gains =
-    let here = All-head (IsStatedPaging rate) p paging are in
-    All-cons (IsPagingPlan rate) p paging
-    (record {
-      first = here.first;
-      last = here.last;
-      gain = All-head (λ (q : PagingPlan). 0 < q.gain) p paging gains;
-      some = here.some;
-      pages = here.pages;
-    })
-    (gains_of_all rate paging (All-tail (IsStatedPaging rate) p paging are)
-    (All-tail (λ (q : PagingPlan). 0 < q.gain) p paging gains))
-
 -- no gain of a paging channel is 0
 pub some_gains : (rate : Rate) (paging : List PagingPlan) (ls : List ChannelLine) →
     All (IsStatedPaging rate) paging → silent (paging_lines paging ++ ls) ≡ None →
     All (IsPagingPlan rate) paging
-some_gains rate paging ls are quiet =
-    gains_of_all rate paging are
-    (parted (λ (l : ChannelLine). 0 < l.gain) paging ls
-    (some_gain (paging_lines paging ++ ls) quiet)).0
+some_gains rate paging ls are quiet k d inside =
+    let here = are k d inside in
+    let gains = parted (λ (l : ChannelLine). 0 < l.gain) paging ls
+    (some_gain (paging_lines paging ++ ls) quiet) in
+    record {
+      first = here.first;
+      last = here.last;
+      gain = gains.0 k d inside;
+      some = here.some;
+      pages = here.pages;
+    }
 
 -- ---- the traffic channels
 
@@ -325,31 +254,17 @@ traffic_sent t is gain unused =
       sized = is.sized;
     }
 
-all_sent : (traffic : List TrafficPlan) → All IsStatedTraffic traffic →
-    All (λ (t : TrafficPlan). 0 < t.gain) traffic →
-    All (λ (t : TrafficPlan). is_used t.row first_channels ≡ false) traffic →
-    All IsTrafficPlan traffic
-all_sent [] are gains unused = All-nil IsTrafficPlan
-all_sent (t ∷ traffic) are gains unused =
-    All-cons IsTrafficPlan t traffic
-    (traffic_sent t (All-head IsStatedTraffic t traffic are)
-    (All-head (λ (u : TrafficPlan). 0 < u.gain) t traffic gains)
-    (All-head (λ (u : TrafficPlan). is_used u.row first_channels ≡ false) t traffic unused))
-    (all_sent traffic (All-tail IsStatedTraffic t traffic are)
-    (All-tail (λ (u : TrafficPlan). 0 < u.gain) t traffic gains)
-    (All-tail (λ (u : TrafficPlan). is_used u.row first_channels ≡ false) t traffic unused))
-
 -- At most 62 traffic channels have rows of their own: these are from 1 to 63 and other than 32, so
 -- with the sync channel's row 32 they are different ones of 63 rows (`at_most`).
 few_rows : (traffic : List TrafficPlan) → All IsTrafficPlan traffic →
     HaveOwnRows (traffic_lines traffic) → length traffic ≤ 62
 few_rows traffic are own =
     let ls = traffic_lines traffic in
-    let within : Within 63 ls =
+    let within : All (IsWithin 63) ls =
     All-map (IsWithin 63) traffic_line_of traffic
     (All-weaker IsTrafficPlan (λ (t : TrafficPlan). IsWithin 63 (traffic_line_of t))
     (λ t is. (is.first, is.last)) traffic are) in
-    let others : Others 32 ls =
+    let others : All (λ (q : ChannelLine). q.row ≢ 32) ls =
     All-map (λ (q : ChannelLine). q.row ≢ 32) traffic_line_of traffic
     (All-weaker IsTrafficPlan (λ (t : TrafficPlan). t.row ≢ 32) (λ t is. is.other) traffic are) in
     let sync : IsWithin 63 (channel 32 1) = (omega arith, omega arith) in
@@ -375,7 +290,8 @@ lawful_beside paging traffic are none quiet =
     traffic_all (λ (l : ChannelLine). 0 < l.gain) traffic
     (parted (λ (l : ChannelLine). 0 < l.gain) paging ls
     (some_gain (paging_lines paging ++ ls) quiet)).1 in
-    let sent = all_sent traffic are gains unused in
+    let sent : All IsTrafficPlan traffic =
+    λ k d inside. traffic_sent _ (are k d inside) (gains k d inside) (unused k d inside) in
     let own = own_behind paging ls told.1 in
     record {
       few = few_rows traffic sent own;

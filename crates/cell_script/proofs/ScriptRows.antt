@@ -15,7 +15,7 @@ use Rattle.std.proofs.Math.Bool.{or-false}
 abbrev row_if : Bool → ℕ → Option ℕ
 row_if is row = cond is (Some row) None
 
-used-append : (k : ℕ) (ls : List ChannelLine) (l : ChannelLine) →
+pub used-append : (k : ℕ) (ls : List ChannelLine) (l : ChannelLine) →
     is_used k (ls ++ l ∷ []) ≡ (is_used k ls || (l.row == k))
 used-append k [] l = one (l.row == k)
   where
