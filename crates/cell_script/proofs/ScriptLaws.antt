@@ -10,7 +10,7 @@ use Rattle.cell_script.proofs.Common.{script_field, past, cell_in, traffic_frame
 use Rattle.cell_script.proofs.Common.{page_stage, Draft, empty_draft, plan_at, with_line, with_next, draft_after, is_line, lines, named}
 use Rattle.cell_script.proofs.Common.{plan_fault, plan_named, stated, stated_plan, sync_gain_fault, unless, Width, cond-true, cond-false}
 use Rattle.cell_script.proofs.Common.{le-ltb, ltb-false}
-use Rattle.cell_script.proofs.ScriptSplits.{lines-append, draft_after-other, stated-fault, stated-next, stated-none}
+use Rattle.cell_script.proofs.ScriptSplits.{lines-append, draft_after-other, stated-fault, stated-next, stated-none, stated_plan-lines}
 
 -- ---- completions
 
@@ -193,10 +193,6 @@ begun draft k n (suc m) (line ∷ more) fault before =
     (λ s f. begun s (k + 1) n m more f (omega (arith, before)))
 
 -- ---- the law
-
-stated_plan-lines : (script : List ℕ) → stated_plan script ≡ stated empty_draft 1 (lines script)
-unfolding stated_plan
-stated_plan-lines script = refl
 
 -- Where a script has its fault at line n, no other script with the same first n lines names a plan:
 -- a script is read line by line, and what is read of it up to a line depends on the lines up to

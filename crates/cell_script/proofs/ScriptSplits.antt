@@ -3,7 +3,8 @@ use Rattle.cell_script.proofs.Common.{◌≡◌, ℕ, zero, suc, ◌+◌, ◌-�
 use Rattle.cell_script.proofs.Common.{drop, refl, sym, ap, ◌∙◌, arith, Option, None, Some, Err, option_map_or, ok_or, cond-true, cond-false}
 use Rattle.cell_script.proofs.Common.{eqb-true, false≢true, take-append-drop, take_all, length-drop, length-take-le, CellPlan}
 use Rattle.cell_script.proofs.Common.{length_before, Draft, plan_at, with_line, is_line, lines, onto_first, draft_after, stated}
-use Rattle.cell_script.proofs.Common.{stated_plan}
+use Rattle.cell_script.proofs.Common.{stated_plan, empty_draft, eqb-false}
+use Rattle.cell_script.proofs.ScriptTexts.{before-mark, before-other}
 
 -- ---- clauses
 
@@ -25,24 +26,15 @@ is_line-none : is_line [] ≡ false
 unfolding is_line
 is_line-none = refl
 
-is_line-end : (byte : ℕ) (bytes : List ℕ) → (byte == 10) ≡ true →
+pub is_line-end : (byte : ℕ) (bytes : List ℕ) → (byte == 10) ≡ true →
     is_line (byte ∷ bytes) ≡ (length bytes == 0)
 unfolding is_line
 is_line-end byte bytes lf = cond-true _ _ _ lf
 
-is_line-more : (byte : ℕ) (bytes : List ℕ) → (byte == 10) ≡ false →
+pub is_line-more : (byte : ℕ) (bytes : List ℕ) → (byte == 10) ≡ false →
     is_line (byte ∷ bytes) ≡ is_line bytes
 unfolding is_line
 is_line-more byte bytes other = cond-false _ _ _ other
-
-before-end : (byte : ℕ) (bytes : List ℕ) → (byte == 10) ≡ true → length_before 10 (byte ∷ bytes) ≡ 0
-unfolding length_before
-before-end byte bytes lf = cond-true _ _ _ lf
-
-before-more : (byte : ℕ) (bytes : List ℕ) → (byte == 10) ≡ false →
-    length_before 10 (byte ∷ bytes) ≡ suc (length_before 10 bytes)
-unfolding length_before
-before-more byte bytes other = cond-false _ _ _ other
 
 pub stated-none : (draft : Draft) (n : ℕ) → stated draft n [] ≡ ok_or (plan_at draft) n
 unfolding stated
@@ -75,6 +67,10 @@ pub draft_after-other : (draft : Draft) (line : List ℕ) → is_line line ≡ f
     draft_after draft line ≡ None
 unfolding draft_after
 draft_after-other draft line is = cond-false _ _ _ is
+
+pub stated_plan-lines : (script : List ℕ) → stated_plan script ≡ stated empty_draft 1 (lines script)
+unfolding stated_plan
+stated_plan-lines script = refl
 
 -- ---- a line and what is after it
 
@@ -112,10 +108,10 @@ whole_step : (byte : ℕ) (bytes : List ℕ) (lf : Bool) → (byte == 10) ≡ lf
     (length_before 10 bytes < length bytes → is_line (first bytes) ≡ true) →
     is_line (first (byte ∷ bytes)) ≡ true
 whole_step byte bytes true lf inside rest =
-    ap (λ (k : ℕ). is_line (take (suc k) (byte ∷ bytes))) (before-end byte bytes lf)
+    ap (λ (k : ℕ). is_line (take (suc k) (byte ∷ bytes))) (before-mark 10 byte bytes (eqb-true byte 10 lf))
     ∙ is_line-end byte [] lf
 whole_step byte bytes false other inside rest =
-    let k = before-more byte bytes other in
+    let k = before-other 10 byte bytes (eqb-false byte 10 other) in
     ap (λ (k : ℕ). is_line (take (suc k) (byte ∷ bytes))) k ∙ is_line-more byte (first bytes) other
     ∙ rest (omega (arith, k, inside))
 
@@ -157,14 +153,14 @@ unended_step : (byte : ℕ) (bytes : List ℕ) (lf : Bool) → (byte == 10) ≡ 
     (length_before 10 bytes ≡ length bytes → 0 < length bytes →
     (lines bytes ≡ bytes ∷ []) × (is_line bytes ≡ false)) →
     (lines (byte ∷ bytes) ≡ (byte ∷ bytes) ∷ []) × (is_line (byte ∷ bytes) ≡ false)
-unended_step byte bytes true lf none rest = absurd (omega (arith, before-end byte bytes lf, none))
+unended_step byte bytes true lf none rest = absurd (omega (arith, before-mark 10 byte bytes (eqb-true byte 10 lf), none))
 unended_step byte [] false other none rest = (
   lines-more byte [] other ∙ ap (onto_first byte) lines-none,
   is_line-more byte [] other
       ∙ is_line-none,
 )
 unended_step byte (next ∷ bytes) false other none rest =
-    let told = rest (omega (arith, before-more byte (next ∷ bytes) other, none)) (omega arith) in (
+    let told = rest (omega (arith, before-other 10 byte (next ∷ bytes) (eqb-false byte 10 other), none)) (omega arith) in (
       lines-more byte (next ∷ bytes) other
           ∙ ap (onto_first byte) told.0,
       is_line-more byte (next ∷ bytes) other ∙ told.1,

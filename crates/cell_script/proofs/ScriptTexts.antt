@@ -7,18 +7,14 @@ use Rattle.cell_script.proofs.Common.{binary_digit, power_bits_in, digits_behind
 
 -- ---- before a mark
 
-before-mark : (mark byte : ℕ) (bytes : List ℕ) → byte ≡ mark → length_before mark (byte ∷ bytes) ≡ 0
+pub before-mark : (mark byte : ℕ) (bytes : List ℕ) → byte ≡ mark → length_before mark (byte ∷ bytes) ≡ 0
 unfolding length_before
 before-mark mark byte bytes is = cond-true _ _ _ (eq-eqb byte mark is)
 
-before-other : (mark byte : ℕ) (bytes : List ℕ) → byte ≢ mark →
+pub before-other : (mark byte : ℕ) (bytes : List ℕ) → byte ≢ mark →
     length_before mark (byte ∷ bytes) ≡ suc (length_before mark bytes)
 unfolding length_before
-before-other mark byte bytes other = cond-false _ _ _ (differs (byte == mark) refl)
-  where
-    differs : (b : Bool) → (byte == mark) ≡ b → (byte == mark) ≡ false
-    differs true e = absurd (other (eqb-true byte mark e))
-    differs false e = e
+before-other mark byte bytes other = cond-false _ _ _ (ne_eqb byte mark other)
 
 pub before-none : (mark : ℕ) → length_before mark [] ≡ 0
 unfolding length_before
@@ -68,7 +64,7 @@ mark_missing mark text k past before =
 
 -- ---- hex numbers
 
-hex_from-digit : (number digit value : ℕ) (digits : List ℕ) → hex_digit digit ≡ Some value →
+pub hex_from-digit : (number digit value : ℕ) (digits : List ℕ) → hex_digit digit ≡ Some value →
     hex_from number (digit ∷ digits) ≡ hex_from (16 * number + value) digits
 unfolding hex_from
 hex_from-digit number digit value digits is =

@@ -1,15 +1,16 @@
 -- The bytes of texts that values are spelled with: none is a space, an LF or a mark of another
 -- kind.
-use Rattle.cell_script.proofs.Common.{◌≡◌, ℕ, zero, suc, ◌+◌, ◌*◌, ◌/◌, ◌%◌, ◌^◌, ◌<◌, ◌≤◌, ◌==◌, Bool, true, false, ◌&&◌, nat_le, List, []}
-use Rattle.cell_script.proofs.Common.{◌∷◌, ◌++◌, length, refl, ap, ◌∙◌, arith, decimal, slice_index, take, drop, codes, inl, inr}
-use Rattle.cell_script.proofs.Common.{length-append, length-drop, is_ascii_digit, byte_at, bytes_high_first, to_be_bytes, w32, w64}
-use Rattle.cell_script.proofs.Common.{all_ascii_digits, pow-le-pow_right, and_from, and_parts, cases_lt, cond-false, cond-true, eq-eqb}
-use Rattle.cell_script.proofs.Common.{eqb-true, le-leb, leb-true, ne_eqb, digits_decimal, length-decimal-le, length-take}
-use Rattle.cell_script.proofs.Common.{length-encode_with, IsBytes, encode_lower, encode_with, lower_digits, number_lt, number, bit_text}
-use Rattle.cell_script.proofs.Common.{digit_of, digits_of, octet_count, packed_octets, padded, serial_digits, state_digits, is_line}
-use Rattle.cell_script.proofs.Common.{length_before}
+use Rattle.cell_script.proofs.Common.{◌≡◌, ℕ, zero, suc, ◌+◌, ◌*◌, ◌/◌, ◌%◌, ◌^◌, ◌<◌, ◌≤◌, Bool, true, false, ◌&&◌, nat_le, List, [], ◌∷◌}
+use Rattle.cell_script.proofs.Common.{◌++◌, length, refl, ap, ◌∙◌, arith, decimal, slice_index, take, drop, codes, inl, inr, length-append}
+use Rattle.cell_script.proofs.Common.{length-drop, is_ascii_digit, byte_at, bytes_high_first, to_be_bytes, w32, w64, all_ascii_digits}
+use Rattle.cell_script.proofs.Common.{pow-le-pow_right, and_from, and_parts, cases_lt, le-leb, leb-true, ne_eqb, digits_decimal}
+use Rattle.cell_script.proofs.Common.{length-decimal-le, length-take, length-encode_with, IsBytes, encode_lower, encode_with, lower_digits}
+use Rattle.cell_script.proofs.Common.{number_lt, number, bit_text, digit_of, digits_of, octet_count, packed_octets, padded, serial_digits}
+use Rattle.cell_script.proofs.Common.{state_digits, is_line, length_before}
 use Rattle.line_text.proofs.Digits.{length-packed}
 use Rattle.cell_script.proofs.ScriptNumerals.{own_numerals}
+use Rattle.cell_script.proofs.ScriptSplits.{is_line-end, is_line-more}
+use Rattle.cell_script.proofs.ScriptTexts.{before-other}
 
 -- whether all bytes are in a range
 abbrev pub are_within : ℕ → ℕ → List ℕ → Bool
@@ -65,12 +66,6 @@ within-drop low high (suc n) (x ∷ xs) test =
 
 -- ---- before a mark that no byte is
 
-before-step : (mark byte : ℕ) (bytes : List ℕ) (is : Bool) → (byte == mark) ≡ is →
-    ¬ (byte ≡ mark) → length_before mark (byte ∷ bytes) ≡ suc (length_before mark bytes)
-unfolding length_before
-before-step mark byte bytes true is other = absurd (other (eqb-true byte mark is))
-before-step mark byte bytes false is other = cond-false _ _ _ is
-
 before_word : (mark low high : ℕ) (text rest : List ℕ) →
     ((byte : ℕ) → low ≤ byte → byte ≤ high → ¬ (byte ≡ mark)) → are_within low high text ≡ true →
     length_before mark (text ++ rest) ≡ length text + length_before mark rest
@@ -81,7 +76,7 @@ before_word mark low high (byte ∷ bytes) rest apart test =
     let other : ¬ (byte ≡ mark) = apart byte inside.0 inside.1 in
     omega (
       arith,
-      before-step mark byte (bytes ++ rest) (byte == mark) refl other,
+      before-other mark byte (bytes ++ rest) other,
       before_word mark low high bytes rest apart parts.1,
     )
 
@@ -98,29 +93,16 @@ pub before_high_mark : (mark low high : ℕ) (text rest : List ℕ) → high < m
 before_high_mark mark low high text rest above test =
     before_word mark low high text rest (λ byte least most is. omega (arith, above, most, is)) test
 
--- the mark itself, and the end
-pub before_mark : (mark : ℕ) (rest : List ℕ) → length_before mark (mark ∷ rest) ≡ 0
-unfolding length_before
-before_mark mark rest = cond-true _ _ _ (eq-eqb mark mark refl)
-
 -- ---- lines
-
-is_line-end : is_line (10 ∷ []) ≡ true
-unfolding is_line
-is_line-end = refl
-
-is_line-more : (byte : ℕ) (bytes : List ℕ) → 32 ≤ byte → is_line (byte ∷ bytes) ≡ is_line bytes
-unfolding is_line
-is_line-more byte bytes above =
-    cond-false _ _ _ (ne_eqb byte 10 (λ lf. omega (arith, above, lf)))
 
 -- a text without an LF makes one line
 pub is_line-within : (text : List ℕ) → are_within 32 126 text ≡ true →
     is_line (text ++ 10 ∷ []) ≡ true
-is_line-within [] are = is_line-end
+is_line-within [] are = is_line-end 10 [] refl
 is_line-within (byte ∷ bytes) are =
     let parts = and_parts (nat_le 32 byte && nat_le byte 126) (are_within 32 126 bytes) are in
-    is_line-more byte (bytes ++ 10 ∷ []) (byte_in 32 126 byte parts.0).0
+    let above = (byte_in 32 126 byte parts.0).0 in
+    is_line-more byte (bytes ++ 10 ∷ []) (ne_eqb byte 10 (λ lf. omega (arith, above, lf)))
     ∙ is_line-within bytes parts.1
 
 -- ---- numbers

@@ -2,8 +2,8 @@
 use Rattle.cell_script.proofs.Common.{◌≡◌, ℕ, ◌==◌, true, List, [], ◌∷◌, ◌++◌, length, refl, ap, ◌∙◌, arith, take, drop, Option, nat_eq}
 use Rattle.cell_script.proofs.Common.{append-nil, pointwise, drop-append_seam, take-append_seam, and_from, cond-true, eq-eqb, script_field}
 use Rattle.cell_script.proofs.Common.{keyed, Some, subst, past, value_of, begins_with, length_before}
-use Rattle.cell_script.proofs.SpelledBytes.{are_within, before_low_mark, before_mark}
-use Rattle.cell_script.proofs.ScriptTexts.{before-none}
+use Rattle.cell_script.proofs.SpelledBytes.{are_within, before_low_mark}
+use Rattle.cell_script.proofs.ScriptTexts.{before-mark, before-none}
 
 same_bytes : (xs : List ℕ) → pointwise nat_eq xs xs ≡ true
 same_bytes [] = refl
@@ -28,7 +28,7 @@ fenced value rest are ends =
 -- a text whose key begins with a space
 pub key_spaced : (key more rest : List ℕ) → key ≡ 32 ∷ more → length_before 32 (key ++ rest) ≡ 0
 key_spaced key more rest is =
-    ap (λ (k : List ℕ). length_before 32 (k ++ rest)) is ∙ before_mark 32 (more ++ rest)
+    ap (λ (k : List ℕ). length_before 32 (k ++ rest)) is ∙ before-mark 32 32 (more ++ rest) refl
 
 -- the value of a field, and what is after it
 field-front : {A : Type 0} (key value rest : List ℕ) (read : List ℕ → Option A) →

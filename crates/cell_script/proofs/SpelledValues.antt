@@ -12,9 +12,9 @@ use Rattle.cell_script.proofs.Common.{number_up_to, octets_in, serial_number_in,
 use Rattle.cell_script.proofs.Common.{signed_decimal}
 use Rattle.cell_script.proofs.ScriptNumerals.{one_numeral, one_signed_numeral}
 use Rattle.std.proofs.lemmas.List.{length-drop}
-use Rattle.cell_script.proofs.SpelledBytes.{are_within, at_below, before_high_mark, before_mark, bytes_are, decimal_within, digits_of_long}
-use Rattle.cell_script.proofs.SpelledBytes.{octet_digits, octet_digits_long, octets_are, serial_long, state_long}
-use Rattle.cell_script.proofs.ScriptTexts.{hex_from-none}
+use Rattle.cell_script.proofs.SpelledBytes.{are_within, at_below, before_high_mark, bytes_are, decimal_within, digits_of_long, octet_digits}
+use Rattle.cell_script.proofs.SpelledBytes.{octet_digits_long, octets_are, serial_long, state_long}
+use Rattle.cell_script.proofs.ScriptTexts.{before-mark, hex_from-digit, hex_from-none}
 
 -- ---- numbers
 
@@ -43,9 +43,7 @@ digit_back d below =
 
 from_digit : (n d : ℕ) (digits : List ℕ) → d < 16 →
     hex_from n (slice_index lower_digits d ∷ digits) ≡ hex_from (16 * n + d) digits
-unfolding hex_from
-from_digit n d digits below =
-    ap (option_and_then (λ (v : ℕ). hex_from (16 * n + v) digits)) (digit_back d below)
+from_digit n d digits below = hex_from-digit n (slice_index lower_digits d) d digits (digit_back d below)
 
 -- bytes after a number, the highest first
 abbrev bytes_behind : ℕ → List ℕ → ℕ
@@ -194,7 +192,7 @@ bits_in-parts front hex are =
     omega (
       arith,
       before_high_mark 58 48 57 front (58 ∷ hex) (omega arith) are,
-      before_mark 58 hex,
+      before-mark 58 58 hex refl,
     ) in
     ap (λ (k : ℕ). bits_of_parts (take k text) (drop k text)) at_mark
     ∙ ap (λ (t : List ℕ). bits_of_parts t (drop (length front) text))
