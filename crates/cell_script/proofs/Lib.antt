@@ -1,4 +1,5 @@
 -- The modules of lemmas of `cell_script`.
+pub mod ChannelStages
 pub mod Common
 pub mod LastChanged
 pub mod NamedPages

@@ -1,9 +1,10 @@
 -- The answer of both readings of a script: the plan that it names, or its fault.
 use Rattle.cell_script.proofs.Common.{◌≡◌, ℕ, ◌<◌, ◌≤◌, List, length, refl, sym, ap, subst, ◌∙◌, None, Some, Result, Ok, Err, IsOk}
-use Rattle.cell_script.proofs.Common.{cond-true, cond-false, le-ltb, lt-ltb, Width, CellPlan, Judge, ScriptFault, Line, TooBig}
+use Rattle.cell_script.proofs.Common.{cond-true, lt-ltb, Width, CellPlan, Judge, ScriptFault, Line, TooBig}
 use Rattle.cell_script.proofs.Common.{IsLawfulPlan, named, plan_named, stated_plan, unless, judged_fault, IsJudged, IsStatedLink}
-use Rattle.cell_script.proofs.NamedPlans.{named_plan, stated_said}
+use Rattle.cell_script.proofs.NamedPlans.{named_plan, small_named}
 use Rattle.cell_script.proofs.ScriptRows.{judged_fault_is}
+use Rattle.cell_script.proofs.WrittenPlans.{stated_back}
 
 pub too_big : (width : Width) (script : List ℕ) → 1048576 < length script →
     plan_named width script ≡ Err TooBig
@@ -12,13 +13,6 @@ too_big width script big =
     cond-true _ (Err TooBig) (named width (stated_plan script))
     (lt-ltb 1048576 (length script) big)
 
-pub small_named : (width : Width) (script : List ℕ) → length script ≤ 1048576 →
-    plan_named width script ≡ named width (stated_plan script)
-unfolding plan_named
-small_named width script small =
-    cond-false _ (Err TooBig) (named width (stated_plan script))
-    (le-ltb 1048576 (length script) small)
-
 pub line_named : (width : Width) (script : List ℕ) (n : ℕ) → length script ≤ 1048576 →
     stated_plan script ≡ Err n → plan_named width script ≡ Err (Line n)
 line_named width script n small fault = small_named width script small ∙ ap (named width) fault
@@ -26,7 +20,7 @@ line_named width script n small fault = small_named width script small ∙ ap (n
 pub link_stated : (script : List ℕ) (judge : Judge) → IsJudged script judge →
     IsStatedLink judge.link
 link_stated script judge is =
-    subst IsStatedLink (sym is.judged.link) (stated_said script is.plan is.stated).lawful.link
+    subst IsStatedLink (sym is.judged.link) (stated_back script is.plan is.stated).0.lawful.link
 
 judged_named : (width : Width) (script : List ℕ) (judge : Judge) → length script ≤ 1048576 →
     (is : IsJudged script judge) →

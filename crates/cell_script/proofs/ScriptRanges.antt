@@ -8,23 +8,18 @@ use Rattle.cell_script.proofs.Common.{sync_behind, sync_fields, sync_in, cell_in
 use Rattle.cell_script.proofs.Common.{traffic_in, stated_traffic_line, lawful_message, lawful_page, stated_page_in, page_key, page_with}
 use Rattle.cell_script.proofs.Common.{paging_in, stated_paging_line, pilot_in, statement_in, is_body, begins_with, bits_in_text, hex_from}
 use Rattle.cell_script.proofs.Common.{power_bits_in, digits_behind, binary_digit, hex_digit, number_up_to, serial_number_in, signed_in}
-use Rattle.cell_script.proofs.Common.{gain_row, local_rows, network_rows, unsigned_of}
+use Rattle.cell_script.proofs.Common.{gain_row, local_rows, network_rows, unsigned_of, eqb-false, AreUpTo, FrameRate, information_bits_of}
+use Rattle.cell_script.proofs.Common.{IsLawfulStatement}
 use Rattle.std.specs.Char.{digit_value}
-use Rattle.cell_plan.specs.TrafficFrames.{information_bits_of}
-use Rattle.cell_script.proofs.ScriptBounds.{stated_frame, both_steps, cell_bounds, ended, field_read, given, number_field, paging_bounds}
-use Rattle.cell_script.proofs.ScriptBounds.{sync_bounds, tried}
+use Rattle.cell_script.proofs.ScriptBounds.{IsFreq, both_steps, cell_bounds, ended, field_read, fields_fit, freq_bounds, link_bounds}
+use Rattle.cell_script.proofs.ScriptBounds.{message_bounds, number_field, numbers_up_to, passed, tried}
 use Rattle.cell_script.proofs.ScriptNumerals.{one_signed_numeral}
+use Rattle.cell_script.proofs.ScriptPages.{body_fills, body_message}
 use Rattle.cell_script.proofs.ScriptTexts.{hex_digit_more, hex_from-none}
 use Rattle.cell_script.proofs.SpelledLines.{IsWritable, IsWritableLink, IsWritablePaging, IsWritableSync, IsWritableTraffic}
 use Rattle.cell_script.specs.declared.statements.Statement.TheVariants as statements
 
 -- ---- values
-
--- the test held, and the value is that of the step
-tested_step : {A : Type 0} (test : Bool) (o : Option A) (x : A) → cond test o None ≡ Some x →
-    (test ≡ true) × (o ≡ Some x)
-tested_step true o x e = (refl, e)
-tested_step false o x e = absurd (cc e)
 
 signed_fits : (key text : List ℕ) (z : ℤ) → script_field key signed_in text ≡ Some z →
     FitsSigned w16 z
@@ -54,7 +49,7 @@ hex_most (digit ∷ digits) k most number n is small e =
 serial_most : (text : List ℕ) (n : ℕ) → serial_number_in text ≡ Some n → n < 2 ^ 32
 unfolding serial_number_in
 serial_most text n e =
-    let told = tested_step (length text == 8) (hex_from 0 text) n e in
+    let told = passed (length text == 8) (hex_from 0 text) n e in
     let long : length text ≡ 8 = eqb-true (length text) 8 told.0 in
     let below : n < 16 ^ 8 = hex_most text 0 8 0 n (omega (arith, long)) (omega arith) told.1 in
     omega (arith, below)
@@ -76,7 +71,7 @@ power_bits_long : (text : List ℕ) (bits : List Bool) → power_bits_in text �
     length bits ≡ 16
 unfolding power_bits_in
 power_bits_long text bits e =
-    let told = tested_step (length text == 16) (digits_behind [] text) bits e in
+    let told = passed (length text == 16) (digits_behind [] text) bits e in
     let long : length text ≡ 16 = eqb-true (length text) 16 told.0 in
     omega (arith, digits_long text [] bits told.1, long)
 
@@ -125,72 +120,72 @@ pilot_writable text =
 abbrev IsBlank : SyncFields → Type 0
 IsBlank m = (m.pn ≡ 0) × ((m.lc ≡ 0) × (m.time ≡ 0))
 
-abbrev IsBlankSync : SyncPlan → Type 0
-IsBlankSync sync = (sync.gain ≤ 65535) × IsBlank sync.message
+-- Each field fits into its bits, as it was read with the field's greatest value as its bound, and
+-- the rest has a length that the message admits.
+message_writable : (gain : ℕ) (network local : List ℕ) (freq : Option ℕ) (rest : List Bool)
+    (message : SyncFields) → gain ≤ 65535 → AreUpTo network_rows network →
+    AreUpTo local_rows local → IsFreq freq →
+    lawful_message (sync_fields network local freq rest) ≡ Some message →
+    IsWritableSync (record { gain = gain; message = message })
+message_writable gain network local freq rest message small up local_up is e =
+    let m = sync_fields network local freq rest in
+    let told = cond_some (has_lawful_rest freq rest) m message e in
+    let blank : IsBlank message = subst IsBlank told.1 (refl, (refl, refl)) in
+    record {
+      gain = small;
+      message = message_bounds m message (fields_fit network local freq rest up local_up) is e;
+      pn = blank.0;
+      lc = blank.1.0;
+      time = blank.1.1;
+    }
 
-blank_message : (network local : List ℕ) (freq : Option ℕ) (rest : List Bool)
-    (message : SyncFields) → lawful_message (sync_fields network local freq rest) ≡ Some message →
-    IsBlank message
-blank_message network local freq rest message e =
-    let told = cond_some (has_lawful_rest freq rest) (sync_fields network local freq rest) message e in
-    subst IsBlank told.1 (refl, (refl, refl))
-
-behind_blank : (gain : ℕ) (network local text : List ℕ) (sync : SyncPlan) → gain ≤ 65535 →
-    sync_behind gain network local text ≡ Some sync → IsBlankSync sync
+behind_writable : (gain : ℕ) (network local text : List ℕ) (sync : SyncPlan) → gain ≤ 65535 →
+    AreUpTo network_rows network → AreUpTo local_rows local →
+    sync_behind gain network local text ≡ Some sync → IsWritableSync sync
 unfolding sync_behind
-behind_blank gain network local text sync small =
+behind_writable gain network local text sync small up local_up =
     both_steps (freq_in _) _
     (λ freq freq_is.
     both_steps (script_field (codes " rest=") bits_in_text _) _ λ rest rest_is.
     both_steps (lawful_message (sync_fields network local freq rest)) _ λ message message_is sync e.
-    subst IsBlankSync (ended _ (record { gain = gain; message = message }) sync e)
-    (small, blank_message network local freq rest message message_is))
+    subst IsWritableSync (ended _ (record { gain = gain; message = message }) sync e)
+    (message_writable gain network local freq rest message small up local_up
+    (freq_bounds _ freq freq_is) message_is))
     sync
 
-sync_blank : (text : List ℕ) (sync : SyncPlan) → sync_in text ≡ Some sync → IsBlankSync sync
+sync_writable : (text : List ℕ) (sync : SyncPlan) → sync_in text ≡ Some sync → IsWritableSync sync
 unfolding sync_in
-sync_blank text =
+sync_writable text =
     both_steps (script_field gain_row.key (unsigned_of gain_row.form) _) _ λ gain gain_is.
     both_steps (numbers_in network_rows _) _ λ network network_is.
     both_steps (numbers_in local_rows _) _ λ local local_is sync e.
-    behind_blank gain network local _ sync (number_field _ 65535 _ gain gain_is) e
+    behind_writable gain network local _ sync (number_field _ 65535 _ gain gain_is)
+    (numbers_up_to network_rows _ network network_is) (numbers_up_to local_rows _ local local_is) e
 
-sync_writable : (text : List ℕ) (sync : SyncPlan) → sync_in text ≡ Some sync → IsWritableSync sync
-sync_writable text sync e =
-    let blank = sync_blank text sync e in
-    record {
-      gain = blank.0;
-      message = sync_bounds text sync e;
-      pn = blank.1.0;
-      lc = blank.1.1.0;
-      time = blank.1.1.1;
-    }
+abbrev given : ℕ → ℕ → PagingLine
+given number gain = record { number = number; gain = gain }
 
-abbrev HasSmallPagingGain : PagingLine → Type 0
-HasSmallPagingGain line = line.gain ≤ 65535
-
-paging_gain : (number gain : ℕ) (line : PagingLine) (none : Bool) → (number == 0) ≡ none →
-    gain ≤ 65535 → stated_paging_line number gain ≡ Some line → HasSmallPagingGain line
-paging_gain number gain line true e small is =
+line_given : (number gain : ℕ) (line : PagingLine) (none : Bool) → (number == 0) ≡ none →
+    number ≤ 7 → gain ≤ 65535 → stated_paging_line number gain ≡ Some line → IsWritablePaging line
+line_given number gain line true e low small is =
     absurd (cc (cond-true (number == 0) None (Some (given number gain)) e, is))
-paging_gain number gain line false e small is =
-    subst HasSmallPagingGain
+line_given number gain line false e low small is =
+    let other : ¬ (number ≡ 0) = eqb-false number 0 e in
+    subst IsWritablePaging
     (same_Some (given number gain) line
-    (sym (cond-false (number == 0) None (Some (given number gain)) e) ∙ is)) small
-
-paging_small : (text : List ℕ) (line : PagingLine) → paging_in text ≡ Some line →
-    line.gain ≤ 65535
-unfolding paging_in
-paging_small text =
-    both_steps (script_field (codes "paging channel=") (number_up_to 7) _) _ λ number number_is.
-    both_steps (script_field (codes " gain=") (number_up_to 65535) _) _ λ gain gain_is.
-    both_steps (stated_paging_line number gain) _ λ line line_is all e.
-    subst HasSmallPagingGain (ended _ line all e)
-    (paging_gain number gain line (number == 0) refl (number_field _ 65535 _ gain gain_is) line_is)
+    (sym (cond-false (number == 0) None (Some (given number gain)) e) ∙ is))
+    ((omega (arith, other), low), small)
 
 paging_writable : (text : List ℕ) (line : PagingLine) → paging_in text ≡ Some line →
     IsWritablePaging line
-paging_writable text line e = (paging_bounds text line e, paging_small text line e)
+unfolding paging_in
+paging_writable text =
+    both_steps (script_field (codes "paging channel=") (number_up_to 7) _) _ λ number number_is.
+    both_steps (script_field (codes " gain=") (number_up_to 65535) _) _ λ gain gain_is.
+    both_steps (stated_paging_line number gain) _ λ line line_is all e.
+    subst IsWritablePaging (ended _ line all e)
+    (line_given number gain line (number == 0) refl (number_field _ 7 _ number number_is)
+    (number_field _ 65535 _ gain gain_is) line_is)
 
 abbrev HasBody : Page → Type 0
 HasBody page = is_body page.body ≡ true
@@ -223,6 +218,10 @@ traffic_writable text =
       offset = number_field _ 15 _ offset offset_is;
       gain = number_field _ 65535 _ gain gain_is;
     })
+
+abbrev stated_frame : FrameRate → List Bool → List Bool → TrafficFrame
+stated_frame rate information power_bits =
+    record { rate = rate; information = information; power_bits = power_bits }
 
 abbrev IsWritableFrame : TrafficFrame → Type 0
 IsWritableFrame f = IsTrafficFrame f × (length f.power_bits ≡ 16)
@@ -272,3 +271,19 @@ line_writable text statement =
     (step_writable statements.Traffic (traffic_in text) _ _ statement (traffic_writable text)
     (step_writable statements.Frame (traffic_frame_in text) _ None statement (frame_writable text)
     (no_line_writable statement))))))))
+
+-- and what can be written is within its bounds
+pub writable_bounds : (statement : Statement) → IsWritable statement → IsLawfulStatement statement
+writable_bounds (statements.Cell cell) is = is
+writable_bounds (statements.Link link) is = link_bounds link is
+writable_bounds (statements.Pilot pilot) is = tt
+writable_bounds (statements.Sync sync) is = is.message
+writable_bounds (statements.Paging line) is = is.0
+writable_bounds (statements.Page page) is = (body_fills page.body is, body_message page.body is)
+writable_bounds (statements.Traffic line) is = (is.row, is.offset)
+writable_bounds (statements.Frame frame) is = is.0
+
+-- so what a line states is
+pub line_bounds : (text : List ℕ) (statement : Statement) → statement_in text ≡ Some statement →
+    IsLawfulStatement statement
+line_bounds text statement e = writable_bounds statement (line_writable text statement e)

@@ -5,27 +5,21 @@ use Rattle.cell_script.proofs.Common.{option_map, option_and_then, cond-true, co
 use Rattle.cell_script.proofs.Common.{Stage, Cell, Statement, lines, stated, stated_plan, draft_at, empty_plan, plan_at, with_line}
 use Rattle.cell_script.proofs.Common.{with_next, with_statement, HasJudged, IsInOrder, IsJudged, statement_in, first_stated, is_complete}
 use Rattle.cell_script.proofs.Common.{next_stage, length_before}
-use Rattle.cell_script.proofs.NamedPlans.{added, empty_said, in_order, IsAt}
-use Rattle.cell_script.proofs.ScriptBounds.{line_bounds}
-use Rattle.cell_script.proofs.ScriptSplits.{line_counted, line_read, line_refused, line_unended, lines_read}
+use Rattle.cell_script.proofs.ChannelStages.{added, empty_said, in_order, IsAt}
+use Rattle.cell_script.proofs.ScriptBounds.{passed}
+use Rattle.cell_script.proofs.ScriptRanges.{line_bounds}
+use Rattle.cell_script.proofs.ScriptSplits.{line_counted, line_read, line_refused, line_unended, lines_read, stated_plan-lines}
 use Rattle.cell_script.proofs.ScriptTexts.{before_most}
 
 -- ---- the first line of a text
 
-stated_first : (text : List ℕ) (statement : Statement) (ended : Bool) →
-    nat_lt (length_before 10 text) (length text) ≡ ended → first_stated text ≡ Some statement →
-    (length_before 10 text < length text)
-    × (statement_in (take (length_before 10 text) text) ≡ Some statement)
-unfolding first_stated
-stated_first text statement true e is =
-    (ltb-true (length_before 10 text) (length text) e, sym (cond-true _ _ _ e) ∙ is)
-stated_first text statement false e is =
-    absurd (cc (cond-false _ (statement_in (take (length_before 10 text) text)) None e, is))
-
 first_some : (text : List ℕ) (statement : Statement) → first_stated text ≡ Some statement →
     (length_before 10 text < length text)
     × (statement_in (take (length_before 10 text) text) ≡ Some statement)
-first_some text statement is = stated_first text statement _ refl is
+unfolding first_stated
+first_some text statement is =
+    let told = passed _ (statement_in (take (length_before 10 text) text)) statement is in
+    (ltb-true (length_before 10 text) (length text) told.0, told.1)
 
 first_none : (text : List ℕ) → length_before 10 text < length text → first_stated text ≡ None →
     statement_in (take (length_before 10 text) text) ≡ None
@@ -35,19 +29,13 @@ first_none text inside is =
 
 -- ---- the draft after it
 
-with_line-next : (plan : CellPlan) (stage next : Stage) (text : List ℕ) (statement : Statement) →
-    statement_in text ≡ Some statement → next_stage stage statement ≡ Some next →
-    with_line (draft_at plan stage) text ≡ Some (draft_at (with_statement plan statement) next)
+with_line-is : (plan : CellPlan) (stage : Stage) (text : List ℕ) (statement : Statement)
+    (next : Option Stage) → statement_in text ≡ Some statement →
+    next_stage stage statement ≡ next →
+    with_line (draft_at plan stage) text
+    ≡ option_map (draft_at (with_statement plan statement)) next
 unfolding with_line with_next
-with_line-next plan stage next text statement is after =
-    ap (option_and_then (with_next (draft_at plan stage))) is
-    ∙ ap (option_map (draft_at (with_statement plan statement))) after
-
-with_line-refused : (plan : CellPlan) (stage : Stage) (text : List ℕ) (statement : Statement) →
-    statement_in text ≡ Some statement → next_stage stage statement ≡ None →
-    with_line (draft_at plan stage) text ≡ None
-unfolding with_line with_next
-with_line-refused plan stage text statement is after =
+with_line-is plan stage text statement next is after =
     ap (option_and_then (with_next (draft_at plan stage))) is
     ∙ ap (option_map (draft_at (with_statement plan statement))) after
 
@@ -75,7 +63,7 @@ left_next script rest plan stage next n bytes statement is bytes_is after before
     subst (λ (b : ℕ). Left script (with_statement plan statement) next (n + 1) (behind b rest))
     (sym bytes_is)
     (line_read script (draft_at plan stage) (draft_at (with_statement plan statement) next) n end
-    rest refl told.0 (with_line-next plan stage next (take end rest) statement told.1 after) before)
+    rest refl told.0 (with_line-is plan stage (take end rest) statement (Some next) told.1 after) before)
 
 left_refused : (script rest : List ℕ) (plan : CellPlan) (stage : Stage) (n : ℕ)
     (statement : Statement) →
@@ -85,7 +73,7 @@ left_refused script rest plan stage n statement is after before =
     let end = length_before 10 rest in
     let told = first_some rest statement is in
     sym (line_refused script (draft_at plan stage) n end rest refl told.0
-    (with_line-refused plan stage (take end rest) statement told.1 after) before)
+    (with_line-is plan stage (take end rest) statement None told.1 after) before)
 
 -- A line that states nothing is the script's fault: where an LF ends it the definition refuses that
 -- line, and where bytes are left without an LF it refuses them as a line that isn't whole.
@@ -119,11 +107,6 @@ pub record HasRead (script : List ℕ) (stage : Stage) (judge : Judge) (n : ℕ)
   pub judged : HasJudged judge plan
   pub few : n + length rest ≤ 1 + length script
   pub gains : judge.channels.gains ≤ 65535 * n
-
-stated_plan-lines : (script : List ℕ) →
-    stated_plan script ≡ stated (draft_at empty_plan Cell) 1 (lines script)
-unfolding stated_plan
-stated_plan-lines script = refl
 
 pub none_read : (script : List ℕ) (judge : Judge) → HasJudged judge empty_plan →
     judge.channels.gains ≡ 0 → HasRead script Cell judge 1 script

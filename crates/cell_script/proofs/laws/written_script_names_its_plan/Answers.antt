@@ -1,9 +1,10 @@
 -- Why `written_script_names_its_plan` of `laws` keeps its contract.
-use Rattle.cell_script.proofs.WrittenPlans.{named_back, stated_back}
+use Rattle.cell_script.proofs.NamedPlans.{named_back}
+use Rattle.cell_script.proofs.WrittenPlans.{stated_back}
 use Rattle.cell_script.proofs.laws.written_script_names_its_plan.Goals as goal
 
 pub returns-clause-stated : goal.returns-clause-stated
-returns-clause-stated c = stated_back
+returns-clause-stated c script plan e = (stated_back script plan e).1
 
 pub returns-clause-named : goal.returns-clause-named
 returns-clause-named c = named_back
