@@ -4,7 +4,7 @@ use Rattle.cell_script.proofs.Common.{◌∙◌, arith, None, Some, ◌==◌, Al
 use Rattle.cell_script.proofs.Common.{All-push, cond_some, same_Some, norm, FillsCapsule, M30, Rate, R9600, R4800, HasMessage, bits_left}
 use Rattle.cell_script.proofs.Common.{half_frame_body, half_frame_bits, laid_behind, sent_paging_rate, AreSendable, CellPlan, Page}
 use Rattle.cell_script.proofs.Common.{PagingPlan, SyncPlan, Stage, Cell, Link, Pilot, Sync, Paging, FirstPage, Pages, Traffic, FirstFrame}
-use Rattle.cell_script.proofs.Common.{Frames, TrafficPlan, TrafficFrame, PagingLine, TrafficLine, Statement, stated, empty_plan}
+use Rattle.cell_script.proofs.Common.{Frames, TrafficPlan, TrafficFrame, PagingLine, TrafficLine, Statement, empty_plan}
 use Rattle.cell_script.proofs.Common.{opened_paging, on_last, opened_traffic, with_page, with_statement, with_frame, one_frame_more}
 use Rattle.cell_script.proofs.Common.{one_page_more, rate_set, FrameRate, SetOne, SetTwo, RateSet, One, Two, IsTrafficFrame, IsInOrder}
 use Rattle.cell_script.proofs.Common.{AreHeard, HasSaid, IsStatedCell, IsStatedLink, IsStatedPaging, IsStatedSync, IsStatedTraffic}
@@ -149,17 +149,17 @@ traffic_closed plan has =
     (All-push IsStatedTraffic o.before o.last o.stated last)
 
 -- all channels of a plan are whole
-abbrev pub AreWhole : CellPlan → Type 0
-AreWhole plan =
+abbrev pub AreClosed : CellPlan → Type 0
+AreClosed plan =
     All (IsStatedPaging (sent_paging_rate plan.sync)) plan.paging × All IsStatedTraffic plan.traffic
 
-bare_whole : (plan : CellPlan) → IsBare plan → AreWhole plan
+bare_whole : (plan : CellPlan) → IsBare plan → AreClosed plan
 bare_whole plan bare =
     (no_channels (sent_paging_rate plan.sync) plan bare.0, no_traffic plan bare.1)
 
 -- they are where a script may end
 pub whole_at : (stage : Stage) (plan : CellPlan) → HasChannels stage plan →
-    is_complete stage ≡ true → AreWhole plan
+    is_complete stage ≡ true → AreClosed plan
 whole_at Sync plan has e = bare_whole plan has.0
 whole_at (Paging rate) plan has e = bare_whole plan has.0
 whole_at (Pages rate count) plan has e = (

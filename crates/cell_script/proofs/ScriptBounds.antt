@@ -29,10 +29,14 @@ tried f (Some x) y e = (x, refl, e)
 tried f None y e = absurd (cc e)
 
 -- the test held, and the value is that of the step
-pub passed : {A : Type 0} (test : Bool) (o : Option A) (x : A) → cond test o None ≡ Some x →
+pub tested_step : {A : Type 0} (test : Bool) (o : Option A) (x : A) → cond test o None ≡ Some x →
     (test ≡ true) × (o ≡ Some x)
-passed true o x e = (refl, e)
-passed false o x e = absurd (cc e)
+tested_step true o x e = (refl, e)
+tested_step false o x e = absurd (cc e)
+
+pub passed : {A : Type 0} (test : Bool) (o : Option A) (x : A) → cond test o None ≡ Some x →
+    o ≡ Some x
+passed test o x e = (tested_step test o x e).1
 
 -- the whole text was read
 pub ended : {A : Type 0} (text : List ℕ) (value x : A) → at_end text value ≡ Some x → value ≡ x
@@ -45,7 +49,7 @@ ended (byte ∷ bytes) value x e = absurd (cc e)
 pub field_read : {A : Type 0} (key : List ℕ) (read : List ℕ → Option A) (text : List ℕ) (x : A) →
     script_field key read text ≡ Some x → read (value_of key text) ≡ Some x
 unfolding script_field
-field_read key read text x e = (passed (begins_with text key) (read (value_of key text)) x e).1
+field_read key read text x e = passed (begins_with text key) (read (value_of key text)) x e
 
 number_most : (most : ℕ) (text : List ℕ) (n : ℕ) → number_up_to most text ≡ Some n → n ≤ most
 unfolding number_up_to
@@ -90,7 +94,7 @@ state_read : (text : List ℕ) (state : ℕ) → state_in text ≡ Some state �
 unfolding state_in
 state_read text state e =
     let told = tried as_state (hex_from 0 text) state
-    (passed (length text == 11) (option_and_then as_state (hex_from 0 text)) state e).1 in
+    (passed (length text == 11) (option_and_then as_state (hex_from 0 text)) state e) in
     state_some told.0 state (told.0 == 0) refl told.2
 
 state_field : (key text : List ℕ) (state : ℕ) → script_field key state_in text ≡ Some state → IsState state

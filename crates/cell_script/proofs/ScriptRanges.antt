@@ -12,7 +12,7 @@ use Rattle.cell_script.proofs.Common.{gain_row, local_rows, network_rows, unsign
 use Rattle.cell_script.proofs.Common.{IsLawfulStatement}
 use Rattle.std.specs.Char.{digit_value}
 use Rattle.cell_script.proofs.ScriptBounds.{IsFreq, both_steps, cell_bounds, ended, field_read, fields_fit, freq_bounds, link_bounds}
-use Rattle.cell_script.proofs.ScriptBounds.{message_bounds, number_field, numbers_up_to, passed, tried}
+use Rattle.cell_script.proofs.ScriptBounds.{message_bounds, number_field, numbers_up_to, tested_step, tried}
 use Rattle.cell_script.proofs.ScriptNumerals.{one_signed_numeral}
 use Rattle.cell_script.proofs.ScriptPages.{body_fills, body_message}
 use Rattle.cell_script.proofs.ScriptTexts.{hex_digit_more, hex_from-none}
@@ -49,7 +49,7 @@ hex_most (digit ∷ digits) k most number n is small e =
 serial_most : (text : List ℕ) (n : ℕ) → serial_number_in text ≡ Some n → n < 2 ^ 32
 unfolding serial_number_in
 serial_most text n e =
-    let told = passed (length text == 8) (hex_from 0 text) n e in
+    let told = tested_step (length text == 8) (hex_from 0 text) n e in
     let long : length text ≡ 8 = eqb-true (length text) 8 told.0 in
     let below : n < 16 ^ 8 = hex_most text 0 8 0 n (omega (arith, long)) (omega arith) told.1 in
     omega (arith, below)
@@ -71,7 +71,7 @@ power_bits_long : (text : List ℕ) (bits : List Bool) → power_bits_in text �
     length bits ≡ 16
 unfolding power_bits_in
 power_bits_long text bits e =
-    let told = passed (length text == 16) (digits_behind [] text) bits e in
+    let told = tested_step (length text == 16) (digits_behind [] text) bits e in
     let long : length text ≡ 16 = eqb-true (length text) 16 told.0 in
     omega (arith, digits_long text [] bits told.1, long)
 
@@ -273,17 +273,17 @@ line_writable text statement =
     (no_line_writable statement))))))))
 
 -- and what can be written is within its bounds
-pub writable_bounds : (statement : Statement) → IsWritable statement → IsLawfulStatement statement
-writable_bounds (statements.Cell cell) is = is
-writable_bounds (statements.Link link) is = link_bounds link is
-writable_bounds (statements.Pilot pilot) is = tt
-writable_bounds (statements.Sync sync) is = is.message
-writable_bounds (statements.Paging line) is = is.0
-writable_bounds (statements.Page page) is = (body_fills page.body is, body_message page.body is)
-writable_bounds (statements.Traffic line) is = (is.row, is.offset)
-writable_bounds (statements.Frame frame) is = is.0
+writable_lawful : (statement : Statement) → IsWritable statement → IsLawfulStatement statement
+writable_lawful (statements.Cell cell) is = is
+writable_lawful (statements.Link link) is = link_bounds link is
+writable_lawful (statements.Pilot pilot) is = tt
+writable_lawful (statements.Sync sync) is = is.message
+writable_lawful (statements.Paging line) is = is.0
+writable_lawful (statements.Page page) is = (body_fills page.body is, body_message page.body is)
+writable_lawful (statements.Traffic line) is = (is.row, is.offset)
+writable_lawful (statements.Frame frame) is = is.0
 
 -- so what a line states is
 pub line_bounds : (text : List ℕ) (statement : Statement) → statement_in text ≡ Some statement →
     IsLawfulStatement statement
-line_bounds text statement e = writable_bounds statement (line_writable text statement e)
+line_bounds text statement e = writable_lawful statement (line_writable text statement e)

@@ -6,20 +6,26 @@ use Rattle.cell_script.proofs.Common.{Stage, Cell, Statement, lines, stated, sta
 use Rattle.cell_script.proofs.Common.{with_next, with_statement, HasJudged, IsInOrder, IsJudged, statement_in, first_stated, is_complete}
 use Rattle.cell_script.proofs.Common.{next_stage, length_before}
 use Rattle.cell_script.proofs.ChannelStages.{added, empty_said, in_order, IsAt}
-use Rattle.cell_script.proofs.ScriptBounds.{passed}
 use Rattle.cell_script.proofs.ScriptRanges.{line_bounds}
 use Rattle.cell_script.proofs.ScriptSplits.{line_counted, line_read, line_refused, line_unended, lines_read, stated_plan-lines}
 use Rattle.cell_script.proofs.ScriptTexts.{before_most}
 
 -- ---- the first line of a text
 
-first_some : (text : List ℕ) (statement : Statement) → first_stated text ≡ Some statement →
+stated_first : (text : List ℕ) (statement : Statement) (ended : Bool) →
+    nat_lt (length_before 10 text) (length text) ≡ ended → first_stated text ≡ Some statement →
     (length_before 10 text < length text)
     × (statement_in (take (length_before 10 text) text) ≡ Some statement)
 unfolding first_stated
-first_some text statement is =
-    let told = passed _ (statement_in (take (length_before 10 text) text)) statement is in
-    (ltb-true (length_before 10 text) (length text) told.0, told.1)
+stated_first text statement true e is =
+    (ltb-true (length_before 10 text) (length text) e, sym (cond-true _ _ _ e) ∙ is)
+stated_first text statement false e is =
+    absurd (cc (cond-false _ (statement_in (take (length_before 10 text) text)) None e, is))
+
+first_some : (text : List ℕ) (statement : Statement) → first_stated text ≡ Some statement →
+    (length_before 10 text < length text)
+    × (statement_in (take (length_before 10 text) text) ≡ Some statement)
+first_some text statement is = stated_first text statement _ refl is
 
 first_none : (text : List ℕ) → length_before 10 text < length text → first_stated text ≡ None →
     statement_in (take (length_before 10 text) text) ≡ None

@@ -8,14 +8,14 @@ use Rattle.cell_script.proofs.Common.{with_page, with_statement, on_last, opened
 use Rattle.cell_script.proofs.Common.{stated, stated_plan, statement_in, behind_sync, count_behind, is_complete, is_cycle, may_follow}
 use Rattle.cell_script.proofs.Common.{next_stage, page_stage, ◌&&◌, line_of_paging, line_of_traffic, lines_of, paging_statements}
 use Rattle.cell_script.proofs.Common.{statement_line, statement_text, statements_of, sync_statements, traffic_statements, script_of}
-use Rattle.cell_script.proofs.Common.{one_frame_more, one_page_more, with_frame, sent_paging_rate, HasSaid}
+use Rattle.cell_script.proofs.Common.{one_frame_more, one_page_more, with_frame, sent_paging_rate, HasSaid, IsLawfulStatement}
 use Rattle.std.proofs.lemmas.Bool.{cond_both}
 use Rattle.cell_script.proofs.ChannelStages.{HasChannels, IsAt, IsBare, IsOpen, IsOpenTraffic, added, all_said, empty_said, frame_next}
 use Rattle.cell_script.proofs.ChannelStages.{page_next, paging_next, said_at, said_whole, traffic_next, with_channel, with_more, with_sent}
 use Rattle.cell_script.proofs.ChannelStages.{with_traffic}
 use Rattle.cell_script.proofs.LastChanged.{on_last-last}
 use Rattle.cell_script.proofs.ScriptBounds.{passed, tried}
-use Rattle.cell_script.proofs.ScriptRanges.{line_writable, writable_bounds}
+use Rattle.cell_script.proofs.ScriptRanges.{line_bounds, line_writable}
 use Rattle.cell_script.proofs.ScriptSplits.{stated-fault, stated-next, stated-none}
 use Rattle.cell_script.proofs.SpelledLines.{IsWritable, statement_spelled}
 use Rattle.cell_script.proofs.StatedLines.{Leads, both_lead, leads_to_plan, none_leads, one_leads}
@@ -242,18 +242,17 @@ record IsMade (draft : Draft) (said : List Statement) : Type 0 where
 -- One statement more keeps what a draft is made of: its line leads on to the next draft, whose plan
 -- is lawful and is stated by just the statements so far and this one.
 made_next : (draft next : Draft) (said : List Statement) (statement : Statement)
-    (stage : Option Stage) → IsMade draft said → IsWritable statement →
-    with_next draft statement ≡ Some next → next_stage draft.stage statement ≡ stage →
+    (stage : Option Stage) → IsMade draft said → IsLawfulStatement statement →
+    IsWritable statement → with_next draft statement ≡ Some next → next_stage draft.stage statement ≡ stage →
     option_map (draft_at (with_statement draft.plan statement)) stage ≡ Some next →
     IsMade next (said ++ statement ∷ [])
-made_next draft next said statement None made is e after same = absurd (cc same)
-made_next draft next said statement (Some stage) made is e after same =
+made_next draft next said statement None made lawful is e after same = absurd (cc same)
+made_next draft next said statement (Some stage) made lawful is e after same =
     let behind : Draft = draft_at (with_statement draft.plan statement) stage in
     let same_draft : behind ≡ next = same_Some behind next same in
     subst (λ (d : Draft). IsMade d (said ++ statement ∷ [])) same_draft
     (record {
-      reached = added draft.stage stage draft.plan statement (writable_bounds statement is)
-          made.reached after;
+      reached = added draft.stage stage draft.plan statement lawful made.reached after;
       told = ap (λ (ss : List Statement). ss ++ statement ∷ []) made.told
           ∙ said_more statement draft.stage stage draft.plan made.reached.channels after;
       leads = subst (λ (t : List ℕ). Leads empty_draft t behind) (sym (line_added said statement))
@@ -263,11 +262,11 @@ made_next draft next said statement (Some stage) made is e after same =
     })
 
 next_made : (draft next : Draft) (said : List Statement) (statement : Statement) →
-    IsMade draft said → IsWritable statement → with_next draft statement ≡ Some next →
-    IsMade next (said ++ statement ∷ [])
+    IsMade draft said → IsLawfulStatement statement → IsWritable statement →
+    with_next draft statement ≡ Some next → IsMade next (said ++ statement ∷ [])
 unfolding with_next
-next_made draft next said statement made is e =
-    made_next draft next said statement (next_stage draft.stage statement) made is e refl e
+next_made draft next said statement made lawful is e =
+    made_next draft next said statement (next_stage draft.stage statement) made lawful is e refl e
 
 -- what a line that may stand next states
 line_stated : (draft next : Draft) (line : List ℕ) → draft_after draft line ≡ Some next →
@@ -278,16 +277,17 @@ unfolding draft_after with_line
 line_stated draft next line e =
     let text = take (length line - 1) line in
     let told = tried (with_next draft) (statement_in text) next
-    (passed (is_line line) (with_line draft text) next e).1 in
+    (passed (is_line line) (with_line draft text) next e) in
     (told.0, (told.1, told.2))
 
 line_made : (draft next : Draft) (said : List Statement) (line : List ℕ) → IsMade draft said →
     draft_after draft line ≡ Some next → (more : List Statement) × IsMade next more
 line_made draft next said line made e =
+    let text = take (length line - 1) line in
     let told = line_stated draft next line e in (
       said ++ told.0 ∷ [],
-      next_made draft next said told.0 made
-          (line_writable (take (length line - 1) line) told.0 told.1.0) told.1.1,
+      next_made draft next said told.0 made (line_bounds text told.0 told.1.0)
+          (line_writable text told.0 told.1.0) told.1.1,
     )
 
 -- ---- the plan
