@@ -111,7 +111,7 @@ RECIPES: Mapping[str, Recipe] = {
     ),
     "script keys of such a message": Recipe(
         "the statement `page`",
-        words("page_key", "lawful_page", "page_with"),
+        words("page_key", "page_with"),
     ),
     "a command": Recipe(
         "the command `survey`",

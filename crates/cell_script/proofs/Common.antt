@@ -85,15 +85,19 @@ pub use Rattle.cell_script.specs.ScriptDrafts.{one_frame_more, one_page_more, wi
 unfoldable pub use Rattle.cell_script.specs.ScriptDrafts.{with_line, with_next}
 pub use Rattle.cell_script.specs.Rows.{AreUpTo, NumberRow, key_of, local_rows, network_rows, ranged}
 unfoldable pub use Rattle.cell_script.specs.Rows.{numbers_in, past_numbers}
-pub use Rattle.cell_script.specs.ScriptFields.{StatementRow, at_end, keyed, past_at, signed_at, unsigned_at, unsigned_of, value_of}
+pub use Rattle.cell_script.specs.ScriptFields.{at_end, keyed, value_of}
 unfoldable pub use Rattle.cell_script.specs.ScriptFields.{script_field, past}
+pub use Rattle.cell_script.specs.LineForms.{AreIn, IsIn, IsSaid, LineForm, StatementRow, TextForm, ValueOf, Values}
+pub use Rattle.cell_script.specs.LineForms.TextForm.{BitList, SixteenDigits, Tabled}
+pub use Rattle.cell_script.specs.LineForms.{fields_in, fields_text, lawful_line, past_fields, read_as, reader_of, writer_of, written_as}
 pub use Rattle.cell_script.specs.ScriptJudged.{HasJudged, HasSeen, IsInOrder, IsJudged, gains_of, judged_fault}
-pub use Rattle.cell_script.specs.ScriptLines.{cell_line, frame_key, frame_rate, has_lawful_rest, is_link, rate_by}
-pub use Rattle.cell_script.specs.ScriptLines.{lawful_frame, lawful_message, lawful_page, link_line, page_key, page_with, stated_paging_line}
-pub use Rattle.cell_script.specs.ScriptLines.{cell_rows, check_form, four_in, frame_with, gain_row, link_rows, sync_fields}
-pub use Rattle.cell_script.specs.ScriptLines.{stated_traffic_line, traffic_rows}
+pub use Rattle.cell_script.specs.ScriptLines.{cell_line, frame_rate, has_lawful_rest, is_link, rate_by}
+pub use Rattle.cell_script.specs.ScriptLines.{lawful_message}
+pub use Rattle.cell_script.specs.ScriptLines.{check_form, gain_row, sync_fields}
 unfoldable pub use Rattle.cell_script.specs.ScriptLines.{cell_in, traffic_frame_in, freq_in, link_in, stated_page_in, paging_in}
 unfoldable pub use Rattle.cell_script.specs.ScriptLines.{past_freq, pilot_in, statement_in, sync_behind, sync_in, traffic_in}
+pub use Rattle.cell_script.specs.ScriptLines.{cell_statement, form_bit, frame_statement, link_statement, page_statement, paging_statement}
+pub use Rattle.cell_script.specs.ScriptLines.{pilot_statement, traffic_statement}
 pub use Rattle.cell_script.specs.ScriptPlans.{IsLawfulStatement}
 unfoldable pub use Rattle.cell_script.specs.ScriptSplitting.{first_stated}
 pub use Rattle.cell_script.specs.ScriptStages.{after_cell, after_frame, after_link, after_page, after_paging, after_pilot}
@@ -127,7 +131,7 @@ pub use Rattle.hex.specs.Hex.{IsBytes, encode_lower, lower_digits}
 pub use Rattle.line_text.specs.Texts.{digit_of, octet_count}
 unfoldable pub use Rattle.line_text.specs.Texts.{bit_text, digits_of, packed_octets, padded, serial_digits, state_digits}
 pub use Rattle.quality_bits.proofs.Digits.{binary-number}
-pub use Rattle.cell_script.specs.Spelling.{channel_statements, form_bit, line_of_paging, line_of_traffic}
+pub use Rattle.cell_script.specs.Spelling.{channel_statements, line_of_paging, line_of_traffic}
 pub use Rattle.cell_script.specs.Spelling.{lines_of, local_values, network_values, numbers_text, paging_statements, statement_line}
 pub use Rattle.cell_script.specs.Spelling.{statement_text, statements_of, sync_statements, traffic_statements, with_line_feed, written_freq}
 unfoldable pub use Rattle.cell_script.specs.Spelling.{script_of, written_cell, written_frame, written_link, written_page}

@@ -2,6 +2,7 @@
 pub mod ChannelStages
 pub mod Common
 pub mod LastChanged
+pub mod LineForms
 pub mod NamedPages
 pub mod NamedPlans
 pub mod ScriptAnswers

@@ -1,13 +1,16 @@
--- What the statements of a script say is within its bounds.
-use Rattle.cell_script.proofs.Common.{◌≡◌, ℕ, zero, suc, ◌+◌, ◌*◌, ◌^◌, ◌<◌, ◌≤◌, Bool, true, false, cond, List, [], ◌∷◌, length, get_or}
-use Rattle.cell_script.proofs.Common.{refl, subst, arith, unsigned_abs, Option, None, Some, IfSome, codes, nat_le, nat_lt, ◌==◌}
-use Rattle.cell_script.proofs.Common.{option_and_then, option_map, and_parts, eqb-false, leb-true, ltb-true, cond_some, same_Some, norm}
-use Rattle.cell_script.proofs.Common.{FieldsFit, IsState, fixed_fields, IsSyncMessage, SyncFields, admitted, CellIdentity, LinkPlan}
-use Rattle.cell_script.proofs.Common.{NumberRow, AreUpTo, at_end, script_field, numbers_in, past, value_of, cell_in, cell_line, freq_in}
-use Rattle.cell_script.proofs.Common.{has_lawful_rest, abs_fits, sync_fields, lawful_message, IsStatedCell, IsStatedLink, as_state}
-use Rattle.cell_script.proofs.Common.{begins_with, hex_from, number_in, number_up_to, state_in, up_to, local_rows, network_rows}
-use Rattle.cell_script.proofs.ScriptMessages.{is_tail}
-use Rattle.cell_script.proofs.SpelledLines.{IsWritableLink}
+-- What the texts of a script's fields spell is in the ranges of the fields.
+use Rattle.cell_script.proofs.Common.{AreIn, AreUpTo, BitList, Bool, IsIn, IsState, List, None, NumberRow, Option, SixteenDigits, Some}
+use Rattle.cell_script.proofs.Common.{StatementRow, Tabled, TextForm, ValueOf, Values, [], all_clear, ap, arith, as_state, at_end}
+use Rattle.cell_script.proofs.Common.{begins_with, binary_digit, bits_in_text, codes, cond, cond_some, digits_behind, drop, eqb-false}
+use Rattle.cell_script.proofs.Common.{eqb-true, false, fields_in, hex_bits, hex_digit, hex_from, leb-true, length, length-append}
+use Rattle.cell_script.proofs.Common.{length-take, length_before, ltb-true, nat_le, nat_lt, number_in, number_up_to, numbers_in}
+use Rattle.cell_script.proofs.Common.{option_and_then, past, power_bits_in, reader_of, refl, same_Some, script_field, serial_number_in}
+use Rattle.cell_script.proofs.Common.{state_in, subst, suc, sym, take, text_after, true, unpadded, up_to, value_of, zero, ℕ, ◌*◌, ◌++◌, ◌+◌}
+use Rattle.cell_script.proofs.Common.{◌<◌, ◌==◌, ◌^◌, ◌∙◌, ◌∷◌, ◌≡◌, ◌≤◌}
+use Rattle.std.specs.Char.{digit_value}
+use Rattle.cell_script.proofs.ScriptNumerals.{one_signed_numeral}
+use Rattle.cell_script.proofs.ScriptTexts.{hex_digit_more, hex_from-none}
+use Rattle.cell_script.specs.declared.tables.FieldForm.TheVariants as forms
 
 -- ---- steps that may fail
 
@@ -28,20 +31,138 @@ pub tried : {A B : Type 0} (f : A → Option B) (o : Option A) (y : B) → optio
 tried f (Some x) y e = (x, refl, e)
 tried f None y e = absurd (cc e)
 
--- the test held, and the value is that of the step
-pub tested_step : {A : Type 0} (test : Bool) (o : Option A) (x : A) → cond test o None ≡ Some x →
-    (test ≡ true) × (o ≡ Some x)
-tested_step true o x e = (refl, e)
-tested_step false o x e = absurd (cc e)
-
+-- the test held
 pub passed : {A : Type 0} (test : Bool) (o : Option A) (x : A) → cond test o None ≡ Some x →
     o ≡ Some x
-passed test o x e = (tested_step test o x e).1
+passed true o x e = e
+passed false o x e = absurd (cc e)
 
 -- the whole text was read
 pub ended : {A : Type 0} (text : List ℕ) (value x : A) → at_end text value ≡ Some x → value ≡ x
 ended [] value x e = same_Some value x e
 ended (byte ∷ bytes) value x e = absurd (cc e)
+
+-- both parts of a test and its step, and a test that failed
+tested_step : {A : Type 0} (test : Bool) (o : Option A) (x : A) → cond test o None ≡ Some x →
+    (test ≡ true) × (o ≡ Some x)
+tested_step true o x e = (refl, e)
+tested_step false o x e = absurd (cc e)
+
+untested : {A : Type 0} (test : Bool) (o : Option A) (x : A) → cond test None o ≡ Some x →
+    o ≡ Some x
+untested true o x e = absurd (cc e)
+untested false o x e = e
+
+-- ---- values
+
+number_most : (most : ℕ) (text : List ℕ) (n : ℕ) → number_up_to most text ≡ Some n → n ≤ most
+unfolding number_up_to
+number_most most text n e =
+    let told = tried (up_to most) (number_in text) n e in
+    let test = cond_some (nat_le told.0 most) told.0 n told.2 in
+    omega (arith, leb-true told.0 most test.0, test.1)
+
+state_some : (n state : ℕ) (none : Bool) → (n == 0) ≡ none →
+    cond none None (cond (nat_lt n (2 ^ 42)) (Some n) None) ≡ Some state → IsState state
+state_some n state true is e = absurd (cc e)
+state_some n state false is e =
+    let told = cond_some (nat_lt n (2 ^ 42)) n state e in
+    let below : n < 2 ^ 42 = ltb-true n (2 ^ 42) told.0 in
+    let other : ¬ (n ≡ 0) = eqb-false n 0 is in
+    (omega (arith, told.1, other), omega (arith, told.1, below))
+
+state_read : (text : List ℕ) (state : ℕ) → state_in text ≡ Some state → IsState state
+unfolding state_in
+state_read text state e =
+    let told = tried as_state (hex_from 0 text) state
+    (passed (length text == 11) (option_and_then as_state (hex_from 0 text)) state e) in
+    state_some told.0 state (told.0 == 0) refl told.2
+
+digit_most : (byte value : ℕ) → hex_digit byte ≡ Some value → value < 16
+digit_most byte value e =
+    let told = cond_some (nat_lt (digit_value byte) 16) (digit_value byte) value e in
+    omega (arith, ltb-true (digit_value byte) 16 told.0, told.1)
+
+-- By induction over the digits, hex digits that follow a number below 16^k spell one below 16 to
+-- the power of k plus their count: each value is below 16, so each digit adds one to the exponent.
+hex_most : (text : List ℕ) (k most number n : ℕ) → most ≡ k + length text → number < 16 ^ k →
+    hex_from number text ≡ Some n → n < 16 ^ most
+unfolding hex_from
+hex_most [] k most number n is small e =
+    let same : most ≡ k = omega (arith, is) in
+    subst (λ (m : ℕ). n < 16 ^ m) (sym same)
+    (subst (λ (m : ℕ). m < 16 ^ k) (same_Some number n (sym (hex_from-none number) ∙ e)) small)
+hex_most (digit ∷ digits) k most number n is small e =
+    let told = tried (λ (value : ℕ). hex_from (16 * number + value) digits) (hex_digit digit) n e in
+    let below = digit_most digit told.0 told.1 in
+    hex_most digits (k + 1) most (16 * number + told.0) n (omega (arith, is))
+    (hex_digit_more number (16 * number + told.0) k small (omega (arith, below))) told.2
+
+serial_most : (text : List ℕ) (n : ℕ) → serial_number_in text ≡ Some n → n < 2 ^ 32
+unfolding serial_number_in
+serial_most text n e =
+    let told = tested_step (length text == 8) (hex_from 0 text) n e in
+    let long : length text ≡ 8 = eqb-true (length text) 8 told.0 in
+    let below : n < 16 ^ 8 = hex_most text 0 8 0 n (omega (arith, long)) (omega arith) told.1 in
+    omega (arith, below)
+
+digits_long : (digits : List ℕ) (bits all : List Bool) → digits_behind bits digits ≡ Some all →
+    length all ≡ length bits + length digits
+unfolding digits_behind
+digits_long [] bits all e = omega (arith, ap length (same_Some bits all e))
+digits_long (digit ∷ digits) bits all e =
+    let told = tried (λ (bit : Bool). digits_behind (bits ++ bit ∷ []) digits) (binary_digit digit)
+    all e in
+    omega (
+      arith,
+      digits_long digits (bits ++ told.0 ∷ []) all told.2,
+      length-append bits (told.0 ∷ []),
+    )
+
+power_bits_long : (text : List ℕ) (bits : List Bool) → power_bits_in text ≡ Some bits →
+    length bits ≡ 16
+unfolding power_bits_in
+power_bits_long text bits e =
+    let told = tested_step (length text == 16) (digits_behind [] text) bits e in
+    let long : length text ≡ 16 = eqb-true (length text) 16 told.0 in
+    omega (arith, digits_long text [] bits told.1, long)
+
+bits_unpadded : (count : ℕ) (all bits : List Bool) → unpadded count all ≡ Some bits →
+    length bits ≤ count
+bits_unpadded count all bits e =
+    let enough = untested (nat_lt (length all) count) _ bits e in
+    let told = tested_step (all_clear (drop count all)) (Some (take count all)) bits
+    (untested (nat_le (count + 8) (length all)) _ bits enough) in
+    omega (arith, ap length (same_Some (take count all) bits told.1), length-take count all)
+
+bits_few : (text : List ℕ) (bits : List Bool) → bits_in_text text ≡ Some bits →
+    length bits ≤ 1184
+unfolding bits_in_text
+bits_few text bits e =
+    let behind = text_after (codes ":") (drop (length_before 58 text) text) in
+    let counted = tried
+    (λ (n : ℕ). option_and_then
+    (λ (digits : List ℕ). option_and_then (unpadded n) (hex_bits digits)) behind)
+    (number_up_to 1184 (take (length_before 58 text) text)) bits e in
+    let spelled = tried
+    (λ (digits : List ℕ). option_and_then (unpadded counted.0) (hex_bits digits)) behind bits
+    counted.2 in
+    let all = tried (unpadded counted.0) (hex_bits spelled.0) bits spelled.2 in
+    omega (
+      arith,
+      number_most 1184 (take (length_before 58 text) text) counted.0 counted.1,
+      bits_unpadded counted.0 all.0 bits all.2,
+    )
+
+-- the value that a text spells in a form is in its range
+value_ranged : (form : TextForm) (text : List ℕ) (x : ValueOf form) →
+    reader_of form text ≡ Some x → IsIn form x
+value_ranged (Tabled (forms.UpTo most)) text n e = number_most most text n e
+value_ranged (Tabled forms.Signed) text z e = ((one_signed_numeral z text).0 e).1
+value_ranged (Tabled forms.State) text n e = state_read text n e
+value_ranged (Tabled forms.SerialNumber) text n e = serial_most text n e
+value_ranged BitList text bits e = bits_few text bits e
+value_ranged SixteenDigits text bits e = power_bits_long text bits e
 
 -- ---- fields
 
@@ -51,12 +172,17 @@ pub field_read : {A : Type 0} (key : List ℕ) (read : List ℕ → Option A) (t
 unfolding script_field
 field_read key read text x e = passed (begins_with text key) (read (value_of key text)) x e
 
-number_most : (most : ℕ) (text : List ℕ) (n : ℕ) → number_up_to most text ≡ Some n → n ≤ most
-unfolding number_up_to
-number_most most text n e =
-    let told = tried (up_to most) (number_in text) n e in
-    let test = cond_some (nat_le told.0 most) told.0 n told.2 in
-    omega (arith, leb-true told.0 most test.0, test.1)
+-- so are the values of fields that follow one another
+pub fields_ranged : (rows : List StatementRow) (text : List ℕ) (v : Values rows) →
+    fields_in rows text ≡ Some v → AreIn rows v
+fields_ranged [] text = λ v e. tt
+fields_ranged (row ∷ rows) text =
+    both_steps (script_field row.key (reader_of row.form) _) _ λ x x_is.
+    both_steps (fields_in rows _) _ λ xs xs_is v e.
+    subst (AreIn (row ∷ rows)) (same_Some (x, xs) v e) (
+      value_ranged row.form _ x (field_read row.key (reader_of row.form) _ x x_is),
+      fields_ranged rows _ xs xs_is,
+    )
 
 pub number_field : (key : List ℕ) (most : ℕ) (text : List ℕ) (n : ℕ) →
     script_field key (number_up_to most) text ≡ Some n → n ≤ most
@@ -80,133 +206,3 @@ numbers_up_to (f ∷ fields) text =
     subst (AreUpTo (f ∷ fields)) (same_Some (n ∷ ns) numbers e)
     (first_up_to f fields n ns (number_field f.key f.most text n n_is)
     (numbers_up_to fields (past f.key text) ns ns_is))
-
-state_some : (n state : ℕ) (none : Bool) → (n == 0) ≡ none →
-    cond none None (cond (nat_lt n (2 ^ 42)) (Some n) None) ≡ Some state → IsState state
-state_some n state true is e = absurd (cc e)
-state_some n state false is e =
-    let told = cond_some (nat_lt n (2 ^ 42)) n state e in
-    let below : n < 2 ^ 42 = ltb-true n (2 ^ 42) told.0 in
-    let other : ¬ (n ≡ 0) = eqb-false n 0 is in
-    (omega (arith, told.1, other), omega (arith, told.1, below))
-
-state_read : (text : List ℕ) (state : ℕ) → state_in text ≡ Some state → IsState state
-unfolding state_in
-state_read text state e =
-    let told = tried as_state (hex_from 0 text) state
-    (passed (length text == 11) (option_and_then as_state (hex_from 0 text)) state e) in
-    state_some told.0 state (told.0 == 0) refl told.2
-
-state_field : (key text : List ℕ) (state : ℕ) → script_field key state_in text ≡ Some state → IsState state
-state_field key text state e =
-    state_read (value_of key text) state (field_read key state_in text state e)
-
--- ---- statements
-
-cell_fields : (pn time lc checks : ℕ) → pn ≤ 511 → time ≤ 34359738368 → IsState lc →
-    IsStatedCell (cell_line pn time lc checks)
-cell_fields pn time lc checks small short state =
-    record { pn = omega (arith, small); time = short; lc = state }
-
-pub cell_bounds : (text : List ℕ) (cell : CellIdentity) → cell_in text ≡ Some cell →
-    IsStatedCell cell
-unfolding cell_in
-cell_bounds text =
-    both_steps (script_field (codes "cell pn=") (number_up_to 511) _) _ λ pn pn_is.
-    both_steps (script_field (codes " time=") (number_up_to 34359738368) _) _ λ time time_is.
-    both_steps (script_field (codes " lc=") state_in _) _ λ lc lc_is.
-    both_steps (script_field (codes " checks=") (number_up_to 3) _) _ λ checks checks_is cell e.
-    subst IsStatedCell (ended _ (cell_line pn time lc checks) cell e)
-    (cell_fields pn time lc checks (number_field _ 511 _ pn pn_is)
-    (number_field _ 34359738368 _ time time_is) (state_field _ _ lc lc_is))
-
--- a link of which a part isn't 0 has a norm above 0
-square_some : (n : ℕ) → 0 < n → 0 < n * n
-square_some zero some = absurd (omega (arith, some))
-square_some (suc n) some = omega arith
-
-norm_some : (a b : ℕ) → 0 < a + b → 0 < a * a + b * b
-norm_some zero b some = omega (arith, square_some b (omega (arith, some)))
-norm_some (suc a) b some = omega (arith, square_some (suc a) (omega arith))
-
--- a link that can be written
-pub link_bounds : (link : LinkPlan) → IsWritableLink link →
-    IsStatedLink link × (0 < norm link.factor)
-link_bounds link is =
-    let a = unsigned_abs link.factor.i in
-    let b = unsigned_abs link.factor.q in
-    let some = and_parts (nat_lt 0 (a + b)) (nat_lt 0 link.samples) is.some in
-    let bounds : IsStatedLink link =
-    record {
-      in_phase = abs_fits link.factor.i is.in_phase;
-      quadrature = abs_fits link.factor.q is.quadrature;
-      start = omega (arith, is.start);
-    } in
-    (bounds, norm_some a b (ltb-true 0 (a + b) some.0))
-
--- ---- the message of a sync line
-
-abbrev pub IsFreq : Option ℕ → Type 0
-IsFreq freq = IfSome freq (λ n. n < 2 ^ 11)
-
--- the frequency may be left out
-freq_some : (given : Bool) (number : Option ℕ) (freq : Option ℕ) →
-    ((n : ℕ) → number ≡ Some n → n ≤ 2047) →
-    cond given (option_map Some number) (Some None) ≡ Some freq → IsFreq freq
-freq_some true None freq most e = absurd (cc e)
-freq_some true (Some n) freq most e =
-    subst IsFreq (same_Some (Some n) freq e) (omega (arith, most n refl))
-freq_some false number freq most e = subst IsFreq (same_Some None freq e) tt
-
-pub freq_bounds : (text : List ℕ) (freq : Option ℕ) → freq_in text ≡ Some freq → IsFreq freq
-unfolding freq_in
-freq_bounds text freq e = freq_some _ _ freq (λ n is. number_field _ 2047 _ n is) e
-
--- the rest has a length that the message admits
-pub message_bounds : (m message : SyncFields) → FieldsFit (fixed_fields m) → IsFreq m.freq →
-    lawful_message m ≡ Some message → IsSyncMessage message
-message_bounds m message fixed freq e =
-    let told = cond_some (has_lawful_rest m.freq m.rest) m message e in
-    subst IsSyncMessage told.1 (admitted m fixed (is_tail m.freq m.rest freq told.0))
-
--- Each field of a sync line fits into its bits, since the line was read with the field's greatest
--- value as its bound; PILOT_PN, SYS_TIME and LC_STATE are 0 until they are filled in.
-pub fields_fit : (network local : List ℕ) (freq : Option ℕ) (rest : List Bool) →
-    AreUpTo network_rows network → AreUpTo local_rows local →
-    FieldsFit (fixed_fields (sync_fields network local freq rest))
-fields_fit network local freq rest up small =
-    let prev : get_or network 0 0 ≤ 255 = up 0 (omega arith) in
-    let min : get_or network 1 0 ≤ 255 = up 1 (omega arith) in
-    let sid : get_or network 2 0 ≤ 32767 = up 2 (omega arith) in
-    let nid : get_or network 3 0 ≤ 65535 = up 3 (omega arith) in
-    let lp : get_or local 0 0 ≤ 255 = small 0 (omega arith) in
-    let ltm : get_or local 1 0 ≤ 63 = small 1 (omega arith) in
-    let daylt : get_or local 2 0 ≤ 1 = small 2 (omega arith) in
-    let prat : get_or local 3 0 ≤ 3 = small 3 (omega arith) in (
-      omega arith,
-      (
-        omega (arith, prev),
-        (
-          omega (arith, min),
-          (
-            omega (arith, sid),
-            (
-              omega (arith, nid),
-              (
-                omega arith,
-                (
-                  omega arith,
-                  (
-                    omega arith,
-                    (
-                      omega (arith, lp),
-                      (omega (arith, ltm), (omega (arith, daylt), (omega (arith, prat), tt))),
-                    ),
-                  ),
-                ),
-              ),
-            ),
-          ),
-        ),
-      ),
-    )

@@ -1,26 +1,113 @@
--- The fields of a traffic channel's line.
-use Rattle.cell_script.proofs.Common.{◌≡◌, ℕ, List, [], refl, sym, Some, past_at, traffic_in, stated_traffic_line, traffic_rows}
-use Rattle.cell_script.proofs.Common.{unsigned_at}
+-- Lines of several fields, which were read one after another.
+use Rattle.cell_script.proofs.Common.{Bool, LineForm, List, None, Option, Some, Values, [], ap, at_end, codes, cond-false, cond-true}
+use Rattle.cell_script.proofs.Common.{eq-eqb}
+use Rattle.cell_script.proofs.Common.{false, lawful_line, link_in, link_statement, ne_eqb, not, number_up_to, paging_in, paging_statement}
+use Rattle.cell_script.proofs.Common.{past, refl, script_field, serial_number_in, signed_in, sym, traffic_in, traffic_statement, true, ℕ, ℤ}
+use Rattle.cell_script.proofs.Common.{arith, is_link, read64, unsigned_abs, w64, ◌==◌, ◌∙◌, ◌∷◌, ◌≡◌, ◌≢◌, ◌≤◌}
+use Rattle.std.proofs.Common.{of_z, to_z}
+use Rattle.cell_script.proofs.ScriptBounds.{step}
 
--- they were read one after another, and nothing is left after them
-pub traffic_read : (text0 text1 text2 text3 text4 : List ℕ) (row esn offset gain : ℕ) →
-    unsigned_at traffic_rows 0 text0 ≡ Some row → text1 ≡ past_at traffic_rows 0 text0 →
-    unsigned_at traffic_rows 1 text1 ≡ Some esn → text2 ≡ past_at traffic_rows 1 text1 →
-    unsigned_at traffic_rows 2 text2 ≡ Some offset → text3 ≡ past_at traffic_rows 2 text2 →
-    unsigned_at traffic_rows 3 text3 ≡ Some gain → text4 ≡ past_at traffic_rows 3 text3 →
-    text4 ≡ [] →
-    traffic_in text0 ≡ Some (stated_traffic_line row esn offset gain)
-unfolding traffic_in
-traffic_read text0 text1 text2 text3 text4 row esn offset gain first past_first second past_second
-    third past_third fourth past_fourth ended =
+-- what is made of the values of a line, by what is left after them
+abbrev pub made_of_line : {X : Type 0} (form : LineForm X) → Values form.rows → List ℕ → Option X
+made_of_line form v text = step (lawful_line form v) (at_end text)
+
+-- the values of a link, of a paging channel and of a traffic channel
+pub link_read : (text0 text1 text2 text3 text4 : List ℕ) (re im : ℤ) (start samples : ℕ) →
+    script_field (codes "link re=") signed_in text0 ≡ Some re →
+    text1 ≡ past (codes "link re=") text0 →
+    script_field (codes " im=") signed_in text1 ≡ Some im → text2 ≡ past (codes " im=") text1 →
+    script_field (codes " start=") (number_up_to 4294967295) text2 ≡ Some start →
+    text3 ≡ past (codes " start=") text2 →
+    script_field (codes " samples=") (number_up_to 18446744073709551615) text3 ≡ Some samples →
+    text4 ≡ past (codes " samples=") text3 →
+    link_in text0 ≡ made_of_line link_statement (re, (im, (start, (samples, tt)))) text4
+unfolding link_in
+link_read text0 text1 text2 text3 text4 re im start samples first past_first second past_second
+    third past_third fourth past_fourth =
     rw (
       sym past_first,
       sym past_second,
       sym past_third,
       sym past_fourth,
-      ended,
       first,
       second,
       third,
       fourth,
     ) refl
+
+pub paging_read : (text0 text1 text2 : List ℕ) (number gain : ℕ) →
+    script_field (codes "paging channel=") (number_up_to 7) text0 ≡ Some number →
+    text1 ≡ past (codes "paging channel=") text0 →
+    script_field (codes " gain=") (number_up_to 65535) text1 ≡ Some gain →
+    text2 ≡ past (codes " gain=") text1 →
+    paging_in text0 ≡ made_of_line paging_statement (number, (gain, tt)) text2
+unfolding paging_in
+paging_read text0 text1 text2 number gain first past_first second past_second =
+    rw (sym past_first, sym past_second, first, second) refl
+
+pub traffic_read : (text0 text1 text2 text3 text4 : List ℕ) (row esn offset gain : ℕ) →
+    script_field (codes "traffic row=") (number_up_to 63) text0 ≡ Some row →
+    text1 ≡ past (codes "traffic row=") text0 →
+    script_field (codes " esn=") serial_number_in text1 ≡ Some esn →
+    text2 ≡ past (codes " esn=") text1 →
+    script_field (codes " offset=") (number_up_to 15) text2 ≡ Some offset →
+    text3 ≡ past (codes " offset=") text2 →
+    script_field (codes " gain=") (number_up_to 65535) text3 ≡ Some gain →
+    text4 ≡ past (codes " gain=") text3 →
+    traffic_in text0 ≡ made_of_line traffic_statement (row, (esn, (offset, (gain, tt)))) text4
+unfolding traffic_in
+traffic_read text0 text1 text2 text3 text4 row esn offset gain first past_first second past_second
+    third past_third fourth past_fourth =
+    rw (
+      sym past_first,
+      sym past_second,
+      sym past_third,
+      sym past_fourth,
+      first,
+      second,
+      third,
+      fourth,
+    ) refl
+
+-- values that may not stand together, a text that goes on, and a whole line
+pub unlawful : {X : Type 0} (form : LineForm X) (v : Values form.rows) (text : List ℕ) →
+    form.lawful v ≡ false → made_of_line form v text ≡ None
+unlawful form v text is =
+    ap (λ o. step o (at_end text)) (cond-false (form.lawful v) (Some (form.line v)) None is)
+
+pub left_over : {X : Type 0} (form : LineForm X) (v : Values form.rows) (text : List ℕ) →
+    (text ≡ [] → false ≡ true) → made_of_line form v text ≡ None
+left_over form v text more = by_test (form.lawful v) refl
+  where
+    goes_on : (rest : List ℕ) → text ≡ rest → at_end text (form.line v) ≡ None
+    goes_on [] is = absurd (cc (more is))
+    goes_on (byte ∷ bytes) is = ap (λ t. at_end t (form.line v)) is
+
+    by_test : (test : Bool) → form.lawful v ≡ test → made_of_line form v text ≡ None
+    by_test false is = unlawful form v text is
+    by_test true is =
+        ap (λ o. step o (at_end text)) (cond-true (form.lawful v) (Some (form.line v)) None is)
+        ∙ goes_on text refl
+
+pub whole_line : {X : Type 0} (form : LineForm X) (v : Values form.rows) (text : List ℕ) →
+    form.lawful v ≡ true → text ≡ [] → made_of_line form v text ≡ Some (form.line v)
+whole_line form v text is none =
+    ap (λ o. step o (at_end text)) (cond-true (form.lawful v) (Some (form.line v)) None is)
+    ∙ ap (λ t. at_end t (form.line v)) none
+
+-- the test of a link, whose parts the code holds in 64 bits
+pub link_told : (re im : ℤ) (samples : ℕ) (test : Bool) → unsigned_abs re ≤ 32768 →
+    unsigned_abs im ≤ 32768 →
+    test ≡ is_link (to_z w64 (of_z w64 re)) (to_z w64 (of_z w64 im)) samples →
+    is_link re im samples ≡ test
+link_told re im samples test in_phase quadrature is =
+    sym (is
+    ∙ ap (λ (z : ℤ). is_link z (to_z w64 (of_z w64 im)) samples) (read64 re (omega (arith, in_phase)))
+    ∙ ap (λ (z : ℤ). is_link re z samples) (read64 im (omega (arith, quadrature))))
+
+-- the test of a paging channel's number
+pub no_channel : (number : ℕ) → number ≡ 0 → not (number == 0) ≡ false
+no_channel number is = ap not (eq-eqb number 0 is)
+
+pub some_channel : (number : ℕ) → number ≢ 0 → not (number == 0) ≡ true
+some_channel number is = ap not (ne_eqb number 0 is)

@@ -1,4 +1,5 @@
 -- The modules of definitions of `cell_script`.
+pub mod LineForms
 pub mod Rows
 pub mod Script
 pub mod ScriptDrafts

@@ -1,5 +1,5 @@
 -- The fields of a script's lines, read one after another.
-use Rattle.std.specs.Prelude.{ℕ, if◌then◌else◌, List, [], ◌∷◌, length, take, drop, get_or, ◌<◌}
+use Rattle.std.specs.Prelude.{ℕ, if◌then◌else◌, List, [], ◌∷◌, length, take, drop, ◌<◌}
 use Rattle.std.specs.Prelude.{◌≤◌, ◌^◌, Option, None, Some, ℤ}
 use Rattle.long_code.specs.LongCode.{IsState}
 use Rattle.cell_script.specs.declared.tables.FieldForm.{FieldForm}
@@ -53,25 +53,3 @@ IsOfForm (forms.UpTo most) n = n ≤ most
 IsOfForm forms.Signed n = Unit {0}
 IsOfForm forms.State n = IsState n
 IsOfForm forms.SerialNumber n = n < 2 ^ 32
-
--- a field of a statement: its key, and the form of its value
-pub record StatementRow : Type 0 where
-  pub key : List ℕ
-  pub form : FieldForm
-
-abbrev pub formed : List ℕ → FieldForm → StatementRow
-formed key form = record { key = key; form = form }
-
--- row i of a statement's table
-abbrev pub row_at : List StatementRow → ℕ → StatementRow
-row_at rows i = get_or rows i (formed [] forms.State)
-
--- its value at the beginning of a text, and the text after it
-abbrev pub unsigned_at : List StatementRow → ℕ → List ℕ → Option ℕ
-unsigned_at rows i text = script_field (row_at rows i).key (unsigned_of (row_at rows i).form) text
-
-abbrev pub signed_at : List StatementRow → ℕ → List ℕ → Option ℤ
-signed_at rows i text = script_field (row_at rows i).key (signed_of (row_at rows i).form) text
-
-abbrev pub past_at : List StatementRow → ℕ → List ℕ → List ℕ
-past_at rows i text = past (row_at rows i).key text

@@ -1,57 +1,46 @@
 -- The lines of a script: what each kind of statement says, whatever stands before it.
-use Rattle.std.specs.Prelude.{ℕ, ◌+◌, ◌/◌, ◌%◌, ◌==◌, nat_le, nat_lt, Bool, false, if◌then◌else◌}
-use Rattle.std.specs.Prelude.{◌&&◌, ◌||◌, List, [], ◌∷◌, length, get_or, codes, Option, None, Some}
+use Rattle.std.specs.Prelude.{ℕ, ◌+◌, ◌*◌, ◌/◌, ◌%◌, ◌==◌, nat_le, nat_lt, Bool, true, false, not}
 use Rattle.std.specs.Prelude.{ℤ}
-use Rattle.std.specs.Prelude.{unsigned_abs, option_map}
+use Rattle.std.specs.Prelude.{if◌then◌else◌, ◌&&◌, ◌||◌, List, [], ◌∷◌, length, get_or, codes}
+use Rattle.std.specs.Prelude.{Option, None, Some, unsigned_abs, option_map}
 use Rattle.chip_core.specs.declared.check_form.CheckForm.{CheckForm}
 use Rattle.chip_core.specs.declared.check_form.CheckForm.TheVariants.{Plain, Complemented}
-use Rattle.chip_core.specs.declared.sample.Pair.{Pair}
 use Rattle.paging_message.specs.Reading.{is_body}
 use Rattle.sync_message.specs.Rows.{freq_row}
 use Rattle.sync_message.specs.declared.fields.SyncFields.{SyncFields}
+use Rattle.cell_plan.specs.TrafficFrames.{information_bits_of}
 use Rattle.cell_plan.specs.declared.plan.PilotPlan.{PilotPlan}
 use Rattle.cell_plan.specs.declared.plan.SyncPlan.{SyncPlan}
 use Rattle.cell_plan.specs.declared.plan.CellIdentity.{CellIdentity}
 use Rattle.cell_plan.specs.declared.plan.LinkPlan.{LinkPlan}
 use Rattle.cell_plan.specs.declared.plan.Page.{Page}
-use Rattle.cell_script.specs.declared.statements.PagingLine.{PagingLine}
-use Rattle.cell_script.specs.declared.statements.TrafficLine.{TrafficLine}
-use Rattle.cell_script.specs.declared.statements.Statement.{Statement}
-use Rattle.cell_script.specs.declared.statements.Statement.TheVariants as statements
-use Rattle.cell_script.specs.declared.tables.FieldForm.TheVariants as forms
-use Rattle.cell_script.specs.Rows.{NumberRow, local_rows, network_rows, numbers_in, past_numbers}
-use Rattle.cell_script.specs.Rows.{ranged}
-use Rattle.cell_script.specs.ScriptFields.{◌>>=◌, at_end, script_field, past, StatementRow, formed}
-use Rattle.cell_script.specs.ScriptFields.{past_at, signed_at, unsigned_at, unsigned_of}
-use Rattle.cell_script.specs.ScriptValues.{begins_with, bits_in_text, power_bits_in, number_up_to}
-use Rattle.cell_plan.specs.TrafficFrames.{information_bits_of}
 use Rattle.cell_plan.specs.declared.traffic_frame.FrameRate.{FrameRate}
 use Rattle.cell_plan.specs.declared.traffic_frame.FrameRate.TheVariants.{SetOne, SetTwo}
 use Rattle.cell_plan.specs.declared.traffic_frame.TrafficFrame.{TrafficFrame}
 use Rattle.symbol_path.specs.declared.rate_two.Rate2.TheVariants.{R14400, R7200, R3600, R1800}
 use Rattle.quality_bits.specs.declared.rate.Rate.TheVariants.{R9600, R4800, R2400, R1200}
+use Rattle.cell_script.specs.declared.statements.PagingLine.{PagingLine}
+use Rattle.cell_script.specs.declared.statements.TrafficLine.{TrafficLine}
+use Rattle.cell_script.specs.declared.statements.Statement.{Statement}
+use Rattle.cell_script.specs.declared.statements.Statement.TheVariants as statements
+use Rattle.cell_script.specs.declared.tables.FieldForm.TheVariants as forms
+use Rattle.cell_script.specs.LineForms.{LineForm, StatementRow, formed, read_as, reader_of, valued}
+use Rattle.cell_script.specs.LineForms.TextForm.{BitList, SixteenDigits}
+use Rattle.cell_script.specs.Rows.{NumberRow, local_rows, network_rows, numbers_in, past_numbers}
+use Rattle.cell_script.specs.Rows.{ranged}
+use Rattle.cell_script.specs.ScriptFields.{◌>>=◌, at_end, script_field, past}
+use Rattle.cell_script.specs.ScriptValues.{begins_with, bits_in_text, number_up_to}
 
 -- ---- statements
-
--- a line of four numbers, of which the first two are read in the same way, and what is made of them
-abbrev pub four_in : {A X : Type 0} → (List StatementRow → ℕ → List ℕ → Option A) →
-    List StatementRow → (A → A → ℕ → ℕ → Option X) → List ℕ → Option X
-four_in first_two rows made text0 =
-    let text1 = past_at rows 0 text0 in
-    let text2 = past_at rows 1 text1 in
-    let text3 = past_at rows 2 text2 in
-    let text4 = past_at rows 3 text3 in
-    do
-      a ← first_two rows 0 text0
-      b ← first_two rows 1 text1
-      c ← unsigned_at rows 2 text2
-      d ← unsigned_at rows 3 text3
-      line ← made a b c d
-      at_end text4 line
 
 -- the form of checks: complemented where the bit is 1
 abbrev pub check_form : ℕ → CheckForm
 check_form bit = if bit == 1 then Complemented else Plain
+
+-- the bit of a form of checks
+abbrev pub form_bit : CheckForm → ℕ
+form_bit Plain = 0
+form_bit Complemented = 1
 
 -- `cell pn=P time=T lc=H checks=C`
 abbrev pub cell_line : ℕ → ℕ → ℕ → ℕ → CellIdentity
@@ -64,47 +53,60 @@ cell_line pn time lc checks =
       check16 = check_form (checks / 2);
     }
 
-abbrev pub cell_rows : List StatementRow
-cell_rows =
-    formed (codes "cell pn=") (forms.UpTo 511)
-    ∷ formed (codes " time=") (forms.UpTo 34359738368)
-    ∷ formed (codes " lc=") forms.State
-    ∷ formed (codes " checks=") (forms.UpTo 3)
-    ∷ []
+abbrev pub cell_statement : LineForm CellIdentity
+cell_statement = record {
+  rows =
+      formed (codes "cell pn=") (forms.UpTo 511)
+      ∷ formed (codes " time=") (forms.UpTo 34359738368)
+      ∷ formed (codes " lc=") forms.State
+      ∷ formed (codes " checks=") (forms.UpTo 3)
+      ∷ [];
+  lawful = λ v. true;
+  line = λ v. cell_line v.0 v.1.0 v.1.1.0 v.1.1.1.0;
+  said = λ cell. (
+    cell.pn,
+    (cell.time, (cell.lc, (form_bit cell.check30 + 2 * form_bit cell.check16, tt))),
+  );
+}
 
 unfoldable pub cell_in : List ℕ → Option CellIdentity
-cell_in =
-    four_in unsigned_at cell_rows (λ pn time lc checks. Some (cell_line pn time lc checks))
+cell_in = read_as cell_statement
 
 -- `link re=A im=B start=S samples=N`: A and B aren't both 0, and neither is N
 abbrev pub is_link : ℤ → ℤ → ℕ → Bool
 is_link re im samples = nat_lt 0 (unsigned_abs re + unsigned_abs im) && nat_lt 0 samples
 
-abbrev pub link_line : ℤ → ℤ → ℕ → ℕ → Option LinkPlan
-link_line re im start samples =
-    let factor : Pair = record { i = re; q = im } in
-    let link : LinkPlan = record { factor = factor; start = start; samples = samples } in
-    if is_link re im samples then Some link else None
-
-abbrev pub link_rows : List StatementRow
-link_rows =
-    formed (codes "link re=") forms.Signed
-    ∷ formed (codes " im=") forms.Signed
-    ∷ formed (codes " start=") (forms.UpTo 4294967295)
-    ∷ formed (codes " samples=") (forms.UpTo 18446744073709551615)
-    ∷ []
+abbrev pub link_statement : LineForm LinkPlan
+link_statement = record {
+  rows =
+      formed (codes "link re=") forms.Signed
+      ∷ formed (codes " im=") forms.Signed
+      ∷ formed (codes " start=") (forms.UpTo 4294967295)
+      ∷ formed (codes " samples=") (forms.UpTo 18446744073709551615)
+      ∷ [];
+  lawful = λ v. is_link v.0 v.1.0 v.1.1.1.0;
+  line = λ v. record {
+    factor = record { i = v.0; q = v.1.0 };
+    start = v.1.1.0;
+    samples = v.1.1.1.0;
+  };
+  said = λ link. (link.factor.i, (link.factor.q, (link.start, (link.samples, tt))));
+}
 
 unfoldable pub link_in : List ℕ → Option LinkPlan
-link_in = four_in signed_at link_rows link_line
+link_in = read_as link_statement
 
 -- `pilot gain=G`
-abbrev pub pilot_rows : List StatementRow
-pilot_rows = formed (codes "pilot gain=") (forms.UpTo 65535) ∷ []
+abbrev pub pilot_statement : LineForm PilotPlan
+pilot_statement = record {
+  rows = formed (codes "pilot gain=") (forms.UpTo 65535) ∷ [];
+  lawful = λ v. true;
+  line = λ v. record { gain = v.0 };
+  said = λ pilot. (pilot.gain, tt);
+}
 
 unfoldable pub pilot_in : List ℕ → Option PilotPlan
-pilot_in text = do
-  gain ← unsigned_at pilot_rows 0 text
-  at_end (past_at pilot_rows 0 text) (record { gain = gain })
+pilot_in = read_as pilot_statement
 
 -- `sync gain=G prev=.. min=.. sid=.. nid=.. lp=.. ltm=.. daylt=.. prat=.. [freq=..] rest=BITS`
 
@@ -166,32 +168,25 @@ sync_in text0 =
     let text1 = past gain_row.key text0 in
     let text2 = past_numbers network_rows text1 in
     do
-      gain ← script_field gain_row.key (unsigned_of gain_row.form) text0
+      gain ← script_field gain_row.key (reader_of gain_row.form) text0
       network ← numbers_in network_rows text1
       local ← numbers_in local_rows text2
       sync_behind gain network local (past_numbers local_rows text2)
 
 -- `paging channel=C gain=G`: C isn't 0
-abbrev pub stated_paging_line : ℕ → ℕ → Option PagingLine
-stated_paging_line number gain = if number == 0 then None else Some (record {
-  number = number;
-  gain = gain;
-})
-
-abbrev pub paging_rows : List StatementRow
-paging_rows =
-    formed (codes "paging channel=") (forms.UpTo 7) ∷ formed (codes " gain=") (forms.UpTo 65535)
-    ∷ []
+abbrev pub paging_statement : LineForm PagingLine
+paging_statement = record {
+  rows =
+      formed (codes "paging channel=") (forms.UpTo 7)
+      ∷ formed (codes " gain=") (forms.UpTo 65535)
+      ∷ [];
+  lawful = λ v. not (v.0 == 0);
+  line = λ v. record { number = v.0; gain = v.1.0 };
+  said = λ line. (line.number, (line.gain, tt));
+}
 
 unfoldable pub paging_in : List ℕ → Option PagingLine
-paging_in text0 =
-    let text1 = past_at paging_rows 0 text0 in
-    let text2 = past_at paging_rows 1 text1 in
-    do
-      number ← unsigned_at paging_rows 0 text0
-      gain ← unsigned_at paging_rows 1 text1
-      line ← stated_paging_line number gain
-      at_end text2 line
+paging_in = read_as paging_statement
 
 -- `page half BITS` or `page next BITS`: the bits are the body of a paging message
 
@@ -199,39 +194,36 @@ paging_in text0 =
 abbrev pub page_key : Bool → List ℕ
 page_key follows = if follows then codes "page next " else codes "page half "
 
-abbrev pub lawful_page : Bool → List Bool → Option Page
-lawful_page follows body =
-    if is_body body then Some (record { follows = follows; body = body }) else None
-
-abbrev pub page_with : Bool → List ℕ → Option Page
-page_with follows text = do
-  body ← script_field (page_key follows) bits_in_text text
-  page ← lawful_page follows body
-  at_end (past (page_key follows) text) page
+abbrev pub page_statement : Bool → LineForm Page
+page_statement follows = record {
+  rows = valued (page_key follows) BitList ∷ [];
+  lawful = λ v. is_body v.0;
+  line = λ v. record { follows = follows; body = v.0 };
+  said = λ page. (page.body, tt);
+}
 
 unfoldable pub stated_page_in : List ℕ → Option Page
-stated_page_in text = page_with (begins_with text (codes "page next ")) text
+stated_page_in text = read_as (page_statement (begins_with text (codes "page next "))) text
 
 -- `traffic row=R esn=H offset=O gain=G`
-abbrev pub stated_traffic_line : ℕ → ℕ → ℕ → ℕ → TrafficLine
-stated_traffic_line row esn offset gain =
-    record { row = row; esn = esn; offset = offset; gain = gain }
-
-abbrev pub traffic_rows : List StatementRow
-traffic_rows =
-    formed (codes "traffic row=") (forms.UpTo 63)
-    ∷ formed (codes " esn=") forms.SerialNumber
-    ∷ formed (codes " offset=") (forms.UpTo 15)
-    ∷ formed (codes " gain=") (forms.UpTo 65535)
-    ∷ []
+abbrev pub traffic_statement : LineForm TrafficLine
+traffic_statement = record {
+  rows =
+      formed (codes "traffic row=") (forms.UpTo 63)
+      ∷ formed (codes " esn=") forms.SerialNumber
+      ∷ formed (codes " offset=") (forms.UpTo 15)
+      ∷ formed (codes " gain=") (forms.UpTo 65535)
+      ∷ [];
+  lawful = λ v. true;
+  line = λ v. record { row = v.0; esn = v.1.0; offset = v.1.1.0; gain = v.1.1.1.0 };
+  said = λ line. (line.row, (line.esn, (line.offset, (line.gain, tt))));
+}
 
 unfoldable pub traffic_in : List ℕ → Option TrafficLine
-traffic_in =
-    four_in unsigned_at traffic_rows
-    (λ row esn offset gain. Some (stated_traffic_line row esn offset gain))
+traffic_in = read_as traffic_statement
 
--- `frame RATE BITS COMMANDS`, and `frame2 RATE BITS COMMANDS` at a rate of rate set 2: as many bits as
--- a frame of the rate has
+-- `frame RATE BITS COMMANDS`, and `frame2 RATE BITS COMMANDS` at a rate of rate set 2: as many bits
+-- as a frame of the rate has
 
 -- what stands before the bits
 abbrev pub frame_key : FrameRate → List ℕ
@@ -258,29 +250,19 @@ frame_rates =
 abbrev pub frame_rate : List ℕ → Option FrameRate
 frame_rate = rate_by frame_rates
 
--- a frame, where it has as many information bits as its rate
-abbrev pub lawful_frame : TrafficFrame → Option TrafficFrame
-lawful_frame frame =
-    if length frame.information == information_bits_of frame.rate then Some frame else None
-
-abbrev pub frame_with : FrameRate → List ℕ → Option TrafficFrame
-frame_with rate text0 =
-    let text1 = past (frame_key rate) text0 in
-    let text2 = past (codes " ") text1 in
-    do
-      information ← script_field (frame_key rate) bits_in_text text0
-      power_bits ← script_field (codes " ") power_bits_in text1
-      frame ← lawful_frame (record {
-        rate = rate;
-        information = information;
-        power_bits = power_bits;
-      })
-      at_end text2 frame
+-- a frame has as many information bits as its rate
+abbrev pub frame_statement : FrameRate → LineForm TrafficFrame
+frame_statement rate = record {
+  rows = valued (frame_key rate) BitList ∷ valued (codes " ") SixteenDigits ∷ [];
+  lawful = λ v. length v.0 == information_bits_of rate;
+  line = λ v. record { rate = rate; information = v.0; power_bits = v.1.0 };
+  said = λ frame. (frame.information, (frame.power_bits, tt));
+}
 
 unfoldable pub traffic_frame_in : List ℕ → Option TrafficFrame
 traffic_frame_in text = do
   rate ← frame_rate text
-  frame_with rate text
+  read_as (frame_statement rate) text
 
 -- ---- what a line states
 

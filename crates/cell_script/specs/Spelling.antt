@@ -1,11 +1,8 @@
 -- How statements are written, the other side of how they are read, and the script of a plan.
-use Rattle.std.specs.Prelude.{ℕ, ◌+◌, ◌*◌, ◌^◌, ◌<◌, List, [], ◌∷◌, ◌++◌, codes, decimal, map, Bool}
-use Rattle.std.specs.Prelude.{Option, None, Some}
-use Rattle.std.specs.Fmt.{signed_decimal}
+use Rattle.std.specs.Prelude.{ℕ, ◌^◌, ◌<◌, List, [], ◌∷◌, ◌++◌, codes, decimal, map, Option, None}
+use Rattle.std.specs.Prelude.{Some}
 use Rattle.std.specs.List.{flat_map}
-use Rattle.chip_core.specs.declared.check_form.CheckForm.{CheckForm}
-use Rattle.chip_core.specs.declared.check_form.CheckForm.TheVariants.{Plain, Complemented}
-use Rattle.line_text.specs.Texts.{bit_text, digits_of, serial_digits, state_digits}
+use Rattle.line_text.specs.Texts.{bit_text, serial_digits, state_digits}
 use Rattle.sync_message.specs.declared.fields.SyncFields.{SyncFields}
 use Rattle.cell_plan.specs.declared.plan.CellIdentity.{CellIdentity}
 use Rattle.cell_plan.specs.declared.plan.CellPlan.{CellPlan}
@@ -22,10 +19,11 @@ use Rattle.cell_script.specs.declared.statements.Statement.TheVariants as statem
 use Rattle.cell_script.specs.declared.statements.TrafficLine.{TrafficLine}
 use Rattle.cell_script.specs.declared.tables.FieldForm.{FieldForm}
 use Rattle.cell_script.specs.declared.tables.FieldForm.TheVariants as forms
+use Rattle.cell_script.specs.LineForms.{written_as}
 use Rattle.cell_script.specs.Rows.{NumberRow, local_rows, network_rows}
-use Rattle.cell_script.specs.ScriptFields.{StatementRow, formed}
-use Rattle.cell_script.specs.ScriptLines.{cell_rows, frame_key, freq_number, gain_row}
-use Rattle.cell_script.specs.ScriptLines.{page_key, paging_rows, pilot_rows, traffic_rows}
+use Rattle.cell_script.specs.ScriptLines.{cell_statement, frame_statement, freq_number, gain_row}
+use Rattle.cell_script.specs.ScriptLines.{link_statement, page_statement, paging_statement}
+use Rattle.cell_script.specs.ScriptLines.{pilot_statement, traffic_statement}
 
 -- ---- fields
 
@@ -43,14 +41,7 @@ HasDigits forms.Signed n = Unit {0}
 HasDigits forms.State n = Unit {0}
 HasDigits forms.SerialNumber n = n < 2 ^ 32
 
--- each key, and after it its value
-abbrev pub fields_text : List StatementRow → List ℕ → List ℕ
-fields_text [] values = []
-fields_text (row ∷ rows) [] = []
-fields_text (row ∷ rows) (value ∷ values) =
-    row.key ++ (value_text row.form value ++ fields_text rows values)
-
--- the same of fields of a message, whose values are numbers
+-- fields of a message, whose values are numbers: each key, and after it its value
 abbrev pub numbers_text : List NumberRow → List ℕ → List ℕ
 numbers_text [] numbers = []
 numbers_text (f ∷ fields) [] = []
@@ -59,33 +50,17 @@ numbers_text (f ∷ fields) (number ∷ numbers) =
 
 -- ---- statements
 
--- the bit of a form of checks
-abbrev pub form_bit : CheckForm → ℕ
-form_bit Plain = 0
-form_bit Complemented = 1
-
 -- `cell pn=P time=T lc=H checks=C`
 unfoldable pub written_cell : CellIdentity → List ℕ
-written_cell cell =
-    fields_text cell_rows
-    (cell.pn ∷ cell.time ∷ cell.lc ∷ (form_bit cell.check30 + 2 * form_bit cell.check16) ∷ [])
+written_cell = written_as cell_statement
 
 -- `link re=A im=B start=S samples=N`
-abbrev pub span_rows : List StatementRow
-span_rows =
-    formed (codes " start=") (forms.UpTo 4294967295)
-    ∷ formed (codes " samples=") (forms.UpTo 18446744073709551615)
-    ∷ []
-
 unfoldable pub written_link : LinkPlan → List ℕ
-written_link link =
-    codes "link re=" ++ (signed_decimal link.factor.i
-    ++ (codes " im=" ++ (signed_decimal link.factor.q
-    ++ fields_text span_rows (link.start ∷ link.samples ∷ []))))
+written_link = written_as link_statement
 
 -- `pilot gain=G`
 unfoldable pub written_pilot : PilotPlan → List ℕ
-written_pilot pilot = fields_text pilot_rows (pilot.gain ∷ [])
+written_pilot = written_as pilot_statement
 
 -- `sync gain=G prev=.. min=.. sid=.. nid=.. lp=.. ltm=.. daylt=.. prat=.. [freq=..] rest=BITS`
 abbrev pub network_values : SyncFields → List ℕ
@@ -107,21 +82,19 @@ written_sync sync =
 
 -- `paging channel=C gain=G`
 unfoldable pub written_paging : PagingLine → List ℕ
-written_paging line = fields_text paging_rows (line.number ∷ line.gain ∷ [])
+written_paging = written_as paging_statement
 
 -- `page half BITS` or `page next BITS`
 unfoldable pub written_page : Page → List ℕ
-written_page page = page_key page.follows ++ bit_text page.body
+written_page page = written_as (page_statement page.follows) page
 
 -- `traffic row=R esn=H offset=O gain=G`
 unfoldable pub written_traffic : TrafficLine → List ℕ
-written_traffic line =
-    fields_text traffic_rows (line.row ∷ line.esn ∷ line.offset ∷ line.gain ∷ [])
+written_traffic = written_as traffic_statement
 
 -- `frame RATE BITS COMMANDS`, or `frame2 RATE BITS COMMANDS`
 unfoldable pub written_frame : TrafficFrame → List ℕ
-written_frame f =
-    frame_key f.rate ++ (bit_text f.information ++ (codes " " ++ digits_of f.power_bits))
+written_frame f = written_as (frame_statement f.rate) f
 
 -- the text of a statement
 abbrev pub statement_text : Statement → List ℕ

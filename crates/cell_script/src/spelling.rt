@@ -2,7 +2,8 @@
 
 ghost use Rattle.std.specs.Prelude.{◌≡◌, ◌≤◌, ◌+◌, ◌++◌, [], length, IsAscii, decimal};
 ghost use Rattle.cell_script.specs.Rows.{key_of, local_rows, network_rows};
-ghost use Rattle.cell_script.specs.Spelling.{HasDigits, form_bit, local_values, network_values};
+ghost use Rattle.cell_script.specs.ScriptLines.{form_bit};
+ghost use Rattle.cell_script.specs.Spelling.{HasDigits, local_values, network_values};
 ghost use Rattle.cell_script.specs.Spelling.{numbers_text, statement_text, value_text};
 ghost use Rattle.cell_script.specs.Spelling.{written_cell, written_frame, written_freq};
 ghost use Rattle.cell_script.specs.Spelling.{written_link, written_page, written_paging};

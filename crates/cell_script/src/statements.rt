@@ -1,12 +1,15 @@
 //! The statements of a script, each on a line.
 
 ghost use Rattle.std.specs.Prelude.{◌≡◌, ◌≤◌, ◌<◌, ◌^◌, IfSome, IsAscii, OnSome, length};
-ghost use Rattle.cell_script.specs.ScriptLines.{cell_in, check_form, freq_in, link_in};
-ghost use Rattle.cell_script.specs.ScriptLines.{stated_page_in, page_key, page_with, paging_in};
+ghost use Rattle.std.specs.Prelude.{unsigned_abs};
+ghost use Rattle.cell_script.specs.ScriptLines.{cell_in, check_form, freq_in, is_link, link_in};
+ghost use Rattle.cell_script.specs.LineForms.{read_as};
+ghost use Rattle.cell_script.specs.ScriptLines.{stated_page_in, page_key, page_statement};
+ghost use Rattle.cell_script.specs.ScriptLines.{paging_in};
 ghost use Rattle.cell_script.specs.ScriptLines.{past_freq, pilot_in, sync_behind, sync_fields};
 ghost use Rattle.cell_script.specs.ScriptLines.{statement_in, sync_in, lawful_message};
 ghost use Rattle.cell_script.specs.ScriptLines.{traffic_frame_in, frame_key, frame_rate};
-ghost use Rattle.cell_script.specs.ScriptLines.{frame_with, rate_by, traffic_in};
+ghost use Rattle.cell_script.specs.ScriptLines.{frame_statement, rate_by, traffic_in};
 ghost use Rattle.cell_script.specs.Rows.{AreUpTo, local_rows, network_rows, numbers_in};
 ghost use Rattle.cell_script.specs.Rows.{past_numbers};
 ghost use Rattle.cell_script.specs.ScriptPlans.{HasRow};
@@ -159,7 +162,10 @@ fn link_in(text: &[u8]) -> Option<LinkPlan>
     let im = fields.signed(LINK_FIELDS[1])?;
     let start = fields.unsigned(LINK_FIELDS[2])?;
     let samples = fields.unsigned(LINK_FIELDS[3])?;
-    if re.unsigned_abs() + im.unsigned_abs() == 0 || samples == 0 || !fields.at_end() {
+    if !is_link(re, im, samples) {
+        return None;
+    }
+    if !fields.at_end() {
         return None;
     }
     Some(LinkPlan {
@@ -167,6 +173,15 @@ fn link_in(text: &[u8]) -> Option<LinkPlan>
         start,
         samples,
     })
+}
+
+/// Whether there is a link: its factor isn't 0, and neither is its number of samples.
+fn is_link(re: i64, im: i64, samples: u64) -> bool
+    requires in_phase { unsigned_abs re ≤ 32768 }
+    requires quadrature { unsigned_abs im ≤ 32768 }
+    ensures { result ≡ is_link re im samples }
+{
+    re.unsigned_abs() + im.unsigned_abs() > 0 && samples > 0
 }
 
 /// What a `pilot` line says.
@@ -310,7 +325,10 @@ fn paging_in(text: &[u8]) -> Option<PagingLine>
     let mut fields = Fields::new(text);
     let number = fields.unsigned(PAGING_FIELDS[0])?;
     let gain = fields.unsigned(PAGING_FIELDS[1])?;
-    if number == 0 || !fields.at_end() {
+    if number == 0 {
+        return None;
+    }
+    if !fields.at_end() {
         return None;
     }
     Some(PagingLine {
@@ -329,7 +347,7 @@ fn page_in(text: &[u8]) -> Option<Page>
 
 /// What a `page` line says whose capsule follows the one before at once, or doesn't.
 fn page_with(follows: bool, mut fields: Fields<'_>) -> Option<Page>
-    ensures { result ≡ page_with follows fields.entry }
+    ensures { result ≡ read_as (page_statement follows) fields.entry }
 {
     let body = fields.bits(page_key(follows))?;
     if !is_body(&body) || !fields.at_end() {
@@ -410,7 +428,7 @@ fn first_rate(rates: &[FrameRate], text: &[u8]) -> Option<FrameRate>
 
 /// What a line of a frame of this rate says.
 fn frame_with(rate: FrameRate, mut fields: Fields<'_>) -> Option<TrafficFrame>
-    ensures { result ≡ frame_with rate fields.entry }
+    ensures { result ≡ read_as (frame_statement rate) fields.entry }
 {
     let information = fields.bits(frame_key(rate))?;
     let power_bits = fields.power_bits(b" ")?;

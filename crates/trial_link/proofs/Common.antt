@@ -1,5 +1,5 @@
 -- What the proofs of this crate cite of what lies below, and of its own definitions, passed on from one place.
-pub use Rattle.std.proofs.Common.{Bool, List, None, Ok, Some, [], ap, append-nil, append_assoc, arith, below_more, codes, decimal, false}
+pub use Rattle.std.proofs.Common.{Bool, List, None, Ok, Some, [], ap, append-nil, append_assoc, arith, below_more, codes, false}
 pub use Rattle.std.proofs.Common.{get_or, length, length-append, map, option_map, refl, set, subst, suc, sym, true, ℕ, ◌%◌, ◌*◌, ◌++◌, ◌+◌}
 pub use Rattle.std.proofs.Common.{◌<◌, ◌==◌, ◌^◌, ◌∙◌, ◌∷◌, ◌≡◌, ◌≢◌, ◌≤◌}
 pub use Rattle.std.proofs.lemmas.Bool.{cond-false, cond-true, eqb-false, le-ltb}
@@ -24,7 +24,6 @@ pub use Rattle.cell_script.specs.ScriptDrafts.{Draft, draft_at, empty_draft, emp
 unfoldable pub use Rattle.cell_script.specs.ScriptDrafts.{with_next}
 unfoldable pub use Rattle.cell_script.specs.Rows.{numbers_in, past_numbers}
 unfoldable pub use Rattle.cell_script.specs.ScriptFields.{script_field, past}
-pub use Rattle.cell_script.specs.ScriptLines.{frame_key, page_key}
 unfoldable pub use Rattle.cell_script.specs.ScriptLines.{freq_in, link_in, past_freq, statement_in, sync_behind, sync_in}
 pub use Rattle.cell_script.specs.ScriptStages.{after_frame, after_traffic, count_behind, frames_stage}
 unfoldable pub use Rattle.cell_script.specs.ScriptStages.{page_stage}
@@ -40,7 +39,7 @@ unfoldable pub use Rattle.chip_core.specs.Bits.{binary, places}
 unfoldable pub use Rattle.chip_core.specs.Decimals.{digits_from}
 pub use Rattle.chip_core.specs.declared.width.Width.TheVariants.{Sixteen}
 unfoldable pub use Rattle.hex.specs.Hex.{decode_pairs, encode_with}
-unfoldable pub use Rattle.line_text.specs.Texts.{bit_text, digits_of, packed_octets, padded, serial_digits, state_digits}
+unfoldable pub use Rattle.line_text.specs.Texts.{bit_text, packed_octets, padded}
 pub use Rattle.long_code.specs.LongCode.{IsState}
 unfoldable pub use Rattle.paging_message.specs.Admitted.{admits}
 unfoldable pub use Rattle.paging_message.specs.HalfFrames.{bits_left}
@@ -51,7 +50,7 @@ pub use Rattle.trial_link.specs.Trial.{behind_draw, behind_frame, bits_of_frame,
 pub use Rattle.trial_link.specs.Trial.{state_of_draws, third_line, traffic_plan_of, trial_link, trial_paging, trial_traffic}
 unfoldable pub use Rattle.trial_link.specs.Trial.{behind_draws, behind_frames, bits_drawn, frames_drawn, other_frame, trial_cell}
 unfoldable pub use Rattle.trial_link.specs.Trial.{trial_frames, trial_page, trial_plan, trial_serial_number, trial_sync, trial_text}
-pub use Rattle.cell_script.specs.Spelling.{form_bit, lines_of, statement_line, statement_text, statements_of}
+pub use Rattle.cell_script.specs.Spelling.{lines_of, statement_line, statement_text, statements_of}
 unfoldable pub use Rattle.cell_script.specs.Spelling.{script_of, written_cell, written_frame, written_link, written_page, written_paging}
 unfoldable pub use Rattle.cell_script.specs.Spelling.{written_pilot, written_sync, written_traffic}
 unfoldable pub use Rattle.std.specs.Fmt.{digits}

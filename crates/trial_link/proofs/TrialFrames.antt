@@ -6,7 +6,7 @@ use Rattle.trial_link.proofs.Common.{with_frame, with_next, one_frame_more, rate
 use Rattle.trial_link.proofs.Common.{IsTrafficFrame, after_frame, after_traffic, lines_of, statement_line, statement_text, behind_draw}
 use Rattle.trial_link.proofs.Common.{behind_draws, behind_frames, bits_of_frame, traffic_plan_of, frame_drawn, frames_drawn, on_last-last}
 use Rattle.trial_link.proofs.TrialLengths.{written_frame_short, written_traffic_short}
-use Rattle.cell_script.proofs.SpelledLines.{IsWritableTraffic}
+use Rattle.cell_script.proofs.SpelledLines.{IsWritableTraffic, frame_writable}
 use Rattle.cell_script.proofs.StatedLines.{Leads}
 use Rattle.cell_script.proofs.WrittenPlans.{first_leads}
 use Rattle.cell_script.specs.declared.statements.Statement.TheVariants as statements
@@ -61,7 +61,7 @@ frames_lead plan before line got [] more last are rest =
     (append-nil got) rest
 frames_lead plan before line got (f ∷ frames) more last are rest =
     first_leads (on_frames plan before line got) (on_frames plan before line (got ++ f ∷ [])) last
-    (statements.Frame f) (map statements.Frame frames ++ more) (are.0, are.1)
+    (statements.Frame f) (map statements.Frame frames ++ more) (frame_writable f are.0 are.1)
     (frame_added plan before line got f (Frames One) (one_behind f.rate are.2))
     (frames_lead plan before line (got ++ f ∷ []) frames more last are.3
     (subst (λ (fs : List TrafficFrame). Leads (on_frames plan before line fs) (lines_of more) last)
@@ -90,7 +90,7 @@ channel_leads plan stage line (f ∷ frames) more last is told are some rest =
     first_leads (draft_at plan stage) opened last (statements.Traffic line)
     (map statements.Frame (f ∷ frames) ++ more) told (traffic_next plan stage line is)
     (first_leads opened (on_frames plan plan.traffic line (f ∷ [])) last (statements.Frame f)
-    (map statements.Frame frames ++ more) (are.0, are.1)
+    (map statements.Frame frames ++ more) (frame_writable f are.0 are.1)
     (frame_added plan plan.traffic line [] f FirstFrame
     (ap (λ (set : RateSet). Some (Frames set)) are.2))
     (frames_lead plan plan.traffic line (f ∷ []) frames more last are.3 rest))
@@ -110,7 +110,7 @@ lines_long statement more =
 
 frames_short : (frames : List TrafficFrame) (more : List Statement) → AreToldFrames frames →
     length (lines_of (map statements.Frame frames ++ more))
-    ≤ 331 * length frames + length (lines_of more)
+    ≤ 353 * length frames + length (lines_of more)
 frames_short [] more are = omega arith
 frames_short (f ∷ frames) more are =
     omega (
@@ -123,7 +123,7 @@ frames_short (f ∷ frames) more are =
 pub channel_short : (line : TrafficLine) (frames : List TrafficFrame) (more : List Statement) →
     IsWritableTraffic line → AreToldFrames frames →
     length (lines_of (statements.Traffic line ∷ (map statements.Frame frames ++ more)))
-    ≤ 201 + 331 * length frames + length (lines_of more)
+    ≤ 201 + 353 * length frames + length (lines_of more)
 channel_short line frames more is are =
     omega (
       arith,

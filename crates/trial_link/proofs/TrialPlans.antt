@@ -14,7 +14,7 @@ use Rattle.trial_link.proofs.TrialFrames.{AreToldFrames, channel_leads, channel_
 use Rattle.trial_link.proofs.TrialFrames.{with_last}
 use Rattle.trial_link.proofs.TrialLengths.{written_cell_short, written_page_short}
 use Rattle.cell_script.proofs.ScriptRanges.{line_writable}
-use Rattle.cell_script.proofs.SpelledLines.{IsWritable, IsWritableTraffic}
+use Rattle.cell_script.proofs.SpelledLines.{IsWritable, IsWritableTraffic, cell_writable, page_writable}
 use Rattle.cell_script.proofs.StatedLines.{Leads, leads_to_plan, none_leads}
 use Rattle.cell_script.proofs.WrittenPlans.{first_leads}
 use Rattle.cell_script.specs.declared.statements.Statement.TheVariants as statements
@@ -44,6 +44,12 @@ link_told = line_writable link_line (statements.Link trial_link) link_stated
 
 sync_told : IsWritable (statements.Sync trial_sync)
 sync_told = line_writable sync_line (statements.Sync trial_sync) sync_stated
+
+pilot_told : IsWritable (statements.Pilot (record { gain = 100 }))
+pilot_told = record { ranged = (omega arith, tt); lawful = refl; same = refl }
+
+paging_told : IsWritable (statements.Paging trial_paging_line)
+paging_told = record { ranged = (omega arith, (omega arith, tt)); lawful = refl; same = refl }
 
 -- ---- the page
 
@@ -89,10 +95,9 @@ trial_cell_stated number =
 pub followed_stated : (number : ℕ) → IsWritableTraffic (followed_line (trial_serial_number number))
 unfolding trial_serial_number
 followed_stated number = record {
-  row = omega arith;
-  esn = drawn_small (behind_draws number 4);
-  offset = omega arith;
-  gain = omega arith;
+  ranged = (omega arith, (drawn_small (behind_draws number 4), (omega arith, (omega arith, tt))));
+  lawful = refl;
+  same = refl;
 }
 
 -- ---- the drafts after the lines before the traffic channels
@@ -177,19 +182,19 @@ head_leads cell more last is rest =
     let sync = statements.Sync trial_sync ∷ paging in
     let pilot = statements.Pilot (record { gain = 100 }) ∷ sync in
     first_leads empty_draft (draft_at (with_cell cell) Link) last (statements.Cell cell)
-    (statements.Link trial_link ∷ pilot) is (cell_next cell)
+    (statements.Link trial_link ∷ pilot) (cell_writable cell is) (cell_next cell)
     (first_leads (draft_at (with_cell cell) Link) (draft_at (with_link cell) Pilot) last
     (statements.Link trial_link) pilot link_told (link_next (with_cell cell))
     (first_leads (draft_at (with_link cell) Pilot) (draft_at (with_pilot cell) Sync) last
-    (statements.Pilot (record { gain = 100 })) sync (omega arith) (pilot_next (with_link cell))
+    (statements.Pilot (record { gain = 100 })) sync pilot_told (pilot_next (with_link cell))
     (first_leads (draft_at (with_pilot cell) Sync) (draft_at (with_sync cell) (Paging R9600)) last
     (statements.Sync trial_sync) paging sync_told (sync_next (with_pilot cell))
     (first_leads (draft_at (with_sync cell) (Paging R9600))
     (draft_at (with_paging cell) (FirstPage R9600)) last (statements.Paging trial_paging_line) page
-    ((omega arith, omega arith), omega arith) (paging_next cell)
+    paging_told (paging_next cell)
     (first_leads (draft_at (with_paging cell) (FirstPage R9600))
     (draft_at (with_page cell) (behind_page cell.pn)) last (statements.Page (trial_page cell.pn))
-    more (page_is_body cell.pn) (page_next cell) rest)))))
+    more (page_writable (trial_page cell.pn) (page_is_body cell.pn)) (page_next cell) rest)))))
 
 -- ---- and after each of these
 
@@ -207,18 +212,16 @@ trial_frames-long number = frames_drawn-long (behind_draws number 5) 100
 
 second_stated : IsWritableTraffic second_line
 second_stated = record {
-  row = omega arith;
-  esn = omega arith;
-  offset = omega arith;
-  gain = omega arith;
+  ranged = (omega arith, (omega arith, (omega arith, (omega arith, tt))));
+  lawful = refl;
+  same = refl;
 }
 
 third_stated : IsWritableTraffic third_line
 third_stated = record {
-  row = omega arith;
-  esn = omega arith;
-  offset = omega arith;
-  gain = omega arith;
+  ranged = (omega arith, (omega arith, (omega arith, (omega arith, tt))));
+  lawful = refl;
+  same = refl;
 }
 
 abbrev with_first : ℕ → CellPlan
