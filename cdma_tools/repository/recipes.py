@@ -17,7 +17,7 @@ from cdma_tools.places import TOP
 
 # The folders of a crate that are counted, what isn't (worked values and tests), and what only passes names on.
 FOLDERS = ("src", "specs", "proofs")
-NOT_COUNTED = re.compile(r"_tests/|/(\w*tests|test_inputs|testing)\.rt$|/\w*Worked\w*\.antt$")
+NOT_COUNTED = re.compile(r"_tests/|/(\w*tests|test_runs|testing)\.rt$|/\w*Worked\w*\.antt$")
 PASSES_ON = re.compile(r"/(Common|Lib)\.antt$")
 # The line before each list of the page.
 MARK = re.compile(r"(?m)^<!-- files: (.+) -->\n(?:(?!\n).*\n)*")

@@ -17,11 +17,7 @@ mod ranks;
 mod receiving;
 mod replaying;
 #[cfg(test)]
-mod test_inputs;
-#[cfg(test)]
 mod test_runs;
-#[cfg(test)]
-mod tests;
 mod trial;
 #[cfg(test)]
 mod worker_tests;

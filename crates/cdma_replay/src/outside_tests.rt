@@ -1,181 +1,165 @@
-//! Runs over files that are cut off or go on, and over sources and sinks whose calls fail or that
-//! have little room: how each ends, and what it has written. Only one call fails, so a run that
-//! tried it again would be done.
+//! Runs over sources and sinks of which a call fails, and with other taps than the program's own:
+//! how each ends, and what it has written. Only one call fails, so a run that tried it again would
+//! be done. What runs write otherwise, the cases of `conformance/` show.
 
 use crate::Status;
-use crate::test_inputs::{Input, SECOND, SECOND_LINES, first_lines};
-use crate::test_runs::{Outside, SMALL, STEADY, expect, run};
-use cdma_io::FileFault;
+use crate::test_runs::{
+    Ran, STEADY, TRIAL_LINE, UNBROKEN, ZERO_LINE, ZERO_RANK, run, run_tapped, zeros,
+};
+use event_tap::{MessageTap, PilotTap, Tap};
+use pilot_search::Open;
 use std::test::Fail;
+use std::thread::Threads;
 
 /// The command over a file of 80 samples, 336 bytes, whose 64th sample ends at byte 272.
 const FIND: &str = "find --span 64";
 
-/// The file.
-const FILE: Input = Input::Two(80);
+/// A command that writes a line for each of 512 pilots.
+const SURVEY: &str = "survey --span 64";
 
-/// What the command writes.
-const LINE: &[u8] = b"pilot phase=5 energy=8\n";
-
-/// The least span of zeros,
-const ZEROS: Input = Input::Zeros(1, 64, 256);
-
-/// and its first rank.
-const ZERO_RANK: &[u8] = b"survey pn=0 delta=-10 energy=0\n";
+/// A command that reads nothing.
+const TRIAL: &str = "trial --number 0";
 
 /// A script of 93 bytes,
-const SCRIPT: Input = Input::Bytes(
-    b"cell pn=0 time=1000 lc=20000000000 checks=0\n\
+const SCRIPT: &[u8] = b"cell pn=0 time=1000 lc=20000000000 checks=0\n\
     link re=0 im=-3 start=0 samples=1\n\
-    pilot gain=100\n",
-);
+    pilot gain=100\n";
 
 /// and its file.
 const MADE: &[u8] = b"IS95\x00\x01\x00\x00\x00\x00\x00\x00\x00\x00\x00\x01\xfe\xd4\x01\x2c";
 
-#[test]
-fn a_small_file_is_cut_off_at_each_byte(rt: HostRuntime) -> Result<(), Fail> {
-    let mut file = FILE.bytes(rt.alloc())?;
-    file.push(0)?;
-    for len in 0..338usize {
-        let cut = file.as_slice().get(..len).unwrap_or(&[]);
-        let written = if len < 272 { b"".as_slice() } else { LINE };
-        let at = len as u64;
-        let end = match len {
-            0..=335 => Status::BadFile(FileFault::Short { at }),
-            336 => Status::Done,
-            _ => Status::BadFile(FileFault::Extra { at: 336 }),
-        };
-        expect(&rt, FIND, cut, SMALL, end, written)?;
+/// The script of a cell whose first sync message is known by 262,144 samples,
+const CELL: &[u8] = b"cell pn=0 time=1000 lc=20000000000 checks=0\n\
+    link re=1 im=1 start=0 samples=300000\n\
+    pilot gain=100\n\
+    sync gain=30 prev=3 min=1 sid=1 nid=2 lp=13 ltm=0 daylt=0 prat=0 rest=3:00\n";
+
+/// and what is heard of it: a line of 34 bytes, and one more.
+const HEARD: &str = "pilot phase=0 energy=335544320000\n\
+    sync at=262144 prev=3 min=1 sid=1 nid=2 pn=0 lc=102a1d2e508 time=1007 lp=13 ltm=0 daylt=0 \
+        prat=0 rest=3:00\n";
+
+/// The file of that cell.
+fn cell<R: AllocGlobal + Threads + Sync>(rt: &R) -> Result<Vec<u8>, Fail> {
+    let (_status, file) = run(rt, "make", CELL, UNBROKEN)?;
+    Ok(file)
+}
+
+/// Fails where a run of a command line didn't end so, or didn't write just the first so many bytes
+/// of a text.
+fn expect<R: AllocGlobal>(
+    rt: &R,
+    line: &str,
+    (status, written): &Ran,
+    end: Status,
+    text: &[u8],
+    count: usize,
+) -> Result<(), Fail> {
+    if *status == end && written.as_slice() == text.get(..count).unwrap_or(text) {
+        return Ok(());
     }
-    Ok(())
+    let length = written.len();
+    Err(Fail::from(format!(in rt.alloc(); "{line}: {status} after {length} bytes")?))
 }
 
 #[test]
 fn ends_where_a_read_fails(rt: HostRuntime) -> Result<(), Fail> {
+    let file = zeros(rt.alloc(), 80)?;
     // Of a file four calls for the header, 52 for the first 64 samples, 13 for the others, and one
     // for the end; of a script fourteen give its bytes, and one more tells its end.
-    let rows = [
-        (FIND, FILE, 5, 70, 57, LINE),
+    for (line, input, piece, calls, silent, text) in [
+        (FIND, file.as_slice(), 5, 70, 57, ZERO_LINE),
         ("make", SCRIPT, 7, 15, 16, MADE),
-    ];
-    for (args, input, source_piece, calls, silent, text) in rows {
-        let input = input.bytes(rt.alloc())?;
-        for source_fails in 1..calls + 2 {
-            let outside = Outside {
-                source_piece,
-                source_fails,
-                ..SMALL
-            };
-            let end = if source_fails > calls {
-                Status::Done
-            } else {
-                Status::ReadFault
-            };
-            let written = if source_fails < silent {
-                b"".as_slice()
-            } else {
-                text
-            };
-            expect(&rt, args, input.as_slice(), outside, end, written)?;
+    ] {
+        for call in 1..calls + 1 {
+            let ran = run(&rt, line, input, ((piece, call), STEADY))?;
+            let count = if call < silent { 0 } else { text.len() };
+            expect(&rt, line, &ran, Status::ReadFault, text, count)?;
         }
+        let ran = run(&rt, line, input, ((piece, calls + 1), STEADY))?;
+        expect(&rt, line, &ran, Status::Done, text, text.len())?;
     }
     Ok(())
 }
-
-/// Arguments, an input, how many octets a sink takes at once, which call fails, and what it took
-/// before.
-type Broken = (&'static str, Input, usize, u64, &'static [u8]);
-
-/// Runs whose sink fails: in the first line, between two lines, and in a file.
-static BROKEN: [Broken; 9] = [
-    (FIND, FILE, 65536, 1, b""),
-    (FIND, FILE, 5, 3, b"pilot phas"),
-    ("survey --span 64", ZEROS, 65536, 1, b""),
-    ("survey --span 64", ZEROS, 65536, 2, ZERO_RANK),
-    ("trial --number 0", FILE, 10, 2, b"trial numb"),
-    ("make", SCRIPT, 7, 1, b""),
-    ("make", SCRIPT, 7, 2, b"IS95\x00\x01\x00"),
-    (
-        "make",
-        SCRIPT,
-        7,
-        3,
-        b"IS95\x00\x01\x00\x00\x00\x00\x00\x00\x00\x00",
-    ),
-    (
-        "make",
-        SCRIPT,
-        7,
-        4,
-        b"IS95\x00\x01\x00\x00\x00\x00\x00\x00\x00\x00\x00\x01",
-    ),
-];
 
 #[test]
 fn ends_where_a_write_fails(rt: HostRuntime) -> Result<(), Fail> {
-    for (args, input, sink_piece, sink_fails, written) in &BROKEN {
-        let input = input.bytes(rt.alloc())?;
-        let outside = Outside {
-            sink_piece: *sink_piece,
-            sink_fails: *sink_fails,
-            ..SMALL
-        };
-        expect(
-            &rt,
-            args,
-            input.as_slice(),
-            outside,
-            Status::WriteFault,
-            written,
-        )?;
+    let file = zeros(rt.alloc(), 80)?;
+    let samples = file.as_slice();
+    // In the first line, between two lines, and in a file.
+    for (line, input, writes, text, count) in [
+        (FIND, samples, (5, 3), ZERO_LINE, 10),
+        (SURVEY, samples, (65536, 1), ZERO_RANK, 0),
+        (SURVEY, samples, (65536, 2), ZERO_RANK, 31),
+        (TRIAL, samples, (10, 2), TRIAL_LINE, 10),
+        ("make", SCRIPT, (7, 1), MADE, 0),
+        ("make", SCRIPT, (7, 2), MADE, 7),
+        ("make", SCRIPT, (7, 3), MADE, 14),
+        ("make", SCRIPT, (7, 4), MADE, 16),
+    ] {
+        let ran = run(&rt, line, input, (STEADY, writes))?;
+        expect(&rt, line, &ran, Status::WriteFault, text, count)?;
     }
     Ok(())
 }
 
 #[test]
-fn a_sink_has_little_room(rt: HostRuntime) -> Result<(), Fail> {
-    let file = FILE.bytes(rt.alloc())?;
-    for room in 0..24usize {
-        let outside = Outside {
-            sink_piece: 1,
-            room,
-            ..STEADY
-        };
-        let end = if room < 23 {
-            Status::WriteFault
-        } else {
-            Status::Done
-        };
-        let written = LINE.get(..room).unwrap_or(&[]);
-        expect(&rt, FIND, file.as_slice(), outside, end, written)?;
+fn ends_where_a_write_of_one_byte_fails(rt: HostRuntime) -> Result<(), Fail> {
+    let file = zeros(rt.alloc(), 80)?;
+    for count in 0..23usize {
+        let ran = run(&rt, FIND, file.as_slice(), (STEADY, (1, count as u64 + 1)))?;
+        expect(&rt, FIND, &ran, Status::WriteFault, ZERO_LINE, count)?;
+    }
+    let ran = run(&rt, FIND, file.as_slice(), (STEADY, (1, 24)))?;
+    expect(&rt, FIND, &ran, Status::Done, ZERO_LINE, 23)
+}
+
+#[test]
+fn ends_where_a_call_fails_while_a_cell_is_followed(rt: HostRuntime) -> Result<(), Fail> {
+    let file = cell(&rt)?;
+    let (line, text) = ("follow", HEARD.as_bytes());
+    // Calls of 7 octets took some 175,000 samples before the 100,000th, and some 280,000 before the
+    // 160,000th.
+    for (reads, writes, end, count) in [
+        ((65536, 1), STEADY, Status::ReadFault, 0),
+        ((7, 100_000), STEADY, Status::ReadFault, 34),
+        ((7, 160_000), STEADY, Status::ReadFault, text.len()),
+        (STEADY, (65536, 1), Status::WriteFault, 0),
+        (STEADY, (65536, 2), Status::WriteFault, 34),
+    ] {
+        let ran = run(&rt, line, file.as_slice(), (reads, writes))?;
+        expect(&rt, line, &ran, end, text, count)?;
     }
     Ok(())
 }
 
-/// How many octets a source gives at once, which of its calls fails, which of the sink's, how many
-/// lines are written before, and how the run ends. By call 500,000 of 7 octets 873,713 whole
-/// samples were taken, of which those after the 869,617th may be unheard: the third sync message,
-/// at 884,672, isn't known, and all before it is.
-static CALLS: [(usize, u64, u64, usize, Status); 3] = [
-    (65536, 1, 0, 0, Status::ReadFault),
-    (7, 500_000, 0, 15, Status::ReadFault),
-    (65536, 0, 1, 0, Status::WriteFault),
-];
+#[test]
+fn each_tap_handed_in_tells(rt: HostRuntime) -> Result<(), Fail> {
+    let alloc = rt.alloc();
+    let file = cell(&rt)?;
+    let mut taps: Vec<Box<dyn Tap>> = Vec::new(alloc);
+    for _time in 0..2 {
+        taps.push(Box::new(alloc, PilotTap::new())?)?;
+        taps.push(Box::new(alloc, MessageTap::new())?)?;
+    }
+    let mut twice = String::new(alloc);
+    for line in HEARD.split_inclusive('\n') {
+        twice.push_str(line)?;
+        twice.push_str(line)?;
+    }
+    let (line, text) = ("follow", twice.as_bytes());
+    let ran = run_tapped(&rt, line, file.as_slice(), UNBROKEN, taps, &Open)?;
+    expect(&rt, line, &ran, Status::Done, text, text.len())
+}
 
 #[test]
-fn calls_fail_in_a_second_of_a_cell(rt: HostRuntime) -> Result<(), Fail> {
-    let script = SECOND.bytes(rt.alloc())?;
-    let (_status, file) = run(&rt, "make", script.as_slice(), STEADY)?;
-    for (source_piece, source_fails, sink_fails, lines, status) in &CALLS {
-        let outside = Outside {
-            source_piece: *source_piece,
-            source_fails: *source_fails,
-            sink_fails: *sink_fails,
-            ..STEADY
-        };
-        let written = first_lines(SECOND_LINES, *lines);
-        expect(&rt, "follow", file.as_slice(), outside, *status, written)?;
+fn no_tap_tells_nothing(rt: HostRuntime) -> Result<(), Fail> {
+    let alloc = rt.alloc();
+    let file = zeros(alloc, 2048)?;
+    for (line, end, count) in [("follow", Status::NoSync, 0), ("find", Status::Done, 23)] {
+        let taps = Vec::new(alloc);
+        let ran = run_tapped(&rt, line, file.as_slice(), UNBROKEN, taps, &Open)?;
+        expect(&rt, line, &ran, end, ZERO_LINE, count)?;
     }
     Ok(())
 }

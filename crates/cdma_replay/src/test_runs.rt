@@ -1,4 +1,4 @@
-//! Whole runs over memory for the tests.
+//! Whole runs over memory for the tests: their inputs, how they end, and what they write.
 
 use crate::{Status, replay};
 use cdma_io::{MemorySink, MemorySource};
@@ -8,34 +8,54 @@ use std::alloc::Global;
 use std::test::Fail;
 use std::thread::Threads;
 
-/// The outside of a run: how many bytes a call moves at most, which call fails, counted from 1 and
-/// 0 where none does, and how many bytes the sink has room for.
-#[derive(Clone, Copy)]
-pub struct Outside {
-    pub source_piece: usize,
-    pub source_fails: u64,
-    pub sink_piece: usize,
-    pub sink_fails: u64,
-    pub room: usize,
+/// How many bytes a call on the outside moves at most, and which call fails, counted from 1; for 0
+/// none does.
+pub type Calls = (usize, u64);
+
+/// Calls that never fail.
+pub const STEADY: Calls = (65536, 0);
+
+/// A source and a sink of which no call fails.
+pub const UNBROKEN: (Calls, Calls) = (STEADY, STEADY);
+
+/// How a run ended, and what it wrote.
+pub type Ran = (Status, Vec<u8>);
+
+/// Room for the longest file of the tests.
+const ROOM: usize = 2_000_000;
+
+/// The line of the pilot that is found in zeros.
+pub const ZERO_LINE: &[u8] = b"pilot phase=0 energy=0\n";
+
+/// The first rank of zeros.
+pub const ZERO_RANK: &[u8] = b"survey pn=0 delta=-10 energy=0\n";
+
+/// The line of the trial of 0.
+pub const TRIAL_LINE: &[u8] =
+    b"trial number=0 samples=2457600 phase=8320 syncs=8 pagings=144 frames=72 good=72\n";
+
+/// A file of so many samples of zeros.
+pub fn zeros(alloc: Global, count: u64) -> Result<Vec<u8>, Fail> {
+    let mut file = Vec::from_slice(alloc, b"IS95\x00\x01\x00\x00")?;
+    file.extend_from_slice(&count.to_be_bytes())?;
+    for _sample in 0..count {
+        file.extend_from_slice(&[0; 4])?;
+    }
+    Ok(file)
 }
 
-/// An outside that never fails, with room for the longest file of the tests.
-pub const STEADY: Outside = Outside {
-    source_piece: 65536,
-    source_fails: 0,
-    sink_piece: 65536,
-    sink_fails: 0,
-    room: 10_000_000,
-};
-
-/// The same with room for a few lines alone.
-pub const SMALL: Outside = Outside {
-    room: 200,
-    ..STEADY
-};
+/// A tap of each form, as in the program.
+pub fn each_tap(alloc: Global) -> Result<Vec<Box<dyn Tap>>, Fail> {
+    let mut taps: Vec<Box<dyn Tap>> = Vec::new(alloc);
+    taps.push(Box::new(alloc, PilotTap::new())?)?;
+    taps.push(Box::new(alloc, MessageTap::new())?)?;
+    taps.push(Box::new(alloc, FrameTap::new())?)?;
+    taps.push(Box::new(alloc, RawTap::new())?)?;
+    Ok(taps)
+}
 
 /// The arguments of a command line, each parted from the next by a blank.
-fn words_of(alloc: Global, line: &str) -> Result<Vec<String>, Fail> {
+fn args_of(alloc: Global, line: &str) -> Result<Vec<String>, Fail> {
     let mut args = Vec::new(alloc);
     for arg in line.split_whitespace() {
         args.push(String::from_str(alloc, arg)?)?;
@@ -43,92 +63,34 @@ fn words_of(alloc: Global, line: &str) -> Result<Vec<String>, Fail> {
     Ok(args)
 }
 
-/// The calls that fail: one, or none for 0.
-fn failing(alloc: Global, call: u64) -> Result<Vec<u64>, Fail> {
-    let mut calls = Vec::new(alloc);
-    if call > 0 {
-        calls.push(call)?;
-    }
-    Ok(calls)
-}
-
-/// How a run of a command line over an input ends, and what it writes.
-pub fn run<R: AllocGlobal + Threads + Sync>(
-    rt: &R,
-    line: &str,
-    input: &[u8],
-    outside: Outside,
-) -> Result<(Status, Vec<u8>), Fail> {
-    run_through(rt, line, input, outside, &Open)
-}
-
-/// The same with a gate that the workers pass. There is a tap of each form, as in the program.
-pub fn run_through<R: AllocGlobal + Threads + Sync, G: Gate + Sync>(
-    rt: &R,
-    line: &str,
-    input: &[u8],
-    outside: Outside,
-    gate: &G,
-) -> Result<(Status, Vec<u8>), Fail> {
-    let alloc = rt.alloc();
-    let mut taps: Vec<Box<dyn Tap>> = Vec::new(alloc);
-    taps.push(Box::new(alloc, PilotTap::new())?)?;
-    taps.push(Box::new(alloc, MessageTap::new())?)?;
-    taps.push(Box::new(alloc, FrameTap::new())?)?;
-    taps.push(Box::new(alloc, RawTap::new())?)?;
-    run_tapped(rt, line, input, outside, taps, gate)
-}
-
-/// The same with other taps than the program's own.
+/// How a run of a command line over an input ends, and what it writes, with these taps and a gate
+/// that its workers pass.
 pub fn run_tapped<R: AllocGlobal + Threads + Sync, G: Gate + Sync>(
     rt: &R,
     line: &str,
     input: &[u8],
-    outside: Outside,
+    (reads, writes): (Calls, Calls),
     taps: Vec<Box<dyn Tap>>,
     gate: &G,
-) -> Result<(Status, Vec<u8>), Fail> {
+) -> Result<Ran, Fail> {
     let alloc = rt.alloc();
-    let args = words_of(alloc, line)?;
-    let mut source = MemorySource::new(
-        Vec::from_slice(alloc, input)?,
-        outside.source_piece.max(1),
-        failing(alloc, outside.source_fails)?,
-    );
-    let mut sink = MemorySink::new(
-        alloc,
-        outside.room,
-        outside.sink_piece.max(1),
-        failing(alloc, outside.sink_fails)?,
-    )?;
-    let status = replay(
-        rt,
-        alloc,
-        args.as_slice(),
-        &mut source,
-        &mut sink,
-        taps,
-        gate,
-    );
+    let args = args_of(alloc, line)?;
+    let input = Vec::from_slice(alloc, input)?;
+    let failing = Vec::from_slice(alloc, &[reads.1])?;
+    let mut source = MemorySource::new(input, reads.0.max(1), failing);
+    let failing = Vec::from_slice(alloc, &[writes.1])?;
+    let mut sink = MemorySink::new(alloc, ROOM, writes.0.max(1), failing)?;
+    let args = args.as_slice();
+    let status = replay(rt, alloc, args, &mut source, &mut sink, taps, gate);
     Ok((status, Vec::from_slice(alloc, sink.bytes())?))
 }
 
-/// Fails where a run of a command line over an input doesn't end so, or doesn't write just that.
-pub fn expect<R: AllocGlobal + Threads + Sync>(
+/// The same with a tap of each form, at an open gate.
+pub fn run<R: AllocGlobal + Threads + Sync>(
     rt: &R,
     line: &str,
     input: &[u8],
-    outside: Outside,
-    status: Status,
-    written: &[u8],
-) -> Result<(), Fail> {
-    let (ended, text) = run(rt, line, input, outside)?;
-    if ended == status && text.as_slice() == written {
-        return Ok(());
-    }
-    let length = input.len();
-    Err(Fail::from(format!(in rt.alloc();
-        "{line} over {length} bytes, calls {} and {} failing: {ended}",
-        outside.source_fails, outside.sink_fails
-    )?))
+    calls: (Calls, Calls),
+) -> Result<Ran, Fail> {
+    run_tapped(rt, line, input, calls, each_tap(rt.alloc())?, &Open)
 }

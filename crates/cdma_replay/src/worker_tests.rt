@@ -1,12 +1,10 @@
 //! Runs of each command by two workers and by five: that they are so many, and run at once.
 
 use crate::Status;
-use crate::test_inputs::Input;
-use crate::test_runs::{SMALL, run_through};
+use crate::test_runs::{TRIAL_LINE, UNBROKEN, ZERO_LINE, ZERO_RANK, each_tap, run_tapped, zeros};
 use pilot_search::Gate;
 use std::sync::atomic::{AtomicU64, Ordering};
 use std::test::Fail;
-use std::thread::Threads;
 
 /// Where workers wait until all are there, or so many turns are spent.
 #[derive(Drop)]
@@ -61,98 +59,31 @@ impl Gate for Meeting {
     }
 }
 
-/// Arguments for two workers and for five, an input, what is written, and how the run ends.
-type Row = (&'static str, &'static str, Input, &'static [u8], Status);
-
-/// 2,048 samples of zeros,
-const ZEROS: Input = Input::Zeros(1, 2048, 8192);
-
-/// and their line.
-const ZERO_LINE: &[u8] = b"pilot phase=0 energy=0\n";
-
-/// A run of each command that has workers.
-static ROWS: [Row; 7] = [
-    (
-        "find --workers 2",
-        "find --workers 5",
-        ZEROS,
-        ZERO_LINE,
-        Status::Done,
-    ),
-    (
-        "follow --workers=2",
-        "follow --workers=5",
-        ZEROS,
-        ZERO_LINE,
-        Status::NoSync,
-    ),
-    (
-        "rate2 --workers 2 --esn 0000abcd --row 10",
-        "rate2 --workers 5 --esn 0000abcd --row 10",
-        ZEROS,
-        b"",
-        Status::NoSync,
-    ),
-    (
-        "list --workers 2 --esn 0000abcd --row 10 --k 4",
-        "list --workers 5 --esn 0000abcd --row 10 --k 4",
-        ZEROS,
-        b"",
-        Status::NoSync,
-    ),
-    (
-        "idle --workers 2 --key 00000000",
-        "idle --workers 5 --key 00000000",
-        ZEROS,
-        b"",
-        Status::NoSync,
-    ),
-    (
-        "survey --workers 2 --top=1",
-        "survey --workers 5 --top=1",
-        ZEROS,
-        b"survey pn=0 delta=-10 energy=0\n",
-        Status::Done,
-    ),
-    (
-        "trial --workers 2 --number=0",
-        "trial --workers 5 --number=0",
-        Input::Bytes(b""),
-        TRIAL_LINE,
-        Status::Done,
-    ),
+/// Each command that has workers, over 2,048 zeros: what is written, and how the run ends.
+static ROWS: [(&'static str, &'static [u8], Status); 7] = [
+    ("find", ZERO_LINE, Status::Done),
+    ("follow", ZERO_LINE, Status::NoSync),
+    ("rate2 --esn 0000abcd --row 10", b"", Status::NoSync),
+    ("list --esn 0000abcd --row 10 --k 4", b"", Status::NoSync),
+    ("idle --key 00000000", b"", Status::NoSync),
+    ("survey --top=1", ZERO_RANK, Status::Done),
+    ("trial --number=0", TRIAL_LINE, Status::Done),
 ];
-
-/// The line of the trial of 0.
-const TRIAL_LINE: &[u8] =
-    b"trial number=0 samples=2457600 phase=8320 syncs=8 pagings=144 frames=72 good=72\n";
-
-/// Fails where the workers of a run don't meet at their gate, or it writes or ends otherwise.
-fn meet<R: AllocGlobal + Threads + Sync>(
-    rt: &R,
-    args: &str,
-    workers: u64,
-    input: &[u8],
-    written: &[u8],
-    end: Status,
-) -> Result<(), Fail> {
-    let gate = Meeting::of(workers);
-    let (status, text) = run_through(rt, args, input, SMALL, &gate)?;
-    if status != end || text.as_slice() != written {
-        return Err(Fail::from("another end or another text"));
-    }
-    if !gate.is_over() {
-        return Err(Fail::from("other workers, or not at once"));
-    }
-    Ok(())
-}
 
 #[test]
 fn two_workers_and_five_meet(rt: HostRuntime) -> Result<(), Fail> {
-    for (two, five, input, written, end) in &ROWS {
-        let input = input.bytes(rt.alloc())?;
-        meet(&rt, two, 0b11, input.as_slice(), written, *end)?;
-        meet(&rt, five, 0b1_1111, input.as_slice(), written, *end)?;
+    let alloc = rt.alloc();
+    let file = zeros(alloc, 2048)?;
+    for (command, text, end) in &ROWS {
+        for (workers, flags) in [(2, 0b11), (5, 0b1_1111)] {
+            let line = format!(in alloc; "{command} --workers {workers}")?;
+            let (gate, taps) = (Meeting::of(flags), each_tap(alloc)?);
+            let (line, input) = (line.as_str(), file.as_slice());
+            let (status, written) = run_tapped(&rt, line, input, UNBROKEN, taps, &gate)?;
+            assert_eq!(rt; status, *end, "{line}");
+            assert_eq!(rt; written.as_slice(), *text, "{line}");
+            assert!(rt; gate.is_over(), "{line}: other workers, or not at once");
+        }
     }
     Ok(())
 }
