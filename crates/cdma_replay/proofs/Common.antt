@@ -86,7 +86,7 @@ pub use Rattle.owed_replies.specs.Broken.{HasWritten, HearsFirst, IsCut, IsLong,
 pub use Rattle.owed_replies.specs.Find.{IsEnd, IsFault, IsFaultIn, IsOfFiles, IsRestFault, PassesSamples, TakesSpan, WritesNoMore}
 pub use Rattle.owed_replies.specs.Find.{WritesText, ended}
 pub use Rattle.owed_replies.specs.Hearing.{AreNearTo, AreReady, ByFrames, ByTaps, HearsPart, Listening, Nobody, TellsMore, TellsPart}
-pub use Rattle.owed_replies.specs.Hearing.{end_when, first_text, is_told, listening, tuning_for, waiting}
+pub use Rattle.owed_replies.specs.Hearing.{end_when, first_text, is_told, listening, tuning_for}
 pub use Rattle.cdma_replay.specs.Listeners.{BeginsBehind, GivesAll, HasRoom, HasRoomFor, HasTold, HearsRest, IsFreshListener, Listens}
 pub use Rattle.cdma_replay.specs.Listeners.{IsBest, ListenerTells}
 unfoldable pub use Rattle.owed_replies.specs.Hearing.{best_pilot, file_end_of, file_text, told}
@@ -96,9 +96,8 @@ pub use Rattle.owed_replies.specs.Ranks.{rank_line}
 unfoldable pub use Rattle.owed_replies.specs.Ranks.{ranks_text, survey_text}
 pub use Rattle.owed_replies.specs.Status.{file_status, script_status}
 pub use Rattle.owed_replies.specs.Trials.{LeavesRoom, count_of, counts_with, is_good, one_if, summary, trial_samples, trial_span}
-pub use Rattle.owed_replies.specs.Trials.{trial_tuning}
+pub use Rattle.owed_replies.specs.Trials.{trial_settings, trial_tuning}
 unfoldable pub use Rattle.owed_replies.specs.Trials.{counts_of, trial_line}
-pub use Rattle.owed_replies.specs.declared.handset_options.HandsetOptions.{HandsetOptions}
 pub use Rattle.cdma_replay.specs.declared.listener.Listener.{Listener}
 pub use Rattle.owed_replies.specs.declared.purpose.Purpose.{Purpose}
 pub use Rattle.owed_replies.specs.declared.purpose.Purpose.TheVariants.{Find, Survey}

@@ -10,7 +10,7 @@ use Rattle.cdma_replay.proofs.Common.{IsTimed, Tuning, sync_stream, tuning_by, C
 use Rattle.cdma_replay.proofs.Common.{heard_text, run_taps, run_text, taps_behind, run_taps-append, run_taps-more, run_text-append}
 use Rattle.cdma_replay.proofs.Common.{run_text-more, run_text-none, begins_more, front_begins, prefix_before, prefix_behind, taken_begins}
 use Rattle.cdma_replay.proofs.Common.{ListensTuned, TellsTuned, TellsTunedPart, tuned_room, stands_near, text_of_nothing, TunedListener}
-use Rattle.cdma_replay.proofs.Common.{TunedText, HandsetOptions, events_sooner, timed_of, Header, IsBestIn, near_deltas, Near, Best}
+use Rattle.cdma_replay.proofs.Common.{TunedText, events_sooner, timed_of, IsBestIn, near_deltas, Near, Best}
 use Rattle.cdma_replay.proofs.Common.{best_energy-only, best_phase-only, Settings, AreNearTo, AreReady, BeginsBehind, ByFrames, ByTaps}
 use Rattle.cdma_replay.proofs.Common.{HasRoom, HasRoomFor, HasTold, IsFreshListener, Listening, Listens, Nobody, GivesAll, ListenerTells}
 use Rattle.cdma_replay.proofs.Common.{IfOk, TellsMore, Rank, event_line, ranks_text}
@@ -478,39 +478,29 @@ near_taken first fingers best near found counted most long deltas =
     first_near near.deltas (near_deltas first best.phase fingers) fingers long most deltas
     ∙ ap (λ (p : ℕ). near_deltas first p fingers) (best_phase-only first best.phase best.energy found)
 
-tuned_alike : (header : Header) (first : List Sample) (options : HandsetOptions) (settings : Settings)
-    (best : Best) (near : Near) → IsBestIn first 0 32768 best.phase best.energy →
-    settings.count ≡ header.count → settings.check30 ≡ header.check30 →
-    settings.check16 ≡ header.check16 → settings.paging ≡ options.paging →
-    settings.traffic ≡ options.traffic →
-    near.count ≡ options.fingers → options.fingers ≤ 3 → length near.deltas ≡ 3 →
+tuned_alike : (settings : Settings) (first : List Sample) (best : Best) (near : Near) →
+    IsBestIn first 0 32768 best.phase best.energy → near.count ≡ settings.fingers →
+    settings.fingers ≤ 3 → length near.deltas ≡ 3 →
     near.deltas
-    ≡ near_deltas first best.phase options.fingers ++ replicate (3 - options.fingers) (pos 0) →
-    tuning_by settings best near ≡ tuning_for header first options
-tuned_alike header first options settings best near found count check30 check16 paging traffic
-    counted most long deltas =
+    ≡ near_deltas first best.phase settings.fingers ++ replicate (3 - settings.fingers) (pos 0) →
+    tuning_by settings best near ≡ tuning_for settings first
+tuned_alike settings first best near found counted most long deltas =
     let phase : best.phase ≡ best_phase first =
     best_phase-only first best.phase best.energy found in
     let energy : best.energy ≡ energy_at first (best_phase first) =
     best_energy-only first best.phase best.energy found in
-    let near_is = near_taken first options.fingers best near found counted most long deltas in
-    rw (count, check30, check16, paging, traffic, phase, energy, near_is) refl
+    let near_is = near_taken first settings.fingers best near found counted most long deltas in
+    rw (phase, energy, near_is) refl
 
-pub fresh_given : (settings : Settings) (header : Header) (first : List Sample)
-    (options : HandsetOptions)
-    (best : Best) (near : Near) (mobile : Mobile) → IsBestIn first 0 32768 best.phase best.energy →
-    settings.count ≡ header.count → settings.check30 ≡ header.check30 →
-    settings.check16 ≡ header.check16 → settings.paging ≡ options.paging →
-    settings.traffic ≡ options.traffic →
-    length near.deltas ≡ 3 → AreNearTo first best.phase options near → AreReady near →
+pub fresh_given : (settings : Settings) (first : List Sample) (best : Best) (near : Near)
+    (mobile : Mobile) → IsBestIn first 0 32768 best.phase best.energy → length near.deltas ≡ 3 →
+    AreNearTo first best.phase settings.fingers near → AreReady near →
     StandsFor (tuning_by settings best near) mobile [] [] →
-    StandsFor (tuning_for header first options) mobile [] []
-fresh_given settings header first options best near mobile found count check30 check16 paging
-    traffic long near_is ready stands =
-    let most : options.fingers ≤ 3 = omega (arith, near_is.0, ready.1) in
+    StandsFor (tuning_for settings first) mobile [] []
+fresh_given settings first best near mobile found long near_is ready stands =
+    let most : settings.fingers ≤ 3 = omega (arith, near_is.0, ready.1) in
     subst (λ (t : Tuning). StandsFor t mobile [] [])
-    (tuned_alike header first options settings best near found count check30 check16 paging traffic
-    near_is.0 most long near_is.1) stands
+    (tuned_alike settings first best near found near_is.0 most long near_is.1) stands
 
 -- the traffic channel of lawful arguments is one that a base station may assign
 pub sound_assignment : (paging : ℕ) (traffic : Option Traffic) → IsLawfulTraffic paging traffic →

@@ -1,48 +1,59 @@
 //! How a handset is opened on the pilot's paths.
 
-ghost use Rattle.std.specs.Prelude.{◌≡◌, List, [], IfOk};
+ghost use Rattle.std.specs.Prelude.{◌≡◌, ◌≤◌, List, [], IfOk};
 ghost use Rattle.chip_core.specs.declared.sample.Sample.{Sample as TheSample};
-ghost use Rattle.cdma_io.specs.SampleFile.{IsLawfulHeader};
 ghost use Rattle.mobile_core.specs.Standing.{StandsFor, has_room};
 ghost use Rattle.tuned_listener.specs.Marking.{IsUntold};
 ghost use Rattle.cdma_replay.specs.Listeners.{IsBest};
-ghost use Rattle.owed_replies.specs.Hearing.{AreNearTo, AreReady, IsLawfulHandset, tuning_for};
+ghost use Rattle.owed_replies.specs.Hearing.{AreNearTo, AreReady, IsLawfulHandset, settings_for};
+ghost use Rattle.owed_replies.specs.Hearing.{tuning_for};
 
 use cdma_io::Header;
 use chip_core::OutOfMemory;
-use mobile_core::{Mobile, Settings};
-use owed_replies::HandsetOptions;
+use mobile_core::{Mobile, Settings, Traffic};
 use pilot_search::{Best, Near};
 use short_code::Codes;
 use std::alloc::Global;
 
-/// A handset for samples of this header, with paths near the pilot's phase.
+/// The settings of a handset for a file of this header: over how many fingers it follows the
+/// signal, 1 to 3, the number of its paging channel, 1 to 7, and its traffic channel.
+pub fn settings_for(
+    header: &Header,
+    fingers: u8,
+    paging: u8,
+    traffic: Option<Traffic>,
+) -> Settings
+    ensures { result ≡ settings_for header.now fingers paging traffic }
+{
+    Settings {
+        fingers,
+        paging,
+        traffic,
+        check30: header.check30,
+        check16: header.check16,
+        count: header.count,
+    }
+}
+
+/// A handset of these settings, with paths near the pilot's phase.
 #[tactic(auto, using(crate::proofs::Hearings::sound_assignment))]
 pub fn handset(
     alloc: Global,
-    header: Header,
-    options: HandsetOptions,
+    settings: Settings,
     best: Best,
     near: Near,
     codes: Codes,
 ) -> Result<Mobile, OutOfMemory>
-    requires header { IsLawfulHeader header }
-    requires options { IsLawfulHandset options }
+    requires lawful { IsLawfulHandset settings.fingers settings.paging settings.traffic }
+    requires count { settings.count ≤ 67108864 }
     requires near { AreReady near }
+    requires each { near.count ≡ settings.fingers }
     ensures given { (first : List TheSample) → IsBest first best →
-        AreNearTo first best.phase options near →
-        IfOk result (λ mobile. StandsFor (tuning_for header first options) mobile [] []) }
+        AreNearTo first best.phase settings.fingers near →
+        IfOk result (λ mobile. StandsFor (tuning_for settings first) mobile [] []) }
     ensures untold { IfOk result IsUntold }
-    ensures room { IfOk result (λ mobile. has_room mobile ≡ header.count) }
+    ensures room { IfOk result (λ mobile. has_room mobile ≡ settings.count) }
 {
-    let settings = Settings {
-        fingers: near.count,
-        paging: options.paging,
-        traffic: options.traffic,
-        check30: header.check30,
-        check16: header.check16,
-        count: header.count,
-    };
     Mobile::new(alloc, settings, codes, best, near)
 }
 
@@ -51,20 +62,20 @@ pub fn handset(
 #[inline(never)]
 pub fn boxed_handset(
     alloc: Global,
-    header: Header,
-    options: HandsetOptions,
+    settings: Settings,
     best: Best,
     near: Near,
     codes: Codes,
 ) -> Result<Box<Mobile>, OutOfMemory>
-    requires header { IsLawfulHeader header }
-    requires options { IsLawfulHandset options }
+    requires lawful { IsLawfulHandset settings.fingers settings.paging settings.traffic }
+    requires count { settings.count ≤ 67108864 }
     requires near { AreReady near }
+    requires each { near.count ≡ settings.fingers }
     ensures given { (first : List TheSample) → IsBest first best →
-        AreNearTo first best.phase options near →
-        IfOk result (λ mobile. StandsFor (tuning_for header first options) mobile.value [] []) }
-    ensures room { IfOk result (λ mobile. has_room mobile.value ≡ header.count) }
+        AreNearTo first best.phase settings.fingers near →
+        IfOk result (λ mobile. StandsFor (tuning_for settings first) mobile.value [] []) }
+    ensures room { IfOk result (λ mobile. has_room mobile.value ≡ settings.count) }
 {
-    let mobile = handset(alloc, header, options, best, near, codes)?;
+    let mobile = handset(alloc, settings, best, near, codes)?;
     Ok(Box::new(alloc, mobile)?)
 }

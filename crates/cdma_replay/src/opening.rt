@@ -8,17 +8,17 @@ ghost use Rattle.command_line.specs.Args.{IsFingers, IsWorkers};
 ghost use Rattle.tuned_listener.specs.TunedListening.{ListensTuned, tuned_room};
 ghost use Rattle.event_tap.specs.TunedTexts.{IsLawfulTuned};
 ghost use Rattle.owed_replies.specs.Hearing.{AreNearTo, AreReady, IsLawfulHandset};
-ghost use Rattle.owed_replies.specs.Hearing.{tuning_for, waiting};
+ghost use Rattle.owed_replies.specs.Hearing.{tuning_for};
 ghost use Rattle.owed_replies.specs.Tasks.{IsLawfulPurpose};
 ghost use Rattle.cdma_replay.specs.Listeners.{IsBest, IsListenerFor};
 
-use crate::handset::{boxed_handset, handset};
+use crate::handset::{boxed_handset, handset, settings_for};
 use crate::listener::Listener;
 use cdma_io::Header;
-use chip_core::{OutOfMemory, Phase, Sample};
+use chip_core::{OutOfMemory, Phase, Sample, Traffic};
 use event_tap::TunedText;
-use mobile_core::Channel;
-use owed_replies::{HandsetOptions, Purpose};
+use mobile_core::{Channel, Settings};
+use owed_replies::Purpose;
 use pilot_search::{Best, Gate, Near, near, search};
 use pilot_survey::survey;
 use short_code::Codes;
@@ -26,38 +26,33 @@ use std::alloc::Global;
 use std::thread::Threads;
 use tuned_listener::TunedListener;
 
-/// Who hears the frames of one channel in a file of this header, with paths near the pilot's phase,
-/// in memory of its own.
+/// Who hears the frames of one channel after a handset of these settings, with paths near the
+/// pilot's phase, in memory of its own.
 // Its frame holds the listener several times over, and is free again before the listener hears.
 #[inline(never)]
 fn tuned_listener(
     alloc: Global,
-    header: Header,
+    settings: Settings,
     best: Best,
     near: Near,
-    fingers: u8,
     channel: Channel,
     text: TunedText,
     codes: Codes,
 ) -> Result<Box<TunedListener>, OutOfMemory>
-    requires header { IsLawfulHeader header }
+    requires settings { IsLawfulHandset settings.fingers settings.paging settings.traffic }
+    requires count { settings.count ≤ 67108864 }
     requires near { AreReady near }
-    requires fingers { IsFingers fingers }
+    requires each { near.count ≡ settings.fingers }
     requires lawful { IsLawfulTuned channel text }
     ensures listens { (first : List TheSample) → IsBest first best →
-        AreNearTo first best.phase (waiting fingers) near →
+        AreNearTo first best.phase settings.fingers near →
         IfOk result (λ tuned.
-        ListensTuned (tuning_for header first (waiting fingers)) channel text tuned.value []) }
-    ensures room { IfOk result (λ tuned. tuned_room tuned.value ≡ header.count) }
+        ListensTuned (tuning_for settings first) channel text tuned.value []) }
+    ensures room { IfOk result (λ tuned. tuned_room tuned.value ≡ settings.count) }
 {
     let Best { phase, .. } = best;
-    let options = HandsetOptions {
-        fingers,
-        paging: 1,
-        traffic: None,
-    };
-    let mobile = handset(alloc, header, options, best, near, codes)?;
-    let tuned = TunedListener::open(alloc, mobile, channel, text, header.check30, phase, near)?;
+    let mobile = handset(alloc, settings, best, near, codes)?;
+    let tuned = TunedListener::open(alloc, mobile, channel, text, settings.check30, phase, near)?;
     Ok(Box::new(alloc, tuned)?)
 }
 
@@ -81,20 +76,24 @@ fn find_pilot<R: Threads + Sync, G: Gate + Sync>(
 /// A handset for a file of this header on the paths near the pilot in its first samples.
 fn handset_near(
     alloc: Global,
-    options: HandsetOptions,
+    fingers: u8,
+    paging: u8,
+    traffic: Option<Traffic>,
     header: Header,
     codes: Codes,
     first: &[Sample],
     best: &Best,
 ) -> Result<Listener, OutOfMemory>
-    requires options { IsLawfulHandset options }
+    requires lawful { IsLawfulHandset fingers paging traffic }
     requires header { IsLawfulHeader header }
     requires few { length first.now ≤ 32768 }
     requires best { IsBest first.now best.now }
-    ensures { IfOk result (IsListenerFor (Purpose.Follow options) header first.now) }
+    ensures { IfOk result
+        (IsListenerFor (Purpose.Follow fingers paging traffic) header first.now) }
 {
-    let paths = near(first, &codes, *best, options.fingers);
-    let mobile = boxed_handset(alloc, header, options, *best, paths, codes)?;
+    let paths = near(first, &codes, *best, fingers);
+    let settings = settings_for(&header, fingers, paging, traffic);
+    let mobile = boxed_handset(alloc, settings, *best, paths, codes)?;
     Ok(Listener::Handset(mobile))
 }
 
@@ -118,7 +117,8 @@ fn tuned_near(
     ensures { IfOk result (IsListenerFor (Purpose.Tuned fingers channel text) header first.now) }
 {
     let paths = near(first, &codes, *best, fingers);
-    let tuned = tuned_listener(alloc, header, *best, paths, fingers, channel, text, codes)?;
+    let settings = settings_for(&header, fingers, 1, None);
+    let tuned = tuned_listener(alloc, settings, *best, paths, channel, text, codes)?;
     Ok(Listener::Tuned(tuned))
 }
 
@@ -164,9 +164,13 @@ pub fn listener_for<R: Threads + Sync, G: Gate + Sync>(
 {
     match purpose {
         Purpose::Find => find_pilot(rt, alloc, codes, first, workers, gate),
-        Purpose::Follow(options) => {
+        Purpose::Follow {
+            fingers,
+            paging,
+            traffic,
+        } => {
             let best = search(rt, alloc, first, &codes, workers, gate)?;
-            handset_near(alloc, options, header, codes, first, &best)
+            handset_near(alloc, fingers, paging, traffic, header, codes, first, &best)
         }
         Purpose::Tuned {
             fingers,

@@ -9,22 +9,23 @@ ghost use Rattle.cdma_io.specs.Outside.{AppendsPrefix, Rose};
 ghost use Rattle.chip_core.specs.declared.width.Width.TheVariants.{Sixteen};
 ghost use Rattle.command_line.specs.Args.{IsWorkers};
 ghost use Rattle.cell_plan.specs.Sampled.{made_samples};
+ghost use Rattle.cell_plan.specs.Transmitter.{header_of};
 ghost use Rattle.trial_link.specs.Trial.{trial_plan};
 ghost use Rattle.heard_events.specs.Events.{events};
 ghost use Rattle.mobile_core.specs.Standing.{StandsFor, has_room, steps_left};
 ghost use Rattle.heard_events.specs.Tuning.{Tuning};
 ghost use Rattle.heard_events.specs.declared.event.Event.{Event as TheEvent};
 ghost use Rattle.owed_replies.specs.Trials.{LeavesRoom, counts_of, summary, trial_line};
-ghost use Rattle.owed_replies.specs.Trials.{trial_options};
+ghost use Rattle.owed_replies.specs.Trials.{trial_settings};
 
-use crate::handset::boxed_handset;
+use crate::handset::{boxed_handset, settings_for};
 use crate::workspace::Workspace;
 use base_modulator::{Cell, trial_script, trial_serial_number};
-use cdma_io::{Failed, Sink, Width, write_all};
+use cdma_io::{Failed, Header, Sink, Width, write_all};
 use chip_core::{OutOfMemory, Sample};
 use event_tap::Text;
-use mobile_core::{Mobile, Traffic};
-use owed_replies::{Counts, HandsetOptions, Status};
+use mobile_core::{Mobile, Settings, Traffic};
+use owed_replies::{Counts, Status};
 use pilot_search::{Gate, near, search};
 use short_code::Codes;
 use std::alloc::Global;
@@ -33,20 +34,18 @@ use std::thread::Threads;
 /// In how many of the first samples the pilot is searched.
 const SPAN: usize = 2048;
 
-/// How the link is received: over one finger, with paging channel 1 and the traffic channel whose
-/// frames are drawn from the number.
-fn options_for(number: u64) -> HandsetOptions
-    ensures { result ≡ trial_options number }
+/// How the link of a number is received, of whose samples this is the header: over one finger, with
+/// paging channel 1 and the traffic channel whose frames are drawn from the number.
+fn settings_by(number: u64, header: &Header) -> Settings
+    requires { header.now ≡ header_of Sixteen (trial_plan number) }
+    ensures { result ≡ trial_settings number }
 {
-    HandsetOptions {
-        fingers: 1,
-        paging: 1,
-        traffic: Some(Traffic {
-            esn: trial_serial_number(number),
-            row: 8,
-            offset: 0,
-        }),
-    }
+    let traffic = Traffic {
+        esn: trial_serial_number(number),
+        row: 8,
+        offset: 0,
+    };
+    settings_for(header, 1, 1, Some(traffic))
 }
 
 /// The cell of a number, before its first sample. Its script is lawful, so only memory can be
@@ -158,9 +157,9 @@ fn follow_cell<R: Threads + Sync, G: Gate + Sync>(
     let header = cell.header();
     cell.fill(span);
     let best = search(rt, alloc, span, &codes, workers, gate)?;
-    let options = options_for(number);
-    let paths = near(span, &codes, best, options.fingers);
-    let mut boxed = boxed_handset(alloc, header, options, best, paths, codes)?;
+    let settings = settings_by(number, &header);
+    let paths = near(span, &codes, best, settings.fingers);
+    let mut boxed = boxed_handset(alloc, settings, best, paths, codes)?;
     let mobile = &mut *boxed;
     let mut counts = Counts::none();
     count(mobile, span, &mut counts);

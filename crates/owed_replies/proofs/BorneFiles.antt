@@ -3,7 +3,7 @@
 use Rattle.owed_replies.proofs.Common.{◌≡◌, ℕ, List, length, take, refl, sym, ap, ◌∙◌, subst, Option, None, Some, is_some, nat_lt, Contains}
 use Rattle.owed_replies.proofs.Common.{Sample, Width, Header, CellPlan, PagingPlan, TrafficPlan, SyncPlan, IsReceivable, made_samples, mark}
 use Rattle.owed_replies.proofs.Common.{Mark, Tuning, IsOnPath, IsNearFile, IsPlanFile, IsCellFile, lawful_traffic, named_receivable}
-use Rattle.owed_replies.proofs.Common.{clean_end, end_when, tuning_for, HandsetOptions, All-contains, Bears, HearsSentSync, IsNear}
+use Rattle.owed_replies.proofs.Common.{clean_end, end_when, settings_for, tuning_for, Traffic, All-contains, Bears, HearsSentSync, IsNear}
 use Rattle.owed_replies.proofs.Common.{IsPagingPlan, IsSyncPlan, ShowsSync, clean_sync, events_of_channel, heard_sync, marked_in}
 use Rattle.owed_replies.proofs.Common.{near-equal, near-same, none_borne, sent_paging_rate, sync_sent}
 use Rattle.owed_replies.proofs.TuningLaw.{near_long, on_plans_path}
@@ -68,16 +68,16 @@ cell_borne {width} {script} {plan} {samples = samples} file counted =
 -- ---- what is heard
 
 module _ {e : ℕ} {width : Width} {plan : CellPlan} {span : ℕ} {header : Header}
-    {samples : List Sample} (options : HandsetOptions)
-    (file : IsBorneFile e width plan span options.fingers header samples) where
+    {samples : List Sample} (fingers paging : ℕ) (traffic : Option Traffic)
+    (file : IsBorneFile e width plan span fingers header samples) where
   abbrev tuning : Tuning
-  tuning = tuning_for header (take span samples) options
+  tuning = tuning_for (settings_for header fingers paging traffic) (take span samples)
 
   pub path : IsOnPath plan tuning
-  path = on_plans_path e width plan span options header samples file.near file.counted
+  path = on_plans_path e width plan span fingers paging traffic header samples file.near file.counted
 
   pub long : length samples ≡ plan.link.samples
-  long = near_long e width plan span options.fingers header samples file.near
+  long = near_long e width plan span fingers header samples file.near
 
   -- a sync channel that is sent
   pub hears : (sync : SyncPlan) → plan.sync ≡ Some sync → Bears plan sync.gain e →

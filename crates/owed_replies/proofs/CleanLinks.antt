@@ -2,8 +2,8 @@
 use Rattle.owed_replies.proofs.Common.{◌≡◌, ◌⊎◌, inl, inr, ℕ, ◌≤◌, List, ◌++◌, length, take, refl, ap, ◌∙◌, subst, All, Option, Some, Ok}
 use Rattle.owed_replies.proofs.Common.{Sample, Width, IsSampleFile, Header, made_samples, CellPlan, KeptTap, run_text, events, Tuning}
 use Rattle.owed_replies.proofs.Common.{Event, Traffic, IsPaging, tuning_to, IsNotDirected, IsOnPath, IsCleanLink, cell_energy, HearsEach}
-use Rattle.owed_replies.proofs.Common.{each_channel, WritesEach, clean_end, file_end_of, file_text, told, tuning_for, AnswersBehind}
-use Rattle.owed_replies.proofs.Common.{IsFileReply, Reply, following, HandsetOptions, Status, NoMemory, named_receivable}
+use Rattle.owed_replies.proofs.Common.{each_channel, WritesEach, clean_end, file_end_of, file_text, told, settings_for, tuning_for}
+use Rattle.owed_replies.proofs.Common.{AnswersBehind, IsFileReply, Reply, following, Status, NoMemory, named_receivable}
 use Rattle.owed_replies.proofs.CleanTexts.{clean_end-is, on_path, tuned_to_cell}
 use Rattle.owed_replies.proofs.Replies.{whole_file}
 
@@ -13,23 +13,20 @@ module _ (width : Width) (script : List ℕ) (plan : CellPlan)
     (clean : IsCleanLink width script plan span fingers paging traffic
     header samples)
     (counted : length samples ≡ header.count) (one : IsPaging paging) where
-  abbrev options : HandsetOptions
-  options = record { fingers = fingers; paging = paging; traffic = traffic }
-
   abbrev first : List Sample
   first = take span samples
 
   abbrev tuning : Tuning
-  tuning = tuning_for header first options
+  tuning = tuning_for (settings_for header fingers paging traffic) first
 
   path : IsOnPath plan tuning
-  path = on_path width script plan span options header samples clean.file counted
+  path = on_path width script plan span fingers paging traffic header samples clean.file counted
 
   abbrev to_cell : Tuning
   to_cell = tuning_to plan (cell_energy span plan) paging traffic
 
   tuned_so : tuning ≡ to_cell
-  tuned_so = tuned_to_cell width script plan span options header samples clean.file counted
+  tuned_so = tuned_to_cell width script plan span fingers paging traffic header samples clean.file counted
 
   abbrev heard : List Event
   heard = events to_cell (made_samples plan)

@@ -16,7 +16,7 @@ use Rattle.owed_replies.specs.declared.purpose.Purpose.TheVariants as purposes
 
 each_purpose : (purpose : Purpose) (status : Status) → IsSearchEnd status → IsFileEnd status →
     IsPurposeEnd purpose status
-each_purpose (purposes.Follow options) status search file = file
+each_purpose (purposes.Follow fingers paging traffic) status search file = file
 each_purpose (purposes.Tuned fingers channel text) status search file = file
 each_purpose purpose status search file = search
 

@@ -59,6 +59,7 @@ pub use Rattle.heard_events.specs.Events.{events}
 pub use Rattle.heard_events.specs.Marks.{mark}
 pub use Rattle.heard_events.specs.Tuning.{Tuning}
 pub use Rattle.heard_events.specs.declared.event.Event.{Event}
+pub use Rattle.heard_events.specs.declared.settings.Settings.{Settings}
 pub use Rattle.heard_events.specs.declared.mark.Mark.{Mark}
 pub use Rattle.pilot_search.proofs.BestPhase.{best_phase-is}
 pub use Rattle.pilot_search.proofs.NearPlaces.{one_delta}
@@ -71,7 +72,7 @@ pub use Rattle.owed_replies.specs.CleanLinks.{WritesEach}
 pub use Rattle.owed_replies.specs.Find.{BeginsFile, IsEnd, IsFault, IsFaultIn, IsHeaderFault, IsLaterFault, IsOfFiles, IsRestFault}
 pub use Rattle.owed_replies.specs.Find.{IsSearchable, PassesSamples, TakesNoMore, TakesSpan, WritesNoMore, WritesText, ended, file_end}
 pub use Rattle.owed_replies.specs.Find.{most_taken}
-pub use Rattle.owed_replies.specs.Hearing.{PurposeIsUnheard, clean_end, end_when, is_told, listening, tuning_for}
+pub use Rattle.owed_replies.specs.Hearing.{PurposeIsUnheard, clean_end, end_when, is_told, listening, settings_for, tuning_for}
 unfoldable pub use Rattle.owed_replies.specs.Hearing.{clean_events, file_end_of, file_text, told}
 pub use Rattle.owed_replies.specs.Make.{WritesMadeFile}
 unfoldable pub use Rattle.owed_replies.specs.Make.{made_file}
@@ -86,7 +87,6 @@ pub use Rattle.owed_replies.specs.TaskRuns.{MakesFile, ReceivesFile, RunsTask}
 pub use Rattle.owed_replies.specs.Tasks.{following, task_of}
 unfoldable pub use Rattle.owed_replies.specs.Trials.{trial_line}
 pub use Rattle.owed_replies.specs.TuningLaw.{HandsetsAreTuned, HandsetsLieOnThePath}
-pub use Rattle.owed_replies.specs.declared.handset_options.HandsetOptions.{HandsetOptions}
 pub use Rattle.owed_replies.specs.declared.purpose.Purpose.{Purpose}
 pub use Rattle.owed_replies.specs.declared.purpose.Purpose.TheVariants.{Follow, Tuned}
 pub use Rattle.owed_replies.specs.declared.reception.Reception.{Reception}

@@ -43,7 +43,7 @@ begins_file {header} {samples} (Some bytes) (Some behind) same t = record {
 unheard_told : (taps : List KeptTap) (purpose : Purpose) (header : Header)
     (first heard : List Sample) → PurposeIsUnheard purpose →
     is_told (listening taps purpose header first) heard ≡ true
-unheard_told taps (Follow options) header first heard unheard = absurd unheard
+unheard_told taps (Follow fingers paging traffic) header first heard unheard = absurd unheard
 unheard_told taps (Tuned fingers channel text) header first heard unheard = absurd unheard
 unheard_told taps purpose header first heard unheard = refl
 

@@ -77,7 +77,7 @@ search_end status end alone = tt
 -- for a purpose
 pub purpose_end : (purpose : Purpose) (status : Status) → IsFileEnd status →
     (PurposeIsUnheard purpose → status ≢ Status.NoSync) → IsPurposeEnd purpose status
-purpose_end (purposes.Follow options) status end alone = end
+purpose_end (purposes.Follow fingers paging traffic) status end alone = end
 purpose_end (purposes.Tuned fingers channel text) status end alone = end
 purpose_end purpose status end alone = search_end status end (alone tt)
 

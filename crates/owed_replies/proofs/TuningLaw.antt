@@ -4,7 +4,7 @@ use Rattle.owed_replies.proofs.Common.{near_deltas, best_phase, energy, best_pha
 use Rattle.owed_replies.proofs.Common.{HandsetsAreTuned, HandsetsLieOnThePath, length-near}
 
 pub handsets_tuned : HandsetsAreTuned
-handsets_tuned span header samples options = (refl, refl, refl, refl, refl)
+handsets_tuned span header samples fingers paging traffic = (refl, refl, refl, refl, refl)
 
 -- a file that is near to what a cell sends has as many samples
 pub near_long : (e : ℕ) (width : Width) (plan : CellPlan) (span fingers : ℕ) (header : Header)
@@ -22,10 +22,10 @@ own_delta samples =
 
 -- so the handset lies on the cell's path
 pub on_plans_path : HandsetsLieOnThePath
-on_plans_path e width plan span options header samples file counted =
+on_plans_path e width plan span fingers paging traffic header samples file counted =
     let first = take span samples in
     record {
-      count = sym counted ∙ near_long e width plan span options.fingers header samples file;
+      count = sym counted ∙ near_long e width plan span fingers header samples file;
       checks_of_30 = file.checks_of_30;
       checks_of_16 = file.checks_of_16;
       phase = file.found;

@@ -19,6 +19,7 @@ use Rattle.heard_events.specs.Tuning.{Tuning}
 use Rattle.heard_events.specs.declared.channel.Channel.{Channel}
 use Rattle.heard_events.specs.declared.event.Event.{Event}
 use Rattle.heard_events.specs.declared.event.Event.TheVariants.{Pilot}
+use Rattle.heard_events.specs.declared.settings.Settings.{Settings}
 use Rattle.chip_core.specs.declared.assignment.Traffic.{Traffic}
 use Rattle.command_line.specs.Args.{IsFingers, IsLawfulTraffic, IsPaging}
 use Rattle.event_tap.specs.EventLines.{event_line}
@@ -29,7 +30,6 @@ use Rattle.event_tap.specs.TunedTexts.{tuned_text}
 use Rattle.event_tap.specs.declared.tuned_text.TunedText.{TunedText}
 use Rattle.owed_replies.specs.CleanFiles.{cell_energy}
 use Rattle.owed_replies.specs.Ranks.{survey_text}
-use Rattle.owed_replies.specs.declared.handset_options.HandsetOptions.{HandsetOptions}
 use Rattle.owed_replies.specs.declared.purpose.Purpose.{Purpose}
 use Rattle.owed_replies.specs.declared.purpose.Purpose.TheVariants.{Find, Follow, Survey, Tuned}
 use Rattle.owed_replies.specs.declared.reception.Reception.{Reception}
@@ -46,27 +46,38 @@ best_pilot samples = Pilot (best_phase samples) (energy samples (best_phase samp
 -- where the file is heard
 abbrev pub first_text : Purpose → List Sample → List ℕ
 first_text Find first = event_line (best_pilot first)
-first_text (Follow options) first = []
+first_text (Follow fingers paging traffic) first = []
 first_text (Tuned fingers channel text) first = []
 first_text (Survey base width top) first = survey_text base width top first
 
--- a handset that follows a file of this header, where the pilot was searched in its first samples
-abbrev pub tuning_for : Header → List Sample → HandsetOptions → Tuning
-tuning_for header first options =
+-- the settings of a handset for a file of this header
+abbrev pub settings_for : Header → ℕ → ℕ → Option Traffic → Settings
+settings_for header fingers paging traffic = record {
+  fingers = fingers;
+  paging = paging;
+  traffic = traffic;
+  check30 = header.check30;
+  check16 = header.check16;
+  count = header.count;
+}
+
+-- of one that waits for the mark: which paging channel it would follow from there on doesn't matter
+abbrev pub waiting : Header → ℕ → Settings
+waiting header fingers = settings_for header fingers 1 None
+
+-- a handset of these settings, where the pilot was searched in these first samples of its file
+abbrev pub tuning_for : Settings → List Sample → Tuning
+tuning_for settings first =
     record {
-      count = header.count;
+      count = settings.count;
       phase = best_phase first;
       energy = energy first (best_phase first);
-      deltas = near_deltas first (best_phase first) options.fingers;
-      check30 = header.check30;
-      check16 = header.check16;
-      paging = options.paging;
-      traffic = options.traffic;
+      deltas = near_deltas first (best_phase first) settings.fingers;
+      check30 = settings.check30;
+      check16 = settings.check16;
+      paging = settings.paging;
+      traffic = settings.traffic;
     }
-
--- one that waits for the mark: which paging channel it would follow from there on doesn't matter
-abbrev pub waiting : ℕ → HandsetOptions
-waiting fingers = record { fingers = fingers; paging = 1; traffic = None }
 
 -- who hears a file: nobody, or a handset whose events these taps hear, or a handset for the mark
 -- and a receiver for the frames of one channel after it
@@ -78,10 +89,10 @@ pub data Listening : Type 0 where
 -- who hears one of this header with these first samples: these taps, where a handset follows it
 abbrev pub listening : List KeptTap → Purpose → Header → List Sample → Listening
 listening taps Find header first = Nobody
-listening taps (Follow options) header first =
-    ByTaps (tuning_for header first options) taps
+listening taps (Follow fingers paging traffic) header first =
+    ByTaps (tuning_for (settings_for header fingers paging traffic) first) taps
 listening taps (Tuned fingers channel text) header first =
-    ByFrames (tuning_for header first (waiting fingers)) channel text
+    ByFrames (tuning_for (waiting header fingers) first) channel text
 listening taps (Survey base width top) header first = Nobody
 
 -- what is told of samples
@@ -131,17 +142,15 @@ clean_end plan = end_when (nat_lt 0 (length (sync_sent plan)))
 -- ---- what the search hands on
 
 -- the paths near the best phase of samples, as many as the receiver has fingers
-abbrev pub AreNearTo : List Sample → ℕ → HandsetOptions → Near → Type 0
-AreNearTo samples phase options near =
-    (near.count ≡ options.fingers) ×
-    (near.deltas ≡
-    near_deltas samples phase options.fingers ++ replicate (3 - options.fingers) (pos 0))
+abbrev pub AreNearTo : List Sample → ℕ → ℕ → Near → Type 0
+AreNearTo samples phase fingers near =
+    (near.count ≡ fingers) ×
+    (near.deltas ≡ near_deltas samples phase fingers ++ replicate (3 - fingers) (pos 0))
 
 -- one to three fingers, one of the seven paging channels, and a traffic channel beside it, or none
-abbrev pub IsLawfulHandset : HandsetOptions → Type 0
-IsLawfulHandset options =
-    IsFingers options.fingers × IsPaging options.paging
-    × IsLawfulTraffic options.paging options.traffic
+abbrev pub IsLawfulHandset : ℕ → ℕ → Option Traffic → Type 0
+IsLawfulHandset fingers paging traffic =
+    IsFingers fingers × IsPaging paging × IsLawfulTraffic paging traffic
 
 -- from one to three of them, the best phase first
 abbrev pub AreReady : Near → Type 0

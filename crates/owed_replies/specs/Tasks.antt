@@ -27,7 +27,7 @@ abbrev pub following : ℕ → ℕ → ℕ → ℕ → Option Traffic → Recept
 following span workers fingers paging traffic = record {
   span = span;
   workers = workers;
-  purpose = purposes.Follow (record { fingers = fingers; paging = paging; traffic = traffic });
+  purpose = purposes.Follow fingers paging traffic;
 }
 
 abbrev pub surveying : ℕ → ℕ → ℕ → ℕ → ℕ → Reception
@@ -75,7 +75,7 @@ task_of (jobs.Trial number workers) = Trial number workers
 -- a receiver, a channel or the numbers of a survey, as arguments name them
 abbrev pub IsLawfulPurpose : Purpose → Type 0
 IsLawfulPurpose purposes.Find = Unit {0}
-IsLawfulPurpose (purposes.Follow options) = IsLawfulHandset options
+IsLawfulPurpose (purposes.Follow fingers paging traffic) = IsLawfulHandset fingers paging traffic
 IsLawfulPurpose (purposes.Tuned fingers channel text) =
     IsFingers fingers × IsLawfulTuned channel text
 IsLawfulPurpose (purposes.Survey base width top) = IsBase base × IsWidth width × IsTop top

@@ -11,9 +11,9 @@ use Rattle.heard_events.specs.Events.{events}
 use Rattle.heard_events.specs.Tuning.{Tuning}
 use Rattle.heard_events.specs.declared.event.Event.{Event}
 use Rattle.heard_events.specs.declared.event.Event.TheVariants.{Frame}
+use Rattle.heard_events.specs.declared.settings.Settings.{Settings}
 use Rattle.clean_link.specs.HeardEach.{is_frame, is_page, is_sync}
-use Rattle.owed_replies.specs.Hearing.{tuning_for}
-use Rattle.owed_replies.specs.declared.handset_options.HandsetOptions.{HandsetOptions}
+use Rattle.owed_replies.specs.Hearing.{settings_for, tuning_for}
 use Rattle.owed_replies.specs.declared.counts.Counts.{Counts}
 
 -- ---- counts
@@ -57,12 +57,10 @@ pub record LeavesRoom (counts : Counts) (more : ℕ) : Type 0 where
 -- ---- the summary
 
 -- one finger, paging channel 1, and the traffic channel with the hundred frames
-abbrev pub trial_options : ℕ → HandsetOptions
-trial_options number = record {
-  fingers = 1;
-  paging = 1;
-  traffic = Some (record { esn = trial_serial_number number; row = 8; offset = 0 });
-}
+abbrev pub trial_settings : ℕ → Settings
+trial_settings number =
+    settings_for (header_of Sixteen (trial_plan number)) 1 1
+    (Some (record { esn = trial_serial_number number; row = 8; offset = 0 }))
 
 -- the samples of the link
 abbrev pub trial_samples : ℕ → List Sample
@@ -73,8 +71,7 @@ abbrev pub trial_span : ℕ → List Sample
 trial_span number = take 2048 (trial_samples number)
 
 abbrev pub trial_tuning : ℕ → Tuning
-trial_tuning number =
-    tuning_for (header_of Sixteen (trial_plan number)) (trial_span number) (trial_options number)
+trial_tuning number = tuning_for (trial_settings number) (trial_span number)
 
 -- `trial number=N samples=S phase=P syncs=A pagings=B frames=C good=D` and LF
 unfoldable pub summary : ℕ → ℕ → ℕ → Counts → List ℕ

@@ -1,5 +1,6 @@
 -- The handset that hears a file is tuned by it, and lies on the path of the cell that it holds.
-use Rattle.std.specs.Prelude.{◌≡◌, ℕ, List, length, take}
+use Rattle.std.specs.Prelude.{◌≡◌, ℕ, List, length, take, Option}
+use Rattle.chip_core.specs.declared.assignment.Traffic.{Traffic}
 use Rattle.chip_core.specs.declared.sample.Sample.{Sample}
 use Rattle.chip_core.specs.declared.width.Width.{Width}
 use Rattle.cdma_io.specs.declared.header.Header.{Header}
@@ -8,25 +9,25 @@ use Rattle.pilot_search.specs.Search.{best_phase}
 use Rattle.cell_plan.specs.declared.plan.CellPlan.{CellPlan}
 use Rattle.clean_link.specs.CleanLink.{IsOnPath}
 use Rattle.clean_signal.specs.NearFiles.{IsNearFile}
-use Rattle.owed_replies.specs.Hearing.{tuning_for}
-use Rattle.owed_replies.specs.declared.handset_options.HandsetOptions.{HandsetOptions}
+use Rattle.owed_replies.specs.Hearing.{settings_for, tuning_for}
 
 -- Each handset of a run is tuned by the file's header and by the pilot in its first samples, as
 -- many as the span is, over the receiver's fingers.
 abbrev pub HandsetsAreTuned : Type 0
 HandsetsAreTuned =
-    (span : ℕ) (header : Header) (samples : List Sample) (options : HandsetOptions) →
+    (span : ℕ) (header : Header) (samples : List Sample) (fingers paging : ℕ)
+    (traffic : Option Traffic) →
     let first = take span samples in
-    let t = tuning_for header first options in
+    let t = tuning_for (settings_for header fingers paging traffic) first in
     (t.count ≡ header.count) × (t.phase ≡ best_phase first)
-    × (t.deltas ≡ near_deltas first (best_phase first) options.fingers)
+    × (t.deltas ≡ near_deltas first (best_phase first) fingers)
     × (t.check30 ≡ header.check30) × (t.check16 ≡ header.check16)
 
 -- So where the file holds what a lawful cell sends, with any noise, the search finds the cell's
 -- path and there is one finger, it lies on that path.
 abbrev pub HandsetsLieOnThePath : Type 0
 HandsetsLieOnThePath =
-    (e : ℕ) (width : Width) (plan : CellPlan) (span : ℕ) (options : HandsetOptions)
-    (header : Header) (samples : List Sample) →
-    IsNearFile e width plan span options.fingers header samples → length samples ≡ header.count →
-    IsOnPath plan (tuning_for header (take span samples) options)
+    (e : ℕ) (width : Width) (plan : CellPlan) (span fingers paging : ℕ)
+    (traffic : Option Traffic) (header : Header) (samples : List Sample) →
+    IsNearFile e width plan span fingers header samples → length samples ≡ header.count →
+    IsOnPath plan (tuning_for (settings_for header fingers paging traffic) (take span samples))

@@ -9,14 +9,12 @@
 #![tactic(auto)]
 
 mod counts;
-mod handset_options;
 mod purpose;
 mod reception;
 mod status;
 mod task;
 
 pub use counts::Counts;
-pub use handset_options::HandsetOptions;
 pub use purpose::Purpose;
 pub use reception::Reception;
 pub use status::Status;

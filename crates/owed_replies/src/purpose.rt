@@ -1,6 +1,6 @@
 //! What a sample file is received for.
 
-use crate::handset_options::HandsetOptions;
+use chip_core::Traffic;
 use event_tap::TunedText;
 use heard_events::Channel;
 
@@ -10,7 +10,14 @@ pub enum Purpose {
     /// The pilot alone.
     Find,
     /// The pilot, and what a handset hears.
-    Follow(HandsetOptions),
+    Follow {
+        /// Over how many fingers it follows the signal, 1 to 3.
+        fingers: u8,
+        /// The number of the paging channel that it follows, 1 to 7.
+        paging: u8,
+        /// The traffic channel that it follows; `None` where it follows none.
+        traffic: Option<Traffic>,
+    },
     /// The frames of one channel of the base station, from the mark on.
     Tuned {
         /// Over how many fingers the signal is followed, 1 to 3.

@@ -4,7 +4,6 @@ ghost use Rattle.std.specs.Prelude.{◌≡◌};
 ghost use Rattle.command_line.specs.Args.{IsLawfulJob};
 ghost use Rattle.owed_replies.specs.Tasks.{IsLawfulTask, hearing, task_of, untapped};
 
-use crate::handset_options::HandsetOptions;
 use crate::purpose::Purpose;
 use crate::reception::Reception;
 use chip_core::{EventLimits, Traffic, Width};
@@ -85,11 +84,11 @@ pub fn task_of(job: Job) -> Task
             reception: Reception {
                 span,
                 workers,
-                purpose: Purpose::Follow(HandsetOptions {
+                purpose: Purpose::Follow {
                     fingers,
                     paging,
                     traffic,
-                }),
+                },
             },
             limits: Some(limits),
         },

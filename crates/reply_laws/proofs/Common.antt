@@ -118,7 +118,7 @@ pub use Rattle.event_tap.specs.declared.tuned_text.TunedText.TheVariants.{Listed
 pub use borrow.Author.Gap.{read_sfits}
 pub use Rattle.owed_replies.specs.CleanFiles.{IsCleanLink, cell_energy}
 pub use Rattle.owed_replies.specs.Find.{IsFaultIn, file_end}
-pub use Rattle.owed_replies.specs.Hearing.{ByFrames, clean_end, end_when, first_text, is_told, listening, tuning_for, waiting}
+pub use Rattle.owed_replies.specs.Hearing.{ByFrames, clean_end, end_when, first_text, is_told, listening, settings_for, tuning_for, waiting}
 unfoldable pub use Rattle.owed_replies.specs.Hearing.{best_pilot, file_end_of, file_text, told}
 unfoldable pub use Rattle.owed_replies.specs.Make.{made_file}
 pub use Rattle.reply_laws.specs.NoisyReplies.{IsNoisyFile, NoisyRepliesComeBack}
@@ -134,7 +134,6 @@ pub use Rattle.reply_laws.specs.SleepLaw.{SleepChangesNoReply}
 pub use Rattle.reply_laws.specs.SlotReplies.{FileSlotsComeBack, IdleRepliesComeBack}
 pub use Rattle.owed_replies.specs.Tasks.{hearing, task_of}
 unfoldable pub use Rattle.owed_replies.specs.Trials.{trial_line}
-pub use Rattle.owed_replies.specs.declared.handset_options.HandsetOptions.{HandsetOptions}
 pub use Rattle.owed_replies.specs.declared.purpose.Purpose.{Purpose}
 pub use Rattle.owed_replies.specs.declared.purpose.Purpose.TheVariants.{Tuned}
 pub use Rattle.owed_replies.specs.declared.reception.Reception.{Reception}

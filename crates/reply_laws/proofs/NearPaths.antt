@@ -174,5 +174,5 @@ module _ (samples : List Sample) where
 -- ---- a handset that waits for the mark
 
 pub waiting_near : (header : Header) (first : List Sample) (fingers : ℕ) → IsFingers fingers →
-    AreNear (sync_stream (tuning_for header first (waiting fingers))).fingers
+    AreNear (sync_stream (tuning_for (waiting header fingers) first)).fingers
 waiting_near header first fingers few = all_followed first fingers few (best_phase first)

@@ -1,7 +1,7 @@
 -- What is owed of a file with noise of a bounded size: the channels that bear it come back.
-use Rattle.reply_laws.proofs.Common.{ℕ, List, take, ap, ◌∙◌, Ok, Sample, Width, Header, CellPlan, kept_by, run_text, events, tuning_for}
+use Rattle.reply_laws.proofs.Common.{ℕ, List, take, ap, ◌∙◌, Ok, Sample, Width, Header, CellPlan, kept_by, run_text, events, settings_for}
 use Rattle.reply_laws.proofs.Common.{Status, Traffic, TrafficPlan, SendsSetOne, SendsSetTwo, sym, subst, IsLineOfSetOne, IsLineOfSetTwo}
-use Rattle.reply_laws.proofs.Common.{Job, IsNoisyFile, NoisyRepliesComeBack, noisy_each_channel, noisy_no_event}
+use Rattle.reply_laws.proofs.Common.{Job, tuning_for, IsNoisyFile, NoisyRepliesComeBack, noisy_each_channel, noisy_no_event}
 use Rattle.owed_replies.proofs.BorneFiles.{BearsSync, IsBorneFile, end_is, hears, path}
 use Rattle.reply_laws.proofs.Owed.{follow_owes}
 use Rattle.owed_replies.proofs.Replies.{one_reply}
@@ -27,25 +27,28 @@ borne {e} {plan = plan} noisy = record {
 -- since the sync channel bears the noise and so a mark is set where a clean link sets one. The
 -- handset is on the cell's path, so each channel that bears the noise comes back in these events.
 pub noisy_follow : laws.NoisyFollowRepliesComeBack
-noisy_follow forms limits bytes e width plan span workers options header samples reply noisy undirected
-    owed =
+noisy_follow forms limits bytes e width plan span workers fingers paging traffic header samples reply
+    noisy undirected owed =
     let file = borne noisy in
-    let t = tuning_for header (take span samples) options in
-    let job : Job =
-    jobs.Follow span workers options.fingers options.paging options.traffic limits in (
+    let t = tuning_for (settings_for header fingers paging traffic) (take span samples) in
+    let job : Job = jobs.Follow span workers fingers paging traffic limits in (
       one_reply forms job bytes reply _ owed
-          (follow_owes forms span workers options limits bytes header samples noisy.file noisy.enough)
+          (follow_owes forms span workers fingers paging traffic limits bytes header samples noisy.file
+          noisy.enough)
           ∙ ap (λ (end : Status). Ok (run_text (kept_by limits forms) (events t samples), end))
-          (end_is options file),
+          (end_is fingers paging traffic file),
       noisy_each_channel width plan noisy.sync e samples t
-          (hears options file noisy.sync noisy.sends noisy.bears) (path options file) undirected,
+          (hears fingers paging traffic file noisy.sync noisy.sends noisy.bears)
+          (path fingers paging traffic file) undirected,
     )
 
 pub noisy_undirected : laws.NoHandoffIsDirectedByNoise
-noisy_undirected bytes e width plan span options header samples noisy follows bears none =
-    noisy_no_event width plan noisy.sync e samples (tuning_for header (take span samples) options)
-    (hears options (borne noisy) noisy.sync noisy.sends noisy.bears) (path options (borne noisy)) follows
-    bears none
+noisy_undirected bytes e width plan span fingers paging traffic header samples noisy follows bears none =
+    let file = borne noisy in
+    noisy_no_event width plan noisy.sync e samples
+    (tuning_for (settings_for header fingers paging traffic) (take span samples))
+    (hears fingers paging traffic file noisy.sync noisy.sends noisy.bears)
+    (path fingers paging traffic file) follows bears none
 
 of_borne : (job : ℕ → ℕ → ℕ → Traffic → Job) (Sends : TrafficPlan → Type 0)
     (Is : CellPlan → TrafficPlan → ℕ → List ℕ → Type 0) → BorneRepliesComeBack job Sends Is →

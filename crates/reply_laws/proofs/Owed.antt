@@ -182,15 +182,14 @@ find_owes forms span workers bytes header samples file enough =
 
 pub follow_owes : FollowOwesTheEvents
 unfolding file_text file_end_of told
-follow_owes forms span workers options limits bytes header samples file enough = whole_file file enough
+follow_owes forms span workers fingers paging traffic limits bytes header samples file enough = whole_file file enough
 
 frames_owed : (span workers fingers : ℕ) (channel : Channel) (text : TunedText) (bytes : List ℕ)
     (header : Header) (samples : List Sample) → IsSampleFile bytes header samples →
     span ≤ length samples →
     IsFileReply [] (hearing span workers fingers channel text) bytes
     (Ok (
-      told (ByFrames (tuning_for header
-          (take span samples) (waiting fingers)) channel text) samples,
+      told (ByFrames (tuning_for (waiting header fingers) (take span samples)) channel text) samples,
       file_end_of (hearing span workers fingers channel text) header samples,
     ))
 unfolding file_text

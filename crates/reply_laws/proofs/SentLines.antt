@@ -2,15 +2,15 @@
 use Rattle.reply_laws.proofs.Common.{◌≡◌, ◌≤◌, ℕ, ◌*◌, ◌%◌, refl, sym, ap, ◌∙◌, subst, arith, List, [], ◌∷◌, length, take, Bool, Option, ℤ}
 use Rattle.reply_laws.proofs.Common.{None, Some, Contains, flat_map, flat_map-map, CheckForm, Sample, Width, traffic_mask, decoded2}
 use Rattle.reply_laws.proofs.Common.{IsTrafficFrame, SetOne, planned, one_in_turn, frames_of, cycled_frame, sent_frame_state, set_one}
-use Rattle.reply_laws.proofs.Common.{HandsetOptions, Header, IsSetOneFrame, CellPlan, TrafficPlan, SetOneFrame, SetTwoFrame, event_line}
+use Rattle.reply_laws.proofs.Common.{Header, IsSetOneFrame, CellPlan, TrafficPlan, SetOneFrame, SetTwoFrame, event_line}
 use Rattle.reply_laws.proofs.Common.{frame2_line, traffic_channel, mark, soft_frames, frame_event, Tuning, Mark, Traffic, SoftFrame}
 use Rattle.reply_laws.proofs.Common.{IsReceivable, frame_ends, received_frames, replaced_of, sent_bits, sent_power_bits, codeword_symbols}
 use Rattle.reply_laws.proofs.Common.{IsAssigned, SendsSetOne, SendsSetTwo, SendsSymbols, cycled_frame2, AreReceived, told_with_sync}
 use Rattle.reply_laws.proofs.Common.{power_pairs, one_taken, one_there, Decoded, lawful_traffic, set_one_sends, listed_texts, rate2_texts}
 use Rattle.reply_laws.proofs.Common.{decoded_line, frames_text, listed_text, rate2_text, text_behind, tuned_text, TunedText, Listed}
-use Rattle.reply_laws.proofs.Common.{RateSetTwo, tuning_for, AreSentLines, IsLineOfSetOne, IsLineOfSetTwo, IsSentLine, IsSentLine2}
-use Rattle.reply_laws.proofs.Common.{IsSentText, LinesComeBack, ListedLinesComeBack, SetTwoLinesComeBack, named_receivable, Bears, Decoded2}
-use Rattle.reply_laws.proofs.Common.{HoldsBehindMark, IsReceivedBySigns, IsSentFrame2BySigns, noisy_frames_behind_mark}
+use Rattle.reply_laws.proofs.Common.{RateSetTwo, settings_for, tuning_for, AreSentLines, IsLineOfSetOne, IsLineOfSetTwo, IsSentLine}
+use Rattle.reply_laws.proofs.Common.{IsSentLine2, IsSentText, LinesComeBack, ListedLinesComeBack, SetTwoLinesComeBack, named_receivable}
+use Rattle.reply_laws.proofs.Common.{Bears, Decoded2, HoldsBehindMark, IsReceivedBySigns, IsSentFrame2BySigns, noisy_frames_behind_mark}
 use Rattle.reply_laws.proofs.Common.{noisy_set_two_behind_mark, signs_frame_listed, untold_in, good_frame2}
 use Rattle.listed_frame.specs.ListedFrames.{listed}
 use Rattle.owed_replies.proofs.BorneFiles.{IsBorneFile, cell_borne, long, none_on_traffic, path, shows, sync_there}
@@ -24,29 +24,31 @@ IsLineByLine form line = (check : CheckForm) (m : Mark) (frames : List SoftFrame
 
 -- In a file whose sync channel bears its noise: where the frames after a mark are those of which
 -- this is true, and the line of one of them is one of which that is true, the text is of such lines.
-module _ (e : ℕ) (width : Width) (plan : CellPlan) (p : TrafficPlan) (span : ℕ)
-    (options : HandsetOptions) (traffic : Traffic) (header : Header) (samples : List Sample)
-    (file : IsBorneFile e width plan span options.fingers header samples)
+module _ (e : ℕ) (width : Width) (plan : CellPlan) (p : TrafficPlan) (span fingers paging : ℕ)
+    (followed : Option Traffic) (traffic : Traffic) (header : Header) (samples : List Sample)
+    (file : IsBorneFile e width plan span fingers header samples)
     (form : TunedText) (line : SoftFrame → List ℕ) (lines : IsLineByLine form line)
     (Says : ℕ → SoftFrame → Type 0) (Is : ℕ → List ℕ → Type 0)
     (all : (m : Mark) →
-    mark (tuning_for header (take span samples) options) samples (length samples) ≡ Some m →
+    mark (tuning_for (settings_for header fingers paging followed) (take span samples)) samples
+    (length samples) ≡ Some m →
     AreReceived plan p Says
-    (soft_frames (tuning_for header (take span samples) options) (traffic_channel traffic) m samples))
+    (soft_frames (tuning_for (settings_for header fingers paging followed) (take span samples))
+    (traffic_channel traffic) m samples))
     (back : (frame : ℕ) (soft : SoftFrame) → Says frame soft → Is frame (line soft))
   where
     abbrev t : Tuning
-    t = tuning_for header (take span samples) options
+    t = tuning_for (settings_for header fingers paging followed) (take span samples)
 
     -- after the mark that is set, and where none is
     behind_last : (last : Option Mark) → mark t samples (length samples) ≡ last →
         IsSentText plan p Is (told_with_sync plan plan.sync)
         (text_behind form t (traffic_channel traffic) samples last)
     behind_last None unset =
-        let on = path options file in
-        let count : length samples ≡ t.count = long options file ∙ sym on.count in
+        let on = path fingers paging followed file in
+        let count : length samples ≡ t.count = long fingers paging followed file ∙ sym on.count in
         let none =
-        untold_in (shows options file) on plan.sync refl
+        untold_in (shows fingers paging followed file) on plan.sync refl
         (ap (mark t samples) (sym count) ∙ unset) in
         subst (λ (told : Option ℕ). IsSentText plan p Is told []) (sym none) refl
     behind_last (Some m) set =
@@ -71,12 +73,12 @@ module _ (e : ℕ) (width : Width) (plan : CellPlan) (p : TrafficPlan) (span : �
 abbrev pub BorneLinesComeBack : TunedText → (TrafficPlan → Type 0) →
     (CellPlan → TrafficPlan → ℕ → List ℕ → Type 0) → Type 0
 BorneLinesComeBack form Sends Is = (e : ℕ) (width : Width) (plan : CellPlan) (p : TrafficPlan)
-    (span : ℕ) (options : HandsetOptions) (traffic : Traffic) (header : Header)
-    (samples : List Sample) → IsBorneFile e width plan span options.fingers header samples →
+    (span fingers paging : ℕ) (followed : Option Traffic) (traffic : Traffic) (header : Header)
+    (samples : List Sample) → IsBorneFile e width plan span fingers header samples →
     Bears plan p.gain e → Contains plan.traffic p → IsAssigned p traffic → Sends p →
     IsSentText plan p (Is plan p) (told_with_sync plan plan.sync)
-    (tuned_text form (tuning_for header (take span samples) options) (traffic_channel traffic)
-    samples)
+    (tuned_text form (tuning_for (settings_for header fingers paging followed) (take span samples))
+    (traffic_channel traffic) samples)
 
 -- of whose frames something is true after a mark
 borne_lines : (form : TunedText) (line : SoftFrame → List ℕ) → IsLineByLine form line →
@@ -87,23 +89,24 @@ borne_lines : (form : TunedText) (line : SoftFrame → List ℕ) → IsLineByLin
     IsReceivable width plan → Contains plan.traffic p → Sends p → Says plan p frame soft →
     Is plan p frame (line soft)) →
     BorneLinesComeBack form Sends Is
-borne_lines form line lines Sends Is Says behind back e width plan p span options traffic header
-    samples file bears has assigned some =
-    text_back e width plan p span options traffic header samples file form line lines (Says plan p)
-    (Is plan p)
+borne_lines form line lines Sends Is Says behind back e width plan p span fingers paging followed
+    traffic header samples file bears has assigned some =
+    text_back e width plan p span fingers paging followed traffic header samples file form line lines
+    (Says plan p) (Is plan p)
     (λ m set.
-    let (sync, is) = sync_there options file m set in
-    behind width plan sync p e samples (tuning_for header (take span samples) options) traffic m is
-    bears (path options file) has assigned set some)
+    let (sync, is) = sync_there fingers paging followed file m set in
+    behind width plan sync p e samples
+    (tuning_for (settings_for header fingers paging followed) (take span samples)) traffic m is
+    bears (path fingers paging followed file) has assigned set some)
     (λ frame soft says. back width plan p frame soft file.near.receivable has some says)
 
 -- a file that holds what a script's cell sends has no noise
 of_cell : (form : TunedText) (Sends : TrafficPlan → Type 0)
     (Is : CellPlan → TrafficPlan → ℕ → List ℕ → Type 0) → BorneLinesComeBack form Sends Is →
     LinesComeBack form Sends Is
-of_cell form Sends Is borne width script plan p span options traffic header samples file counted has
-    assigned some =
-    borne 0 width plan p span options traffic header samples
+of_cell form Sends Is borne width script plan p span fingers paging followed traffic header samples file
+    counted has assigned some =
+    borne 0 width plan p span fingers paging followed traffic header samples
     (cell_borne file counted) (none_on_traffic (named_receivable width script plan file.named) has)
     has assigned some
 

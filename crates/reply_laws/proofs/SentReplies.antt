@@ -1,7 +1,7 @@
 -- What `rate2` and `list` owe of a file whose noise the sync channel and the traffic channel bear
 -- comes back frame by frame.
 use Rattle.reply_laws.proofs.Common.{◌≤◌, ℕ, List, length, subst, Contains, Sample, Width, Header, CellPlan, TrafficPlan, Traffic}
-use Rattle.reply_laws.proofs.Common.{SendsSetOne, SendsSetTwo, TunedText, Listed, RateSetTwo, traffic_channel, waiting, Job, IsSampleFile}
+use Rattle.reply_laws.proofs.Common.{SendsSetOne, SendsSetTwo, TunedText, Listed, RateSetTwo, traffic_channel, None, Job, IsSampleFile}
 use Rattle.reply_laws.proofs.Common.{IsReply, Reply, IsLineOfSetOne, IsLineOfSetTwo, IsAssigned, IsSentReply, ListRepliesComeBack}
 use Rattle.reply_laws.proofs.Common.{Rate2RepliesComeBack, RepliesComeBack, named_receivable, Bears, OwesTheFrames}
 use Rattle.owed_replies.proofs.BorneFiles.{IsBorneFile, cell_borne, end_is, none_on_traffic}
@@ -43,9 +43,9 @@ borne_replies job form owes Sends Is lines forms bytes e width plan p span worke
     subst (IsSentReply plan p (Is plan p))
     (one_reply forms (job span workers fingers traffic) bytes _ reply
     (owes span workers fingers traffic forms bytes header samples heard.file heard.enough) owed) (
-      lines e width plan p span (waiting fingers) traffic header samples heard.borne heard.bears
+      lines e width plan p span fingers 1 None traffic header samples heard.borne heard.bears
           heard.sent heard.assigned sends,
-      end_is (waiting fingers) heard.borne,
+      end_is fingers 1 None heard.borne,
     )
 
 -- a file that holds what a script's cell sends has no noise

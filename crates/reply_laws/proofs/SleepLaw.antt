@@ -32,7 +32,7 @@ fewer_agree one other few many less same =
 pub text_heard : (r : Reception) (fingers : ℕ) (channel : Channel) (text : TunedText) (header : Header)
     (samples : List Sample) → r.purpose ≡ Tuned fingers channel text →
     file_text [] r header samples
-    ≡ tuned_text text (tuning_for header (take r.span samples) (waiting fingers)) channel samples
+    ≡ tuned_text text (tuning_for (waiting header fingers) (take r.span samples)) channel samples
 unfolding file_text told
 text_heard r fingers channel text header samples purpose =
     ap
@@ -44,7 +44,7 @@ pub end_heard : (r : Reception) (fingers : ℕ) (channel : Channel) (text : Tune
     (samples : List Sample) → r.purpose ≡ Tuned fingers channel text →
     file_end_of r header samples
     ≡ end_when
-    (is_some (mark (tuning_for header (take r.span samples) (waiting fingers)) samples (length samples)))
+    (is_some (mark (tuning_for (waiting header fingers) (take r.span samples)) samples (length samples)))
 unfolding file_end_of
 end_heard r fingers channel text header samples purpose =
     ap
@@ -66,7 +66,7 @@ owed_too taps r bytes changed both reply here there owed =
 pub sleep_changes_no_reply : SleepChangesNoReply
 sleep_changes_no_reply r fingers number key cycle header one other bytes changed reply purpose most few
     file file' agree =
-    let t = tuning_for header (take r.span one) (waiting fingers) in
+    let t = tuning_for (waiting header fingers) (take r.span one) in
     let near = waiting_near header (take r.span one) fingers few in
     let m = agree.told in
     let late = mark_is_late t near one m agree.is_told in
@@ -74,8 +74,8 @@ sleep_changes_no_reply r fingers number key cycle header one other bytes changed
     let long : length one ≡ length other = file.counted ∙ sym file'.counted in
     let first : take r.span one ≡ take r.span other =
     fewer_agree one other r.span m.sample (omega (arith, most, late)) agree.before in
-    let tuned_too : tuning_for header (take r.span other) (waiting fingers) ≡ t =
-    ap (λ (xs : List Sample). tuning_for header xs (waiting fingers)) (sym first) in
+    let tuned_too : tuning_for (waiting header fingers) (take r.span other) ≡ t =
+    ap (tuning_for (waiting header fingers)) (sym first) in
     let marks : mark t other (length other) ≡ mark t one (length one) =
     same_mark t near m one other long agree.is_told agree.before ∙ sym agree.is_told in
     let texts : file_text [] r header one ≡ file_text [] r header other =

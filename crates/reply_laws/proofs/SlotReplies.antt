@@ -2,25 +2,26 @@
 -- by slot.
 use Rattle.reply_laws.proofs.Common.{◌≡◌, ◌≤◌, ℕ, List, length, take, ap, ◌∙◌, Ok, Contains, Sample, Width, Header, CellPlan, PagingPlan}
 use Rattle.reply_laws.proofs.Common.{one_near, lines_of_slots, slot_texts_back, written_of_slots, tuned_text, Slots, Paging, Job, clean_end}
-use Rattle.reply_laws.proofs.Common.{tuning_for, waiting, HandsetOptions, IsSampleFile, IsReply, Reply, FileSlotsComeBack}
+use Rattle.reply_laws.proofs.Common.{settings_for, tuning_for, Option, None, Traffic, IsSampleFile, IsReply, Reply, FileSlotsComeBack}
 use Rattle.reply_laws.proofs.Common.{IdleRepliesComeBack, Status, named_receivable, Bears, noisy_slot_texts_back, slots_sent}
 use Rattle.owed_replies.proofs.BorneFiles.{IsBorneFile, by_sync, cell_borne, end_is, none_on_paging, path, plan_borne}
 use Rattle.reply_laws.proofs.Owed.{idle_owes}
 use Rattle.owed_replies.proofs.Replies.{one_reply}
 use Rattle.command_line.specs.declared.job.Job.TheVariants as jobs
 
-borne_slots : (e : ℕ) (width : Width) (plan : CellPlan) (p : PagingPlan) (span : ℕ)
-    (options : HandsetOptions) (header : Header) (samples : List Sample) (key cycle : ℕ) →
-    IsBorneFile e width plan span options.fingers header samples → Contains plan.paging p →
+borne_slots : (e : ℕ) (width : Width) (plan : CellPlan) (p : PagingPlan)
+    (span fingers paging : ℕ) (traffic : Option Traffic) (header : Header) (samples : List Sample)
+    (key cycle : ℕ) → IsBorneFile e width plan span fingers header samples → Contains plan.paging p →
     Bears plan p.gain e →
-    tuned_text (Slots key cycle) (tuning_for header (take span samples) options) (Paging p.number)
+    tuned_text (Slots key cycle)
+    (tuning_for (settings_for header fingers paging traffic) (take span samples)) (Paging p.number)
     samples
     ≡ slots_sent key cycle plan p
-borne_slots e width plan p span options header samples key cycle file has bears =
-    let t = tuning_for header (take span samples) options in
-    let on = path options file in
+borne_slots e width plan p span fingers paging traffic header samples key cycle file has bears =
+    let t = tuning_for (settings_for header fingers paging traffic) (take span samples) in
+    let on = path fingers paging traffic file in
     written_of_slots key cycle t p.number samples (one_near t plan on)
-    ∙ by_sync options file
+    ∙ by_sync fingers paging traffic file
     (λ s. lines_of_slots key cycle t p.number s ≡ slots_sent key cycle plan p)
     (λ none. slot_texts_back width plan p t key cycle file.near.receivable on has)
     (λ sync is. noisy_slot_texts_back width plan sync p t key cycle e samples is on has bears)
@@ -48,14 +49,14 @@ borne_idle forms bytes e width plan p span workers fingers key cycle header samp
     one_reply forms job bytes reply _ owed
     (idle_owes span workers fingers p.number key cycle forms bytes header samples file enough)
     ∙ same_whole _ _ _ _
-    (borne_slots e width plan p span (waiting fingers) header samples key cycle borne has bears)
-    (end_is (waiting fingers) borne)
+    (borne_slots e width plan p span fingers 1 None header samples key cycle borne has bears)
+    (end_is fingers 1 None borne)
 
 -- ---- without noise
 
 pub file_slots : FileSlotsComeBack
-file_slots width plan p span options header samples key cycle file counted has =
-    borne_slots 0 width plan p span options header samples key cycle
+file_slots width plan p span fingers paging traffic header samples key cycle file counted has =
+    borne_slots 0 width plan p span fingers paging traffic header samples key cycle
     (plan_borne file counted) has (none_on_paging file.receivable has)
 
 pub idle_replies : IdleRepliesComeBack

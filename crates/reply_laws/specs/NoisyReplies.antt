@@ -1,6 +1,6 @@
 -- What is owed of a file that holds what a lawful cell sends, with noise of a bounded size: of each
 -- channel that bears the noise just what the cell sends.
-use Rattle.std.specs.Prelude.{◌≡◌, ◌≤◌, ℕ, List, length, take, All, Some, Ok}
+use Rattle.std.specs.Prelude.{◌≡◌, ◌≤◌, ℕ, List, length, take, All, Option, Some, Ok}
 use Rattle.std.specs.List.{Contains}
 use Rattle.chip_core.specs.declared.assignment.Traffic.{Traffic}
 use Rattle.chip_core.specs.declared.sample.Sample.{Sample}
@@ -22,11 +22,10 @@ use Rattle.clean_link.specs.SentEvents.{FollowsSent, signaling_sent}
 use Rattle.slot_link.specs.Laws.{slots_sent}
 use Rattle.command_line.specs.declared.job.Job.{Job}
 use Rattle.command_line.specs.declared.job.Job.TheVariants as jobs
-use Rattle.owed_replies.specs.Hearing.{clean_end, tuning_for}
+use Rattle.owed_replies.specs.Hearing.{clean_end, settings_for, tuning_for}
 use Rattle.owed_replies.specs.Replies.{IsReply, Reply}
 use Rattle.reply_laws.specs.SentLines.{IsLineOfSetOne, IsLineOfSetTwo}
 use Rattle.reply_laws.specs.SentReplies.{IsSentReply}
-use Rattle.owed_replies.specs.declared.handset_options.HandsetOptions.{HandsetOptions}
 
 -- A sample file of as many samples as the span is or more, which holds what a lawful cell sends,
 -- with noise of at most e in I and in Q of each sample, which the cell's sync channel bears.
@@ -46,29 +45,28 @@ pub record IsNoisyFile (e : ℕ) (bytes : List ℕ) (width : Width) (plan : Cell
 -- channel, and of each followed channel that bears the noise, are what the cell sends.
 abbrev pub NoisyFollowRepliesComeBack : Type 0
 NoisyFollowRepliesComeBack =
-    (forms limits bytes : List ℕ) (e : ℕ) (width : Width) (plan : CellPlan) (span workers : ℕ)
-    (options : HandsetOptions) (header : Header) (samples : List Sample) (reply : Reply) →
-    IsNoisyFile e bytes width plan span options.fingers header samples →
-    let t = tuning_for header (take span samples) options in
+    (forms limits bytes : List ℕ) (e : ℕ) (width : Width) (plan : CellPlan)
+    (span workers fingers paging : ℕ) (traffic : Option Traffic) (header : Header)
+    (samples : List Sample) (reply : Reply) →
+    IsNoisyFile e bytes width plan span fingers header samples →
+    let t = tuning_for (settings_for header fingers paging traffic) (take span samples) in
     All IsNotDirected (events t samples) →
-    IsReply forms
-    (jobs.Follow span workers options.fingers options.paging options.traffic limits) bytes
-    reply →
+    IsReply forms (jobs.Follow span workers fingers paging traffic limits) bytes reply →
     (reply ≡ Ok (run_text (kept_by limits forms) (events t samples), clean_end plan))
-    × HearsBearing plan e options.paging options.traffic (events t samples)
+    × HearsBearing plan e paging traffic (events t samples)
 
 -- No handoff is directed where the handset follows no traffic channel, or one that bears the noise,
 -- each of whose frames from the mark on is distinct, and no message that is sent on it directs one.
 abbrev pub NoHandoffIsDirectedByNoise : Type 0
 NoHandoffIsDirectedByNoise =
-    (bytes : List ℕ) (e : ℕ) (width : Width) (plan : CellPlan) (span : ℕ)
-    (options : HandsetOptions) (header : Header) (samples : List Sample) →
-    IsNoisyFile e bytes width plan span options.fingers header samples →
-    FollowsSent plan options.traffic →
-    ((p : TrafficPlan) (traffic : Traffic) → options.traffic ≡ Some traffic →
+    (bytes : List ℕ) (e : ℕ) (width : Width) (plan : CellPlan) (span fingers paging : ℕ)
+    (followed : Option Traffic) (header : Header) (samples : List Sample) →
+    IsNoisyFile e bytes width plan span fingers header samples → FollowsSent plan followed →
+    ((p : TrafficPlan) (traffic : Traffic) → followed ≡ Some traffic →
     Contains plan.traffic p → IsAssigned p traffic → Bears plan p.gain e) →
-    All IsNotDirected (signaling_sent plan options.traffic) →
-    All IsNotDirected (events (tuning_for header (take span samples) options) samples)
+    All IsNotDirected (signaling_sent plan followed) →
+    All IsNotDirected
+    (events (tuning_for (settings_for header fingers paging followed) (take span samples)) samples)
 
 -- ---- one channel
 

@@ -1,6 +1,7 @@
 -- Laws of replies: each input is owed one, the number of workers changes none, and what each
 -- command owes of a good input.
-use Rattle.std.specs.Prelude.{◌≡◌, ℕ, ◌<◌, ◌≤◌, List, length, take, All, Ok, is_some}
+use Rattle.std.specs.Prelude.{◌≡◌, ℕ, ◌<◌, ◌≤◌, List, length, take, All, Option, Ok, is_some}
+use Rattle.chip_core.specs.declared.assignment.Traffic.{Traffic}
 use Rattle.chip_core.specs.declared.sample.Sample.{Sample}
 use Rattle.chip_core.specs.declared.width.Width.{Width}
 use Rattle.cdma_io.specs.SampleFile.{IsSampleFile}
@@ -20,13 +21,12 @@ use Rattle.event_tap.specs.declared.tuned_text.TunedText.{TunedText}
 use Rattle.event_tap.specs.declared.tuned_text.TunedText.TheVariants.{Listed, RateSetTwo, Slots}
 use Rattle.command_line.specs.declared.job.Job.{Job}
 use Rattle.command_line.specs.declared.job.Job.TheVariants as jobs
-use Rattle.owed_replies.specs.Hearing.{end_when, tuning_for, waiting}
+use Rattle.owed_replies.specs.Hearing.{end_when, settings_for, tuning_for, waiting}
 use Rattle.owed_replies.specs.Tasks.{traffic_channel_with}
 use Rattle.owed_replies.specs.Make.{made_file}
 use Rattle.owed_replies.specs.Ranks.{survey_text}
 use Rattle.owed_replies.specs.Replies.{IsReply, Reply}
 use Rattle.owed_replies.specs.Trials.{trial_line}
-use Rattle.owed_replies.specs.declared.handset_options.HandsetOptions.{HandsetOptions}
 use Rattle.owed_replies.specs.declared.status.Status.TheVariants.{Done}
 
 -- for each job and each list of bytes there is a reply that is owed
@@ -69,12 +69,11 @@ FindOwesThePilot =
 -- what the taps make of all events of a handset, the pilot first
 abbrev pub FollowOwesTheEvents : Type 0
 FollowOwesTheEvents =
-    (forms : List ℕ) (span workers : ℕ) (options : HandsetOptions) (limits bytes : List ℕ)
-    (header : Header) (samples : List Sample) →
+    (forms : List ℕ) (span workers fingers paging : ℕ) (traffic : Option Traffic)
+    (limits bytes : List ℕ) (header : Header) (samples : List Sample) →
     IsSampleFile bytes header samples → span ≤ length samples →
-    let t = tuning_for header (take span samples) options in
-    IsReply forms
-    (jobs.Follow span workers options.fingers options.paging options.traffic limits) bytes
+    let t = tuning_for (settings_for header fingers paging traffic) (take span samples) in
+    IsReply forms (jobs.Follow span workers fingers paging traffic limits) bytes
     (Ok (
       run_text (kept_by limits forms) (events t samples),
       end_when (is_some (mark t samples (length samples))),
@@ -85,7 +84,7 @@ abbrev pub OwesTheFrames : Job → ℕ → ℕ → Channel → TunedText → Typ
 OwesTheFrames job span fingers channel text =
     (forms bytes : List ℕ) (header : Header) (samples : List Sample) →
     IsSampleFile bytes header samples → span ≤ length samples →
-    let t = tuning_for header (take span samples) (waiting fingers) in
+    let t = tuning_for (waiting header fingers) (take span samples) in
     IsReply forms job bytes
     (Ok (tuned_text text t channel samples, end_when (is_some (mark t samples (length samples)))))
 

@@ -27,8 +27,7 @@ use Rattle.clean_frames.specs.WholeSendings.{told_with_sync}
 use Rattle.event_tap.specs.TunedTexts.{tuned_text}
 use Rattle.event_tap.specs.declared.tuned_text.TunedText.{TunedText}
 use Rattle.event_tap.specs.declared.tuned_text.TunedText.TheVariants.{Listed, RateSetTwo}
-use Rattle.owed_replies.specs.Hearing.{tuning_for}
-use Rattle.owed_replies.specs.declared.handset_options.HandsetOptions.{HandsetOptions}
+use Rattle.owed_replies.specs.Hearing.{settings_for, tuning_for}
 
 -- ---- any frames
 
@@ -51,13 +50,14 @@ IsSentText plan p Is (Some superframes) text = AreSentLines plan p Is superframe
 abbrev pub LinesComeBack : TunedText → (TrafficPlan → Type 0) →
     (CellPlan → TrafficPlan → ℕ → List ℕ → Type 0) → Type 0
 LinesComeBack form Sends Is = (width : Width) (script : List ℕ) (plan : CellPlan)
-    (p : TrafficPlan) (span : ℕ) (options : HandsetOptions) (traffic : Traffic) (header : Header)
-    (samples : List Sample) →
-    IsCellFile width script plan span options.fingers header samples →
+    (p : TrafficPlan) (span fingers paging : ℕ) (followed : Option Traffic) (traffic : Traffic)
+    (header : Header) (samples : List Sample) →
+    IsCellFile width script plan span fingers header samples →
     length samples ≡ header.count → Contains plan.traffic p → IsAssigned p traffic → Sends p →
     IsSentText plan p (Is plan p) (told_with_sync plan plan.sync)
-    (tuned_text form (tuning_for header (take span samples) options) (traffic_channel traffic)
-    samples)
+    (tuned_text form
+    (tuning_for (settings_for header fingers paging followed) (take span samples))
+    (traffic_channel traffic) samples)
 
 -- ---- frames of rate set 1
 

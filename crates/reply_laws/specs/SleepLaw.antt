@@ -33,6 +33,6 @@ SleepChangesNoReply =
     (bytes changed : List ℕ) (reply : Reply) →
     r.purpose ≡ Tuned fingers (Paging number) (Slots key cycle) → r.span ≤ 32768 →
     IsFingers fingers → IsSampleFile bytes header one → IsSampleFile changed header other →
-    AgreeWhileAwake key cycle (tuning_for header (take r.span one) (waiting fingers)) number one
+    AgreeWhileAwake key cycle (tuning_for (waiting header fingers) (take r.span one)) number one
     other →
     IsFileReply [] r bytes reply ↔ IsFileReply [] r changed reply

@@ -1,7 +1,8 @@
 -- What `idle` owes of a file that holds what a cell sends: slot by slot what the paging channel
 -- sends.
-use Rattle.std.specs.Prelude.{◌≡◌, ◌≤◌, ℕ, List, length, take, Ok}
+use Rattle.std.specs.Prelude.{◌≡◌, ◌≤◌, ℕ, List, length, take, Option, Ok}
 use Rattle.std.specs.List.{Contains}
+use Rattle.chip_core.specs.declared.assignment.Traffic.{Traffic}
 use Rattle.chip_core.specs.declared.sample.Sample.{Sample}
 use Rattle.chip_core.specs.declared.width.Width.{Width}
 use Rattle.cdma_io.specs.SampleFile.{IsSampleFile}
@@ -15,20 +16,20 @@ use Rattle.event_tap.specs.TunedTexts.{tuned_text}
 use Rattle.event_tap.specs.declared.tuned_text.TunedText.TheVariants.{Slots}
 use Rattle.command_line.specs.declared.job.Job.TheVariants as jobs
 use Rattle.owed_replies.specs.CleanFiles.{IsCellFile}
-use Rattle.owed_replies.specs.Hearing.{clean_end, tuning_for}
+use Rattle.owed_replies.specs.Hearing.{clean_end, settings_for, tuning_for}
 use Rattle.owed_replies.specs.Replies.{IsReply, Reply}
-use Rattle.owed_replies.specs.declared.handset_options.HandsetOptions.{HandsetOptions}
 
 -- What is written of a paging channel that a lawful cell sends, for a handset that sleeps through
 -- all slots but those of a key and a cycle, is slot by slot the slot's line and the lines of its
 -- pages.
 abbrev pub FileSlotsComeBack : Type 0
 FileSlotsComeBack =
-    (width : Width) (plan : CellPlan) (p : PagingPlan) (span : ℕ) (options : HandsetOptions)
-    (header : Header) (samples : List Sample) (key cycle : ℕ) →
-    IsPlanFile width plan span options.fingers header samples → length samples ≡ header.count →
+    (width : Width) (plan : CellPlan) (p : PagingPlan) (span fingers paging : ℕ)
+    (traffic : Option Traffic) (header : Header) (samples : List Sample) (key cycle : ℕ) →
+    IsPlanFile width plan span fingers header samples → length samples ≡ header.count →
     Contains plan.paging p →
-    tuned_text (Slots key cycle) (tuning_for header (take span samples) options) (Paging p.number)
+    tuned_text (Slots key cycle)
+    (tuning_for (settings_for header fingers paging traffic) (take span samples)) (Paging p.number)
     samples
     ≡ slots_sent key cycle plan p
 

@@ -18,14 +18,6 @@ returns-clause-given c first found near =
     let paths = c.args.near in
     let long : length paths.deltas ≡ 3 = search rules in
     if_ok c.new.result _ _
-    (λ mobile stands. fresh_given (record {
-      fingers = paths.count;
-      paging = c.args.options.paging;
-      traffic = c.args.options.traffic;
-      check30 = c.args.header.check30;
-      check16 = c.args.header.check16;
-      count = c.args.header.count;
-    })
-    c.args.header first c.args.options c.args.best paths mobile found refl refl refl refl refl long near
+    (λ mobile stands. fresh_given c.args.settings first c.args.best paths mobile found long near
     c.requires.near stands)
     c.new.ensures.stands

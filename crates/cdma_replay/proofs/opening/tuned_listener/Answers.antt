@@ -1,5 +1,5 @@
 -- Why `tuned_listener` of `opening` keeps its contract.
-use Rattle.cdma_replay.proofs.Common.{◌≡◌, length, refl, rules, sym, best_phase-only, tuning_for, waiting}
+use Rattle.cdma_replay.proofs.Common.{◌≡◌, length, refl, rules, sym, best_phase-only, tuning_for}
 use Rattle.cdma_replay.proofs.Hearings.{near_taken}
 use Rattle.cdma_replay.proofs.opening.tuned_listener.Goals as goal
 
@@ -10,10 +10,10 @@ pub returns-clause-listens : goal.returns-clause-listens
 returns-clause-listens c first found near =
     let best = c.args.best in
     let long : length c.args.near.deltas ≡ 3 = search rules in
-    let fingers = c.args.fingers in
+    let settings = c.args.settings in
     let boxed : c.in_ok-new.field-0.value ≡ c.in_ok-tuned.tuned = search rules in
-    rw boxed (c.in_ok-tuned.ensures.listens (tuning_for c.args.header first (waiting fingers))
+    rw boxed (c.in_ok-tuned.ensures.listens (tuning_for settings first)
     (c.in_ok-mobile.ensures.given first found near)
     (sym (best_phase-only first best.phase best.energy found))
-    (sym (near_taken first fingers best c.args.near found near.0 c.requires.fingers.1 long near.1))
+    (sym (near_taken first settings.fingers best c.args.near found near.0 c.requires.settings.0.1 long near.1))
     refl)

@@ -1,14 +1,20 @@
 -- Why `tuned_near` of `opening` keeps its contract.
-use Rattle.cdma_replay.proofs.Common.{refl, rules, AreNearTo, waiting}
+use Rattle.cdma_replay.proofs.Common.{refl, rules, subst, ap, ◌∙◌, [], AreNearTo, ListensTuned, Settings, tuning_for}
 use Rattle.cdma_replay.proofs.opening.tuned_near.Goals as goal
 
 pub returns : goal.returns
 returns c =
     let first = c.args.first.now in
     let best = c.args.best.now in
-    let near : AreNearTo first best.phase (waiting c.args.fingers) c.near-paths.result = search rules in
+    let made = c.settings_for-settings in
+    let near : AreNearTo first best.phase made.result.fingers c.near-paths.result = search rules in
     record {
-      fresh = λ taps. (refl, c.in_ok-tuned.ensures.listens first c.requires.best near);
+      fresh = λ taps. (
+        refl,
+        subst (λ (s : Settings).
+            ListensTuned (tuning_for s first) c.args.channel c.args.text c.in_ok-tuned.tuned.value [])
+            made.ensures (c.in_ok-tuned.ensures.listens first c.requires.best near),
+      );
       tellable = tt;
-      room = c.in_ok-tuned.ensures.room;
+      room = c.in_ok-tuned.ensures.room ∙ ap (λ (s : Settings). s.count) made.ensures;
     }

@@ -1,7 +1,7 @@
 -- Why `follow_cell` of `trial` keeps its contract.
 use Rattle.cdma_replay.proofs.Common.{◌≡◌, ◌∙◌, List, [], ap, arith, length, rules, subst, sym, Sample, Header, Sixteen, made_samples}
 use Rattle.cdma_replay.proofs.Common.{CellState, header_of, trial_plan, CellPlan, IsBestIn, best_phase, best_phase-only, events, StandsFor}
-use Rattle.cdma_replay.proofs.Common.{Tuning, AreNearTo, tuning_for, counts_of, trial_span, trial_tuning}
+use Rattle.cdma_replay.proofs.Common.{Tuning, AreNearTo, Settings, tuning_for, counts_of, trial_settings, trial_span, trial_tuning}
 use Rattle.cdma_replay.proofs.Counting.{behind_span, line_is, span_fits, span_is, trial_counted}
 use Rattle.cdma_replay.proofs.trial.follow_cell.Goals as goal
 
@@ -9,15 +9,24 @@ pub fill-requires : goal.fill-requires
 fill-requires g c =
     span_fits c.args.cell.now c.args.number (length c.args.span.now) c.requires.cell c.requires.span
 
+pub settings_by-settings-requires : goal.settings_by-settings-requires
+settings_by-settings-requires g c =
+    c.header-header.ensures.value
+    ∙ ap (λ (k : CellState). header_of k.width k.plan) c.requires.cell
+
+pub boxed_handset-boxed-requires-clause-count : goal.boxed_handset-boxed-requires-clause-count
+boxed_handset-boxed-requires-clause-count g c = omega (
+  arith,
+  ap (λ (s : Settings). s.count) c.settings_by-settings.ensures,
+  trial_counted c.args.number,
+)
+
 pub count-requires-clause-room : goal.count-requires-clause-room
 count-requires-clause-room g c =
-    let header : c.header-header.result ≡ header_of Sixteen (trial_plan c.args.number) =
-    c.header-header.ensures.value ∙
-    ap (λ (k : CellState). header_of k.width k.plan) c.requires.cell in
     rw c.deref_mut-mobile.ensures.value (omega (
       arith,
       c.in_ok-boxed.ensures.room,
-      ap (λ (h : Header). h.count) header,
+      ap (λ (s : Settings). s.count) c.settings_by-settings.ensures,
       trial_counted c.args.number,
       c.requires.span,
     ))
@@ -30,7 +39,7 @@ returns g c =
     let number = c.args.number in
     let plan = trial_plan number in
     let out = c.fill.new.out in
-    let options = c.options_for-options.result in
+    let settings = c.settings_by-settings.result in
     let best = c.in_ok-best.best in
     let header : c.header-header.result ≡ header_of Sixteen plan =
     c.header-header.ensures.value ∙
@@ -39,12 +48,11 @@ returns g c =
     span_is c.args.cell.now number (length c.args.span.now) out c.requires.cell c.requires.span
     c.fill.ensures.samples in
     let found : IsBestIn out 0 32768 best.phase best.energy = search rules in
-    let near : AreNearTo out best.phase options c.near-paths.result = search rules in
-    let t = tuning_for c.header-header.result out options in
+    let near : AreNearTo out best.phase settings.fingers c.near-paths.result = search rules in
+    let t = tuning_for settings out in
     let tuning : t ≡ trial_tuning number =
-    ap (λ (h : Header). tuning_for h out options) header
-    ∙ ap (λ (xs : List Sample). tuning_for (header_of Sixteen plan) xs options) span
-    ∙ ap (tuning_for (header_of Sixteen plan) (trial_span number)) c.options_for-options.ensures in
+    ap (λ (s : Settings). tuning_for s out) c.settings_by-settings.ensures
+    ∙ ap (tuning_for (trial_settings number)) span in
     let told = c.count.ensures.told t [] []
     (rw c.deref_mut-mobile.ensures.value (c.in_ok-boxed.ensures.given out found near))
     c.none-counts.ensures.value in
