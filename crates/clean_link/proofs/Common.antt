@@ -1,4 +1,35 @@
 -- What the proofs of this crate cite of what lies below, and of its own definitions, passed on from one place.
+pub use Rattle.clean_signal.proofs.Common.{signal_of_carriers, no_sample, HaveOwnNumbers, HaveOwnTrafficRows, IsFreeOf, IsLawfulPlan}
+pub use Rattle.clean_signal.proofs.Common.{IsPagingPlan, IsTrafficPlan, loudness, sample_with, Carrier, amplitude, amplitudes, level_of}
+pub use Rattle.clean_signal.proofs.Common.{paging_carrier, pilot_carrier, scaled, sync_carrier, traffic_carrier, flat_map-next}
+pub use Rattle.clean_signal.proofs.Common.{flat_map-zero, get_or-map-places, length-map-places, map-places-all, norm, point, times}
+pub use Rattle.clean_signal.proofs.Common.{descrambled, unscrambled, frame_chips, symbols, IsTimed, address-place, place_lt, codewords_same}
+pub use Rattle.clean_signal.proofs.Common.{with_added, Bears, IsCloseSample, IsNear, soft_strength, path_finger, reference_finger}
+pub use Rattle.clean_signal.proofs.Common.{AreReadBy, IsFrameOf, IsHeardBy, scrambled_with}
+unfoldable pub use Rattle.clean_link.specs.Common.{page_cycle, binary, places, fill, capsule, capsule_ending, check_bits, sync_body}
+unfoldable pub use Rattle.clean_link.specs.Common.{sync_capsule, split_9600}
+unfoldable pub use Rattle.clean_signal.proofs.Common.{made_samples, carriers, sample_of, samples_of, softs}
+pub use Rattle.clean_link.specs.Common.{IsSetOneFrame, IsSetTwoFrame, cycled_frame, set_two, SetOneFrame, SetTwoFrame, planned, SetOne}
+pub use Rattle.clean_link.specs.Common.{SetTwo, CellPlan, Page, PagingPlan, SyncPlan, TrafficPlan, TrafficFrame, Traffic, Plain, Sample}
+pub use Rattle.clean_link.specs.Common.{Width, frame_bits, is_replaced, unreplaced, Decoded, traffic_channel, at_of, raw_at, soft_frame}
+pub use Rattle.clean_link.specs.Common.{soft_frames, Stream, Event, Pilot, Leg, Mark, SoftFrame, M30, Rate, R1200, R2400, R4800, R9600}
+pub use Rattle.clean_link.specs.Common.{Finger, codeword_bits, Rate2, R14400, R1800, R3600, R7200, SyncFields, TrafficBody, IsAllowed}
+pub use Rattle.clean_link.specs.Common.{signed, HasSign, Zero}
+pub use Rattle.heard_events.proofs.Common.{filter_ext_places, filter_none_places, flat_map_ext_filter, flat_map_ext_places}
+pub use Rattle.heard_events.proofs.Common.{map_ext_filter_places, all_fingers, leg_of, legs_of, pilot_finger, subchannels, first_of}
+pub use Rattle.heard_events.proofs.Common.{marks_of, changed, frames_at, legs_at, legs_by, messages_at, moment_events, moment_place}
+pub use Rattle.heard_events.proofs.Common.{moments_before, paging_bound, paging_stream, events_of, heard_in, with_message, ends_now}
+pub use Rattle.heard_events.proofs.Common.{frames_bound, frames_now, has_frame, replaced_in, stream_of, traffic_start, traffic_stream}
+pub use Rattle.heard_events.proofs.Common.{Tuning, sync_bound, sync_stream, AreClose, AreNear}
+unfoldable pub use Rattle.heard_events.proofs.Common.{events_at, heard_within, frames_open, mark, mark_before, marks_at, heard_from}
+unfoldable pub use Rattle.heard_events.proofs.Common.{kept_to, passed, sets_at, told_by, bits_up_to, page_at, pages_at, pages_from}
+unfoldable pub use Rattle.heard_events.proofs.Common.{signaling_message_at, messages_by, signal_at, signals_before, frames_within}
+unfoldable pub use Rattle.heard_events.proofs.Common.{frame_own_bits, frames_before, heard_at, sync_capsule_at, sync_events_at, decoded_at}
+unfoldable pub use Rattle.heard_events.proofs.Common.{frames_by, power_bits_at}
+pub use Rattle.clean_frames.proofs.Common.{half_frame_body, length-capsule, FillsCapsule, Piece, from_last_start, piece, AreWholePages}
+pub use Rattle.clean_frames.proofs.Common.{Placed, capsules_with_frames, cycle_half_frames, frame_capsules, is_whole_page, placed}
+pub use Rattle.clean_frames.proofs.Common.{sending_of}
+unfoldable pub use Rattle.clean_frames.proofs.Common.{half_frame_capsule_ending}
 pub use Rattle.std.proofs.Common.{All, Bool, List, None, Option, Some, [], ap, append_assoc, arith, cond, drop, false, filter, get_or, inl}
 pub use Rattle.std.proofs.Common.{inr, length, length-append, map, nat_eq, nat_le, nat_lt, negsuc, not, pos, refl, replicate, rules, subst}
 pub use Rattle.std.proofs.Common.{suc, sym, take, true, unsigned_abs, zero, ℕ, ℤ, ⊎_elim, ◌%◌, ◌&&◌, ◌*◌, ◌++◌, ◌+◌, ◌-◌, ◌/◌, ◌<◌, ◌==◌}
@@ -23,50 +54,25 @@ pub use Rattle.std.specs.List.{AllZip, Contains, flat_map, list_all, list_any, r
 pub use Rattle.std.specs.Option.{option_map, option_to_list}
 pub use Rattle.std.specs.Prelude.{if◌then◌else◌, int_lt, is_some, unwrap_or, ◌*ℤ◌, ◌+ℤ◌, ◌-ℤ◌, ◌<ℤ◌}
 pub use Rattle.cdma_io.specs.SampleFile.{most_samples}
-pub use Rattle.cell_plan.proofs.Amplitudes.{signal_of_carriers}
-pub use Rattle.cell_plan.proofs.Pieces.{no_sample}
 pub use Rattle.cell_plan.proofs.SentMessages.{length-sending, length-sync, refilled_is, superframes_few, superframes_some, told_early}
 pub use Rattle.cell_plan.proofs.SyncFrames.{length-sync_frame_bits}
 pub use Rattle.cell_plan.proofs.TrafficFrames.{one_in_turn, two_in_turn}
 pub use Rattle.cell_plan.specs.PageCycles.{Cycle, cycle_frame_bits, frame_scrambling, paging_frame_size}
 unfoldable pub use Rattle.cell_plan.specs.PageCycles.{cycle_symbols, cycled}
 pub use Rattle.cell_plan.specs.Pages.{AreSendable, laid_behind, sent_paging_rate}
-unfoldable pub use Rattle.cell_plan.specs.Pages.{page_cycle}
-pub use Rattle.cell_plan.specs.Plan.{AreLawfulBeside, HaveOwnNumbers, HaveOwnTrafficRows, IsFreeOf, IsLawfulPlan, IsPagingPlan, IsSyncPlan}
-pub use Rattle.cell_plan.specs.Plan.{IsTrafficPlan, loudness}
-pub use Rattle.cell_plan.specs.Sampled.{sample_with}
-unfoldable pub use Rattle.cell_plan.specs.Sampled.{made_samples}
+pub use Rattle.cell_plan.specs.Plan.{AreLawfulBeside, IsSyncPlan}
 pub use Rattle.cell_plan.specs.Sendings.{superframes_a_sending, told_superframes}
 unfoldable pub use Rattle.cell_plan.specs.Sendings.{continued_symbols, message_of, sync_frame_bits, sync_symbols}
-pub use Rattle.cell_plan.specs.Signal.{Carrier, amplitude, amplitudes, cycle_of, frames_of, level_of, paging_carrier, pilot_carrier, scaled}
-pub use Rattle.cell_plan.specs.Signal.{sync_carrier, traffic_carrier}
-unfoldable pub use Rattle.cell_plan.specs.Signal.{carriers, sample_of, samples_of}
+pub use Rattle.cell_plan.specs.Signal.{cycle_of, frames_of}
 pub use Rattle.cell_plan.specs.Stated.{AreHeard, IsReceivable, IsStatedPaging}
-pub use Rattle.cell_plan.specs.TrafficFrames.{IsSetOneFrame, IsSetTwoFrame, cycled_frame, set_one, set_two, IsTrafficFrame, SetOneFrame}
-pub use Rattle.cell_plan.specs.TrafficFrames.{SetTwoFrame, planned}
+pub use Rattle.cell_plan.specs.TrafficFrames.{set_one, IsTrafficFrame, frames_in_turn}
 pub use Rattle.cell_plan.specs.Transmitter.{IsSendable, phase_at}
-pub use Rattle.cell_plan.specs.declared.traffic_frame.FrameRate.TheVariants.{SetOne, SetTwo}
-pub use Rattle.cell_plan.specs.declared.plan.CellPlan.{CellPlan}
-pub use Rattle.cell_plan.specs.declared.plan.Page.{Page}
-pub use Rattle.cell_plan.specs.declared.plan.PagingPlan.{PagingPlan}
-pub use Rattle.cell_plan.specs.declared.plan.SyncPlan.{SyncPlan}
-pub use Rattle.cell_plan.specs.declared.plan.TrafficPlan.{TrafficPlan}
-pub use Rattle.cell_plan.specs.declared.traffic_frame.TrafficFrame.{TrafficFrame}
 pub use Rattle.chip_core.proofs.BitLists.{add, length_add}
-pub use Rattle.chip_core.proofs.Counted.{flat_map-next, flat_map-zero}
-pub use Rattle.chip_core.proofs.Places.{get_or-map-places, get_or-places, length-map-places, length-places, map-places-all, places-more}
-pub use Rattle.chip_core.proofs.Places.{places-none}
-pub use Rattle.chip_core.proofs.Ranges.{filter_enough, filter_ext_places, filter_none_places, flat_map_ext_filter}
-pub use Rattle.chip_core.proofs.Ranges.{flat_map_ext_filter_places, flat_map_ext_places, map_ext_filter_places, map_ext_places}
+pub use Rattle.chip_core.proofs.Places.{get_or-places, length-places, places-more, places-none}
+pub use Rattle.chip_core.proofs.Ranges.{filter_enough, flat_map_ext_filter_places, map_ext_places}
 pub use Rattle.chip_core.specs.Bits.{common_parity, digit, sign, xor, zip_with}
-unfoldable pub use Rattle.chip_core.specs.Bits.{binary, places}
-pub use Rattle.chip_core.specs.Complex.{norm, point, times}
-pub use Rattle.chip_core.specs.declared.assignment.Traffic.{Traffic}
 pub use Rattle.chip_core.specs.declared.check_form.CheckForm.{CheckForm}
-pub use Rattle.chip_core.specs.declared.check_form.CheckForm.TheVariants.{Plain}
 pub use Rattle.chip_core.specs.declared.sample.Pair.{Pair}
-pub use Rattle.chip_core.specs.declared.sample.Sample.{Sample}
-pub use Rattle.chip_core.specs.declared.width.Width.{Width}
 pub use Rattle.chip_core.specs.declared.width.Width.TheVariants.{Eight, Sixteen}
 pub use Rattle.conv_code.proofs.Continued.{before, behind, length-state_after, pair, state_after-append, state_after-none}
 pub use Rattle.conv_code.proofs.Pairs.{symbols_at}
@@ -77,9 +83,7 @@ pub use Rattle.frame_decoder.proofs.ShownSymbols.{le_false, lt_true}
 pub use Rattle.frame_decoder.proofs.SignedScores.{agree_left, shown_keep}
 pub use Rattle.frame_decoder.specs.Laws.{AgreeElsewhere, IsUnshared, frame_codeword}
 pub use Rattle.frame_decoder.specs.Signs.{AreKept, KeepSigns}
-pub use Rattle.frame_decoder.specs.TrafficFrames.{decoded, frame_bits, frame_symbols, group_sum, group_sums, is_replaced, power_bit}
-pub use Rattle.frame_decoder.specs.TrafficFrames.{unreplaced}
-pub use Rattle.frame_decoder.specs.declared.traffic.Decoded.{Decoded}
+pub use Rattle.frame_decoder.specs.TrafficFrames.{decoded, frame_symbols, group_sum, group_sums, power_bit}
 pub use Rattle.heard_events.proofs.EventPlaces.{AreAt, IsAt, all_at, all_each}
 pub use Rattle.heard_events.proofs.FrameBounds.{AreCloseAll}
 pub use Rattle.heard_events.proofs.LegLists.{map_same}
@@ -89,38 +93,13 @@ pub use Rattle.heard_events.proofs.MarkStays.{pilot_alone}
 pub use Rattle.heard_events.proofs.MomentGrowth.{kept_new, kept_old}
 pub use Rattle.heard_events.proofs.TrafficGrowth.{frames_sooner, messages_sooner}
 pub use Rattle.heard_events.specs.Events.{events, told_behind}
-unfoldable pub use Rattle.heard_events.specs.Events.{events_at, heard_within}
-pub use Rattle.heard_events.specs.FramesAlone.{traffic_channel}
-pub use Rattle.heard_events.specs.Given.{at_of}
-pub use Rattle.heard_events.specs.Legs.{all_fingers, leg_of, legs_of, pilot_finger, subchannels}
-pub use Rattle.heard_events.specs.Marks.{first_of, marks_of}
-unfoldable pub use Rattle.heard_events.specs.Marks.{frames_open, mark, mark_before, marks_at}
-pub use Rattle.heard_events.specs.Moments.{changed, frames_at, legs_at, legs_by, messages_at, moment_events, moment_of, moment_place}
-pub use Rattle.heard_events.specs.Moments.{moments_before}
-unfoldable pub use Rattle.heard_events.specs.Moments.{heard_from, kept_to, passed, sets_at, told_by}
+pub use Rattle.heard_events.specs.Moments.{moment_of}
 pub use Rattle.heard_events.specs.Noted.{all_noted, body_noted, in_traffic_thresholds, noted, noted_with, page_noted, system_thresholds}
 pub use Rattle.heard_events.specs.PagingEvents.{page_event, page_in, pages_behind, as_spelled_page}
-unfoldable pub use Rattle.heard_events.specs.PagingEvents.{bits_up_to, page_at, pages_at, pages_from}
-pub use Rattle.heard_events.specs.PagingStreams.{paging_bound, paging_stream}
 pub use Rattle.heard_events.specs.Signaling.{capsule_with, message_events, message_heard, signal_in, signal_of}
-unfoldable pub use Rattle.heard_events.specs.Signaling.{signaling_message_at, messages_by, signal_at, signals_before}
-pub use Rattle.heard_events.specs.SoftFrames.{raw_at, soft_frame, soft_frames}
-unfoldable pub use Rattle.heard_events.specs.SoftFrames.{frames_within}
-pub use Rattle.heard_events.specs.Streams.{Stream}
-unfoldable pub use Rattle.heard_events.specs.Streams.{frame_own_bits}
-pub use Rattle.heard_events.specs.SyncEvents.{events_of, heard_in, with_message}
-unfoldable pub use Rattle.heard_events.specs.SyncEvents.{frames_before, heard_at, sync_capsule_at, sync_events_at}
 pub use Rattle.heard_events.specs.TrafficEvents.{all_sums, frame_event, frame_heard, if_followed, raw_by, raw_softs, subchannel_sums}
-unfoldable pub use Rattle.heard_events.specs.TrafficEvents.{decoded_at, frames_by, power_bits_at}
-pub use Rattle.heard_events.specs.TrafficStreams.{ends_now, frame_state, frames_bound, frames_now, has_frame, replaced_in, stream_of}
-pub use Rattle.heard_events.specs.TrafficStreams.{traffic_start, traffic_stream}
-pub use Rattle.heard_events.specs.Tuning.{Tuning, sync_bound, sync_stream}
-pub use Rattle.heard_events.specs.declared.event.Event.{Event}
-pub use Rattle.heard_events.specs.declared.event.Event.TheVariants.{Pilot}
-pub use Rattle.heard_events.specs.declared.leg.Leg.{Leg}
-pub use Rattle.heard_events.specs.declared.mark.Mark.{Mark}
+pub use Rattle.heard_events.specs.TrafficStreams.{frame_state}
 pub use Rattle.heard_events.specs.declared.soft_frame.PowerControl.{PowerControl}
-pub use Rattle.heard_events.specs.declared.soft_frame.SoftFrame.{SoftFrame}
 pub use Rattle.long_code.proofs.After.{after-after, after_lt, after_none, after_one, stepped}
 pub use Rattle.long_code.proofs.Before.{after-before, before_lt}
 pub use Rattle.long_code.proofs.Period.{IsState-after, IsState-before, after-injective}
@@ -129,9 +108,6 @@ unfoldable pub use Rattle.long_code.specs.LongCode.{long_chip, traffic_mask}
 pub use Rattle.paging_message.proofs.Carried.{rate_large}
 pub use Rattle.paging_message.proofs.Readings.{reads_body, reads_capsule}
 pub use Rattle.paging_message.specs.Admitted.{HasMessage}
-pub use Rattle.paging_message.specs.HalfFrames.{half_frame_body}
-unfoldable pub use Rattle.paging_message.specs.HalfFrames.{half_frame_capsule_ending}
-unfoldable pub use Rattle.paging_message.specs.Laying.{fill}
 unfoldable pub use Rattle.paging_message.specs.Messages.{paging_capsule}
 pub use Rattle.paging_message.specs.Reading.{is_body, paging_reading}
 unfoldable pub use Rattle.paging_message.specs.Reading.{body_reading}
@@ -145,58 +121,29 @@ pub use Rattle.pilot_sets.specs.declared.standing.ActivePilot.{ActivePilot}
 pub use Rattle.pilot_sets.specs.declared.strengths.Strength.{Strength}
 pub use Rattle.pilot_sets.specs.declared.thresholds.Thresholds.{Thresholds}
 pub use Rattle.quality_bits.proofs.TrafficCodewords.{codeword_fills}
-pub use Rattle.quality_bits.proofs.Wholes.{length-capsule}
-pub use Rattle.quality_bits.specs.Capsules.{FillsCapsule}
-unfoldable pub use Rattle.quality_bits.specs.Capsules.{capsule}
 pub use Rattle.quality_bits.specs.Kinds.{quality_indicator}
-pub use Rattle.quality_bits.specs.Pieces.{Piece, from_last_start, piece}
-unfoldable pub use Rattle.quality_bits.specs.Pieces.{capsule_ending}
-unfoldable pub use Rattle.quality_bits.specs.Quality.{check_bits}
 pub use Rattle.quality_bits.specs.TrafficCodewords.{quality_of, repeats_of, traffic_codeword}
-pub use Rattle.quality_bits.specs.declared.kind.Kind.TheVariants.{M30}
-pub use Rattle.quality_bits.specs.declared.rate.Rate.{Rate}
-pub use Rattle.quality_bits.specs.declared.rate.Rate.TheVariants.{R1200, R2400, R4800, R9600}
 pub use Rattle.rake_finger.proofs.FrameTimes.{known_between, known_le}
-pub use Rattle.rake_finger.specs.Near.{AreClose, AreNear}
 pub use Rattle.rake_finger.specs.Paths.{fingers_of, modulo_code}
-pub use Rattle.rake_finger.specs.Scrambled.{descrambled, unscrambled}
-pub use Rattle.rake_finger.specs.Soft.{frame_chips, symbols}
-unfoldable pub use Rattle.rake_finger.specs.Soft.{softs}
 pub use Rattle.rake_finger.specs.Streams.{frame_end, frame_softs, frame_start, is_in_file, known_at, known_by, known_now}
-pub use Rattle.rake_finger.specs.Timing.{IsTimed}
-pub use Rattle.rake_finger.specs.declared.finger.Finger.{Finger}
 pub use Rattle.rake_finger.specs.declared.form.Form.TheVariants.{Data, Sync}
 pub use Rattle.short_code.specs.Despread.{code_point}
 pub use Rattle.short_code.specs.ShortCode.{pilot_chip}
 pub use Rattle.symbol_path.proofs.Agreement.{get_or-sent_by, length-sent}
-pub use Rattle.symbol_path.proofs.Permutation.{address-place, place_lt}
 pub use Rattle.symbol_path.proofs.PowerPlaces.{ArePairs, pairs_below, pairs_in_groups, pairs_neighbours, power_place_in_groups}
 pub use Rattle.symbol_path.proofs.SentOnceTwo.{kept_once}
 pub use Rattle.symbol_path.proofs.SentTwo.{length-sent2}
 pub use Rattle.symbol_path.proofs.SymbolChips.{on_again}
-pub use Rattle.symbol_path.specs.FramesTwo.{codeword_bits}
 pub use Rattle.symbol_path.specs.Scrambling.{group_scrambling, power_place, power_start, scrambling, symbol_or_power_bit}
 unfoldable pub use Rattle.symbol_path.specs.Scrambling.{power_places, with_power_bits}
 pub use Rattle.symbol_path.specs.SentOrder.{address, data_shape, place, sync_shape, sent}
 unfoldable pub use Rattle.symbol_path.specs.SentOrder.{sent_by}
 pub use Rattle.symbol_path.specs.SentOrderTwo.{is_dropped, repeated_symbol, sent2}
-pub use Rattle.symbol_path.specs.declared.rate_two.Rate2.{Rate2}
-pub use Rattle.symbol_path.specs.declared.rate_two.Rate2.TheVariants.{R14400, R1800, R3600, R7200}
 pub use Rattle.sync_message.specs.Framing.{superframes_of}
 pub use Rattle.sync_message.specs.SyncMessage.{IsSyncMessage}
-unfoldable pub use Rattle.sync_message.specs.SyncMessage.{sync_body, sync_capsule}
-pub use Rattle.sync_message.specs.declared.fields.SyncFields.{SyncFields}
-unfoldable pub use Rattle.traffic_message.specs.Multiplex.{split_9600}
-pub use Rattle.traffic_message.specs.declared.body.TrafficBody.{TrafficBody}
-pub use Rattle.viterbi.proofs.Choices.{codewords_same}
 pub use Rattle.viterbi.proofs.Zipped.{zipped_at}
-pub use Rattle.viterbi.specs.Best.{IsAllowed}
 pub use Rattle.viterbi.specs.Codewords.{Codeword, correlation}
-pub use Rattle.viterbi.specs.Laws.{signed}
-pub use Rattle.viterbi.specs.Signs.{HasSign}
-pub use Rattle.viterbi.specs.declared.codeword.Ends.TheVariants.{Zero}
 pub use Rattle.walsh.specs.Walsh.{walsh}
-pub use Rattle.clean_signal.specs.BoundedNoise.{with_added, Bears, IsCloseSample, IsNear}
 pub use Rattle.clean_link.specs.CleanLaws.{ChannelFramesComeBack, NoisyFramesComeBack, PagingCodewordsAreTheOnlyBest}
 pub use Rattle.clean_link.specs.CleanLaws.{SentCodewordsAreTheOnlyBest, SilentPagingFramesAreZeros, NoisyIsMarkedWhereHeard}
 pub use Rattle.clean_link.specs.CleanLaws.{NoisyPagingFramesComeBack, NoisySendingsComeBack, WholeSendingsComeBack, AreZeroWithoutSync}
@@ -207,7 +154,6 @@ pub use Rattle.clean_link.specs.CleanLink.{IsNoDirection, IsNotDirected, IsOnPat
 pub use Rattle.clean_link.specs.CleanLink.{sending_event, tuning_to}
 pub use Rattle.clean_frames.specs.WholeSendings.{first_sync_frame, heard_behind, is_whole, sending_begins, sending_ends, whole_sendings}
 pub use Rattle.clean_frames.specs.WholeSendings.{told_by_first, told_with_sync}
-pub use Rattle.clean_signal.specs.Signals.{soft_strength, path_finger, reference_finger, AreReadBy, IsFrameOf, IsHeardBy, scrambled_with}
 unfoldable pub use Rattle.clean_link.specs.CleanLink.{sync_sent}
 pub use Rattle.clean_link.specs.DistinctFrames.{AFullRateFrameIsDistinct, AreDistinctBySharing, AreDistinctBySharing2}
 pub use Rattle.clean_link.specs.DistinctFrames.{FullRateFramesAreDistinct, ZerosAreShared, full_rate_symbols, gives, is_hidden, is_kept}
@@ -225,9 +171,8 @@ pub use Rattle.clean_link.specs.HeardFrames.{frames_of_channel, messages_of_chan
 pub use Rattle.clean_link.specs.HeardFrames.{told_on_row}
 unfoldable pub use Rattle.clean_link.specs.HeardFrames.{frames_sent, messages_sent}
 unfoldable pub use Rattle.clean_frames.specs.SentFrames.{sent_bits}
-pub use Rattle.clean_frames.specs.WholePages.{AreWholePages, KnownPage, Placed, capsules_with_frames, cycle_half_frames, end_chip}
-pub use Rattle.clean_frames.specs.WholePages.{frame_capsules, is_whole_page, message_in, page_told, pages_numbered, pages_of_channel}
-pub use Rattle.clean_frames.specs.WholePages.{placed, placed_pages, round_sent, sending_of}
+pub use Rattle.clean_frames.specs.WholePages.{KnownPage, end_chip, message_in, page_told, pages_numbered, pages_of_channel, placed_pages}
+pub use Rattle.clean_frames.specs.WholePages.{round_sent}
 pub use Rattle.clean_link.specs.HeardPages.{PagesComeBack, ReadPage, known_page, pages_within, type_within}
 unfoldable pub use Rattle.clean_frames.specs.WholePages.{pages_sent}
 pub use Rattle.clean_link.specs.ReceivedFrames.{AreReceived, IsDistinctFrame2, IsReceived, IsReceivedAs, IsSentFrame2, codeword_symbols2}

@@ -1,19 +1,19 @@
 -- What the definitions of this crate cite of what lies below, and of its own types, passed on from
 -- one place.
+pub use Rattle.clean_frames.specs.Common.{sent_paging_rate, cycled_frame, set_two, SetOneFrame}
+pub use Rattle.clean_frames.specs.Common.{superframe_chips, number_at}
+unfoldable pub use Rattle.clean_frames.specs.Common.{page_cycle}
+pub use Rattle.clean_signal.specs.Common.{made_samples, continued_symbols, phase_at, xor, softs}
+pub use Rattle.clean_signal.specs.Common.{frame_softs, is_in_file, span_first, span_frames}
+pub use Rattle.clean_signal.specs.Common.{IsAllowed, Codeword, signed}
 pub use Rattle.cell_plan.specs.PageCycles.{Cycle, cycle_frame_bits}
-pub use Rattle.cell_plan.specs.Pages.{sent_paging_rate}
-unfoldable pub use Rattle.cell_plan.specs.Pages.{page_cycle}
 pub use Rattle.cell_plan.specs.Plan.{IsFreeOf}
-pub use Rattle.cell_plan.specs.Sampled.{made_samples}
-pub use Rattle.cell_plan.specs.Sendings.{continued_symbols, message_of, sync_frame_bits}
-pub use Rattle.cell_plan.specs.Sendings.{sync_symbols}
+pub use Rattle.cell_plan.specs.Sendings.{message_of, sync_frame_bits, sync_symbols}
 pub use Rattle.cell_plan.specs.Signal.{Carrier, carriers, cycle_of, frames_of}
 pub use Rattle.cell_plan.specs.SomeMessage.{some_message, some_sync}
 pub use Rattle.cell_plan.specs.Stated.{IsReceivable, IsStatedPaging}
-pub use Rattle.cell_plan.specs.TrafficFrames.{FrameCycle, IsSetOneFrame, IsSetTwoFrame}
-pub use Rattle.cell_plan.specs.TrafficFrames.{cycled_frame, set_two}
-pub use Rattle.cell_plan.specs.TrafficFrames.{SetOneFrame, SetTwoFrame, planned}
-pub use Rattle.cell_plan.specs.Transmitter.{phase_at}
+pub use Rattle.cell_plan.specs.TrafficFrames.{FrameCycle, IsSetOneFrame, IsSetTwoFrame, SetTwoFrame}
+pub use Rattle.cell_plan.specs.TrafficFrames.{planned}
 pub use Rattle.cell_plan.specs.declared.traffic_frame.FrameRate.TheVariants.{SetOne, SetTwo}
 pub use Rattle.cell_plan.specs.declared.plan.CellPlan.{CellPlan}
 pub use Rattle.cell_plan.specs.declared.plan.Page.{Page}
@@ -21,8 +21,6 @@ pub use Rattle.cell_plan.specs.declared.plan.PagingPlan.{PagingPlan}
 pub use Rattle.cell_plan.specs.declared.plan.SyncPlan.{SyncPlan}
 pub use Rattle.cell_plan.specs.declared.plan.TrafficPlan.{TrafficPlan}
 pub use Rattle.cell_plan.specs.declared.traffic_frame.TrafficFrame.{TrafficFrame}
-pub use Rattle.chip_core.specs.Air.{superframe_chips}
-pub use Rattle.chip_core.specs.Bits.{xor}
 unfoldable pub use Rattle.chip_core.specs.Bits.{binary, places}
 pub use Rattle.chip_core.specs.declared.assignment.Traffic.{Traffic}
 pub use Rattle.chip_core.specs.declared.check_form.CheckForm.TheVariants.{Complemented, Plain}
@@ -61,7 +59,6 @@ unfoldable pub use Rattle.message_layout.specs.Reading.{fields_at, group_at, num
 unfoldable pub use Rattle.message_layout.specs.Reading.{part_at, presence_at, reading, records_at}
 unfoldable pub use Rattle.message_layout.specs.Spelling.{spelling}
 unfoldable pub use Rattle.paging_message.specs.Laying.{fill, framed, half_frames_of, laid_on}
-pub use Rattle.paging_message.specs.Reading.{number_at}
 unfoldable pub use Rattle.quality_bits.specs.Capsules.{capsule, front_capsule, is_stated}
 unfoldable pub use Rattle.quality_bits.specs.Pieces.{capsule_ending}
 unfoldable pub use Rattle.quality_bits.specs.Quality.{check_bits}
@@ -69,8 +66,6 @@ pub use Rattle.quality_bits.specs.TrafficCodewords.{repeats_of, traffic_codeword
 pub use Rattle.quality_bits.specs.declared.kind.Kind.TheVariants.{M30}
 pub use Rattle.quality_bits.specs.declared.rate.Rate.{Rate}
 pub use Rattle.quality_bits.specs.declared.rate.Rate.TheVariants.{R1200, R2400, R4800, R9600}
-pub use Rattle.rake_finger.specs.Soft.{softs}
-pub use Rattle.rake_finger.specs.Streams.{frame_softs, is_in_file, span_first, span_frames}
 pub use Rattle.rake_finger.specs.declared.finger.Finger.{Finger}
 pub use Rattle.rake_finger.specs.declared.form.Form.TheVariants.{Data}
 pub use Rattle.rate_set_two.specs.Laws.{good_frame2}
@@ -91,8 +86,5 @@ unfoldable pub use Rattle.traffic_message.specs.Reading.{is_traffic_body, part_r
 unfoldable pub use Rattle.traffic_message.specs.Reading.{traffic_reading}
 pub use Rattle.traffic_message.specs.declared.body.TrafficBody.{TrafficBody}
 pub use Rattle.traffic_message.specs.declared.body.TrafficBody.TheVariants.{Other}
-pub use Rattle.viterbi.specs.Best.{IsAllowed}
-pub use Rattle.viterbi.specs.Codewords.{Codeword}
-pub use Rattle.viterbi.specs.Laws.{signed}
 pub use Rattle.viterbi.specs.Signs.{HasSign}
 pub use Rattle.viterbi.specs.declared.codeword.Ends.TheVariants.{Zero}

@@ -3,8 +3,8 @@
 use Rattle.std.specs.Prelude.{ℕ, ◌+◌, ◌-◌, ◌*◌, ◌≡◌, true, Bool, List, [], ◌∷◌, length, map, Some}
 use Rattle.std.specs.Prelude.{ℤ}
 use Rattle.std.specs.List.{Contains}
-use Rattle.clean_link.specs.Common.{IsSetTwoFrame, SetTwoFrame, frame_codeword, traffic_channel}
-use Rattle.clean_link.specs.Common.{IsSetOneFrame, SetOneFrame, Width, cycled_frame, made_samples}
+use Rattle.clean_link.specs.Common.{IsSetTwoFrame, SetTwoFrame, traffic_channel}
+use Rattle.clean_link.specs.Common.{SetOneFrame, Width, cycled_frame, made_samples}
 use Rattle.clean_link.specs.Common.{IsReceivable, TrafficPlan, good_frame2, soft_frame, soft_frames}
 use Rattle.clean_link.specs.Common.{CellPlan, Decoded2, SoftFrame, SyncPlan, decoded2, frames_of}
 use Rattle.clean_link.specs.Common.{Data, Mark, Sample, Traffic, Tuning, mark, raw_at}
@@ -12,14 +12,13 @@ use Rattle.clean_link.specs.CleanLink.{IsOnPath}
 use Rattle.clean_signal.specs.Signals.{soft_strength}
 use Rattle.clean_frames.specs.SentFrames.{is_received, received_frames, codeword_symbols}
 use Rattle.clean_frames.specs.SentFrames.{IsAssigned, replaced_of, SendsSetTwo, SendsSymbols}
-use Rattle.clean_frames.specs.SentFrames.{ShowPowerBits, IsDistinctFrame}
+use Rattle.clean_frames.specs.SentFrames.{ShowPowerBits}
 use Rattle.clean_link.specs.ReceivedFrames.{IsDistinctFrame2, codeword_symbols2, cycled_frame2}
 use Rattle.clean_link.specs.ReceivedFrames.{AreReceived, IsReceived, IsReceivedAs, IsSentFrame2}
 use Rattle.clean_link.specs.TrafficLaws.{HavePowerSigns, SetOneIsTheOnlyBest, SetTwoIsTheOnlyBest}
 use Rattle.clean_link.specs.TrafficLaws.{HearsSentTraffic, HoldsOfBearing, NoisyFrame}
 use Rattle.clean_signal.specs.BoundedNoise.{Bears}
 use Rattle.clean_link.specs.CleanLaws.{HearsSentSync}
-use Rattle.rate_set_two.specs.TrafficFrames as second
 
 -- ---- what is sent
 
