@@ -13,7 +13,7 @@ use Rattle.clean_link.proofs.Common.{IsDistinctFrame, end_chip, messages_sent, c
 use Rattle.clean_link.proofs.Common.{told_with_sync, lost_symbols2, sharing, sharing2, codewords_giving, zero, suc, false, get_or}
 use Rattle.clean_link.proofs.Common.{common_parity, digit, get_or-map-places, flat_map_ext_places, long_chip, after_lt, after_none}
 use Rattle.clean_link.proofs.Common.{after_one, stepped, after-before, before_lt, after-injective, group_scrambling, power_place}
-use Rattle.clean_link.proofs.Common.{power_start}
+use Rattle.clean_link.proofs.Common.{frames_in_turn, power_start}
 use Rattle.long_code.specs.LongCode.{before}
 use Rattle.sync_message.proofs.Bodies.{admitted}
 use Rattle.message_layout.specs.Spelling.{spelling}
@@ -312,29 +312,6 @@ apart2 R3600 R3600 other = absurd (other refl)
 apart2 R1800 R1800 other = absurd (other refl)
 apart2 rate r other = refl
 
--- what is true of the frame of each rate is so of the one that is sent from this chip on
-one_frame : {R F : Type 0} (P : List ℕ → F → Type 0) (found : R → List ℕ) (frame : R → F) →
-    ((rate : R) → P (pairs_by (found rate)) (frame rate)) →
-    (rate : R) (chip : ℕ) → places_in chip ≡ pairs_by (found rate) →
-    All (P (places_in chip)) (frame rate ∷ [])
-one_frame P found frame each rate chip are =
-    All-cons (P (places_in chip)) (frame rate) []
-    (subst (λ (ps : List ℕ). P ps (frame rate)) (sym are) (each rate)) (All-nil (P (places_in chip)))
-
-distinct_at : (rate : Rate) (chip : ℕ) → places_in chip ≡ pairs_by (starts_of rate) →
-    All (IsDistinctFrame (places_in chip)) (frame_at rate ∷ [])
-distinct_at =
-    one_frame IsDistinctFrame starts_of frame_at
-    (λ rate. distinct_by_sharing (pairs_by (starts_of rate)) rate (distinct_bits_of rate)
-    (record { own = own rate; others = apart rate }))
-
-distinct2_at : (rate : Rate2) (chip : ℕ) → places_in chip ≡ pairs_by (starts_of2 rate) →
-    All (IsDistinctFrame2 (places_in chip)) (frame2_at rate ∷ [])
-distinct2_at =
-    one_frame IsDistinctFrame2 starts_of2 frame2_at
-    (λ rate. distinct_by_sharing2 (pairs_by (starts_of2 rate)) rate (bits_of2 rate)
-    (record { own = own2 rate; others = apart2 rate }))
-
 -- ---- which frames are received
 
 -- what is true of frames 28 to 31
@@ -356,37 +333,53 @@ by_four P a b c d n low high =
     ]
 
 -- is true of those that are received
-received_four : (p : TrafficPlan) → p.offset ≡ 0 → (P : ℕ → Type 0) → P 28 → P 29 → P 30 → P 31 →
-    (frame : ℕ) → is_received distinct_plan p 688128 frame ≡ true → P frame
-received_four p offset P a b c d frame received =
-    let both = and_parts (nat_le 688128 (frame_chip p frame))
-    (nat_le (frame_chip p (frame + 1)) (end_chip distinct_plan)) received in
-    let begun : 688128 ≤ frame_chip p frame = leb-true 688128 (frame_chip p frame) both.0 in
-    let ends : frame_chip p (frame + 1) ≤ 786432 =
-    leb-true (frame_chip p (frame + 1)) (end_chip distinct_plan) both.1 in
-    by_four P a b c d frame (omega (arith, begun, offset)) (omega (arith, ends, offset))
+received_four : (row : ℕ) (frames : List TrafficFrame) (P : ℕ → Type 0) → P 28 → P 29 → P 30 → P 31 →
+    (n : ℕ) → is_received distinct_plan (channel_on row frames) 688128 n ≡ true → P n
+received_four row frames P a b c d n received =
+    let p = channel_on row frames in
+    let offset : p.offset ≡ 0 = refl in
+    let both = and_parts (nat_le 688128 (frame_chip p n))
+    (nat_le (frame_chip p (n + 1)) (end_chip distinct_plan)) received in
+    let begun : 688128 ≤ frame_chip p n = leb-true 688128 (frame_chip p n) both.0 in
+    let ends : frame_chip p (n + 1) ≤ 786432 =
+    leb-true (frame_chip p (n + 1)) (end_chip distinct_plan) both.1 in
+    by_four P a b c d n (omega (arith, begun, offset)) (omega (arith, ends, offset))
+
+-- Of a channel with a frame of each of four rates: what is true of each at the places of its power
+-- control bits is so of those that are received.
+each_of_four : {R F : Type 0} (P : List ℕ → F → Type 0) (found : R → List ℕ) (frame : R → F) →
+    ((rate : R) → P (pairs_by (found rate)) (frame rate)) → (a b c d : R) →
+    places_in 688128 ≡ pairs_by (found a) → places_in 712704 ≡ pairs_by (found b) →
+    places_in 737280 ≡ pairs_by (found c) → places_in 761856 ≡ pairs_by (found d) →
+    (row : ℕ) (frames : List TrafficFrame) (n : ℕ) →
+    is_received distinct_plan (channel_on row frames) 688128 n ≡ true →
+    All (P (replaced_of distinct_plan (channel_on row frames) n))
+    (frames_in_turn (map frame (a ∷ b ∷ c ∷ d ∷ [])) n)
+each_of_four {R} {F} P found frame each a b c d in_a in_b in_c in_d row frames =
+    let here : (rate : R) (chip : ℕ) → places_in chip ≡ pairs_by (found rate) →
+    All (P (places_in chip)) (frame rate ∷ []) =
+    λ rate chip are. All-cons (P (places_in chip)) (frame rate) []
+    (subst (λ (ps : List ℕ). P ps (frame rate)) (sym are) (each rate)) (All-nil (P (places_in chip))) in
+    received_four row frames
+    (λ n. All (P (replaced_of distinct_plan (channel_on row frames) n))
+    (frames_in_turn (map frame (a ∷ b ∷ c ∷ d ∷ [])) n))
+    (here a 688128 in_a) (here b 712704 in_b) (here c 737280 in_c) (here d 761856 in_d)
 
 distinct_one : AreDistinct distinct_plan first_channel 688128
 distinct_one =
-    received_four first_channel refl
-    (λ frame. All (IsDistinctFrame (replaced_of distinct_plan first_channel frame))
-    (cycled_frame (frames_of distinct_plan first_channel) frame))
-    (distinct_at R9600 688128 places_0)
-    (distinct_at R4800 712704 places_1)
-    (distinct_at R2400 737280 places_2)
-    (distinct_at R1200 761856 places_3)
+    each_of_four IsDistinctFrame starts_of frame_at
+    (λ rate. distinct_by_sharing (pairs_by (starts_of rate)) rate (distinct_bits_of rate)
+    (record { own = own rate; others = apart rate }))
+    R9600 R4800 R2400 R1200 places_0 places_1 places_2 places_3 8 first_channel.frames
 
-distinct_two : (frame : ℕ) → is_received distinct_plan second_channel 688128 frame ≡ true →
-    All (IsDistinctFrame2 (replaced_of distinct_plan second_channel frame))
-    (cycled_frame2 (frames_of distinct_plan second_channel) frame)
+distinct_two : (n : ℕ) → is_received distinct_plan second_channel 688128 n ≡ true →
+    All (IsDistinctFrame2 (replaced_of distinct_plan second_channel n))
+    (cycled_frame2 (frames_of distinct_plan second_channel) n)
 distinct_two =
-    received_four second_channel refl
-    (λ frame. All (IsDistinctFrame2 (replaced_of distinct_plan second_channel frame))
-    (cycled_frame2 (frames_of distinct_plan second_channel) frame))
-    (distinct2_at R14400 688128 places_0)
-    (distinct2_at R7200 712704 places_1)
-    (distinct2_at R3600 737280 places_2)
-    (distinct2_at R1800 761856 places_3)
+    each_of_four IsDistinctFrame2 starts_of2 frame2_at
+    (λ rate. distinct_by_sharing2 (pairs_by (starts_of2 rate)) rate (bits_of2 rate)
+    (record { own = own2 rate; others = apart2 rate }))
+    R14400 R7200 R3600 R1800 places_0 places_1 places_2 places_3 9 second_channel.frames
 
 -- ---- the cell
 
