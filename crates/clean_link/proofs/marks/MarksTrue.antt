@@ -90,14 +90,10 @@ is_true width plan m t k q w lawful tuned at =
     let u = frame_start (sync_stream t) (k - w) in
     let size : superframes_of (sync_capsule plan.cell.check30 (message_of plan.cell m q)) ≡ n =
     ap (λ (x : ℕ). (x + 92) / 93) (length-sending plan.cell m q) in
+    let first = frames_begin plan t (k - w) lawful.pn tuned.phase in
+    let frames = threefold q n in
     let begins : plan.link.start + u ≡ 64 * plan.cell.pn + 98304 * (q * n) =
-    omega (
-      arith,
-      frames_begin plan t (k - w) lawful.pn tuned.phase,
-      at.place.parts,
-      tells.begun,
-      threefold q n,
-    ) in
+    omega (arith, first, at.place.parts, tells.begun, frames) in
     record {
       place =
           ap (λ (x : ℕ). plan.link.start +

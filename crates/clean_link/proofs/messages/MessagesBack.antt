@@ -172,13 +172,9 @@ module _ {width : Width} {plan : CellPlan} {t : Tuning} {samples : List Sample}
         let rate = rate_in is tuned sync t.count m sends set in
         let (superframes, true_mark) = marks_in is tuned t.count m set in
         let first = first_in is tuned sync sends m set in
+        let time = time_of plan sync.message first.sending in
         let told : superframes ≡ told_superframes plan.cell sync.message first.sending =
-        omega (
-          arith,
-          true_mark.time,
-          first.time,
-          time_of plan sync.message first.sending,
-        ) in
+        omega (arith, true_mark.time, first.time, time) in
         let chip : plan.link.start + m.sample
         ≡ 98304 * told_superframes plan.cell sync.message first.sending =
         true_mark.place ∙ ap (λ (n : ℕ). 98304 * n) told in

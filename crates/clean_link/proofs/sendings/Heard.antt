@@ -145,12 +145,9 @@ module _ {width : Width} {plan : CellPlan} {samples : List Sample} {t : Tuning}
     heard_is k q w there place =
         let m = sync.message in
         let sendable = sendable_of width plan sync is.receivable.lawful sends in
-        let early : q < 2 ^ 20 =
-        omega (
-          arith,
-          frame_early width plan t k is.receivable.lawful tuned there,
-          sending_early plan m (first_sync_frame plan) k q w place,
-        ) in
+        let begun = frame_early width plan t k is.receivable.lawful tuned there in
+        let sent = sending_early plan m (first_sync_frame plan) k q w place in
+        let early : q < 2 ^ 20 = omega (arith, begun, sent) in
         capsule_is t samples k
         ∙ ap (λ form. heard_in form
         (capsule_ending (map piece (frames_before t samples (k + 1))))) tuned.checks_of_30
@@ -226,36 +223,20 @@ pub ends_where : (width : Width) (plan : CellPlan) (m : SyncFields) (t : Tuning)
     IsLawfulPlan width plan → IsOnPath plan t → IsLast plan m k q →
     sending_ends plan m q ≡ plan.link.start + end_of_frame t k
 ends_where width plan m t k q lawful tuned is =
-    omega (
-      arith,
-      frames_begin plan t k lawful.pn tuned.phase,
-      is.parts,
-      threefold q (superframes_a_sending plan.cell m),
-      length-sync plan.cell.check30 m,
-    )
+    let begins = frames_begin plan t k lawful.pn tuned.phase in
+    let frames = threefold q (superframes_a_sending plan.cell m) in
+    let long = length-sync plan.cell.check30 m in
+    omega (arith, begins, is.parts, frames, long)
 
 -- it begins in the file just where the file's first frame isn't later than its first
-begins_from : (width : Width) (plan : CellPlan) (m : SyncFields) (t : Tuning) (q : ℕ) →
+begins_inside : (width : Width) (plan : CellPlan) (m : SyncFields) (t : Tuning) (q : ℕ) →
     IsLawfulPlan width plan → IsOnPath plan t →
-    first_sync_frame plan ≤ q * sending_frames plan m → plan.link.start ≤ sending_begins plan m q
-begins_from width plan m t q lawful tuned early =
-    omega (
-      arith,
-      frames_begin plan t 0 lawful.pn tuned.phase,
-      early,
-      threefold q (superframes_a_sending plan.cell m),
-    )
-
-begins_to : (width : Width) (plan : CellPlan) (m : SyncFields) (t : Tuning) (q : ℕ) →
-    IsLawfulPlan width plan → IsOnPath plan t →
-    plan.link.start ≤ sending_begins plan m q → first_sync_frame plan ≤ q * sending_frames plan m
-begins_to width plan m t q lawful tuned inside =
-    omega (
-      arith,
-      frames_begin plan t 0 lawful.pn tuned.phase,
-      inside,
-      threefold q (superframes_a_sending plan.cell m),
-    )
+    (first_sync_frame plan ≤ q * sending_frames plan m → plan.link.start ≤ sending_begins plan m q)
+    × (plan.link.start ≤ sending_begins plan m q → first_sync_frame plan ≤ q * sending_frames plan m)
+begins_inside width plan m t q lawful tuned =
+    let begins = frames_begin plan t 0 lawful.pn tuned.phase in
+    let frames = threefold q (superframes_a_sending plan.cell m) in
+    (λ early. omega (arith, begins, early, frames), λ inside. omega (arith, begins, inside, frames))
 
 pub whole_from : (width : Width) (plan : CellPlan) (m : SyncFields) (t : Tuning) (k q : ℕ) →
     IsLawfulPlan width plan → IsOnPath plan t → IsLast plan m k q →
@@ -266,7 +247,7 @@ whole_from width plan m t k q lawful tuned is begun there =
     and_from (nat_le plan.link.start (sending_begins plan m q))
     (nat_le (sending_ends plan m q) (plan.link.start + plan.link.samples))
     (le-leb plan.link.start (sending_begins plan m q)
-    (begins_from width plan m t q lawful tuned (omega (arith, is.parts, begun))))
+    ((begins_inside width plan m t q lawful tuned).0 (omega (arith, is.parts, begun))))
     (le-leb (sending_ends plan m q) (plan.link.start + plan.link.samples)
     (omega (arith, ends, fits, tuned.count)))
 
@@ -288,7 +269,7 @@ whole_to width plan m t q lawful tuned whole =
     and_parts (nat_le plan.link.start (sending_begins plan m q))
     (nat_le (sending_ends plan m q) (plan.link.start + plan.link.samples)) whole in
     let early =
-    begins_to width plan m t q lawful tuned
+    (begins_inside width plan m t q lawful tuned).1
     (leb-true plan.link.start (sending_begins plan m q) both.0) in
     let inside = leb-true (sending_ends plan m q) (plan.link.start + plan.link.samples) both.1 in
     let k = q * sending_frames plan m + last_frame plan m - first_sync_frame plan in
