@@ -12,7 +12,7 @@ pub use Rattle.std.proofs.lemmas.Fmt.{decimal-digits_value, decimal_nonempty, di
 pub use Rattle.std.proofs.lemmas.Fmt.{length-decimal-le}
 pub use Rattle.std.proofs.lemmas.Int.{ints}
 pub use Rattle.std.proofs.lemmas.List.{append-nil, at_drop_more, drop_all, get_or-replicate, get_or-set_other, get_or-set_same, length-drop}
-pub use Rattle.std.proofs.lemmas.List.{length-map, length-set, length-take-le, take-append-drop, take_all, take_at, take_more_set}
+pub use Rattle.std.proofs.lemmas.List.{length-map, length-set, length-take-le, take-append-drop, take_all, take_more_set}
 pub use Rattle.std.proofs.lemmas.List.{length-replicate, length-take, map-append}
 pub use Rattle.std.proofs.lemmas.List.Elements.{All-cons, All-head, All-map, All-nil, All-push, All-tail, All-weaker}
 pub use Rattle.std.proofs.lemmas.Nat.{mul-le, from_be_bytes-to_be_bytes_4, from_be_bytes-to_be_bytes_8}
@@ -55,7 +55,7 @@ unfoldable pub use Rattle.chip_core.specs.Decimals.{digits_from}
 pub use Rattle.chip_core.specs.Fields.{FieldsFit}
 pub use Rattle.chip_core.specs.declared.check_form.CheckForm.{CheckForm}
 pub use Rattle.chip_core.specs.declared.width.Width.{Width}
-unfoldable pub use Rattle.hex.specs.Hex.{decode_pairs, encode_with}
+unfoldable pub use Rattle.hex.specs.Hex.{encode_with}
 pub use Rattle.long_code.specs.LongCode.{IsState}
 pub use Rattle.paging_message.proofs.Messages.{message_fills}
 pub use Rattle.paging_message.proofs.Readings.{body_is_read, reads_body}
@@ -112,7 +112,7 @@ unfoldable pub use Rattle.cell_script.specs.ScriptValues.{number_up_to, serial_n
 pub use Rattle.cell_script.specs.declared.judge.ChannelRows.{ChannelRows}
 pub use Rattle.cell_script.specs.declared.judge.Judge.{Judge}
 pub use Rattle.cell_script.specs.declared.script_fault.ScriptFault.{ScriptFault}
-pub use Rattle.cell_script.specs.declared.script_fault.ScriptFault.TheVariants.{Gain, Line, TooBig, TooLong, TooLoud, Walsh}
+pub use Rattle.cell_script.specs.declared.script_fault.ScriptFault.TheVariants.{Gain, Line, TooBig, Walsh}
 pub use Rattle.cell_script.specs.declared.stage.Stage.{Stage}
 pub use Rattle.cell_script.specs.declared.stage.Stage.TheVariants.{Cell, FirstFrame, FirstPage, Frames, Link, Pages, Paging, Pilot}
 pub use Rattle.cell_script.specs.declared.stage.Stage.TheVariants.{Sync, Traffic}

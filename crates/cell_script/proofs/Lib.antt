@@ -8,7 +8,6 @@ pub mod NamedPlans
 pub mod ScriptAnswers
 pub mod ScriptBounds
 pub mod ScriptKeys
-pub mod ScriptLaws
 pub mod ScriptMessages
 pub mod ScriptNumbers
 pub mod ScriptNumerals

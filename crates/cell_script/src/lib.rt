@@ -12,7 +12,6 @@
 mod build;
 mod fields;
 mod judge;
-pub mod laws;
 mod reading;
 mod script_fault;
 mod spelling;

@@ -15,8 +15,8 @@ use std::alloc::Global;
 
 /// The script that states a plan, a line for each statement: `cell`, `link`, `pilot`, `sync` where
 /// the plan has a sync channel, each paging channel with its pages, and each traffic channel with
-/// its frames. Where a script names the plan, this one does too, if it isn't too big: see
-/// [`crate::laws::written_script_names_its_plan`].
+/// its frames. Where a script names the plan, this one does too, if it isn't too big: see the law
+/// `written_script_names_its_plan` of `script_laws`.
 ///
 /// [`OutOfMemory`]: there was none.
 #[tactic(auto, unfolding(crate::specs::Spelling::script_of))]

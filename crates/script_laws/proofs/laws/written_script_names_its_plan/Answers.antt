@@ -1,7 +1,7 @@
 -- Why `written_script_names_its_plan` of `laws` keeps its contract.
 use Rattle.cell_script.proofs.NamedPlans.{named_back}
 use Rattle.cell_script.proofs.WrittenPlans.{stated_back}
-use Rattle.cell_script.proofs.laws.written_script_names_its_plan.Goals as goal
+use Rattle.script_laws.proofs.laws.written_script_names_its_plan.Goals as goal
 
 pub returns-clause-stated : goal.returns-clause-stated
 returns-clause-stated c script plan e = (stated_back script plan e).1

@@ -1,6 +1,6 @@
 -- Why the law `named_pages_are_carried` holds.
 use Rattle.cell_script.proofs.NamedPages.{pages_are_carried, pages_are_messages}
-use Rattle.cell_script.proofs.laws.named_pages_are_carried.Goals as goal
+use Rattle.script_laws.proofs.laws.named_pages_are_carried.Goals as goal
 
 pub returns-clause-messages : goal.returns-clause-messages
 returns-clause-messages c = pages_are_messages

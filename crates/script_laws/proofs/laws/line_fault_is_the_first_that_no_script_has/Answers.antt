@@ -1,6 +1,6 @@
 -- Why the law `line_fault_is_the_first_that_no_script_has` holds.
-use Rattle.cell_script.proofs.ScriptLaws.{counted, least, missing, refused}
-use Rattle.cell_script.proofs.laws.line_fault_is_the_first_that_no_script_has.Goals as goal
+use Rattle.script_laws.proofs.LineFaults.{counted, least, missing, refused}
+use Rattle.script_laws.proofs.laws.line_fault_is_the_first_that_no_script_has.Goals as goal
 
 pub returns-clause-counted : goal.returns-clause-counted
 returns-clause-counted c = counted

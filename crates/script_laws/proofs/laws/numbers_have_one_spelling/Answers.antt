@@ -1,6 +1,6 @@
 -- Why the law `numbers_have_one_spelling` holds.
 use Rattle.cell_script.proofs.ScriptNumerals.{one_numeral, one_signed_numeral}
-use Rattle.cell_script.proofs.laws.numbers_have_one_spelling.Goals as goal
+use Rattle.script_laws.proofs.laws.numbers_have_one_spelling.Goals as goal
 
 pub returns-clause-signed : goal.returns-clause-signed
 returns-clause-signed c = one_signed_numeral

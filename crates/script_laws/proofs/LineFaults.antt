@@ -1,15 +1,35 @@
 -- Which line of a script is at fault: what is read can be completed up to that line, and no
 -- further.
-use Rattle.cell_script.proofs.Common.{◌≡◌, ◌≢◌, ℕ, zero, suc, ◌+◌, ◌-◌, ◌<◌, ◌≤◌, Bool, true, false, cond, List, [], ◌∷◌, ◌++◌, length}
-use Rattle.cell_script.proofs.Common.{take, refl, sym, ap, ◌∙◌, arith, append_assoc, Option, None, Some, Result, Ok, Err, IsOk, option_or}
-use Rattle.cell_script.proofs.Common.{codes, nat_lt, ok_or, option_map, ◌↔◌, take_at, length-take-le, binary, digits_from, decode_pairs}
-use Rattle.cell_script.proofs.Common.{admits, bits_left, fill, is_body, Rate, R9600, CellPlan, SyncPlan, Stage, Cell, Link, Pilot}
-use Rattle.cell_script.proofs.Common.{FirstPage, FirstFrame, ScriptFault, Line, Walsh, Gain, TooLoud, TooLong, TooBig, bits_in_text}
-use Rattle.cell_script.proofs.Common.{hex_bits, hex_from, length_before, power_bits_in, digits_behind, number_up_to, signed_in, state_in}
-use Rattle.cell_script.proofs.Common.{script_field, past, cell_in, traffic_frame_in, link_in, stated_page_in, pilot_in, statement_in}
-use Rattle.cell_script.proofs.Common.{page_stage, Draft, empty_draft, plan_at, with_line, with_next, draft_after, is_line, lines, named}
-use Rattle.cell_script.proofs.Common.{plan_fault, plan_named, stated, stated_plan, sync_gain_fault, unless, Width, cond-true, cond-false}
-use Rattle.cell_script.proofs.Common.{le-ltb, ltb-false}
+use Rattle.std.proofs.Common.{◌≡◌, ◌≢◌, ℕ, zero, suc, ◌+◌, ◌-◌, ◌<◌, ◌≤◌, Bool, true, false, cond, List, [], ◌∷◌, ◌++◌, length, take, refl}
+use Rattle.std.proofs.Common.{sym, ap, ◌∙◌, arith, append_assoc, Option, None, Some, Result, Ok, Err, IsOk}
+use Rattle.std.proofs.lemmas.Bool.{cond-true, cond-false, le-ltb, ltb-false}
+use Rattle.std.proofs.lemmas.List.{take_at, length-take-le}
+use Rattle.std.specs.Option.{option_or}
+use Rattle.std.specs.Prelude.{codes, nat_lt, ok_or, option_map, ◌↔◌}
+use Rattle.hex.specs.Hex.{decode_pairs}
+use Rattle.chip_core.specs.Bits.{binary}
+use Rattle.chip_core.specs.Decimals.{digits_from}
+use Rattle.chip_core.specs.declared.width.Width.{Width}
+use Rattle.quality_bits.specs.declared.rate.Rate.{Rate}
+use Rattle.quality_bits.specs.declared.rate.Rate.TheVariants.{R9600}
+use Rattle.paging_message.specs.Admitted.{admits}
+use Rattle.paging_message.specs.HalfFrames.{bits_left}
+use Rattle.paging_message.specs.Laying.{fill}
+use Rattle.paging_message.specs.Reading.{is_body}
+use Rattle.cell_plan.specs.declared.plan.CellPlan.{CellPlan}
+use Rattle.cell_plan.specs.declared.plan.SyncPlan.{SyncPlan}
+use Rattle.cell_script.specs.Script.{draft_after, is_line, lines, named, plan_fault, plan_named, stated, stated_plan, sync_gain_fault}
+use Rattle.cell_script.specs.Script.{unless}
+use Rattle.cell_script.specs.ScriptDrafts.{Draft, empty_draft, plan_at, with_line, with_next}
+use Rattle.cell_script.specs.ScriptFields.{script_field, past}
+use Rattle.cell_script.specs.ScriptLines.{cell_in, traffic_frame_in, link_in, stated_page_in, pilot_in, statement_in}
+use Rattle.cell_script.specs.ScriptStages.{page_stage}
+use Rattle.cell_script.specs.ScriptValues.{bits_in_text, hex_bits, hex_from, length_before, power_bits_in, digits_behind, number_up_to}
+use Rattle.cell_script.specs.ScriptValues.{signed_in, state_in}
+use Rattle.cell_script.specs.declared.script_fault.ScriptFault.{ScriptFault}
+use Rattle.cell_script.specs.declared.script_fault.ScriptFault.TheVariants.{Line, Walsh, Gain, TooLoud, TooLong, TooBig}
+use Rattle.cell_script.specs.declared.stage.Stage.{Stage}
+use Rattle.cell_script.specs.declared.stage.Stage.TheVariants.{Cell, Link, Pilot, FirstPage, FirstFrame}
 use Rattle.cell_script.proofs.ScriptSplits.{lines-append, draft_after-other, stated-fault, stated-next, stated-none, stated_plan-lines}
 
 -- ---- completions

@@ -1,0 +1,2 @@
+-- The modules of lemmas of `script_laws`.
+pub mod LineFaults

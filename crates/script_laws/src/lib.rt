@@ -1,0 +1,8 @@
+//! Laws of scripts and of the plans that they name, over the definitions of `cell_script`: which
+//! line of a script is at fault, that a number has one spelling, that a named plan can be sent and
+//! received, and that the script which is written of a plan names it.
+//!
+//! No function needs them: they stand beside the reading of scripts.
+#![tactic(auto)]
+
+pub mod laws;
