@@ -14,8 +14,8 @@ settings_by-settings-requires g c =
     c.header-header.ensures.value
     ∙ ap (λ (k : CellState). header_of k.width k.plan) c.requires.cell
 
-pub boxed_handset-boxed-requires-clause-count : goal.boxed_handset-boxed-requires-clause-count
-boxed_handset-boxed-requires-clause-count g c = omega (
+pub boxed_handset-requires-clause-count : goal.boxed_handset-requires-clause-count
+boxed_handset-requires-clause-count g c = omega (
   arith,
   ap (λ (s : Settings). s.count) c.settings_by-settings.ensures,
   trial_counted c.args.number,
