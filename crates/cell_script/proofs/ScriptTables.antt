@@ -1,9 +1,8 @@
 -- Lines of several fields, which were read one after another.
-use Rattle.cell_script.proofs.Common.{Bool, LineForm, List, None, Option, Some, Values, [], ap, at_end, codes, cond-false, cond-true}
-use Rattle.cell_script.proofs.Common.{eq-eqb}
-use Rattle.cell_script.proofs.Common.{false, lawful_line, link_in, link_statement, ne_eqb, not, number_up_to, paging_in, paging_statement}
-use Rattle.cell_script.proofs.Common.{past, refl, script_field, serial_number_in, signed_in, sym, traffic_in, traffic_statement, true, ℕ, ℤ}
-use Rattle.cell_script.proofs.Common.{arith, is_link, read64, unsigned_abs, w64, ◌==◌, ◌∙◌, ◌∷◌, ◌≡◌, ◌≢◌, ◌≤◌}
+use Rattle.cell_script.proofs.Common.{Bool, LineForm, LinkPlan, List, None, Option, Some, Values, [], ap, arith, at_end, codes, cond-false}
+use Rattle.cell_script.proofs.Common.{cond-true, eq-eqb, false, is_link, lawful_line, link_in, link_statement, ne_eqb, not, number_up_to}
+use Rattle.cell_script.proofs.Common.{paging_in, paging_statement, past, read64, refl, script_field, serial_number_in, signed_in, sym}
+use Rattle.cell_script.proofs.Common.{traffic_in, traffic_statement, true, unsigned_abs, w64, ℕ, ℤ, ◌==◌, ◌∙◌, ◌∷◌, ◌≡◌, ◌≢◌, ◌≤◌}
 use Rattle.std.proofs.Common.{of_z, to_z}
 use Rattle.cell_script.proofs.ScriptBounds.{step}
 
@@ -104,6 +103,19 @@ link_told re im samples test in_phase quadrature is =
     sym (is
     ∙ ap (λ (z : ℤ). is_link z (to_z w64 (of_z w64 im)) samples) (read64 re (omega (arith, in_phase)))
     ∙ ap (λ (z : ℤ). is_link re z samples) (read64 im (omega (arith, quadrature))))
+
+-- and the link itself
+abbrev link_of : ℤ → ℤ → ℕ → ℕ → LinkPlan
+link_of re im start samples = link_statement.line (re, (im, (start, (samples, tt))))
+
+pub link_held : (re im : ℤ) (start samples : ℕ) → unsigned_abs re ≤ 32768 →
+    unsigned_abs im ≤ 32768 →
+    Some (link_of (to_z w64 (of_z w64 re)) (to_z w64 (of_z w64 im)) start samples)
+    ≡ Some (link_of re im start samples)
+link_held re im start samples in_phase quadrature =
+    ap (λ (z : ℤ). Some (link_of z (to_z w64 (of_z w64 im)) start samples))
+    (read64 re (omega (arith, in_phase)))
+    ∙ ap (λ (z : ℤ). Some (link_of re z start samples)) (read64 im (omega (arith, quadrature)))
 
 -- the test of a paging channel's number
 pub no_channel : (number : ℕ) → number ≡ 0 → not (number == 0) ≡ false

@@ -1,6 +1,6 @@
 -- Why `link_in` of `statements` keeps its contract.
 use Rattle.cell_script.proofs.Common.{refl, sym, ap, ◌∙◌, link_in, link_statement}
-use Rattle.cell_script.proofs.ScriptTables.{left_over, link_read, link_told, unlawful, whole_line}
+use Rattle.cell_script.proofs.ScriptTables.{left_over, link_held, link_read, link_told, unlawful, whole_line}
 use Rattle.cell_script.proofs.statements.link_in.Goals as goal
 
 -- The four fields of a link's line were read one after another, each from what the one before it left.
@@ -25,7 +25,8 @@ returns-then-not-at_end-clause-value c =
 
 pub returns-clause-value : goal.returns-clause-value
 returns-clause-value c =
-    sym (link_read c.new-fields.result _ _ _ _ _ _ _ _
+    link_held c.in_ok-re.re c.in_ok-im.im c.in_ok-start.start c.in_ok-samples.samples c.in_ok-re.ensures.range c.in_ok-im.ensures.range
+    ∙ sym (link_read c.new-fields.result _ _ _ _ _ _ _ _
     (sym c.in_ok-re.ensures.value) c.in_ok-re.ensures.rest (sym c.in_ok-im.ensures.value) c.in_ok-im.ensures.rest
     (sym c.in_ok-start.ensures.value) c.in_ok-start.ensures.rest (sym c.in_ok-samples.ensures.value) c.in_ok-samples.ensures.rest
     ∙ whole_line link_statement (c.in_ok-re.re, (c.in_ok-im.im, (c.in_ok-start.start, (c.in_ok-samples.samples, tt)))) _
