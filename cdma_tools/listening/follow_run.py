@@ -130,6 +130,12 @@ class FollowRun:
                 if not self.take(self.lines.get(timeout=seconds)):
                     return
 
+    def wait_pilot(self, seconds: float) -> None:
+        """Takes lines until the one of the pilot has come, or none has come for so many seconds."""
+        with contextlib.suppress(queue.Empty):
+            while self.phase is None and self.take(self.lines.get(timeout=seconds)):
+                pass
+
     def take(self, line: bytes | None) -> bool:
         """Takes a line; False at the end."""
         if line is None:

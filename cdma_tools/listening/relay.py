@@ -8,12 +8,11 @@ ended.
 from collections import deque
 from collections.abc import Iterable
 
+from cdma_tools.listening.beginning import START, Beginning, is_there
 from cdma_tools.listening.events import Event, Listener, Remark
 from cdma_tools.listening.follow_run import FollowRun, Handset, Sets
 from cdma_tools.listening.pieces import Chips
-from cdma_tools.listening.seams import (
-    AFTER, FRAME, GRID, LEAST_OVERLAP, OVERLAP, START, KeptChips, end_of, off_grid, strong_stretch,
-)  # fmt: skip
+from cdma_tools.listening.seams import AFTER, FRAME, GRID, LEAST_OVERLAP, OVERLAP, KeptChips, end_of, off_grid
 from cdma_tools.listening.system_time import SystemTime, time_told
 from cdma_tools.radio.air import CHIP_RATE, PERIOD
 
@@ -42,8 +41,8 @@ class Relay:
         self.handset, self.listener, self.origin = handset, listener, origin
         self.overlap, self.wanted = max(overlap, LEAST_OVERLAP), deque(sorted(wanted))
         self.kept = KeptChips(self.overlap + MORE_KEPT)
-        self.since = self.end = 0  # the first chip of the stretch, and the chip after its last one
-        self.is_fed = False
+        self.end = 0  # the chip after the last one
+        self.beginning: Beginning | None = None  # of the run that has to begin
         self.current: FollowRun | None = None
         self.next: FollowRun | None = None
         self.taken: int | None = None  # the seam at which the current run took over, None for the stretch's first
@@ -57,23 +56,23 @@ class Relay:
 
     def feed(self, chips: Chips) -> None:
         """Takes the next chips, and tells what is heard."""
-        if not self.is_fed:
-            self.is_fed, self.since = True, chips.first
+        if self.current is None and self.beginning is None:
+            self.beginning = Beginning(chips.first)
         self.end = chips.end
         self.kept.add(chips)
+        for run in (self.current, self.next):
+            if run is not None:
+                run.feed(chips)
         if self.current is None:
-            if self.end - self.since < START:
+            self.current = self.begun(self.row)
+            if self.current is None:
                 return
-            self.current = self.start(self.since, self.row)
             self.plan()
-        else:
-            self.current.feed(chips)
-        if self.next is not None:
-            self.next.feed(chips)
-        elif self.end >= self.seam - self.overlap + START:
-            self.next = self.start(self.seam - self.overlap, self.row_at(self.current, self.end))
+        if self.next is None and self.end >= self.seam - self.overlap + START:
+            self.beginning = self.beginning or Beginning(max(self.seam - self.overlap, self.kept.first))
+            self.next = self.begun(self.row_at(self.current, self.end))
         self.poll()
-        if self.next is not None and self.end >= self.seam + AFTER:
+        if self.current is not None and self.end >= self.seam + AFTER:
             self.change(self.current, self.next)
 
     def feed_zeros(self, count: int) -> None:
@@ -98,7 +97,7 @@ class Relay:
         """What is under way ends here, and what comes has nothing to do with it."""
         self.finish()
         self.kept.clear()
-        self.is_fed, self.current, self.taken = False, None, None
+        self.beginning, self.taken = None, None
         self.time, self.has_moved = None, False
 
     def finish(self) -> None:
@@ -125,14 +124,38 @@ class Relay:
 
     # Runs
 
-    def start(self, wanted: int, row: int | None) -> FollowRun:
-        """A run from a chip on, or a little later where the pilot is faded, fed with the chips that are there."""
-        first = max(wanted, self.kept.first)
-        begin = first + strong_stretch(self.kept.samples(first, START), first)
+    def begun(self, row: int | None) -> FollowRun | None:
+        """The run that has to begin, once it hears a pilot; None where more chips have to come first."""
+        beginning = self.beginning
+        assert beginning is not None
+        while (begin := beginning.next(self.kept, self.end)) is not None:
+            run = self.start(begin, row)
+            run.wait_pilot(PATIENCE)
+            if self.hears_pilot(run):
+                if begin - beginning.wanted >= START and not self.is_astray(run):
+                    late = (begin - beginning.wanted) / CHIP_RATE
+                    self.say(f"the pilot is faded where a run was to begin: it begins {late:.1f} s later")
+                self.beginning = None
+                return run
+            run.kill()
+            if not beginning.is_again:
+                self.say("a run hears noise in place of the pilot, and is begun anew")
+            beginning.again(begin)
+        return None
+
+    def start(self, begin: int, row: int | None) -> FollowRun:
+        """A run from a chip on, fed with the chips that are there."""
         run = FollowRun(self.handset.on_row(row), begin)
         for chips in self.kept.pieces:
             run.feed(chips)
         return run
+
+    def hears_pilot(self, run: FollowRun) -> bool:
+        """Whether a run hears the pilot that is locked to, or another one that is there in the chips round its first."""
+        if run.phase is None or not self.is_astray(run):
+            return True
+        first = max(run.begin - START, self.kept.first)
+        return is_there(self.kept.samples(first, 2 * START), run.phase - run.begin + first)
 
     def plan(self) -> None:
         """Chooses the seam at which the current run gives over."""
@@ -146,24 +169,32 @@ class Relay:
             self.seam = min(self.seam, self.wanted[0])
         self.seam = off_grid(self.seam, self.time.offset if self.time else 0)
 
-    def change(self, before: FollowRun, after: FollowRun) -> None:
+    def change(self, before: FollowRun, after: FollowRun | None) -> None:
         """At the seam: the run before ends, and the one after it is told from there on."""
         before.close()
         self.tell(before)
         self.row = self.row_at(before, self.seam)
+        if after is None:
+            self.say("no run has begun beside the one that ends here: the pilot is faded")
+        else:
+            after = self.carried(before, after)
+        self.seams.append(self.seam)
+        self.taken, self.current, self.next = self.seam, after, None
+        if after is not None:
+            self.plan()
+            self.tell(after)
+
+    def carried(self, before: FollowRun, after: FollowRun) -> FollowRun:
+        """The run after the seam, on the row of the one before; says what else isn't carried over."""
         if self.row is not None:
             # Frames end every 20 ms once there is a mark: then all lines up to the seam have come.
             after.wait_past(self.seam, PATIENCE)
         if self.row_at(after, self.seam) != self.row:
             self.say(f"a direction before the mark of the next run, which is started anew on row {self.row}")
             after.kill()
-            after = self.start(after.begin, self.row)
-        else:
-            self.compare(before.sets_at(self.seam), after.sets_at(self.seam))
-        self.seams.append(self.seam)
-        self.taken, self.current, self.next = self.seam, after, None
-        self.plan()
-        self.tell(after)
+            return self.start(after.begin, self.row)
+        self.compare(before.sets_at(self.seam), after.sets_at(self.seam))
+        return after
 
     def compare(self, before: Sets | None, after: Sets | None) -> None:
         """Says what of the pilot sets isn't carried over a seam."""
@@ -199,12 +230,13 @@ class Relay:
 
     def check_phase(self, run: FollowRun) -> None:
         """Says where a run hears another pilot than the one that is locked to, by the code at its first chip."""
-        if run.phase is None:
-            return
-        astray = (run.phase - run.begin + PERIOD // 2) % PERIOD - PERIOD // 2
+        if self.is_astray(run):
+            self.say(f"a run hears a pilot whose code is {astray_of(run)} chips from that of the lock: another cell's")
         run.phase = None
-        if abs(astray) > ASTRAY:
-            self.say(f"a run hears a pilot whose code is {astray} chips from that of the lock: another cell's")
+
+    def is_astray(self, run: FollowRun) -> bool:
+        """Whether a run has told another pilot than the one that is locked to."""
+        return abs(astray_of(run)) > ASTRAY
 
     def learn(self, event: Event) -> None:
         """Takes note of the system time that a line tells."""
@@ -220,3 +252,10 @@ class Relay:
     def say(self, text: str) -> None:
         """Makes a remark about the last chips."""
         self.listener.remark(Remark((self.end - self.origin) / CHIP_RATE, text))
+
+
+def astray_of(run: FollowRun) -> int:
+    """How many chips the code of the pilot that a run tells is ahead of its first chip's number; 0 of none."""
+    if run.phase is None:
+        return 0
+    return (run.phase - run.begin + PERIOD // 2) % PERIOD - PERIOD // 2

@@ -12,7 +12,7 @@ from numpy.typing import NDArray
 
 from cdma_tools.listening.follow_run import MOST
 from cdma_tools.listening.pieces import Chips
-from cdma_tools.radio.air import CHIP_RATE, PERIOD, short_code
+from cdma_tools.radio.air import CHIP_RATE, PERIOD
 
 # Chips of a paging or traffic frame; a frame of the sync channel has PERIOD.
 FRAME = 24_576
@@ -26,10 +26,6 @@ AFTER = 8_192
 RESERVE = PERIOD + AFTER
 # The distance of events, counted from the mark, and the place between two of them.
 GRID, OFF_GRID = 512, 496
-# A handset sets its fingers in a run's first chips; so many stretches of them are compared, and one counts as strong
-# whose pilot has this part of their mean energy, in each of its parts.
-START_CHIPS, START_STRETCHES, START_PARTS, STRONG = 2_048, 32, 2, 0.5
-START = START_CHIPS * START_STRETCHES
 
 
 def off_grid(wanted: int, offset: int) -> int:
@@ -40,15 +36,6 @@ def off_grid(wanted: int, offset: int) -> int:
 def end_of(begin: int) -> int:
     """The last chip at which a run that began at a chip may give over."""
     return begin + MOST - RESERVE
-
-
-def strong_stretch(chips: NDArray[numpy.complex64], first: int) -> int:
-    """How many chips after `first` a stretch begins in which the pilot isn't faded, by the chips of all stretches."""
-    count = len(chips) // START_CHIPS
-    code = short_code()[(first + numpy.arange(count * START_CHIPS)) % PERIOD].conj()
-    sums = (chips[: count * START_CHIPS] * code).reshape(count, START_PARTS, -1).sum(axis=2)
-    energy = (numpy.abs(sums) ** 2).min(axis=1)
-    return START_CHIPS * int(numpy.argmax(energy > STRONG * energy.mean()))
 
 
 class KeptChips:

@@ -3,8 +3,9 @@
 import os
 import random
 import unittest
+import unittest.mock
 from collections.abc import Sequence
-from typing import ClassVar
+from typing import Any, ClassVar
 
 import numpy
 from numpy.typing import NDArray
@@ -18,12 +19,14 @@ from tools.tests.listening_cell import (
 needs("numpy", "scipy")
 
 from cdma_tools.errors import Refused
+from cdma_tools.listening.beginning import START, Beginning, is_there, strong_stretch
 from cdma_tools.listening.events import Collected, Event
 from cdma_tools.listening.follow_run import FollowRun, Handset
 from cdma_tools.listening.pieces import Chips
 from cdma_tools.listening.relay import Relay
-from cdma_tools.listening.seams import LEAST_OVERLAP, off_grid
+from cdma_tools.listening.seams import LEAST_OVERLAP, KeptChips, off_grid
 from cdma_tools.listening.system_time import time_told
+from cdma_tools.radio.air import short_code
 
 PERIOD = 32_768
 GAIN = 60  # by which chips of 8 bits are made louder, as those of a lock are
@@ -37,7 +40,7 @@ def handset(row: int | None = ROW) -> Handset:
     return Handset(PROGRAM, esn=SERIAL, row=row, offset=OFFSET)
 
 
-def fed(relay: Relay, parts: NDArray[numpy.int8], first: int) -> None:
+def fed(relay: Relay, parts: NDArray[numpy.int8] | NDArray[numpy.int16], first: int) -> None:
     """Feeds a relay with chips of a cell, the first of which has a number."""
     for place in range(0, len(parts), 2 * STEP):
         piece = (parts[place : place + 2 * STEP].astype(">i2") * GAIN).astype(">i2")
@@ -208,12 +211,183 @@ class LossTest(unittest.TestCase):
             self.assertEqual((result.missing, result.excess, result.shift), ({}, {}, 0))
 
 
+def noise_of(count: int, level: float) -> NDArray[numpy.int16]:
+    """Parts of so many chips of noise, with a root of their mean square."""
+    return numpy.random.default_rng(count).normal(0, level, 2 * count).round().astype(numpy.int16)
+
+
+def level_of(parts: NDArray[Any]) -> float:
+    """The root of the mean square of parts."""
+    return float(numpy.sqrt(numpy.mean(parts.astype(float) ** 2)))
+
+
+@unittest.skipUnless(PROGRAM, NO_PROGRAM)
+class FadeTest(unittest.TestCase):
+    """Runs that would begin within a fade, in which there is noise in the cell's place."""
+
+    SECONDS, OVERLAP, SEAM = 22, 6.0, 14.0
+    BEGIN = SEAM - OVERLAP  # of the second run, in seconds, but for some chips
+    # Seconds that a run needs at most from its beginning to the end of a run of pages that is under way at its mark.
+    LATEST = 4.3
+
+    cell: ClassVar[NDArray[numpy.int8]]
+
+    @classmethod
+    def setUpClass(cls) -> None:
+        cls.cell = made_cell(PROGRAM or "", cls.SECONDS)
+
+    def setUp(self) -> None:
+        self.heard = Collected()
+        counted = unittest.mock.patch.object(FollowRun, "__init__", autospec=True, side_effect=FollowRun.__init__)
+        self.begun = counted.start()
+        self.addCleanup(counted.stop)
+
+    def faded(self, begin: float, end: float) -> NDArray[numpy.int16]:
+        """The cell's chips with a fade between two seconds."""
+        low, high = (int(CHIP_RATE * second) for second in (begin, end))
+        noise = noise_of(high - low, level_of(self.cell[: 2 * CHIP_RATE]))
+        return numpy.concatenate([self.cell[: 2 * low], noise, self.cell[2 * high :]], dtype=numpy.int16)
+
+    def lines(self, parts: NDArray[Any], seams: Sequence[float]) -> list[str]:
+        """What is heard of chips with seams wanted at seconds."""
+        first = -64 * PN % PERIOD
+        wanted = [first + int(CHIP_RATE * seam) for seam in seams]
+        relay = Relay(handset(), self.heard, first, int(self.OVERLAP * CHIP_RATE), wanted)
+        try:
+            fed(relay, parts, first)
+            relay.finish()
+        finally:
+            relay.kill()
+        self.assertEqual(len(relay.seams), len(seams))
+        return told(self.heard, PN)
+
+    def check_missing(self, lines: list[str], begin: float, end: float) -> None:
+        """That nothing is missing, nor too many, but for what lies between two seconds in part."""
+        sent, count = Sent(script_of(1, 1, 0, PIECE)), self.SECONDS * CHIP_RATE
+        result = compared(sent, lines, count)
+        begins = {line.at: line.begin for line in sent.lines(count)}
+        for at, text in [*result.missing, *result.excess]:
+            seconds = begins.get(at, at) / CHIP_RATE, (at + 2 * FRAME) / CHIP_RATE
+            self.assertTrue(seconds[0] < end and begin < seconds[1], (seconds, text[:40]))
+        # Half of the lines are frames of the channel, and the last of them is some frames before the end.
+        last = max(at for at, _ in result.owed)
+        self.assertGreater(last, count - 6 * FRAME)
+        self.assertGreater(result.owed.total() - result.missing.total(), 45 * (self.SECONDS - 4 - (end - begin)))
+
+    def remarks(self) -> list[str]:
+        """What was remarked."""
+        return [remark.text for remark in self.heard.remarks]
+
+    def late(self, seconds: float) -> str:
+        """The remark that a run begins so many seconds late."""
+        return f"the pilot is faded where a run was to begin: it begins {seconds:.1f} s later"
+
+    def test_no_run_begins_within_a_fade(self) -> None:
+        begin, end = self.BEGIN - 0.1, self.BEGIN + 0.5
+        lines = self.lines(self.faded(begin, end), [self.SEAM])
+        self.assertEqual(self.begun.call_count, 2)
+        self.assertEqual(self.remarks(), [self.late(0.5)])
+        self.check_missing(lines, begin, end)
+
+    def test_a_run_that_hears_noise_is_begun_anew(self) -> None:
+        begin, end = self.BEGIN - 0.1, self.BEGIN + 0.7
+        with unittest.mock.patch("cdma_tools.listening.beginning.strong_stretch", return_value=0):
+            lines = self.lines(self.faded(begin, end), [self.SEAM])
+        # The second run and the third, half a second later, hear noise; the fourth doesn't.
+        self.assertEqual(self.begun.call_count, 4)
+        noise = "a run hears noise in place of the pilot, and is begun anew"
+        self.assertEqual(self.remarks(), [noise, self.late(1.0)])
+        self.check_missing(lines, begin, end)
+
+    def test_the_first_run_begins_after_a_fade(self) -> None:
+        lines = self.lines(self.faded(0, 1.5), [])
+        self.assertEqual(self.begun.call_count, 1)
+        self.assertEqual(self.remarks(), [self.late(1.5)])
+        self.check_missing(lines, 0, 0)
+
+    def test_a_fade_up_to_the_seam(self) -> None:
+        begin, end = self.BEGIN - 0.1, self.SEAM + 0.2
+        lines = self.lines(self.faded(begin, end), [self.SEAM])
+        self.check_missing(lines, begin, end + self.LATEST)
+        # A run begins without a pilot after 2.5 seconds, and then 3 seconds later; both hear noise, and a third is heard.
+        self.assertEqual(self.begun.call_count, 4)
+        gone = "no run has begun beside the one that ends here: the pilot is faded"
+        noise = "a run hears noise in place of the pilot, and is begun anew"
+        self.assertEqual(self.remarks(), [noise, gone, self.late(self.OVERLAP + 0.2)])
+
+    def test_a_stronger_cell_is_told_once_a_run(self) -> None:
+        astray = 64 * 7
+        stronger = 2 * numpy.roll(self.cell.astype(numpy.int16), 2 * astray)
+        self.lines(self.cell + stronger, [self.SEAM])
+        self.assertEqual(self.begun.call_count, 2)
+        told_twice = [f"a run hears a pilot whose code is {-astray} chips from that of the lock: another cell's"] * 2
+        self.assertEqual(self.remarks(), told_twice)
+
+
+class BeginningTest(unittest.TestCase):
+    """Where a run may begin, by chips of a pilot in noise that are made by the code's formula."""
+
+    NUMBER = 5 * PERIOD + 1_234
+
+    def parts(self, shares: Sequence[float], phase: int = NUMBER) -> NDArray[numpy.complex64]:
+        """Stretches of 2,048 chips, of whose power a pilot has the shares, the first chip of which has a number."""
+        draws = numpy.random.default_rng(3)
+        amplitude = numpy.repeat(numpy.sqrt(numpy.array(shares) / 2), 2_048)
+        noise = numpy.repeat(numpy.sqrt((1 - numpy.array(shares)) / 2), 2_048)
+        code = short_code()[(phase + numpy.arange(len(amplitude))) % PERIOD]
+        drawn_noise = draws.standard_normal((len(amplitude), 2)) @ numpy.array([1, 1j])
+        return ((amplitude * code + noise * drawn_noise) * 1_000).astype(numpy.complex64)
+
+    def test_the_first_stretch_in_which_the_program_finds_the_pilot(self) -> None:
+        # Of 2,048 chips a share of 0.2 has 410 times the noise's energy, one of 0.002 some four times: below 16.
+        for shares, stretch in (
+            ([0.2] * 32, 0),
+            ([0.0] * 12 + [0.2] * 20, 12),
+            ([0.0] * 31 + [0.2], 31),
+            ([0.05] * 5 + [0.3] * 27, 5),
+            ([0.0] * 32, None),
+            ([0.0005] * 32, None),
+        ):
+            found = strong_stretch(self.parts(shares), self.NUMBER)
+            self.assertEqual(found, None if stretch is None else 2_048 * stretch, shares)
+
+    def test_zeros_are_no_pilot(self) -> None:
+        self.assertIsNone(strong_stretch(numpy.zeros(START, dtype=numpy.complex64), 0))
+        self.assertFalse(is_there(numpy.zeros(START, dtype=numpy.complex64), 0))
+
+    def test_noise_that_one_stretch_is_chosen_for_is_no_pilot(self) -> None:
+        chips = self.parts([0.0] * 32)
+        energy = numpy.abs(numpy.fft.ifft(numpy.fft.fft(chips[:2_048], PERIOD).conj() * numpy.fft.fft(short_code()))) ** 2
+        best = int(energy.argmax())
+        stretch = short_code()[(best + numpy.arange(2_048)) % PERIOD]
+        sent = numpy.abs(numpy.vdot(stretch, chips[:2_048])) ** 2 / (2 * numpy.sum(numpy.abs(chips[:2_048]) ** 2))
+        self.assertGreater(sent, 8)  # the search would take it for a pilot
+        self.assertFalse(is_there(chips, best))
+        self.assertTrue(is_there(self.parts([0.01] * 32, best), best))
+        self.assertTrue(is_there(self.parts([0.0] * 20 + [0.05] * 12, best), best))
+
+    def test_it_goes_on_to_the_latest_chip_and_begins_there(self) -> None:
+        kept, number = KeptChips(10 * CHIP_RATE), self.NUMBER
+        noise = noise_of(4 * CHIP_RATE, 1_000).astype(">i2")
+        beginning, begins = Beginning(number), []
+        for place in range(0, len(noise), 2 * START):
+            kept.add(Chips(number + place // 2, noise[place : place + 2 * START].tobytes()))
+            begin = beginning.next(kept, number + place // 2 + START)
+            if begin is not None:
+                begins.append((begin - number) / CHIP_RATE)
+                beginning.again(begin)
+        # 2.5 seconds after the chip that was wanted; the next would come another 3 seconds later.
+        self.assertEqual(len(begins), 1)
+        self.assertTrue(2.5 <= begins[0] < 2.5 + START / CHIP_RATE)
+
+
 @unittest.skipUnless(PROGRAM, NO_PROGRAM)
 class PhaseTest(unittest.TestCase):
     """What a run tells of its pilot, against the numbers of its chips."""
 
     def test_another_pilot_is_told(self) -> None:
-        parts = made_cell(PROGRAM or "", 1)
+        # Where the numbers aren't the pilot's, so that it isn't found by them, the run begins 2.5 seconds later.
+        parts, late = made_cell(PROGRAM or "", 2.7), "the pilot is faded where a run was to begin: it begins 2.5 s later"
         # Numbers that are some chips off, as another path's would be, and those of pilots 64 and 7 x 64 chips away.
         for astray, told in ((0, False), (32, False), (-32, False), (64, True), (-448, True)):
             first, collected = -64 * PN % PERIOD - astray, Collected()
@@ -224,7 +398,8 @@ class PhaseTest(unittest.TestCase):
             finally:
                 relay.kill()
             wanted = [f"a run hears a pilot whose code is {astray} chips from that of the lock: another cell's"]
-            self.assertEqual([remark.text for remark in collected.remarks], wanted if told else [])
+            wanted = wanted if told else [late] if astray else []
+            self.assertEqual([remark.text for remark in collected.remarks], wanted)
 
 
 @unittest.skipUnless(PROGRAM, NO_PROGRAM)
