@@ -17,12 +17,7 @@ use std::alloc::Global;
 
 /// The settings of a handset for a file of this header: over how many fingers it follows the
 /// signal, 1 to 3, the number of its paging channel, 1 to 7, and its traffic channel.
-pub fn settings_for(
-    header: &Header,
-    fingers: u8,
-    paging: u8,
-    traffic: Option<Traffic>,
-) -> Settings
+pub fn settings_for(header: &Header, fingers: u8, paging: u8, traffic: Option<Traffic>) -> Settings
     ensures { result ≡ settings_for header.now fingers paging traffic }
 {
     Settings {
