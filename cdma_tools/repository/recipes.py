@@ -105,7 +105,7 @@ RECIPES: Mapping[str, Recipe] = {
             Variant("PagingMessage", "Channels"),
             *words("ChannelList", "ChannelFields", "CHANNEL_LIST", "CHANNEL_FIELDS", "IsChannelList"),
             *words("channel_widths", "channel_values", "channel_contents", "channels_from", "channel_names"),
-            *words("channel_shape", "kind == 4", "in-4", "mod Channels"),
+            *words("channel_shape", "kind == 4", "mod Channels"),
         ),
         ("paging_message", "event_tap"),
     ),
