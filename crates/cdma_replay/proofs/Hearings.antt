@@ -162,6 +162,8 @@ told_all t taps one other kept heard samples taken n old new so_far all stepped 
 
 -- ---- what is heard in the first samples stays so
 
+-- What is heard in `xs` begins what is heard in `xs` and then `ys`, since the events known at no
+-- more samples than `xs` has depend on these alone, and all others come after them.
 first_events : (t : Tuning) (low : ℕ) → IsTimed t.count (sync_stream t) low →
     AreNear (sync_stream t).fingers →
     (xs ys : List Sample) → (more : List Event) × (events t (xs ++ ys) ≡ events t xs ++ more)

@@ -185,6 +185,8 @@ norm_some : (a b : ℕ) → 0 < a + b → 0 < a * a + b * b
 norm_some zero b some = omega (arith, square_some b (omega (arith, some)))
 norm_some (suc a) b some = omega (arith, square_some (suc a) (omega arith))
 
+-- A link that a line can state is within its bounds, since each of its fields is in the range of
+-- its form, and its norm is above 0, since the form's law asks that a part of its factor isn't 0.
 link_lawful : (link : LinkPlan) → IsSaid link_statement link →
     IsStatedLink link × (0 < norm link.factor)
 link_lawful link said =

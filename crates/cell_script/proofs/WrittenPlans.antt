@@ -305,6 +305,8 @@ script-is plan = refl
 abbrev pub IsBack : CellPlan → Type 0
 IsBack plan = HasSaid plan × (stated_plan (script_of plan) ≡ Ok plan)
 
+-- The plan of a complete draft is within its bounds and stated by its own script, since the draft
+-- was reached by lawful statements, and their lines are just those of this script.
 end_back : (draft : Draft) (said : List Statement) (plan : CellPlan) → IsMade draft said →
     plan_at draft ≡ Some plan → IsBack plan
 end_back draft said plan made e =

@@ -86,6 +86,8 @@ all_kept forms (Trial number workers) rest old mid new all kept = tt
 
 -- ---- a good end comes of a good beginning
 
+-- A whole sample file of at least `span` samples has a good beginning: its bytes are those of a
+-- lawful header and of its first `span` samples, followed by those of the other samples.
 file_begins : {span : ℕ} {bytes : List ℕ} {header : Header} {samples : List Sample} →
     IsSampleFile bytes header samples → span ≤ length samples → BeginsFile span bytes
 file_begins {span} {bytes} {header} {samples} file enough =

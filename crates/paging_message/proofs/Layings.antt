@@ -211,6 +211,8 @@ bit_first size l bits sci b large laid =
         ∙ sym (framed_more size n l.starts l.starts l.body (b ∷ []) (omega (arith, large)) long
         (omega arith) (omega (arith, large)) (λ h lt. refl))
 
+    -- All noted half-frames still begin among the bits that were laid: the earlier ones did before,
+    -- and a new one begins with the bit that is added.
     begun_so : (sci : Bool) (n : ℕ) → length l.body ≡ size * n →
         laying.HaveBegun size (length (l.body ++ b ∷ []))
         (if sci then l.starts ++ length l.body / size ∷ [] else l.starts)

@@ -95,6 +95,8 @@ number-zeros (suc k) zero pads = refl
 number-zeros (suc k) (suc m) zero = refl
 number-zeros (suc k) (suc m) (suc pads) = number-zeros k m pads
 
+-- A chain of zeros ends no capsule, since the length that they state is 0, and no lawful length is
+-- that short.
 ends-zeros : (fuel size at m pads : ℕ) →
     ends_chain fuel size at (take m (replicate pads false)) ≡ None
 ends-zeros fuel size at m pads =

@@ -143,6 +143,8 @@ scan size before o [] = []
 scan size before o (p ∷ pieces) =
     with_number o (told_in size before p) ++ scan size (before ++ p ∷ []) (suc o) pieces
 
+-- Half-frames in two lists end what the first list ends, and then what the second does after it
+-- with numbers that go on, by induction over the first list.
 pub scan-append : (size : ℕ) (before : List Piece) (o : ℕ) (xs ys : List Piece) →
     scan size before o (xs ++ ys)
     ≡ scan size before o xs ++ scan size (before ++ xs) (o + length xs) ys

@@ -154,6 +154,8 @@ lane x g f e u =
     )
     (pair_sum x.0 x.1 g.0 g.1 (abs_fits x.0 f) (abs_fits x.1 e) u.i u.q)
 
+-- What holds of every value of `f` holds of each of the eight from place `first` on, since `eight`
+-- lists just these.
 eight_all : (P : ℤ → Type 0) (f : ℕ → ℤ) (first : ℕ) → ((t : ℕ) → P (f t)) →
     Each1 P (eight f first)
 eight_all P f first h = (

@@ -26,6 +26,8 @@ at_place P xs k x at all =
     subst P (get_or_from_slice_get xs k x x at)
     (All-get_or P xs k x (slice_get_within xs k x at) all)
 
+-- Workers still part the numbers when one of them is replaced by another with the same range, by
+-- induction over those before it, since only their ranges count.
 parts_set : (from to k : ℕ) (ws : List Worker) (w w' : Worker) → slice_get ws k ≡ Some w →
     w'.from ≡ w.from → w'.to ≡ w.to → Parts from to ws → Parts from to (set ws k w')
 parts_set from to k [] w w' at a b parts = parts
@@ -118,6 +120,8 @@ parts_up from to [] parts = omega arith
 parts_up from to (w ∷ ws) parts = let up = parts_up w.to to ws parts.2 in
     let a = parts.1 in omega arith
 
+-- Workers that have done nothing are sound, by induction over them: they evaluated and skipped no
+-- phase, the energy that they saw is 0, and no range ends above 32768, up to which they go on.
 starts_sound : (samples : List Sample) (from : ℕ) (ws : List Worker) → Parts from 32768 ws →
     All (λ w. (w.evaluated ≡ []) × (w.skipped ≡ []) × (w.seen ≡ 0)) ws → All (IsSound samples) ws
 starts_sound samples from [] parts idle = All-nil (IsSound samples)

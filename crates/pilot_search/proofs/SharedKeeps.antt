@@ -88,6 +88,8 @@ begins slots id me ceiling is s kept _ at _ =
     (λ lie. absurd (false≢true (sym (lie.1 id me.0 at).0 ∙ is)))
     kept.1
   where
+    -- Once the ceiling is told, the word, which is 0, lies in every view as the rule asks: the
+    -- first view is the only one, and it now holds from 0 up to the ceiling.
     alone : (views : List View) → views ≡ fresh_view ∷ [] → get_or s.words 0 0 ≡ 0 →
         get_elem? views id ≡ some me.0 →
         AllLie (get_or s.words 0 0) ceiling (set views id (holding 0 ceiling))

@@ -42,6 +42,8 @@ repeated_there k h e =
 pub kept_lt : (a : ℕ) → a < 384 → kept_symbol a < 576
 kept_lt a h = ltb-true _ _ (and_parts _ _ (and_parts _ _ (kept_back a h)).0).0
 
+-- No two of the 384 symbols are kept from the same repeated one, since `kept_as` leads back from
+-- the repeated symbol to each of them.
 kept-injective : (a b : ℕ) → a < 384 → b < 384 → kept_symbol a ≡ kept_symbol b → a ≡ b
 kept-injective a b p q e =
     let here : kept_as (kept_symbol a) ≡ a =

@@ -72,7 +72,7 @@ fields_fit c is =
       group_fits m.freq (length (behind_group sync_message_shape (sync_contents m))) there.group,
     )
 
--- what was spelled is read again, and what is read is spelled so
+-- what was spelled is read again
 pub body_again : (m : SyncFields) → IsSyncMessage m → sync_body_reading (sync_body m) ≡ Some m
 unfolding sync_body_reading sync_body
 body_again m is =
@@ -80,6 +80,8 @@ body_again m is =
     let front = number_again 8 1 bits (omega arith) in
     rw front (read_again sync_message_shape sync_contents sync_from by_layout m is.said)
 
+-- A message that is read from a body has contents of the layout and spells that body: the type in
+-- the first 8 bits is 1, and the rest is what the layout spells for what it reads there.
 pub body_is : (body : List Bool) (m : SyncFields) → sync_body_reading body ≡ Some m →
     IsOf sync_message_shape (sync_contents m) × (body ≡ sync_body m)
 unfolding sync_body_reading sync_body

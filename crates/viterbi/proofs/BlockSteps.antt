@@ -67,6 +67,8 @@ lanes_long : length lane_codes ≡ 32
 unfolding lane_codes
 lanes_long = refl
 
+-- Each of the 32 gains that are looked up by a lane's code is the gain of that code: codes are
+-- below 4, and a gain of at most 2^62 in size comes back unchanged from 64 bits.
 pub lanes_made : (f s : ℤ) (four : List ℤ) → unsigned_abs f + unsigned_abs s ≤ 2 ^ 62 →
     ((c : ℕ) → c < 4 → get_or four c (pos 0) ≡ gain_by f s c) → (j : ℕ) → j < 32 →
     get_or (map (λ c. to_z w64 (of_z w64 (get_or four c (pos 0)))) lane_codes) j (pos 0)

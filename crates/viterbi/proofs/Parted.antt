@@ -18,6 +18,8 @@ size_of : (n : ℕ) (column : List ℤ) (at : ℕ) → at + n ≤ length column 
     length (map (of_z w64) (chunk at n column)) ≡ n
 size_of n column at room = length-map (chunk at n column) (of_z w64) ∙ length-chunk at n column room
 
+-- Lane `j` of two vectors of a column from `at` on is the column's value `at + j`, since the second
+-- goes on where the first ends, and a value that fits into 64 bits is read as it was written.
 pub lane_read : (n : ℕ) (column : List ℤ) (at j : ℕ) → at + (n + n) ≤ length column → j < n + n →
     FitsSigned w64 (get_or column (at + j) (pos 0)) →
     to_z w64 (get_or (two_chunks n column at) j 0) ≡ get_or column (at + j) (pos 0)

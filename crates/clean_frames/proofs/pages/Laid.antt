@@ -49,6 +49,8 @@ next_half_frame size o count large =
 
 -- ---- where the pages lie
 
+-- One page more at a run's end leaves the others where they lie and lies right after their bits, by
+-- induction over them: each page moves the place of those after it on by its own bits.
 placed_run-push : (size : ℕ) (spell : Page → List Bool) (run at : ℕ) (pages : List Page)
     (page : Page) →
     placed_run size spell run at (pages ++ page ∷ [])

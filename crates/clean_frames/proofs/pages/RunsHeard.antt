@@ -102,6 +102,8 @@ too_late size spell low high run at x (page ∷ pages) large chained le =
     (and_right (nat_le low run) (nat_lt p.last high) (le-ltb p.last high late))
     ∙ too_late size spell low high run next (x + n) pages large chained.2 (omega (arith, le))
 
+-- Of runs that begin in half-frame `high` or later no page is selected, by induction over the runs:
+-- the pages of the first end too late, and the next run begins no earlier.
 runs_too_late : (size : ℕ) (spell : Page → List Bool) (low high o : ℕ) (runs : List (List Page)) →
     0 < size → AreRuns size spell runs → high ≤ o →
     selected spell low high (placed_runs size spell o runs) ≡ []

@@ -335,6 +335,8 @@ none_told f (x ∷ marks) sendings times unset = absurd (cc)
 
 module _ {width : Width} {plan : CellPlan} {samples : List Sample} {t : Tuning}
     (is : ShowsSync width plan samples) (tuned : IsOnPath plan t) where
+  -- The marks of a frame in the file have the times of its events: where the frame ends a
+  -- transmission, both have the time of its message, and in all other frames nothing is heard.
   frame_times : (channel : Option SyncPlan) → plan.sync ≡ channel → (k : ℕ) → in_file t k ≡ true →
       map mark_time (marks_at t samples k) ≡ flat_map times_in (frame_events t samples k)
   unfolding marks_at

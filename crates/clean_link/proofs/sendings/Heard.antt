@@ -183,6 +183,8 @@ last_frame plan m = (length (sync_capsule plan.cell.check30 m) + 30) / 31 - 1
 pub last_within : (plan : CellPlan) (m : SyncFields) → last_frame plan m < sending_frames plan m
 last_within plan m = omega (arith, length-sync plan.cell.check30 m)
 
+-- The last frame ends a transmission whose first frame is in the file, since the capsule goes on
+-- after the frames before this one and is whole with its 31 bits.
 pub ends_there : (plan : CellPlan) (m : SyncFields) (k w : ℕ) → w ≡ last_frame plan m → w ≤ k →
     ends_sending plan m k w ≡ true
 ends_there plan m k w is begun =

@@ -6,6 +6,8 @@ use mir.Val.{SFits}
 use Rattle.cdma_io.proofs.Spelling.{spelled_by_bytes}
 use Rattle.cdma_io.proofs.sample_bytes.narrow_bytes.Goals as goal
 
+-- The result spells the sample, since each of its bytes is the one that `part_byte` promises, and a
+-- part that fits into 16 bits reaches it unchanged.
 pub returns : goal.returns
 returns c =
     let i_fits : SFits w16 c.args.sample.i = search rules in

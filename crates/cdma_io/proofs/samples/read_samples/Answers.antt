@@ -58,6 +58,8 @@ loop-done-preserved g c =
       later = search rules;
     }
 
+-- After the loop as many samples were read as the output holds, so what its invariant says of those
+-- read so far, that they are in range and spelled by what was consumed, is so of the whole output.
 pub returns : goal.returns
 returns g c =
     let inv = c.loop-done.invariant in

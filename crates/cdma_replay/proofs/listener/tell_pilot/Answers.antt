@@ -19,6 +19,8 @@ returns-clause-room g c =
     let steps = c.step-step.ensures.steps in
     omega (arith, steps.most, steps.room)
 
+-- Clause `ok` holds where the step gave an event: this is the pilot, which is all that is heard
+-- before any sample, and the taps promise to write its text and to have heard it.
 pub returns-clause-ok : goal.returns-clause-ok
 returns-clause-ok g c =
     let event = c.in-Some.event in

@@ -17,6 +17,8 @@ same_names g c =
     (g.S.Source.rest c.fill.new.source) c.fill.new.buf c.in-Ok.count room c.in-Ok.ensures.bound
     c.in-Ok.ensures.bytes c.in-Ok.ensures.ends
 
+-- Clause `bad_script` holds where `Cell::new` failed: a status that blames the script comes from a
+-- fault in the bytes that were read, and these name what the whole script does.
 pub returns-in_err-new-clause-bad_script : goal.returns-in_err-new-clause-bad_script
 returns-in_err-new-clause-bad_script g c fault is =
     let blames =

@@ -2,6 +2,8 @@
 use Rattle.cdma_replay.proofs.Common.{refl, rules, subst, ap, ◌∙◌, [], AreNearTo, Settings, StandsFor, tuning_for}
 use Rattle.cdma_replay.proofs.opening.handset_near.Goals as goal
 
+-- The listener is one for `Follow`: from the header's settings and the paths near the best phase,
+-- `boxed_handset` promises a handset of their tuning that has taken no sample yet.
 pub returns : goal.returns
 returns c =
     let first = c.args.first.now in

@@ -2,6 +2,8 @@
 use Rattle.cdma_replay.proofs.Common.{refl, rules, subst, ap, ◌∙◌, [], AreNearTo, ListensTuned, Settings, tuning_for}
 use Rattle.cdma_replay.proofs.opening.tuned_near.Goals as goal
 
+-- The listener is one for `Tuned`: from the header's settings and the paths near the best phase,
+-- `tuned_listener` promises one that hears the channel by their tuning and has taken no sample yet.
 pub returns : goal.returns
 returns c =
     let first = c.args.first.now in

@@ -3,6 +3,8 @@ use Rattle.command_line.proofs.Common.{◌+◌, ◌∙◌, ◌||◌, Bool, Strin
 use Rattle.command_line.proofs.ArgTests.{item_first}
 use Rattle.command_line.proofs.testing.is_named_in.Goals as goal
 
+-- The answer `true` is right where an argument names the option: by the loop's invariant the
+-- arguments from this one on decide for all of them, and the first of these is enough.
 pub returns-then-names : goal.returns-then-names
 returns-then-names c =
     let name = c.args.name.now in

@@ -12,6 +12,8 @@ loop-i-init g c = record {
   long = omega arith;
 }
 
+-- A round keeps the invariant: item `i`, after a comma unless it is the first, turns the text of
+-- `i` items into that of `i + 1`, and the two add no more than the width of an item.
 pub loop-i-preserved : goal.loop-i-preserved
 loop-i-preserved g c =
     let texts = g.L.Items.texts c.args.items.now in

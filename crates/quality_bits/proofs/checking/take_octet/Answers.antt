@@ -3,6 +3,8 @@ use Rattle.std.proofs.Common.{◌≡◌, ◌+◌, take, arith}
 use Rattle.chip_core.proofs.BitLists.{taken_more}
 use Rattle.quality_bits.proofs.checking.take_octet.Goals as goal
 
+-- One bit more keeps the invariant, since `push` makes a register that took some bits one that took
+-- the next bit as well, and the bits before the next place are those before this one and its bit.
 pub loop-j-preserved : goal.loop-j-preserved
 loop-j-preserved c kind stands =
     let xs = c.args.bits.now in

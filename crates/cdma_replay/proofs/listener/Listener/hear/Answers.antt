@@ -75,6 +75,8 @@ returns-in-Tuned-clause-err g c =
     tuned_part (tells t channel text heard (rw c.deref_mut-in-Tuned.ensures.value listens))))
     c.hear.ensures.err
 
+-- Clause `ok` holds for a listener that keeps the pilot: nobody hears the file by it, so the text
+-- to be told is empty whatever the samples, and an unchanged sink has all of it.
 pub returns-in-Pilot-clause-ok : goal.returns-in-Pilot-clause-ok
 returns-in-Pilot-clause-ok g c l heard is =
     let kept = g.T.KeepsTaps.kept c.args.taps.now in
@@ -86,6 +88,8 @@ returns-in-Pilot-clause-ok g c l heard is =
     (tells_nobody self kept heard all held
     (subst (λ (h : Listener). Listens Nobody h kept all) (sym c.in-Pilot.is) tt))
 
+-- Clause `ok` holds for a listener that keeps the ranks of pilots: nobody hears the file by it
+-- either, so there is nothing to tell of these samples, and the unchanged sink has all of it.
 pub returns-in-Ranks-clause-ok : goal.returns-in-Ranks-clause-ok
 returns-in-Ranks-clause-ok g c l heard is =
     let kept = g.T.KeepsTaps.kept c.args.taps.now in
