@@ -1,12 +1,11 @@
 -- Layouts without a group and without octets: what is said by one, spelled and read by places.
-use Rattle.message_layout.proofs.Common.{◌≡◌, ℕ, ◌+◌, ◌*◌, ◌≤◌, Bool, cond, List, [], ◌∷◌, ◌++◌, length, map, drop, refl, sym, ap, ◌∙◌}
-use Rattle.message_layout.proofs.Common.{nil_from_length, arith, nat_le, inl, inr, Option, Some, None, cases_Bool, le-leb, length-append}
-use Rattle.message_layout.proofs.Common.{length-drop, length-in_widths, field, spelled, in_widths, total_width, FieldsFit, Field, binary}
+use Rattle.message_layout.proofs.Common.{◌≡◌, ℕ, ◌*◌, ◌≤◌, Bool, cond, List, [], ◌∷◌, ◌++◌, length, map, drop, refl, sym, ap, ◌∙◌}
+use Rattle.message_layout.proofs.Common.{nil_from_length, arith, nat_le, inl, inr, Option, Some, None, cases_Bool, le-leb}
+use Rattle.message_layout.proofs.Common.{length-drop, spelled, in_widths, total_width, FieldsFit, binary}
 use Rattle.message_layout.proofs.Common.{height}
 use Rattle.message_layout.proofs.Common.{record_fields, shares, fields_at, group_at, number_part, octets_at, part_at, presence_at, reading}
 use Rattle.message_layout.proofs.Common.{records_at, plain_contents, plain_shape, spelling, count_in, HaveValues, IsOf, IsRest, Contents}
 pub use Rattle.message_layout.specs.Plain.{has_length, list_said}
-use Rattle.message_layout.proofs.Columns.{length-records}
 use Rattle.message_layout.proofs.Messages.{no_columns, no_octets}
 
 pub plain_of : (ws rs : List ℕ) (least : ℕ) (most : Option ℕ) (vs : List ℕ) (cs : List (List ℕ))
@@ -32,23 +31,6 @@ pub plain_spelled : (ws rs : List ℕ) (least : ℕ) (most : Option ℕ) (vs : L
 unfolding spelling binary
 plain_spelled ws rs least most vs cs rest = refl
 
--- how many bits it has
-pub plain_length : (ws rs : List ℕ) (least : ℕ) (most : Option ℕ) (vs : List ℕ)
-    (cs : List (List ℕ)) (rest : List Bool) → length ws ≡ length vs → length rs ≤ length cs →
-    length (spelling (plain_shape ws rs least most) (plain_contents vs cs rest))
-    ≡ total_width ws + height cs * total_width rs + length rest
-plain_length ws rs least most vs cs rest all wide =
-    let fields = spelled (in_widths ws vs) in
-    let records = spelled (record_fields rs (height cs) cs) in
-    omega (
-      arith,
-      ap length (plain_spelled ws rs least most vs cs rest),
-      length-append fields (records ++ rest),
-      length-append records rest,
-      length-in_widths ws vs all,
-      length-records rs (height cs) cs wide,
-    )
-
 -- contents of one have nothing else
 pub plain_back : (ws rs : List ℕ) (least : ℕ) (most : Option ℕ) (c : Contents) →
     IsOf (plain_shape ws rs least most) c → plain_contents c.fixed c.columns c.rest ≡ c
@@ -66,12 +48,6 @@ rest_back c is =
     ∙ ap (λ (cs : List (List ℕ)). plain_contents c.fixed cs c.rest)
     (no_columns c.columns is.columns)
     ∙ plain_back [] [] 0 None c is
-
--- the records of one field
-pub record_map : (w : ℕ) (ns : List ℕ) →
-    record_fields (w ∷ []) (length ns) (ns ∷ [] ∷ [] ∷ []) ≡ map (field w) ns
-record_map w [] = refl
-record_map w (n ∷ ns) = ap (λ (fs : List Field). field w n ∷ fs) (record_map w ns)
 
 -- READ
 -- fields, records and a rest, where there are as many bits as these have

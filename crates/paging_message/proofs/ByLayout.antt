@@ -4,11 +4,11 @@ use Rattle.paging_message.proofs.Common.{NeighborFields, None, PagingMessage, So
 use Rattle.paging_message.proofs.Common.{cases_Bool, channel_contents, channel_shape, channel_widths, channels_from, cond, contents_of}
 use Rattle.paging_message.proofs.Common.{count_in, eqb-true, false, first_column, get_or, has_length, has_type, inl, inr, is_lawful, le-leb}
 use Rattle.paging_message.proofs.Common.{length, list_said, lt-leb, map-places-all, mapped, mapped_cond, message_at, message_body}
-use Rattle.paging_message.proofs.Common.{message_from, ne_eqb, neighbor_contents, neighbor_shape, neighbor_widths, neighbors_from}
+use Rattle.paging_message.proofs.Common.{message_from, neighbor_contents, neighbor_shape, neighbor_widths, neighbors_from}
 use Rattle.paging_message.proofs.Common.{no_columns, not_both, other_contents, other_from, other_shape, other_type, own_types}
 use Rattle.paging_message.proofs.Common.{paging_kind_of, paging_shape_of, places, plain_back, plain_reading, plain_shape, reading}
 use Rattle.paging_message.proofs.Common.{record_fit, refl, rest_back, subst, sym, system_contents, system_from, system_of, system_shape}
-use Rattle.paging_message.proofs.Common.{system_values, system_widths, true, type_in, ℕ, ◌+◌, ◌-◌, ◌<◌, ◌==◌, ◌||◌, ◌∙◌, ◌∷◌, ◌≡◌, ◌≢◌, ◌≤◌}
+use Rattle.paging_message.proofs.Common.{system_values, system_widths, true, type_in, ℕ, ◌+◌, ◌-◌, ◌<◌, ◌==◌, ◌||◌, ◌∙◌, ◌∷◌, ◌≡◌, ◌≤◌}
 use Rattle.std.proofs.Common.{All}
 use Rattle.std.specs.List.{list_all}
 use Rattle.std.proofs.lemmas.List.{get_or_default}
@@ -85,14 +85,6 @@ spelled_by (messages.Channels m) is = is
 spelled_by (messages.Other m) is =
     subst (λ (row : MessageType). IsSpelled m.kind row.shape (other_contents m))
     (sym (unlisted own_types m.kind is.other)) is.spelled
-
-pub other_is : (k : ℕ) (c : Contents) → k ≢ 1 → k ≢ 3 → k ≢ 4 →
-    message_from k c ≡ messages.Other (other_from k c)
-other_is k c a b d =
-    let x = ne_eqb k 1 a in
-    let y = ne_eqb k 3 b in
-    let z = ne_eqb k 4 d in
-    rw (x, y, z) refl
 
 other_made_again : (c : Contents) (k : ℕ) → has_type own_types k ≡ false →
     message_from k c ≡ messages.Other (other_from k c)

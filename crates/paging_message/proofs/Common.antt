@@ -2,7 +2,7 @@
 pub use Rattle.std.proofs.Common.{Bool, List, None, Option, Some, [], ap, append_assoc, arith, cond, drop, false, get_or, if◌then◌else◌}
 pub use Rattle.std.proofs.Common.{inl, inr, length, length-append, length-drop, map, nat_le, nat_lt, not, refl, replicate, rules, subst}
 pub use Rattle.std.proofs.Common.{suc, sym, take, true, zero, ℕ, ◌%◌, ◌&&◌, ◌*◌, ◌++◌, ◌+◌, ◌-◌, ◌/◌, ◌<◌, ◌==◌, ◌^◌, ◌||◌, ◌∙◌, ◌∷◌, ◌≡◌}
-pub use Rattle.std.proofs.Common.{◌≢◌, ◌≤◌}
+pub use Rattle.std.proofs.Common.{◌≤◌}
 pub use Rattle.std.proofs.Math.Bool.{or-false}
 pub use Rattle.std.proofs.Math.Nat.{div-add-mod, div-add-mod', mod-eq_of_lt, mod-lt, mod_self, mul-add-mod_self_left, mul-le-mul_left}
 pub use Rattle.std.proofs.Math.Seq.{take-add, take-append-add}

@@ -26,7 +26,7 @@ pub use Rattle.std.specs.List.{list_all, range_with_len}
 pub use Rattle.std.specs.Prelude.{IsTrue, if◌then◌else◌, int_lt, nat_le, nat_lt, neg_ℤ, not, ◌&&◌, ◌↔◌}
 pub use Rattle.chip_core.proofs.Greatest.{first_greatest-is, tested, untested}
 pub use Rattle.chip_core.proofs.Numerals.{number_from-append}
-pub use Rattle.chip_core.proofs.RegisterBits.{binary-none, bit_of-half, low_bit}
+pub use Rattle.chip_core.proofs.RegisterBits.{binary-none, low_bit}
 pub use Rattle.chip_core.specs.Bits.{bit_of, digit, sign, xor}
 unfoldable pub use Rattle.chip_core.specs.Bits.{binary, places}
 pub use Rattle.chip_core.specs.Packed.{low_first}
