@@ -1,12 +1,18 @@
 """`python3 -m tools.tests` runs all tests of the tools, and says at its end which were skipped, and why.
 
-Where --skipped names a file, the lines on skipped tests are written into it too, so that a gate can say them last.
+Classes of tests run at once, one a processor. Where --skipped names a file, the lines on skipped tests are written into it
+too, so that a gate can say them last.
 """
 
 import argparse
 import os
 import sys
+import time
 import unittest
+
+from cdma_tools.arguments import whole_within
+from cdma_tools.workers import MOST_JOBS
+from tools.tests.running import Outcome, outcomes
 
 HERE = os.path.dirname(os.path.abspath(__file__))
 TOP = os.path.dirname(os.path.dirname(HERE))
@@ -17,26 +23,49 @@ def all_tests() -> unittest.TestSuite:
     return unittest.defaultTestLoader.discover(HERE, top_level_dir=TOP)
 
 
-def skipped_lines(result: unittest.TestResult) -> list[str]:
+def skipped_lines(found: list[Outcome]) -> list[str]:
     """A line for each test or module that was skipped, with its reason, and one that counts them."""
-    lines = [f"skipped: {test.id()}: {why}" for test, why in result.skipped]
-    return [*lines, f"{result.testsRun} tests of the tools ran, {len(lines)} skipped"]
+    lines = sorted(f"skipped: {name}: {why}" for it in found for name, why in it.skipped)
+    return [*lines, f"{sum(it.ran for it in found)} tests of the tools ran, {len(lines)} skipped"]
+
+
+def run_all(jobs: int) -> list[Outcome]:
+    """Runs all tests; those that fail are told as their class ends, and a dot stands for each class that passed."""
+    found = []
+    for it in outcomes(all_tests(), jobs):
+        found.append(it)
+        sys.stderr.write("".join(f"\nFAILED: {fault}\n" for fault in it.faults) or ".")
+        sys.stderr.flush()
+    return found
 
 
 def main(given: list[str] | None = None) -> int:
-    """Runs the tests, and answers 0 where none failed, else 1."""
+    """Runs the tests, and answers 0 where some ran and none failed, else 1."""
     arguments = argparse.ArgumentParser(
         prog="python3 -m tools.tests", description=__doc__, formatter_class=argparse.RawDescriptionHelpFormatter
     )
     arguments.add_argument("--skipped", metavar="FILE", help="write which tests were skipped into this file")
+    arguments.add_argument(
+        "--jobs",
+        type=whole_within(1, MOST_JOBS),
+        default=min(os.cpu_count() or 1, MOST_JOBS),
+        metavar="N",
+        help="classes of tests at once, else one a processor",
+    )
     options = arguments.parse_args(given)
-    result = unittest.TextTestRunner().run(all_tests())
-    told = "".join(line + "\n" for line in skipped_lines(result))
-    sys.stderr.write(told)
+    begun = time.monotonic()
+    try:
+        found = run_all(options.jobs)
+    except KeyboardInterrupt:
+        sys.stderr.write("\ntools.tests: broken off\n")
+        return 130
+    failed = sum(len(it.faults) for it in found)
+    told = "".join(line + "\n" for line in skipped_lines(found))
+    sys.stderr.write(f"\n{failed} failed, after {time.monotonic() - begun:.0f} seconds\n{told}")
     if options.skipped:
         with open(options.skipped, "w", encoding="utf-8") as file:
             file.write(told)
-    return 0 if result.wasSuccessful() else 1
+    return 1 if failed or not any(it.ran for it in found) else 0
 
 
 if __name__ == "__main__":

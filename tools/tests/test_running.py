@@ -1,0 +1,108 @@
+"""The run of all tests: what a class comes to in a process of its own, over tests made for it."""
+
+import os
+import sys
+import unittest
+
+from tools.tests.helping import temporary_folder
+from tools.tests.running import Outcome, outcomes
+
+GOOD = """
+import unittest
+
+class Good(unittest.TestCase):
+    @classmethod
+    def setUpClass(cls):
+        cls.order = []
+
+    def test_a(self):
+        self.order.append("a")
+
+    def test_b(self):
+        self.assertEqual(self.order, ["a"])
+
+    @unittest.skip("not today")
+    def test_c(self):
+        pass
+"""
+BAD = """
+import unittest
+
+class Fails(unittest.TestCase):
+    def test_wrong(self):
+        self.assertEqual(2, 3)
+
+    def test_right(self):
+        pass
+
+class Unready(unittest.TestCase):
+    @classmethod
+    def setUpClass(cls):
+        raise OSError("no disk")
+
+    def test_never(self):
+        pass
+
+class Unexpected(unittest.TestCase):
+    @unittest.expectedFailure
+    def test_well(self):
+        pass
+"""
+SKIPPED = """
+import unittest
+
+raise unittest.SkipTest("no such package")
+"""
+ENDED = """
+import os, signal, unittest
+
+class Ended(unittest.TestCase):
+    def test_ended(self):
+        os.kill(os.getpid(), signal.SIGKILL)
+"""
+
+
+class RunningTest(unittest.TestCase):
+    """Modules of tests that are written for it, found and run as those of this folder are."""
+
+    def ran(self, jobs: int, **modules: str) -> list[Outcome]:
+        """What modules of these names and texts come to."""
+        folder = temporary_folder(self.addCleanup)
+        for name, text in modules.items():
+            with open(os.path.join(folder, f"test_made_{name}.py"), "w", encoding="ascii") as file:
+                file.write(text)
+        path = list(sys.path)
+        self.addCleanup(lambda: sys.path.__setitem__(slice(None), path))
+        for name in modules:
+            sys.modules.pop(f"test_made_{name}", None)
+        suite = unittest.TestLoader().discover(folder, top_level_dir=folder)
+        return list(outcomes(suite, jobs))
+
+    def test_a_class_runs_in_its_order(self) -> None:
+        for jobs in (1, 3):
+            with self.subTest(jobs=jobs):
+                nothing, good = self.ran(jobs, good=GOOD)
+                self.assertEqual(nothing, Outcome(0, [], []))
+                self.assertEqual(good, Outcome(3, [], [("test_made_good.Good.test_c", "not today")]))
+
+    def test_each_fault_is_told(self) -> None:
+        found = self.ran(2, good=GOOD, bad=BAD, broken="import nothing_of_this_name\n")
+        faults = sorted(fault for it in found for fault in it.faults)
+        self.assertEqual(len(faults), 4)
+        for fault, part in zip(faults, ("setUpClass", "test_made_broken", "test_well", "test_wrong"), strict=True):
+            self.assertIn(part, fault)
+        for text in ("no disk", "nothing_of_this_name", "expected to fail", "2 != 3"):
+            self.assertIn(text, "".join(faults))
+
+    def test_a_module_that_is_skipped_is_told(self) -> None:
+        (unloaded,) = self.ran(1, skipped=SKIPPED)
+        self.assertEqual([why for _, why in unloaded.skipped], ["no such package"])
+        self.assertEqual(unloaded.faults, [])
+
+    def test_a_process_that_is_ended_is_a_fault(self) -> None:
+        found = self.ran(1, ended=ENDED)
+        self.assertIn("test_made_ended.Ended: not run to its end", "".join(it for one in found for it in one.faults))
+
+
+if __name__ == "__main__":
+    unittest.main()
