@@ -2,10 +2,11 @@
 
 ghost use Rattle.std.specs.Prelude.{◌≡◌, ◌<◌, ◌≤◌, ℕ, Bool, List, true, false, length, IfSome};
 ghost use Rattle.std.specs.Prelude.{OnSome, MatchOption, IsTrue, ◌↔◌, unsigned_abs, [], None, Some};
-ghost use Rattle.std.specs.Prelude.{drop, take, ◌^◌, ◌-◌};
+ghost use Rattle.std.specs.Prelude.{drop, take, ◌^◌, ◌-◌, get_or};
 ghost use Rattle.cell_script.specs.ScriptValues.{begins_with, bits_in_text, length_before};
 ghost use Rattle.cell_script.specs.ScriptValues.{number_up_to, power_bits_in};
-ghost use Rattle.cell_script.specs.Rows.{key_of};
+ghost use Rattle.sync_message.specs.Rows.{sync_widths};
+ghost use Rattle.cell_script.specs.Rows.{key_of, sync_row};
 ghost use Rattle.cell_script.specs.ScriptFields.{IsOfForm, script_field, past, signed_of};
 ghost use Rattle.cell_script.specs.ScriptFields.{unsigned_of, value_of};
 
@@ -15,7 +16,7 @@ use crate::values::{
 };
 use chip_core::{Bits, PowerBits};
 use std::marker::Model;
-use sync_message::FieldRow;
+use sync_message::{FieldRow, sync_name, sync_width};
 
 /// Reads the fields of a line in order. A key is what stands before a value: ` name=`, with the
 /// statement's word before the first. Contracts see the text that is left.
@@ -87,6 +88,18 @@ impl<'a> Fields<'a> {
     {
         let text = behind_name(self.text, row.0)?;
         number_up_to(self.value_from(text), (1 << row.1) - 1)
+    }
+
+    /// The number of the field at this place of the sync message's table.
+    pub(crate) fn sync_number(&mut self, place: usize) -> Option<u64>
+        requires place { place < 11 }
+        requires width { get_or sync_widths place 0 ≤ 63 }
+        ensures value { result ≡ script_field (sync_row place).key
+            (number_up_to (sync_row place).most) self.old }
+        ensures range { IfSome result (λ n. n ≤ (sync_row place).most) }
+        ensures rest { OnSome result (self.new ≡ past (sync_row place).key self.old) }
+    {
+        self.number((sync_name(place), sync_width(place)))
     }
 
     /// The value of a field whose form has no sign; `None` for one whose form has.

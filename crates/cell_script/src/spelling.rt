@@ -1,7 +1,8 @@
 //! How the statements of a script are written, without their LF: the other side of reading them.
 
-ghost use Rattle.std.specs.Prelude.{◌≡◌, ◌≤◌, ◌+◌, ◌++◌, [], length, IsAscii, decimal};
-ghost use Rattle.cell_script.specs.Rows.{key_of, local_rows, network_rows};
+ghost use Rattle.std.specs.Prelude.{◌≡◌, ◌<◌, ◌≤◌, ◌+◌, ◌++◌, [], length, get_or, IsAscii, decimal};
+ghost use Rattle.sync_message.specs.Rows.{sync_names};
+ghost use Rattle.cell_script.specs.Rows.{key_of, local_rows, network_rows, sync_row};
 ghost use Rattle.cell_script.specs.ScriptLines.{form_bit};
 ghost use Rattle.cell_script.specs.Spelling.{HasDigits, local_values, network_values};
 ghost use Rattle.cell_script.specs.Spelling.{numbers_text, statement_text, value_text};
@@ -17,7 +18,7 @@ use crate::tables::{
 use cell_plan::{CellIdentity, LinkPlan, Page, PilotPlan, SyncPlan, TrafficFrame};
 use chip_core::CheckForm;
 use line_text::Text;
-use sync_message::{FREQ_FIELD, FieldRow, SYNC_FIELDS, SyncFields};
+use sync_message::{FREQ_FIELD, FieldRow, SyncFields, sync_name};
 
 /// Adds a value by its form, which has no sign.
 fn append_value(text: &mut Text, form: FieldForm, value: u64)
@@ -53,6 +54,18 @@ fn append_number(text: &mut Text, row: FieldRow, value: u64)
     ensures len { length text.new ≤ length text.old + length (key_of row.entry.0.now) + 20 }
 {
     text.append_name(row.0.as_bytes());
+    text.append_number(value);
+}
+
+/// Adds the field at this place of the sync message's table, whose value is a number.
+fn append_sync_number(text: &mut Text, place: usize, value: u64)
+    requires place { place < 11 }
+    requires ascii { IsAscii (get_or sync_names place []) }
+    requires room { length text.old + length (sync_row place).key + 20 ≤ 1024 }
+    ensures value { text.new ≡ text.old ++ ((sync_row place).key ++ decimal value) }
+    ensures len { length text.new ≤ length text.old + length (sync_row place).key + 20 }
+{
+    text.append_name(sync_name(place).as_bytes());
     text.append_number(value);
 }
 
@@ -141,10 +154,10 @@ fn append_network(text: &mut Text, message: &SyncFields)
         ++ numbers_text network_rows (network_values message.now) }
     ensures len { length text.new ≤ length text.old + 120 }
 {
-    append_number(text, SYNC_FIELDS[0], u64::from(message.prev));
-    append_number(text, SYNC_FIELDS[1], u64::from(message.min));
-    append_number(text, SYNC_FIELDS[2], u64::from(message.sid));
-    append_number(text, SYNC_FIELDS[3], u64::from(message.nid));
+    append_sync_number(text, 0, u64::from(message.prev));
+    append_sync_number(text, 1, u64::from(message.min));
+    append_sync_number(text, 2, u64::from(message.sid));
+    append_sync_number(text, 3, u64::from(message.nid));
 }
 
 /// Adds the fields of a message that tell of local time and the paging channel.
@@ -153,10 +166,10 @@ fn append_local(text: &mut Text, message: &SyncFields)
     ensures value { text.new ≡ text.old ++ numbers_text local_rows (local_values message.now) }
     ensures len { length text.new ≤ length text.old + 120 }
 {
-    append_number(text, SYNC_FIELDS[7], u64::from(message.lp));
-    append_number(text, SYNC_FIELDS[8], u64::from(message.ltm));
-    append_number(text, SYNC_FIELDS[9], u64::from(message.daylt));
-    append_number(text, SYNC_FIELDS[10], u64::from(message.prat));
+    append_sync_number(text, 7, u64::from(message.lp));
+    append_sync_number(text, 8, u64::from(message.ltm));
+    append_sync_number(text, 9, u64::from(message.daylt));
+    append_sync_number(text, 10, u64::from(message.prat));
 }
 
 /// Adds the frequency of a message, where it has one.

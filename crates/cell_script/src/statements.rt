@@ -27,7 +27,7 @@ use cell_plan::{CellIdentity, FrameRate, LinkPlan, Page, PilotPlan, SyncPlan, Tr
 use chip_core::{Bits, CheckForm, Pair};
 use paging_message::PagingMessage;
 use symbol_path::{Rate, Rate2};
-use sync_message::{FREQ_FIELD, SYNC_FIELDS, SyncFields, SyncMessage};
+use sync_message::{FREQ_FIELD, SyncFields, SyncMessage};
 
 /// The rates of frames, which their lines begin with.
 const FRAME_RATES: [FrameRate; 8] = [
@@ -221,10 +221,10 @@ fn network_numbers(fields: &mut Fields<'_>) -> Option<TableNumbers>
     ensures rest { OnSome result (fields.new ≡ past_numbers network_rows fields.old) }
 {
     Some([
-        fields.number(SYNC_FIELDS[0])?,
-        fields.number(SYNC_FIELDS[1])?,
-        fields.number(SYNC_FIELDS[2])?,
-        fields.number(SYNC_FIELDS[3])?,
+        fields.sync_number(0)?,
+        fields.sync_number(1)?,
+        fields.sync_number(2)?,
+        fields.sync_number(3)?,
     ])
 }
 
@@ -235,10 +235,10 @@ fn local_numbers(fields: &mut Fields<'_>) -> Option<TableNumbers>
     ensures rest { OnSome result (fields.new ≡ past_numbers local_rows fields.old) }
 {
     Some([
-        fields.number(SYNC_FIELDS[7])?,
-        fields.number(SYNC_FIELDS[8])?,
-        fields.number(SYNC_FIELDS[9])?,
-        fields.number(SYNC_FIELDS[10])?,
+        fields.sync_number(7)?,
+        fields.sync_number(8)?,
+        fields.sync_number(9)?,
+        fields.sync_number(10)?,
     ])
 }
 
