@@ -1,7 +1,7 @@
 """`python3 -m tools.tests` runs all tests of the tools, and says at its end which were skipped, and why.
 
-Classes of tests run at once, one a processor. Where --skipped names a file, the lines on skipped tests are written into it
-too, so that a gate can say them last.
+Classes of tests run at once, one a processor; those that keep time run alone, after the others. Where --skipped names a
+file, the lines on skipped tests are written into it too, so that a gate can say them last.
 """
 
 import argparse

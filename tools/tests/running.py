@@ -1,6 +1,7 @@
 """Runs classes of tests, several at once, each in a process that runs one after another.
 
-A class stands alone, so its tests come in their order, over what its `setUpClass` made.
+The tests of a class come in their order, over what its `setUpClass` made. A class with `alone = True`, as one whose tests
+keep time, runs when nothing else does, after all others.
 """
 
 import io
@@ -9,10 +10,6 @@ from collections.abc import Iterable, Iterator
 from concurrent.futures import ProcessPoolExecutor, as_completed
 from concurrent.futures.process import BrokenProcessPool
 from dataclasses import dataclass
-
-# Modules whose classes take longest: these are begun first, so that none of them is begun when all others have ended.
-LONGEST: tuple[str, ...] = ()
-
 
 @dataclass(frozen=True)
 class Outcome:
@@ -32,17 +29,28 @@ def each_test(tests: Iterable[unittest.TestCase | unittest.TestSuite]) -> Iterat
             yield test
 
 
-def parted(suite: unittest.TestSuite) -> tuple[list[str], unittest.TestSuite]:
-    """The names of the classes of a suite's tests, and what stands for modules that weren't loaded."""
-    names: dict[str, None] = {}
-    unloaded = unittest.TestSuite()
+@dataclass
+class Parted:
+    """The names of the classes of a suite, those that run alone for themselves, and what stands for unloaded modules."""
+
+    together: list[str]
+    alone: list[str]
+    unloaded: unittest.TestSuite
+
+
+def parted(suite: unittest.TestSuite) -> Parted:
+    """The classes of a suite's tests."""
+    found = Parted([], [], unittest.TestSuite())
     for test in each_test(suite):
         kind = type(test)
         if kind.__module__ == "unittest.loader":
-            unloaded.addTest(test)
-        else:
-            names[f"{kind.__module__}.{kind.__qualname__}"] = None
-    return sorted(names, key=lambda name: name.split(".")[-2] not in LONGEST), unloaded
+            found.unloaded.addTest(test)
+            continue
+        names = found.alone if getattr(kind, "alone", False) else found.together
+        name = f"{kind.__module__}.{kind.__qualname__}"
+        if name not in names:
+            names.append(name)
+    return found
 
 
 def outcome(suite: unittest.TestSuite) -> Outcome:
@@ -59,10 +67,8 @@ def outcome_of_class(name: str) -> Outcome:
     return outcome(unittest.defaultTestLoader.loadTestsFromName(name))
 
 
-def outcomes(suite: unittest.TestSuite, jobs: int) -> Iterator[Outcome]:
-    """What each class of a suite comes to, as they end, by so many processes; one that is ended is a fault."""
-    names, unloaded = parted(suite)
-    yield outcome(unloaded)
+def outcomes_of(names: list[str], jobs: int) -> Iterator[Outcome]:
+    """What the classes of these names come to, as they end, by so many processes; one that is ended is a fault."""
     executor = ProcessPoolExecutor(jobs)
     try:
         under_way = {executor.submit(outcome_of_class, name): name for name in names}
@@ -73,3 +79,11 @@ def outcomes(suite: unittest.TestSuite, jobs: int) -> Iterator[Outcome]:
                 yield Outcome(0, [f"{under_way[done]}: not run to its end, since a process of the tests was ended"], [])
     finally:
         executor.shutdown(cancel_futures=True)
+
+
+def outcomes(suite: unittest.TestSuite, jobs: int) -> Iterator[Outcome]:
+    """What each class of a suite comes to, as they end, so many at once."""
+    found = parted(suite)
+    yield outcome(found.unloaded)
+    yield from outcomes_of(found.together, jobs)
+    yield from outcomes_of(found.alone, 1)

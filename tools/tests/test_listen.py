@@ -236,34 +236,6 @@ class ListenTest(unittest.TestCase):
         with open(out, "rb") as file:
             self.assertTrue(file.read() == self.objects)
 
-    def test_a_pipe_in_real_time(self) -> None:
-        """Of ten seconds that come as the air does half of the lines are there half a second later."""
-        command = [*TOOL, *STREAM, *HANDSET, "-"]
-        run = subprocess.Popen(command, stdin=subprocess.PIPE, stdout=subprocess.PIPE, env=ENVIRONMENT)
-        assert run.stdin is not None and run.stdout is not None
-        came: list[tuple[float, bytes]] = []
-        reader = threading.Thread(target=lambda: came.extend((time.monotonic(), line) for line in run.stdout or ()))
-        reader.start()
-        time.sleep(2)
-        begin = time.monotonic()
-        size = 2 * RATE // 50
-        for number in range(450):
-            time.sleep(max(0.0, begin + (number + 1) / 50 - time.monotonic()))
-            run.stdin.write(self.data[size * number : size * (number + 1)])
-            run.stdin.flush()
-        closed = time.monotonic()
-        run.stdin.close()
-        self.assertEqual(run.wait(), 0)
-        reader.join()
-        run.stdout.close()
-        late = [
-            when - begin - int(found[1]) / CHIP_RATE
-            for when, line in came
-            if when < closed and (found := re.search(rb" at=(\d+)", line)) and int(found[1]) > 5 * CHIP_RATE
-        ]
-        self.assertGreater(len(late), 150)
-        self.assertLess(float(numpy.median(late)), 0.5)
-
     def test_ctrl_c(self) -> None:
         run = subprocess.Popen(
             [*TOOL, *STREAM, *HANDSET, "-"], stdin=subprocess.PIPE, stdout=subprocess.PIPE, stderr=subprocess.PIPE,
@@ -327,8 +299,46 @@ class Server:
 
 
 @unittest.skipUnless(PROGRAM, NO_PROGRAM)
+class PipeTest(unittest.TestCase):
+    """Samples that come through a pipe as the air brings them."""
+
+    alone = True  # it keeps time
+
+    def test_a_pipe_in_real_time(self) -> None:
+        """Of ten seconds that come as the air does half of the lines are there half a second later."""
+        data = recorded(temporary_folder(self.addCleanup))
+        command = [*TOOL, *STREAM, *HANDSET, "-"]
+        run = subprocess.Popen(command, stdin=subprocess.PIPE, stdout=subprocess.PIPE, env=ENVIRONMENT)
+        assert run.stdin is not None and run.stdout is not None
+        came: list[tuple[float, bytes]] = []
+        reader = threading.Thread(target=lambda: came.extend((time.monotonic(), line) for line in run.stdout or ()))
+        reader.start()
+        time.sleep(2)
+        begin = time.monotonic()
+        size = 2 * RATE // 50
+        for number in range(450):
+            time.sleep(max(0.0, begin + (number + 1) / 50 - time.monotonic()))
+            run.stdin.write(data[size * number : size * (number + 1)])
+            run.stdin.flush()
+        closed = time.monotonic()
+        run.stdin.close()
+        self.assertEqual(run.wait(), 0)
+        reader.join()
+        run.stdout.close()
+        late = [
+            when - begin - int(found[1]) / CHIP_RATE
+            for when, line in came
+            if when < closed and (found := re.search(rb" at=(\d+)", line)) and int(found[1]) > 5 * CHIP_RATE
+        ]
+        self.assertGreater(len(late), 150)
+        self.assertLess(float(numpy.median(late)), 0.5)
+
+
+@unittest.skipUnless(PROGRAM, NO_PROGRAM)
 class ServerTest(unittest.TestCase):
-    """Samples of a server."""
+    """Samples of a server, which brings them as the air does."""
+
+    alone = True  # it keeps time
 
     def test_a_server_that_goes_away_and_comes_back(self) -> None:
         folder = temporary_folder(self.addCleanup)

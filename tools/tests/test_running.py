@@ -48,6 +48,29 @@ class Unexpected(unittest.TestCase):
     def test_well(self):
         pass
 """
+ALONE = """
+import os, pathlib, time, unittest
+
+BUSY = pathlib.Path(os.environ["TEST_RUNNING_BUSY"])
+
+class First(unittest.TestCase):
+    alone = True
+
+    def test_nothing_else_runs(self):
+        for _ in range(10):
+            self.assertFalse(list(BUSY.iterdir()))
+            time.sleep(0.1)
+
+class Second(unittest.TestCase):
+    def test_busy(self):
+        mark = BUSY / str(os.getpid())
+        mark.touch()
+        time.sleep(0.5)
+        mark.unlink()
+
+class Third(Second):
+    pass
+"""
 SKIPPED = """
 import unittest
 
@@ -98,6 +121,13 @@ class RunningTest(unittest.TestCase):
         (unloaded,) = self.ran(1, skipped=SKIPPED)
         self.assertEqual([why for _, why in unloaded.skipped], ["no such package"])
         self.assertEqual(unloaded.faults, [])
+
+    def test_a_class_that_runs_alone(self) -> None:
+        os.environ["TEST_RUNNING_BUSY"] = temporary_folder(self.addCleanup)
+        self.addCleanup(os.environ.pop, "TEST_RUNNING_BUSY")
+        found = self.ran(3, alone=ALONE)
+        self.assertEqual([fault for it in found for fault in it.faults], [])
+        self.assertEqual(sum(it.ran for it in found), 3)
 
     def test_a_process_that_is_ended_is_a_fault(self) -> None:
         found = self.ran(1, ended=ENDED)
