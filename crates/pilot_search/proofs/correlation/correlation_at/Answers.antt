@@ -1,7 +1,8 @@
 -- Why `correlation_at` of `correlation` keeps its contract.
-use Rattle.pilot_search.proofs.Common.{◌≡◌, ◌≤◌, ◌∙◌, arith, rules, ap, take, drop, length, ints, All-drop, plus, Pair, pilot_signs}
+use Rattle.pilot_search.proofs.Common.{◌≡◌, ◌*◌, ◌≤◌, ◌∙◌, arith, rules, ap, take, drop, length, All-drop, plus, Pair, pilot_signs}
 use Rattle.pilot_search.proofs.Common.{correlation_with, IsUnit, List, ℕ, ℤ, Sample}
-use Rattle.pilot_search.proofs.CorrelationSums.{all_before, parted, plus_is, units}
+use Rattle.pilot_search.proofs.CorrelationSums.{all_before, parted, units}
+use Rattle.pilot_search.proofs.KeptSums.{kept_sum_within, plus_kept}
 use Rattle.pilot_search.proofs.correlation.correlation_at.Goals as goal
 
 pub correlate-first-requires-clause-units : goal.correlate-first-requires-clause-units
@@ -41,8 +42,23 @@ returns-clause-value c =
     first_part samples _ _ _ c.args.phase c.from.result n _ c.correlate-first.ensures.value
     c.split_at-2.ensures.front c.split_at.ensures.back c.table.ensures.value (omega arith) in
     let rest : c.correlate-rest.result ≡ correlation_with (drop n samples) pilot_signs = cc in
-    plus_is c.correlate-first.result c.correlate-rest.result _ _ (omega (arith, ints))
-    (omega (arith, ints))
+    plus_kept c.correlate-first.result c.correlate-rest.result
+    (omega (arith, c.correlate-first.ensures.i_bound, c.correlate-rest.ensures.i_bound))
+    (omega (arith, c.correlate-first.ensures.q_bound, c.correlate-rest.ensures.q_bound))
     ∙ ap (λ (x : Pair). plus x c.correlate-rest.result) first
     ∙ ap (plus (correlation_with (take n samples) (drop c.args.phase pilot_signs))) rest
     ∙ parted samples c.args.phase n (omega arith) c.requires (omega arith)
+
+pub returns-clause-i_bound : goal.returns-clause-i_bound
+returns-clause-i_bound c =
+    kept_sum_within c.correlate-first.result.i c.correlate-rest.result.i
+    (65536 * length c.args.samples.now)
+    (omega (arith, c.correlate-first.ensures.i_bound, c.correlate-rest.ensures.i_bound))
+    (omega (arith, c.requires))
+
+pub returns-clause-q_bound : goal.returns-clause-q_bound
+returns-clause-q_bound c =
+    kept_sum_within c.correlate-first.result.q c.correlate-rest.result.q
+    (65536 * length c.args.samples.now)
+    (omega (arith, c.correlate-first.ensures.q_bound, c.correlate-rest.ensures.q_bound))
+    (omega (arith, c.requires))

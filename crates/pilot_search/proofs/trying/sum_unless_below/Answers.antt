@@ -1,7 +1,8 @@
 -- Why `sum_unless_below` of `trying` keeps its contract.
-use Rattle.pilot_search.proofs.Common.{◌≡◌, ◌≤◌, ◌+◌, ◌*◌, ◌-◌, ◌%◌, ◌∙◌, ℕ, List, arith, ap, refl, take, drop, length, ints}
+use Rattle.pilot_search.proofs.Common.{◌≡◌, ◌≤◌, ◌+◌, ◌*◌, ◌-◌, ◌%◌, ◌∙◌, ℕ, List, arith, ap, refl, take, drop, length, unsigned_abs}
 use Rattle.pilot_search.proofs.Common.{length-drop, length-take-le, drop-drop, Sample, phase_correlation}
 use Rattle.pilot_search.proofs.BoundLemmas.{none_added, sum_more}
+use Rattle.pilot_search.proofs.KeptSums.{kept_sum_back}
 use Rattle.pilot_search.proofs.trying.sum_unless_below.Goals as goal
 
 pub loop-j-init : goal.loop-j-init
@@ -40,13 +41,20 @@ loop-j-preserved c =
     let place : 64 * j + 64 * chunks ≡ 64 * (j + chunks) = omega arith in
     let after : length c.split_at.result.1.now ≡ length rest - 64 * chunks =
     ap (λ (ys : List Sample). length ys) back ∙ length-drop (64 * chunks) rest in
+    let near_i : unsigned_abs c.correlation_by-part.result.i ≤ 65536 * (64 * chunks) =
+    omega (arith, c.correlation_by-part.ensures.i_bound, size) in
+    let near_q : unsigned_abs c.correlation_by-part.result.q ≤ 65536 * (64 * chunks) =
+    omega (arith, c.correlation_by-part.ensures.q_bound, size) in
+    let few : 64 * (j + chunks) ≤ 32768 =
+    omega (arith, some, c.loop-j-test.true, c.requires.last, c.requires.samples) in
     record {
       within = omega (arith, some, c.loop-j-test.true);
       sum = sum_more xs rest c.args.phase j chunks c.loop-j.sum c.correlation_by-part.result _ _
-          (omega (arith, inv.left)) inv.rest inv.sum part
-          (omega (arith, c.correlation_by-part.ensures.i_bound, size))
-          (omega (arith, c.correlation_by-part.ensures.q_bound, size))
-          (omega (arith, ints)) (omega (arith, ints));
+          (omega (arith, inv.left)) inv.rest inv.sum part near_i near_q
+          (kept_sum_back c.loop-j.sum.i c.correlation_by-part.result.i
+          (omega (arith, inv.sum.i_bound, near_i, few)))
+          (kept_sum_back c.loop-j.sum.q c.correlation_by-part.result.q
+          (omega (arith, inv.sum.q_bound, near_q, few)));
       rest = back ∙ ap (drop (64 * chunks)) inv.rest ∙ drop-drop (64 * chunks) (64 * j) xs
           ∙ ap (λ (n : ℕ). drop n xs) place;
       left = omega (arith, after, room, inv.left);

@@ -1,5 +1,5 @@
 -- Why `of` of `points::Points` keeps its contract.
-use Rattle.pilot_search.proofs.Common.{pos, All-get_or, IsUnit}
+use Rattle.pilot_search.proofs.Common.{pos, All-get_or, IsUnit, arith, common_steps, ints}
 use Rattle.pilot_search.proofs.CorrelationSums.{units}
 use Rattle.pilot_search.proofs.points.Points.of.Goals as goal
 
@@ -12,3 +12,12 @@ pub turned_point-requires : goal.turned_point-requires
 turned_point-requires c =
     All-get_or IsUnit c.table-signs-items.result.now c.loop-signs.signs-index (pos 0, pos 0)
     c.loop-signs-test.true (rw c.table-signs-items.ensures.value units)
+
+pub loop-signs-preserved : goal.loop-signs-preserved
+loop-signs-preserved c = grind (ints, arith, common_steps)
+
+pub invariant_of-result : goal.invariant_of-result
+invariant_of-result c = grind (ints, arith, common_steps)
+
+pub returns : goal.returns
+returns c = grind (ints, arith, common_steps)
