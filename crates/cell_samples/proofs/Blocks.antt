@@ -3,8 +3,8 @@ use Rattle.cell_samples.proofs.Common.{◌≡◌, ℕ, zero, suc, ◌+◌, ◌*�
 use Rattle.cell_samples.proofs.Common.{refl, sym, ap, ◌∙◌, arith, ℤ, pos, ◌+ℤ◌, ◌*ℤ◌, unsigned_abs, Bool, true, false, cond, ints, abs_sum}
 use Rattle.cell_samples.proofs.Common.{All-get_or, All-set, All-replicate, get_or-map, sign, common_parity, xor, binary, origin, plus, Pair}
 use Rattle.cell_samples.proofs.Common.{plus_assoc, plus-origin, origin-plus, walsh, walsh_sum_from, in_phase, quadrature, IsWithin}
-use Rattle.cell_samples.proofs.Common.{transform, get_or-transform, scaled_none, scaled_sum, times_moved, product_most, Carrier}
-use Rattle.cell_samples.proofs.Common.{amplitude, amplitudes, level, scaled}
+use Rattle.cell_samples.proofs.Common.{transform, get_or-transform, scaled_none, scaled_sum, times_moved, product_most, read64, Carrier}
+use Rattle.cell_samples.proofs.Common.{amplitude, amplitudes, level, scaled, FitsSigned, fits_signed_from_abs, to_z, of_z, w64}
 use Rattle.std.proofs.Math.ListN.{set}
 use Rattle.std.specs.List.{All}
 use Rattle.std.proofs.lemmas.List as lists
@@ -168,6 +168,28 @@ all_summed chip done factor cs values sums past before i_is q_is k below =
     ∙ sym (lists.at_drop_all
     (λ (xs : List Carrier). plus total (scaled (amplitudes (chip + k) xs) factor)) cs done past)
     ∙ before k below
+
+-- ---- a level times a part of the link's factor, and its sum with an entry, fit into 64 bits
+
+pub level_part_fits : (l f : ℤ) → unsigned_abs l ≤ 65535 → unsigned_abs f ≤ 32768 →
+    FitsSigned w64 (to_z w64 (of_z w64 l) *ℤ to_z w64 (of_z w64 f))
+level_part_fits l f small low =
+    rw (read64 l (omega (arith, small)), read64 f (omega (arith, low)))
+    (fits_signed_from_abs w64 (l *ℤ f) (omega (arith, product_most l f small low)))
+
+pub level_sum_fits : (s l f : ℤ) → unsigned_abs s ≤ 2 ^ 39 → unsigned_abs l ≤ 65535 →
+    unsigned_abs f ≤ 32768 →
+    FitsSigned w64
+    (to_z w64 (of_z w64 s) +ℤ to_z w64 (of_z w64 (to_z w64 (of_z w64 l) *ℤ to_z w64 (of_z w64 f))))
+level_sum_fits s l f sum small low =
+    let product = product_most l f small low in
+    rw (
+      read64 s (omega (arith, sum)),
+      read64 l (omega (arith, small)),
+      read64 f (omega (arith, low)),
+      read64 (l *ℤ f) (omega (arith, product)),
+    )
+    (fits_signed_from_abs w64 (s +ℤ (l *ℤ f)) (omega (arith, sum, product, abs_sum s (l *ℤ f))))
 
 -- ---- the size of the entries
 

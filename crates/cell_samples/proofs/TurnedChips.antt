@@ -1,6 +1,8 @@
 -- A chip times a point of the codes, whose parts have 16 bits.
-use Rattle.cell_samples.proofs.Common.{◌≡◌, ◌+◌, ◌≤◌, ◌∙◌, ℤ, ◌+ℤ◌, ◌-ℤ◌, ◌*ℤ◌, unsigned_abs, FitsSigned, arith, refl, to_z, of_z, w8, w16}
+use Rattle.cell_samples.proofs.Common.{◌≡◌, ◌+◌, ◌*◌, ◌≤◌, ◌∙◌, ℤ, ◌+ℤ◌, ◌-ℤ◌, ◌*ℤ◌, unsigned_abs, FitsSigned, arith, refl, to_z, of_z, w8, w16}
 use Rattle.cell_samples.proofs.Common.{to_z-of_z, fits_signed_from_abs, of_sample, Sample, IsPoint, IsTurned, abs_sum, abs_difference}
+use Rattle.std.proofs.lemmas.Int.{unsigned_abs-mul}
+use Rattle.std.proofs.lemmas.Nat.{mul-le}
 
 read8 : (z : ℤ) → unsigned_abs z ≤ 1 → to_z w8 (of_z w8 z) ≡ z
 read8 z small = to_z-of_z w8 z (fits_signed_from_abs w8 z (omega (arith, small)))
@@ -19,6 +21,28 @@ sum_is : (x y : ℤ) → unsigned_abs x + unsigned_abs y ≤ 32767 →
 sum_is x y small =
     rw (read16 x (omega (arith, small)), read16 y (omega (arith, small)))
     (read16 (x +ℤ y) (omega (arith, small, abs_sum x y)))
+
+-- a part times a sign that was made as wide is no larger than the part
+pub signed_within : (part sign : ℤ) → unsigned_abs sign ≤ 1 →
+    unsigned_abs (part *ℤ sign) ≤ unsigned_abs part
+signed_within part sign unit =
+    let most : unsigned_abs part * unsigned_abs sign ≤ unsigned_abs part * 1 =
+    mul-le (unsigned_abs part) (unsigned_abs sign) (unsigned_abs part) 1 (omega arith) unit in
+    omega (arith, most, unsigned_abs-mul part sign)
+
+pub with_sign_fits : (part sign wide : ℤ) → unsigned_abs part ≤ 32767 → unsigned_abs sign ≤ 1 →
+    wide ≡ to_z w8 (of_z w8 sign) →
+    FitsSigned w16 (to_z w16 (of_z w16 part) *ℤ to_z w16 (of_z w16 wide))
+with_sign_fits part sign wide small unit is =
+    rw (is ∙ read8 sign unit, read16 part small, read16 sign (omega (arith, unit)))
+    (fits_signed_from_abs w16 (part *ℤ sign) (omega (arith, small, signed_within part sign unit)))
+
+pub with_sign_is : (part sign wide : ℤ) → unsigned_abs part ≤ 32767 → unsigned_abs sign ≤ 1 →
+    wide ≡ to_z w8 (of_z w8 sign) →
+    to_z w16 (of_z w16 (to_z w16 (of_z w16 part) *ℤ to_z w16 (of_z w16 wide))) ≡ part *ℤ sign
+with_sign_is part sign wide small unit is =
+    rw (is ∙ read8 sign unit, read16 part small, read16 sign (omega (arith, unit)))
+    (read16 (part *ℤ sign) (omega (arith, small, signed_within part sign unit)))
 
 -- a part with a sign, by what is known of both in their bits
 pub record IsSigned (part sign made : ℤ) : Type 0 where

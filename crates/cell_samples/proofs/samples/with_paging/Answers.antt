@@ -1,0 +1,10 @@
+-- Why `with_paging` of `samples` keeps its contract.
+use Rattle.cell_samples.proofs.Common.{arith, ints}
+use Rattle.std.proofs.lemmas.Grind.{common_steps}
+use Rattle.cell_samples.proofs.samples.with_paging.Goals as goal
+
+pub loop-channel-preserved : goal.loop-channel-preserved
+loop-channel-preserved c = grind (ints, arith, common_steps)
+
+pub returns : goal.returns
+returns c = grind (ints, arith, common_steps)
