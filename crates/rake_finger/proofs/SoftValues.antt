@@ -54,6 +54,15 @@ pub soft_is : (samples : List Sample) (finger : Finger) (form : Form) (start j :
 unfolding soft
 soft_is samples finger form start j = refl
 
+-- how great a part of a sum can be
+pub pilot_most : (form : Form) → 65536 * window_chips form ≤ 2 ^ 27
+pilot_most Sync = omega arith
+pilot_most Data = omega arith
+
+pub symbol_most : (form : Form) → 65536 * symbol_chips form ≤ 2 ^ 24
+symbol_most Sync = omega arith
+symbol_most Data = omega arith
+
 -- the sums' bounds bound the value
 pub soft_bounded : (form : Form) (a b c d : ℕ) → a ≤ 65536 * window_chips form →
     b ≤ 65536 * symbol_chips form →

@@ -1,9 +1,9 @@
 -- The sums of a window, symbol by symbol.
-use Rattle.std.proofs.Common.{◌≡◌, ◌≢◌, ℕ, ◌+◌, ◌*◌, ◌<◌, ◌≤◌, List, length, get_or, take, drop, sym, ap, ◌∙◌, subst, arith, below_more, ℤ}
+use Rattle.std.proofs.Common.{◌≡◌, ◌≢◌, ℕ, ◌+◌, ◌*◌, ◌<◌, ◌≤◌, ◌^◌, List, length, get_or, take, drop, sym, ap, ◌∙◌, subst, arith, below_more, ℤ}
 use Rattle.std.proofs.Common.{◌+ℤ◌, unsigned_abs, FitsSigned, to_z, of_z, w64}
 use Rattle.std.proofs.Math.ListN.{set}
 use Rattle.std.proofs.Math.Seq.{take-add}
-use Rattle.std.proofs.lemmas.Int.{ints, fits_signed_from_abs, to_z-of_z}
+use Rattle.std.proofs.lemmas.Int.{ints}
 use Rattle.std.proofs.lemmas.List.{get_or-set_same, get_or-set_other, length-take-le, length-drop, drop-drop}
 use Rattle.chip_core.specs.Complex.{plus, sum_of}
 use Rattle.chip_core.proofs.ComplexSums.{sum_of-append}
@@ -11,6 +11,7 @@ use Rattle.chip_core.specs.declared.sample.Pair.{Pair}
 use Rattle.chip_core.specs.declared.sample.Sample.{Sample}
 use Rattle.short_code.specs.Despread.{despread}
 use Rattle.short_code.proofs.Despreading.{despread-append}
+use Rattle.pilot_search.proofs.KeptSums.{kept_sum, kept_sum_back, kept_sum_fits}
 use Rattle.rake_finger.specs.Held.{Held}
 use Rattle.rake_finger.specs.InRing.{IsHeldInRing, IsInRing}
 use Rattle.rake_finger.specs.Soft.{symbol_chips, window_chips, windows, window_symbols, finger_place, frame_chips, despread_at, pilot_sum}
@@ -112,44 +113,23 @@ bound_more : (form : Form) (k : ℕ) (a b : ℤ) →
 bound_more Sync k a b h g = omega (arith, ints, h, g)
 bound_more Data k a b h g = omega (arith, ints, h, g)
 
--- a part of a sum, of the pilot's so far or of one symbol's, fits
-part_fits : (form : Form) (k : ℕ) (a : ℤ) → k < window_symbols form →
-    unsigned_abs a ≤ 65536 * (symbol_chips form * k) → FitsSigned w64 a
-part_fits Sync k a lt h = fits_signed_from_abs w64 a (omega (arith, lt, h))
-part_fits Data k a lt h = fits_signed_from_abs w64 a (omega (arith, lt, h))
-
-piece_fits : (form : Form) (b : ℤ) → unsigned_abs b ≤ 65536 * symbol_chips form → FitsSigned w64 b
-piece_fits Sync b h = fits_signed_from_abs w64 b (omega (arith, h))
-piece_fits Data b h = fits_signed_from_abs w64 b (omega (arith, h))
-
-both_fit : (form : Form) (k : ℕ) (a b : ℤ) → k < window_symbols form →
+-- a part of the pilot's sum so far and one of a symbol's are small together
+parts_small : (form : Form) (k : ℕ) (a b : ℤ) → k < window_symbols form →
     unsigned_abs a ≤ 65536 * (symbol_chips form * k) →
-    unsigned_abs b ≤ 65536 * symbol_chips form → FitsSigned w64 (a +ℤ b)
-both_fit Sync k a b lt h g = fits_signed_from_abs w64 (a +ℤ b) (omega (arith, ints, lt, h, g))
-both_fit Data k a b lt h g = fits_signed_from_abs w64 (a +ℤ b) (omega (arith, ints, lt, h, g))
-
--- both parts, kept as bits
-abbrev pub kept_sum : ℤ → ℤ → ℤ
-kept_sum a b = to_z w64 (of_z w64 a) +ℤ to_z w64 (of_z w64 b)
-
-kept_both : (form : Form) (k : ℕ) (a b : ℤ) → k < window_symbols form →
-    unsigned_abs a ≤ 65536 * (symbol_chips form * k) →
-    unsigned_abs b ≤ 65536 * symbol_chips form → kept_sum a b ≡ a +ℤ b
-kept_both form k a b lt h g = λ i.
-    to_z-of_z w64 a (part_fits form k a lt h) i +ℤ to_z-of_z w64 b (piece_fits form b g) i
+    unsigned_abs b ≤ 65536 * symbol_chips form → unsigned_abs a + unsigned_abs b < 2 ^ 63
+parts_small Sync k a b lt h g = omega (arith, lt, h, g)
+parts_small Data k a b lt h g = omega (arith, lt, h, g)
 
 pub sum_fits : (form : Form) (k : ℕ) (a b : ℤ) → k < window_symbols form →
     unsigned_abs a ≤ 65536 * (symbol_chips form * k) →
     unsigned_abs b ≤ 65536 * symbol_chips form → FitsSigned w64 (kept_sum a b)
-sum_fits form k a b lt h g =
-    subst (FitsSigned w64) (sym (kept_both form k a b lt h g)) (both_fit form k a b lt h g)
+sum_fits form k a b lt h g = kept_sum_fits a b (parts_small form k a b lt h g)
 
 pub sum_kept : (form : Form) (k : ℕ) (a b : ℤ) → k < window_symbols form →
     unsigned_abs a ≤ 65536 * (symbol_chips form * k) →
     unsigned_abs b ≤ 65536 * symbol_chips form →
     to_z w64 (of_z w64 (kept_sum a b)) ≡ a +ℤ b
-sum_kept form k a b lt h g =
-    to_z-of_z w64 (kept_sum a b) (sum_fits form k a b lt h g) ∙ kept_both form k a b lt h g
+sum_kept form k a b lt h g = kept_sum_back a b (parts_small form k a b lt h g)
 
 pub bound_kept : (form : Form) (k : ℕ) (a b : ℤ) → k < window_symbols form →
     unsigned_abs a ≤ 65536 * (symbol_chips form * k) →

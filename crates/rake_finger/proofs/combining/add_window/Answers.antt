@@ -1,11 +1,10 @@
 -- Why `add_window` of `combining` keeps its contract.
 use Rattle.std.proofs.Common.{◌≡◌, ◌≢◌, ◌+◌, ◌*◌, ◌<◌, ◌≤◌, ℕ, List, ℤ, get_or, pos, length, sym, ap, ◌∙◌, arith, unsigned_abs}
-use Rattle.std.proofs.lemmas.Int.{ints, fits_signed_from_abs}
 use Rattle.std.proofs.lemmas.List.{get_or-set_other}
-use Rattle.std.specs.Int.{w64}
 use Rattle.chip_core.specs.Complex.{origin}
 use Rattle.chip_core.specs.declared.sample.Pair.{Pair}
 use Rattle.chip_core.specs.declared.sample.Sample.{Sample}
+use Rattle.pilot_search.proofs.KeptSums.{kept_sum_back, kept_sum_fits}
 use Rattle.rake_finger.specs.Held.{HoldsLast}
 use Rattle.rake_finger.specs.Soft.{window_symbols, pilot_sum, symbol_sum, turned_part, soft}
 use Rattle.rake_finger.proofs.Adding.{window_of, symbol_within, soft_bound-most, IsAdded-more}
@@ -31,7 +30,17 @@ overflow_add-out c =
     sums.ensures.pilot_i sums.ensures.pilot_q (sums.ensures.small k within)
     c.turned_by.ensures.bound in
     let most = soft_bound-most form in
-    rw at (fits_signed_from_abs w64 _ (omega (arith, ints, rest, small, bound, most)))
+    rw at
+    (kept_sum_fits (get_or c.loop-symbol.out symbol (pos 0)) c.turned_by.result
+    (omega (arith, rest, small, bound, most)))
+
+pub bounds-out-from : goal.bounds-out-from
+bounds-out-from c =
+    let first = ap (λ (n : ℕ). n * c.args.window) c.window_symbols.ensures in
+    let high : c.loop-symbol.symbol < window_symbols c.args.form * c.args.window + window_symbols c.args.form =
+    omega arith in
+    let within = symbol_within c.args.form c.args.window c.loop-symbol.symbol c.requires.window high in
+    omega (arith, within)
 
 -- One symbol more of the window is added up: its value is made of the window's pilot sum and the
 -- symbol's own sum, which are those of the definition, and the soft values of all later symbols
@@ -76,7 +85,8 @@ loop-symbol-preserved c =
     record {
       added = λ first h. rw at
           (IsAdded-more ring finger form start symbol first out value _ (inv.added first h) within
-          value_is bound (omega (arith, ints, rest, small, bound, most)));
+          value_is bound
+          (kept_sum_back (get_or out symbol (pos 0)) value (omega (arith, rest, small, bound, most))));
       rest = λ j le. let ne : j ≢ c.from-in-loop-symbol.result = omega (arith, le) in
           get_or-set_other out c.from-in-loop-symbol.result j _ (pos 0) ne ∙ inv.rest j (omega (arith, le));
     }

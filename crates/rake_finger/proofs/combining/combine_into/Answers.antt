@@ -1,8 +1,19 @@
 -- Why `combine_into` of `combining` keeps its contract.
 use Rattle.std.proofs.Common.{length, arith}
+use Rattle.std.proofs.lemmas.Grind.{common_steps, elements}
+use Rattle.std.proofs.lemmas.Int.{ints}
 use Rattle.std.proofs.lemmas.List.{take_all}
 use Rattle.rake_finger.proofs.Adding.{IsSummed-more, softs_are, sum_within}
 use Rattle.rake_finger.proofs.combining.combine_into.Goals as goal
+
+pub loop-i-init : goal.loop-i-init
+loop-i-init c = grind (ints, arith, common_steps)
+
+pub add_finger-requires-clause-row : goal.add_finger-requires-clause-row
+add_finger-requires-clause-row c = grind (ints, arith, elements)
+
+pub add_finger-requires-clause-ring : goal.add_finger-requires-clause-ring
+add_finger-requires-clause-ring c = grind (ints, arith, elements)
 
 pub loop-i-preserved : goal.loop-i-preserved
 loop-i-preserved c =

@@ -1,9 +1,9 @@
 -- Why `covered_sum` of `sums` keeps its contract.
-use Rattle.std.proofs.Common.{◌≡◌, ◌+◌, ◌%◌, ℕ, Bool, ap, ◌∙◌, arith, pos}
-use Rattle.std.proofs.lemmas.Int.{ints}
+use Rattle.std.proofs.Common.{◌≡◌, ◌≤◌, ◌<◌, ◌+◌, ◌*◌, ◌%◌, ◌^◌, ℕ, Bool, ap, ◌∙◌, arith, pos, unsigned_abs}
 use Rattle.chip_core.specs.Bits.{sign}
 use Rattle.chip_core.specs.Complex.{times, conjugate, point, of_sample}
 use Rattle.short_code.specs.ShortCode.{pilot_chip}
+use Rattle.pilot_search.proofs.KeptSums.{kept_sum_back, kept_sum_within}
 use Rattle.rake_finger.proofs.CoveredSums.{row_sign, covered_step}
 use Rattle.rake_finger.proofs.Rings.{held_sample, next_cell}
 use Rattle.rake_finger.proofs.sums.covered_sum.Goals as goal
@@ -31,17 +31,25 @@ loop-k-preserved c =
     c.chip-row_chip.ensures
     ∙ ap (λ (chips : Bool × Bool). times (row_sign row k)
     (times (of_sample sample) (conjugate (point chips)))) code in
+    let sum = c.loop-k.sum in
+    let product = c.covered-product.result in
+    let most = 65536 * (k + 1) in
+    let fits : most < 2 ^ 63 = omega (arith, c.loop-k-test.true, c.ranges.chips.fits) in
+    let near_i : unsigned_abs sum.i + unsigned_abs product.i ≤ most =
+    omega (arith, inv.i_bound, c.covered-product.ensures.i_bound) in
+    let near_q : unsigned_abs sum.q + unsigned_abs product.q ≤ most =
+    omega (arith, inv.q_bound, c.covered-product.ensures.q_bound) in
     record {
       value = λ samples held.
           let t = held.taken in
-          covered_step row c.args.phase place k samples sample c.loop-k.sum c.covered-product.result
-          _ _ (omega (arith, t))
+          covered_step row c.args.phase place k samples sample sum product _ _ (omega (arith, t))
           (held_sample ring samples (place + k) c.loop-k.cell sample held (omega arith)
           (omega arith) inv.cell c.get-sample.ensures)
-          is (inv.value samples held) (omega (arith, ints)) (omega (arith, ints));
+          is (inv.value samples held) (kept_sum_back sum.i product.i (omega (arith, near_i, fits)))
+          (kept_sum_back sum.q product.q (omega (arith, near_q, fits)));
       cell = next_cell place k c.loop-k.cell c.cell_behind-cell.result ring.room inv.cell
           c.cell_behind-cell.ensures.value;
       below = c.cell_behind-cell.ensures.below;
-      i_bound = omega (arith, ints);
-      q_bound = omega (arith, ints);
+      i_bound = kept_sum_within sum.i product.i most near_i fits;
+      q_bound = kept_sum_within sum.q product.q most near_q fits;
     }

@@ -1,11 +1,20 @@
 -- Why `product` of `values` keeps its contract.
+use Rattle.std.proofs.Common.{arith}
+use Rattle.std.proofs.lemmas.Grind.{common_steps}
+use Rattle.std.proofs.lemmas.Int.{ints}
 use Rattle.rake_finger.proofs.SoftValues.{product_is, product_most}
 use Rattle.rake_finger.proofs.values.product.Goals as goal
+
+pub overflow_mul-result : goal.overflow_mul-result
+overflow_mul-result c = grind (ints, arith, common_steps)
 
 pub returns-clause-value : goal.returns-clause-value
 returns-clause-value c =
     product_is c.args.pilot c.args.symbol c.ranges.pilot c.ranges.symbol c.requires.pilot
     c.requires.symbol
+
+pub returns-clause-size : goal.returns-clause-size
+returns-clause-size c = grind (ints, arith, common_steps)
 
 pub returns-clause-most : goal.returns-clause-most
 returns-clause-most c =

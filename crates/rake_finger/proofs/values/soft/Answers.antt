@@ -3,8 +3,24 @@ use Rattle.std.proofs.Common.{◌≡◌, ◌+◌, ◌*◌, ◌/◌, ◌≤◌, �
 use Rattle.std.proofs.lemmas.Int.{ints}
 use Rattle.chip_core.specs.declared.sample.Pair.{Pair}
 use Rattle.rake_finger.specs.Soft.{finger_place, pilot_sum, symbol_sum, symbol_chips, window_chips, turned_part, soft_bound}
-use Rattle.rake_finger.proofs.SoftValues.{pilot_is, soft_bounded, soft_is, symbol_is}
+use Rattle.rake_finger.proofs.SoftValues.{pilot_is, pilot_most, soft_bounded, soft_is, symbol_is, symbol_most}
 use Rattle.rake_finger.proofs.values.soft.Goals as goal
+
+pub turned_by-requires-clause-pilot_i : goal.turned_by-requires-clause-pilot_i
+turned_by-requires-clause-pilot_i c =
+    omega (arith, c.covered_sum-pilot.ensures.i_bound, c.window_chips-wide.ensures, pilot_most c.args.form)
+
+pub turned_by-requires-clause-pilot_q : goal.turned_by-requires-clause-pilot_q
+turned_by-requires-clause-pilot_q c =
+    omega (arith, c.covered_sum-pilot.ensures.q_bound, c.window_chips-wide.ensures, pilot_most c.args.form)
+
+pub turned_by-requires-clause-symbol_i : goal.turned_by-requires-clause-symbol_i
+turned_by-requires-clause-symbol_i c =
+    omega (arith, c.covered_sum-sum.ensures.i_bound, c.symbol_chips-chips.ensures, symbol_most c.args.form)
+
+pub turned_by-requires-clause-symbol_q : goal.turned_by-requires-clause-symbol_q
+turned_by-requires-clause-symbol_q c =
+    omega (arith, c.covered_sum-sum.ensures.q_bound, c.symbol_chips-chips.ensures, symbol_most c.args.form)
 
 -- The soft value is the definition's: the pilot's sum is that of the window in which the symbol
 -- lies, the symbol's sum is that of its own chips, and the second turned by the first is what is

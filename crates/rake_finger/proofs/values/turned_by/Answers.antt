@@ -1,8 +1,14 @@
 -- Why `turned_by` of `values` keeps its contract.
-use Rattle.std.proofs.Common.{◌≡◌, ◌*◌, ◌∙◌, arith, ◌*ℤ◌, unsigned_abs}
+use Rattle.std.proofs.Common.{◌≡◌, ◌+◌, ◌*◌, ◌∙◌, arith, ◌+ℤ◌, ◌*ℤ◌, unsigned_abs}
 use Rattle.std.proofs.lemmas.Int.{ints, to_z-of_z}
+use Rattle.pilot_search.proofs.KeptSums.{kept_sum_back, kept_sum_fits, kept_sum_within}
 use Rattle.rake_finger.proofs.SoftValues.{turned_part-is}
 use Rattle.rake_finger.proofs.values.turned_by.Goals as goal
+
+pub overflow_add-result : goal.overflow_add-result
+overflow_add-result c =
+    kept_sum_fits c.product.result c.product-2.result
+    (omega (arith, c.product.ensures.most, c.product-2.ensures.most))
 
 -- The value is the real part of the pilot's conjugate times the symbol: each of the two products is
 -- the true one, and their sum fits into 64 bits.
@@ -14,8 +20,9 @@ returns-clause-value c =
     search (arith, ints, to_z-of_z, c.product.ensures.value) in
     let q : c.product-2.result ≡ p.q *ℤ s.q =
     search (arith, ints, to_z-of_z, c.product-2.ensures.value) in
-    let is = turned_part-is p s in
-    omega (arith, ints) ∙ is
+    kept_sum_back c.product.result c.product-2.result
+    (omega (arith, c.product.ensures.most, c.product-2.ensures.most))
+    ∙ (λ n. i n +ℤ q n) ∙ turned_part-is p s
 
 pub returns-clause-bound : goal.returns-clause-bound
 returns-clause-bound c =
@@ -25,4 +32,6 @@ returns-clause-bound c =
     search (arith, ints, to_z-of_z, c.product.ensures.size) in
     let q : unsigned_abs c.product-2.result ≡ unsigned_abs p.q * unsigned_abs s.q =
     search (arith, ints, to_z-of_z, c.product-2.ensures.size) in
-    omega (arith, ints)
+    kept_sum_within c.product.result c.product-2.result
+    (unsigned_abs p.i * unsigned_abs s.i + unsigned_abs p.q * unsigned_abs s.q)
+    (omega (arith, i, q)) (omega (arith, i, q, c.product.ensures.most, c.product-2.ensures.most))

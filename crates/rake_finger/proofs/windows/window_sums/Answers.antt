@@ -12,6 +12,15 @@ use Rattle.rake_finger.proofs.WindowSums.{bound_kept, chips_more, entry_more, mo
 use Rattle.rake_finger.proofs.WindowSums.{symbol_held, symbol_place, whole_symbols}
 use Rattle.rake_finger.proofs.windows.window_sums.Goals as goal
 
+pub overflow_add-pilot : goal.overflow_add-pilot
+overflow_add-pilot c =
+    let form = c.args.form in
+    let sums = c.symbol_sums-sums in
+    let chips = c.symbol_chips-chips.ensures in
+    sum_fits form c.loop-k.k c.loop-k.pilot.i sums.result.plain.i
+    (omega (arith, c.loop-k-test.true, c.window_symbols-k-end.ensures))
+    c.loop-k.invariant.pilot_i (omega (arith, chips, sums.ensures.small.plain.0))
+
 pub overflow_add-pilot-in-loop-k : goal.overflow_add-pilot-in-loop-k
 overflow_add-pilot-in-loop-k c =
     let form = c.args.form in
@@ -20,6 +29,10 @@ overflow_add-pilot-in-loop-k c =
     sum_fits form c.loop-k.k c.loop-k.pilot.q sums.result.plain.q
     (omega (arith, c.loop-k-test.true, c.window_symbols-k-end.ensures))
     c.loop-k.invariant.pilot_q (omega (arith, chips, sums.ensures.small.plain.1))
+
+pub bounds-symbols-from : goal.bounds-symbols-from
+bounds-symbols-from c =
+    omega (arith, most_symbols c.args.form, c.loop-k-test.true, c.window_symbols-k-end.ensures)
 
 -- One symbol more of the window is summed: its chips follow those of the symbols before it and are
 -- still in the ring, its plain sum goes on with the pilot's, and the sum with the row's signs is
