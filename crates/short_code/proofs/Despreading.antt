@@ -1,9 +1,12 @@
 -- Samples times the conjugate of the codes' points.
-use Rattle.std.proofs.Common.{◌≡◌, ℕ, suc, ◌+◌, List, [], ◌∷◌, ◌++◌, length, ap, ◌∙◌, arith, ℤ, ◌+ℤ◌, ◌-ℤ◌, ◌*ℤ◌}
+use Rattle.std.proofs.Common.{◌≡◌, ℕ, suc, ◌+◌, ◌≤◌, List, [], ◌∷◌, ◌++◌, length, ap, ◌∙◌, arith, refl, ℤ, ◌+ℤ◌, ◌-ℤ◌, ◌*ℤ◌}
+use Rattle.std.proofs.Common.{unsigned_abs, FitsSigned, to_z, of_z, w8, w16, w32, w64}
+use Rattle.std.proofs.lemmas.Int.{fits_signed_from_abs, to_z-of_z}
 use Rattle.chip_core.specs.Complex.{times, conjugate, of_sample}
 use Rattle.chip_core.specs.declared.sample.Pair.{Pair}
 use Rattle.chip_core.specs.declared.sample.Sample.{Sample}
 use Rattle.chip_core.proofs.ComplexSums.{real_part, imaginary_part}
+use Rattle.chip_core.proofs.Magnitudes.{abs_sum, abs_difference}
 use Rattle.short_code.specs.Despread.{code_point, despread, turned}
 
 pub despread-append : (xs ys : List Sample) (phase : ℕ) →
@@ -20,3 +23,38 @@ pub turned_is : (s : Sample) (signs : ℤ × ℤ) (i q : ℤ) → i ≡ (s.i *�
     ◌≡◌ {A = Pair} record { i = i; q = q } (turned s signs)
 turned_is s signs i q e f =
     rw (e ∙ real_part s.i s.q signs.0 signs.1, f ∙ imaginary_part s.i s.q signs.0 signs.1)
+
+-- a branch times a sign, both as their bits hold them
+pub branch_is : (branch sign made : ℤ) → FitsSigned w16 branch → unsigned_abs sign ≤ 1 →
+    made ≡ to_z w16 (of_z w16 branch) *ℤ to_z w8 (of_z w8 sign) → made ≡ branch *ℤ sign
+branch_is branch sign made fits unit is =
+    is
+    ∙ rw (
+      to_z-of_z w16 branch fits,
+      to_z-of_z w8 sign (fits_signed_from_abs w8 sign (omega (arith, unit))),
+    )
+    refl
+
+-- the sum or the difference of two turned branches, made with 32 bits and kept with 64
+kept_wide : (x made : ℤ) → unsigned_abs x ≤ 65536 → made ≡ to_z w32 (of_z w32 x) →
+    to_z w64 (of_z w64 made) ≡ x
+kept_wide x made small is =
+    rw (is ∙ to_z-of_z w32 x (fits_signed_from_abs w32 x (omega (arith, small))))
+    (to_z-of_z w64 x (fits_signed_from_abs w64 x (omega (arith, small))))
+
+kept_branch : (x : ℤ) → unsigned_abs x ≤ 32768 → to_z w32 (of_z w32 x) ≡ x
+kept_branch x small = to_z-of_z w32 x (fits_signed_from_abs w32 x (omega (arith, small)))
+
+pub branches_added : (x y made : ℤ) → unsigned_abs x ≤ 32768 → unsigned_abs y ≤ 32768 →
+    made ≡ to_z w32 (of_z w32 (to_z w32 (of_z w32 x) +ℤ to_z w32 (of_z w32 y))) →
+    to_z w64 (of_z w64 made) ≡ x +ℤ y
+branches_added x y made h g is =
+    kept_wide (x +ℤ y) made (omega (arith, h, g, abs_sum x y))
+    (rw (kept_branch x h, kept_branch y g) at is)
+
+pub branches_taken : (x y made : ℤ) → unsigned_abs x ≤ 32768 → unsigned_abs y ≤ 32768 →
+    made ≡ to_z w32 (of_z w32 (to_z w32 (of_z w32 x) -ℤ to_z w32 (of_z w32 y))) →
+    to_z w64 (of_z w64 made) ≡ x -ℤ y
+branches_taken x y made h g is =
+    kept_wide (x -ℤ y) made (omega (arith, h, g, abs_difference x y))
+    (rw (kept_branch x h, kept_branch y g) at is)
