@@ -76,15 +76,16 @@ fn read_piece<S: Source>(
     ensures { ReadsSamples width place (length out.old) (S.rest source.old) (S.rest source.new)
         (S.faults source.old) (S.faults source.new) out.new result }
 {
-    let mut bytes = [0; 4 * MOST_AT_ONCE];
+    let mut buffer = [0; 4 * MOST_AT_ONCE];
     let wanted = bytes_for(width, out.len() as u64) as usize;
-    let count = fill(source, &mut bytes[..wanted])?;
+    let bytes = &mut buffer[..wanted];
+    let count = fill(source, bytes)?;
     if count < wanted {
         return Err(FileFault::Short {
             at: place + count as u64,
         });
     }
-    parse_samples(width, &bytes[..wanted], out);
+    parse_samples(width, bytes, out);
     Ok(())
 }
 
