@@ -103,11 +103,12 @@ fn append_cell(text: &mut Text, cell: &CellIdentity)
     requires { text.old ≡ [] }
     ensures { text.new ≡ written_cell cell.now }
 {
-    append_field(text, CELL_FIELDS[0], u64::from(cell.pn));
-    append_field(text, CELL_FIELDS[1], cell.time);
-    append_field(text, CELL_FIELDS[2], cell.lc);
-    let checks = form_bit(cell.check30) + 2 * form_bit(cell.check16);
-    append_field(text, CELL_FIELDS[3], checks);
+    let [pn, time, lc, checks] = CELL_FIELDS;
+    append_field(text, pn, u64::from(cell.pn));
+    append_field(text, time, cell.time);
+    append_field(text, lc, cell.lc);
+    let forms = form_bit(cell.check30) + 2 * form_bit(cell.check16);
+    append_field(text, checks, forms);
 }
 
 /// Adds the text of a link to the empty text.
@@ -116,12 +117,13 @@ fn append_link(text: &mut Text, link: &LinkPlan)
     requires { text.old ≡ [] }
     ensures { text.new ≡ written_link link.now }
 {
-    text.append(LINK_FIELDS[0].key);
+    let [re, im, start, samples] = LINK_FIELDS;
+    text.append(re.key);
     text.append_number(link.factor.i);
-    text.append(LINK_FIELDS[1].key);
+    text.append(im.key);
     text.append_number(link.factor.q);
-    append_field(text, LINK_FIELDS[2], link.start);
-    append_field(text, LINK_FIELDS[3], link.samples);
+    append_field(text, start, link.start);
+    append_field(text, samples, link.samples);
 }
 
 /// Adds the text of a pilot channel to the empty text.
@@ -189,8 +191,9 @@ fn append_paging(text: &mut Text, line: &PagingLine)
     requires { text.old ≡ [] }
     ensures { text.new ≡ written_paging line.now }
 {
-    append_field(text, PAGING_FIELDS[0], u64::from(line.number));
-    append_field(text, PAGING_FIELDS[1], u64::from(line.gain));
+    let [number, gain] = PAGING_FIELDS;
+    append_field(text, number, u64::from(line.number));
+    append_field(text, gain, u64::from(line.gain));
 }
 
 /// Adds the text of a page to the empty text.
@@ -209,10 +212,11 @@ fn append_traffic(text: &mut Text, line: &TrafficLine)
     requires { text.old ≡ [] }
     ensures { text.new ≡ written_traffic line.now }
 {
-    append_field(text, TRAFFIC_FIELDS[0], u64::from(line.row));
-    append_field(text, TRAFFIC_FIELDS[1], u64::from(line.esn));
-    append_field(text, TRAFFIC_FIELDS[2], u64::from(line.offset));
-    append_field(text, TRAFFIC_FIELDS[3], u64::from(line.gain));
+    let [row, esn, offset, gain] = TRAFFIC_FIELDS;
+    append_field(text, row, u64::from(line.row));
+    append_field(text, esn, u64::from(line.esn));
+    append_field(text, offset, u64::from(line.offset));
+    append_field(text, gain, u64::from(line.gain));
 }
 
 /// Adds the text of a frame to the empty text.

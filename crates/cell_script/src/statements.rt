@@ -134,11 +134,12 @@ fn cell_in(text: &[u8]) -> Option<CellIdentity>
     ensures value { result ≡ cell_in text.now }
     ensures lawful { IfSome result IsStatedCell }
 {
+    let [pn, time, lc, checks] = CELL_FIELDS;
     let mut fields = Fields::new(text);
-    let pn = fields.unsigned(CELL_FIELDS[0])?;
-    let time = fields.unsigned(CELL_FIELDS[1])?;
-    let lc = fields.unsigned(CELL_FIELDS[2])?;
-    let checks = fields.unsigned(CELL_FIELDS[3])?;
+    let pn = fields.unsigned(pn)?;
+    let time = fields.unsigned(time)?;
+    let lc = fields.unsigned(lc)?;
+    let checks = fields.unsigned(checks)?;
     if !fields.at_end() {
         return None;
     }
@@ -157,11 +158,12 @@ fn link_in(text: &[u8]) -> Option<LinkPlan>
     ensures value { result ≡ link_in text.now }
     ensures lawful { IfSome result IsStatedLink }
 {
+    let [re, im, start, samples] = LINK_FIELDS;
     let mut fields = Fields::new(text);
-    let re = fields.signed(LINK_FIELDS[0])?;
-    let im = fields.signed(LINK_FIELDS[1])?;
-    let start = fields.unsigned(LINK_FIELDS[2])?;
-    let samples = fields.unsigned(LINK_FIELDS[3])?;
+    let re = fields.signed(re)?;
+    let im = fields.signed(im)?;
+    let start = fields.unsigned(start)?;
+    let samples = fields.unsigned(samples)?;
     if !is_link(re, im, samples) {
         return None;
     }
@@ -322,9 +324,10 @@ fn paging_in(text: &[u8]) -> Option<PagingLine>
     ensures value { result ≡ paging_in text.now }
     ensures row { IfSome result (λ line. line.number < 64) }
 {
+    let [number, gain] = PAGING_FIELDS;
     let mut fields = Fields::new(text);
-    let number = fields.unsigned(PAGING_FIELDS[0])?;
-    let gain = fields.unsigned(PAGING_FIELDS[1])?;
+    let number = fields.unsigned(number)?;
+    let gain = fields.unsigned(gain)?;
     if number == 0 {
         return None;
     }
@@ -382,11 +385,12 @@ fn traffic_in(text: &[u8]) -> Option<TrafficLine>
     ensures value { result ≡ traffic_in text.now }
     ensures row { IfSome result (λ line. line.row < 64) }
 {
+    let [row, esn, offset, gain] = TRAFFIC_FIELDS;
     let mut fields = Fields::new(text);
-    let row = fields.unsigned(TRAFFIC_FIELDS[0])?;
-    let esn = fields.unsigned(TRAFFIC_FIELDS[1])?;
-    let offset = fields.unsigned(TRAFFIC_FIELDS[2])?;
-    let gain = fields.unsigned(TRAFFIC_FIELDS[3])?;
+    let row = fields.unsigned(row)?;
+    let esn = fields.unsigned(esn)?;
+    let offset = fields.unsigned(offset)?;
+    let gain = fields.unsigned(gain)?;
     if !fields.at_end() {
         return None;
     }
