@@ -266,17 +266,22 @@ traffic_frame_in text = do
 
 -- ---- what a line states
 
--- the kind of a statement is told by its first word
+-- the kind of a statement is told by its first word: of one that tells of a paging or traffic
+-- channel, and of any
+abbrev pub channel_statement_in : List ℕ → Option Statement
+channel_statement_in text =
+    if begins_with text (codes "paging ") then option_map statements.Paging (paging_in text)
+    else (if begins_with text (codes "page ") then option_map statements.Page (stated_page_in text)
+    else (if begins_with text (codes "traffic ")
+    then option_map statements.Traffic (traffic_in text)
+    else (if begins_with text (codes "frame ") || begins_with text (codes "frame2 ")
+    then option_map statements.Frame (traffic_frame_in text)
+    else None)))
+
 unfoldable pub statement_in : List ℕ → Option Statement
 statement_in text =
     if begins_with text (codes "cell ") then option_map statements.Cell (cell_in text)
     else (if begins_with text (codes "link ") then option_map statements.Link (link_in text)
     else (if begins_with text (codes "pilot ") then option_map statements.Pilot (pilot_in text)
     else (if begins_with text (codes "sync ") then option_map statements.Sync (sync_in text)
-    else (if begins_with text (codes "paging ") then option_map statements.Paging (paging_in text)
-    else (if begins_with text (codes "page ") then option_map statements.Page (stated_page_in text)
-    else (if begins_with text (codes "traffic ")
-    then option_map statements.Traffic (traffic_in text)
-    else (if begins_with text (codes "frame ") || begins_with text (codes "frame2 ")
-    then option_map statements.Frame (traffic_frame_in text)
-    else None)))))))
+    else channel_statement_in text)))

@@ -2,7 +2,8 @@
 
 ghost use Rattle.std.specs.Prelude.{◌≡◌, ◌≤◌, ◌<◌, ◌^◌, IfSome, IsAscii, OnSome, length};
 ghost use Rattle.std.specs.Prelude.{unsigned_abs};
-ghost use Rattle.cell_script.specs.ScriptLines.{cell_in, check_form, freq_in, is_link, link_in};
+ghost use Rattle.cell_script.specs.ScriptLines.{cell_in, channel_statement_in, check_form, freq_in};
+ghost use Rattle.cell_script.specs.ScriptLines.{is_link, link_in};
 ghost use Rattle.cell_script.specs.LineForms.{read_as};
 ghost use Rattle.cell_script.specs.ScriptLines.{stated_page_in, page_key, page_statement};
 ghost use Rattle.cell_script.specs.ScriptLines.{paging_in};
@@ -102,6 +103,14 @@ pub fn statement_in(text: &[u8]) -> Option<Statement>
     if begins_with(text, b"sync ") {
         return Some(Statement::Sync(sync_in(text)?));
     }
+    channel_statement_in(text)
+}
+
+/// What a line states that tells of a paging or traffic channel.
+fn channel_statement_in(text: &[u8]) -> Option<Statement>
+    ensures value { result ≡ channel_statement_in text.now }
+    ensures row { IfSome result HasRow }
+{
     if begins_with(text, b"paging ") {
         return Some(Statement::Paging(paging_in(text)?));
     }
