@@ -3,10 +3,20 @@ use Rattle.std.proofs.Common.{◌≡◌, ◌≤◌, ◌<◌, ◌+◌, ◌*◌, �
 use Rattle.chip_core.specs.Bits.{sign}
 use Rattle.chip_core.specs.Complex.{times, conjugate, point, of_sample}
 use Rattle.short_code.specs.ShortCode.{pilot_chip}
-use Rattle.pilot_search.proofs.KeptSums.{kept_sum_back, kept_sum_within}
+use Rattle.pilot_search.proofs.KeptSums.{kept_sum_back, kept_sum_fits, kept_sum_within}
 use Rattle.rake_finger.proofs.CoveredSums.{row_sign, covered_step}
 use Rattle.rake_finger.proofs.Rings.{held_sample, next_cell}
 use Rattle.rake_finger.proofs.sums.covered_sum.Goals as goal
+
+pub overflow_add-sum : goal.overflow_add-sum
+overflow_add-sum c =
+    kept_sum_fits c.loop-k.sum.i c.covered-product.result.i
+    (omega (arith, c.loop-k.invariant.i_bound, c.covered-product.ensures.i_bound, c.loop-k-test.true, c.ranges.chips.fits))
+
+pub overflow_add-sum-in-loop-k : goal.overflow_add-sum-in-loop-k
+overflow_add-sum-in-loop-k c =
+    kept_sum_fits c.loop-k.sum.q c.covered-product.result.q
+    (omega (arith, c.loop-k.invariant.q_bound, c.covered-product.ensures.q_bound, c.loop-k-test.true, c.ranges.chips.fits))
 
 -- One chip more is added: its sample is still in the ring, the code's point is that of the phase at
 -- the sample's place, and so their product, with the row's sign, is the definition's next term.

@@ -1,4 +1,6 @@
 -- Why `push_all` of `ring::SampleRing` keeps its contract.
+use Rattle.rake_finger.proofs.Common.{ints}
+use Rattle.std.proofs.lemmas.Grind.{common_steps}
 use Rattle.std.proofs.Common.{◌<◌, ◌++◌, List, length, take, sym, subst, ap, ◌∙◌, arith}
 use Rattle.std.proofs.lemmas.List.{append_assoc, take_more}
 use Rattle.chip_core.specs.declared.sample.Sample.{Sample}
@@ -30,3 +32,6 @@ loop-sample-preserved c =
           ∙ ap (λ (xs : List Sample). samples ++ xs) (sym (take_more more i _ lt)))
           (put.holds (samples ++ take i more) (inv.holds samples held));
     }
+
+pub returns-clause-holds : goal.returns-clause-holds
+returns-clause-holds c = grind (ints, arith, common_steps)
