@@ -1,5 +1,5 @@
 -- Why `of` of `tails::Tails` keeps its contract.
-use Rattle.pilot_search.proofs.Common.{◌≡◌, ◌≤◌, ◌+◌, ◌*◌, ℕ, arith, rules, sym, ap, subst, get_or, ◌∙◌, common_steps}
+use Rattle.pilot_search.proofs.Common.{◌≡◌, ◌≤◌, ◌+◌, ◌*◌, ℕ, arith, rules, sym, ap, subst, get_or, ◌∙◌, common_steps, ints}
 use Rattle.pilot_search.proofs.Common.{get_or-replicate, drop_all, magnitudes}
 use Rattle.pilot_search.proofs.tails.Tails.of.Goals as goal
 
@@ -15,3 +15,9 @@ loop-k-init c = record {
       get_or-replicate 512 j 0 0 lt in
       subst (λ (n : ℕ). n + 65536 * (64 * j) ≤ 2147483648) (sym z) (omega arith);
 }
+
+pub loop-k-preserved-then-k-eq0 : goal.loop-k-preserved-then-k-eq0
+loop-k-preserved-then-k-eq0 c = grind (ints, arith, common_steps)
+
+pub loop-k-preserved : goal.loop-k-preserved
+loop-k-preserved c = grind (ints, arith, common_steps)
