@@ -1,5 +1,6 @@
 -- Why `keep_levels` of `block` keeps its contract.
-use Rattle.cell_samples.proofs.Common.{◌≡◌, ◌<◌, List, length, map, get_or, set, refl, sym, ap, ◌∙◌, arith, rules, get_or-map, read64}
+use Rattle.std.proofs.lemmas.Grind.{common_steps}
+use Rattle.cell_samples.proofs.Common.{◌≡◌, ◌<◌, List, length, map, get_or, set, refl, sym, ap, ◌∙◌, arith, rules, get_or-map, read64, ints}
 use Rattle.cell_samples.proofs.Common.{ChannelState, carrier_of}
 use Rattle.std.proofs.lemmas.List as lists
 use Rattle.cell_samples.proofs.KeptBlocks as kept
@@ -50,3 +51,6 @@ loop-n-preserved c =
       kept = kept.all_same c.loop-n.is_same one.result c.args.levels.now c.loop-n.levels
           one.new.levels inv.kept one.ensures.kept;
     }
+
+pub returns-clause-value : goal.returns-clause-value
+returns-clause-value c = grind (ints, arith, common_steps)

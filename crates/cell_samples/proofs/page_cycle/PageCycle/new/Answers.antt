@@ -1,6 +1,7 @@
 -- Why `new` of `page_cycle::PageCycle` keeps its contract.
+use Rattle.std.proofs.lemmas.Grind.{common_steps}
 use Rattle.cell_samples.proofs.Common.{◌≡◌, ℕ, ◌+◌, ◌/◌, Bool, List, ap, arith, Rate, half_frame_body, CellIdentity, Cycle, page_cycle}
-use Rattle.cell_samples.proofs.Common.{cycle_is, frame_bits-is}
+use Rattle.cell_samples.proofs.Common.{cycle_is, frame_bits-is, ints}
 use Rattle.cell_samples.proofs.page_cycle.PageCycle.new.Goals as goal
 
 abbrev cycle_with : CellIdentity → ℕ → Rate → List Bool → Cycle
@@ -19,3 +20,6 @@ returns c =
     cycle_is rate form c.args.pages.now (c.frame_bits.result / 2) c.laid-bits.result
     c.fill_up.new.bits half c.laid-bits.ensures.value c.fill_up.ensures in
     ap (cycle_with c.args.cell.now c.args.mask rate) same
+
+pub invariant_of-result : goal.invariant_of-result
+invariant_of-result c = grind (ints, arith, common_steps)
