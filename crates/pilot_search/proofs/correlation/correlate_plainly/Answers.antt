@@ -4,6 +4,8 @@ use Rattle.pilot_search.proofs.CorrelationSums.{correlation_with-more, correlati
 use Rattle.pilot_search.proofs.KeptSums.{kept_sum_back, kept_sum_within}
 use Rattle.pilot_search.proofs.correlation.correlate_plainly.Goals as goal
 
+-- One sample more is in the sum: its product with its signs takes the place of the first one that
+-- was left, and neither part of the sum grows by more than 65,536, so both fit into 64 bits.
 pub loop-t-preserved : goal.loop-t-preserved
 loop-t-preserved c =
     let inv = c.loop-t.invariant in
