@@ -9,6 +9,7 @@ ghost use Rattle.heard_events.specs.SoundMarks.{IsSoundMark};
 ghost use Rattle.pilot_sets.specs.declared.strengths.Strength.{Strength as TheStrength};
 ghost use Rattle.rake_finger.specs.Held.{HoldsLast};
 ghost use Rattle.rake_finger.specs.InRing.{HoldsBefore};
+ghost use Rattle.rake_finger.specs.Paths.{modulo_code};
 
 use crate::mark::Mark;
 use chip_core::Phase;
@@ -23,9 +24,15 @@ pub(crate) fn pilot_phase(mark: &Mark, pilot: u16, delta: i16) -> Phase
     requires { IsSoundMark mark.now }
     ensures { result ≡ pilot_phase mark.now pilot delta }
 {
-    let behind = (OFFSET_CHIPS * u64::from(pilot)) as i64;
-    let number = (i64::from(delta) - behind - mark.sample as i64).rem_euclid(32768);
-    Phase::new(number as u16).unwrap()
+    let behind = OFFSET_CHIPS * u64::from(pilot) + mark.sample;
+    phase_of(i64::from(delta) - behind as i64)
+}
+
+/// The phase at a number of chips, which may lie before the code's first chip or after its last.
+fn phase_of(chips: i64) -> Phase
+    ensures { result ≡ modulo_code chips }
+{
+    Phase::new(chips.rem_euclid(32768) as u16).unwrap()
 }
 
 /// How strong a pilot is in the 512 samples before a place, in the window that the sets have for
