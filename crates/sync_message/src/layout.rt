@@ -1,9 +1,11 @@
 //! The layout of what stands after the message type, and the message as contents of it.
 
-ghost use Rattle.std.specs.Prelude.{◌≡◌, ◌<◌, ◌^◌, IfSome};
+ghost use Rattle.std.specs.Prelude.{◌≡◌, ◌<◌, ◌≤◌, ◌^◌, drop, length, IfSome};
 ghost use Rattle.chip_core.specs.Fields.{in_widths, FieldsFit};
+ghost use Rattle.message_layout.specs.Reading.{reading};
+ghost use Rattle.message_layout.specs.Spelling.{IsOf};
 ghost use Rattle.sync_message.specs.Layouts.{sync_body_reading, freq_from, freq_group};
-ghost use Rattle.sync_message.specs.Layouts.{sync_contents, sync_from};
+ghost use Rattle.sync_message.specs.Layouts.{sync_contents, sync_from, sync_message_shape};
 ghost use Rattle.sync_message.specs.Rows.{sync_values, sync_widths};
 
 use crate::fields::SyncFields;
@@ -33,8 +35,17 @@ pub(crate) fn read_body(body: &BitSlice<'_>) -> Option<SyncFields>
     if kind != 1 {
         return None;
     }
-    let contents = read_from(&SYNC_CHANNEL, body, from)?;
+    let contents = read_contents(body, from)?;
     Some(fields_from(&contents))
+}
+
+/// What the bits from a place on say by the layout.
+fn read_contents(body: &BitSlice<'_>, from: u16) -> Option<Contents>
+    requires { from ≤ length body.now }
+    ensures found { IfSome result (λ c. IsOf sync_message_shape c) }
+    ensures reading { result ≡ reading sync_message_shape (drop from body.now) }
+{
+    read_from(&SYNC_CHANNEL, body, from)
 }
 
 /// The fields as the layout has them.

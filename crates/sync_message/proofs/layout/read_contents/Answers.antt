@@ -1,0 +1,6 @@
+-- Why `read_contents` of `layout` keeps its contract.
+use Rattle.sync_message.proofs.ByLayout.{sync_lawful}
+use Rattle.sync_message.proofs.layout.read_contents.Goals as goal
+
+pub read_from-requires-clause-lawful : goal.read_from-requires-clause-lawful
+read_from-requires-clause-lawful c = sync_lawful
