@@ -1,10 +1,38 @@
 -- Why `hear_frames` of `frame_writer` keeps its contract.
 use Rattle.tuned_listener.proofs.Common.{◌≡◌, ◌++◌, [], List, None, Some, arith, rules, subst, take, Appends, take_rest}
 use Rattle.tuned_listener.proofs.Common.{err_from_is_err_and, AppendsPrefix, Sample, soft_frames, IsTunedTo, Tuning, Channel, HoldsFrames}
-use Rattle.tuned_listener.proofs.Common.{tuned_text_of, slot_behind, slot_more, tuned_frame_text, TunedText}
+use Rattle.tuned_listener.proofs.Common.{tuned_text_of, slot_behind, slot_more, tuned_frame_text, TunedText, WritesFrames, Mark, Tuner}
+use Rattle.tuned_listener.proofs.Common.{FrameWriter, Option, ℕ, Appends-nil, append-nil, refl, sym, text_from}
 use Rattle.tuned_listener.proofs.TunedFrames.{frame_cut, frame_kept, frame_written, none_kept, none_written, writes_all, writes_more}
 use Rattle.tuned_listener.proofs.TunedFrames.{writes_part}
 use Rattle.tuned_listener.proofs.frame_writer.hear_frames.Goals as goal
+
+-- before the first sample no text is written
+writes_none : (t : Tuning) (channel : Channel) (m : Mark) (form : TunedText) (tuner : Tuner)
+    (writer : FrameWriter) (heard samples : List Sample) (sink : Option (List ℕ)) →
+    IsTunedTo t channel m tuner heard →
+    HoldsFrames writer t.check30 (slot_behind [] (soft_frames t channel m heard)) →
+    WritesFrames t channel m form tuner writer heard (heard ++ take 0 samples) sink sink
+writes_none t channel m form tuner writer heard samples sink tuned holds =
+    subst (λ (xs : List Sample). WritesFrames t channel m form tuner writer heard xs sink sink)
+    (sym (append-nil heard)) (record {
+      text = [];
+      written = Appends-nil sink;
+      all = append-nil (text_from form t channel m heard);
+      tuned = tuned;
+      holds = holds;
+    })
+
+pub loop-taken-init : goal.loop-taken-init
+loop-taken-init g c = record {
+  most = omega arith;
+  room = omega arith;
+  ready = c.requires.ready;
+  text = refl;
+  writes = λ (t : Tuning) (channel : Channel) (heard : List Sample).
+      writes_none t channel _ _ _ _ heard c.args.samples.now _;
+  later = omega arith;
+}
 
 -- A step that gave a frame keeps what the loop promises: the frame's text is written after the text
 -- so far, and the writer holds the frame as one of its slot.
