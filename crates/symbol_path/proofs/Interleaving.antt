@@ -25,6 +25,17 @@ symbol_lt a count repeats total e h =
     let some : 0 < total = omega (arith, h) in
     div_below a repeats count (repeats_some count repeats total e some) (omega (arith, e, h))
 
+-- the same of numbers as they were read
+pub read_symbol_lt : (address before now from repeats n : ℕ) → from ≡ repeats → now ≡ before →
+    before * repeats ≡ n → address < n → address / from < now
+read_symbol_lt address before now from repeats n same kept code below =
+    symbol_lt address now from n (rw (same, kept) code) below
+
+pub read_repeats_some : (count repeats from total address : ℕ) → from ≡ repeats →
+    count * repeats ≡ total → address < total → 0 < from
+read_repeats_some count repeats from total address same e below =
+    rw same (repeats_some count repeats total e (omega (arith, below)))
+
 pub count_is : (count repeats total : ℕ) → count * repeats ≡ total → 0 < total →
     total / repeats ≡ count
 count_is count repeats total e some =

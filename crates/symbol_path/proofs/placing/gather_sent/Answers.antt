@@ -1,13 +1,9 @@
 -- Why `gather_sent` of `placing` keeps its contract.
-use Rattle.symbol_path.proofs.Common.{◌≡◌, ◌<◌, ◌*◌, ◌/◌, ℕ, arith, pos, get_or, length, sym, ap, ◌∙◌, repeated_as, sent_count}
-use Rattle.symbol_path.proofs.Interleaving.{symbol_lt}
+use Rattle.std.proofs.lemmas.Grind.{common_steps}
+use Rattle.symbol_path.proofs.Common.{◌≡◌, ◌<◌, ◌/◌, ℕ, arith, ints, pos, get_or, length, sym, ap, ◌∙◌, repeated_as, sent_count}
+use Rattle.symbol_path.proofs.Interleaving.{read_symbol_lt, read_repeats_some}
 use Rattle.symbol_path.proofs.Gathering.{part-none, part, turn, turn_sizes, sizes_none, sum_has_room, added_fits, gathered_all}
 use Rattle.symbol_path.proofs.placing.gather_sent.Goals as goal
-
-place_within : (address before now from repeats n : ℕ) → from ≡ repeats → now ≡ before →
-    before * repeats ≡ n → address < n → address / from < now
-place_within address before now from repeats n same kept code below =
-    symbol_lt address now from n (rw (same, kept) code) below
 
 pub loop-i-init : goal.loop-i-init
 loop-i-init c = record {
@@ -17,10 +13,16 @@ loop-i-init c = record {
   sizes = omega (arith, sizes_none c.args.out.now c.requires.zeros);
 }
 
+pub nonzero_div-symbol : goal.nonzero_div-symbol
+nonzero_div-symbol c =
+    let some = read_repeats_some (length c.args.out.now) c.args.repeats c.from.result _ _ c.from.ensures
+    c.requires.code c.repeated.ensures.below in
+    omega (arith, some)
+
 pub overflow_add-out : goal.overflow_add-out
 overflow_add-out c =
     let at = c.repeated.result / c.from.result in
-    let within = place_within c.repeated.result _ (length c.loop-i.out) c.from.result _ _ c.from.ensures c.loop-i.auto.out
+    let within = read_symbol_lt c.repeated.result _ (length c.loop-i.out) c.from.result _ _ c.from.ensures c.loop-i.auto.out
     c.requires.code c.repeated.ensures.below in
     let inside : c.loop-i.i < length c.args.softs.now =
     omega (arith, c.requires.sent, c.count-i-end.ensures, c.loop-i-test.true) in
@@ -31,7 +33,7 @@ overflow_add-out c =
 pub loop-i-preserved : goal.loop-i-preserved
 loop-i-preserved c =
     let at = c.repeated.result / c.from.result in
-    let within = place_within c.repeated.result _ (length c.loop-i.out) c.from.result _ _ c.from.ensures c.loop-i.auto.out
+    let within = read_symbol_lt c.repeated.result _ (length c.loop-i.out) c.from.result _ _ c.from.ensures c.loop-i.auto.out
     c.requires.code c.repeated.ensures.below in
     let inside : c.loop-i.i < length c.args.softs.now =
     omega (arith, c.requires.sent, c.count-i-end.ensures, c.loop-i-test.true) in
@@ -53,3 +55,12 @@ returns-clause-value c =
     (λ k. c.loop-i.invariant.sums k ∙
     ap (λ (n : ℕ). part (λ i. get_or c.args.softs.now i (pos 0))
     (λ i. repeated_as c.args.symbols i / c.args.repeats) n k) ended)
+
+pub slice_copy_out-out : goal.slice_copy_out-out
+slice_copy_out-out c = grind (ints, arith, common_steps)
+
+pub bounds-out-symbol : goal.bounds-out-symbol
+bounds-out-symbol c = grind (ints, arith, common_steps)
+
+pub returns-clause-bounded : goal.returns-clause-bounded
+returns-clause-bounded c = grind (ints, arith, common_steps)

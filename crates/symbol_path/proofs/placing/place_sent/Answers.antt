@@ -1,8 +1,8 @@
 -- Why `place_sent` of `placing` keeps its contract.
-use Rattle.symbol_path.proofs.Common.{◌≡◌, ◌+◌, ◌/◌, ℕ, Bool, arith, get_or, false, map, length, sym, ap, ◌∙◌, get_or_from_slice_get}
+use Rattle.symbol_path.proofs.Common.{◌≡◌, ◌+◌, ◌/◌, ℕ, Bool, arith, get_or, false, map, length, refl, sym, ap, ◌∙◌, get_or_from_slice_get}
 use Rattle.symbol_path.proofs.Common.{places}
 use Rattle.symbol_path.proofs.Common.{places-none, map-places-more, length-map-places, repeated_as, sent_count, sent_by}
-use Rattle.symbol_path.proofs.Interleaving.{sent_most}
+use Rattle.symbol_path.proofs.Interleaving.{read_symbol_lt, read_repeats_some, sent_most}
 use Rattle.symbol_path.proofs.placing.place_sent.Goals as goal
 
 pub loop-i-init : goal.loop-i-init
@@ -10,6 +10,17 @@ loop-i-init c = record {
   value = rw places-none c.empty.ensures;
   count = ap length c.empty.ensures;
 }
+
+pub nonzero_div-repeated : goal.nonzero_div-repeated
+nonzero_div-repeated c =
+    let some = read_repeats_some (length c.args.code.now) c.args.repeats c.from.result _ _ c.from.ensures
+    c.requires c.repeated.ensures.below in
+    omega (arith, some)
+
+pub get-requires : goal.get-requires
+get-requires c =
+    read_symbol_lt c.repeated.result _ _ c.from.result _ _ c.from.ensures refl c.requires
+    c.repeated.ensures.below
 
 pub append-requires : goal.append-requires
 append-requires c =
