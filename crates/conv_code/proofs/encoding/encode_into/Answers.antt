@@ -1,4 +1,6 @@
 -- Why `encode_into` of `encoding` keeps its contract.
+use Rattle.std.proofs.lemmas.Grind.{common_steps}
+use Rattle.std.proofs.lemmas.Int.{ints}
 use Rattle.conv_code.proofs.Common.{◌≡◌, ◌+◌, ◌++◌, [], ◌∷◌, take, length, length-append, sym, ap, ◌∙◌, arith, binary, code_symbols}
 use Rattle.conv_code.proofs.Common.{state_after, taken_more}
 use Rattle.conv_code.proofs.Continued.{code_symbols-none, state_after-none}
@@ -39,3 +41,12 @@ loop-i-preserved c =
           c.push-first.ensures.last
           ∙ ap (state_after (binary 8 start)) (sym read);
     }
+
+pub append-requires-in-loop-i : goal.append-requires-in-loop-i
+append-requires-in-loop-i c = grind (ints, arith, common_steps)
+
+pub returns-clause-symbols : goal.returns-clause-symbols
+returns-clause-symbols c = grind (ints, arith, common_steps)
+
+pub returns-clause-last : goal.returns-clause-last
+returns-clause-last c = grind (ints, arith, common_steps)

@@ -1,4 +1,6 @@
 -- Why `bits_from` of `inversion` keeps its contract.
+use Rattle.std.proofs.lemmas.Grind.{common_steps}
+use Rattle.std.proofs.lemmas.Int.{ints}
 use Rattle.conv_code.proofs.Common.{◌≡◌, ◌*◌, ◌+◌, ◌<◌, ◌++◌, Bool, List, false, [], ◌∷◌, take, length, get_or, sym, ap, ◌∙◌, arith}
 use Rattle.conv_code.proofs.Common.{length_push, take_more, get_or_from_slice_get, binary, g0, g1, symbol, code_symbols, state_after}
 use Rattle.conv_code.proofs.Continued.{code_symbols-none, state_after-none}
@@ -90,3 +92,6 @@ returns-then-ne-clause-none c codeword gives =
     (c.push.ensures.second ∙
     ap (λ (b : Bool). symbol g1 (binary 8 register ++ b ∷ []) 0) (sym next) ∙ sym here.odd ∙
     second)
+
+pub returns-clause-found : goal.returns-clause-found
+returns-clause-found c = grind (ints, arith, common_steps)

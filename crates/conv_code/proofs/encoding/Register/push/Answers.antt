@@ -1,4 +1,7 @@
 -- Why `push` of `encoding::Register` keeps its contract.
+use Rattle.conv_code.proofs.Common.{arith}
+use Rattle.std.proofs.lemmas.Grind.{common_steps}
+use Rattle.std.proofs.lemmas.Int.{ints}
 use Rattle.conv_code.proofs.Common.{refl, ◌∙◌, ap, map, ◌+◌, ◌*◌, ℕ, ◌≡◌, ◌%◌, ◌^◌, parity, bit_of, binary, g0, g1}
 use Rattle.conv_code.proofs.Windows.{window, window_is, window_symbol, window_state, low_eight}
 use Rattle.conv_code.proofs.encoding.Register.push.Goals as goal
@@ -23,3 +26,6 @@ returns-clause-last c =
     window_is _ _ _ _ (c.from.ensures ∙ c.self.view_is) c.from-2.ensures in
     ap (binary 8) (low_eight (2 * c.from.result + c.from-2.result) ∙ ap (λ (n : ℕ). n % 2 ^ 8) is) ∙
     window_state c.args.self.now c.args.bit
+
+pub returns-clause-number : goal.returns-clause-number
+returns-clause-number c = grind (ints, arith, common_steps)
