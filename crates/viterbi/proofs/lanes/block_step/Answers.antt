@@ -1,6 +1,7 @@
 -- Why `block_step` of `lanes` keeps its contract.
-use Rattle.viterbi.proofs.Common.{get_or, lane_codes, pos}
-use Rattle.viterbi.proofs.BlockSteps.{BlockLanes, block_chosen, block_lanes, block_metric, gain_fits}
+use Rattle.viterbi.proofs.Common.{◌<◌, arith, get_or, ints, lane_codes, pos, to_z-of_z, w64}
+use Rattle.std.proofs.lemmas.Grind.{common_steps}
+use Rattle.viterbi.proofs.BlockSteps.{BlockLanes, block_chosen, block_lanes, block_metric, gain_fits, less_fits}
 use Rattle.viterbi.proofs.lanes.block_step.Given.{Over}
 use Rattle.viterbi.proofs.lanes.block_step.Goals.{After-gains_of}
 use Rattle.viterbi.proofs.lanes.block_step.Goals as goal
@@ -45,3 +46,19 @@ returns-clause-choices g c l b =
     (get_or c.gains_of.result l (pos 0)) _
     (lanes.even_is l b) (lanes.odd_is l b)
     (rw (lanes.even_kept, lanes.odd_kept, lanes.gain_kept) at (c.selected_block.ensures.choices l b))
+
+pub neighbours-requires-clause-less : goal.neighbours-requires-clause-less
+neighbours-requires-clause-less g c t b =
+    let can = c.requires.column in
+    let below : t < 256 = omega (arith, b, can.whole) in
+    rw (to_z-of_z w64 c.args.top c.ranges.top)
+    (less_fits (get_or c.args.column.now t (pos 0)) c.args.top _ (can.most t below) (can.near t below))
+
+pub selected_block-requires-clause-a_long : goal.selected_block-requires-clause-a_long
+selected_block-requires-clause-a_long g c = grind (ints, arith, common_steps)
+
+pub selected_block-requires-clause-b_long : goal.selected_block-requires-clause-b_long
+selected_block-requires-clause-b_long g c = grind (ints, arith, common_steps)
+
+pub selected_block-requires-clause-gain_long : goal.selected_block-requires-clause-gain_long
+selected_block-requires-clause-gain_long g c = grind (ints, arith, common_steps)

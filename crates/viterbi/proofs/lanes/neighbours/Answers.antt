@@ -1,4 +1,6 @@
 -- Why `neighbours` of `lanes` keeps its contract.
+use Rattle.viterbi.proofs.Common.{ints}
+use Rattle.std.proofs.lemmas.Grind.{common_steps}
 use Rattle.viterbi.proofs.Common.{arith, w64, to_z-of_z}
 use Rattle.viterbi.proofs.BlockSteps.{less_lanes, less_read}
 use Rattle.viterbi.proofs.lanes.neighbours.Goals as goal
@@ -24,3 +26,9 @@ pub returns-clause-odd : goal.returns-clause-odd
 returns-clause-odd c =
     less_read c.args.column.now _ _ c.args.top _ (omega (arith, c.requires.room))
     c.ranges.top c.requires.fit c.requires.less c.parted.ensures.odd c.lessened-2.ensures
+
+pub lessened-requires-2-clause-long : goal.lessened-requires-2-clause-long
+lessened-requires-2-clause-long c = grind (ints, arith, common_steps)
+
+pub lessened-requires-clause-long : goal.lessened-requires-clause-long
+lessened-requires-clause-long c = grind (ints, arith, common_steps)

@@ -1,4 +1,6 @@
 -- Why `step_all` of `lanes` keeps its contract.
+use Rattle.viterbi.proofs.Common.{ints}
+use Rattle.std.proofs.lemmas.Grind.{common_steps}
 use Rattle.viterbi.proofs.Common.{◌≡◌, ◌+◌, ◌*◌, ◌/◌, ◌%◌, ◌<◌, ◌-ℤ◌, ◌∙◌, ℕ, get_or, pos, rules, w64, map, to_z, arith, to_z-of_z}
 use Rattle.viterbi.proofs.Common.{length-put_chunk, bit_of, metric_into, choice_into, number, AreGreater}
 use Rattle.viterbi.proofs.ColumnSteps.{metric_fits, metrics_lanes, wings_more, choices_more}
@@ -127,3 +129,28 @@ returns g c =
           (column_greatest (λ t. metric_into forced column f s t -ℤ top) (map (to_z w64) c.loop-k.most)
           c.loop-k.next c.greatest.result c.loop-k.invariant.whole tops c.greatest.ensures metrics);
     }
+
+pub greater-requires-clause-one_long : goal.greater-requires-clause-one_long
+greater-requires-clause-one_long g c = grind (ints, arith, common_steps)
+
+pub greater-requires-clause-other_long : goal.greater-requires-clause-other_long
+greater-requires-clause-other_long g c = grind (ints, arith, common_steps)
+
+pub block_step-upper_bits-requires-clause-column : goal.block_step-upper_bits-requires-clause-column
+block_step-upper_bits-requires-clause-column g c =
+    rw (
+      to_z-of_z w64 c.args.top c.ranges.top,
+      to_z-of_z w64 c.args.first c.ranges.first,
+      to_z-of_z w64 c.args.second c.ranges.second,
+    ) c.requires.column
+
+pub greater-most-requires-clause-other_long : goal.greater-most-requires-clause-other_long
+greater-most-requires-clause-other_long g c = grind (ints, arith, common_steps)
+
+pub block_step-bits-requires-clause-column : goal.block_step-bits-requires-clause-column
+block_step-bits-requires-clause-column g c =
+    rw (
+      to_z-of_z w64 c.args.top c.ranges.top,
+      to_z-of_z w64 c.args.first c.ranges.first,
+      to_z-of_z w64 c.args.second c.ranges.second,
+    ) c.requires.column
