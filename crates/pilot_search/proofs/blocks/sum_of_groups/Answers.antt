@@ -1,4 +1,5 @@
 -- Why `sum_of_groups` of `blocks` keeps its contract.
+use Rattle.pilot_search.proofs.Common.{ints, common_steps}
 use Rattle.pilot_search.proofs.Common.{◌≡◌, ◌≤◌, ◌+◌, ◌*◌, ◌/◌, arith, length, length-map, map, to_z, w32, both}
 use Rattle.pilot_search.proofs.LaneSums.{kept_near, products_kept, sums_kept, sums_whole}
 use Rattle.pilot_search.proofs.blocks.sum_of_groups.Goals as goal
@@ -33,3 +34,6 @@ returns-clause-value c =
     (map (to_z w32) c.loop-k.imaginary) c.sum_of_lanes.result
     (omega (arith, c.loop-k.auto.k-end, c.loop-k-test.false)) (omega (arith, c.requires.whole))
     c.loop-k.invariant.sums c.sum_of_lanes.ensures.value
+
+pub with_products-requires-clause-few : goal.with_products-requires-clause-few
+with_products-requires-clause-few c = grind (ints, arith, common_steps)

@@ -1,7 +1,7 @@
 -- Why `correlate_plainly` of `correlation` keeps its contract.
 use Rattle.pilot_search.proofs.Common.{rules, ◌<◌, ◌≤◌, ◌+◌, ◌*◌, ◌^◌, arith, length, ◌∙◌, sym, unsigned_abs}
 use Rattle.pilot_search.proofs.CorrelationSums.{correlation_with-more, correlation_with-all}
-use Rattle.pilot_search.proofs.KeptSums.{kept_sum_back, kept_sum_within}
+use Rattle.pilot_search.proofs.KeptSums.{kept_sum_back, kept_sum_fits, kept_sum_within}
 use Rattle.pilot_search.proofs.correlation.correlate_plainly.Goals as goal
 
 -- One sample more is in the sum: its product with its signs takes the place of the first one that
@@ -34,3 +34,15 @@ returns c = record {
   i_bound = search rules;
   q_bound = search rules;
 }
+
+pub overflow_add-sum : goal.overflow_add-sum
+overflow_add-sum c =
+    kept_sum_fits c.loop-t.sum.i c.despread-product.result.i
+    (omega (arith, c.loop-t.invariant.i_bound, c.despread-product.ensures.i_bound, c.loop-t-test.true,
+      c.requires.few))
+
+pub overflow_add-sum-in-loop-t : goal.overflow_add-sum-in-loop-t
+overflow_add-sum-in-loop-t c =
+    kept_sum_fits c.loop-t.sum.q c.despread-product.result.q
+    (omega (arith, c.loop-t.invariant.q_bound, c.despread-product.ensures.q_bound, c.loop-t-test.true,
+      c.requires.few))

@@ -2,7 +2,7 @@
 use Rattle.pilot_search.proofs.Common.{◌≡◌, ◌*◌, ◌≤◌, ◌∙◌, arith, rules, ap, take, drop, length, All-drop, plus, Pair, pilot_signs}
 use Rattle.pilot_search.proofs.Common.{correlation_with, IsUnit, List, ℕ, ℤ, Sample}
 use Rattle.pilot_search.proofs.CorrelationSums.{all_before, parted, units}
-use Rattle.pilot_search.proofs.KeptSums.{kept_sum_within, plus_kept}
+use Rattle.pilot_search.proofs.KeptSums.{kept_sum_fits, kept_sum_within, plus_kept}
 use Rattle.pilot_search.proofs.correlation.correlation_at.Goals as goal
 
 pub correlate-first-requires-clause-units : goal.correlate-first-requires-clause-units
@@ -41,7 +41,9 @@ returns-clause-value c =
     let first =
     first_part samples _ _ _ c.args.phase c.from.result n _ c.correlate-first.ensures.value
     c.split_at-2.ensures.front c.split_at.ensures.back c.table.ensures.value (omega arith) in
-    let rest : c.correlate-rest.result ≡ correlation_with (drop n samples) pilot_signs = cc in
+    let rest : c.correlate-rest.result ≡ correlation_with (drop n samples) pilot_signs =
+    c.correlate-rest.ensures.value
+    ∙ (λ i. correlation_with (c.split_at-2.ensures.back i) (c.table-2.ensures.value i)) in
     plus_kept c.correlate-first.result c.correlate-rest.result
     (omega (arith, c.correlate-first.ensures.i_bound, c.correlate-rest.ensures.i_bound))
     (omega (arith, c.correlate-first.ensures.q_bound, c.correlate-rest.ensures.q_bound))
@@ -62,3 +64,13 @@ returns-clause-q_bound c =
     (65536 * length c.args.samples.now)
     (omega (arith, c.correlate-first.ensures.q_bound, c.correlate-rest.ensures.q_bound))
     (omega (arith, c.requires))
+
+pub overflow_add-result-2 : goal.overflow_add-result-2
+overflow_add-result-2 c =
+    kept_sum_fits c.correlate-first.result.q c.correlate-rest.result.q
+    (omega (arith, c.correlate-first.ensures.q_bound, c.correlate-rest.ensures.q_bound))
+
+pub overflow_add-result : goal.overflow_add-result
+overflow_add-result c =
+    kept_sum_fits c.correlate-first.result.i c.correlate-rest.result.i
+    (omega (arith, c.correlate-first.ensures.i_bound, c.correlate-rest.ensures.i_bound))

@@ -1,4 +1,5 @@
 -- Why `sums_on_lanes` of `lanes` keeps its contract.
+use Rattle.pilot_search.proofs.Common.{ints, common_steps}
 use Rattle.pilot_search.proofs.Common.{◌≤◌, ◌+◌, ◌*◌, arith, length}
 use Rattle.pilot_search.proofs.LaneSums.{kept_near, products_kept, sums_kept}
 use Rattle.pilot_search.proofs.lanes.sums_on_lanes.Goals as goal
@@ -24,3 +25,6 @@ loop-k-preserved c =
           c.loop-k.invariant.sums
           (products_kept xs gs (8 * k) made.0 made.1 c.products.ensures));
     }
+
+pub with_products-requires-clause-few : goal.with_products-requires-clause-few
+with_products-requires-clause-few c = grind (ints, arith, common_steps)

@@ -1,8 +1,9 @@
 -- Why `sum_unless_below` of `trying` keeps its contract.
+use Rattle.pilot_search.proofs.Common.{ints, common_steps}
 use Rattle.pilot_search.proofs.Common.{◌≡◌, ◌≤◌, ◌+◌, ◌*◌, ◌-◌, ◌%◌, ◌∙◌, ℕ, List, arith, ap, refl, take, drop, length, unsigned_abs}
 use Rattle.pilot_search.proofs.Common.{length-drop, length-take-le, drop-drop, Sample, phase_correlation}
 use Rattle.pilot_search.proofs.BoundLemmas.{none_added, sum_more}
-use Rattle.pilot_search.proofs.KeptSums.{kept_sum_back}
+use Rattle.pilot_search.proofs.KeptSums.{kept_sum_back, kept_sum_fits}
 use Rattle.pilot_search.proofs.trying.sum_unless_below.Goals as goal
 
 pub loop-j-init : goal.loop-j-init
@@ -59,3 +60,18 @@ loop-j-preserved c =
           ∙ ap (λ (n : ℕ). drop n xs) place;
       left = omega (arith, after, room, inv.left);
     }
+
+pub returns-then-bound_of-limit : goal.returns-then-bound_of-limit
+returns-then-bound_of-limit c = grind (ints, arith, common_steps)
+
+pub overflow_add-sum : goal.overflow_add-sum
+overflow_add-sum c =
+    let few : length c.split_at.result.0.now ≤ 32768 = omega arith in
+    kept_sum_fits c.loop-j.sum.i c.correlation_by-part.result.i
+    (omega (arith, c.loop-j.invariant.sum.i_bound, c.correlation_by-part.ensures.i_bound, few))
+
+pub overflow_add-sum-in-loop-j : goal.overflow_add-sum-in-loop-j
+overflow_add-sum-in-loop-j c =
+    let few : length c.split_at.result.0.now ≤ 32768 = omega arith in
+    kept_sum_fits c.loop-j.sum.q c.correlation_by-part.result.q
+    (omega (arith, c.loop-j.invariant.sum.q_bound, c.correlation_by-part.ensures.q_bound, few))

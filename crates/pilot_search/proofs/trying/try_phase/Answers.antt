@@ -1,4 +1,5 @@
 -- Why `try_phase` of `trying` keeps its contract.
+use Rattle.pilot_search.proofs.Common.{ints, common_steps}
 use Rattle.pilot_search.proofs.Common.{arith}
 use Rattle.pilot_search.proofs.Runs.{told_is_try}
 use Rattle.pilot_search.proofs.trying.try_phase.Goals as goal
@@ -12,3 +13,6 @@ returns-clause-read c =
       told_is_try c.args.samples.now c.args.phase read c.in_ok-energy.energy e.0,
       (e.1, e.0, omega arith, omega arith),
     )
+
+pub returns-in_err-energy-clause-read : goal.returns-in_err-energy-clause-read
+returns-in_err-energy-clause-read c = grind (ints, arith, common_steps)
