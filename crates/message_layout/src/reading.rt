@@ -247,10 +247,11 @@ fn read_records(records: &Records, bits: &BitSlice<'_>, from: u16) -> Option<([N
     if count < u16::from(records.least) {
         return None;
     }
+    let fitting = count as u8;
     let columns = [
-        read_column(fields, 0, count as u8, bits, from),
-        read_column(fields, 1, count as u8, bits, from),
-        read_column(fields, 2, count as u8, bits, from),
+        read_column(fields, 0, fitting, bits, from),
+        read_column(fields, 1, fitting, bits, from),
+        read_column(fields, 2, fitting, bits, from),
     ];
     Some((columns, from + count * size_of(fields)))
 }

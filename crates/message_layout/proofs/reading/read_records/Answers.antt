@@ -1,8 +1,11 @@
 -- Why `read_records` of `reading` keeps its contract.
+use Rattle.std.proofs.lemmas.Grind.{common_steps}
+use Rattle.std.proofs.lemmas.Int.{ints}
 use Rattle.message_layout.proofs.Common.{◌≡◌, ℕ, ◌+◌, ◌*◌, ◌<◌, ◌≤◌, Bool, List, [], ◌∷◌, Some, None, drop, length, map, refl, arith}
 use Rattle.message_layout.proofs.Common.{column_in, count_in, drop-drop, le-leb, length-drop, lt-leb, records_at, total_width}
 use Rattle.message_layout.proofs.Loops.{records_end}
 use Rattle.message_layout.proofs.reading.read_records.Goals as goal
+use Rattle.message_layout.proofs.reading.read_records.Goals.{After-records_within-count}
 
 -- what is read where too few records fit
 records_short : (ws : List ℕ) (least count all : ℕ) (bits : List Bool) → count ≡ count_in ws all →
@@ -38,6 +41,19 @@ within c =
     c.size_of.ensures.value refl in
     omega (arith, most, c.len.ensures.value, c.requires.within)
 
+-- and so do the numbers of each column
+columns_within : (c : After-records_within-count) →
+    c.args.from + c.records_within-count.result * total_width (map (λ row. row.1) c.args.records.now.fields.now)
+    ≤ length c.args.bits.now
+columns_within c =
+    let ws = map (λ row. row.1) c.args.records.now.fields.now in
+    omega (
+      arith,
+      records_end ws c.records_within-count.result (total_width ws) _ _ c.records_within-count.ensures refl refl,
+      c.len.ensures.value,
+      c.requires.within,
+    )
+
 pub returns-then-count-from-clause-records : goal.returns-then-count-from-clause-records
 returns-then-count-from-clause-records c =
     records_short _ _ _ _ _ c.records_within-count.ensures
@@ -57,3 +73,15 @@ returns-clause-records c =
 
 pub returns-clause-within : goal.returns-clause-within
 returns-clause-within c = within c
+
+pub overflow_cast-fitting : goal.overflow_cast-fitting
+overflow_cast-fitting c = grind (ints, arith, common_steps)
+
+pub read_column-requires-clause-within : goal.read_column-requires-clause-within
+read_column-requires-clause-within c = columns_within (goal.at.read_column-requires-clause-within c).After-records_within-count
+
+pub read_column-requires-2-clause-within : goal.read_column-requires-2-clause-within
+read_column-requires-2-clause-within c = columns_within (goal.at.read_column-requires-2-clause-within c).After-records_within-count
+
+pub read_column-requires-3-clause-within : goal.read_column-requires-3-clause-within
+read_column-requires-3-clause-within c = columns_within (goal.at.read_column-requires-3-clause-within c).After-records_within-count
