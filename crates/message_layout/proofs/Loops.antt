@@ -2,6 +2,7 @@
 use Rattle.message_layout.proofs.Common.{◌≡◌, ℕ, zero, suc, ◌+◌, ◌*◌, ◌<◌, ◌≤◌, Bool, List, [], ◌∷◌, ◌++◌, length, get_or, map, take, drop}
 use Rattle.message_layout.proofs.Common.{refl, sym, ap, ◌∙◌, arith, inl, inr, Some, None, cases_lt, le-leb, leb-true, lt-leb, nat_le}
 use Rattle.message_layout.proofs.Common.{length-drop, length-take-le, take_all, number_part, mul-le-mul_right, column_in, length-map}
+use Rattle.std.proofs.Math.Nat.{pow-le-pow_right}
 use Rattle.message_layout.proofs.Common.{suc-mul, number, total_width, AreWidths, number_at, values_at, column_at, column_more, dropped}
 use Rattle.message_layout.proofs.Common.{subst, true, false, ◌^◌, field, in_widths, FieldsFit, taken_more, length-column, total_more}
 use Rattle.message_layout.proofs.Common.{total_room, lt-ltb, values_more, width_within, count_in, fields_at}
@@ -139,6 +140,12 @@ widths_taken f (row ∷ rows) (suc j) are = (are.0, are.1, widths_taken f rows j
 pub records_end : (ws : List ℕ) (count size few all : ℕ) → count ≡ count_in ws few →
     size ≡ total_width ws → few ≡ all → count * size ≤ all
 records_end ws count size few all a b c = rw (a, b, ← c) (count_room ws few)
+
+-- a number of at most 32 bits is below two to the power of 32
+pub number_small : (n width : ℕ) → n < 2 ^ width → width ≤ 32 → n < 2 ^ 32
+number_small n width fits most =
+    let two : 0 < 2 = omega arith in
+    omega (arith, fits, pow-le-pow_right two most)
 
 -- each of them ends within the bits
 pub place_within : (size first width i count all : ℕ) → i < count →

@@ -1,4 +1,6 @@
 -- Why `read_column` of `reading` keeps its contract.
+use Rattle.std.proofs.lemmas.Grind.{common_steps}
+use Rattle.std.proofs.lemmas.Int.{ints}
 use Rattle.message_layout.proofs.Common.{◌<◌, length, arith}
 use Rattle.message_layout.proofs.Loops.{column_read, widths_taken}
 use Rattle.message_layout.proofs.reading.read_column.Goals as goal
@@ -14,3 +16,12 @@ returns c =
     column_read (λ row. row.1) rows c.args.j c.args.from c.size_of-2.result c.size_of.result
     c.width_in.result c.args.count c.args.bits.now c.read_places.result within
     c.size_of-2.ensures.value c.size_of.ensures.value c.width_in.ensures c.read_places.ensures
+
+pub read_places-requires-clause-within : goal.read_places-requires-clause-within
+read_places-requires-clause-within c = grind (ints, arith, common_steps)
+
+pub returns-then-j-fields : goal.returns-then-j-fields
+returns-then-j-fields c = grind (ints, arith, common_steps)
+
+pub read_places-requires-clause-width : goal.read_places-requires-clause-width
+read_places-requires-clause-width c = grind (ints, arith, common_steps)

@@ -1,4 +1,6 @@
 -- Why `append_octets` of `writing` keeps its contract.
+use Rattle.std.proofs.lemmas.Grind.{common_steps}
+use Rattle.std.proofs.lemmas.Int.{ints}
 use Rattle.message_layout.proofs.Common.{length, ap, arith, length-append, binary, length-binary}
 use Rattle.message_layout.proofs.Parts.{length-octets}
 use Rattle.message_layout.proofs.writing.append_octets.Goals as goal
@@ -21,3 +23,6 @@ append_number-requires-2-clause-room c =
       length-append c.args.body.now (binary c.args.layout.zeros 0),
       length-binary c.args.layout.zeros 0,
     )
+
+pub append_all-requires : goal.append_all-requires
+append_all-requires c = grind (ints, arith, common_steps)

@@ -1,6 +1,8 @@
 -- Why `append_record` of `writing` keeps its contract.
+use Rattle.std.proofs.lemmas.Grind.{common_steps}
+use Rattle.std.proofs.lemmas.Int.{ints}
 use Rattle.message_layout.proofs.Common.{◌≡◌, ◌≤◌, ◌++◌, length, get_or, map, take, sym, ap, ◌∙◌, arith, length-append, length-map, binary}
-use Rattle.message_layout.proofs.Common.{spelled, in_widths, fit_value, written_more, height, record_at}
+use Rattle.message_layout.proofs.Common.{spelled, in_widths, fit_value, width_within, written_more, height, record_at}
 use Rattle.message_layout.proofs.Columns.{number_in_record, number_room, sent_all, three_long}
 use Rattle.message_layout.proofs.writing.append_record.Goals as goal
 
@@ -76,3 +78,13 @@ returns c =
     let all : length ws ≤ c.loop-j.j =
     omega (arith, length-map rows (λ row. row.1), c.loop-j-test.false) in
     c.loop-j.invariant ∙ ap (λ fs. c.args.body.now ++ spelled fs) (sent_all ws vs c.loop-j.j all)
+
+pub get-requires : goal.get-requires
+get-requires c = grind (ints, arith, common_steps)
+
+pub append_number-requires-clause-width : goal.append_number-requires-clause-width
+append_number-requires-clause-width c =
+    let rows = c.args.fields.now in
+    rw c.width_in.ensures
+    (width_within (map (λ row. row.1) rows) c.loop-j.j c.requires.widths
+    (omega (arith, length-map rows (λ row. row.1), c.loop-j-test.true)))

@@ -1,4 +1,6 @@
 -- Why `part` of `slice::BitSlice` keeps its contract.
+use Rattle.std.proofs.lemmas.Grind.{common_steps}
+use Rattle.std.proofs.lemmas.Int.{ints}
 use Rattle.message_layout.proofs.Common.{◌≡◌, ◌+◌, ◌≤◌, take, drop, length, ap, ◌∙◌, arith, length-drop, length-take-le}
 use Rattle.message_layout.proofs.Slices.{slice_part}
 use Rattle.message_layout.proofs.slice.BitSlice.part.Goals as goal
@@ -20,3 +22,6 @@ returns c =
     omega (arith, c.requires, ap length c.self.view_is, long) in
     c.part.ensures ∙ slice_part start count c.args.from c.args.count bits room
     ∙ ap (λ bits. take c.args.count (drop c.args.from bits)) c.self.view_is
+
+pub overflow_add-self-inside : goal.overflow_add-self-inside
+overflow_add-self-inside c = grind (ints, arith, common_steps)

@@ -23,7 +23,7 @@ returns-then-not-has_width c =
     let i = c.loop-i.i in
     let lt : i < length ws = omega (arith, length-map rows (λ row. row.1), c.loop-i-test.true) in
     let few : i < length vs = omega (arith, c.requires.all, c.loop-i-test.true) in (
-      λ never. absurd (cc never),
+      λ never. absurd (not_both refl never),
       λ fit.
           let small : c.get.result < 2 ^ c.width_in.result =
           rw (c.get.ensures, c.width_in.ensures) (fit_value ws vs i fit lt few) in
