@@ -24,11 +24,12 @@ use Rattle.symbol_path.specs.Scrambling.{scrambling_chips}
 -- ---- states
 
 -- the state so many chips later, a chip at a time
-abbrev pub walked : ℕ → ℕ → ℕ
+unfoldable pub walked : ℕ → ℕ → ℕ
 walked zero v = v
 walked (suc n) v = walked n (stepped v)
 
 pub walked_is : (n v : ℕ) → v < 2 ^ 42 → walked n v ≡ after v n
+unfolding walked
 walked_is zero v low = sym (after_none v low)
 walked_is (suc n) v low =
     let place : 1 + n ≡ suc n = omega arith in
@@ -161,12 +162,15 @@ first_state : after (before 1 686592) 688128 ≡ after 1 1536
 first_state = on_again 1 686592 1536
 
 walk_1 : walked 24576 1 ≡ 2395420971681
+unfolding walked
 walk_1 = refl
 
 walk_2 : walked 24576 2395420971681 ≡ 1799602966513
+unfolding walked
 walk_2 = refl
 
 walk_3 : walked 24576 1799602966513 ≡ 1907663947772
+unfolding walked
 walk_3 = refl
 
 -- a frame later
@@ -215,19 +219,19 @@ starts_3 =
     15 ∷ 5 ∷ 12 ∷ 15 ∷ 4 ∷ 6 ∷ 9 ∷ 7 ∷ 12 ∷ 6 ∷ 8 ∷ 8 ∷ 6 ∷ 1 ∷ 8 ∷ 13 ∷ []
 
 starts_are_0 : starts 0x318cc08f34f 16 1 ≡ starts_0
-unfolding binary
+unfolding binary walked
 starts_are_0 = refl
 
 starts_are_1 : starts 0x318cc08f34f 16 2395420971681 ≡ starts_1
-unfolding binary
+unfolding binary walked
 starts_are_1 = refl
 
 starts_are_2 : starts 0x318cc08f34f 16 1799602966513 ≡ starts_2
-unfolding binary
+unfolding binary walked
 starts_are_2 = refl
 
 starts_are_3 : starts 0x318cc08f34f 16 1907663947772 ≡ starts_3
-unfolding binary
+unfolding binary walked
 starts_are_3 = refl
 
 places_by : (state v : ℕ) (found : List ℕ) → v < 2 ^ 42 → state ≡ after v 1536 →
