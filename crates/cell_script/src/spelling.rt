@@ -1,6 +1,7 @@
 //! How the statements of a script are written, without their LF: the other side of reading them.
 
 ghost use Rattle.std.specs.Prelude.{◌≡◌, ◌<◌, ◌≤◌, ◌+◌, ◌++◌, [], length, get_or, IsAscii, decimal};
+ghost use Rattle.std.specs.Fmt.{signed_decimal};
 ghost use Rattle.sync_message.specs.Rows.{sync_names};
 ghost use Rattle.cell_script.specs.Rows.{key_of, local_rows, network_rows, sync_row};
 ghost use Rattle.cell_script.specs.ScriptLines.{form_bit};
@@ -44,6 +45,17 @@ fn append_field(text: &mut Text, field: StatementField, value: u64)
 {
     text.append(field.key);
     append_value(text, field.form, value);
+}
+
+/// Adds a field: its key, and after it a value, whose form has a sign.
+fn append_signed_field(text: &mut Text, field: StatementField, value: i64)
+    requires ascii { IsAscii field.key.now }
+    requires room { length text.old + length field.key.now + 20 ≤ 1024 }
+    ensures value { text.new ≡ text.old ++ (field.key.now ++ signed_decimal value) }
+    ensures len { length text.new ≤ length text.old + length field.key.now + 20 }
+{
+    text.append(field.key);
+    text.append_number(value);
 }
 
 /// Adds a field of a message, whose value is a number.
@@ -118,10 +130,8 @@ fn append_link(text: &mut Text, link: &LinkPlan)
     ensures { text.new ≡ written_link link.now }
 {
     let [re, im, start, samples] = LINK_FIELDS;
-    text.append(re.key);
-    text.append_number(link.factor.i);
-    text.append(im.key);
-    text.append_number(link.factor.q);
+    append_signed_field(text, re, link.factor.i);
+    append_signed_field(text, im, link.factor.q);
     append_field(text, start, link.start);
     append_field(text, samples, link.samples);
 }
