@@ -5,7 +5,6 @@ from typing import NamedTuple
 import numpy
 from numpy.typing import NDArray
 from scipy import fft
-from scipy.signal.windows import hann
 
 from cdma_tools.recordings import Recording
 
@@ -60,6 +59,8 @@ def decibels(power: NDArray[numpy.float64]) -> NDArray[numpy.float64]:
 
 def spectrum_of(recording: Recording) -> Spectrum:
     """The spectrum of a recording: of a long one, of some moments in each part of its time."""
+    from scipy.signal.windows import hann  # takes half a second to load, and is wanted here alone
+
     rows = min(ROWS, max(1, recording.count // (BINS * AVERAGED)))
     window = hann(BINS, sym=False)
     window /= numpy.sqrt(BINS * numpy.sum(window**2)) * full_scale(recording)

@@ -13,7 +13,6 @@ import math
 import numpy
 from numpy.typing import NDArray
 from scipy.special import betainc, ndtr
-from scipy.stats import binom
 
 GENERATORS = (0o753, 0o561)
 MEMORY = 8
@@ -130,6 +129,8 @@ def weights_left(rate: int) -> NDArray[numpy.float64]:
     Each sent symbol is taken to be lost to a power control bit with the chance of 1 in 12, one by one: so of a word's
     w symbols k are left with the binomial chance.
     """
+    from scipy.stats import binom  # takes more than half a second to load, and is wanted here alone
+
     words = frame_weights(rate)
     weights = numpy.flatnonzero(words)
     return numpy.asarray(words[weights] @ binom.pmf(LEFT[None, :], weights[:, None], KEPT))

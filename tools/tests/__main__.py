@@ -1,17 +1,21 @@
 """`python3 -m tools.tests` runs all tests of the tools, and says at its end which were skipped, and why.
 
-Classes of tests run at once, one a processor; those that keep time run alone, after the others. Where --skipped names a
-file, the lines on skipped tests are written into it too, so that a gate can say them last.
+Classes of tests run at once, one a processor; those that keep time run after the others, half as many at once. Where
+--skipped names a file, the lines on skipped tests are written into it too, so that a gate can say them last.
 """
 
 import argparse
+import compileall
 import os
 import sys
+import tempfile
 import time
 import unittest
+from unittest.mock import patch
 
 from cdma_tools.arguments import whole_within
 from cdma_tools.workers import MOST_JOBS
+from tools.tests.helping import SHARED
 from tools.tests.running import Outcome, outcomes
 
 HERE = os.path.dirname(os.path.abspath(__file__))
@@ -29,13 +33,26 @@ def skipped_lines(found: list[Outcome]) -> list[str]:
     return [*lines, f"{sum(it.ran for it in found)} tests of the tools ran, {len(lines)} skipped"]
 
 
+def compiled(folder: str) -> None:
+    """Compiles the modules into a folder where each Python of the run finds them, so that none compiles them again."""
+    with patch.object(sys, "pycache_prefix", folder):
+        for name in ("cdma_tools", "model", "tools"):
+            compileall.compile_dir(os.path.join(TOP, name), quiet=2)
+
+
 def run_all(jobs: int) -> list[Outcome]:
     """Runs all tests; those that fail are told as their class ends, and a dot stands for each class that passed."""
     found = []
-    for it in outcomes(all_tests(), jobs):
-        found.append(it)
-        sys.stderr.write("".join(f"\nFAILED: {fault}\n" for fault in it.faults) or ".")
-        sys.stderr.flush()
+    with tempfile.TemporaryDirectory(prefix="cdma-tests-") as folder:
+        code, shared = os.path.join(folder, "code"), os.path.join(folder, "shared")
+        os.mkdir(shared)
+        compiled(code)
+        environment = {"PYTHONPYCACHEPREFIX": code, SHARED: shared}
+        with patch.object(sys, "pycache_prefix", code), patch.dict(os.environ, environment):
+            for it in outcomes(all_tests(), jobs):
+                found.append(it)
+                sys.stderr.write("".join(f"\nFAILED: {fault}\n" for fault in it.faults) or ".")
+                sys.stderr.flush()
     return found
 
 

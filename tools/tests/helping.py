@@ -1,15 +1,25 @@
 """What the tests of the tools share: where things stand, and how a tool and the program are run."""
 
+import atexit
+import contextlib
+import fcntl
+import functools
 import importlib
 import importlib.util
+import io
 import os
+import shutil
 import struct
 import subprocess
 import tempfile
 import time
 import unittest
+import unittest.mock
+import warnings
 from collections.abc import Callable, Sequence
 from types import ModuleType
+
+from cdma_tools.commands import status_of
 
 ROOT = os.path.dirname(os.path.dirname(os.path.dirname(os.path.abspath(__file__))))
 TOOLS = os.path.join(ROOT, "tools")
@@ -18,6 +28,12 @@ PROGRAM = os.environ.get("CDMA_REPLAY")
 NO_PROGRAM = "CDMA_REPLAY names no built program"
 HEADER = struct.Struct(">4sHHQ")
 PYTHON = "/usr/bin/python3"
+# The warnings that a Python by itself doesn't tell.
+UNSAID = (DeprecationWarning, PendingDeprecationWarning, ImportWarning, ResourceWarning)
+# A way to run a tool: it takes a name, arguments and data, and answers a status and what was written on both outputs.
+ToolRun = Callable[..., tuple[int, bytes, str]]
+# Names the folder of what the processes of one run of all tests share.
+SHARED = "CDMA_TOOLS_TESTS_SHARED"
 
 
 def needs(*names: str) -> None:
@@ -34,6 +50,31 @@ def temporary_folder(clean: Callable[..., object]) -> str:
     return folder.name
 
 
+@functools.cache
+def shared_folder() -> str:
+    """The folder of what the processes of a run of all tests share; where tests run otherwise, this process's own."""
+    named = os.environ.get(SHARED)
+    if named:
+        return named
+    own = tempfile.mkdtemp(prefix="cdma-tests-")
+    atexit.register(shutil.rmtree, own, ignore_errors=True)
+    return own
+
+
+def made_once(name: str, make: Callable[[str], object]) -> str:
+    """The path of a file that the first test of a run that needs it makes, and that no test may change.
+
+    The name stands for all that the file depends on. Others that need the file wait until it is whole.
+    """
+    path = os.path.join(shared_folder(), name)
+    with open(path + ".lock", "wb") as lock:
+        fcntl.flock(lock, fcntl.LOCK_EX)
+        if not os.path.exists(path):
+            make(path + ".part")
+            os.replace(path + ".part", path)
+    return path
+
+
 def loaded(name: str) -> ModuleType:
     """A tool's module."""
     return importlib.import_module(f"cdma_tools.commands.{name}")
@@ -44,6 +85,28 @@ def run_tool(name: str, *words: object, data: bytes = b"") -> tuple[int, bytes, 
     command = [PYTHON, "-B", os.path.join(TOOLS, name), *map(str, words)]
     ran = subprocess.run(command, input=data, capture_output=True, timeout=300)
     return ran.returncode, ran.stdout, ran.stderr.decode()
+
+
+def run_inside(name: str, *words: object, data: bytes = b"") -> tuple[int, bytes, str]:
+    """What `run_tool` answers, by a run within this process, which loads no package a second time.
+
+    It is for tests of what a tool does with its input; what its process does takes a process.
+    """
+    wrote, said = io.BytesIO(), io.BytesIO()
+    streams = [io.TextIOWrapper(held, "utf-8", "backslashreplace") for held in (io.BytesIO(data), wrote, said)]
+    with (
+        unittest.mock.patch("sys.stdin", streams[0]),
+        contextlib.redirect_stdout(streams[1]),
+        contextlib.redirect_stderr(streams[2]),
+        warnings.catch_warnings(),
+    ):
+        warnings.resetwarnings()
+        for kind in UNSAID:
+            warnings.simplefilter("ignore", kind)
+        status = status_of(name, [str(word) for word in words])
+    for stream in streams[1:]:
+        stream.flush()
+    return status, wrote.getvalue(), said.getvalue().decode()
 
 
 def run_program(*words: str, data: bytes = b"") -> tuple[int, bytes]:

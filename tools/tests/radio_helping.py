@@ -1,7 +1,5 @@
 """What the tests of the radio tools share: cells and recordings that are made without the program."""
 
-import contextlib
-import io
 import os
 import subprocess
 import unittest
@@ -11,8 +9,7 @@ import numpy
 from numpy.typing import NDArray
 
 from cdma_tools.commands.make_capture import I_LAGS, Q_LAGS, signs
-from cdma_tools.commands import status_of
-from tools.tests.helping import HEADER, PYTHON, TOOLS, temporary_folder
+from tools.tests.helping import HEADER, PYTHON, TOOLS, run_inside, temporary_folder
 
 CHIP_RATE = 1_228_800
 PERIOD = 32_768
@@ -86,11 +83,9 @@ def figures(said: str) -> dict[str, str]:
 
 
 def run_main(name: str, *words: Any) -> tuple[int, str, str]:
-    """A run of a tool within this process, which needn't load scipy again: its status, what it wrote, and what it wrote on standard error."""
-    wrote, said = io.StringIO(), io.StringIO()
-    with contextlib.redirect_stdout(wrote), contextlib.redirect_stderr(said):
-        status = status_of(name, [str(word) for word in words])
-    return status, wrote.getvalue(), said.getvalue()
+    """A run of a tool within this process: its status, what it wrote, and what it wrote on standard error."""
+    status, wrote, said = run_inside(name, *words)
+    return status, wrote.decode(), said
 
 
 class Recordings(unittest.TestCase):

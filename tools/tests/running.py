@@ -1,7 +1,11 @@
 """Runs classes of tests, several at once, each in a process that runs one after another.
 
-The tests of a class come in their order, over what its `setUpClass` made. A class with `alone = True`, as one whose tests
-keep time, runs when nothing else does, after all others.
+The tests of a class come in their order, over what its `setUpClass` made. A class says of itself:
+
+- `seconds = N`: about how many seconds of a processor it takes, where they are many. Those that take longest begin
+  first, so that all processors are busy to the end.
+- `parted = True`: each of its tests runs for itself, in any order and process, and `seconds` are those of one.
+- `alone = True`: its tests keep time, and it runs after all others, on two processors of its own.
 """
 
 import io
@@ -31,7 +35,7 @@ def each_test(tests: Iterable[unittest.TestCase | unittest.TestSuite]) -> Iterat
 
 @dataclass
 class Parted:
-    """The names of the classes of a suite, those that run alone for themselves, and what stands for unloaded modules."""
+    """The names of what runs in one process, those that run alone for themselves, and what stands for unloaded modules."""
 
     together: list[str]
     alone: list[str]
@@ -39,17 +43,21 @@ class Parted:
 
 
 def parted(suite: unittest.TestSuite) -> Parted:
-    """The classes of a suite's tests."""
+    """The classes of a suite's tests, and the tests of those that are parted: what takes longest comes first."""
     found = Parted([], [], unittest.TestSuite())
+    seconds: dict[str, int] = {}
     for test in each_test(suite):
         kind = type(test)
         if kind.__module__ == "unittest.loader":
             found.unloaded.addTest(test)
             continue
         names = found.alone if getattr(kind, "alone", False) else found.together
-        name = f"{kind.__module__}.{kind.__qualname__}"
-        if name not in names:
+        name = test.id() if getattr(kind, "parted", False) else f"{kind.__module__}.{kind.__qualname__}"
+        if name not in seconds:
+            seconds[name] = getattr(kind, "seconds", 0)
             names.append(name)
+    for names in (found.together, found.alone):
+        names.sort(key=lambda name: -seconds[name])
     return found
 
 
@@ -62,16 +70,16 @@ def outcome(suite: unittest.TestSuite) -> Outcome:
     return Outcome(result.testsRun, faults, [(test.id(), why) for test, why in result.skipped])
 
 
-def outcome_of_class(name: str) -> Outcome:
-    """What the class of a name comes to in this process."""
+def outcome_of_name(name: str) -> Outcome:
+    """What the class or the test of a name comes to in this process."""
     return outcome(unittest.defaultTestLoader.loadTestsFromName(name))
 
 
 def outcomes_of(names: list[str], jobs: int) -> Iterator[Outcome]:
-    """What the classes of these names come to, as they end, by so many processes; one that is ended is a fault."""
+    """What the classes and tests of these names come to, as they end, by so many processes; one that is ended is a fault."""
     executor = ProcessPoolExecutor(jobs)
     try:
-        under_way = {executor.submit(outcome_of_class, name): name for name in names}
+        under_way = {executor.submit(outcome_of_name, name): name for name in names}
         for done in as_completed(under_way):
             try:
                 yield done.result()
@@ -82,8 +90,8 @@ def outcomes_of(names: list[str], jobs: int) -> Iterator[Outcome]:
 
 
 def outcomes(suite: unittest.TestSuite, jobs: int) -> Iterator[Outcome]:
-    """What each class of a suite comes to, as they end, so many at once."""
+    """What each class of a suite, or test of one that is parted, comes to, as they end, so many at once."""
     found = parted(suite)
     yield outcome(found.unloaded)
     yield from outcomes_of(found.together, jobs)
-    yield from outcomes_of(found.alone, 1)
+    yield from outcomes_of(found.alone, max(1, jobs // 2))

@@ -6,7 +6,9 @@ import os
 import unittest
 from typing import ClassVar
 
-from tools.tests.helping import EXAMPLES, PYTHON, ROOT, needs, run_tool, sample_file, temporary_folder
+from tools.tests.helping import (
+    EXAMPLES, PYTHON, ROOT, ToolRun, needs, run_inside, run_tool, sample_file, temporary_folder,
+)  # fmt: skip
 
 needs("numpy")
 
@@ -156,8 +158,8 @@ class Agree(unittest.TestCase):
     def test_bad_words(self) -> None:
         for words in (["--seed", 1], ["--seed", -1, "--count", 1, "x"], ["--seed", 1, "--count", 0, "x"],
                       ["--seed", 1, "--count", 1, "--jobs", 0, "x"]):  # fmt: skip
-            self.assertEqual(run_tool("agree", *words)[0], 2)
-        status, _, err = run_tool("agree", "--seed", 5, "--count", 1, "--jobs", 1, "/nowhere/program")
+            self.assertEqual(run_inside("agree", *words)[0], 2)
+        status, _, err = run_inside("agree", "--seed", 5, "--count", 1, "--jobs", 1, "/nowhere/program")
         self.assertEqual((status, err), (2, "agree: no program at /nowhere/program\n"))
 
     def test_cases_are_the_same_for_a_seed_and_can_be_read(self) -> None:
@@ -187,8 +189,9 @@ class Explain(unittest.TestCase):
         with open(os.path.join(EXAMPLES, "lesson.script"), "rb") as file, open(cls.path, "wb") as made:
             made.write(run(["make"], file.read).text())
 
-    def lines(self, *words: object) -> list[str]:
-        status, out, err = run_tool("explain", self.path, *words)
+    def lines(self, *words: object, way: ToolRun = run_inside) -> list[str]:
+        """What explains a frame."""
+        status, out, err = way("explain", self.path, *words)
         self.assertEqual((status, err), (0, ""))
         lines = out.decode().splitlines()
         self.assertLessEqual(len(lines), 50)
@@ -197,7 +200,7 @@ class Explain(unittest.TestCase):
 
     def test_a_sync_frame(self) -> None:
         """Sums of whole chips: 2,048 and 512 times the gains 100 and 40, times the link 2 + j."""
-        text = "\n".join(self.lines("--sync"))
+        text = "\n".join(self.lines("--sync", way=run_tool))
         self.assertIn("32 pilot sums, all 409600+204800j", text)
         self.assertRegex(text, r"symbol sums: (-40960-20480j|40960\+20480j) ")
         self.assertIn("7 bits: SOM=1 MSG_LENGTH=25 MSG_TYPE=1 prev=3 min=7:00 (7 of 8", text)
@@ -224,7 +227,7 @@ class Explain(unittest.TestCase):
         with open(path, "rb") as file:
             data = file.read()
         self.assertTrue(data.startswith(b"\x89PNG") and len(data) < 200_000)
-        status, _, err = run_tool("explain", self.path, "--sync", "--picture", os.path.join(self.folder, "none", "x.png"))
+        status, _, err = run_inside("explain", self.path, "--sync", "--picture", os.path.join(self.folder, "none", "x.png"))
         self.assertEqual(status, 1)
         self.assertIn("No such file or directory", err)
         self.assertEqual(sorted(os.listdir(self.folder)), ["frame.png", "lesson.is95"])
@@ -235,13 +238,13 @@ class Explain(unittest.TestCase):
         for data, fault in ((b"", "short at 0"), (sample_file([(0, 0)] * 9), "too few at 8")):
             with open(bad, "wb") as file:
                 file.write(data)
-            self.assertEqual(run_tool("explain", bad, "--sync")[::2], (1, f"explain: {bad}: bad file: {fault}\n"))
+            self.assertEqual(run_inside("explain", bad, "--sync")[::2], (1, f"explain: {bad}: bad file: {fault}\n"))
         with open(bad, "wb") as file:
             file.write(sample_file([(0, 0)] * 2_048))
         for words in ("--sync", "--paging 1", "--traffic 0000abcd 10"):
-            status, out, err = run_tool("explain", bad, *words.split())
+            status, out, err = run_inside("explain", bad, *words.split())
             self.assertEqual((status, out, err.count("\n")), (1, b"", 1))
         for words in ("", "--sync --paging 1", "--paging 8", "--traffic abcd 10", "--sync --frame -1",
                       "--sync --picture x.gif", "--traffic 0000abcd 64", "--sync --span 1"):  # fmt: skip
-            self.assertEqual(run_tool("explain", bad, *words.split())[0], 2)
-        self.assertEqual(run_tool("explain", "/nowhere", "--sync")[0], 1)
+            self.assertEqual(run_inside("explain", bad, *words.split())[0], 2)
+        self.assertEqual(run_inside("explain", "/nowhere", "--sync")[0], 1)

@@ -8,6 +8,7 @@ import json
 import os
 import re
 import resource
+import shutil
 import signal
 import sqlite3
 import subprocess
@@ -16,7 +17,9 @@ import xml.etree.ElementTree
 from typing import Any
 
 from tools.tests.cluster_helping import started, started_scheduler, started_worker, wait_for
-from tools.tests.helping import EXAMPLES, NO_PROGRAM, PROGRAM, PYTHON, ROOT, TOOLS, example, needs, temporary_folder
+from tools.tests.helping import (
+    EXAMPLES, NO_PROGRAM, PROGRAM, PYTHON, ROOT, TOOLS, example, made_once, needs, run_inside, temporary_folder,
+)  # fmt: skip
 
 needs("numpy", "scipy", "matplotlib", "distributed")
 
@@ -26,6 +29,7 @@ from cdma_tools.curves import levels, noise  # noqa: E402
 from cdma_tools.scripts import read_script  # noqa: E402
 from tools.tests import fake_receiver  # noqa: E402
 
+CURVE = os.path.join(TOOLS, "curve")
 FAKE = os.path.join(ROOT, "tools", "tests", "fake_receiver.py")
 # A file of the stand-in has six frames to be heard; a run has 36 frames at each of two points, and so 12 batches.
 SAMPLES = 200_000
@@ -36,9 +40,13 @@ SECONDS = 240
 ENDS = ("lost", "marked_bad", "bad_but_right", "other_rate", "wrong_but_good")
 
 
-class Curves(unittest.TestCase):
-    whole: list[dict[str, str]] = []
+def rows_of(path: str) -> list[dict[str, str]]:
+    """The rows of a table."""
+    with open(path, newline="", encoding="ascii") as file:
+        return list(csv.DictReader(file))
 
+
+class Curves(unittest.TestCase):
     def setUp(self) -> None:
         self.folder = temporary_folder(self.addCleanup)
         text = re.sub(r"samples=\d+", f"samples={SAMPLES}", example("frames_9600.script").decode())
@@ -68,21 +76,26 @@ class Curves(unittest.TestCase):
         """A run's command: two points of the script in a folder of its own, over the stand-in."""
         maker = maker or self.fake
         return [
-            PYTHON, "-B", os.path.join(TOOLS, "curve"), self.script, "--from", "1", "--to", "1.5", "--step", "0.5",
+            PYTHON, "-B", CURVE, self.script, "--from", "1", "--to", "1.5", "--step", "0.5",
             "--frames", str(frames), "--maker", maker, "--out", self.at(out),
             *(() if {"--workers", "--scheduler"} & set(more) else ("--workers", "1")), *more,
         ]  # fmt: skip
 
     def rows_of_one_worker(self) -> list[dict[str, str]]:
         """The rows of a whole run by one worker, which is made once."""
-        if not Curves.whole:
+
+        def make(path: str) -> None:
             self.assertEqual(self.ran(self.words(out="whole"))[0::2], (0, []))
-            Curves.whole = self.rows("whole")
-        return Curves.whole
+            shutil.copyfile(self.at("whole/curve.csv"), path)
+
+        return rows_of(made_once("curve_of_one_worker.csv", make))
 
     def ran(self, words: list[str], **more: Any) -> tuple[int, list[str], list[str]]:
-        """A run: its status, and its lines on both outputs."""
-        ended = subprocess.run(words, capture_output=True, text=True, timeout=SECONDS, cwd=self.folder, **more)
+        """A run, and with settings one by a process: its status, and its lines on both outputs."""
+        if not more:
+            status, wrote, said = run_inside("curve", *words[words.index(CURVE) + 1 :])
+            return status, wrote.decode().splitlines(), said.splitlines()
+        ended = subprocess.run(words, capture_output=True, text=True, timeout=SECONDS, **more)
         return ended.returncode, ended.stdout.splitlines(), ended.stderr.splitlines()
 
     def refused(self, said: str, words: list[str], status: int = 1, **more: Any) -> None:
@@ -95,8 +108,7 @@ class Curves(unittest.TestCase):
 
     def rows(self, out: str = "out") -> list[dict[str, str]]:
         """The rows of a run's table."""
-        with open(os.path.join(self.at(out), "curve.csv"), newline="", encoding="ascii") as file:
-            return list(csv.DictReader(file))
+        return rows_of(os.path.join(self.at(out), "curve.csv"))
 
     def batches(self, out: str = "out") -> int:
         """How many batches are kept."""
@@ -131,7 +143,7 @@ class Curves(unittest.TestCase):
 
 class Counts(Curves):
     def test_one_worker_and_three_count_the_same(self) -> None:
-        code, table, lines = self.ran(self.words("--workers", "3"))
+        code, table, lines = self.ran(self.words("--workers", "3"), cwd=self.folder)
         self.assertEqual((code, lines), (0, []))
         self.assertEqual(len(table), 5)
         self.assertEqual(self.rows(), self.rows_of_one_worker())
@@ -355,7 +367,7 @@ class OfTheProgram(Curves):
         """The rows of a run of the program over an example."""
         assert PROGRAM is not None
         words = [
-            PYTHON, "-B", os.path.join(TOOLS, "curve"), os.path.join(EXAMPLES, script), "--from", str(begin),
+            PYTHON, "-B", CURVE, os.path.join(EXAMPLES, script), "--workers", "1", "--from", str(begin),
             "--to", str(begin if end is None else end), "--step", "1", "--frames", str(frames), "--errors", "1000",
             "--maker", PROGRAM, "--out", self.at(out), *more,
         ]  # fmt: skip

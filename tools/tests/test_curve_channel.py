@@ -4,14 +4,12 @@ import math
 import os
 import re
 import unittest
-import warnings
 
-from tools.tests.helping import EXAMPLES, NO_PROGRAM, PROGRAM, PYTHON, TOOLS, needs, temporary_folder
+from tools.tests.helping import EXAMPLES, NO_PROGRAM, PROGRAM, needs, temporary_folder
 
 needs("numpy", "scipy", "matplotlib", "distributed")
 
 import csv  # noqa: E402
-import subprocess  # noqa: E402
 from fractions import Fraction  # noqa: E402
 from typing import ClassVar  # noqa: E402
 from unittest import mock  # noqa: E402
@@ -219,7 +217,7 @@ class Fading(unittest.TestCase):
 
 
 class Runs(unittest.TestCase):
-    """The tool as a program."""
+    """The tool over a link."""
 
     def setUp(self) -> None:
         self.folder = temporary_folder(self.addCleanup)
@@ -229,12 +227,9 @@ class Runs(unittest.TestCase):
 
     def ran(self, script: str, options: str, *more: object, maker: str) -> tuple[int, list[str], list[str]]:
         """A run over a link: its status, and its lines on both outputs."""
-        words = [
-            PYTHON, "-B", os.path.join(TOOLS, "curve"), script, "--maker", maker, "--workers", 1, "--step", 1,
-            "--channel", options, "--out", self.at("out"), *more,
-        ]  # fmt: skip
-        ended = subprocess.run([str(word) for word in words], capture_output=True, text=True, timeout=300)
-        return ended.returncode, ended.stdout.splitlines(), ended.stderr.splitlines()
+        words = [script, "--maker", maker, "--workers", 1, "--step", 1, "--channel", options, "--out", self.at("out")]
+        status, wrote, said = run_main("curve", *words, *more)
+        return status, wrote.splitlines(), said.splitlines()
 
     def test_options_that_are_none(self) -> None:
         script = os.path.join(EXAMPLES, "frames_9600.script")
@@ -288,8 +283,7 @@ class Runs(unittest.TestCase):
     def in_process(self, locks: list[Locked | Refused], *more: object) -> tuple[int, str, str]:
         """A run within this process over a radio whose locks end so, one after the other, with more arguments."""
         words = ["--from", 6, "--to", 6, "--step", 1, "--frames", 9, "--workers", 1, "--channel", "", "--out", self.at("out")]
-        with mock.patch.object(antenna, "lock", side_effect=locks), warnings.catch_warnings():
-            warnings.simplefilter("ignore")  # of Debian's tornado, which a test's process shows and a tool's doesn't
+        with mock.patch.object(antenna, "lock", side_effect=locks):
             return run_main("curve", self.short_script(1_000_000), "--maker", PROGRAM, *words, *more)
 
     @unittest.skipUnless(PROGRAM, NO_PROGRAM)

@@ -7,9 +7,11 @@ from tools.tests.helping import (
     EXAMPLES,
     NO_PROGRAM,
     PROGRAM,
+    ToolRun,
     example,
     loaded,
     needs,
+    run_inside,
     run_program,
     run_tool,
     sample_file,
@@ -83,16 +85,16 @@ class Pictures(unittest.TestCase):
         """The path of a file in the test's folder."""
         return os.path.join(self.folder, name)
 
-    def drawn(self, kind: str, name: str, *words: str, data: bytes = b"") -> bytes:
+    def drawn(self, kind: str, name: str, *words: str, data: bytes = b"", way: ToolRun = run_inside) -> bytes:
         """The picture that a run writes."""
-        status, wrote, said = run_tool("draw", kind, self.at(name), *words, data=data)
+        status, wrote, said = way("draw", kind, self.at(name), *words, data=data)
         self.assertEqual((status, wrote, said), (0, b"", ""))
         with open(self.at(name), "rb") as file:
             return file.read()
 
     def test_a_survey(self) -> None:
         lines = b"".join(b"survey pn=%d delta=%d energy=%d\n" % (pilot, pilot % 5 - 2, 1000 - pilot) for pilot in range(512))
-        self.assertEqual(self.drawn("survey", "a.png", data=lines)[:8], b"\x89PNG\r\n\x1a\n")
+        self.assertEqual(self.drawn("survey", "a.png", data=lines, way=run_tool)[:8], b"\x89PNG\r\n\x1a\n")
         text = self.drawn("survey", "a.svg", "--top", "12", "--log", data=lines)
         self.assertIn(b"12 pilots by their strength", text)
 
@@ -117,7 +119,7 @@ class Pictures(unittest.TestCase):
 
     def refused(self, why: str, *words: str, data: bytes = b"", status: int = 1) -> None:
         """A run that ends with a status and says why, and writes nothing."""
-        ended, wrote, said = run_tool("draw", *words, data=data)
+        ended, wrote, said = run_inside("draw", *words, data=data)
         self.assertEqual((ended, wrote), (status, b""), said)
         self.assertRegex(said, why)
         self.assertNotIn("Traceback", said)

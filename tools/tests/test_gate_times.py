@@ -6,7 +6,7 @@ import os
 import subprocess
 import unittest
 
-from tools.tests.helping import ROOT, run_tool, temporary_folder
+from tools.tests.helping import ROOT, run_inside, temporary_folder
 
 CRATES = """# Those that stand on nothing come first.
 core:
@@ -66,7 +66,7 @@ class GateTimes(unittest.TestCase):
 
     def told(self, lines: list[str], root: str | None = None) -> tuple[int, str, str]:
         log = self.write("gate.log", "".join(line + "\n" for line in lines))
-        status, wrote, faults = run_tool("gate_times", log, "--root", root or self.root)
+        status, wrote, faults = run_inside("gate_times", log, "--root", root or self.root)
         return status, wrote.decode(), faults
 
     def logged(self, form: str) -> list[str]:
@@ -143,9 +143,9 @@ class GateTimes(unittest.TestCase):
                 status, wrote, faults = self.told([good])
                 self.assertEqual((status, wrote), (2, ""))
                 self.assertIn(why, faults)
-        self.assertEqual(run_tool("gate_times", os.path.join(self.root, "none"))[0], 2)
-        self.assertEqual(run_tool("gate_times")[0], 2)
-        faults = run_tool("gate_times", self.write("a.log", good), "--root", self.root + "/none")[2]
+        self.assertEqual(run_inside("gate_times", os.path.join(self.root, "none"))[0], 2)
+        self.assertEqual(run_inside("gate_times")[0], 2)
+        faults = run_inside("gate_times", self.write("a.log", good), "--root", self.root + "/none")[2]
         self.assertIn("crates.txt: No such file", faults)
 
 

@@ -7,7 +7,7 @@ import xml.etree.ElementTree
 
 from cdma_tools.repository.crate_list import crates_below
 from cdma_tools.repository.house import Lines, code_and_contracts, house, lines_of, rooms
-from tools.tests.helping import ROOT, run_tool, temporary_folder
+from tools.tests.helping import ROOT, run_inside, run_tool, temporary_folder
 
 KEPT = os.path.join(ROOT, "docs", "pictures", "house.svg")
 CODE = """\
@@ -85,7 +85,7 @@ class Tool(unittest.TestCase):
     def test_the_kept_picture_is_that_of_the_tree(self) -> None:
         """Where it isn't, `tools/house --write docs/pictures/house.svg` makes it so."""
         path = os.path.join(temporary_folder(self.addCleanup), "house.svg")
-        self.assertEqual(run_tool("house", "--write", path), (0, b"", ""))
+        self.assertEqual(run_inside("house", "--write", path), (0, b"", ""))
         with open(path, encoding="utf-8") as made, open(KEPT, encoding="utf-8") as kept:
             self.assertEqual(made.read(), kept.read(), "run tools/house --write docs/pictures/house.svg")
 
@@ -95,8 +95,8 @@ class Tool(unittest.TestCase):
         self.assertEqual((status, said, names), (0, "", ["crate", *crates_below(ROOT), "all"]))
 
     def test_what_is_refused(self) -> None:
-        self.assertEqual(run_tool("house", "more")[0], 2)
-        status, wrote, said = run_tool("house", "--write", "/none/x.svg")
+        self.assertEqual(run_inside("house", "more")[0], 2)
+        status, wrote, said = run_inside("house", "--write", "/none/x.svg")
         self.assertEqual((status, wrote), (1, b""))
         self.assertRegex(said, r"\Ahouse: /none.*\n\Z")
 

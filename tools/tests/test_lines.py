@@ -25,7 +25,7 @@ from cdma_tools.lines import (
     spell_line,
     table_rows,
 )
-from tools.tests.helping import ROOT, run_tool
+from tools.tests.helping import ROOT, run_inside, run_tool
 
 CASES = os.path.join(ROOT, "conformance", "cases")
 # What docs/FORMATS.md has of the lines of each kind, as objects; the values are taken from the lines by hand.
@@ -231,7 +231,7 @@ class Program(unittest.TestCase):
         with tempfile.NamedTemporaryFile() as file:
             file.write(objects)
             file.flush()
-            self.assertEqual(run_tool("lines", file.name, "--back"), (0, text, ""))
+            self.assertEqual(run_inside("lines", file.name, "--back"), (0, text, ""))
 
     def test_pandas_and_back(self) -> None:
         """A table of the objects has their values, and its JSON goes back to the lines."""
@@ -244,7 +244,7 @@ class Program(unittest.TestCase):
         heard = [line for line in LINES if line.split()[0] in ("pilot", "frame", "paging", "sets", "traffic")]
         large = [line for line in heard if read_line(line).get("energy", 0) >= 2**53]
         lines = [first, *(line for line in heard[:1_500] + heard[-1_500:] if line not in large)]
-        _, objects, _ = run_tool("lines", data="".join(line + "\n" for line in lines).encode())
+        _, objects, _ = run_inside("lines", data="".join(line + "\n" for line in lines).encode())
         with tempfile.NamedTemporaryFile() as file:
             file.write(objects)
             file.flush()
@@ -256,17 +256,17 @@ class Program(unittest.TestCase):
                 self.assertEqual(table[name][place], value)
         back = table.to_json(orient="records", lines=True).encode()
         back += b"" if back.endswith(b"\n") else b"\n"
-        self.assertEqual(run_tool("lines", "--back", data=back), (0, "".join(line + "\n" for line in lines).encode(), ""))
+        self.assertEqual(run_inside("lines", "--back", data=back), (0, "".join(line + "\n" for line in lines).encode(), ""))
 
     def test_a_rounded_number_is_refused(self) -> None:
         """A table with empty cells rounds numbers from 2^53 on: they are never taken for those of a line."""
         for energy in (b"9007199254740992.0", b"4611404547745644544.0", b"1.8446744073709552e19"):
             self.refused("energy: .* is no whole number", "--back", data=b'{"line":"pilot","phase":0,"energy":%b}\n' % energy)
         exact = b'{"line":"pilot","phase":0,"energy":4611404547745644544}\n'
-        self.assertEqual(run_tool("lines", "--back", data=exact), (0, b"pilot phase=0 energy=4611404547745644544\n", ""))
+        self.assertEqual(run_inside("lines", "--back", data=exact), (0, b"pilot phase=0 energy=4611404547745644544\n", ""))
 
     def refused(self, why: str, *words: str, data: bytes = b"", wrote: bytes = b"", status: int = 1) -> None:
-        ended, text, said = run_tool("lines", *words, data=data)
+        ended, text, said = run_inside("lines", *words, data=data)
         self.assertEqual((ended, text), (status, wrote), said)
         self.assertRegex(said, why)
         self.assertNotIn("Traceback", said)
@@ -290,7 +290,7 @@ class Program(unittest.TestCase):
             self.refused("standard input: line 2: " + why, "--back", data=told + text, wrote=line)
 
     def test_the_table_is_told(self) -> None:
-        self.assertEqual(run_tool("lines", "--table"), (0, "".join(row + "\n" for row in table_rows()).encode(), ""))
+        self.assertEqual(run_inside("lines", "--table"), (0, "".join(row + "\n" for row in table_rows()).encode(), ""))
 
 
 def text_of(*names: str) -> str:

@@ -10,7 +10,7 @@ from cdma_tools.commands import margin as command
 from cdma_tools.errors import Refused
 from cdma_tools.margins import margin_of, margins
 from cdma_tools.scripts import Script
-from tools.tests.helping import EXAMPLES, example, needs, run_tool
+from tools.tests.helping import EXAMPLES, ToolRun, example, needs, run_inside, run_tool
 
 needs("numpy")
 
@@ -77,8 +77,8 @@ class Worked(unittest.TestCase):
 class Tool(unittest.TestCase):
     """The table, its JSON, and what is refused."""
 
-    def told(self, *arguments: str, data: bytes = b"") -> tuple[int, str, str]:
-        status, wrote, said = run_tool("margin", *arguments, data=data)
+    def told(self, *arguments: str, data: bytes = b"", way: ToolRun = run_inside) -> tuple[int, str, str]:
+        status, wrote, said = way("margin", *arguments, data=data)
         return status, wrote.decode(), said
 
     def test_the_example_has_its_two_margins(self) -> None:
@@ -92,7 +92,8 @@ class Tool(unittest.TestCase):
 
     def test_a_command_names_the_channels(self) -> None:
         script = example(CALL)
-        status, wrote, _ = self.told("--json", "-", "rate2", "--esn", "00c0ffee", "--row=12", "--fingers", "2", data=script)
+        words = ("--json", "-", "rate2", "--esn", "00c0ffee", "--row=12", "--fingers", "2")
+        status, wrote, _ = self.told(*words, data=script, way=run_tool)
         self.assertEqual((status, [json.loads(line)["row"] for line in wrote.splitlines()]), (0, [SYNC_ROW, 12]))
         status, wrote, _ = self.told("-", "follow", "--json", data=script)
         self.assertEqual((status, [json.loads(line)["row"] for line in wrote.splitlines()]), (0, [SYNC_ROW, 1]))

@@ -219,6 +219,7 @@ class OfTheProgram(Installed):
             "--force-bad-path",
         ]
         environment = {**os.environ, "PATH": f"{os.environ['PATH']}:/usr/sbin:/sbin"}
+        environment.pop("PYTHONPYCACHEPREFIX", None)  # what Python compiles has to be taken away too
         for more in (["--install", package], ["--purge", tree.NAME]):
             ran = subprocess.run([*words, *more], capture_output=True, text=True, env=environment, timeout=SECONDS)
             self.assertEqual(ran.returncode, 0, ran.stderr)
