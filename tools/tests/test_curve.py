@@ -67,7 +67,7 @@ class Curves(unittest.TestCase):
         """A stand-in for the program, with a fault."""
         path = self.keep(
             name,
-            f"#!/bin/sh\nFAKE_SCRIPT='{self.at('it.script')}' FAKE_FAULT='{fault}' exec {PYTHON} -B {FAKE} \"$@\"\n",
+            f"#!/bin/sh\nFAKE_SCRIPT='{self.at('it.script')}' FAKE_FAULT='{fault}' exec {PYTHON} -S -B {FAKE} \"$@\"\n",
         )
         os.chmod(path, 0o755)
         return path

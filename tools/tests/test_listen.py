@@ -12,6 +12,7 @@ import re
 import signal
 import socket
 import subprocess
+import tempfile
 import threading
 import time
 import unittest
@@ -23,7 +24,7 @@ from typing import Any, ClassVar
 import numpy
 
 from tools.tests.cluster_helping import started_scheduler, started_worker
-from tools.tests.helping import NO_PROGRAM, PROGRAM, PYTHON, ROOT, needs, temporary_folder
+from tools.tests.helping import NO_PROGRAM, PROGRAM, PYTHON, ROOT, made_once, needs, temporary_folder
 from tools.tests.radio_helping import run_main
 from tools.tests.listening_cell import (
     CHIP_RATE, FRAME, HANDSET, PIECE, Compared, Sent, compared, made_cell, script_of, write_cell,
@@ -51,6 +52,7 @@ FADE = (9.7, 10.3)
 OTHER_SECONDS = min(SECONDS / 2, 60.0)
 TOOL = [PYTHON, "-B", os.path.join(ROOT, "tools", "listen")]
 STREAM = ["--type", "cu8", "--rate", str(RATE)]
+PARTS = ["--part", str(max(10.0, SECONDS / 6))]
 ENVIRONMENT = dict(os.environ, OMP_NUM_THREADS="1", OPENBLAS_NUM_THREADS="1")
 
 
@@ -68,30 +70,45 @@ def hear_interrupts() -> None:
     signal.signal(signal.SIGINT, signal.SIG_DFL)
 
 
-def recorded(folder: str) -> bytes:
-    """The samples of a recording of the cell, with a carrier that drifts, a clock that bends, losses and a fade."""
-    cell = write_cell(os.path.join(folder, "cell.is95"), made_cell(PROGRAM or "", SECONDS))
-    words = ["--type", "cu8", "--rate", str(RATE), "--carrier", "3000", "--drift", "20", "--clock", "4"]
+def made_recording(place: str) -> None:
+    """Writes a recording of the cell, with a carrier that drifts, a clock that bends, losses and a fade."""
+    words = [*STREAM, "--carrier", "3000", "--drift", "20", "--clock", "4"]
     words += ["--clock-drift", "0.01", "--delay", "0.3", "--ec-io", "-8"]
-    path = os.path.join(folder, "radio.cu8")
-    channel = [PYTHON, "-B", os.path.join(ROOT, "tools", "channel"), *words, cell, path]
-    subprocess.run(channel, check=True, capture_output=True, env=ENVIRONMENT)
-    samples = numpy.fromfile(path, dtype=numpy.uint8).reshape(-1, 2)
+    with tempfile.TemporaryDirectory() as folder:
+        cell = write_cell(os.path.join(folder, "cell.is95"), made_cell(PROGRAM or "", SECONDS))
+        path = os.path.join(folder, "radio.cu8")
+        channel = [PYTHON, "-B", os.path.join(ROOT, "tools", "channel"), *words, cell, path]
+        subprocess.run(channel, check=True, capture_output=True, env=ENVIRONMENT)
+        samples = numpy.fromfile(path, dtype=numpy.uint8).reshape(-1, 2)
     low, high = (int(RATE * second) for second in FADE)
     samples[low:high] = numpy.random.default_rng(1).normal(127.5, 40, (high - low, 2)).clip(0, 255)
     keep = numpy.ones(len(samples), dtype=bool)
     for second, count in LOSSES.items():
         keep[int(RATE * second) : int(RATE * second) + count] = False
-    return samples[keep].tobytes()
+    samples[keep].tofile(place)
 
 
-@unittest.skipUnless(PROGRAM, NO_PROGRAM)
-class ListenTest(unittest.TestCase):
-    """One recording, heard in many ways."""
+def recording() -> str:
+    """The path of the recording."""
+    return made_once(f"lossy_{SECONDS}.cu8", made_recording)
+
+
+def made_lines(place: str) -> None:
+    """Writes what is heard of the recording in parts: lines, the same as JSON, and what was said with each of them."""
+    path, told = recording(), dict[str, str]()
+    for name, more in (("lines", []), ("objects", ["--json"])):
+        status, wrote, told[f"said of {name}"] = listen(*STREAM, path, *HANDSET, *PARTS, *more)
+        assert status == 0, told
+        told[name] = wrote.decode()
+    with open(place, "w", encoding="utf-8") as file:
+        json.dump(told, file)
+
+
+class OneRecording(unittest.TestCase):
+    """The recording, and what is heard of it."""
 
     folder: ClassVar[str]
     path: ClassVar[str]  # of the recording
-    parts: ClassVar[list[str]]  # the arguments that part it
     data: ClassVar[bytes]
     sent: ClassVar[Sent]
     lines: ClassVar[bytes]  # of the recording in parts
@@ -102,16 +119,14 @@ class ListenTest(unittest.TestCase):
     @classmethod
     def setUpClass(cls) -> None:
         cls.folder = temporary_folder(cls.addClassCleanup)
-        cls.data = recorded(cls.folder)
         cls.sent = Sent(script_of(1, 1, 0, PIECE))
-        cls.path = os.path.join(cls.folder, "lossy.cu8")
-        with open(cls.path, "wb") as file:
-            file.write(cls.data)
-        cls.parts = ["--part", str(max(10.0, SECONDS / 6))]
-        status, cls.lines, cls.said = listen(*STREAM, cls.path, *HANDSET, *cls.parts)
-        assert status == 0, cls.said
-        status, cls.objects, said = listen(*STREAM, cls.path, *HANDSET, *cls.parts, "--json")
-        assert (status, said) == (0, cls.said), said
+        cls.path = recording()
+        with open(cls.path, "rb") as file:
+            cls.data = file.read()
+        with open(made_once(f"heard_{SECONDS}.json", made_lines), encoding="utf-8") as text:
+            told = json.load(text)
+        cls.lines, cls.objects, cls.said = told["lines"].encode(), told["objects"].encode(), told["said of lines"]
+        assert told["said of objects"] == cls.said, told["said of objects"]
         cls.short = os.path.join(cls.folder, "short.cu8")
         with open(cls.short, "wb") as file:
             file.write(cls.data[: 2 * 4 * RATE])
@@ -136,13 +151,20 @@ class ListenTest(unittest.TestCase):
         self.assertLess(result.missing.total(), 60)
         return result
 
+
+@unittest.skipUnless(PROGRAM, NO_PROGRAM)
+class ListenTest(OneRecording):
+    """One recording, heard by all that can share it."""
+
+    seconds = 60
+
     def test_a_file_in_parts(self) -> None:
         self.check_truth(self.lines)
         self.assertEqual(self.said.count("samples were lost"), len(LOSSES))
 
     def test_any_number_of_workers_writes_the_same(self) -> None:
         for workers in (2, 4):
-            status, lines, said = listen(*STREAM, self.path, *HANDSET, *self.parts, "--workers", workers)
+            status, lines, said = listen(*STREAM, self.path, *HANDSET, *PARTS, "--workers", workers)
             self.assertEqual((status, said), (0, self.said))
             self.assertTrue(lines == self.lines, workers)
 
@@ -156,9 +178,34 @@ class ListenTest(unittest.TestCase):
             warnings.simplefilter("ignore")  # of what dask itself uses
             with connected(address, 0) as client:
                 client.wait_for_workers(2, timeout=60)
-        status, lines, said = listen(*STREAM, self.path, *HANDSET, *self.parts, "--scheduler", address)
+        status, lines, said = listen(*STREAM, self.path, *HANDSET, *PARTS, "--scheduler", address)
         self.assertEqual((status, said), (0, self.said))
         self.assertTrue(lines == self.lines)
+
+    def test_objects_have_their_time(self) -> None:
+        reads = [json.loads(line) for line in self.objects.splitlines()]
+        self.assertEqual(len(reads), len(self.lines.splitlines()))
+        start = int(self.sent.cell["time"]) * 0.08 - int(self.sent.sync["lp"])
+        shift = self.check_truth(self.lines).shift
+        for read in reads[1::17]:
+            wanted = start + (read["at"] + shift) / CHIP_RATE
+            seconds = numpy.datetime64(read["time_utc"].removesuffix("Z"), "us") - numpy.datetime64("1980-01-06", "us")
+            # A line whose sync message came before a loss has the time by that message: the cell's chips were taken
+            # out.
+            self.assertLess(abs(seconds / numpy.timedelta64(1, "s") - wanted), 0.03)
+        self.assertEqual(sorted(read["time_utc"] for read in reads[1:]), [read["time_utc"] for read in reads[1:]])
+
+    def test_objects_go_back_to_lines(self) -> None:
+        command = [PYTHON, "-B", os.path.join(ROOT, "tools", "lines"), "--back"]
+        ran = subprocess.run(command, input=self.objects, capture_output=True)
+        self.assertEqual((ran.returncode, ran.stdout == self.lines), (0, True), ran.stderr)
+
+
+@unittest.skipUnless(PROGRAM, NO_PROGRAM)
+class ListenAgainTest(OneRecording):
+    """The same recording in other ways, each for itself; by then what they share has been made."""
+
+    parted, seconds = True, 12
 
     def test_streams_of_three_types(self) -> None:
         parts = numpy.frombuffer(self.data, dtype=numpy.uint8)[: 2 * int(OTHER_SECONDS * RATE)]
@@ -179,24 +226,6 @@ class ListenTest(unittest.TestCase):
         self.assertEqual(listen(self.at("short.sigmf-meta"), *HANDSET), wanted)
         self.assertEqual((wanted[0], wanted[2]), (0, ""))
         self.assertGreater(len(wanted[1].splitlines()), 100)
-
-    def test_objects_have_their_time(self) -> None:
-        reads = [json.loads(line) for line in self.objects.splitlines()]
-        self.assertEqual(len(reads), len(self.lines.splitlines()))
-        start = int(self.sent.cell["time"]) * 0.08 - int(self.sent.sync["lp"])
-        shift = self.check_truth(self.lines).shift
-        for read in reads[1::17]:
-            wanted = start + (read["at"] + shift) / CHIP_RATE
-            seconds = numpy.datetime64(read["time_utc"].removesuffix("Z"), "us") - numpy.datetime64("1980-01-06", "us")
-            # A line whose sync message came before a loss has the time by that message: the cell's chips were taken
-            # out.
-            self.assertLess(abs(seconds / numpy.timedelta64(1, "s") - wanted), 0.03)
-        self.assertEqual(sorted(read["time_utc"] for read in reads[1:]), [read["time_utc"] for read in reads[1:]])
-
-    def test_objects_go_back_to_lines(self) -> None:
-        command = [PYTHON, "-B", os.path.join(ROOT, "tools", "lines"), "--back"]
-        ran = subprocess.run(command, input=self.objects, capture_output=True)
-        self.assertEqual((ran.returncode, ran.stdout == self.lines), (0, True), ran.stderr)
 
     @unittest.skipUnless(importlib.util.find_spec("plotly"), "no plotly: install the package python3-plotly")
     def test_a_report_of_a_recording_that_no_sample_file_holds(self) -> None:
@@ -221,7 +250,7 @@ class ListenTest(unittest.TestCase):
         for count, more in ((0, b"pil"), (300, b"frame at=12"), (700, b""), (len(lines), b"")):
             with open(out, "wb") as file:
                 file.write(b"".join(lines[:count]) + more)
-            status, wrote, said = listen(*STREAM, self.path, *HANDSET, *self.parts, "--out", out)
+            status, wrote, said = listen(*STREAM, self.path, *HANDSET, *PARTS, "--out", out)
             self.assertEqual((status, wrote), (0, b""), said)
             with open(out, "rb") as file:
                 self.assertTrue(file.read() == self.lines, count)
@@ -231,7 +260,7 @@ class ListenTest(unittest.TestCase):
         whole = self.objects.splitlines(keepends=True)
         with open(out, "wb") as file:
             file.write(b"".join(whole[: len(whole) - 100]))
-        status, _, said = listen(*STREAM, self.path, *HANDSET, *self.parts, "--out", out)
+        status, _, said = listen(*STREAM, self.path, *HANDSET, *PARTS, "--out", out)
         self.assertEqual(status, 0, said)
         with open(out, "rb") as file:
             self.assertTrue(file.read() == self.objects)
@@ -264,7 +293,7 @@ class ListenTest(unittest.TestCase):
     def test_a_full_disk_keeps_whole_lines(self) -> None:
         out = self.at("short.txt")
         limit = 30_000
-        words = " ".join([*TOOL, *STREAM, self.path, *HANDSET, *self.parts, "--out", out])
+        words = " ".join([*TOOL, *STREAM, self.path, *HANDSET, *PARTS, "--out", out])
         # A file that may not grow further, as a full disk is.
         shell = f"trap '' XFSZ; ulimit -f {limit // 1024}; exec {words}"
         ran = subprocess.run(["bash", "-c", shell], capture_output=True, env=ENVIRONMENT)
@@ -306,7 +335,8 @@ class PipeTest(unittest.TestCase):
 
     def test_a_pipe_in_real_time(self) -> None:
         """Of ten seconds that come as the air does half of the lines are there half a second later."""
-        data = recorded(temporary_folder(self.addCleanup))
+        with open(recording(), "rb") as file:
+            data = file.read(2 * 9 * RATE)
         command = [*TOOL, *STREAM, *HANDSET, "-"]
         run = subprocess.Popen(command, stdin=subprocess.PIPE, stdout=subprocess.PIPE, env=ENVIRONMENT)
         assert run.stdin is not None and run.stdout is not None
@@ -380,6 +410,11 @@ class ServerTest(unittest.TestCase):
             result = compared(sent, group, 7 * CHIP_RATE)
             missing = [text for _, text in result.missing if not text.startswith(("frame", "traffic"))]
             self.assertEqual((missing, result.excess), ([], {}))
+
+
+@unittest.skipUnless(PROGRAM, NO_PROGRAM)
+class NoServerTest(unittest.TestCase):
+    """What isn't a server of samples."""
 
     def test_what_is_no_server(self) -> None:
         wrong = Server([b""], head=b"HTTP/1.1 400")

@@ -68,7 +68,7 @@ class Folder(unittest.TestCase):
         """A stand-in for the program that makes and hears the frames of that example, with a fault."""
         fake = os.path.join(ROOT, "tools", "tests", "fake_receiver.py")
         script = os.path.join(EXAMPLES, "frames_9600.script")
-        return self.program("fake", f"FAKE_SCRIPT='{script}' FAKE_FAULT={fault} exec {PYTHON} -B {fake} \"$@\"\n")
+        return self.program("fake", f"FAKE_SCRIPT='{script}' FAKE_FAULT={fault} exec {PYTHON} -S -B {fake} \"$@\"\n")
 
     def program(self, name: str, text: str) -> str:
         """A program of the shell."""

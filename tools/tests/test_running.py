@@ -71,6 +71,55 @@ class Second(unittest.TestCase):
 class Third(Second):
     pass
 """
+TWO_ALONE = """
+import os, pathlib, time, unittest
+
+BUSY = pathlib.Path(os.environ["TEST_RUNNING_BUSY"])
+
+class Fourth(unittest.TestCase):
+    alone = True
+    mark, other = "fourth", "fifth"
+
+    def test_beside_the_other(self):
+        (BUSY / self.mark).touch()
+        until = time.monotonic() + 20
+        while not (BUSY / self.other).exists():
+            self.assertLess(time.monotonic(), until)
+            time.sleep(0.01)
+
+class Fifth(Fourth):
+    mark, other = "fifth", "fourth"
+"""
+LONG = """
+import os, pathlib, unittest
+
+def begin(name):
+    with open(os.environ["TEST_RUNNING_BEGUN"], "a") as file:
+        file.write(name)
+
+class Short(unittest.TestCase):
+    def test_a(self):
+        begin("a")
+
+class Parted(unittest.TestCase):
+    parted = True
+    seconds = 3
+
+    def test_b(self):
+        begin("b")
+
+    def test_c(self):
+        begin("c")
+
+class Long(unittest.TestCase):
+    seconds = 4
+
+    def test_d(self):
+        begin("d")
+
+    def test_e(self):
+        begin("e")
+"""
 SKIPPED = """
 import unittest
 
@@ -128,6 +177,23 @@ class RunningTest(unittest.TestCase):
         found = self.ran(3, alone=ALONE)
         self.assertEqual([fault for it in found for fault in it.faults], [])
         self.assertEqual(sum(it.ran for it in found), 3)
+
+    def test_two_that_run_alone_have_two_processors_each(self) -> None:
+        os.environ["TEST_RUNNING_BUSY"] = temporary_folder(self.addCleanup)
+        self.addCleanup(os.environ.pop, "TEST_RUNNING_BUSY")
+        found = self.ran(4, two_alone=TWO_ALONE)
+        self.assertEqual([fault for it in found for fault in it.faults], [])
+        self.assertEqual(sum(it.ran for it in found), 2)
+
+    def test_what_takes_longest_begins_first(self) -> None:
+        """Each test of a class that is parted counts for itself."""
+        begun = os.path.join(temporary_folder(self.addCleanup), "begun")
+        os.environ["TEST_RUNNING_BEGUN"] = begun
+        self.addCleanup(os.environ.pop, "TEST_RUNNING_BEGUN")
+        found = self.ran(1, long=LONG)
+        self.assertEqual(sorted(it.ran for it in found), [0, 1, 1, 1, 2])
+        with open(begun, encoding="ascii") as file:
+            self.assertEqual(file.read(), "debca")
 
     def test_a_process_that_is_ended_is_a_fault(self) -> None:
         found = self.ran(1, ended=ENDED)
