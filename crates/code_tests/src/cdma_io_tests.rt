@@ -25,30 +25,51 @@ fn source_of(alloc: Global, bytes: &[u8], failing: u64) -> Result<MemorySource, 
     Ok(MemorySource::new(bytes, 7, failing))
 }
 
-// One call fails alone, so whoever tried it again would go on as if nothing had failed.
+// In each of these one call fails alone, so whoever tried it again would go on as if nothing had
+// failed.
 #[test]
-fn the_first_failed_call_ends_each(rt: HostRuntime) -> Result<(), Fail> {
-    let alloc = rt.alloc();
+fn the_first_failed_call_ends_fill(rt: HostRuntime) -> Result<(), Fail> {
     for call in 1..5 {
-        let mut source = source_of(alloc, &FILE, call)?;
+        let mut source = source_of(rt.alloc(), &FILE, call)?;
         assert_eq!(rt; fill(&mut source, &mut [0; 28]), Err(Failed), "{call}");
     }
+    Ok(())
+}
+
+#[test]
+fn the_first_failed_call_ends_open(rt: HostRuntime) -> Result<(), Fail> {
     for call in 1..4 {
-        let mut source = source_of(alloc, &FILE, call)?;
+        let mut source = source_of(rt.alloc(), &FILE, call)?;
         let opened = SampleReader::open(&mut source);
         assert!(rt; matches!(&opened, Err(FileFault::ReadFault)), "{call}");
     }
+    Ok(())
+}
+
+#[test]
+fn the_first_failed_call_ends_read(rt: HostRuntime) -> Result<(), Fail> {
     for call in 4..6 {
-        let mut source = source_of(alloc, &FILE, call)?;
+        let mut source = source_of(rt.alloc(), &FILE, call)?;
         let mut reader = SampleReader::open(&mut source)?;
         let read = reader.read(&mut source, &mut [NONE; 3]);
         assert_eq!(rt; read, Err(FileFault::ReadFault), "{call}");
     }
-    let mut source = source_of(alloc, &FILE, 6)?;
+    Ok(())
+}
+
+#[test]
+fn the_first_failed_call_ends_finish(rt: HostRuntime) -> Result<(), Fail> {
+    let mut source = source_of(rt.alloc(), &FILE, 6)?;
     let mut reader = SampleReader::open(&mut source)?;
     assert_eq!(rt; reader.read(&mut source, &mut [NONE; 3])?, 3);
     assert_eq!(rt; reader.left(), 0);
     assert_eq!(rt; reader.finish(&mut source), Err(FileFault::ReadFault));
+    Ok(())
+}
+
+#[test]
+fn the_first_failed_call_ends_write_all(rt: HostRuntime) -> Result<(), Fail> {
+    let alloc = rt.alloc();
     for (call, taken) in [(1, 0), (2, 3)] {
         let mut sink = MemorySink::new(alloc, 5, 3, [call].to_vec(alloc)?)?;
         assert_eq!(rt; write_all(&mut sink, b"pilot"), Err(Failed), "{call}");
@@ -100,13 +121,17 @@ impl Write for Broken {
 }
 
 #[test]
-fn answers_faults_of_std(rt: HostRuntime) {
+fn answers_faults_of_a_reader_of_std(rt: HostRuntime) {
     let mut source = ReaderSource::new(Broken);
     assert_eq!(rt; source.take(&mut [0]), Err(Failed));
     assert_eq!(rt;
         SampleReader::open(&mut source).err(),
         Some(FileFault::ReadFault)
     );
+}
+
+#[test]
+fn answers_faults_of_a_writer_of_std(rt: HostRuntime) {
     let mut sink = WriterSink::new(Broken);
     assert_eq!(rt; sink.give(b""), Ok(0));
     assert_eq!(rt; sink.give(b"p"), Err(Failed));
@@ -155,16 +180,30 @@ impl Write for FailsOnce {
     }
 }
 
-// A call that was interrupted is one that failed.
+/// Faults of two kinds: a call that was interrupted is one that failed, too.
+const KINDS: [ErrorKind; 2] = [ErrorKind::Other, ErrorKind::Interrupted];
+
 #[test]
-fn no_failed_call_is_tried_again(rt: HostRuntime) {
-    for kind in [ErrorKind::Other, ErrorKind::Interrupted] {
+fn no_failed_take_is_tried_again(rt: HostRuntime) {
+    for kind in KINDS {
         let mut source = ReaderSource::new(FailsOnce::new(kind));
         assert_eq!(rt; source.take(&mut [0]), Err(Failed));
         assert_eq!(rt; source.take(&mut [0]), Ok(0));
+    }
+}
+
+#[test]
+fn no_failed_give_is_tried_again(rt: HostRuntime) {
+    for kind in KINDS {
         let mut sink = WriterSink::new(FailsOnce::new(kind));
         assert_eq!(rt; sink.give(b"p"), Err(Failed));
         assert_eq!(rt; sink.give(b"p"), Ok(1));
+    }
+}
+
+#[test]
+fn no_failed_flush_is_tried_again(rt: HostRuntime) {
+    for kind in KINDS {
         let mut sink = WriterSink::new(FailsOnce::new(kind));
         assert_eq!(rt; sink.flush(), Err(Failed));
         assert_eq!(rt; sink.flush(), Ok(()));
