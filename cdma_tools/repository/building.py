@@ -173,7 +173,9 @@ class Builder:
         for at, name in enumerate(ready):
             room, memory = self.unused(), self.memory[name]
             if room.processors > 0 and (memory <= room.memory or not self.running):
-                self.begin(name, jobs_for(memory, room, len(ready) - at))
+                # Four jobs of the program's build were measured: twice the processor time of one, and longer.
+                alone = is_program(self.root, name)
+                self.begin(name, 1 if alone else jobs_for(memory, room, len(ready) - at))
 
     def free_place(self) -> str:
         """A place for a run: the checkout where it is free, else a copy that is, else a new one."""
