@@ -1,4 +1,6 @@
 -- Why `step_four` of `lanes` keeps its contract.
+use Rattle.list_viterbi.proofs.Common.{arith, ints}
+use Rattle.std.proofs.lemmas.Grind.{common_steps}
 use Rattle.list_viterbi.proofs.Common.{◌≡◌, get_or, sym, subst, w64, to_z-of_z, SFits, lane_codes, passed, gain_fits, PairPicked}
 use Rattle.list_viterbi.proofs.LaneGains.{pair_more}
 use Rattle.list_viterbi.proofs.LanePairs.{two_gains, gains_kept, gains_room}
@@ -46,3 +48,6 @@ loop-block-preserved c =
           c.merge_pair.new.choices f s block c.loop-block-test.true are
           (rw (to_z-of_z w64 f fits, to_z-of_z w64 s fits') at c.loop-block.invariant.each) pair;
     })
+
+pub merge_pair-requires-clause-long : goal.merge_pair-requires-clause-long
+merge_pair-requires-clause-long c = grind (ints, arith, common_steps)

@@ -18,6 +18,12 @@ loop-n-init c =
       picked = picked_none c.args.k _ _;
     })
 
+pub overflow_add-j : goal.overflow_add-j
+overflow_add-j c =
+    let one = c.from-j.ensures ∙ bool_byte-digit c.greater-score.result.1 in
+    let few = digit_le c.greater-score.result.1 in
+    omega (arith, one, few, c.loop-n.invariant.before, c.loop-n-test.true, c.requires.few)
+
 -- One pick more out of lists that are long enough is one step of their merge: the greater of both
 -- heads is taken, the even one at a tie, and of n picks those that weren't the odd list's were the
 -- even one's, so its place is n - j.

@@ -1,5 +1,6 @@
 -- Why `merged` of `ranked` keeps its contract.
-use Rattle.list_viterbi.proofs.Common.{◌≡◌, ◌<◌, ◌≤◌, ◌∷◌, [], true, false, drop, length, sym, arith, length-append, second_is_next}
+use Rattle.std.proofs.lemmas.Grind.{common_steps}
+use Rattle.list_viterbi.proofs.Common.{◌≡◌, ◌<◌, ◌≤◌, ◌∷◌, [], true, false, drop, length, sym, arith, length-append, second_is_next, ints}
 use Rattle.list_viterbi.proofs.Walks.{second_has, took_second, took_first, took_none, all_taken}
 use Rattle.list_viterbi.proofs.ranked.merged.Goals.{then-takes_second, else-takes_second+then-i-len, else-takes_second+else-i-len}
 use Rattle.list_viterbi.proofs.ranked.merged.Goals as goal
@@ -59,3 +60,6 @@ returns g c =
     all_taken g.T.Scored.score c.args.k c.loop-n.i c.loop-n.j c.loop-n._n c.args.first.now
     c.args.second.now
     c.loop-n.taken (omega arith) c.loop-n.invariant.part
+
+pub get-requires : goal.get-requires
+get-requires g c = grind (ints, arith, common_steps)

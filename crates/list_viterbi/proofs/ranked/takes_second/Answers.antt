@@ -1,5 +1,6 @@
 -- Why `takes_second` of `ranked` keeps its contract.
-use Rattle.list_viterbi.proofs.Common.{sym, arith, rules, w64, to_z-of_z, SFits}
+use Rattle.std.proofs.lemmas.Grind.{common_steps}
+use Rattle.list_viterbi.proofs.Common.{sym, arith, rules, w64, to_z-of_z, SFits, ints}
 use Rattle.list_viterbi.proofs.Walks.{second_only, second_by_score}
 use Rattle.list_viterbi.proofs.ranked.takes_second.Goals as goal
 
@@ -22,3 +23,6 @@ returns g c =
     )
     (sym (second_by_score g.T.Scored.score c.args.first.now c.args.second.now c.args.i c.args.j _ _
     (omega arith) (omega arith) c.get.ensures.value c.get-2.ensures.value))
+
+pub returns-then-j-len : goal.returns-then-j-len
+returns-then-j-len g c = grind (ints, arith, common_steps)

@@ -1,5 +1,6 @@
 -- Why `all_traced` of `tracing` keeps its contract.
-use Rattle.list_viterbi.proofs.Common.{◌++◌, ◌∷◌, [], ap, ◌∙◌, arith, Entry, entry_at}
+use Rattle.std.proofs.lemmas.Grind.{common_steps}
+use Rattle.list_viterbi.proofs.Common.{◌++◌, ◌∷◌, [], ap, ◌∙◌, arith, Entry, entry_at, ints}
 use Rattle.list_viterbi.proofs.Walks.{map_more}
 use Rattle.list_viterbi.proofs.tracing.all_traced.Goals as goal
 
@@ -10,3 +11,6 @@ loop-i-preserved c =
     ∙ map_more (entry_at c.args.columns.now) c.args.finds.now c.loop-i.codewords c.loop-i.i
     c.get.result.now
     (omega (arith, c.loop-i-test.true)) c.get.ensures.value c.loop-i.invariant
+
+pub push-requires : goal.push-requires
+push-requires c = grind (ints, arith, common_steps)

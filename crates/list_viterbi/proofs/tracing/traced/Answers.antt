@@ -1,0 +1,13 @@
+-- Why `traced` of `tracing` keeps its contract.
+use Rattle.list_viterbi.proofs.Common.{arith, ints}
+use Rattle.std.proofs.lemmas.Grind.{common_steps}
+use Rattle.list_viterbi.proofs.tracing.traced.Goals as goal
+
+pub bits_of-requires : goal.bits_of-requires
+bits_of-requires c = grind (ints, arith, common_steps)
+
+pub slice_bounds-bits_of-end : goal.slice_bounds-bits_of-end
+slice_bounds-bits_of-end c = grind (ints, arith, common_steps)
+
+pub slice_bounds-path-end-2 : goal.slice_bounds-path-end-2
+slice_bounds-path-end-2 c = grind (ints, arith, common_steps)
