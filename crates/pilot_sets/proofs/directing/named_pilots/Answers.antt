@@ -1,4 +1,6 @@
 -- Why `named_pilots` of `directing` keeps its contract.
+use Rattle.std.proofs.lemmas.Grind.{elements}
+use Rattle.std.proofs.lemmas.Int.{ints}
 use Rattle.pilot_sets.proofs.Common.{◌<◌, length, arith}
 use Rattle.pilot_sets.proofs.NamedPilots.{named_more, length_more}
 use Rattle.pilot_sets.proofs.directing.named_pilots.Goals as goal
@@ -14,3 +16,9 @@ loop-i-preserved c =
           c.get.ensures c.get-in-loop-i-2.ensures c.get-in-loop-i.ensures c.loop-i.invariant.0,
       length_more c.loop-i.named _ c.loop-i.i c.loop-i.invariant.1,
     )
+
+pub overflow_cast-get : goal.overflow_cast-get
+overflow_cast-get c = grind (ints, arith, elements)
+
+pub overflow_cast-get-in-loop-i : goal.overflow_cast-get-in-loop-i
+overflow_cast-get-in-loop-i c = grind (ints, arith, elements)

@@ -1,6 +1,6 @@
 -- Why `repeated` of `directing` keeps its contract.
 use Rattle.pilot_sets.proofs.Common.{◌+◌, ◌∷◌, [], drop, sym, ◌∙◌, arith, ap, length-append, first_repeated}
-use Rattle.pilot_sets.proofs.Firsts.{repeated_here, repeated_more}
+use Rattle.pilot_sets.proofs.Firsts.{element_below, repeated_here, repeated_more}
 use Rattle.pilot_sets.specs.Pilots.{has as has_pilot}
 use Rattle.pilot_sets.proofs.directing.repeated.Goals as goal
 
@@ -29,3 +29,7 @@ loop-i-preserved c =
         c.loop-i.invariant.1,
       )),
     )
+
+pub overflow_cast-pilot : goal.overflow_cast-pilot
+overflow_cast-pilot c =
+    omega (arith, element_below c.args.pilots.now 512 c.loop-i.i c.get-pilot.result c.requires.fit c.get-pilot.ensures)

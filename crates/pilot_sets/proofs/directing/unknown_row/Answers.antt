@@ -1,4 +1,6 @@
 -- Why `unknown_row` of `directing` keeps its contract.
+use Rattle.std.proofs.lemmas.Grind.{elements}
+use Rattle.std.proofs.lemmas.Int.{ints}
 use Rattle.pilot_sets.proofs.Common.{sym, ◌∙◌, arith, is_unknown_row, found_here, found_later}
 use Rattle.pilot_sets.proofs.directing.unknown_row.Goals as goal
 
@@ -13,3 +15,6 @@ loop-i-preserved c =
     found_later is_unknown_row c.args.rows.now c.loop-i.i c.get-row.result
     (omega (arith, c.loop-i-test.true, c.len-i-end.ensures.value)) c.get-row.ensures
     c.loop-i.invariant (sym c.is_unknown.ensures ∙ c.if-is_unknown.false)
+
+pub overflow_cast-result : goal.overflow_cast-result
+overflow_cast-result c = grind (ints, arith, elements)

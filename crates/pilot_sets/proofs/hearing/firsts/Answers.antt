@@ -1,6 +1,8 @@
 -- Why `firsts` of `hearing` keeps its contract.
+use Rattle.pilot_sets.proofs.Common.{common_steps}
+use Rattle.std.proofs.lemmas.Int.{ints}
 use Rattle.pilot_sets.proofs.Common.{◌<◌, ◌∷◌, [], length, sym, ◌∙◌, arith, ap, length-append}
-use Rattle.pilot_sets.proofs.Firsts.{firsts_new, firsts_old}
+use Rattle.pilot_sets.proofs.Firsts.{element_below, firsts_new, firsts_old}
 use Rattle.pilot_sets.proofs.hearing.firsts.Goals.{then-not-has, else-not-has}
 use Rattle.pilot_sets.specs.Pilots.{has as has_pilot}
 use Rattle.pilot_sets.proofs.hearing.firsts.Goals as goal
@@ -23,3 +25,10 @@ loop-i-preserved c =
         omega (arith, c.loop-i.invariant.1),
       )
     ]
+
+pub overflow_cast-pilot : goal.overflow_cast-pilot
+overflow_cast-pilot c =
+    omega (arith, element_below c.args.pilots.now 512 c.loop-i.i c.get-pilot.result c.requires c.get-pilot.ensures)
+
+pub returns : goal.returns
+returns c = grind (ints, arith, common_steps)

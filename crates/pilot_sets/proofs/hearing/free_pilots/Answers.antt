@@ -1,4 +1,6 @@
 -- Why `free_pilots` of `hearing` keeps its contract.
+use Rattle.pilot_sets.proofs.Common.{arith, common_steps}
+use Rattle.std.proofs.lemmas.Int.{ints}
 use Rattle.pilot_sets.proofs.Common.{sym, ◌∙◌, ap, not, lacks, timed_pilots}
 use Rattle.pilot_sets.proofs.Within.{filtered_hit, filtered_miss}
 use Rattle.pilot_sets.proofs.hearing.free_pilots.Goals.{then-not-has_timer, else-not-has_timer}
@@ -25,3 +27,6 @@ loop-p-preserved c =
         rw w.free-is c.loop-p.invariant.1,
       )
     ]
+
+pub returns : goal.returns
+returns c = grind (ints, arith, common_steps)

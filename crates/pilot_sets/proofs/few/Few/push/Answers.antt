@@ -1,4 +1,6 @@
 -- Why `push` of `few::Few` keeps its contract.
+use Rattle.pilot_sets.proofs.Common.{common_steps}
+use Rattle.std.proofs.lemmas.Int.{ints}
 use Rattle.pilot_sets.proofs.Common.{length, ap, arith, filled_more, length-filled}
 use Rattle.pilot_sets.proofs.few.Few.push.Goals as goal
 
@@ -9,3 +11,9 @@ invariant_of-self g c =
     length-filled filler g.row.N c.self.inside.places c.self.inside.count c.self.invariant in
     filled_more filler g.row.N c.self.inside.places c.self.inside.count c.args.thing
     c.self.invariant (omega (arith, c.requires, ap length c.self.view_is, held))
+
+pub returns : goal.returns
+returns c = grind (ints, arith, common_steps)
+
+pub offset_bounds-self-inside-self-inside : goal.offset_bounds-self-inside-self-inside
+offset_bounds-self-inside-self-inside c = grind (ints, arith, common_steps)

@@ -1,0 +1,13 @@
+-- Why `add` of `each_pilot::EachPilot` keeps its contract.
+use Rattle.pilot_sets.proofs.Common.{arith, common_steps}
+use Rattle.std.proofs.lemmas.Int.{ints}
+use Rattle.pilot_sets.proofs.each_pilot.EachPilot.add.Goals as goal
+
+pub loop-t-preserved : goal.loop-t-preserved
+loop-t-preserved c = grind (ints, arith, common_steps)
+
+pub returns : goal.returns
+returns c = grind (ints, arith, common_steps)
+
+pub push-requires : goal.push-requires
+push-requires c = grind (ints, arith, common_steps)

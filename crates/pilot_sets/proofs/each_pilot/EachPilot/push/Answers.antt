@@ -1,0 +1,7 @@
+-- Why `push` of `each_pilot::EachPilot` keeps its contract.
+use Rattle.pilot_sets.proofs.Common.{arith, common_steps}
+use Rattle.std.proofs.lemmas.Int.{ints}
+use Rattle.pilot_sets.proofs.each_pilot.EachPilot.push.Goals as goal
+
+pub push-requires : goal.push-requires
+push-requires c = grind (ints, arith, common_steps)

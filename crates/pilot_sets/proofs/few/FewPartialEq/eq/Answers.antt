@@ -1,0 +1,7 @@
+-- Why `eq` of `few::FewPartialEq` keeps its contract.
+use Rattle.pilot_sets.proofs.Common.{arith, common_steps}
+use Rattle.std.proofs.lemmas.Int.{ints}
+use Rattle.pilot_sets.proofs.few.FewPartialEq.eq.Goals as goal
+
+pub returns : goal.returns
+returns c = grind (ints, arith, common_steps)

@@ -1,0 +1,10 @@
+-- Why `time_actives` of `moves` keeps its contract.
+use Rattle.pilot_sets.proofs.Common.{arith, common_steps}
+use Rattle.std.proofs.lemmas.Int.{ints}
+use Rattle.pilot_sets.proofs.moves.time_actives.Goals as goal
+
+pub push-requires : goal.push-requires
+push-requires c = grind (ints, arith, common_steps)
+
+pub loop-a-preserved : goal.loop-a-preserved
+loop-a-preserved c = grind (ints, arith, common_steps)

@@ -1,0 +1,13 @@
+-- Why `active_pilots` of `pilots` keeps its contract.
+use Rattle.pilot_sets.proofs.Common.{arith, common_steps}
+use Rattle.std.proofs.lemmas.Int.{ints}
+use Rattle.pilot_sets.proofs.pilots.active_pilots.Goals as goal
+
+pub push-requires : goal.push-requires
+push-requires c = grind (ints, arith, common_steps)
+
+pub loop-a-preserved : goal.loop-a-preserved
+loop-a-preserved c = grind (ints, arith, common_steps)
+
+pub returns-clause-long : goal.returns-clause-long
+returns-clause-long c = grind (ints, arith, common_steps)

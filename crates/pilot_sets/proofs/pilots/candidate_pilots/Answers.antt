@@ -1,0 +1,10 @@
+-- Why `candidate_pilots` of `pilots` keeps its contract.
+use Rattle.pilot_sets.proofs.Common.{arith, common_steps}
+use Rattle.std.proofs.lemmas.Int.{ints}
+use Rattle.pilot_sets.proofs.pilots.candidate_pilots.Goals as goal
+
+pub push-requires : goal.push-requires
+push-requires c = grind (ints, arith, common_steps)
+
+pub loop-c-preserved : goal.loop-c-preserved
+loop-c-preserved c = grind (ints, arith, common_steps)

@@ -1,0 +1,10 @@
+-- Why `has_timer` of `pilots` keeps its contract.
+use Rattle.pilot_sets.proofs.Common.{arith, common_steps}
+use Rattle.std.proofs.lemmas.Int.{ints}
+use Rattle.pilot_sets.proofs.pilots.has_timer.Goals as goal
+
+pub returns-then-has : goal.returns-then-has
+returns-then-has c = grind (ints, arith, common_steps)
+
+pub returns-else-has : goal.returns-else-has
+returns-else-has c = grind (ints, arith, common_steps)

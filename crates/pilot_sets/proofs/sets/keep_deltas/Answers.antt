@@ -1,0 +1,7 @@
+-- Why `keep_deltas` of `sets` keeps its contract.
+use Rattle.pilot_sets.proofs.Common.{arith, common_steps}
+use Rattle.std.proofs.lemmas.Int.{ints}
+use Rattle.pilot_sets.proofs.sets.keep_deltas.Goals as goal
+
+pub loop-s-preserved : goal.loop-s-preserved
+loop-s-preserved c = grind (ints, arith, common_steps)
