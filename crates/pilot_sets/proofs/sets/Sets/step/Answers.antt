@@ -1,8 +1,11 @@
 -- Why `step` of `sets::Sets` keeps its contract.
-use Rattle.pilot_sets.proofs.Common.{◌≡◌, ℕ, List, None, ap, ◌∙◌, subst, sym, energy_in, measured, deltas_with, IsOrderly, Standing}
+use Rattle.pilot_sets.proofs.Common.{◌≡◌, refl, ℕ, List, None, ap, ◌∙◌, subst, sym, energy_in, measured, deltas_with, IsOrderly, Standing}
 use Rattle.pilot_sets.proofs.Common.{PilotSets}
-use Rattle.std.specs.Prelude.{ℤ}
-use Rattle.pilot_sets.specs.Standing.{stepped}
+use Rattle.std.specs.Prelude.{ℤ, Bool}
+use Rattle.pilot_sets.proofs.Common.{began_in}
+use Rattle.pilot_sets.specs.Moments.{is_reported}
+use Rattle.pilot_sets.specs.Standing.{change_at, is_changed, stepped}
+use Rattle.pilot_sets.specs.declared.change.SetChange.{SetChange}
 use Rattle.pilot_sets.specs.declared.standing.Began.{Began}
 use Rattle.pilot_sets.specs.declared.strengths.Strength.{Strength}
 use Rattle.pilot_sets.proofs.Orders.{measured_orderly}
@@ -10,6 +13,18 @@ use Rattle.pilot_sets.proofs.sets.Sets.step.Goals as goal
 
 abbrev standing_with : PilotSets → List ℤ → Standing
 standing_with sets deltas = record { sets = sets; began = None; deltas = deltas }
+
+abbrev shown_change : Bool → Bool → SetChange
+shown_change changed report = record { changed = changed; report = report }
+
+-- the change that is shown, where each part of it is what its call says
+change_shown : (s : Standing) (power time : ℕ) (began : Began) (ns : List ℕ) (xs ys : List Strength)
+    (new : PilotSets) (changed report : Bool) → began ≡ began_in s → ns ≡ began.neighbors → xs ≡ ys →
+    new ≡ measured (energy_in xs) power time ns s.sets → changed ≡ is_changed began new →
+    report ≡ is_reported (energy_in xs) power time ns s.sets →
+    shown_change changed report ≡ change_at ys power time s
+change_shown s power time began ns xs ys new changed report began_is ns_is xs_is new_is changed_is
+    report_is = rw (changed_is, report_is, new_is, ns_is, xs_is, began_is) refl
 
 pub keep_deltas-requires : goal.keep_deltas-requires
 keep_deltas-requires c = rw c.all.ensures c.requires.pilots
@@ -40,3 +55,14 @@ returns-clause-sets c =
     ≡ stepped strengths c.args.power c.args.time s) c.self.view_is
     (ap (λ (x : PilotSets). standing_with x c.keep_deltas.new.deltas) sets
     ∙ ap (standing_with _) deltas)
+
+pub returns-clause-change : goal.returns-clause-change
+returns-clause-change c =
+    let is = c.self.inside in
+    let old : Standing = record { sets = is.sets; began = is.began; deltas = is.deltas } in
+    subst (λ (s : Standing). shown_change c.is_changed-changed.result c.measure-report.result
+    ≡ change_at c.args.strengths.now c.args.power c.args.time s) c.self.view_is
+    (change_shown old c.args.power c.args.time c.began_in-began.result c.all-2.result.now
+    c.all-3.result.now c.args.strengths.now c.measure-report.new.sets _ _ c.began_in-began.ensures
+    c.all-2.ensures.value c.all-3.ensures c.measure-report.ensures.sets c.is_changed-changed.ensures
+    c.measure-report.ensures.report)
