@@ -5,7 +5,7 @@ use crate::thresholds::Thresholds;
 use traffic_message::Search;
 
 /// A pilot of the active set.
-#[derive(Clone, Copy, PartialEq, Eq, Debug)]
+#[derive(Clone, Copy, Debug)]
 pub(crate) struct ActivePilot {
     /// The pilot's offset, in steps of 64 chips (PILOT_PN).
     pub pilot: u16,
@@ -33,7 +33,7 @@ impl Filler for ActivePilot {
 }
 
 /// A pilot of the candidate set.
-#[derive(Clone, Copy, PartialEq, Eq, Debug)]
+#[derive(Clone, Copy, Debug)]
 pub(crate) struct CandidatePilot {
     /// The pilot's offset, in steps of 64 chips (PILOT_PN).
     pub pilot: u16,
@@ -55,7 +55,7 @@ impl Filler for CandidatePilot {
 }
 
 /// A pilot that a handoff direction names.
-#[derive(Clone, Copy, PartialEq, Eq, Debug)]
+#[derive(Clone, Copy, Debug)]
 pub(crate) struct NamedPilot {
     /// The pilot's offset, in steps of 64 chips (PILOT_PN).
     pub pilot: u16,
@@ -88,7 +88,7 @@ impl Filler for u16 {
 }
 
 /// A handoff direction that was accepted.
-#[derive(Clone, Copy, PartialEq, Eq, Debug)]
+#[derive(Clone, Copy, Debug)]
 pub(crate) struct Accepted {
     /// The time at which it takes effect, in moments.
     pub time: u64,
@@ -99,7 +99,7 @@ pub(crate) struct Accepted {
 }
 
 /// The three sets, the thresholds, and the direction that waits.
-#[derive(Clone, Copy, PartialEq, Eq, Debug)]
+#[derive(Clone, Copy, Debug)]
 pub(crate) struct PilotSets {
     pub active: Few<ActivePilot, 6>,
     pub candidates: Few<CandidatePilot, 10>,
@@ -109,7 +109,7 @@ pub(crate) struct PilotSets {
 }
 
 /// The lists when a moment began.
-#[derive(Clone, Copy, PartialEq, Eq, Debug)]
+#[derive(Clone, Copy, Debug)]
 pub(crate) struct Began {
     pub active: Few<ActivePilot, 6>,
     pub candidates: Few<CandidatePilot, 10>,
