@@ -1,4 +1,6 @@
 -- Why `power_softs` of `leg_softs` keeps its contract.
+use Rattle.std.proofs.lemmas.Grind.{common_steps}
+use Rattle.std.proofs.lemmas.Int.{ints}
 use Rattle.heard_events.proofs.Common.{◌≡◌, ◌∙◌, ℕ, ℤ, List, true, false, take, sym, ap, arith, group_sums, sums_on, has_subchannel}
 use Rattle.heard_events.proofs.Common.{places, Sample}
 use Rattle.heard_events.proofs.LegSubsets.{sums_more, sums_same}
@@ -43,3 +45,9 @@ loop-subchannel-preserved c =
             few = omega (arith, had.few);
           })
     ]
+
+pub push-requires-clause-rising : goal.push-requires-clause-rising
+push-requires-clause-rising c = grind (ints, arith, common_steps)
+
+pub push-requires-clause-below : goal.push-requires-clause-below
+push-requires-clause-below c = grind (ints, arith, common_steps)

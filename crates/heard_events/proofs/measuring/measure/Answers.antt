@@ -1,4 +1,6 @@
 -- Why `measure` of `measuring` keeps its contract.
+use Rattle.std.proofs.lemmas.Grind.{common_steps}
+use Rattle.std.proofs.lemmas.Int.{ints}
 use Rattle.heard_events.proofs.Common.{◌≡◌, ◌<◌, ◌≤◌, ◌++◌, ◌∷◌, [], arith, length-append, rules, unsigned_abs, Strength, pilot_strength}
 use Rattle.heard_events.proofs.Common.{All-push}
 use Rattle.heard_events.proofs.LegLists.{all_at, map_at}
@@ -27,3 +29,6 @@ loop-i-preserved c =
       close = All-push (λ (s : Strength). unsigned_abs s.delta ≤ 226) c.loop-i.strengths one
           had.close is.close;
     })
+
+pub returns-clause-value : goal.returns-clause-value
+returns-clause-value c = grind (ints, arith, common_steps)

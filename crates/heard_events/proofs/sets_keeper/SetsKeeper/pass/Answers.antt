@@ -1,5 +1,6 @@
 -- Why `pass` of `sets_keeper::SetsKeeper` keeps its contract.
 use Rattle.heard_events.proofs.Common.{◌≤◌, ◌+◌, ◌∙◌, ℤ, List, All, ap, sym, arith, subst, unsigned_abs, Standing, SetChange, changed, ◌≡◌}
+use Rattle.std.proofs.lemmas.Bool.{false≢true}
 use Rattle.heard_events.proofs.Common.{refl, moment_events, passed}
 use Rattle.heard_events.proofs.ActiveLegs.{deltas_close, due_deltas}
 use Rattle.heard_events.proofs.sets_keeper.SetsKeeper.pass.Goals as goal
@@ -45,5 +46,5 @@ returns-clause-sound c =
           (deltas_close c.measure-strengths.result c.due.new.self.deltas
           c.measure-strengths.ensures.close before);
       few = omega (arith, early);
-      early = λ due. absurd (cc);
+      early = λ due. absurd (false≢true due);
     }
