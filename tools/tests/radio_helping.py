@@ -1,5 +1,6 @@
 """What the tests of the radio tools share: cells and recordings that are made without the program."""
 
+import functools
 import os
 import subprocess
 import unittest
@@ -18,9 +19,12 @@ PHASE = 12_345
 GAINS = {0: 100, 32: 40, 1: 80, 10: 70}
 
 
+@functools.cache
 def code() -> NDArray[numpy.complex128]:
-    """The pilot's code, by the recursions that make_capture has."""
-    return numpy.array(signs(I_LAGS)) + 1j * numpy.array(signs(Q_LAGS))
+    """The pilot's code, by the recursions that make_capture has: nobody may change it."""
+    made = numpy.array(signs(I_LAGS)) + 1j * numpy.array(signs(Q_LAGS))
+    made.flags.writeable = False
+    return made
 
 
 def cell_chips(

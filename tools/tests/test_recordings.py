@@ -4,7 +4,6 @@ import collections
 import contextlib
 import io
 import os
-import subprocess
 import unittest
 
 from tools.tests.helping import NO_PROGRAM, PROGRAM, PYTHON, ROOT, loaded, needs, temporary_folder
@@ -14,6 +13,7 @@ needs("numpy", "scipy")
 import numpy  # noqa: E402
 
 from cdma_tools.radio import bench_cases, bench_cells  # noqa: E402
+from model.run import run  # noqa: E402
 from tools.tests.radio_helping import run_main  # noqa: E402
 
 RUNNER = "conformance_recordings"
@@ -85,17 +85,20 @@ class Cases(Programs):
 
 
 class Benches(Programs):
+    def made(self, script: str) -> None:
+        """That the model makes the 64 samples of a script."""
+        made = run(["make"], lambda: script.encode("ascii"))
+        self.assertEqual((made.status, len(made.text())), (0, 16 + 4 * 64), (script, made.said))
+
     def test_each_cell_is_lawful(self) -> None:
-        for name, cell in bench_cases.CELLS.items():
+        for cell in bench_cases.CELLS.values():
             script = bench_cases.script_of(cell, samples=64)
-            ran = subprocess.run([self.model, "make"], input=script.encode("ascii"), capture_output=True)
-            self.assertEqual((ran.returncode, len(ran.stdout)), (0, 16 + 4 * 64), (name, ran.stderr))
+            self.made(script)
 
     def test_each_busy_cell_is_lawful(self) -> None:
         for number in range(len(bench_cells.OFFSETS)):
             script = bench_cells.busy_script(number, samples=64)
-            ran = subprocess.run([self.model, "make"], input=script.encode("ascii"), capture_output=True)
-            self.assertEqual((ran.returncode, len(ran.stdout)), (0, 16 + 4 * 64), ran.stderr)
+            self.made(script)
         names = [case.name for case in bench_cells.CELLS_CASES]
         self.assertEqual(len(set(names)), len(names))
 
