@@ -129,6 +129,8 @@ class Check(Folder):
 
 
 class Agree(unittest.TestCase):
+    seconds = 10
+
     def setUp(self) -> None:
         self.folder = temporary_folder(self.addCleanup)
 
@@ -179,6 +181,8 @@ class Agree(unittest.TestCase):
 
 
 class Explain(unittest.TestCase):
+    seconds = 10
+
     folder: ClassVar[str]
     path: ClassVar[str]
 

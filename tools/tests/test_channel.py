@@ -33,6 +33,8 @@ def ratio(level: float) -> float:
 
 
 class Recorded(Recordings):
+    seconds = 15
+
     CHIPS = 70_000
 
     def samples(self, *words: object, kind: str = "cf32_le", rate: float = RATE) -> NDArray[Any]:

@@ -142,6 +142,8 @@ class Curves(unittest.TestCase):
 
 
 class Counts(Curves):
+    seconds = 20
+
     def test_one_worker_and_three_count_the_same(self) -> None:
         code, table, lines = self.ran(self.words("--workers", "3"), cwd=self.folder)
         self.assertEqual((code, lines), (0, []))
@@ -231,6 +233,8 @@ class Counts(Curves):
 
 
 class Broken(Curves):
+    parted, seconds = True, 15
+
     def test_a_killed_run_goes_on_where_it_was(self) -> None:
         slow = self.program("fake", "slow")
         child = self.start(self.words("--workers", "2", maker=slow))
@@ -266,6 +270,8 @@ class Broken(Curves):
 
 
 class Cluster(Curves):
+    parted, seconds = True, 15
+
     def scheduler(self) -> tuple[subprocess.Popen[bytes], str]:
         """A scheduler of its own on this machine, and its address."""
         return started_scheduler(self.folder, self.addCleanup)
@@ -361,6 +367,8 @@ class Faults(Curves):
 
 @unittest.skipUnless(PROGRAM, NO_PROGRAM)
 class OfTheProgram(Curves):
+    parted, seconds = True, 15
+
     def measured(
         self, script: str, *more: str, begin: float, end: float | None = None, frames: int = 700, out: str = "out"
     ) -> list[dict[str, str]]:

@@ -212,6 +212,8 @@ class Domains(unittest.TestCase):
 
 
 class Recorded(Recordings):
+    seconds = 20
+
     CHIPS = 1_240_000
 
     @classmethod

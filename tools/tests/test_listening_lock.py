@@ -82,6 +82,8 @@ def ec_io(first: int, chips: NDArray[numpy.complex128]) -> float:
 class LockTest(Recordings):
     """A cell of some seconds over a link, locked as a stream."""
 
+    seconds = 40
+
     CHIPS = 3 * CHIP_RATE
     CLOCK = 4e-6
 
@@ -272,6 +274,8 @@ def merged(pieces: list[Piece]) -> list[Piece]:
 
 class FadingTest(unittest.TestCase):
     """A cell over two paths that fade within a chip of each other, whose best instants many fades have to tell."""
+
+    seconds = 40
 
     SECONDS, SETTLED, KIND, RATE = 16, 8, "cu8", 1_500_000
     LINK = "--paths 0:0:0:30,0.6:-1:0:30 --ec-io -8 --carrier 1500 --clock 4 --delay 0.7"

@@ -26,6 +26,8 @@ from tools.tests.radio_helping import (  # noqa: E402
 
 
 class Found(Recordings):
+    parted, seconds = True, 10
+
     def holds(self, found: dict[str, str], carrier: float, clock: float, ec_io: float) -> None:
         """That the figures are the recording's, within what half a second shows."""
         self.assertAlmostEqual(float(found["carrier_hz"]), carrier, delta=4)
@@ -194,6 +196,8 @@ class Written(Recordings):
 
 
 class Losses(Recordings):
+    seconds = 15
+
     CHIPS = 1_500_000
 
     def test_lost_samples_are_bridged(self) -> None:
@@ -238,6 +242,8 @@ class Losses(Recordings):
 
 
 class Refusals(Recordings):
+    seconds = 20
+
     CHIPS = 100_000
 
     def raw(self, samples: NDArray[Any]) -> tuple[str, ...]:

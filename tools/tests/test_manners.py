@@ -83,6 +83,8 @@ class Folder(unittest.TestCase):
 class Command(unittest.TestCase):
     """What each tool has."""
 
+    seconds = 15
+
     def test_each_tells_the_version_of_the_project(self) -> None:
         self.assertIn("tools/hostile", WAYS)
         for way in WAYS:
@@ -517,6 +519,8 @@ class Interrupts(Folder):
 
     So does SIGTERM, as `timeout` sends it to the group.
     """
+
+    parted, seconds = True, 15
 
     def broken_off(
         self,

@@ -105,6 +105,8 @@ class Parts(unittest.TestCase):
 class Pages(unittest.TestCase):
     """Each page in a folder of its own."""
 
+    parted, seconds = True, 50
+
     def setUp(self) -> None:
         self.folder = temporary_folder(self.addCleanup)
         self.bin = temporary_folder(self.addCleanup)

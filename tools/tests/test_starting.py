@@ -52,6 +52,8 @@ def name_of(way: str) -> str:
 class Imports(unittest.TestCase):
     """An interrupt at a certain import, whatever the machine's speed is."""
 
+    parted, seconds = True, 20
+
     def test_each_tool(self) -> None:
         for way in WAYS:
             with self.subTest(way):
@@ -83,6 +85,8 @@ class Imports(unittest.TestCase):
 
 class Instants(unittest.TestCase):
     """An interrupt some time after a tool has begun to hear them: it ends so, or has done what it was asked for."""
+
+    seconds = 20
 
     def test_instants(self) -> None:
         for way in ("tools/report", "tools/curve", "conformance/run"):
