@@ -1,6 +1,7 @@
 """Processes that share work, and end with Ctrl-C without a word."""
 
 import contextlib
+import functools
 import os
 import signal
 from collections.abc import Callable, Iterable, Iterator
@@ -92,13 +93,31 @@ def mapped(function: Callable[[Item], Made], items: Iterable[Item], jobs: int, c
         executor.shutdown(cancel_futures=True)
 
 
-def add_jobs_option(parser: Parser, what: str) -> None:
-    """Adds the option --jobs, how many things of a kind are done at once."""
+def taking_back(function: Callable[[Item], Made], item: Item) -> Made:
+    """What a function makes of an item, which takes back what it has begun where it is interrupted."""
+    try:
+        for number in (signal.SIGINT, signal.SIGTERM):
+            signal.signal(number, signal.default_int_handler)
+        return function(item)
+    finally:
+        hear_interrupts()
+
+
+def mapped_in_turn(function: Callable[[Item], Made], items: Iterable[Item], jobs: int) -> Iterator[Made]:
+    """What a function makes of each item, in their order: in this process, or by so many, if more than one, which end
+    what they have begun where they are interrupted."""
+    if jobs == 1:
+        return map(function, items)
+    return mapped(functools.partial(taking_back, function), items, jobs)
+
+
+def add_jobs_option(parser: Parser, what: str, jobs: int = 0) -> None:
+    """Adds the option --jobs, how many things of a kind are done at once: so many, or one a processor, by itself."""
     processors = min(os.cpu_count() or 1, MOST_JOBS)
     parser.add_argument(
         "--jobs",
         type=whole_within(1, MOST_JOBS),
-        default=processors,
+        default=jobs or processors,
         metavar="N",
-        help=f"{what} at once, else one a processor",
+        help=f"{what} at once, " + (f"1 to {MOST_JOBS} [{jobs}]" if jobs else "else one a processor"),
     )

@@ -13,6 +13,7 @@ case.
     conformance/run crates/cdma_replay/out/cdma_replay
     conformance/run --maker cdma_replay ./receiver
     conformance/run --junit results.xml --tap ./receiver
+    conformance/run --jobs 4 ./receiver
     conformance/run --list
 
 Each case names the rules that it rests on; --list and --rules tell whose they are. With --standard only those cases
@@ -40,6 +41,7 @@ Exit status: 0 nothing differs, 1 something does, 2 wrong arguments or a case th
 from __future__ import annotations
 
 import argparse
+import functools
 import shlex
 import time
 from collections.abc import Sequence
@@ -51,6 +53,7 @@ from cdma_tools.conformance.options import add_options, checked
 from cdma_tools.conformance.rules import table_rows
 from cdma_tools.errors import Refused
 from cdma_tools.results import Result, Results, Verdict, add_result_options
+from cdma_tools.workers import mapped_in_turn
 
 MAKES = "it asks for samples or for a trial, and --maker names another program for these"
 
@@ -110,16 +113,18 @@ def reason_of(case: Case, options: argparse.Namespace) -> str:
     return MAKES if options.maker and not options.only and case.makes() else ""
 
 
+def taken(options: argparse.Namespace, name: str) -> tuple[Result, str]:
+    """What comes of a case that may be left out, and what a reader is told of it."""
+    case = Case(name)
+    why = reason_of(case, options)
+    return (Result(name, case.purpose, left_out=why), "") if why else result_of(case, options)
+
+
 def run_all(names: Sequence[str], options: argparse.Namespace) -> int:
     """Runs the cases, writes what differs, and answers in how many something does."""
     results = Results("conformance", options, len(names))
-    for name in names:
-        case = Case(name)
-        why = reason_of(case, options)
-        if why:
-            results.take(Result(name, case.purpose, left_out=why))
-        else:
-            results.take(*result_of(case, options))
+    for result, text in mapped_in_turn(functools.partial(taken, options), names, options.jobs):
+        results.take(result, text)
     left = results.count(Verdict.LEFT_OUT)
     ran, differ = len(names) - left, results.count(Verdict.FAILED)
     what = "that the standard doesn't fix" if options.standard else "of make and trial"

@@ -10,6 +10,7 @@ written from the rules in docs/LINK.md and docs/FORMATS.md. --clean leaves the r
 
     conformance/run_recordings crates/cdma_replay/out/cdma_replay
     conformance/run_recordings --maker cdma_replay ./receiver
+    conformance/run_recordings --jobs 4 ./receiver
     conformance/run_recordings --json ./receiver > results.json
     conformance/run_recordings --list
 
@@ -21,6 +22,7 @@ Exit status: 0 nothing differs, 1 something does, 2 wrong arguments or a case th
 
 import argparse
 import difflib
+import functools
 import os
 import re
 import subprocess
@@ -35,6 +37,7 @@ from cdma_tools.errors import Refused, printable
 from cdma_tools.places import CONFORMANCE
 from cdma_tools.receiver_run import ended_text, run_receiver
 from cdma_tools.results import Result, Results, Verdict, add_result_options
+from cdma_tools.workers import mapped_in_turn
 
 CASES = os.path.join(CONFORMANCE, "recordings")
 TOLD = ("sync ", "paging ", "traffic ", "frame ", "frame2 ")
@@ -157,9 +160,9 @@ def parser() -> Parser:
     return words
 
 
-def result_of(case: RecordedCase, options: argparse.Namespace) -> tuple[Result, str]:
+def result_of(options: argparse.Namespace, name: str) -> tuple[Result, str]:
     """What comes of a case, and what a reader is told of it."""
-    began = time.monotonic()
+    began, case = time.monotonic(), RecordedCase(name)
     with tempfile.TemporaryDirectory(prefix="recordings-") as folder:
         found = tried(case, options, options.keep or folder)
     purpose = case.fields["purpose"]
@@ -171,8 +174,8 @@ def result_of(case: RecordedCase, options: argparse.Namespace) -> tuple[Result, 
 def run_all(names: list[str], options: argparse.Namespace) -> int:
     """Tries the cases, writes what differs, and answers in how many something does."""
     results = Results("recordings", options, len(names))
-    for name in names:
-        results.take(*result_of(RecordedCase(name), options))
+    for result, text in mapped_in_turn(functools.partial(result_of, options), names, options.jobs):
+        results.take(result, text)
     return results.end(f"{len(names)} recordings, {results.count(Verdict.FAILED)} differ\n")
 
 

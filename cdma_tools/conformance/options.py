@@ -5,6 +5,7 @@ import os
 
 from cdma_tools.arguments import Parser, add_minutes_option
 from cdma_tools.program import add_program_option, find_program
+from cdma_tools.workers import add_jobs_option
 
 SUFFIX = ".case"
 
@@ -24,6 +25,7 @@ def add_options(parser: Parser, made: str, kept: str) -> None:
     parser.add_argument("--only", metavar="NAME", action="append", help="this case alone; may be given again")
     parser.add_argument("--keep", metavar="FOLDER", help=f"keep {kept} in this folder")
     add_minutes_option(parser)
+    add_jobs_option(parser, "cases that are asked", 1)
     parser.add_argument("--list", action="store_true", help="say what each case is for, and run none")
 
 

@@ -335,6 +335,17 @@ class AsksOfBytes(Asks):
         self.assertNotIn("two: find\n", said)
         self.assertIn("1 cases, 1 differ", said)
 
+    def test_several_cases_at_once(self) -> None:
+        """Three receivers that wait for each other: what is said is in the cases' order, as that of one at a time is."""
+        for name, byte, said in (("a", "31", "1"), ("b", "32", "9"), ("c", "33", "3")):
+            self.write("purpose: a byte", "words: find", "status: 0", "file:", f"  {byte}", "text:", f"  {said}", name=name)
+        told = self.run_with([], "cat; echo")
+        self.assertEqual(told[0], 1)
+        self.assertTrue(told[1].startswith("b: a byte: find\n") and told[1].endswith("3 cases, 1 differ\n"), told)
+        met = self.at("met")
+        wait = f"while [ $(ls {met}* | wc -l) -lt 3 ]; do sleep 0.05; done"
+        self.assertEqual(self.run_with(["--jobs", "3", "--minutes", "1"], f"n=$(cat); touch {met}$n; {wait}; echo $n"), told)
+
     def test_the_line_on_standard_error(self) -> None:
         self.given("error: bad words", status=2)
         self.accepts("echo said; echo bad words >&2; exit 2")

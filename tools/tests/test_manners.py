@@ -566,6 +566,7 @@ class Interrupts(Folder):
             ("tools/agree", "--seed", "1", "--count", "8", "--jobs", "2", "PROGRAM"),
             ("tools/curve", *"--program PROGRAM".split(), *self.curve_words()),
             ("conformance/run", "PROGRAM"),
+            ("conformance/run", "--jobs", "2", "--only", "file_empty", "--only", "follow_zeros", "PROGRAM"),
         )):  # fmt: skip
             program, marker = self.slow(number)
             with self.subTest(way):
@@ -576,6 +577,7 @@ class Interrupts(Folder):
         for number, (way, *words) in enumerate((
             ("tools/report", self.cell, "--out", self.at("page.html"), "--program", "PROGRAM"),
             ("tools/agree", "--seed", "1", "--count", "8", "--jobs", "2", "PROGRAM"),
+            ("conformance/run", "--jobs", "2", "--only", "file_empty", "--only", "follow_zeros", "PROGRAM"),
         )):  # fmt: skip
             program, marker = self.slow(number)
             with self.subTest(way):
