@@ -7,6 +7,7 @@ use Rattle.cell_script.proofs.Common.{PagingPlan, PilotPlan, SyncPlan, TrafficPl
 use Rattle.cell_script.proofs.Common.{ChannelLine, channel, channel_lines, first_channels, gain_fault, is_used, long_fault, loud_fault}
 use Rattle.cell_script.proofs.Common.{paging_lines, plan_fault, repeated, repeated_behind, silent, traffic_lines, walsh_fault, on_last}
 use Rattle.cell_script.proofs.Common.{with_page, map, one_frame_more, one_page_more, with_frame, gains_of, judged_fault, HasJudged, HasSeen}
+use Rattle.cell_script.proofs.Common.{PagingLine, TrafficLine, map-append, opened_paging, opened_traffic}
 use Rattle.std.proofs.Math.Bool.{or-false}
 
 -- ---- one line more
@@ -177,6 +178,47 @@ judged_frame judge plan frame before = record {
       (sym (ap (λ (ls : List ChannelLine). paging_lines plan.paging ++ ls)
       (lines-on_last traffic_line_of (one_frame_more frame) (λ t. refl) plan.traffic)))
       before.channels;
+}
+
+-- a paging channel more stands last where there is no traffic channel yet
+behind_paging : (ls : List ChannelLine) (traffic : List TrafficPlan) (l : ChannelLine) →
+    traffic ≡ [] →
+    (ls ++ traffic_lines traffic) ++ l ∷ [] ≡ (ls ++ l ∷ []) ++ traffic_lines traffic
+behind_paging ls traffic l none =
+    subst (λ (ts : List TrafficPlan).
+    (ls ++ traffic_lines ts) ++ l ∷ [] ≡ (ls ++ l ∷ []) ++ traffic_lines ts) (sym none)
+    (ap (λ (all : List ChannelLine). all ++ l ∷ []) (append-nil ls) ∙ sym (append-nil (ls ++ l ∷ [])))
+
+pub judged_paging : (judge : Judge) (plan : CellPlan) (line : PagingLine) (rows : ChannelRows) →
+    plan.traffic ≡ [] →
+    HasSeen rows (channel_lines plan ++ channel line.number line.gain ∷ []) →
+    HasJudged judge plan →
+    HasJudged (record judge { channels = rows })
+    (record plan { paging = plan.paging ++ opened_paging line ∷ [] })
+judged_paging judge plan line rows none seen before = record {
+  link = before.link;
+  pilot = before.pilot;
+  sync = before.sync;
+  channels = subst (HasSeen rows)
+      (behind_paging (paging_lines plan.paging) plan.traffic (channel line.number line.gain) none
+      ∙ ap (λ (ls : List ChannelLine). ls ++ traffic_lines plan.traffic)
+      (sym (map-append line_of plan.paging (opened_paging line ∷ [])))) seen;
+}
+
+-- and so does a traffic channel more
+pub judged_traffic : (judge : Judge) (plan : CellPlan) (line : TrafficLine) (rows : ChannelRows) →
+    HasSeen rows (channel_lines plan ++ channel line.row line.gain ∷ []) → HasJudged judge plan →
+    HasJudged (record judge { channels = rows })
+    (record plan { traffic = plan.traffic ++ opened_traffic line ∷ [] })
+judged_traffic judge plan line rows seen before = record {
+  link = before.link;
+  pilot = before.pilot;
+  sync = before.sync;
+  channels = subst (HasSeen rows)
+      (append_assoc (paging_lines plan.paging) (traffic_lines plan.traffic)
+      (channel line.row line.gain ∷ [])
+      ∙ ap (λ (ls : List ChannelLine). paging_lines plan.paging ++ ls)
+      (sym (map-append traffic_line_of plan.traffic (opened_traffic line ∷ [])))) seen;
 }
 
 -- ---- faults
