@@ -1,11 +1,18 @@
 -- How many bits the frames of a format have, and how their codewords are made.
-use Rattle.std.proofs.Common.{◌≡◌, ◌+◌, ◌≤◌, Bool, false, List, ◌++◌, length, replicate, refl, ap, ◌∙◌, arith, length-append}
+use Rattle.std.proofs.Common.{◌≡◌, ◌+◌, ◌*◌, ◌/◌, ◌≤◌, ℕ, Bool, false, List, ◌++◌, length, replicate, refl, sym, ap, ◌∙◌, arith, length-append}
+use Rattle.std.proofs.Math.Nat.{div-eq_of_eq-mul_left}
 use Rattle.std.proofs.lemmas.List.{length-replicate}
 use Rattle.chip_core.specs.Bits.{binary}
 use Rattle.quality_bits.specs.Kinds.{quality_indicator}
 use Rattle.quality_bits.specs.declared.format.FrameFormat.{FrameFormat}
 use Rattle.quality_bits.specs.Formats.{bits_in, format_codeword}
 use Rattle.quality_bits.proofs.Ends.{length-quality_indicator}
+
+-- code symbols that are repeated so often, over the repeats as they were read
+pub symbols_over_repeats : (count repeats from total : ℕ) → from ≡ repeats → 1 ≤ repeats →
+    count * repeats ≡ total → total / from ≡ count
+symbols_over_repeats count repeats from total same some fills =
+    rw same (div-eq_of_eq-mul_left some (sym fills))
 
 pub bits_least : {R : Type 0} (format : FrameFormat R) → 8 ≤ bits_in format
 bits_least format = omega arith

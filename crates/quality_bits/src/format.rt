@@ -10,6 +10,7 @@ use crate::checking::append_check;
 use crate::kind::Kind;
 use chip_core::air::{DATA_SYMBOLS, TAIL_BITS};
 use chip_core::{Bits, CheckForm};
+use std::alloc::AllocError;
 
 /// How many symbols a frame of rate set 2 has before some are dropped.
 pub const REPEATED_SYMBOLS: usize = 576;
@@ -17,7 +18,7 @@ pub const REPEATED_SYMBOLS: usize = 576;
 /// A rate of a rate set, and what its frames are made of.
 ///
 /// TIA/EIA-95-B, 7.1.3.5 and 7.1.3.1.4. A frame ends with eight tail bits, whatever its rate.
-#[derive(Clone, Copy)]
+#[derive(Copy)]
 pub struct FrameFormat<R> {
     /// The rate.
     pub rate: R,
@@ -29,6 +30,18 @@ pub struct FrameFormat<R> {
     pub repeats: u8,
     /// Whether the third and the fifth of each six repeated symbols are dropped.
     pub drops: bool,
+}
+
+impl<R: Copy> Clone for FrameFormat<R> {
+    ghost use Rattle.std.specs.Prelude.{◌≡◌, ⊤};
+
+    ghost is_clone = { λ old new. new ≡ old };
+
+    ghost is_infallible = { λ _. ⊤ };
+
+    fn clone(&self) -> Result<Self, AllocError> {
+        Ok(*self)
+    }
 }
 
 impl<R: Copy> FrameFormat<R> {

@@ -1,6 +1,6 @@
 -- Why `is_whole` of `capsule` keeps its contract.
 use Rattle.std.proofs.Common.{sym, ◌∙◌}
-use Rattle.std.proofs.lemmas.Bool.{eqb-true, eq-eqb}
+use Rattle.std.proofs.lemmas.Bool.{eqb-true, eq-eqb, false≢true}
 use Rattle.quality_bits.proofs.Opened.{stated_bounds, stated_from}
 use Rattle.quality_bits.proofs.capsule.is_whole.Goals as goal
 
@@ -19,7 +19,7 @@ returns-in-Some c =
 
 pub returns-in-None : goal.returns-in-None
 returns-in-None c = (
-  λ none. absurd (cc),
+  λ none. absurd (false≢true none),
   λ whole. absurd
       (c.in-None.ensures (stated_from c.args.bits.now whole.told whole.least whole.most)),
 )
