@@ -109,3 +109,21 @@ returns c =
     let all = picked_all c.args.k c.loop-n.i c.loop-n.j c.loop-n._n _ _ c.loop-n.scores
     c.loop-n.choices (omega arith) c.loop-n.invariant.picked in
     rw (to_z-of_z w64 c.args.even_gain c.ranges.even_gain, to_z-of_z w64 c.args.odd_gain c.ranges.odd_gain) at all
+
+pub sum_at-requires-clause-room : goal.sum_at-requires-clause-room
+sum_at-requires-clause-room c = rw (to_z-of_z w64 c.args.odd_gain c.ranges.odd_gain) c.requires.odd_room
+
+pub sum_at-requires-then-i-len-clause-room : goal.sum_at-requires-then-i-len-clause-room
+sum_at-requires-then-i-len-clause-room c = rw (to_z-of_z w64 c.args.even_gain c.ranges.even_gain) c.requires.even_room
+
+pub takes_odd-requires-clause-even_room : goal.takes_odd-requires-clause-even_room
+takes_odd-requires-clause-even_room c = rw (to_z-of_z w64 c.args.even_gain c.ranges.even_gain) c.requires.even_room
+
+pub takes_odd-requires-clause-odd_room : goal.takes_odd-requires-clause-odd_room
+takes_odd-requires-clause-odd_room c = rw (to_z-of_z w64 c.args.odd_gain c.ranges.odd_gain) c.requires.odd_room
+
+pub picked_of_full-requires-clause-even_room : goal.picked_of_full-requires-clause-even_room
+picked_of_full-requires-clause-even_room c = rw (to_z-of_z w64 c.args.even_gain c.ranges.even_gain) c.requires.even_room
+
+pub picked_of_full-requires-clause-odd_room : goal.picked_of_full-requires-clause-odd_room
+picked_of_full-requires-clause-odd_room c = rw (to_z-of_z w64 c.args.odd_gain c.ranges.odd_gain) c.requires.odd_room

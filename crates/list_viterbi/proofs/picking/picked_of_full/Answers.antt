@@ -88,3 +88,9 @@ returns c =
     let all = picked_all c.args.k (c.loop-n.n - c.loop-n.j) c.loop-n.j c.loop-n.n _ _
     c.loop-n.scores c.loop-n.choices (omega arith) c.loop-n.invariant.picked in
     rw (to_z-of_z w64 c.args.even_gain c.ranges.even_gain, to_z-of_z w64 c.args.odd_gain c.ranges.odd_gain) at all
+
+pub sum_at-requires-clause-room : goal.sum_at-requires-clause-room
+sum_at-requires-clause-room c = rw (to_z-of_z w64 c.args.even_gain c.ranges.even_gain) c.requires.even_room
+
+pub sum_at-requires-in-loop-n-clause-room : goal.sum_at-requires-in-loop-n-clause-room
+sum_at-requires-in-loop-n-clause-room c = rw (to_z-of_z w64 c.args.odd_gain c.ranges.odd_gain) c.requires.odd_room

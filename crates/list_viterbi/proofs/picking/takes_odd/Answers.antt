@@ -31,3 +31,9 @@ returns c =
     )
     (sym (odd_by_sum c.args.i c.args.j c.args.even_gain c.args.odd_gain c.args.even.now
     c.args.odd.now (omega arith) (omega arith)))
+
+pub sum_at-requires-clause-room : goal.sum_at-requires-clause-room
+sum_at-requires-clause-room c = rw (to_z-of_z w64 c.args.even_gain c.ranges.even_gain) c.requires.even_room
+
+pub sum_at-requires-2-clause-room : goal.sum_at-requires-2-clause-room
+sum_at-requires-2-clause-room c = rw (to_z-of_z w64 c.args.odd_gain c.ranges.odd_gain) c.requires.odd_room
