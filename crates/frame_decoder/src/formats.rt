@@ -8,6 +8,7 @@ use crate::frame_softs::FrameSofts;
 use chip_core::air::TAIL_BITS;
 use chip_core::{Bits, CheckForm};
 use quality_bits::check;
+use std::alloc::AllocError;
 use symbol_path::{FrameFormat, REPEATED_SYMBOLS, gather_frame_into};
 use viterbi::{Codeword, Decoder, Ends};
 
@@ -21,7 +22,7 @@ pub struct ScoredCodeword {
 }
 
 /// What is decoded of a frame.
-#[derive(Clone, Copy)]
+#[derive(Copy)]
 pub struct DecodedFrame<R> {
     /// The rate at which it was sent, and the highest where it isn't good.
     pub rate: R,
@@ -32,6 +33,18 @@ pub struct DecodedFrame<R> {
     /// How well the best candidate's symbols agree with the soft values, and where there is none
     /// those of the best codeword at the highest rate.
     pub score: i64,
+}
+
+impl<R: Copy> Clone for DecodedFrame<R> {
+    ghost use Rattle.std.specs.Prelude.{◌≡◌, ⊤};
+
+    ghost is_clone = { λ old new. new ≡ old };
+
+    ghost is_infallible = { λ _. ⊤ };
+
+    fn clone(&self) -> Result<Self, AllocError> {
+        Ok(*self)
+    }
 }
 
 /// The best codeword, for a frame's soft values in the sent order: of those that start from

@@ -11,6 +11,11 @@ best_codeword-codeword-requires-clause-format g c =
     subst (λ format. IsFormat format) (sym c.format-item.is)
     (c.requires.formats c.loop-format.format-index c.format-item.result c.loop-format-test.true)
 
+pub candidate-requires-clause-format : goal.candidate-requires-clause-format
+candidate-requires-clause-format g c =
+    subst (λ format. IsFormat format) (sym c.format-item.is)
+    (c.requires.formats c.loop-format.format-index c.format-item.result c.loop-format-test.true)
+
 pub best_codeword-codeword-requires-clause-room : goal.best_codeword-codeword-requires-clause-room
 best_codeword-codeword-requires-clause-room g c =
     subst (λ format. bits_in format ≤ c.loop-format.decoder) (sym c.format-item.is)

@@ -2,6 +2,12 @@
 use Rattle.frame_decoder.proofs.FormatChoice.{candidate_is, frame_is}
 use Rattle.frame_decoder.proofs.choice.frame_of.Goals as goal
 
+pub best_candidate-best-requires-clause-formats : goal.best_candidate-best-requires-clause-formats
+best_candidate-best-requires-clause-formats g c = c.requires.formats
+
+pub best_candidate-best-requires-clause-room : goal.best_candidate-best-requires-clause-room
+best_candidate-best-requires-clause-room g c = c.requires.room
+
 -- The frame that is chosen is the definition's: the soft values are those without power control
 -- bits, the candidate of the highest rate is preferred to the best of the lower ones at a tie, and
 -- where the best isn't good the highest rate's best codeword is told as a frame that isn't.

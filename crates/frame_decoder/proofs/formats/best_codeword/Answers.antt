@@ -41,3 +41,7 @@ returns-clause-score g c =
     ∙ ap (λ (xs : List ℤ). score_of xs codeword) c.gather_frame_into.ensures.value
     ∙ ap (score_of values) is
     ∙ gathered_score softs format (codeword_in softs format) c.requires.format long (length-codeword_in softs format)
+
+pub returns-clause-count : goal.returns-clause-count
+returns-clause-count g c =
+    ap length (returns-clause-bits g c) ∙ length-codeword_in c.args.softs.now c.args.format.now

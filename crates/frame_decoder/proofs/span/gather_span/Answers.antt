@@ -1,5 +1,6 @@
 -- Why `gather_span` of `span` keeps its contract.
-use Rattle.frame_decoder.proofs.Common.{rules, ◌≡◌, ◌<◌, ◌≤◌, ◌+◌, ◌*◌, ℕ, length, sym, ap, ◌∙◌, arith, shape_of, size, channel_of}
+use Rattle.frame_decoder.proofs.Common.{rules, ◌≡◌, ◌<◌, ◌≤◌, ◌+◌, ◌*◌, ℕ, length, sym, ap, ◌∙◌, arith, ints, shape_of, size, channel_of}
+use Rattle.std.proofs.lemmas.Grind.{common_steps}
 use Rattle.frame_decoder.proofs.Parts.{within}
 use Rattle.frame_decoder.proofs.Gathered.{none_gathered, none_small, frame_is, frame_small, one_gathered, one_small}
 use Rattle.frame_decoder.proofs.span.gather_span.Goals as goal
@@ -71,3 +72,12 @@ loop-frame-preserved c =
           c.code_symbols-code.ensures symbols.ensures.value long room had.sizes
           c.gather_into.ensures.bounded;
     }
+
+pub slice_bounds-gather_into-end : goal.slice_bounds-gather_into-end
+slice_bounds-gather_into-end c = grind (ints, arith, common_steps)
+
+pub returns-clause-value : goal.returns-clause-value
+returns-clause-value c = grind (ints, arith, common_steps)
+
+pub returns-clause-bounded : goal.returns-clause-bounded
+returns-clause-bounded c = grind (ints, arith, common_steps)
