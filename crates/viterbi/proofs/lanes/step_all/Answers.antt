@@ -2,7 +2,7 @@
 use Rattle.viterbi.proofs.Common.{ints}
 use Rattle.std.proofs.lemmas.Grind.{common_steps}
 use Rattle.viterbi.proofs.Common.{◌≡◌, ◌+◌, ◌*◌, ◌/◌, ◌%◌, ◌<◌, ◌-ℤ◌, ◌∙◌, ℕ, get_or, pos, rules, w64, map, to_z, arith, to_z-of_z}
-use Rattle.viterbi.proofs.Common.{length-put_chunk, bit_of, metric_into, choice_into, number, AreGreater}
+use Rattle.viterbi.proofs.Common.{length-put_chunk, length-set, bit_of, metric_into, choice_into, number, AreGreater}
 use Rattle.viterbi.proofs.ColumnSteps.{metric_fits, metrics_lanes, wings_more, choices_more}
 use Rattle.viterbi.specs.contracts.lanes.step_all.{FORCED-type}
 use Rattle.viterbi.proofs.Blocks.{kept}
@@ -87,7 +87,7 @@ loop-k-preserved g c =
     record {
       whole = length-put_chunk (8 * (16 + k)) _ _ ∙ length-put_chunk (8 * k) c.loop-k.next _
           ∙ c.loop-k.invariant.whole;
-      long = search rules;
+      long = length-set _ (16 + k) _ ∙ length-set c.loop-k.choices k _ ∙ c.loop-k.invariant.long;
       metrics = rw (et, ef, es, lower.kept, upper.kept)
           (wings_more c.loop-k.next low.0 high.0 k (λ t. metric_into forced column f s t -ℤ top)
           c.loop-k.invariant.whole c.loop-k-test.true
