@@ -27,3 +27,9 @@ returns-clause-found g t c =
     c.join-left.ensures.first.0 right in
     subst (λ (o : Option Best). IsFound c.args.samples.now (worker_start c.args.first c.args.workers)
     (worker_start end c.args.workers) o) (sym c.better.ensures) both
+
+pub work-best-requires-clause-order : goal.work-best-requires-clause-order
+work-best-requires-clause-order g t c =
+    let some : 0 < c.args.workers = omega arith in
+    let up = start_up c.args.first (c.args.first + 1) c.args.workers some (omega arith) in
+    omega (arith, up, c.start-from.ensures.value, c.start-to.ensures.value)
