@@ -1,4 +1,6 @@
 -- Why `follow` of `followed::Followed` keeps its contract.
+use Rattle.std.proofs.lemmas.Grind.{common_steps}
+use Rattle.std.proofs.lemmas.Int.{ints}
 use Rattle.mobile_core.proofs.Common.{◌≡◌, ◌∙◌, rules, Some, sym, arith}
 use Rattle.mobile_core.proofs.ChannelsFollowed.{opened, unassigned}
 use Rattle.mobile_core.proofs.FramesFollowed.{frames_opened}
@@ -48,3 +50,18 @@ returns-clause-hears c = λ t before heard taken within sets st.
     (omega (arith, taken, early))) in
     rw set
     (opened st c.open-self.result (Some c.open-handoff.result) m opens.1.0 opens.1.1 pages frames)
+
+pub returns-clause-due : goal.returns-clause-due
+returns-clause-due c = grind (ints, arith, common_steps)
+
+pub returns-clause-further : goal.returns-clause-further
+returns-clause-further c = grind (ints, arith, common_steps)
+
+pub returns-then-not-opens-clause-hears : goal.returns-then-not-opens-clause-hears
+returns-then-not-opens-clause-hears c = grind (ints, arith, common_steps)
+
+pub returns-in_default-assigned-clause-sound : goal.returns-in_default-assigned-clause-sound
+returns-in_default-assigned-clause-sound c = grind (ints, arith, common_steps)
+
+pub returns-clause-sound : goal.returns-clause-sound
+returns-clause-sound c = grind (ints, arith, common_steps)

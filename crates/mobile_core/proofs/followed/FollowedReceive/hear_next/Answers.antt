@@ -1,6 +1,10 @@
 -- Why `hear_next` of `followed::FollowedReceive` keeps its contract.
+use Rattle.mobile_core.proofs.Common.{arith}
+use Rattle.std.proofs.lemmas.Grind.{common_steps}
+use Rattle.std.proofs.lemmas.Int.{ints}
 use Rattle.mobile_core.proofs.Common.{ℕ, ◌≡◌, ◌∙◌, refl, subst, sym, append_assoc, None, IfSome, IsSomeAnd, IsDueAt, at_of, event_list}
 use Rattle.mobile_core.proofs.Common.{HearsFrames, paging_events_left, traffic_events_left}
+use Rattle.std.proofs.lemmas.Bool.{false≢true}
 use Rattle.mobile_core.proofs.ChannelsFollowed.{heard_other, moved}
 use Rattle.heard_events.proofs.GoesOn.{joined}
 use Rattle.mobile_core.proofs.followed.FollowedReceive.hear_next.Goals as goal
@@ -9,7 +13,7 @@ pub returns-then-not-is_due-clause-hears : goal.returns-then-not-is_due-clause-h
 returns-then-not-is_due-clause-hears c = λ t _ mark heard holds check count st.
     let f = c.args.self.now in
     let none = subst (λ (n : ℕ). ¬ IsSomeAnd f.paging (λ r. IsDueAt n r.received.clock)) count
-    (λ d. let e = c.is_due.ensures.1 d in let e' = c.if-not-is_due.true in absurd (cc)) in
+    (λ d. absurd (false≢true (sym c.if-not-is_due.true ∙ c.is_due.ensures.1 d))) in
     heard_other st none holds.taken c.requires.waits c.hear_next.new.self c.hear_next.result
     (c.hear_next.ensures.hears t t.traffic mark heard holds st.check_is count)
 
@@ -37,3 +41,9 @@ returns-clause-hears c = λ t _ mark heard holds check count st.
       sym (append_assoc (event_list event) left (traffic_events_left t t.traffic mark heard traffic))
           ∙ joined pages.1 frames.1,
     )
+
+pub hear_next-requires-clause-due : goal.hear_next-requires-clause-due
+hear_next-requires-clause-due c = grind (ints, arith, common_steps)
+
+pub hear_next-event-requires-clause-due : goal.hear_next-event-requires-clause-due
+hear_next-event-requires-clause-due c = grind (ints, arith, common_steps)

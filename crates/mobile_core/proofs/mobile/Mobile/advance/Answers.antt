@@ -1,5 +1,7 @@
 -- Why `advance` of `mobile::Mobile` keeps its contract.
-use Rattle.mobile_core.proofs.Common.{ℕ, ◌≡◌, ◌-◌, ◌+◌, ◌++◌, ◌≤◌, arith, length, take, length-take, []}
+use Rattle.std.proofs.lemmas.Grind.{common_steps}
+use Rattle.std.proofs.lemmas.Int.{ints}
+use Rattle.mobile_core.proofs.Common.{ℕ, ◌≡◌, ◌-◌, ◌+◌, ◌++◌, ◌≤◌, ◌∙◌, arith, length, take, length-take, []}
 use Rattle.mobile_core.proofs.Stood.{others_wait, stands_come, stands_taken, sync_waits}
 use Rattle.mobile_core.proofs.mobile.Mobile.advance.Goals as goal
 
@@ -57,3 +59,29 @@ returns-clause-steps c =
           stands_come on c.take_ended.new.self c.take_ended-2.new.self come sync.next sync.mark
           follows.0 follows.1;
     }
+
+pub invariant_of-self : goal.invariant_of-self
+invariant_of-self c =
+    let is = c.args.self.now.sound in
+    let n : ℕ = c.min-count.result in
+    let pushed = c.push_all.ensures in
+    let long : length (take n c.args.samples.now) ≡ n =
+    omega (arith, c.min-count.ensures, length-take n c.args.samples.now) in
+    record {
+      sound = record {
+        few = is.few;
+        within = omega (arith, long, pushed.taken, c.min-count.ensures, c.requires.room, is.within);
+        room = pushed.room ∙ is.room;
+        decodes = is.decodes;
+        hears = c.take_ended.ensures.sound;
+        waits = c.take_ended.ensures.waits;
+        follows = c.take_ended-2.ensures.sound;
+        others_wait = c.take_ended-2.ensures.waits;
+      };
+    }
+
+pub take_ended-requires-2-clause-idle : goal.take_ended-requires-2-clause-idle
+take_ended-requires-2-clause-idle c = grind (ints, arith, common_steps)
+
+pub take_ended-requires-2-clause-few : goal.take_ended-requires-2-clause-few
+take_ended-requires-2-clause-few c = grind (ints, arith, common_steps)

@@ -1,4 +1,7 @@
 -- Why `hear_due` of `mobile::Mobile` keeps its contract.
+use Rattle.mobile_core.proofs.Common.{arith}
+use Rattle.std.proofs.lemmas.Grind.{common_steps}
+use Rattle.std.proofs.lemmas.Int.{ints}
 use Rattle.mobile_core.proofs.Common.{None, Some}
 use Rattle.mobile_core.proofs.StepJoins.{told_on}
 use Rattle.mobile_core.proofs.mobile.Mobile.hear_due.Goals as goal
@@ -10,3 +13,9 @@ returns-in-Some-clause-steps c = λ samples.
 pub loop-self-preserved : goal.loop-self-preserved
 loop-self-preserved c = λ samples.
     told_on None (c.loop-self.invariant samples) (rw c.in_default.is at c.hear_next.ensures.steps)
+
+pub hear_next-requires : goal.hear_next-requires
+hear_next-requires c = grind (ints, arith, common_steps)
+
+pub returns-in-Some-clause-none : goal.returns-in-Some-clause-none
+returns-in-Some-clause-none c = grind (ints, arith, common_steps)

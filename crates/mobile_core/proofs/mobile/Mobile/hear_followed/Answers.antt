@@ -1,5 +1,5 @@
 -- Why `hear_followed` of `mobile::Mobile` keeps its contract.
-use Rattle.mobile_core.proofs.Common.{arith, refl}
+use Rattle.mobile_core.proofs.Common.{◌∙◌, arith, refl}
 use Rattle.mobile_core.proofs.StepJoins.{ends_here, one_or_none}
 use Rattle.mobile_core.proofs.Stood.{stands_followed}
 use Rattle.mobile_core.proofs.mobile.Mobile.hear_followed.Goals as goal
@@ -22,4 +22,21 @@ returns-clause-steps c =
             stands_followed st c.hear_next.new.self event c.requires.told c.requires.silent
                 (omega (arith, taken, m.sound.waits)) next.unset on.0 on.1,
           );
+    }
+
+pub invariant_of-self : goal.invariant_of-self
+invariant_of-self c =
+    let is = c.args.self.now.sound in
+    let next = c.hear_next.ensures in
+    record {
+      sound = record {
+        few = is.few;
+        within = is.within;
+        room = is.room;
+        decodes = next.kept ∙ is.decodes;
+        hears = is.hears;
+        waits = is.waits;
+        follows = next.sound;
+        others_wait = next.waits;
+      };
     }

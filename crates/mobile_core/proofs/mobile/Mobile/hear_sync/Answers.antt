@@ -1,6 +1,9 @@
 -- Why `hear_sync` of `mobile::Mobile` keeps its contract.
+use Rattle.std.proofs.lemmas.Grind.{common_steps}
+use Rattle.std.proofs.lemmas.Int.{ints}
 use Rattle.mobile_core.proofs.Common.{◌≡◌, ◌∙◌, ap, arith, length, subst, sym, refl, Option, HearsFollowed, followed_events_left, SetsMark}
 use Rattle.mobile_core.proofs.Common.{FrameClock, Mark}
+use Rattle.mobile_core.specs.FollowedChannels.{WaitFrom}
 use Rattle.mobile_core.proofs.StepJoins.{ends_here, one_or_none}
 use Rattle.mobile_core.proofs.Stood.{heard_sets, stands_heard}
 use Rattle.mobile_core.proofs.mobile.Mobile.hear_sync.Goals as goal
@@ -38,3 +41,27 @@ returns-clause-steps c =
                 (ap (λ (x : Option Mark). followed_events_left t x heard others) (sym set) ∙ on.1),
           );
     }
+
+pub invariant_of-self : goal.invariant_of-self
+invariant_of-self c =
+    let is = c.args.self.now.sound in
+    let next = c.hear_next-event.ensures in
+    record {
+      sound = record {
+        few = is.few;
+        within = is.within;
+        room = is.room;
+        decodes = next.kept ∙ is.decodes;
+        hears = next.sound;
+        waits = rw next.clock is.waits;
+        follows = c.follow.ensures.sound;
+        others_wait = subst (λ n. WaitFrom n c.follow.new.self) c.taken-at.ensures.value
+            c.follow.ensures.waits;
+      };
+    }
+
+pub returns-clause-nearer : goal.returns-clause-nearer
+returns-clause-nearer c = grind (ints, arith, common_steps)
+
+pub follow-requires-clause-waits : goal.follow-requires-clause-waits
+follow-requires-clause-waits c = grind (ints, arith, common_steps)

@@ -1,6 +1,9 @@
 -- Why `step` of `mobile::Mobile` keeps its contract.
+use Rattle.std.proofs.lemmas.Grind.{common_steps}
+use Rattle.std.proofs.lemmas.Int.{ints}
 use Rattle.mobile_core.proofs.Common.{◌≡◌, ◌+◌, ◌++◌, List, arith, drop, subst, take, None, Some, append-nil, take_all, take_rest, Sample}
-use Rattle.mobile_core.proofs.Common.{refl, Steps}
+use Rattle.mobile_core.proofs.Common.{refl, sym, Steps}
+use Rattle.std.proofs.lemmas.Option.{none-some}
 use Rattle.mobile_core.specs.Standing.{StandsFor}
 use Rattle.mobile_core.proofs.Stood.{all_given}
 use Rattle.mobile_core.proofs.StepJoins.{steps_joined}
@@ -10,7 +13,7 @@ pub returns-in-Some : goal.returns-in-Some
 returns-in-Some c = record {
   steps = steps_joined 0 c.loop-event.taken (Some c.in-Some.event) (omega arith)
       c.loop-event.invariant (c.in-Some.ensures.steps (drop c.loop-event.taken c.args.samples.now));
-  none = λ e. absurd (cc);
+  none = λ e. absurd (none-some c.in-Some.event (sym e));
 }
 
 -- A step that gives no event has taken all samples, and all events that end within them have been
@@ -20,6 +23,8 @@ returns-then-taken-samples c =
     let samples = c.args.samples.now in
     let taken = c.loop-event.taken in
     let mobile = c.hear_due.new.self in
+    let whole : take taken samples ≡ samples =
+    take_all taken samples (omega (arith, c.if-taken-samples.true)) in
     let heard_none = rw c.in_default.is at c.hear_due.ensures.steps in
     let steps = steps_joined 0 taken None (omega arith) c.loop-event.invariant
     (heard_none (drop taken samples)) in
@@ -31,7 +36,6 @@ returns-then-taken-samples c =
             let now = subst (StandsFor t mobile (heard ++ take taken samples)) (append-nil given)
             (steps.stands t heard given st) in
             let all = all_given now mobile.sound (c.hear_due.ensures.none c.in_default.is) in
-            let whole : take taken samples ≡ samples = take_all taken samples (omega arith) in
             rw whole at all,
       );
     }
@@ -51,3 +55,6 @@ loop-event-preserved c =
     (λ (xs : List Sample). Steps c.hear_due.new.self c.advance-taken.new.self xs
     (record { taken = more; event = None }))
     (take_rest samples taken) c.advance-taken.ensures.steps)
+
+pub advance-taken-requires-clause-room : goal.advance-taken-requires-clause-room
+advance-taken-requires-clause-room c = grind (ints, arith, common_steps)

@@ -1,4 +1,6 @@
 -- Why `tell_pilot` of `mobile::Mobile` keeps its contract.
+use Rattle.std.proofs.lemmas.Grind.{common_steps}
+use Rattle.std.proofs.lemmas.Int.{ints}
 use Rattle.mobile_core.proofs.Common.{◌≡◌, ◌++◌, ◌∷◌, [], Option, Some, ap, arith, length, refl, subst, sym, Best, ℕ, pilot_left, Stands}
 use Rattle.mobile_core.proofs.Common.{Event, Pilot}
 use Rattle.mobile_core.proofs.Stood.{stands_told}
@@ -23,3 +25,9 @@ returns-clause-steps c =
             (sym gone) (stands_told st best is),
       );
     })
+
+pub returns-in_err-best-clause-steps : goal.returns-in_err-best-clause-steps
+returns-in_err-best-clause-steps c = grind (ints, arith, common_steps)
+
+pub returns-clause-nearer : goal.returns-clause-nearer
+returns-clause-nearer c = grind (ints, arith, common_steps)

@@ -1,4 +1,6 @@
 -- Why `pass_moment` of `soft_handoff::SoftHandoff` keeps its contract.
+use Rattle.std.proofs.lemmas.Grind.{common_steps}
+use Rattle.std.proofs.lemmas.Int.{ints}
 use Rattle.mobile_core.proofs.Common.{◌∙◌, ◌++◌, ◌+◌, ◌*◌, [], sym, ap, arith, event_list, traffic_left_of, Mark, SetsKeeper, SoftHandoff}
 use Rattle.mobile_core.proofs.MomentPassed.{hears_passed}
 use Rattle.mobile_core.proofs.SoundFrames.{passed_close}
@@ -28,3 +30,9 @@ returns-clause-hears c = λ t traffic m heard holds st.
       tuned.hears t traffic m heard [] on.0,
       ap (λ (x : SoftHandoff). event_list event ++ traffic_left_of t traffic m heard x) tuned.same ∙ on.1,
     )
+
+pub returns-clause-waits : goal.returns-clause-waits
+returns-clause-waits c = grind (ints, arith, common_steps)
+
+pub tune-requires : goal.tune-requires
+tune-requires c = grind (ints, arith, common_steps)

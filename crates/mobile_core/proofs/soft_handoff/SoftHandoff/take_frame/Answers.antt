@@ -1,4 +1,6 @@
 -- Why `take_frame` of `soft_handoff::SoftHandoff` keeps its contract.
+use Rattle.std.proofs.lemmas.Grind.{common_steps}
+use Rattle.std.proofs.lemmas.Int.{ints}
 use Rattle.mobile_core.proofs.Common.{ap, arith, frame_chips, TrafficReceiver}
 use Rattle.rake_finger.proofs.CloseFingers.{close_ends}
 use Rattle.mobile_core.proofs.soft_handoff.SoftHandoff.take_frame.Goals as goal
@@ -20,3 +22,9 @@ returns-clause-waits c =
     let start' = ap (λ (x : TrafficReceiver). x.frames.clock.start) same in
     c.tune.ensures.waits c.args.ring.now.taken (omega (arith, ended, taken, end', chips))
     (λ e. omega (arith, high, ends, ended, taken, start', chips))
+
+pub tune-requires : goal.tune-requires
+tune-requires c = grind (ints, arith, common_steps)
+
+pub returns-clause-hears : goal.returns-clause-hears
+returns-clause-hears c = grind (ints, arith, common_steps)

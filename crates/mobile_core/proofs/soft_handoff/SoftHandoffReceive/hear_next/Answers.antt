@@ -1,4 +1,7 @@
 -- Why `hear_next` of `soft_handoff::SoftHandoffReceive` keeps its contract.
+use Rattle.mobile_core.proofs.Common.{arith}
+use Rattle.std.proofs.lemmas.Grind.{common_steps}
+use Rattle.std.proofs.lemmas.Int.{ints}
 use Rattle.mobile_core.proofs.Common.{◌∙◌, [], ◌∷◌, event_list, noted_by}
 use Rattle.mobile_core.proofs.FramesFollowed.{tells_first}
 use Rattle.mobile_core.proofs.FramesTold.{hears_noted}
@@ -22,3 +25,21 @@ pub returns-then-not-has_told-clause-hears : goal.returns-then-not-has_told-clau
 returns-then-not-has_told-clause-hears c = λ t _ mark heard holds check count behind.
     let on = c.pass_moment.ensures.hears t behind.traffic behind.set heard holds behind.hears in
     tells_first behind c.pass_moment.new.self (event_list c.pass_moment.result) [] on
+
+pub returns-clause-nearer : goal.returns-clause-nearer
+returns-clause-nearer c = grind (ints, arith, common_steps)
+
+pub returns-then-not-has_told-clause-waits : goal.returns-then-not-has_told-clause-waits
+returns-then-not-has_told-clause-waits c = grind (ints, arith, common_steps)
+
+pub returns-clause-further : goal.returns-clause-further
+returns-clause-further c = grind (ints, arith, common_steps)
+
+pub returns-clause-sound : goal.returns-clause-sound
+returns-clause-sound c = grind (ints, arith, common_steps)
+
+pub note-requires : goal.note-requires
+note-requires c = grind (ints, arith, common_steps)
+
+pub returns-clause-waits : goal.returns-clause-waits
+returns-clause-waits c = grind (ints, arith, common_steps)

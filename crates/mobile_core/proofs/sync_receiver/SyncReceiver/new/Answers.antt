@@ -1,6 +1,7 @@
 -- Why `new` of `sync_receiver::SyncReceiver` keeps its contract.
 use Rattle.mobile_core.proofs.Common.{◌≡◌, ℕ, ◌+◌, ◌-◌, ◌*◌, ◌%◌, ◌∙◌, [], sym, ap, refl, arith, frame_chips, Sync, first_frame, frame_end}
 use Rattle.mobile_core.proofs.Common.{sync_stream, FrameClock}
+use Rattle.std.proofs.lemmas.Option.{none-some}
 use Rattle.reception.proofs.ClockSteps.{first_end}
 use Rattle.mobile_core.proofs.ChannelsOpened.{receives_opened}
 use Rattle.mobile_core.proofs.SyncHeard.{hears_new}
@@ -33,5 +34,5 @@ returns-clause-sound c =
       form_is = ap (λ (k : FrameClock). k.form) c.new.ensures.clock;
       frames = omega arith;
       early = omega (arith, ends, most);
-      marked = λ m e. absurd (cc);
+      marked = λ m e. absurd (none-some m e);
     }

@@ -1,4 +1,7 @@
 -- Why `hear_told` of `traffic_receiver::TrafficReceiver` keeps its contract.
+use Rattle.mobile_core.proofs.Common.{arith}
+use Rattle.std.proofs.lemmas.Grind.{common_steps}
+use Rattle.std.proofs.lemmas.Int.{ints}
 use Rattle.mobile_core.proofs.Common.{◌≡◌, ◌<◌, None, rules, []}
 use Rattle.mobile_core.proofs.FramesTold.{hears_heard}
 use Rattle.mobile_core.proofs.traffic_receiver.TrafficReceiver.hear_told.Goals as goal
@@ -16,3 +19,6 @@ returns-clause-hears c = λ t traffic m sets heard at' check sound st.
     rw (c.hear.ensures.value, c.frame_event.ensures.value, at')
     (hears_heard st sound come none next.0 next.1 signal.new.framer signal.result says.0
     says.1 signal.ensures.framed (rw check at signal.ensures.message))
+
+pub returns-in-Some-clause-hears : goal.returns-in-Some-clause-hears
+returns-in-Some-clause-hears c = grind (ints, arith, common_steps)

@@ -1,4 +1,6 @@
 -- Why `take_softs` of `traffic_receiver::TrafficReceiver` keeps its contract.
+use Rattle.std.proofs.lemmas.Grind.{common_steps}
+use Rattle.std.proofs.lemmas.Int.{ints}
 use Rattle.mobile_core.proofs.Common.{◌≤◌, ◌*◌, ◌^◌, ◌∙◌, ℕ, ap, arith, sym, power_places, length, sum_by, unsigned_abs}
 use Rattle.heard_events.proofs.LegFingers.{fingers_few}
 use Rattle.heard_events.proofs.LegSubsets.{eight_small}
@@ -44,3 +46,9 @@ returns-clause-hears c = λ t traffic m sets heard pages holds sound st.
     (c.power_places-replaced.ensures.value
     ∙ ap (λ (n : ℕ). power_places n c.args.self.now.frames.scrambling.mask) c.state_at.ensures)
     (c.power_softs.ensures.value heard holds))
+
+pub power_softs-requires-clause-rising : goal.power_softs-requires-clause-rising
+power_softs-requires-clause-rising c = grind (ints, arith, common_steps)
+
+pub returns-clause-same : goal.returns-clause-same
+returns-clause-same c = grind (ints, arith, common_steps)
