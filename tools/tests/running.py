@@ -35,7 +35,7 @@ def each_test(tests: Iterable[unittest.TestCase | unittest.TestSuite]) -> Iterat
 
 @dataclass
 class Parted:
-    """The names of what runs in one process, those that run alone for themselves, and what stands for unloaded modules."""
+    """The names of classes and tests, those that run alone for themselves, and what stands for unloaded modules."""
 
     together: list[str]
     alone: list[str]
