@@ -1,6 +1,12 @@
 -- Keys ` name=` of fields by their names, taken apart.
 use Rattle.cell_script.proofs.Common.{◌≡◌, ℕ, ◌+◌, Bool, true, false, List, [], ◌∷◌, ◌++◌, length, drop, codes, refl, sym, ap, ◌∙◌}
-use Rattle.cell_script.proofs.Common.{arith, begins_with, key_of, length-append}
+use Rattle.cell_script.proofs.Common.{and_parts, arith, begins_with, get_or, key_of, leb-true, length-append, nat_le, suc, zero, ◌≤◌}
+use Rattle.cell_script.proofs.Common.{nat_lt}
+use Rattle.line_text.proofs.Digits.{all_below}
+use Rattle.std.specs.List.{list_all}
+use Rattle.std.specs.Prelude.{IsAscii}
+use Rattle.std.proofs.lemmas.Str.Ascii.{IsAscii-from_all}
+use Rattle.sync_message.specs.Rows.{sync_widths}
 use Rattle.std.proofs.Common.{◌&&◌, nat_eq}
 use Rattle.std.proofs.lemmas.List as lists
 
@@ -44,3 +50,16 @@ key_behind text name =
     omega (arith, length-append (codes " " ++ name) (codes "=")) in
     behind_both 1 (length name) (drop 1 text) ∙ behind_both (length name + 1) 1 text
     ∙ ap (λ (k : ℕ). drop k text) long
+
+-- each field of the sync message has at most 63 bits
+narrow_at : (widths : List ℕ) → list_all (λ (w : ℕ). nat_le w 63) widths ≡ true → (k : ℕ) → get_or widths k 0 ≤ 63
+narrow_at [] narrow k = omega arith
+narrow_at (w ∷ widths) narrow zero = leb-true w 63 (and_parts _ _ narrow).0
+narrow_at (w ∷ widths) narrow (suc k) = narrow_at widths (and_parts _ _ narrow).1 k
+
+pub narrow_sync_width : (place width : ℕ) → width ≡ get_or sync_widths place 0 → width ≤ 63
+narrow_sync_width place width is = omega (arith, is, narrow_at sync_widths refl place)
+
+-- a key of bytes below 128
+pub ascii_key : (key : List ℕ) → list_all (λ byte. nat_lt byte 128) key ≡ true → IsAscii key
+ascii_key key all = IsAscii-from_all key (all_below key all)

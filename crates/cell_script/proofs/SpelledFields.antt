@@ -1,7 +1,7 @@
 -- Fields read back: a key, and after it a value that ends at a space or with the text.
 use Rattle.cell_script.proofs.Common.{◌≡◌, ℕ, ◌==◌, true, List, [], ◌∷◌, ◌++◌, length, refl, ap, ◌∙◌, arith, take, drop, Option, nat_eq}
 use Rattle.cell_script.proofs.Common.{append-nil, pointwise, drop-append_seam, take-append_seam, and_from, cond-true, eq-eqb, script_field}
-use Rattle.cell_script.proofs.Common.{keyed, Some, subst, past, value_of, begins_with, length_before}
+use Rattle.cell_script.proofs.Common.{append_assoc, keyed, Some, subst, sym, past, value_of, begins_with, length_before}
 use Rattle.cell_script.proofs.SpelledBytes.{are_within, before_low_mark}
 use Rattle.cell_script.proofs.ScriptTexts.{before-mark, before-none}
 
@@ -70,3 +70,28 @@ pub last_back : {A : Type 0} (key value : List ℕ) (read : List ℕ → Option 
 last_back key value read x are is =
     subst (λ (t : List ℕ). IsField key read x (key ++ t) []) (append-nil value)
     (field_back key value [] read x are (before-none 32) is)
+
+-- ---- what is written
+
+-- a key and a value more
+field_added : (before after key value rest : List ℕ) → after ≡ before ++ (key ++ value) →
+    after ++ rest ≡ before ++ (key ++ (value ++ rest))
+field_added before after key value rest is =
+    ap (λ (t : List ℕ). t ++ rest) is
+    ∙ append_assoc before (key ++ value) rest
+    ∙ ap (λ (t : List ℕ). before ++ t) (append_assoc key value rest)
+
+-- four of them, one after another
+pub four_fields_added : (t0 t1 t2 t3 t4 k1 v1 k2 v2 k3 v3 k4 v4 : List ℕ) → t0 ≡ [] → t1 ≡ t0 ++ (k1 ++ v1) →
+    t2 ≡ t1 ++ (k2 ++ v2) → t3 ≡ t2 ++ (k3 ++ v3) → t4 ≡ t3 ++ (k4 ++ v4) →
+    t4 ≡ k1 ++ (v1 ++ (k2 ++ (v2 ++ (k3 ++ (v3 ++ (k4 ++ (v4 ++ [])))))))
+four_fields_added t0 t1 t2 t3 t4 k1 v1 k2 v2 k3 v3 k4 v4 none first second third fourth =
+    let after3 = k4 ++ (v4 ++ []) in
+    let after2 = k3 ++ (v3 ++ after3) in
+    let after1 = k2 ++ (v2 ++ after2) in
+    sym (append-nil t4)
+    ∙ field_added t3 t4 k4 v4 [] fourth
+    ∙ field_added t2 t3 k3 v3 after3 third
+    ∙ field_added t1 t2 k2 v2 after2 second
+    ∙ field_added t0 t1 k1 v1 after1 first
+    ∙ ap (λ (t : List ℕ). t ++ (k1 ++ (v1 ++ after1))) none

@@ -19,7 +19,7 @@ use crate::tables::{
 use cell_plan::{CellIdentity, LinkPlan, Page, PilotPlan, SyncPlan, TrafficFrame};
 use chip_core::CheckForm;
 use line_text::Text;
-use sync_message::{FREQ_FIELD, FieldRow, SyncFields, sync_name};
+use sync_message::{FREQ_FIELD, FieldRow, SyncFields, sync_name, sync_width};
 
 /// Adds a value by its form, which has no sign.
 fn append_value(text: &mut Text, form: FieldForm, value: u64)
@@ -77,8 +77,7 @@ fn append_sync_number(text: &mut Text, place: usize, value: u64)
     ensures value { text.new ≡ text.old ++ ((sync_row place).key ++ decimal value) }
     ensures len { length text.new ≤ length text.old + length (sync_row place).key + 20 }
 {
-    text.append_name(sync_name(place).as_bytes());
-    text.append_number(value);
+    append_number(text, (sync_name(place), sync_width(place)), value);
 }
 
 /// The bit of a form of checks: 1 where they are complemented.

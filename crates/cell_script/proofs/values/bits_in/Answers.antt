@@ -1,0 +1,16 @@
+-- Why `bits_in` of `values` keeps its contract.
+use Rattle.cell_script.proofs.Common.{bits_in_text, arith, ints}
+use Rattle.std.proofs.lemmas.Grind.{common_steps}
+use Rattle.cell_script.proofs.values.bits_in.Goals as goal
+
+pub returns : goal.returns
+unfolding bits_in_text
+returns c = grind (ints, arith, common_steps)
+
+pub returns-in_err-digits : goal.returns-in_err-digits
+unfolding bits_in_text
+returns-in_err-digits c = grind (ints, arith, common_steps)
+
+pub returns-in_err-hex_bits : goal.returns-in_err-hex_bits
+unfolding bits_in_text
+returns-in_err-hex_bits c = grind (ints, arith, common_steps)

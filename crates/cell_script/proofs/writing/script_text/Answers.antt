@@ -1,0 +1,8 @@
+-- Why `script_text` of `writing` keeps its contract.
+use Rattle.cell_script.proofs.Common.{script_of, arith, ints}
+use Rattle.std.proofs.lemmas.Grind.{common_steps}
+use Rattle.cell_script.proofs.writing.script_text.Goals as goal
+
+pub returns : goal.returns
+unfolding script_of
+returns c = grind (ints, arith, common_steps)
