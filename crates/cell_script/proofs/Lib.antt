@@ -23,5 +23,6 @@ pub mod SpelledFields
 pub mod SpelledLines
 pub mod SpelledValues
 pub mod StatedLines
+pub mod UnsignedLines
 pub mod WrittenLines
 pub mod WrittenPlans

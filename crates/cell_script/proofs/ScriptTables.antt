@@ -1,8 +1,8 @@
 -- Lines of several fields, which were read one after another.
 use Rattle.cell_script.proofs.Common.{Bool, LineForm, LinkPlan, List, None, Option, Some, Values, [], ap, arith, at_end, codes, cond-false}
-use Rattle.cell_script.proofs.Common.{cond-true, eq-eqb, false, is_link, lawful_line, link_in, link_statement, ne_eqb, not, number_up_to}
-use Rattle.cell_script.proofs.Common.{paging_in, paging_statement, past, read64, refl, script_field, serial_number_in, signed_in, sym}
-use Rattle.cell_script.proofs.Common.{traffic_in, traffic_statement, true, unsigned_abs, w64, ℕ, ℤ, ◌==◌, ◌∙◌, ◌∷◌, ◌≡◌, ◌≢◌, ◌≤◌}
+use Rattle.cell_script.proofs.Common.{cond-true, false, is_link, lawful_line, link_in, link_statement, not, number_up_to}
+use Rattle.cell_script.proofs.Common.{past, read64, refl, script_field, signed_in, sym}
+use Rattle.cell_script.proofs.Common.{true, unsigned_abs, w64, ℕ, ℤ, ◌∙◌, ◌∷◌, ◌≡◌, ◌≤◌}
 use Rattle.std.proofs.Common.{of_z, to_z}
 use Rattle.cell_script.proofs.ScriptBounds.{step}
 
@@ -10,7 +10,7 @@ use Rattle.cell_script.proofs.ScriptBounds.{step}
 abbrev pub made_of_line : {X : Type 0} (form : LineForm X) → Values form.rows → List ℕ → Option X
 made_of_line form v text = step (lawful_line form v) (at_end text)
 
--- the values of a link, of a paging channel and of a traffic channel
+-- the values of a link
 pub link_read : (text0 text1 text2 text3 text4 : List ℕ) (re im : ℤ) (start samples : ℕ) →
     script_field (codes "link re=") signed_in text0 ≡ Some re →
     text1 ≡ past (codes "link re=") text0 →
@@ -22,40 +22,6 @@ pub link_read : (text0 text1 text2 text3 text4 : List ℕ) (re im : ℤ) (start 
     link_in text0 ≡ made_of_line link_statement (re, (im, (start, (samples, tt)))) text4
 unfolding link_in
 link_read text0 text1 text2 text3 text4 re im start samples first past_first second past_second
-    third past_third fourth past_fourth =
-    rw (
-      sym past_first,
-      sym past_second,
-      sym past_third,
-      sym past_fourth,
-      first,
-      second,
-      third,
-      fourth,
-    ) refl
-
-pub paging_read : (text0 text1 text2 : List ℕ) (number gain : ℕ) →
-    script_field (codes "paging channel=") (number_up_to 7) text0 ≡ Some number →
-    text1 ≡ past (codes "paging channel=") text0 →
-    script_field (codes " gain=") (number_up_to 65535) text1 ≡ Some gain →
-    text2 ≡ past (codes " gain=") text1 →
-    paging_in text0 ≡ made_of_line paging_statement (number, (gain, tt)) text2
-unfolding paging_in
-paging_read text0 text1 text2 number gain first past_first second past_second =
-    rw (sym past_first, sym past_second, first, second) refl
-
-pub traffic_read : (text0 text1 text2 text3 text4 : List ℕ) (row esn offset gain : ℕ) →
-    script_field (codes "traffic row=") (number_up_to 63) text0 ≡ Some row →
-    text1 ≡ past (codes "traffic row=") text0 →
-    script_field (codes " esn=") serial_number_in text1 ≡ Some esn →
-    text2 ≡ past (codes " esn=") text1 →
-    script_field (codes " offset=") (number_up_to 15) text2 ≡ Some offset →
-    text3 ≡ past (codes " offset=") text2 →
-    script_field (codes " gain=") (number_up_to 65535) text3 ≡ Some gain →
-    text4 ≡ past (codes " gain=") text3 →
-    traffic_in text0 ≡ made_of_line traffic_statement (row, (esn, (offset, (gain, tt)))) text4
-unfolding traffic_in
-traffic_read text0 text1 text2 text3 text4 row esn offset gain first past_first second past_second
     third past_third fourth past_fourth =
     rw (
       sym past_first,
@@ -116,10 +82,3 @@ link_held re im start samples in_phase quadrature =
     ap (λ (z : ℤ). Some (link_of z (to_z w64 (of_z w64 im)) start samples))
     (read64 re (omega (arith, in_phase)))
     ∙ ap (λ (z : ℤ). Some (link_of re z start samples)) (read64 im (omega (arith, quadrature)))
-
--- the test of a paging channel's number
-pub no_channel : (number : ℕ) → number ≡ 0 → not (number == 0) ≡ false
-no_channel number is = ap not (eq-eqb number 0 is)
-
-pub some_channel : (number : ℕ) → number ≢ 0 → not (number == 0) ≡ true
-some_channel number is = ap not (ne_eqb number 0 is)

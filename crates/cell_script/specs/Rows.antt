@@ -1,5 +1,5 @@
 -- Fields that hold numbers, of which several follow one another in a line.
-use Rattle.std.specs.Prelude.{ℕ, List, [], ◌∷◌, length, map, get_or, ◌<◌, ◌≤◌, ◌^◌, ◌-◌, ◌++◌}
+use Rattle.std.specs.Prelude.{ℕ, List, [], ◌∷◌, length, map, get_or, ◌<◌, ◌≤◌, ◌^◌, ◌-◌, ◌++◌, ◌+◌}
 use Rattle.std.specs.Prelude.{codes, Option, None, Some}
 use Rattle.sync_message.specs.Rows.{sync_names, sync_widths}
 use Rattle.cell_script.specs.ScriptFields.{◌>>=◌, script_field, past}
@@ -25,13 +25,17 @@ ranged name width = number_row (key_of name) (2 ^ width - 1)
 abbrev pub sync_row : ℕ → NumberRow
 sync_row i = ranged (get_or sync_names i []) (get_or sync_widths i 0)
 
+-- four of its fields that stand side by side, from one on
+abbrev pub rows_from : ℕ → List NumberRow
+rows_from first = map sync_row (first ∷ (first + 1) ∷ (first + 2) ∷ (first + 3) ∷ [])
+
 -- the fields that a `sync` line always has, by their places in the message's table: of the
 -- protocol and the network, and of local time and the paging channel
 abbrev pub network_rows : List NumberRow
-network_rows = map sync_row (0 ∷ 1 ∷ 2 ∷ 3 ∷ [])
+network_rows = rows_from 0
 
 abbrev pub local_rows : List NumberRow
-local_rows = map sync_row (7 ∷ 8 ∷ 9 ∷ 10 ∷ [])
+local_rows = rows_from 7
 
 -- the numbers of fields that follow one another, and the text after them
 unfoldable pub numbers_in : List NumberRow → List ℕ → Option (List ℕ)

@@ -1,9 +1,10 @@
 -- The fields of a script's lines, read one after another.
-use Rattle.std.specs.Prelude.{ℕ, if◌then◌else◌, List, [], ◌∷◌, length, take, drop, ◌<◌}
-use Rattle.std.specs.Prelude.{◌≤◌, ◌^◌, Option, None, Some, ℤ}
+use Rattle.std.specs.Prelude.{ℕ, ◌+◌, if◌then◌else◌, List, [], ◌∷◌, length, take, drop, ◌<◌}
+use Rattle.std.specs.Prelude.{◌≤◌, ◌^◌, Option, None, Some, ℤ, map, get_or, set}
 use Rattle.long_code.specs.LongCode.{IsState}
 use Rattle.cell_script.specs.declared.tables.FieldForm.{FieldForm}
 use Rattle.cell_script.specs.declared.tables.FieldForm.TheVariants as forms
+use Rattle.cell_script.specs.declared.tables.StatementField.{StatementField}
 use Rattle.cell_script.specs.ScriptValues.{begins_with, length_before, number_up_to}
 use Rattle.cell_script.specs.ScriptValues.{serial_number_in, signed_in, state_in}
 
@@ -53,3 +54,23 @@ IsOfForm (forms.UpTo most) n = n ≤ most
 IsOfForm forms.Signed n = Unit {0}
 IsOfForm forms.State n = IsState n
 IsOfForm forms.SerialNumber n = n < 2 ^ 32
+
+-- ---- lines by their tables
+
+-- the values of the fields that are left of a line, from place k on, after which nothing stands
+abbrev pub unsigned_from : ℕ → List ℕ → List StatementField → List ℕ → Option (List ℕ)
+unsigned_from k values [] text = at_end text values
+unsigned_from k values (row ∷ rows) text = do
+  value ← script_field row.key.now (unsigned_of row.form) text
+  unsigned_from (k + 1) (set values k value) rows (past row.key.now text)
+
+-- the values of a line of at most four fields that have no sign, and zeros after them
+abbrev pub unsigned_line : List StatementField → List ℕ → Option (List ℕ)
+unsigned_line rows text = unsigned_from 0 (0 ∷ 0 ∷ 0 ∷ 0 ∷ []) rows text
+
+abbrev pub form_at : List StatementField → ℕ → FieldForm
+form_at rows k = get_or (map (λ (row : StatementField). row.form) rows) k forms.Signed
+
+-- each value of so many is in the range of its field's form
+abbrev pub AreOfForms : List StatementField → ℕ → List ℕ → Type 0
+AreOfForms rows count values = (k : ℕ) → k < count → IsOfForm (form_at rows k) (get_or values k 0)

@@ -2,13 +2,13 @@
 
 ghost use Rattle.std.specs.Prelude.{◌≡◌, ◌<◌, ◌≤◌, ℕ, Bool, List, true, false, length, IfSome};
 ghost use Rattle.std.specs.Prelude.{OnSome, MatchOption, IsTrue, ◌↔◌, unsigned_abs, [], None, Some};
-ghost use Rattle.std.specs.Prelude.{drop, take, ◌^◌, ◌-◌, get_or};
+ghost use Rattle.std.specs.Prelude.{drop, take, ◌^◌, ◌-◌};
 ghost use Rattle.cell_script.specs.ScriptValues.{begins_with, bits_in_text, length_before};
 ghost use Rattle.cell_script.specs.ScriptValues.{number_up_to, power_bits_in};
-ghost use Rattle.sync_message.specs.Rows.{sync_widths};
 ghost use Rattle.cell_script.specs.Rows.{key_of, sync_row};
 ghost use Rattle.cell_script.specs.ScriptFields.{IsOfForm, script_field, past, signed_of};
 ghost use Rattle.cell_script.specs.ScriptFields.{unsigned_of, value_of};
+ghost use Rattle.cell_script.specs.ScriptFields.{AreOfForms, unsigned_line};
 
 use crate::tables::{FieldForm, StatementField};
 use crate::values::{
@@ -92,8 +92,7 @@ impl<'a> Fields<'a> {
 
     /// The number of the field at this place of the sync message's table.
     pub(crate) fn sync_number(&mut self, place: usize) -> Option<u64>
-        requires place { place < 11 }
-        requires width { get_or sync_widths place 0 ≤ 63 }
+        requires { place < 11 }
         ensures value { result ≡ script_field (sync_row place).key
             (number_up_to (sync_row place).most) self.old }
         ensures range { IfSome result (λ n. n ≤ (sync_row place).most) }
@@ -139,6 +138,27 @@ impl<'a> Fields<'a> {
     {
         power_bits_in(self.value(key)?)
     }
+}
+
+/// Up to four values of the fields of a line, in their order, and zeros after them.
+pub(crate) type LineValues = [u64; 4];
+
+/// The values of a line of at most four fields whose forms have no sign; `None` where a field isn't
+/// there, or something stands after the last.
+pub(crate) fn unsigned_line(text: &[u8], rows: &[StatementField]) -> Option<LineValues>
+    requires { length rows.now ≤ 4 }
+    ensures value { result ≡ unsigned_line rows.now text.now }
+    ensures range { IfSome result (AreOfForms rows.now (length rows.now)) }
+{
+    let mut fields = Fields::new(text);
+    let mut values = [0; 4];
+    for (k, &row) in rows.iter().enumerate() {
+        values[k] = fields.unsigned(row)?;
+    }
+    if !fields.at_end() {
+        return None;
+    }
+    Some(values)
 }
 
 /// What stands after ` name=`, with which a text begins.

@@ -12,14 +12,14 @@ ghost use Rattle.cell_script.specs.ScriptLines.{statement_in, sync_in, lawful_me
 ghost use Rattle.cell_script.specs.ScriptLines.{traffic_frame_in, frame_key, frame_rate};
 ghost use Rattle.cell_script.specs.ScriptLines.{frame_statement, rate_by, traffic_in};
 ghost use Rattle.cell_script.specs.Rows.{AreUpTo, local_rows, network_rows, numbers_in};
-ghost use Rattle.cell_script.specs.Rows.{past_numbers};
+ghost use Rattle.cell_script.specs.Rows.{past_numbers, rows_from};
 ghost use Rattle.cell_script.specs.ScriptPlans.{HasRow};
 ghost use Rattle.cell_plan.specs.Stated.{IsStatedCell, IsStatedLink};
 ghost use Rattle.paging_message.specs.Reading.{is_body};
 ghost use Rattle.sync_message.specs.SyncMessage.{IsSyncMessage, fixed_fields};
 ghost use Rattle.chip_core.specs.Fields.{FieldsFit};
 
-use crate::fields::Fields;
+use crate::fields::{Fields, unsigned_line};
 use crate::tables::{
     CELL_FIELDS, LINK_FIELDS, PAGING_FIELDS, PILOT_FIELDS, SYNC_GAIN, TRAFFIC_FIELDS,
 };
@@ -143,15 +143,7 @@ fn cell_in(text: &[u8]) -> Option<CellIdentity>
     ensures value { result ≡ cell_in text.now }
     ensures lawful { IfSome result IsStatedCell }
 {
-    let [pn, time, lc, checks] = CELL_FIELDS;
-    let mut fields = Fields::new(text);
-    let pn = fields.unsigned(pn)?;
-    let time = fields.unsigned(time)?;
-    let lc = fields.unsigned(lc)?;
-    let checks = fields.unsigned(checks)?;
-    if !fields.at_end() {
-        return None;
-    }
+    let [pn, time, lc, checks] = unsigned_line(text, &CELL_FIELDS)?;
     Some(CellIdentity {
         pn: pn as u16,
         time,
@@ -200,11 +192,7 @@ fn is_link(re: i64, im: i64, samples: u64) -> bool
 fn pilot_in(text: &[u8]) -> Option<PilotPlan>
     ensures { result ≡ pilot_in text.now }
 {
-    let mut fields = Fields::new(text);
-    let gain = fields.unsigned(PILOT_FIELDS[0])?;
-    if !fields.at_end() {
-        return None;
-    }
+    let [gain, ..] = unsigned_line(text, &PILOT_FIELDS)?;
     Some(PilotPlan { gain: gain as u16 })
 }
 
@@ -217,39 +205,26 @@ fn sync_in(text: &[u8]) -> Option<SyncPlan>
 {
     let mut fields = Fields::new(text);
     let gain = fields.unsigned(SYNC_GAIN)?;
-    let network = network_numbers(&mut fields)?;
-    let local = local_numbers(&mut fields)?;
+    let network = numbers_from(&mut fields, 0)?;
+    let local = numbers_from(&mut fields, 7)?;
     sync_behind(gain as u16, &network, &local, fields)
 }
 
 /// Four numbers of a `sync` line that stand side by side in the message's table, in its order.
 type TableNumbers = [u64; 4];
 
-/// The numbers of a `sync` line that tell of the protocol and the network.
+/// Four numbers of a `sync` line, from this place of the message's table on.
 #[tactic(auto, unfolding(crate::specs::Rows::numbers_in, crate::specs::Rows::past_numbers))]
-fn network_numbers(fields: &mut Fields<'_>) -> Option<TableNumbers>
-    ensures value { result ≡ numbers_in network_rows fields.old }
-    ensures rest { OnSome result (fields.new ≡ past_numbers network_rows fields.old) }
+fn numbers_from(fields: &mut Fields<'_>, first: usize) -> Option<TableNumbers>
+    requires { first ≤ 7 }
+    ensures value { result ≡ numbers_in (rows_from first) fields.old }
+    ensures rest { OnSome result (fields.new ≡ past_numbers (rows_from first) fields.old) }
 {
     Some([
-        fields.sync_number(0)?,
-        fields.sync_number(1)?,
-        fields.sync_number(2)?,
-        fields.sync_number(3)?,
-    ])
-}
-
-/// The numbers of a `sync` line that tell of local time and the paging channel.
-#[tactic(auto, unfolding(crate::specs::Rows::numbers_in, crate::specs::Rows::past_numbers))]
-fn local_numbers(fields: &mut Fields<'_>) -> Option<TableNumbers>
-    ensures value { result ≡ numbers_in local_rows fields.old }
-    ensures rest { OnSome result (fields.new ≡ past_numbers local_rows fields.old) }
-{
-    Some([
-        fields.sync_number(7)?,
-        fields.sync_number(8)?,
-        fields.sync_number(9)?,
-        fields.sync_number(10)?,
+        fields.sync_number(first)?,
+        fields.sync_number(first + 1)?,
+        fields.sync_number(first + 2)?,
+        fields.sync_number(first + 3)?,
     ])
 }
 
@@ -333,14 +308,8 @@ fn paging_in(text: &[u8]) -> Option<PagingLine>
     ensures value { result ≡ paging_in text.now }
     ensures row { IfSome result (λ line. line.number < 64) }
 {
-    let [number, gain] = PAGING_FIELDS;
-    let mut fields = Fields::new(text);
-    let number = fields.unsigned(number)?;
-    let gain = fields.unsigned(gain)?;
+    let [number, gain, ..] = unsigned_line(text, &PAGING_FIELDS)?;
     if number == 0 {
-        return None;
-    }
-    if !fields.at_end() {
         return None;
     }
     Some(PagingLine {
@@ -394,15 +363,7 @@ fn traffic_in(text: &[u8]) -> Option<TrafficLine>
     ensures value { result ≡ traffic_in text.now }
     ensures row { IfSome result (λ line. line.row < 64) }
 {
-    let [row, esn, offset, gain] = TRAFFIC_FIELDS;
-    let mut fields = Fields::new(text);
-    let row = fields.unsigned(row)?;
-    let esn = fields.unsigned(esn)?;
-    let offset = fields.unsigned(offset)?;
-    let gain = fields.unsigned(gain)?;
-    if !fields.at_end() {
-        return None;
-    }
+    let [row, esn, offset, gain] = unsigned_line(text, &TRAFFIC_FIELDS)?;
     Some(TrafficLine {
         row: row as u8,
         esn: esn as u32,
