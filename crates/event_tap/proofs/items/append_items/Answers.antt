@@ -1,4 +1,6 @@
 -- Why `append_items` of `items` keeps its contract.
+use Rattle.std.proofs.lemmas.Grind.{common_steps}
+use Rattle.std.proofs.lemmas.Int.{ints}
 use Rattle.std.proofs.Common.{◌<◌, ◌++◌, length, get_or, take, [], sym, ap, ◌∙◌, arith}
 use Rattle.std.proofs.lemmas.List.{length-take-le, take_more}
 use Rattle.event_tap.specs.Parts.{commas}
@@ -40,3 +42,6 @@ loop-i-preserved g c =
             c.loop-i.invariant.long,
           );
     }
+
+pub returns-clause-value : goal.returns-clause-value
+returns-clause-value g c = grind (ints, arith, common_steps)

@@ -1,4 +1,6 @@
 -- Why `append_value` of `parts` keeps its contract.
+use Rattle.std.proofs.lemmas.Grind.{common_steps}
+use Rattle.std.proofs.lemmas.Int.{ints}
 use Rattle.std.proofs.Common.{length, ap, arith}
 use Rattle.event_tap.proofs.PartTexts.{length-named}
 use Rattle.event_tap.proofs.parts.append_value.Goals as goal
@@ -13,3 +15,6 @@ returns-clause-len c =
       ap length c.as_bytes.ensures.value,
       c.requires.short,
     )
+
+pub returns-clause-value : goal.returns-clause-value
+returns-clause-value c = grind (ints, arith, common_steps)

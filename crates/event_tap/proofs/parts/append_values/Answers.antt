@@ -1,4 +1,6 @@
 -- Why `append_values` of `parts` keeps its contract.
+use Rattle.std.proofs.lemmas.Grind.{common_steps}
+use Rattle.std.proofs.lemmas.Int.{ints}
 use Rattle.std.proofs.Common.{length, map, sym, ap, subst, arith}
 use Rattle.std.proofs.lemmas.List.{length-map}
 use Rattle.std.specs.Str.{IsAscii}
@@ -51,3 +53,6 @@ loop-i-preserved c =
           c.name_in.ensures c.append_value.ensures.value;
       long = omega (arith, c.append_value.ensures.len, c.loop-i.invariant.long);
     }
+
+pub returns-clause-value : goal.returns-clause-value
+returns-clause-value c = grind (ints, arith, common_steps)

@@ -1,4 +1,6 @@
 -- Why `append_list` of `said` keeps its contract.
+use Rattle.std.proofs.lemmas.Grind.{common_steps}
+use Rattle.std.proofs.lemmas.Int.{ints}
 use Rattle.std.proofs.Common.{◌*◌, ◌≤◌, length, map, ap, arith}
 use Rattle.std.proofs.Math.Nat.{mul-le-mul_left}
 use Rattle.message_layout.proofs.Columns.{height_at}
@@ -43,3 +45,15 @@ returns-clause-len c =
       length-named c.as_bytes.result.now,
       ap length c.as_bytes.ensures.value,
     )
+
+pub append_name-requires-clause-ascii : goal.append_name-requires-clause-ascii
+append_name-requires-clause-ascii c = grind (ints, arith, common_steps)
+
+pub returns-clause-value : goal.returns-clause-value
+returns-clause-value c = grind (ints, arith, common_steps)
+
+pub returns-then-is_empty-clause-value : goal.returns-then-is_empty-clause-value
+returns-then-is_empty-clause-value c = grind (ints, arith, common_steps)
+
+pub append_name-requires-clause-room : goal.append_name-requires-clause-room
+append_name-requires-clause-room c = grind (ints, arith, common_steps)

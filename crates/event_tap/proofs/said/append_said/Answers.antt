@@ -1,4 +1,7 @@
 -- Why `append_said` of `said` keeps its contract.
+use Rattle.std.proofs.Common.{arith}
+use Rattle.std.proofs.lemmas.Grind.{common_steps}
+use Rattle.std.proofs.lemmas.Int.{ints}
 use Rattle.std.proofs.Common.{◌++◌, ap, ◌∙◌, codes}
 use Rattle.event_tap.proofs.SaidTexts.{in_front}
 use Rattle.event_tap.specs.Parts.{named_values, rest_text}
@@ -24,3 +27,9 @@ returns-clause-value c =
     ∙ ap (λ xs. xs ++ named) (c.append_str-2.ensures.value
     ∙ ap (λ xs. xs ++ names.word) c.append_str.ensures.value)))
     ∙ in_front c.args.text.now (codes " ") names.word named list rest
+
+pub append_list-requires-clause-ascii : goal.append_list-requires-clause-ascii
+append_list-requires-clause-ascii c = grind (ints, arith, common_steps)
+
+pub append_values-requires-clause-all : goal.append_values-requires-clause-all
+append_values-requires-clause-all c = grind (ints, arith, common_steps)

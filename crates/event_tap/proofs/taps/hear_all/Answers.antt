@@ -1,4 +1,6 @@
 -- Why `hear_all` of `taps` keeps its contract.
+use Rattle.std.proofs.lemmas.Grind.{common_steps}
+use Rattle.std.proofs.lemmas.Int.{ints}
 use Rattle.std.proofs.Common.{rules, ◌≤◌, ◌<◌, arith, length, None}
 use Rattle.std.proofs.lemmas.Result.{err_from_is_err_and}
 use Rattle.event_tap.proofs.TapLists.{has_heard, hearing_kept, hearing_done, hearing_failed, hearing_none, unwritten, All-seen-back}
@@ -75,3 +77,12 @@ returns-in_err-gave-clause-err g c =
 pub returns-clause-kept : goal.returns-clause-kept
 returns-clause-kept g c =
     All-seen-back g.T.Tap.shape g.T.Tap.left c.loop-place.taps.items c.loop-place.invariant.0.kept
+
+pub loop-place-smaller : goal.loop-place-smaller
+loop-place-smaller g c = grind (ints, arith, common_steps)
+
+pub returns-clause-behind : goal.returns-clause-behind
+returns-clause-behind g c = grind (ints, arith, common_steps)
+
+pub returns-clause-ok : goal.returns-clause-ok
+returns-clause-ok g c = grind (ints, arith, common_steps)

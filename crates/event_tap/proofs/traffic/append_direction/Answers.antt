@@ -1,4 +1,7 @@
 -- Why `append_direction` of `traffic` keeps its contract.
+use Rattle.std.proofs.Common.{arith}
+use Rattle.std.proofs.lemmas.Grind.{common_steps}
+use Rattle.std.proofs.lemmas.Int.{ints}
 use Rattle.traffic_message.proofs.ByLayout.{search_fits}
 use Rattle.event_tap.proofs.TrafficTexts.{listed_records}
 use Rattle.event_tap.proofs.traffic.append_direction.Goals as goal
@@ -10,3 +13,9 @@ append_search-requires-clause-fit c =
 pub append_items-requires-clause-fit : goal.append_items-requires-clause-fit
 append_items-requires-clause-fit c =
     listed_records c.fields-fields.result c.fields-fields.ensures.spelled
+
+pub append_str-requires-3-clause-ascii : goal.append_str-requires-3-clause-ascii
+append_str-requires-3-clause-ascii c = grind (ints, arith, common_steps)
+
+pub append_items-requires-clause-room : goal.append_items-requires-clause-room
+append_items-requires-clause-room c = grind (ints, arith, common_steps)

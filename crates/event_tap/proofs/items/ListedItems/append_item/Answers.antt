@@ -1,4 +1,6 @@
 -- Why `append_item` of `items::ListedItems` keeps its contract.
+use Rattle.std.proofs.lemmas.Grind.{common_steps}
+use Rattle.std.proofs.lemmas.Int.{ints}
 use Rattle.std.proofs.Common.{◌++◌, [], length, map, get_or, decimal, sym, ap, ◌∙◌, append_assoc, arith, length-append}
 use Rattle.std.proofs.lemmas.List.{get_or_default}
 use Rattle.chip_core.proofs.Places.{get_or-map-places}
@@ -46,3 +48,9 @@ returns-clause-len c =
       ap length (get_or-map-places (columns_text columns) (height columns) c.args.i [] c.requires.within),
       record_short widths columns c.args.i c.requires.fit c.requires.within,
     )
+
+pub listed : goal.listed
+listed c = grind (ints, arith, common_steps)
+
+pub get-requires : goal.get-requires
+get-requires c = grind (ints, arith, common_steps)
