@@ -3,8 +3,8 @@
 `rt run` and `rt lib` build the crates below one after the other. Here `rt lib` of each is begun as soon as those below
 it are built, the longest chain of work first, as many at once as there are processors and memory for; where processors
 are left over, a library gets several jobs. Then the crate that was asked for is built in this checkout: a program by
-`rt run` with one job, so that it lies in crates/NAME/out/NAME, a library by `rt lib`. What `rt` kept is taken over, and
-not built again.
+`rt run` with two jobs at most, so that it lies in crates/NAME/out/NAME, a library by `rt lib`. What `rt` kept is taken
+over, and not built again.
 
     tools/build
     tools/build mobile_core --jobs 2 --memory 8

@@ -28,6 +28,7 @@ from cdma_tools.workers import noted_interrupts
 
 OF_JOB = 0.6  # of what a crate is planned with, each job of its run but the first takes so much more
 MOST_JOBS = 8  # of one run: `rt` itself chooses no more
+JOBS_OF_PROGRAM = 2  # with which its build is quickest: four cost twice the processor time, and last longer
 OF_FREE = 0.85  # of the memory that is free, so much is planned with, as `rt ci` does
 LAST_LINES = 12  # of the log of a run that failed
 SECONDS_TO_END = 10.0
@@ -173,9 +174,8 @@ class Builder:
         for at, name in enumerate(ready):
             room, memory = self.unused(), self.memory[name]
             if room.processors > 0 and (memory <= room.memory or not self.running):
-                # Four jobs of the program's build were measured: twice the processor time of one, and longer.
-                alone = is_program(self.root, name)
-                self.begin(name, 1 if alone else jobs_for(memory, room, len(ready) - at))
+                most = JOBS_OF_PROGRAM if is_program(self.root, name) else MOST_JOBS
+                self.begin(name, min(jobs_for(memory, room, len(ready) - at), most))
 
     def free_place(self) -> str:
         """A place for a run: the checkout where it is free, else a copy that is, else a new one."""

@@ -136,7 +136,7 @@ class Builds(Checkout):
             at = next(place for place, line in enumerate(told) if line.startswith(f"begun {name} "))
             self.assertIn(f"ended {below}", told[:at])
         self.assertEqual(runs["core"].words, ["lib", "--jobs", "3"])
-        self.assertEqual(runs["top"].words, ["run", "--jobs", "1", "--", "find", "--all"])
+        self.assertEqual(runs["top"].words, ["run", "--jobs", "2", "--", "find", "--all"])
         self.assertIn("read top some samples", told)
         self.assertEqual([runs[name].place for name in ("core", "short", "top")], [self.root] * 3)
         self.assertTrue(runs["wide"].place.startswith(self.room), runs["wide"].place)
