@@ -8,7 +8,7 @@ use chip_core::digits_in;
 use hex::FromHex;
 
 /// The form of an option's values.
-#[derive(Clone, Copy, PartialEq, Eq, Debug)]
+#[derive(Clone, Copy)]
 pub enum ValueForm {
     /// All numbers from the one to the other, in decimal digits.
     Between {

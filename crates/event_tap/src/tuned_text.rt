@@ -1,7 +1,7 @@
 //! What is made of the frames of one channel after the mark.
 
 /// What is made of the frames of one channel after the mark.
-#[derive(Clone, Copy, PartialEq, Eq, Debug)]
+#[derive(Clone, Copy)]
 pub enum TunedText {
     /// Each frame is decoded as one of rate set 2 (TIA/EIA-95-B, 7.1.3.5), and has its line.
     RateSetTwo,

@@ -4,7 +4,7 @@ use chip_core::air::{DATA_SYMBOLS, SYNC_SYMBOLS};
 use symbol_path::{Kind, Rate};
 
 /// The frames of a channel, by how they are sent (TIA/EIA-95-B, 7.1.3.1).
-#[derive(Clone, Copy, PartialEq, Eq, Debug)]
+#[derive(Clone, Copy)]
 pub enum FrameKind {
     /// Frames of the sync channel: 32 bits, each code symbol sent twice, 128 symbols.
     Sync,

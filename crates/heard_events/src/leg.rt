@@ -3,7 +3,7 @@
 use rake_finger::Finger;
 
 /// An active pilot, as the traffic channel is heard from its base station.
-#[derive(Clone, Copy, PartialEq, Eq, Debug)]
+#[derive(Clone, Copy)]
 pub struct Leg {
     /// It is the reference's pilot, which is heard on all of the handset's paths.
     pub reference: bool,

@@ -5,7 +5,7 @@ use frame_decoder::FrameSofts;
 use symbol_path::PowerPlaces;
 
 /// The power control bits of a frame of a traffic channel (TIA/EIA-95-B, 7.1.3.1.7).
-#[derive(Clone, Copy, PartialEq, Eq, Debug)]
+#[derive(Clone, Copy)]
 pub struct PowerControl {
     /// The places of the symbols that they replace, in rising order.
     pub replaced: PowerPlaces,
@@ -15,7 +15,7 @@ pub struct PowerControl {
 }
 
 /// A frame of a channel as it is received, before it is decoded.
-#[derive(Clone, Copy, PartialEq, Eq, Debug)]
+#[derive(Clone, Copy)]
 pub struct SoftFrame {
     /// Its number, counted from the channel's first frame after the mark.
     pub number: u64,

@@ -8,7 +8,7 @@ use chip_core::Bits;
 use viterbi::Codeword;
 
 /// A codeword and its score.
-#[derive(Clone, Copy, PartialEq, Eq, Debug)]
+#[derive(Clone, Copy)]
 pub struct Entry {
     /// The codeword.
     pub word: Codeword,

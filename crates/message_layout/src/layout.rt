@@ -62,7 +62,7 @@ pub struct Group {
 }
 
 /// Where a group is there.
-#[derive(Clone, Copy, PartialEq, Eq, Debug)]
+#[derive(Clone, Copy)]
 pub enum Presence {
     /// Nowhere.
     Never,
@@ -73,7 +73,7 @@ pub enum Presence {
 }
 
 /// Octets, whose number stands before them.
-#[derive(Clone, Copy, PartialEq, Eq, Debug)]
+#[derive(Clone, Copy)]
 pub struct Octets {
     /// How many bits that are 0 stand before the number, at most 64.
     pub zeros: u8,

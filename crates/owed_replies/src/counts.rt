@@ -6,7 +6,7 @@ ghost use Rattle.owed_replies.specs.Trials.{LeavesRoom, counts_of, counts_with};
 use heard_events::Event;
 
 /// How many events of each kind a handset told.
-#[derive(Clone, Copy, PartialEq, Eq, Debug)]
+#[derive(Clone, Copy)]
 pub struct Counts {
     /// Messages of the sync channel.
     pub syncs: u64,

@@ -5,7 +5,7 @@ use event_tap::TunedText;
 use heard_events::Channel;
 
 /// What is wanted of a sample file.
-#[derive(Clone, Copy, PartialEq, Eq, Debug)]
+#[derive(Clone, Copy)]
 pub enum Purpose {
     /// The pilot alone.
     Find,

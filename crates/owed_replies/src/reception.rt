@@ -3,7 +3,7 @@
 use crate::purpose::Purpose;
 
 /// How a sample file is received.
-#[derive(Clone, Copy, PartialEq, Eq, Debug)]
+#[derive(Clone, Copy)]
 pub struct Reception {
     /// In how many of the first samples the pilot is searched, or all are measured, 64 to 32,768.
     pub span: u16,

@@ -12,7 +12,7 @@ use event_tap::TunedText;
 use heard_events::Channel;
 
 /// What a run does for a job.
-#[derive(Clone, Copy, PartialEq, Eq, Debug)]
+#[derive(Clone, Copy)]
 pub enum Task {
     /// A sample file is received.
     Receive {

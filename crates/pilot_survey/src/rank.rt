@@ -1,7 +1,7 @@
 //! The rank of a pilot.
 
 /// How strong a pilot is, and where.
-#[derive(Clone, Copy, PartialEq, Eq, Debug)]
+#[derive(Clone, Copy)]
 pub struct Rank {
     /// The pilot's offset, 0 to 511, in steps of 64 chips.
     pub pilot: u16,

@@ -9,7 +9,7 @@ use symbol_path::{PowerPlaces, Rate2, format_of2};
 use viterbi::Decoder;
 
 /// What is decoded of a frame.
-#[derive(Clone, Copy, PartialEq, Eq, Debug)]
+#[derive(Clone, Copy)]
 pub struct Decoded2 {
     /// The rate at which it was sent, and 14,400 bits a second where it isn't good.
     pub rate: Rate2,

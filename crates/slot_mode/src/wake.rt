@@ -35,7 +35,7 @@ pub fn monitored(time: u64, key: u32, cycle: u8) -> bool
 /// of any other time.
 ///
 /// Contracts see the time, the handset's key and the index of its cycle.
-#[derive(Clone, Copy, PartialEq, Eq, Debug)]
+#[derive(Clone, Copy)]
 pub struct Wake {
     time: u64,
     key: u32,

@@ -10,7 +10,7 @@ use rake_finger::SampleRing;
 use short_code::Codes;
 
 /// How many samples a step took, and which frame ends there.
-#[derive(Clone, Copy, PartialEq, Eq, Debug)]
+#[derive(Clone, Copy)]
 pub struct TunerStep {
     /// How many of the samples were taken.
     pub taken: usize,
