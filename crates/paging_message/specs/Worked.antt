@@ -76,10 +76,14 @@ unfolding paging_capsule message_body spelling capsule check_bits binary places
 longest = refl
 
 -- A capsule of 94 octets fills eight half-frames but for 8 bits, and another one of 6 octets
--- follows it.
+-- follows it. The check of the first is written out, so that it is worked out once.
 first : List Bool
-unfolding capsule check_bits binary places
-first = capsule M30 Plain (binary 8 9 ++ replicate 706 false)
+unfolding binary
+first = binary 16 0x5e09 ++ replicate 706 false ++ binary 30 0x04447c6e
+
+first_checked : first ≡ capsule M30 Plain (binary 8 9 ++ replicate 706 false)
+unfolding first capsule check_bits binary places
+first_checked = refl
 
 second : List Bool
 unfolding capsule check_bits binary places
@@ -116,7 +120,7 @@ nothing_earlier = refl
 -- 8 body bits of the eighth half-frame are left after the first, and 7 of the first one after a
 -- capsule of 11 octets
 left : (bits_left 95 (length first) ≡ 8) × (bits_left 95 88 ≡ 7)
-unfolding first bits_left capsule check_bits binary places
+unfolding first bits_left binary places
 left = (refl, refl)
 
 -- a length of 4 or of 149 octets opens no capsule
