@@ -96,7 +96,8 @@ def recording() -> str:
 def made_lines(place: str) -> None:
     """Writes what is heard of the recording in parts: lines, the same as JSON, and what was said with each of them."""
     path, told = recording(), dict[str, str]()
-    for name, more in (("lines", []), ("objects", ["--json"])):
+    ways: dict[str, list[str]] = {"lines": [], "objects": ["--json"]}
+    for name, more in ways.items():
         status, wrote, told[f"said of {name}"] = listen(*STREAM, path, *HANDSET, *PARTS, *more)
         assert status == 0, told
         told[name] = wrote.decode()
