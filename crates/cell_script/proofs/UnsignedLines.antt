@@ -6,7 +6,7 @@ use Rattle.cell_script.proofs.Common.{Bool, CellIdentity, CheckForm, PagingLine,
 use Rattle.cell_script.proofs.Common.{check_form, cond, false, not, number_up_to, paging_in, pilot_in, serial_number_in, state_in}
 use Rattle.cell_script.proofs.Common.{traffic_in, true, ◌%◌, ◌/◌, ◌==◌}
 use Rattle.std.proofs.lemmas.List.{at_drop_all, at_drop_more, get_or-map}
-use Rattle.cell_script.specs.ScriptFields.{AreOfForms, IsOfForm, form_at, unsigned_from, unsigned_line, unsigned_of}
+use Rattle.cell_script.specs.ScriptFields.{AreOfForms, IsOfForm, row_form, unsigned_from, unsigned_line, unsigned_of}
 use Rattle.cell_script.specs.declared.tables.FieldForm.{FieldForm}
 use Rattle.cell_script.specs.declared.tables.FieldForm.TheVariants as forms
 use Rattle.cell_script.specs.declared.tables.StatementField.{StatementField}
@@ -49,18 +49,19 @@ pub values_read : (rows : List StatementField) (text : List ℕ) (k : ℕ) (valu
 values_read rows text k values rest all before =
     before ∙ at_drop_all (λ (rs : List StatementField). unsigned_from k values rs rest) rows k all
 
+-- A value in the range of its field's form, put in its place, keeps those before it in theirs.
 pub value_in_form : (rows : List StatementField) (k : ℕ) (values : List ℕ) (value : ℕ) (d : StatementField) →
     k < length rows → k < length values → IsOfForm (get_or rows k d).form value →
     AreOfForms rows k values → AreOfForms rows (k + 1) (set values k value)
 value_in_form rows k values value d inside room is before j small = elim (cases_eq j k) [
   | inl same ↦
-      let form_is : form_at rows k ≡ (get_or rows k d).form =
+      let form_is : row_form rows k ≡ (get_or rows k d).form =
       get_or-map (λ (r : StatementField). r.form) rows k d forms.Signed inside in
-      subst (λ (n : ℕ). IsOfForm (form_at rows n) (get_or (set values k value) n 0)) (sym same)
+      subst (λ (n : ℕ). IsOfForm (row_form rows n) (get_or (set values k value) n 0)) (sym same)
       (subst (λ (form : FieldForm). IsOfForm form (get_or (set values k value) k 0)) (sym form_is)
       (subst (IsOfForm (get_or rows k d).form) (sym (get_or-set_same values k value 0 room)) is))
   | inr other ↦
-      subst (IsOfForm (form_at rows j)) (sym (get_or-set_other values k j value 0 other))
+      subst (IsOfForm (row_form rows j)) (sym (get_or-set_other values k j value 0 other))
       (before j (omega (arith, small, other)))
 ]
 

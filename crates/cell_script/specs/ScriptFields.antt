@@ -68,9 +68,9 @@ unsigned_from k values (row ∷ rows) text = do
 abbrev pub unsigned_line : List StatementField → List ℕ → Option (List ℕ)
 unsigned_line rows text = unsigned_from 0 (0 ∷ 0 ∷ 0 ∷ 0 ∷ []) rows text
 
-abbrev pub form_at : List StatementField → ℕ → FieldForm
-form_at rows k = get_or (map (λ (row : StatementField). row.form) rows) k forms.Signed
+abbrev pub row_form : List StatementField → ℕ → FieldForm
+row_form rows k = get_or (map (λ (row : StatementField). row.form) rows) k forms.Signed
 
 -- each value of so many is in the range of its field's form
 abbrev pub AreOfForms : List StatementField → ℕ → List ℕ → Type 0
-AreOfForms rows count values = (k : ℕ) → k < count → IsOfForm (form_at rows k) (get_or values k 0)
+AreOfForms rows count values = (k : ℕ) → k < count → IsOfForm (row_form rows k) (get_or values k 0)

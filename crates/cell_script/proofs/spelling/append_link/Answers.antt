@@ -18,6 +18,7 @@ append_field-requires-clause-ascii c = ascii_key (codes " start=") refl
 pub append_field-requires-2-clause-ascii : goal.append_field-requires-2-clause-ascii
 append_field-requires-2-clause-ascii c = ascii_key (codes " samples=") refl
 
+-- The link's line: the two parts of its factor with their signs, then its first sample and their count.
 pub returns : goal.returns
 unfolding written_link
 returns c =

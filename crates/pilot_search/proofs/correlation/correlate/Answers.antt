@@ -3,6 +3,7 @@ use Rattle.pilot_search.proofs.Common.{◌∙◌, ◌+◌, ◌*◌, ◌≤◌, a
 use Rattle.pilot_search.proofs.KeptSums.{kept_sum_fits, kept_sum_within, plus_kept}
 use Rattle.pilot_search.proofs.correlation.correlate.Goals as goal
 
+-- The groups' sum and that of the samples after them are the correlation, and both fit 64 bits.
 pub returns : goal.returns
 returns c =
     let groups = c.sums_on_lanes-groups.result in

@@ -24,6 +24,7 @@ returns-clause-value c =
     (omega (arith, c.product.ensures.most, c.product-2.ensures.most))
     ∙ (λ n. i n +ℤ q n) ∙ turned_part-is p s
 
+-- The size of a sum of two products is at most the sum of the products' sizes.
 pub returns-clause-bound : goal.returns-clause-bound
 returns-clause-bound c =
     let p = c.args.pilot in

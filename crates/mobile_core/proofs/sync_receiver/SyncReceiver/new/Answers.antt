@@ -21,6 +21,7 @@ returns-clause-hears c = λ t phase deltas.
     c.new.ensures.fingers c.new.ensures.sound c.new.ensures.clock [] (omega arith) (omega arith) in
     hears_new t _ opened.0 opened.1 c.new-2.ensures refl refl
 
+-- The receiver's first frame ends where the clock of its channel says.
 pub returns-clause-sound : goal.returns-clause-sound
 returns-clause-sound c =
     let fingers = c.reference_fingers-fingers.result in

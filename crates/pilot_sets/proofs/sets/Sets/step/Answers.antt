@@ -38,6 +38,7 @@ invariant_of-self c = record {
   long = c.keep_deltas.array_long;
 }
 
+-- What the calls leave, one after the other, is what a step makes of the standing.
 pub returns-clause-sets : goal.returns-clause-sets
 returns-clause-sets c =
     let began = c.self.inside.sets in
