@@ -1,4 +1,7 @@
 -- Why `job_by` of `job` keeps its contract.
+use Rattle.command_line.proofs.Common.{arith}
+use Rattle.std.proofs.lemmas.Grind.{common_steps}
+use Rattle.std.proofs.lemmas.Int.{ints}
 use Rattle.command_line.proofs.Common.{◌≡◌, ◌∙◌, List, [], Option, Some, Err, ap, is_some, map, refl, not, ok_or, rules, string_bytes, sym}
 use Rattle.command_line.proofs.Common.{found_of, Job, Bad, OutOfMemory, OptionEntry, command_entry, given_behind, job_by}
 use Rattle.clap.specs.Words.{first_value}
@@ -73,3 +76,6 @@ returns-clause-bad c =
     bad_where (job_by (command_entry c.args.command) (map string_bytes c.args.options.now))
     c.ok_or.result
     (found (goal.at.returns-clause-bad c).After-ok_or (lawful (goal.at.returns-clause-bad c).After-is_none))
+
+pub returns-clause-lawful : goal.returns-clause-lawful
+returns-clause-lawful c = grind (ints, arith, common_steps)

@@ -1,4 +1,6 @@
 -- Why `are_lawful` of `testing` keeps its contract.
+use Rattle.std.proofs.lemmas.Grind.{common_steps}
+use Rattle.std.proofs.lemmas.Int.{ints}
 use Rattle.command_line.proofs.Common.{◌≡◌, ◌∙◌, ◌<◌, ◌≤◌, None, Some, arith, ap, drop, length, map, refl, string_bytes, sym}
 use Rattle.command_line.proofs.Common.{length-drop, length-map, is_named_in, part_of, entry_of}
 use Rattle.command_line.proofs.ArgTests.{Part, stands_last, stands_missing, stands_next, stands_refused, stands_twice, texts_before}
@@ -64,3 +66,6 @@ returns c =
     rw (length-map args string_bytes) (omega (arith, c.loop-place-test.false)) in
     stands_last (map entry_of c.args.rules.now) (map string_bytes args) c.loop-place.place past
     c.loop-place.invariant
+
+pub slice_bounds-is_named_in-end : goal.slice_bounds-is_named_in-end
+slice_bounds-is_named_in-end c = grind (ints, arith, common_steps)

@@ -1,4 +1,7 @@
 -- Why `is_allowed` of `testing` keeps its contract.
+use Rattle.command_line.proofs.Common.{arith}
+use Rattle.std.proofs.lemmas.Grind.{common_steps}
+use Rattle.std.proofs.lemmas.Int.{ints}
 use Rattle.command_line.proofs.Common.{◌+◌, ◌∙◌, List, ap, drop, is_some, map, sym, OptionEntry, is_allowed, entry_of}
 use Rattle.command_line.proofs.ArgTests.{item_first, no_rule, rule_elsewhere, rule_here}
 use Rattle.command_line.proofs.testing.is_allowed.Goals as goal
@@ -20,3 +23,6 @@ loop-rule-preserved c =
     c.args.rules.now c.loop-rule.rule-index no_rule c.loop-rule-test.true
     ∙ rule_elsewhere _ (drop (c.loop-rule.rule-index + 1) (map entry_of c.args.rules.now))
     c.args.name.now c.args.value.now (sym c.eq.ensures ∙ c.if-eq.false)
+
+pub returns : goal.returns
+returns c = grind (ints, arith, common_steps)

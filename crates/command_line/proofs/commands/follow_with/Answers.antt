@@ -1,0 +1,11 @@
+-- Why `follow_with` of `commands` keeps its contract.
+use Rattle.command_line.proofs.Common.{arith}
+use Rattle.std.proofs.lemmas.Grind.{common_steps}
+use Rattle.std.proofs.lemmas.Int.{ints}
+use Rattle.command_line.proofs.commands.follow_with.Goals as goal
+
+pub returns-clause-lawful : goal.returns-clause-lawful
+returns-clause-lawful g c = grind (ints, arith, common_steps)
+
+pub overflow_cast-result : goal.overflow_cast-result
+overflow_cast-result g c = grind (ints, arith, common_steps)

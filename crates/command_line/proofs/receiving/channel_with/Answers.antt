@@ -1,0 +1,11 @@
+-- Why `channel_with` of `receiving` keeps its contract.
+use Rattle.command_line.proofs.Common.{arith}
+use Rattle.std.proofs.lemmas.Grind.{common_steps}
+use Rattle.std.proofs.lemmas.Int.{ints}
+use Rattle.command_line.proofs.receiving.channel_with.Goals as goal
+
+pub returns-clause-lawful : goal.returns-clause-lawful
+returns-clause-lawful g c = grind (ints, arith, common_steps)
+
+pub overflow_cast-result-3 : goal.overflow_cast-result-3
+overflow_cast-result-3 g c = grind (ints, arith, common_steps)
