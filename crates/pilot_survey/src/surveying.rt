@@ -34,67 +34,90 @@ fn share(first: u8, end: u8, workers: u8) -> u16
     start(end, workers) - start(first, workers)
 }
 
+/// What the workers measure: samples, round the phases that a base gives the pilots, and among how
+/// many workers the pilots are parted.
+#[derive(Drop)]
+struct Measurement<'a> {
+    samples: &'a [Sample],
+    codes: &'a Codes,
+    base: Phase,
+    width: u8,
+    workers: u8,
+}
+
+/// Measures the pilots of one worker, and tells the gate when it begins and ends.
+fn work<G: Gate>(task: &Measurement, worker: u8, gate: &G, ranks: &mut [Rank])
+    requires lawful { (length task.now.samples.now ≤ 32768) × (task.now.width ≤ 31) }
+    requires worker { worker < task.now.workers }
+    requires room { survey_start worker task.now.workers + length ranks.old
+        ≡ survey_start (worker + 1) task.now.workers }
+    ensures { ranks.new ≡ map (surveyed task.now.samples.now task.now.base task.now.width)
+        (range_with_len (survey_start worker task.now.workers) (length ranks.old)) }
+{
+    gate.arrive(worker);
+    let first = start(worker, task.workers);
+    measure_all(
+        task.samples,
+        task.codes,
+        task.base,
+        task.width,
+        first,
+        ranks,
+    );
+    gate.leave(worker, 0);
+}
+
 /// Runs the workers from the number `first` to before `end`, each in a thread and with a part of
 /// the ranks.
 fn run<R: Threads + Sync, G: Gate + Sync>(
     rt: &R,
-    samples: &[Sample],
-    codes: &Codes,
-    base: Phase,
-    width: u8,
+    task: &Measurement,
     first: u8,
     end: u8,
-    workers: u8,
     gate: &G,
     ranks: &mut [Rank],
 )
-    requires few { length samples.now ≤ 32768 }
-    requires width { width ≤ 31 }
+    requires lawful { (length task.now.samples.now ≤ 32768) × (task.now.width ≤ 31) }
     requires some { first < end }
-    requires all { end ≤ workers }
-    requires most { workers ≤ 64 }
-    requires room { survey_start first workers + length ranks.old ≡ survey_start end workers }
-    ensures { ranks.new ≡ map (surveyed samples.now base width)
-        (range_with_len (survey_start first workers) (length ranks.old)) }
+    requires all { end ≤ task.now.workers }
+    requires most { task.now.workers ≤ 64 }
+    requires room { survey_start first task.now.workers + length ranks.old
+        ≡ survey_start end task.now.workers }
+    ensures { ranks.new ≡ map (surveyed task.now.samples.now task.now.base task.now.width)
+        (range_with_len (survey_start first task.now.workers) (length ranks.old)) }
 {
     if end - first == 1 {
-        gate.arrive(first);
-        measure_all(samples, codes, base, width, start(first, workers), ranks);
-        gate.leave(first, 0);
+        work(task, first, gate, ranks);
         return;
     }
     let middle = first + (end - first) / 2;
-    let (left, right) = ranks.split_at_mut(usize::from(share(first, middle, workers)));
+    let (left, right) = ranks.split_at_mut(usize::from(share(first, middle, task.workers)));
     join_mut(
         rt,
         &mut ||
             requires handles { IsSync R.row × IsSync G.row }
-            requires samples { length samples.now ≤ 32768 }
-            requires width { width ≤ 31 }
-            requires workers { (first < middle) × (middle ≤ workers) × (workers ≤ 64) }
-            requires room { survey_start first workers + length left.now
-                ≡ survey_start middle workers }
-            ensures { left.exit.now ≡ map (surveyed samples.entry.now base width)
-                (range_with_len (survey_start first workers) (length left.entry.now)) }
-        {
-            run(
-                rt, samples, codes, base, width, first, middle, workers, gate, left,
-            )
-        },
+            requires lawful { (length task.now.samples.now ≤ 32768) × (task.now.width ≤ 31) }
+            requires workers { (first < middle) × (middle ≤ task.now.workers)
+                × (task.now.workers ≤ 64) }
+            requires room { survey_start first task.now.workers + length left.now
+                ≡ survey_start middle task.now.workers }
+            ensures { left.exit.now ≡ map
+                (surveyed task.entry.now.samples.now task.entry.now.base task.entry.now.width)
+                (range_with_len (survey_start first task.entry.now.workers)
+                (length left.entry.now)) }
+        { run(rt, task, first, middle, gate, left) },
         &mut ||
             requires handles { IsSync R.row × IsSync G.row }
-            requires samples { length samples.now ≤ 32768 }
-            requires width { width ≤ 31 }
-            requires workers { (middle < end) × (end ≤ workers) × (workers ≤ 64) }
-            requires room { survey_start middle workers + length right.now
-                ≡ survey_start end workers }
-            ensures { right.exit.now ≡ map (surveyed samples.entry.now base width)
-                (range_with_len (survey_start middle workers) (length right.entry.now)) }
-        {
-            run(
-                rt, samples, codes, base, width, middle, end, workers, gate, right,
-            )
-        },
+            requires lawful { (length task.now.samples.now ≤ 32768) × (task.now.width ≤ 31) }
+            requires workers { (middle < end) × (end ≤ task.now.workers)
+                × (task.now.workers ≤ 64) }
+            requires room { survey_start middle task.now.workers + length right.now
+                ≡ survey_start end task.now.workers }
+            ensures { right.exit.now ≡ map
+                (surveyed task.entry.now.samples.now task.entry.now.base task.entry.now.width)
+                (range_with_len (survey_start middle task.entry.now.workers)
+                (length right.entry.now)) }
+        { run(rt, task, middle, end, gate, right) },
     );
 }
 
@@ -130,17 +153,13 @@ pub fn survey<R: Threads + Sync, G: Gate + Sync>(
         energy: 0,
     };
     let mut ranks = vec![in alloc; nothing; PILOTS]?;
-    run(
-        rt,
+    let task = Measurement {
         samples,
         codes,
         base,
         width,
-        0,
         workers,
-        workers,
-        gate,
-        ranks.as_mut_slice(),
-    );
+    };
+    run(rt, &task, 0, workers, gate, ranks.as_mut_slice());
     Ok(Survey::of(ranks))
 }
