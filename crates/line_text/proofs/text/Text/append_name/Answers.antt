@@ -1,0 +1,11 @@
+-- Why `append_name` of `text::Text` keeps its contract.
+use Rattle.std.proofs.Common.{arith}
+use Rattle.std.proofs.lemmas.Grind.{common_steps}
+use Rattle.std.proofs.lemmas.Int.{ints}
+use Rattle.line_text.proofs.text.Text.append_name.Goals as goal
+
+pub returns-clause-len : goal.returns-clause-len
+returns-clause-len c = grind (ints, arith, common_steps)
+
+pub returns-clause-value : goal.returns-clause-value
+returns-clause-value c = grind (ints, arith, common_steps)
