@@ -1,4 +1,6 @@
 -- Why `candidate` of `frame` keeps its contract.
+use Rattle.std.proofs.lemmas.Grind.{common_steps}
+use Rattle.std.proofs.lemmas.Int.{ints}
 use Rattle.std.proofs.Common.{◌<◌, Some, sym, ap, ◌∙◌, arith, length, rules, FitsSigned}
 use Rattle.std.specs.Int.{w64}
 use Rattle.std.proofs.lemmas.Int.{to_z-of_z}
@@ -33,3 +35,6 @@ loop-i-preserved c =
     found_later (λ e. is_right format e.word.bits) codewords c.loop-i.i c.get-entry.result.now within
     c.get-entry.ensures.value c.loop-i.invariant
     (sym c.is_right.ensures ∙ c.if-is_right.false)
+
+pub returns : goal.returns
+returns c = grind (ints, arith, common_steps)

@@ -1,4 +1,6 @@
 -- Why `listed_frame` of `frame` keeps its contract.
+use Rattle.std.proofs.lemmas.Grind.{common_steps}
+use Rattle.std.proofs.lemmas.Int.{ints}
 use Rattle.std.proofs.Common.{arith, rules, FitsSigned, ◌∙◌}
 use Rattle.std.specs.Int.{w64}
 use Rattle.std.proofs.lemmas.Int.{to_z-of_z}
@@ -29,3 +31,6 @@ returns-clause-value c =
     c.candidate_of-best.ensures.value c.candidate_of.ensures.value c.candidate_of-2.ensures.value
     c.candidate.ensures c.preferred-best.ensures c.preferred-best-2.ensures
     c.preferred-best-3.ensures (to_z-of_z w64 first.score own) c.good_or.ensures
+
+pub candidate-requires-clause-sizes : goal.candidate-requires-clause-sizes
+candidate-requires-clause-sizes c = grind (ints, arith, common_steps)
