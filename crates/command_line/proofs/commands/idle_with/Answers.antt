@@ -12,3 +12,6 @@ returns-in_err-cycle-clause-lawful g c = grind (ints, arith, common_steps)
 
 pub returns-in_err-key-clause-lawful : goal.returns-in_err-key-clause-lawful
 returns-in_err-key-clause-lawful g c = grind (ints, arith, common_steps)
+
+pub returns-in_err-paging-clause-lawful : goal.returns-in_err-paging-clause-lawful
+returns-in_err-paging-clause-lawful g c = grind (ints, arith, common_steps)

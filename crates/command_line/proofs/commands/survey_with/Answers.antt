@@ -27,3 +27,6 @@ returns-in_err-top-clause-value g c = grind (ints, arith, common_steps)
 
 pub overflow_cast-result : goal.overflow_cast-result
 overflow_cast-result g c = grind (ints, arith, common_steps)
+
+pub returns-in_err-span-clause-lawful : goal.returns-in_err-span-clause-lawful
+returns-in_err-span-clause-lawful g c = grind (ints, arith, common_steps)

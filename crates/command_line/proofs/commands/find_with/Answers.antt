@@ -1,0 +1,11 @@
+-- Why `find_with` of `commands` keeps its contract.
+use Rattle.command_line.proofs.Common.{arith}
+use Rattle.std.proofs.lemmas.Grind.{common_steps}
+use Rattle.std.proofs.lemmas.Int.{ints}
+use Rattle.command_line.proofs.commands.find_with.Goals as goal
+
+pub returns-in_err-span-clause-lawful : goal.returns-in_err-span-clause-lawful
+returns-in_err-span-clause-lawful g c = grind (ints, arith, common_steps)
+
+pub returns-in_err-workers-clause-lawful : goal.returns-in_err-workers-clause-lawful
+returns-in_err-workers-clause-lawful g c = grind (ints, arith, common_steps)
