@@ -1,9 +1,10 @@
 -- Lemmas on reading samples piece by piece.
-use Rattle.std.proofs.Common.{◌≡◌, ℕ, ◌+◌, ◌*◌, ◌≤◌, List, ◌++◌, length, take, sym, ap, ◌∙◌, subst, arith, length-append, take_all, All}
+use Rattle.std.proofs.Common.{◌≡◌, ℕ, ◌+◌, ◌*◌, ◌<◌, ◌≤◌, List, ◌++◌, length, take, sym, ap, ◌∙◌, subst, arith, length-append, take_all, All}
 use Rattle.std.proofs.Common.{Option, None, Some}
 use Rattle.std.specs.List.{flat_map}
-use Rattle.std.specs.Io.KnownBytes.{Consumes}
+use Rattle.std.specs.Io.KnownBytes.{Consumes, IsAtEnd}
 use Rattle.std.proofs.KnownBytes.{Consumes-trans}
+use Rattle.std.proofs.lemmas.List.{length-take-le}
 use Rattle.std.proofs.lemmas.List.Concat.{flat_map-append}
 use Rattle.std.proofs.lemmas.List.Elements.{All-append}
 use borrow.Rule.Slice.PartMut.{put_mid}
@@ -59,6 +60,31 @@ fewer_at_most limit old new fewer = record {
   fits = omega (arith, fewer.fits);
   consumed = fewer.consumed;
 }
+
+-- so many bytes of a buffer were taken, and no more were there
+pub fewer_taken : (old new : Option (List ℕ)) (buf : List ℕ) (count wanted : ℕ) →
+    count ≤ length buf → count < wanted → Consumes old new (take count buf) →
+    ConsumesFewer wanted old new
+fewer_taken old new buf count wanted within few read = record {
+  bytes = take count buf;
+  fits = omega (arith, length-take-le count buf within, few);
+  consumed = read;
+}
+
+pub piece_cut_short : (old new : Option (List ℕ)) (buf : List ℕ) (count wanted place : ℕ) →
+    count ≤ length buf → count < wanted → Consumes old new (take count buf) → IsAtEnd new →
+    CutsShort (Short (place + count)) wanted place old new
+piece_cut_short None new buf count wanted place within few read ended = tt
+piece_cut_short (Some xs) None buf count wanted place within few read ended = absurd read
+piece_cut_short (Some xs) (Some ys) buf count wanted place within few read ended =
+    let long : length xs ≡ count =
+    omega (
+      arith,
+      ap length read,
+      length-append (take count buf) ys,
+      length-take-le count buf within,
+      ap length ended,
+    ) in (omega (arith, long, few), omega (arith, long), ended)
 
 -- a piece was cut short, and so is the whole
 pub cuts_short_whole : (width : Width) (e : FileFault) (old mid new : Option (List ℕ))

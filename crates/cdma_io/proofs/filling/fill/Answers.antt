@@ -1,4 +1,6 @@
 -- Why `fill` of `filling` keeps its contract.
+use Rattle.std.proofs.lemmas.Grind.{elements}
+use Rattle.std.proofs.lemmas.Int.{ints}
 use Rattle.std.proofs.Common.{◌≡◌, ℕ, ◌-◌, ◌<◌, List, Option, subst, rules, arith, length, take}
 use Rattle.std.specs.Io.KnownBytes.{Consumes, Keeps}
 use Rattle.std.proofs.KnownBytes.{Consumes-kept, Consumes-trans}
@@ -58,3 +60,6 @@ returns-in_err-count-clause-fewer g c =
     (taken_to_failure _ (g.S.Source.rest c.loop-filled.source) _ c.loop-filled.buf
     c.loop-filled.filled (length c.args.buf.now) (omega arith) long c.loop-filled.invariant.taken
     c.in_err-count.ensures.bytes)
+
+pub returns-then-count-eq0-clause-bytes : goal.returns-then-count-eq0-clause-bytes
+returns-then-count-eq0-clause-bytes g c = grind (ints, arith, elements)

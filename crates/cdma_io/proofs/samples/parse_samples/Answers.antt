@@ -1,4 +1,7 @@
 -- Why `parse_samples` of `samples` keeps its contract.
+use Rattle.std.proofs.Common.{arith}
+use Rattle.std.proofs.lemmas.Grind.{common_steps}
+use Rattle.std.proofs.lemmas.Int.{ints}
 use Rattle.std.proofs.Common.{◌<◌, length, rules}
 use Rattle.cdma_io.proofs.Spelling.{in_range_more, samples_more}
 use Rattle.cdma_io.proofs.samples.parse_samples.Goals as goal
@@ -16,3 +19,9 @@ loop-k-preserved c =
           in_range_more c.args.width out k c.parse_sample.result within c.loop-k.invariant.in_range
           c.parse_sample.ensures.in_range;
     }
+
+pub returns-clause-spelled : goal.returns-clause-spelled
+returns-clause-spelled c = grind (ints, arith, common_steps)
+
+pub returns-clause-in_range : goal.returns-clause-in_range
+returns-clause-in_range c = grind (ints, arith, common_steps)

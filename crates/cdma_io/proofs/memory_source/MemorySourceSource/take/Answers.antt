@@ -1,4 +1,7 @@
 -- Why `take` of `memory_source::MemorySourceSource` keeps its contract.
+use Rattle.std.proofs.Common.{arith}
+use Rattle.std.proofs.lemmas.Grind.{common_steps}
+use Rattle.std.proofs.lemmas.Int.{ints}
 use Rattle.std.proofs.Common.{◌≡◌, ◌≤◌, ◌+◌, ◌-◌, ◌++◌, take, drop, length, ap, sym, ◌∙◌, length-append, length-drop, List, ℕ, rules}
 use Rattle.std.proofs.lemmas.List.{drop_all}
 use Rattle.cdma_io.specs.Memory.{SourceState}
@@ -24,3 +27,9 @@ returns-clause-bytes c =
           length c.args.buf.now = search (rules, length-append, length-drop) in
           search rules),
     )
+
+pub returns-clause-ok : goal.returns-clause-ok
+returns-clause-ok c = grind (ints, arith, common_steps)
+
+pub returns-clause-count : goal.returns-clause-count
+returns-clause-count c = grind (ints, arith, common_steps)

@@ -1,4 +1,7 @@
 -- Why `open` of `sample_reader::SampleReader` keeps its contract.
+use Rattle.std.proofs.Common.{arith}
+use Rattle.std.proofs.lemmas.Grind.{common_steps}
+use Rattle.std.proofs.lemmas.Int.{ints}
 use Rattle.std.proofs.Common.{◌≡◌, ◌≤◌, length, sym, Err, Ok, rules}
 use Rattle.std.proofs.lemmas.Result.{err_from_is_err_and}
 use Rattle.cdma_io.specs.SampleFile.{fresh_reading}
@@ -32,3 +35,6 @@ returns-clause-told g c =
     told_header _ _ c.fill.new.buf (Ok (fresh_reading c.in_ok-header.header)) long
     (filled_whole _ _ c.fill.new.buf c.in_ok-count.count full c.in_ok-count.ensures.bytes)
     (sym c.in_ok-header.ensures.value)
+
+pub returns-clause-header : goal.returns-clause-header
+returns-clause-header g c = grind (ints, arith, common_steps)

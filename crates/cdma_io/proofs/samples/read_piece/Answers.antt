@@ -1,0 +1,34 @@
+-- Why `read_piece` of `samples` keeps its contract.
+use Rattle.std.proofs.Common.{◌≡◌, ◌*◌, ◌<◌, length, arith, rules}
+use Rattle.std.proofs.lemmas.Grind.{common_steps, elements}
+use Rattle.std.proofs.lemmas.Int.{ints}
+use Rattle.cdma_io.specs.SampleFile.{sample_len}
+use Rattle.cdma_io.proofs.Reading.{fewer_at_most, fewer_taken, piece_cut_short}
+use Rattle.cdma_io.proofs.samples.read_piece.Goals as goal
+
+pub returns : goal.returns
+returns g c = grind (ints, arith, common_steps)
+
+pub returns-in_err-count : goal.returns-in_err-count
+returns-in_err-count g c = grind (ints, arith, elements)
+
+-- Where the source ends before the piece fewer bytes than its samples have were consumed, and the
+-- fault's place is after them.
+pub returns-then-count-wanted : goal.returns-then-count-wanted
+returns-then-count-wanted g c =
+    let few : c.in_ok-count.count < sample_len c.args.width * length c.args.out.now =
+    omega (arith, c.if-count-wanted.true, c.bytes_for-wanted.ensures.value) in
+    let room : length c.fill.new.buf ≡ c.bytes_for-wanted.result = search rules in
+    let ended = c.in_ok-count.ensures.ends (omega (arith, c.if-count-wanted.true, room)) in
+    let fewer = fewer_taken _ _ c.fill.new.buf c.in_ok-count.count _ c.in_ok-count.ensures.bound few
+    c.in_ok-count.ensures.bytes in
+    record {
+      spelled = tt;
+      in_range = tt;
+      fault = piece_cut_short _ _ c.fill.new.buf c.in_ok-count.count _ c.args.place
+          c.in_ok-count.ensures.bound few c.in_ok-count.ensures.bytes ended;
+      taken = fewer_at_most _ _ _ fewer;
+      fewer = fewer;
+      later = c.in_ok-count.ensures.cause.later;
+      cause = λ same. absurd (cc same);
+    }
