@@ -242,6 +242,14 @@ def as_text(lines: Sequence[str]) -> bytes:
     return "".join(line + "\n" for line in lines).encode("ascii")
 
 
+def add_noise(parts: array.array[int], seed: int, bound: int) -> None:
+    """Noise from -bound to bound: a draw for each part in turn, of a generator of 32 bits."""
+    state, width = seed, 2 * bound + 1
+    for at in range(len(parts)):
+        state = (1_664_525 * state + 1_013_904_223) & 0xFFFF_FFFF
+        parts[at] += ((state >> 16) * width >> 16) - bound
+
+
 def one_louder(script: Sequence[str], row: int) -> list[str]:
     """A script whose channel on a row has a gain that is greater by one."""
     starts = [f"paging channel={row} ", f"traffic row={row} "] + (["sync "] if row == SYNC_ROW else [])
@@ -255,19 +263,11 @@ def one_louder(script: Sequence[str], row: int) -> list[str]:
     return lines
 
 
-def mixed(case: Case, parts: array.array[int], make: Callable[[Sequence[str]], array.array[int]]) -> array.array[int]:
-    """The parts of a case's samples: the first script's, with those of others that are made, and noise."""
-    from cdma_tools.conformance.mixing import Mixture  # numpy takes a while to load, and is wanted here alone
-
-    mixture = Mixture(parts)
-    for place, script in zip(case.places, case.scripts[1:]):
-        mixture.add(2 * place, make(script))
-    if case.against:
-        row, size = case.against
-        mixture.oppose(make(one_louder(case.scripts[0], row)), size)
-    if case.noise:
-        mixture.add_noise(*case.noise)
-    return mixture.divided(case.divide, FORMS[2 if case.bits == 8 else 1])
+def add_opposed(sums: array.array[int], parts: array.array[int], louder: array.array[int], size: int) -> None:
+    """Noise against a channel: in each part this size, with the sign that the channel's part of the sample hasn't. What the
+    channel adds is what one more of its gain adds."""
+    for at, (old, new) in enumerate(zip(parts, louder)):
+        sums[at] -= size * ((new > old) - (new < old))
 
 
 def samples_of(case: Case, maker: str, minutes: int) -> bytes:
@@ -275,7 +275,20 @@ def samples_of(case: Case, maker: str, minutes: int) -> bytes:
     wide = 16 if case.divide > 1 else case.bits
     head, parts = made(maker, wide, case.scripts[0], minutes)
     if case.places or case.noise or case.against or case.divide > 1:
-        parts = mixed(case, parts, lambda script: made(maker, wide, script, minutes)[1])
+        sums = array.array("i", parts)
+        for place, script in zip(case.places, case.scripts[1:]):
+            _, more = made(maker, wide, script, minutes)
+            begin, end = 2 * place, 2 * place + len(more)
+            sums[begin:end] = array.array("i", [a + b for a, b in zip(sums[begin:end], more)])
+        if case.against:
+            row, size = case.against
+            _, louder = made(maker, wide, one_louder(case.scripts[0], row), minutes)
+            add_opposed(sums, parts, louder, size)
+        if case.noise:
+            add_noise(sums, *case.noise)
+        if case.divide > 1:
+            sums = array.array("i", [(2 * part + case.divide) // (2 * case.divide) for part in sums])
+        parts = array.array(FORMS[2 if case.bits == 8 else 1], sums)
     if parts.itemsize == 2 and sys.byteorder == "little":
         parts.byteswap()
     told = read_header(head, maker)

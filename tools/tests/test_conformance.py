@@ -12,9 +12,7 @@ from typing import Any
 
 from cdma_tools.commands import status_of
 from cdma_tools.conformance import cases
-from tools.tests.helping import needs, sample_file, temporary_folder
-
-needs("numpy")
+from tools.tests.helping import sample_file, temporary_folder
 
 SEARCH = {"span", "workers"}
 PATHS = SEARCH | {"fingers"}
