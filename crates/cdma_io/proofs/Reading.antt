@@ -1,6 +1,6 @@
 -- Lemmas on reading samples piece by piece.
 use Rattle.std.proofs.Common.{◌≡◌, ℕ, ◌+◌, ◌*◌, ◌<◌, ◌≤◌, List, ◌++◌, length, take, sym, ap, ◌∙◌, subst, arith, length-append, take_all, All}
-use Rattle.std.proofs.Common.{Option, None, Some}
+use Rattle.std.proofs.Common.{Option, None, Some, Result, Err}
 use Rattle.std.specs.List.{flat_map}
 use Rattle.std.specs.Io.KnownBytes.{Consumes, IsAtEnd}
 use Rattle.std.proofs.KnownBytes.{Consumes-trans}
@@ -85,6 +85,11 @@ piece_cut_short (Some xs) (Some ys) buf count wanted place within few read ended
       length-take-le count buf within,
       ap length ended,
     ) in (omega (arith, long, few), omega (arith, long), ended)
+
+-- a file that ended is no read that failed
+pub short_is_no_failure : {T : Type 0} (place : ℕ) (result : Result T FileFault) →
+    result ≡ Err (Short place) → ¬ (result ≡ Err ReadFault)
+short_is_no_failure place result short failed = cc
 
 -- a piece was cut short, and so is the whole
 pub cuts_short_whole : (width : Width) (e : FileFault) (old mid new : Option (List ℕ))

@@ -1,9 +1,9 @@
 -- Why `read_piece` of `samples` keeps its contract.
-use Rattle.std.proofs.Common.{◌≡◌, ◌*◌, ◌<◌, length, arith, rules}
+use Rattle.std.proofs.Common.{◌≡◌, ◌+◌, ◌*◌, ◌<◌, length, refl, arith, rules}
 use Rattle.std.proofs.lemmas.Grind.{common_steps, elements}
 use Rattle.std.proofs.lemmas.Int.{ints}
 use Rattle.cdma_io.specs.SampleFile.{sample_len}
-use Rattle.cdma_io.proofs.Reading.{fewer_at_most, fewer_taken, piece_cut_short}
+use Rattle.cdma_io.proofs.Reading.{fewer_at_most, fewer_taken, piece_cut_short, short_is_no_failure}
 use Rattle.cdma_io.proofs.samples.read_piece.Goals as goal
 
 pub returns : goal.returns
@@ -30,5 +30,5 @@ returns-then-count-wanted g c =
       taken = fewer_at_most _ _ _ fewer;
       fewer = fewer;
       later = c.in_ok-count.ensures.cause.later;
-      cause = λ same. absurd (cc same);
+      cause = λ same. absurd (short_is_no_failure (c.args.place + c.in_ok-count.count) _ refl same);
     }
