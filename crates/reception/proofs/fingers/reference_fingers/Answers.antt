@@ -1,4 +1,6 @@
 -- Why `reference_fingers` of `fingers` keeps its contract.
+use Rattle.std.proofs.lemmas.Grind.{common_steps}
+use Rattle.std.proofs.lemmas.Int.{ints}
 use Rattle.reception.proofs.Common.{◌≡◌, ◌<◌, ◌++◌, ◌∷◌, [], ◌∙◌, sym, ap, arith, rules, length, length-append, pos, take, get_or, ℤ}
 use Rattle.reception.proofs.Common.{to_z-of_z, SFits, w8, all_near, has_reference, have_rows, finger_of, fingers_of}
 use Rattle.reception.proofs.FingerLists.{near_more, reference_more, rows_more, fingers_more}
@@ -33,3 +35,9 @@ loop-i-preserved c =
           ∙ near_more c.loop-i.fingers f had.near c.finger_at-finger.ensures.near;
       reference = ap has_reference more ∙ reference_more c.loop-i.fingers f had.reference;
     }
+
+pub loop-i-init : goal.loop-i-init
+loop-i-init c = grind (ints, arith, common_steps)
+
+pub unreachable-requires : goal.unreachable-requires
+unreachable-requires c = grind (ints, arith, common_steps)

@@ -1,4 +1,6 @@
 -- Why `shift_in` of `softs` keeps its contract.
+use Rattle.std.proofs.lemmas.Grind.{common_steps}
+use Rattle.std.proofs.lemmas.Int.{ints}
 use Rattle.reception.proofs.Common.{◌≡◌, ◌≤◌, ℕ, [], ◌++◌, ◌-◌, length, take, drop, refl, ap, subst, sym, ◌∙◌, arith, length-drop}
 use Rattle.reception.proofs.Common.{length-append, length-take, take_at, drop_all, post_of, AreSmall}
 use Rattle.std.proofs.lemmas.List.{append-nil}
@@ -36,3 +38,6 @@ returns-clause-small c =
     subst (AreSmall (length ys)) (sym (returns-clause-value c))
     (shifted_small (length ys) xs ys c.requires.few c.told-softs c.requires.small
     c.requires.fresh)
+
+pub returns-clause-whole : goal.returns-clause-whole
+returns-clause-whole c = grind (ints, arith, common_steps)

@@ -1,4 +1,6 @@
 -- Why `unscramble` of `softs` keeps its contract.
+use Rattle.std.proofs.lemmas.Grind.{common_steps}
+use Rattle.std.proofs.lemmas.Int.{ints}
 use Rattle.reception.proofs.Common.{◌≡◌, ◌<◌, ℕ, ◌∙◌, ap, arith, rules, ℤ, length, get_or, pos, false, ◌*ℤ◌, unsigned_abs, to_z-of_z}
 use Rattle.reception.proofs.Common.{sum_by-set, SFits, w64, sign}
 use Rattle.reception.proofs.Descrambled.{descrambled_more}
@@ -31,3 +33,12 @@ loop-i-preserved c =
           let sum = sum_by-set unsigned_abs now i v (pos 0) (omega (arith, many, long)) in
           omega (arith, sum, size, c.loop-i.invariant.small);
     })
+
+pub descrambled_value-requires : goal.descrambled_value-requires
+descrambled_value-requires c = grind (ints, arith, common_steps)
+
+pub bounds-softs-i : goal.bounds-softs-i
+bounds-softs-i c = grind (ints, arith, common_steps)
+
+pub offset_bounds-softs-i-in-loop-i : goal.offset_bounds-softs-i-in-loop-i
+offset_bounds-softs-i-in-loop-i c = grind (ints, arith, common_steps)

@@ -1,4 +1,7 @@
 -- Why `own_bits` of `continued::Continued` keeps its contract.
+use Rattle.reception.proofs.Common.{arith}
+use Rattle.std.proofs.lemmas.Grind.{common_steps}
+use Rattle.std.proofs.lemmas.Int.{ints}
 use Rattle.reception.proofs.Common.{◌≡◌, ℕ, ◌-◌, ◌*◌, List, take, drop, ◌∙◌, ap, refl, ℤ, own_bits, symbols}
 use Rattle.reception.proofs.Received.{own_bits_are}
 use Rattle.reception.proofs.continued.Continued.own_bits.Goals as goal
@@ -19,3 +22,12 @@ returns-clause-value c = λ count s heard r channel d.
     ∙ ap (λ channel'. own_bits channel' span.frames span.own softs) channel
     ∙ own_bits_are r d span.frames span.own kept told.frames told.own
     kept_is c.requires.sound.whole
+
+pub span_bits-requires-clause-room : goal.span_bits-requires-clause-room
+span_bits-requires-clause-room c = grind (ints, arith, common_steps)
+
+pub span_bits-requires-clause-softs : goal.span_bits-requires-clause-softs
+span_bits-requires-clause-softs c = grind (ints, arith, common_steps)
+
+pub span_bits-requires-clause-bound : goal.span_bits-requires-clause-bound
+span_bits-requires-clause-bound c = grind (ints, arith, common_steps)

@@ -1,4 +1,7 @@
 -- Why `take_frame` of `continued::Continued` keeps its contract.
+use Rattle.reception.proofs.Common.{arith}
+use Rattle.std.proofs.lemmas.Grind.{common_steps}
+use Rattle.std.proofs.lemmas.Int.{ints}
 use Rattle.reception.proofs.Common.{◌≡◌, ℕ, ◌+◌, length, List, ℤ, ◌∙◌, sym, ap, refl, rules, frame_chips, softs, symbols, unscrambled}
 use Rattle.reception.proofs.Common.{frame_softs, frame_start}
 use Rattle.rake_finger.proofs.FingerTimes.{in_ring, ends_step, begun_on}
@@ -54,3 +57,12 @@ returns-clause-stands c = λ count s heard holds bits none r.
     let ended : k.clock.end ≡ length heard = sym c.requires.ended ∙ holds.taken in
     rw (c.advance.ensures.value, c.shift_in.ensures.value, many)
     (receives_frame r fresh none ended fresh_is c.requires.sound.whole many)
+
+pub unscramble-requires-clause-small : goal.unscramble-requires-clause-small
+unscramble-requires-clause-small c = grind (ints, arith, common_steps)
+
+pub combine_into-requires-clause-rows : goal.combine_into-requires-clause-rows
+combine_into-requires-clause-rows c = grind (ints, arith, common_steps)
+
+pub shift_in-requires-clause-fresh : goal.shift_in-requires-clause-fresh
+shift_in-requires-clause-fresh c = grind (ints, arith, common_steps)

@@ -1,4 +1,7 @@
 -- Why `raw` of `frame_receiver::FrameReceiver` keeps its contract.
+use Rattle.reception.proofs.Common.{arith}
+use Rattle.std.proofs.lemmas.Grind.{common_steps}
+use Rattle.std.proofs.lemmas.Int.{ints}
 use Rattle.reception.proofs.Common.{◌∙◌, Data}
 use Rattle.rake_finger.proofs.CloseFingers.{begun_in_ring}
 use Rattle.reception.proofs.frame_receiver.FrameReceiver.raw.Goals as goal
@@ -9,3 +12,6 @@ combine_into-requires-clause-ring c =
     let sound = c.requires.sound in
     begun_in_ring c.args.ring.now Data r.clock.start r.fingers sound.close.close sound.begun
     c.requires.room (c.requires.ended ∙ sound.ends)
+
+pub combine_into-requires-clause-rows : goal.combine_into-requires-clause-rows
+combine_into-requires-clause-rows c = grind (ints, arith, common_steps)
