@@ -1,4 +1,5 @@
 -- Why `candidate` of `frame` keeps its contract.
+use Rattle.std.proofs.lemmas.Grind.{elements}
 use Rattle.std.proofs.lemmas.Grind.{common_steps}
 use Rattle.std.proofs.lemmas.Int.{ints}
 use Rattle.std.proofs.Common.{◌<◌, Some, sym, ap, ◌∙◌, arith, length, rules, FitsSigned}
@@ -38,3 +39,9 @@ loop-i-preserved c =
 
 pub returns : goal.returns
 returns c = grind (ints, arith, common_steps)
+
+pub frame_in-requires : goal.frame_in-requires
+frame_in-requires c = grind (ints, arith, elements)
+
+pub is_right-requires-clause-count : goal.is_right-requires-clause-count
+is_right-requires-clause-count c = grind (ints, arith, elements)
