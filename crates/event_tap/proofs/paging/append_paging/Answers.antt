@@ -1,4 +1,7 @@
 -- Why `append_paging` of `paging` keeps its contract.
+use Rattle.std.proofs.Common.{arith}
+use Rattle.std.proofs.lemmas.Grind.{common_steps}
+use Rattle.std.proofs.lemmas.Int.{ints}
 use Rattle.paging_message.specs.Messages.{paging_kind_of}
 use Rattle.event_tap.proofs.SaidTexts.{paging_lines}
 use Rattle.event_tap.proofs.paging.append_paging.Goals as goal
@@ -7,3 +10,9 @@ pub append_message-requires-clause-line : goal.append_message-requires-clause-li
 append_message-requires-clause-line c =
     rw (c.layout.ensures.names, c.layout.ensures.shape)
     (paging_lines (paging_kind_of c.args.message.now))
+
+pub append_named-requires-clause-ascii : goal.append_named-requires-clause-ascii
+append_named-requires-clause-ascii c = grind (ints, arith, common_steps)
+
+pub append_message-requires-clause-start : goal.append_message-requires-clause-start
+append_message-requires-clause-start c = grind (ints, arith, common_steps)

@@ -33,3 +33,12 @@ append_list-requires-clause-ascii c = grind (ints, arith, common_steps)
 
 pub append_values-requires-clause-all : goal.append_values-requires-clause-all
 append_values-requires-clause-all c = grind (ints, arith, common_steps)
+
+pub append_str-requires-2-clause-ascii : goal.append_str-requires-2-clause-ascii
+append_str-requires-2-clause-ascii c = grind (ints, arith, common_steps)
+
+pub append_values-requires-clause-fit : goal.append_values-requires-clause-fit
+append_values-requires-clause-fit c = grind (ints, arith, common_steps)
+
+pub append_str-requires-clause-ascii : goal.append_str-requires-clause-ascii
+append_str-requires-clause-ascii c = grind (ints, arith, common_steps)

@@ -19,3 +19,12 @@ append_str-requires-3-clause-ascii c = grind (ints, arith, common_steps)
 
 pub append_items-requires-clause-room : goal.append_items-requires-clause-room
 append_items-requires-clause-room c = grind (ints, arith, common_steps)
+
+pub append_values-requires-clause-fit : goal.append_values-requires-clause-fit
+append_values-requires-clause-fit c = grind (ints, arith, common_steps)
+
+pub append_str-requires-2-clause-ascii : goal.append_str-requires-2-clause-ascii
+append_str-requires-2-clause-ascii c = grind (ints, arith, common_steps)
+
+pub append_str-requires-clause-ascii : goal.append_str-requires-clause-ascii
+append_str-requires-clause-ascii c = grind (ints, arith, common_steps)

@@ -54,3 +54,9 @@ listed c = grind (ints, arith, common_steps)
 
 pub get-requires : goal.get-requires
 get-requires c = grind (ints, arith, common_steps)
+
+pub listed-2 : goal.listed-2
+listed-2 c = grind (ints, arith, common_steps)
+
+pub listed-3 : goal.listed-3
+listed-3 c = grind (ints, arith, common_steps)

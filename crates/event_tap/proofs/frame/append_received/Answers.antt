@@ -1,0 +1,17 @@
+-- Why `append_received` of `frame` keeps its contract.
+use Rattle.std.proofs.Common.{arith}
+use Rattle.std.proofs.lemmas.Grind.{common_steps}
+use Rattle.std.proofs.lemmas.Int.{ints}
+use Rattle.event_tap.proofs.frame.append_received.Goals as goal
+
+pub append_str-requires-4-clause-ascii : goal.append_str-requires-4-clause-ascii
+append_str-requires-4-clause-ascii c = grind (ints, arith, common_steps)
+
+pub append_str-requires-2-clause-ascii : goal.append_str-requires-2-clause-ascii
+append_str-requires-2-clause-ascii c = grind (ints, arith, common_steps)
+
+pub append_str-requires-3-clause-ascii : goal.append_str-requires-3-clause-ascii
+append_str-requires-3-clause-ascii c = grind (ints, arith, common_steps)
+
+pub append_str-requires-clause-ascii : goal.append_str-requires-clause-ascii
+append_str-requires-clause-ascii c = grind (ints, arith, common_steps)

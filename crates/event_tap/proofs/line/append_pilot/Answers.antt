@@ -1,0 +1,14 @@
+-- Why `append_pilot` of `line` keeps its contract.
+use Rattle.std.proofs.Common.{arith}
+use Rattle.std.proofs.lemmas.Grind.{common_steps}
+use Rattle.std.proofs.lemmas.Int.{ints}
+use Rattle.event_tap.proofs.line.append_pilot.Goals as goal
+
+pub append_named-requires-clause-ascii : goal.append_named-requires-clause-ascii
+append_named-requires-clause-ascii c = grind (ints, arith, common_steps)
+
+pub append_str-requires-clause-ascii : goal.append_str-requires-clause-ascii
+append_str-requires-clause-ascii c = grind (ints, arith, common_steps)
+
+pub append_named-requires-2-clause-ascii : goal.append_named-requires-2-clause-ascii
+append_named-requires-2-clause-ascii c = grind (ints, arith, common_steps)
