@@ -1,4 +1,6 @@
 -- Why `fill_up` of `page_cycle` keeps its contract.
+use Rattle.cell_samples.proofs.Common.{ints}
+use Rattle.std.proofs.lemmas.Grind.{common_steps}
 use Rattle.cell_samples.proofs.Common.{◌≡◌, ℕ, ◌++◌, false, replicate, ap, ◌∙◌, arith, fill}
 use Rattle.cell_samples.proofs.page_cycle.fill_up.Goals as goal
 
@@ -11,3 +13,6 @@ returns c =
     c.loop-zero.invariant.bits
     ∙ ap (λ (n : ℕ). c.args.bits.now ++ replicate n false) (all ∙
     ap (fill half) c.len.ensures.value)
+
+pub loop-zero-preserved : goal.loop-zero-preserved
+loop-zero-preserved c = grind (ints, arith, common_steps)
