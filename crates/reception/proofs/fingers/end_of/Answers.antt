@@ -4,8 +4,5 @@ use Rattle.std.proofs.lemmas.Grind.{common_steps}
 use Rattle.std.proofs.lemmas.Int.{ints}
 use Rattle.reception.proofs.fingers.end_of.Goals as goal
 
-pub returns : goal.returns
-returns c = grind (ints, arith, common_steps)
-
 pub overflow_cast-result : goal.overflow_cast-result
 overflow_cast-result c = grind (ints, arith, common_steps)
