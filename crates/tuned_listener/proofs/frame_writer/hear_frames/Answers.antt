@@ -1,4 +1,6 @@
 -- Why `hear_frames` of `frame_writer` keeps its contract.
+use Rattle.tuned_listener.proofs.Common.{ints}
+use Rattle.std.proofs.lemmas.Grind.{common_steps}
 use Rattle.tuned_listener.proofs.Common.{◌≡◌, ◌++◌, [], List, None, Some, arith, rules, subst, take, Appends, take_rest}
 use Rattle.tuned_listener.proofs.Common.{err_from_is_err_and, AppendsPrefix, Sample, soft_frames, IsTunedTo, Tuning, Channel, HoldsFrames}
 use Rattle.tuned_listener.proofs.Common.{tuned_text_of, slot_behind, slot_more, tuned_frame_text, TunedText, WritesFrames, Mark, Tuner}
@@ -133,3 +135,12 @@ returns-clause-ok g c t channel heard tuned holds =
     writes_all t channel c.args.mark.now (tuned_text_of c.args.writer.now) c.loop-taken.tuner
     c.loop-taken.writer heard c.args.samples.now c.loop-taken.taken _ _
     (omega (arith, c.loop-taken-test.false)) (c.loop-taken.invariant.writes t channel heard tuned holds)
+
+pub loop-taken-smaller : goal.loop-taken-smaller
+loop-taken-smaller g c = grind (ints, arith, common_steps)
+
+pub loop-taken-smaller-in-Continue-1 : goal.loop-taken-smaller-in-Continue-1
+loop-taken-smaller-in-Continue-1 g c = grind (ints, arith, common_steps)
+
+pub write-requires-clause-small : goal.write-requires-clause-small
+write-requires-clause-small g c = grind (ints, arith, common_steps)

@@ -1,4 +1,6 @@
 -- Why `step_to_mark` of `marking` keeps its contract.
+use Rattle.tuned_listener.proofs.Common.{arith, ints}
+use Rattle.std.proofs.lemmas.Grind.{common_steps}
 use Rattle.tuned_listener.proofs.Common.{◌≡◌, ◌∙◌, List, None, Some, rules, take_rest, Sample, Tuning, HasNoMark}
 use Rattle.tuned_listener.proofs.TunedMarks.{ahead_all, mark_is_ahead, marked_here, no_mark_here, unset_untold, unset_without, untold_more}
 use Rattle.tuned_listener.proofs.marking.step_to_mark.Goals as goal
@@ -68,3 +70,27 @@ loop-taken-preserved c =
           no_mark_here before after _ c.step-step.result does unset t heard samples taken
           (take_rest samples taken) (inv.none t heard has);
     }
+
+pub returns-in-Some-clause-none : goal.returns-in-Some-clause-none
+returns-in-Some-clause-none c = grind (ints, arith, common_steps)
+
+pub returns-then-is_none-clause-early : goal.returns-then-is_none-clause-early
+returns-then-is_none-clause-early c = grind (ints, arith, common_steps)
+
+pub returns-then-is_none-clause-sound : goal.returns-then-is_none-clause-sound
+returns-then-is_none-clause-sound c = grind (ints, arith, common_steps)
+
+pub returns-then-is_none-clause-all : goal.returns-then-is_none-clause-all
+returns-then-is_none-clause-all c = grind (ints, arith, common_steps)
+
+pub loop-taken-smaller : goal.loop-taken-smaller
+loop-taken-smaller c = grind (ints, arith, common_steps)
+
+pub returns-then-is_none-clause-set : goal.returns-then-is_none-clause-set
+returns-then-is_none-clause-set c = grind (ints, arith, common_steps)
+
+pub returns-in-Some-clause-all : goal.returns-in-Some-clause-all
+returns-in-Some-clause-all c = grind (ints, arith, common_steps)
+
+pub loop-taken-init : goal.loop-taken-init
+loop-taken-init c = grind (ints, arith, common_steps)

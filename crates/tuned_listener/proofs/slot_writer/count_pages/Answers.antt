@@ -1,4 +1,6 @@
 -- Why `count_pages` of `slot_writer` keeps its contract.
+use Rattle.tuned_listener.proofs.Common.{ints}
+use Rattle.std.proofs.lemmas.Grind.{common_steps}
 use Rattle.tuned_listener.proofs.Common.{◌∙◌, ap, arith, length, rules, subst, sym, take, taken_more, HalfFramesStandFor}
 use Rattle.tuned_listener.proofs.SlotPages.{count_more, pages_all, pages_none}
 use Rattle.tuned_listener.proofs.slot_writer.count_pages.Goals as goal
@@ -33,3 +35,6 @@ pub returns : goal.returns
 returns c =
     c.loop-i.invariant.count
     ∙ ap length (pages_all c.args.check c.args.rate c.args.bits.now c.loop-i.i (search rules))
+
+pub overflow_add-count : goal.overflow_add-count
+overflow_add-count c = grind (ints, arith, common_steps)

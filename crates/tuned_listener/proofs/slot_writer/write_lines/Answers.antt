@@ -1,4 +1,6 @@
 -- Why `write_lines` of `slot_writer` keeps its contract.
+use Rattle.tuned_listener.proofs.Common.{arith, ints}
+use Rattle.std.proofs.lemmas.Grind.{common_steps}
 use Rattle.tuned_listener.proofs.Common.{ℕ, length, subst, Appends, paging_line, slot_line, slot_pages}
 use Rattle.std.specs.List.{flat_map}
 use Rattle.event_tap.proofs.Prefixes.{on_err, prefix_behind}
@@ -18,3 +20,9 @@ returns-clause-err g c =
     (λ part. prefix_behind _ (g.K.Sink.written c.write_slot.new.sink) _
     (slot_line at time (length pages)) (flat_map (paging_line at) pages) line part)
     c.write_pages.ensures.err
+
+pub returns-clause-cause : goal.returns-clause-cause
+returns-clause-cause g c = grind (ints, arith, common_steps)
+
+pub returns-clause-ok : goal.returns-clause-ok
+returns-clause-ok g c = grind (ints, arith, common_steps)

@@ -1,4 +1,6 @@
 -- Why `keep` of `slot_writer::SlotWriter` keeps its contract.
+use Rattle.tuned_listener.proofs.Common.{arith, ints}
+use Rattle.std.proofs.lemmas.Grind.{common_steps}
 use Rattle.tuned_listener.proofs.Common.{◌≡◌, ◌⊎◌, ◌≤◌, ◌+◌, ◌*◌, ◌∙◌, ℕ, ap, length, refl, rules, sym}
 use Rattle.tuned_listener.proofs.SlotFrames.{holds_put, ready_put}
 use Rattle.tuned_listener.proofs.slot_writer.SlotWriter.keep.Goals.{After-copy_from_slice}
@@ -28,3 +30,6 @@ returns-clause-holds c = λ slot holds.
     c.copy_from_slice.new.self (c.from-from.ensures ∙ c.place_in_slot-place.ensures) which
     c.copy_from_slice.ensures.after long room (ap (λ (n : ℕ). n + 1) (sym c.from-from.ensures)) refl
     holds
+
+pub copy_from_slice-requires : goal.copy_from_slice-requires
+copy_from_slice-requires c = grind (ints, arith, common_steps)

@@ -1,4 +1,6 @@
 -- Why `write_slot` of `slot_writer::SlotWriter` keeps its contract.
+use Rattle.tuned_listener.proofs.Common.{ints}
+use Rattle.std.proofs.lemmas.Grind.{common_steps}
 use Rattle.tuned_listener.proofs.Common.{◌≡◌, true, length, rules, arith, sym, subst, Some, None, nat_lt, if◌then◌else◌, Appends, List}
 use Rattle.tuned_listener.proofs.Common.{SoftFrame, HoldsSlot, AppendsPrefix, paging_rate, is_monitored}
 use Rattle.tuned_listener.proofs.HeardSlots.{slot_told, spans_small}
@@ -38,3 +40,6 @@ returns g c =
           c.write_lines.ensures.err;
       cause = c.write_lines.ensures.cause;
     }
+
+pub write_lines-requires : goal.write_lines-requires
+write_lines-requires g c = grind (ints, arith, common_steps)

@@ -1,4 +1,6 @@
 -- Why `opened` of `tuned::Hearer` keeps its contract.
+use Rattle.tuned_listener.proofs.Common.{arith, ints}
+use Rattle.std.proofs.lemmas.Grind.{common_steps}
 use Rattle.tuned_listener.proofs.Common.{◌≡◌, [], subst, sym, Channel, IsTunedTo, soft_frames}
 use Rattle.tuned_listener.proofs.TunedListeners.{can_open, lawful_channel, was_told}
 use Rattle.tuned_listener.proofs.tuned.Hearer.opened.Goals as goal
@@ -26,3 +28,18 @@ returns-in-Ahead-clause-listens c t channel heard told =
       },
       subst (λ (ch : Channel). soft_frames t ch m heard ≡ []) opens.channel_is none,
     )
+
+pub returns-in-Ahead-clause-room : goal.returns-in-Ahead-clause-room
+returns-in-Ahead-clause-room c = grind (ints, arith, common_steps)
+
+pub open-tuner-requires-clause-least : goal.open-tuner-requires-clause-least
+open-tuner-requires-clause-least c = grind (ints, arith, common_steps)
+
+pub open-tuner-requires-clause-early : goal.open-tuner-requires-clause-early
+open-tuner-requires-clause-early c = grind (ints, arith, common_steps)
+
+pub returns-in-After-clause-listens : goal.returns-in-After-clause-listens
+returns-in-After-clause-listens c = grind (ints, arith, common_steps)
+
+pub open-tuner-requires-clause-most : goal.open-tuner-requires-clause-most
+open-tuner-requires-clause-most c = grind (ints, arith, common_steps)

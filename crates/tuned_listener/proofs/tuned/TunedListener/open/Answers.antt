@@ -1,4 +1,6 @@
 -- Why `open` of `tuned::TunedListener` keeps its contract.
+use Rattle.tuned_listener.proofs.Common.{arith, ints}
+use Rattle.std.proofs.lemmas.Grind.{common_steps}
 use Rattle.tuned_listener.proofs.Common.{[], refl}
 use Rattle.tuned_listener.proofs.TunedListeners.{holds_nothing}
 use Rattle.heard_events.proofs.MarkGrowth.{none_marked}
@@ -21,3 +23,6 @@ returns-clause-listens c t stands phase deltas check =
         };
       };
     }
+
+pub invariant_of-result : goal.invariant_of-result
+invariant_of-result c = grind (ints, arith, common_steps)

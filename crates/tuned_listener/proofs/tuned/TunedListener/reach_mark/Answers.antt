@@ -1,5 +1,6 @@
 -- Why `reach_mark` of `tuned::TunedListener` keeps its contract.
-use Rattle.tuned_listener.proofs.Common.{◌≡◌, ◌++◌, List, None, refl, rules, take, Sample}
+use Rattle.std.proofs.lemmas.Bool.{false≢true}
+use Rattle.tuned_listener.proofs.Common.{◌≡◌, ◌++◌, ◌∙◌, List, None, refl, rules, sym, take, Sample}
 use Rattle.tuned_listener.proofs.TunedListeners.{ahead_sound, listens_after, listens_ahead, silent_ahead, silent_at_mark, waits}
 use Rattle.tuned_listener.proofs.tuned.TunedListener.reach_mark.Goals as goal
 
@@ -65,7 +66,7 @@ returns-in-Some c =
     record {
       most = search rules;
       room = search rules;
-      all = λ ahead. let after = c.replace_with.ensures.1.0 in absurd (cc);
+      all = λ ahead. absurd (false≢true (sym c.replace_with.ensures.1.0 ∙ ahead));
       listens = λ t channel form heard is.
           let before = waits t channel heard _ is.listens _ _ _ _ c.in-Ahead.is in
           let set = reached.ensures.set m c.in-Some.is t heard before.ahead in

@@ -1,4 +1,6 @@
 -- Why `write_frames` of `tuned::TunedListener` keeps its contract.
+use Rattle.tuned_listener.proofs.Common.{arith, ints}
+use Rattle.std.proofs.lemmas.Grind.{common_steps}
 use Rattle.tuned_listener.proofs.Common.{refl}
 use Rattle.event_tap.proofs.Prefixes.{on_err, on_ok}
 use Rattle.tuned_listener.proofs.TunedListeners.{ready_writer, tells_behind, tells_cut, tells_nothing}
@@ -27,3 +29,6 @@ pub returns-in-Ahead-clause-ok : goal.returns-in-Ahead-clause-ok
 returns-in-Ahead-clause-ok g c t channel form heard is =
     tells_nothing t channel form c.args.self.now _ heard c.args.samples.now _ is
     (c.requires.all (rw c.in-Ahead.is refl)) refl refl
+
+pub invariant_of-self-in-After : goal.invariant_of-self-in-After
+invariant_of-self-in-After g c = grind (ints, arith, common_steps)

@@ -1,7 +1,10 @@
 -- Why `step` of `tuner::Tuner` keeps its contract.
+use Rattle.tuned_listener.proofs.Common.{ints}
+use Rattle.std.proofs.lemmas.Grind.{common_steps}
 use Rattle.tuned_listener.proofs.Common.{◌≡◌, ◌∙◌, ℕ, ◌-◌, ◌++◌, ◌∷◌, [], List, append-nil, ap, arith, length, length-take, refl, subst}
 use Rattle.tuned_listener.proofs.Common.{sym, take, take_all, HasGiven, IsTunedTo, soft_frames, Channel, ChannelReceiver, Mark, Sample}
 use Rattle.tuned_listener.proofs.Common.{SoftFrame, Tuning}
+use Rattle.std.proofs.lemmas.Option.{none-some}
 use Rattle.tuned_listener.proofs.FramesGiven.{step_frame, step_none}
 use Rattle.tuned_listener.proofs.tuner.Tuner.step.Goals as goal
 
@@ -66,7 +69,7 @@ returns c =
     record {
       most = omega (arith, few);
       some = λ h. omega (arith, waits, end, at');
-      all = λ e. absurd (cc);
+      all = λ e. absurd (none-some _ (sym e));
       left = omega (arith, room, within, pushed, long);
       ends = omega (arith, frame.ensures.ends, pushed, long);
       small = frame.ensures.small;
@@ -83,3 +86,6 @@ returns c =
           (sym (frame.ensures.value t channel m (heard ++ more) (length (heard ++ more))
           (c.push_all-2.ensures.holds heard st.ring) given.0));
     }
+
+pub take_frame-requires-clause-ended : goal.take_frame-requires-clause-ended
+take_frame-requires-clause-ended c = grind (ints, arith, common_steps)

@@ -1,0 +1,10 @@
+-- Why `page_behind` of `slot_writer` keeps its contract.
+use Rattle.tuned_listener.proofs.Common.{arith, ints}
+use Rattle.std.proofs.lemmas.Grind.{common_steps}
+use Rattle.tuned_listener.proofs.slot_writer.page_behind.Goals as goal
+
+pub returns-in-Err-clause-page : goal.returns-in-Err-clause-page
+returns-in-Err-clause-page c = grind (ints, arith, common_steps)
+
+pub returns-in-Ok-clause-page : goal.returns-in-Ok-clause-page
+returns-in-Ok-clause-page c = grind (ints, arith, common_steps)
