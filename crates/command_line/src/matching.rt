@@ -1,10 +1,9 @@
 //! The values of options, as clap parts them.
 
-ghost use Rattle.std.specs.Prelude.{◌≡◌, IfOk, IfErr, map, true, false, is_some, Some, []};
-ghost use Rattle.std.specs.Prelude.{string_bytes};
-ghost use Rattle.clap.specs.Words.{app_of, first_value, found_of, kind_of, rule_of};
+ghost use Rattle.std.specs.Prelude.{◌≡◌, IfOk, IfErr, map, true, is_some, Some, [], string_bytes};
+ghost use Rattle.clap.specs.Words.{app_of, first_value, found_of, kind_of};
 ghost use Rattle.command_line.specs.Args.{Given, Text, app_from, bare_app, given_behind, entry_of};
-ghost use Rattle.command_line.specs.Args.{option_text, rule_by};
+ghost use Rattle.command_line.specs.Args.{option_text};
 
 use crate::grammar::OptionRule;
 use clap::error::ErrorKind;
@@ -39,28 +38,14 @@ fn command_by<'a>(
 ) -> Result<Command<'a>, AllocError>
     ensures { IfOk result (λ c. app_of c ≡ app_from (bare_app name.now) (map entry_of rules.now)) }
 {
-    let mut command = bare_command(alloc, name);
+    let mut command = Command::new(alloc, name)
+        .no_binary_name(true)
+        .disable_help_flag(true);
     for rule in rules {
-        command = command.arg(option_by(alloc, rule))?;
+        let option = Arg::new(alloc, rule.name)
+            .long(rule.name)
+            .action(ArgAction::Set);
+        command = command.arg(option)?;
     }
     Ok(command)
-}
-
-/// A command of clap without options.
-fn bare_command<'a>(alloc: Global, name: &'a str) -> Command<'a>
-    ensures { app_of result ≡ bare_app name.now }
-{
-    Command::new(alloc, name)
-        .no_binary_name(true)
-        .disable_help_flag(true)
-}
-
-/// The option of a rule, as clap has it.
-fn option_by<'a>(alloc: Global, rule: &OptionRule) -> Arg<'a>
-    ensures rule { rule_of result ≡ rule_by (entry_of rule.now) }
-    ensures local { result.global ≡ false }
-{
-    Arg::new(alloc, rule.name)
-        .long(rule.name)
-        .action(ArgAction::Set)
 }

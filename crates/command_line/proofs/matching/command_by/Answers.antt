@@ -1,6 +1,4 @@
 -- Why `command_by` of `matching` keeps its contract.
-use Rattle.std.proofs.lemmas.Grind.{common_steps}
-use Rattle.std.proofs.lemmas.Int.{ints}
 use Rattle.command_line.proofs.Common.{◌≡◌, ◌+◌, ◌∙◌, drop, get_or, map, sym, ap, rules, arith, drop_all, length-map, App, app_of, rule_of}
 use Rattle.command_line.proofs.Common.{with_rule, app_from, entry_of, rule_by}
 use Rattle.command_line.proofs.ArgTests.{item_first, no_rule}
@@ -13,10 +11,10 @@ pub loop-rule-preserved : goal.loop-rule-preserved
 loop-rule-preserved c =
     let entry = entry_of (get_or c.args.rules.now c.loop-rule.rule-index no_rule) in
     let rest = drop (c.loop-rule.rule-index + 1) (map entry_of c.args.rules.now) in
-    let rule : rule_of c.option_by.result ≡ rule_by entry = search rules in
+    let rule : rule_of c.action-option.result ≡ rule_by entry = search rules in
     let app : app_of c.in_ok-command.command ≡ with_rule (app_of c.loop-rule.command)
     (rule_by entry) =
-    c.in_ok-command.ensures.shape c.option_by.ensures.local
+    c.in_ok-command.ensures.shape (search rules)
     ∙ ap (with_rule (app_of c.loop-rule.command)) rule in
     c.loop-rule.invariant
     ∙ item_first (app_from (app_of c.loop-rule.command)) entry_of c.args.rules.now
@@ -31,6 +29,3 @@ returns c =
     (map entry_of c.args.rules.now)
     (rw (length-map c.args.rules.now entry_of) (omega (arith, c.loop-rule-test.false))))
     ∙ app-none (app_of c.loop-rule.command))
-
-pub loop-rule-init : goal.loop-rule-init
-loop-rule-init c = grind (ints, arith, common_steps)
