@@ -4,29 +4,42 @@ ghost use Rattle.std.specs.Prelude.{◌<◌, ◌≤◌, length};
 
 use crate::gates::{Counting, Meeting, NOTHING, Queue};
 use chip_core::{OutOfMemory, Phase, Sample};
-use pilot_search::{Shared, Tails, search, try_phase};
+use pilot_search::{Gate, Shared, Tails, search, try_phase};
 use short_code::Codes;
 use std::alloc::Global;
 use std::sync::atomic::Ordering;
 use std::test::Fail;
+use std::thread::Threads;
+
+/// Searches these samples with so many workers, which pass this gate.
+fn search_by<R: AllocGlobal + Threads + Sync, G: Gate + Sync>(
+    rt: &R,
+    samples: &[Sample],
+    workers: u8,
+    gate: &G,
+) -> Result<(), Fail>
+    requires few { length samples.now ≤ 32768 }
+    requires least { 1 ≤ workers }
+    requires most { workers ≤ 64 }
+{
+    let codes = Codes::new(rt.alloc())?;
+    search(rt, rt.alloc(), samples, &codes, workers, gate)?;
+    Ok(())
+}
 
 #[test]
 fn workers_meet(rt: HostRuntime) -> Result<(), Fail> {
-    let codes = Codes::new(rt.alloc())?;
-    let two = Meeting::of_two();
-    search(&rt, rt.alloc(), &NOTHING, &codes, 2, &two)?;
-    assert!(rt; two.is_over(), "two");
-    let five = Meeting::of_five();
-    search(&rt, rt.alloc(), &NOTHING, &codes, 5, &five)?;
-    assert!(rt; five.is_over(), "five");
+    for (workers, gate) in [(2, Meeting::of_two()), (5, Meeting::of_five())] {
+        search_by(&rt, &NOTHING, workers, &gate)?;
+        assert!(rt; gate.is_over(), "{workers}");
+    }
     Ok(())
 }
 
 #[test]
 fn each_worker_arrives_and_leaves_once(rt: HostRuntime) -> Result<(), Fail> {
-    let codes = Codes::new(rt.alloc())?;
     let gate = Counting::new();
-    search(&rt, rt.alloc(), &NOTHING, &codes, 64, &gate)?;
+    search_by(&rt, &NOTHING, 64, &gate)?;
     assert_eq!(rt; gate.arrived.load(Ordering::SeqCst), 64);
     assert_eq!(rt; gate.left.load(Ordering::SeqCst), 64);
     Ok(())
@@ -51,7 +64,7 @@ fn code_from(codes: &Codes, first: u16) -> [Sample; 2048]
 fn leaves_most_phases_after_the_code(rt: HostRuntime) -> Result<(), Fail> {
     let codes = Codes::new(rt.alloc())?;
     let gate = Counting::new();
-    search(&rt, rt.alloc(), &code_from(&codes, 0), &codes, 1, &gate)?;
+    search_by(&rt, &code_from(&codes, 0), 1, &gate)?;
     assert_eq!(rt; gate.left.load(Ordering::SeqCst), 1);
     assert!(rt; gate.unfinished.load(Ordering::SeqCst) >= 30000);
     Ok(())
@@ -59,10 +72,8 @@ fn leaves_most_phases_after_the_code(rt: HostRuntime) -> Result<(), Fail> {
 
 #[test]
 fn leaves_no_phase_of_zeros(rt: HostRuntime) -> Result<(), Fail> {
-    let codes = Codes::new(rt.alloc())?;
     let gate = Counting::new();
-    let zeros = [Sample { i: 0, q: 0 }; 2048];
-    search(&rt, rt.alloc(), &zeros, &codes, 1, &gate)?;
+    search_by(&rt, &[Sample { i: 0, q: 0 }; 2048], 1, &gate)?;
     assert_eq!(rt; gate.left.load(Ordering::SeqCst), 1);
     assert_eq!(rt; gate.unfinished.load(Ordering::SeqCst), 0);
     Ok(())
@@ -76,8 +87,7 @@ fn leaves_a_phase_that_is_surely_below(rt: HostRuntime) -> Result<(), Fail> {
     samples[0].i = 1;
     samples[1].i = 1;
     let tails = Tails::of(&samples);
-    assert_eq!(rt; tails.get(0), 2);
-    assert_eq!(rt; tails.get(1), 0);
+    assert_eq!(rt; (tails.get(0), tails.get(1)), (2, 0));
     let (shared, mut seat) = Shared::new(rt.alloc(), &samples, &codes)?;
     let zero = Phase::new(0).unwrap();
     let five = Phase::new(5).unwrap();
@@ -86,10 +96,8 @@ fn leaves_a_phase_that_is_surely_below(rt: HostRuntime) -> Result<(), Fail> {
     let second = try_phase(&shared, &mut seat, &samples, &codes, &tails, five);
     let again = try_phase(&shared, &mut seat, &samples, &codes, &tails, zero);
     let last = try_phase(&shared, &mut seat, &samples, &codes, &tails, ten);
-    assert_eq!(rt; first, Some(0));
-    assert_eq!(rt; second, Some(8));
-    assert_eq!(rt; again, None);
-    assert_eq!(rt; last, Some(8));
+    assert_eq!(rt; (first, second), (Some(0), Some(8)));
+    assert_eq!(rt; (again, last), (None, Some(8)));
     Ok(())
 }
 
@@ -138,7 +146,7 @@ fn tells_how_many_phases_of_noise_it_leaves(rt: HostRuntime) -> Result<(), Fail>
         let noise = noise(*seed);
         let samples = noise.get(..*count).unwrap_or(&[]);
         let gate = Counting::new();
-        search(&rt, rt.alloc(), samples, &codes, 1, &gate)?;
+        search_by(&rt, samples, 1, &gate)?;
         let told = gate.unfinished.load(Ordering::SeqCst);
         assert_eq!(rt; told, *left, "{seed}");
         assert_eq!(rt;
@@ -157,7 +165,7 @@ fn works_between_arriving_and_leaving(rt: HostRuntime) -> Result<(), Fail> {
     let codes = Codes::new(rt.alloc())?;
     let gate = Queue::new();
     let samples = code_from(&codes, 32767);
-    search(&rt, rt.alloc(), &samples, &codes, 2, &gate)?;
+    search_by(&rt, &samples, 2, &gate)?;
     assert_eq!(rt; gate.first.load(Ordering::SeqCst), 16384);
     assert_eq!(rt; gate.second.load(Ordering::SeqCst), 10968);
     Ok(())
