@@ -1,4 +1,6 @@
 -- Why `sums_of` of `block` keeps its contract.
+use Rattle.cell_samples.proofs.Common.{ints}
+use Rattle.std.proofs.lemmas.Grind.{common_steps}
 use Rattle.cell_samples.proofs.Common.{◌≡◌, ◌≤◌, ◌<◌, ◌*◌, ◌^◌, length, map, get_or, refl, sym, ap, ◌∙◌, ◌+◌, arith, ℤ, pos, to_z, of_z}
 use Rattle.cell_samples.proofs.Common.{unsigned_abs, get_or-map, All-get_or, origin, plus, IsWithin, IsLevel, ChannelState, carrier_of}
 use Rattle.cell_samples.proofs.Common.{level, scaled, read64}
@@ -81,3 +83,6 @@ returns c first whole are =
     blocks.all_summed first c.loop-n.n c.args.factor cs c.loop-n.sums
     c.transform64.new.values past
     (inv.summed first whole are) c.transform64.ensures.in_phase c.transform64.ensures.quadrature
+
+pub with_level-requires-clause-level : goal.with_level-requires-clause-level
+with_level-requires-clause-level c = grind (ints, arith, common_steps)

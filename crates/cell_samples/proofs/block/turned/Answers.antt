@@ -1,4 +1,6 @@
 -- Why `turned` of `block` keeps its contract.
+use Rattle.cell_samples.proofs.Common.{arith, ints}
+use Rattle.std.proofs.lemmas.Grind.{common_steps}
 use Rattle.cell_samples.proofs.TurnedChips.{difference_fits, sum_fits, turned_is}
 use Rattle.cell_samples.proofs.block.turned.Goals as goal
 
@@ -21,3 +23,15 @@ returns c =
     (record { value = c.with_sign-2.ensures.value; bound = c.with_sign-2.ensures.bound })
     (record { value = c.with_sign-3.ensures.value; bound = c.with_sign-3.ensures.bound })
     (record { value = c.with_sign-4.ensures.value; bound = c.with_sign-4.ensures.bound })
+
+pub with_sign-requires-3-clause-part : goal.with_sign-requires-3-clause-part
+with_sign-requires-3-clause-part c = grind (ints, arith, common_steps)
+
+pub with_sign-requires-4-clause-sign : goal.with_sign-requires-4-clause-sign
+with_sign-requires-4-clause-sign c = grind (ints, arith, common_steps)
+
+pub with_sign-requires-4-clause-part : goal.with_sign-requires-4-clause-part
+with_sign-requires-4-clause-part c = grind (ints, arith, common_steps)
+
+pub with_sign-requires-3-clause-sign : goal.with_sign-requires-3-clause-sign
+with_sign-requires-3-clause-sign c = grind (ints, arith, common_steps)

@@ -1,4 +1,6 @@
 -- Why `piece_of` of `sendings` keeps its contract.
+use Rattle.cell_samples.proofs.Common.{ints}
+use Rattle.std.proofs.lemmas.Grind.{common_steps}
 use Rattle.cell_samples.proofs.Common.{◌==◌, ◌∷◌, [], length, ap, ◌∙◌, arith, length-append, piece_more}
 use Rattle.cell_samples.proofs.sendings.piece_of.Goals as goal
 
@@ -17,3 +19,6 @@ loop-k-preserved c =
         i.count,
       );
     }
+
+pub returns-clause-value : goal.returns-clause-value
+returns-clause-value c = grind (ints, arith, common_steps)

@@ -19,3 +19,12 @@ append_field-requires-4-clause-ascii c = ascii_key (codes " checks=") refl
 pub returns : goal.returns
 unfolding written_cell
 returns c = grind (ints, arith, common_steps)
+
+pub append_field-requires-2-clause-room : goal.append_field-requires-2-clause-room
+append_field-requires-2-clause-room c = grind (ints, arith, common_steps)
+
+pub append_field-requires-4-clause-room : goal.append_field-requires-4-clause-room
+append_field-requires-4-clause-room c = grind (ints, arith, common_steps)
+
+pub append_field-requires-3-clause-room : goal.append_field-requires-3-clause-room
+append_field-requires-3-clause-room c = grind (ints, arith, common_steps)

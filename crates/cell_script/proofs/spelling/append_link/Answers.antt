@@ -1,4 +1,6 @@
 -- Why `append_link` of `spelling` keeps its contract.
+use Rattle.cell_script.proofs.Common.{arith, ints}
+use Rattle.std.proofs.lemmas.Grind.{common_steps}
 use Rattle.cell_script.proofs.Common.{ap, codes, decimal, refl, rules, signed_decimal, w64, written_link, ℤ, ◌++◌, ◌∙◌}
 use mir.Val.{SFits}
 use Rattle.std.proofs.lemmas.Int.{to_z-of_z}
@@ -33,3 +35,15 @@ returns c =
     (c.append_signed_field-2.ensures.value
     ∙ ap (λ (z : ℤ). c.append_signed_field.new.text ++ (codes " im=" ++ signed_decimal z)) (to_z-of_z w64 _ quadrature))
     c.append_field.ensures.value c.append_field-2.ensures.value
+
+pub append_field-requires-2-clause-room : goal.append_field-requires-2-clause-room
+append_field-requires-2-clause-room c = grind (ints, arith, common_steps)
+
+pub append_signed_field-requires-clause-room : goal.append_signed_field-requires-clause-room
+append_signed_field-requires-clause-room c = grind (ints, arith, common_steps)
+
+pub append_field-requires-clause-room : goal.append_field-requires-clause-room
+append_field-requires-clause-room c = grind (ints, arith, common_steps)
+
+pub append_signed_field-requires-2-clause-room : goal.append_signed_field-requires-2-clause-room
+append_signed_field-requires-2-clause-room c = grind (ints, arith, common_steps)

@@ -1,4 +1,6 @@
 -- Why `link_in` of `statements` keeps its contract.
+use Rattle.cell_script.proofs.Common.{arith, ints}
+use Rattle.std.proofs.lemmas.Grind.{common_steps}
 use Rattle.cell_script.proofs.Common.{refl, sym, ap, ◌∙◌, link_in, link_statement}
 use Rattle.cell_script.proofs.ScriptTables.{left_over, link_held, link_read, link_told, unlawful, whole_line}
 use Rattle.cell_script.proofs.statements.link_in.Goals as goal
@@ -33,3 +35,18 @@ returns-clause-value c =
     (link_told c.in_ok-re.re c.in_ok-im.im c.in_ok-samples.samples _ c.in_ok-re.ensures.range c.in_ok-im.ensures.range
     c.if-not-is_link.ensures) (c.if-not-at_end.ensures.0 refl))
     ∙ ap link_in c.new-fields.ensures
+
+pub returns-in_err-im-clause-lawful : goal.returns-in_err-im-clause-lawful
+returns-in_err-im-clause-lawful c = grind (ints, arith, common_steps)
+
+pub returns-in_err-samples-clause-lawful : goal.returns-in_err-samples-clause-lawful
+returns-in_err-samples-clause-lawful c = grind (ints, arith, common_steps)
+
+pub returns-clause-lawful : goal.returns-clause-lawful
+returns-clause-lawful c = grind (ints, arith, common_steps)
+
+pub is_link-requires-clause-in_phase : goal.is_link-requires-clause-in_phase
+is_link-requires-clause-in_phase c = grind (ints, arith, common_steps)
+
+pub returns-in_err-start-clause-lawful : goal.returns-in_err-start-clause-lawful
+returns-in_err-start-clause-lawful c = grind (ints, arith, common_steps)

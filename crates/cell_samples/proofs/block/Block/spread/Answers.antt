@@ -1,4 +1,6 @@
 -- Why `spread` of `block::Block` keeps its contract.
+use Rattle.cell_samples.proofs.Common.{ints}
+use Rattle.std.proofs.lemmas.Grind.{common_steps}
 use Rattle.cell_samples.proofs.Common.{◌+◌, ◌-◌, ◌%◌, List, length, map, sym, ap, ◌∙◌, arith, refl, subst, AreChips, AreLevels, BlockState}
 use Rattle.cell_samples.proofs.Common.{IsQuiet, chip_at, ChannelState, carrier_of}
 use Rattle.cell_samples.proofs.KeptBlocks.{block_after, chip_kept, turned_at}
@@ -80,3 +82,6 @@ returns-clause-same c =
     (written_back s.channels.items _ s.channels.len (c.renew.ensures.same ∙ lent.ensures.value)
     (ap length c.renew.ensures.same ∙ lent.ensures.len))
     ∙ c.self.view_is
+
+pub turn-requires-clause-points : goal.turn-requires-clause-points
+turn-requires-clause-points c = grind (ints, arith, common_steps)

@@ -1,4 +1,6 @@
 -- Why `fill_in_block` of `samples::CellSamples` keeps its contract.
+use Rattle.cell_samples.proofs.Common.{arith, ints}
+use Rattle.std.proofs.lemmas.Grind.{common_steps}
 use Rattle.cell_samples.proofs.Common.{◌≡◌, ◌+◌, ◌%◌, ◌≤◌, length, take, drop, sym, ap, ◌∙◌, rules, subst, ℕ, pilot_signs, HasBits}
 use Rattle.cell_samples.proofs.Common.{samples_of, CellState}
 use Rattle.std.specs.List.{All}
@@ -64,3 +66,6 @@ returns c =
           given i.lawful.loud);
       state = search rules;
     }
+
+pub invariant_of-self : goal.invariant_of-self
+invariant_of-self c = grind (ints, arith, common_steps)

@@ -1,4 +1,6 @@
 -- Why `loudness` of `judge::Judge` keeps its contract.
+use Rattle.cell_script.proofs.Common.{ints}
+use Rattle.std.proofs.lemmas.Grind.{common_steps}
 use Rattle.cell_script.proofs.Common.{◌≤◌, ◌+◌, ◌^◌, ◌∙◌, ap, arith, unsigned_abs, ℤ, mul-le, read64}
 use Rattle.cell_script.proofs.judge.Judge.loudness.Goals as goal
 
@@ -18,3 +20,6 @@ overflow_mul-result c =
     let small : factor ≤ 65536 = omega (arith, size, size-2, link.in_phase, link.quadrature) in
     let few : gains ≤ 2 ^ 41 = omega arith in
     omega (arith, mul-le factor gains 65536 (2 ^ 41) small few)
+
+pub returns : goal.returns
+returns c = grind (ints, arith, common_steps)
