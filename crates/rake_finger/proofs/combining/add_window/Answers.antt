@@ -1,4 +1,6 @@
 -- Why `add_window` of `combining` keeps its contract.
+use Rattle.rake_finger.proofs.Common.{ints}
+use Rattle.std.proofs.lemmas.Grind.{common_steps}
 use Rattle.std.proofs.Common.{◌≡◌, ◌≢◌, ◌+◌, ◌*◌, ◌<◌, ◌≤◌, ℕ, List, ℤ, get_or, pos, length, sym, ap, ◌∙◌, arith, unsigned_abs}
 use Rattle.std.proofs.lemmas.List.{get_or-set_other}
 use Rattle.chip_core.specs.Complex.{origin}
@@ -97,3 +99,21 @@ returns c = λ first h.
     let last = ap (λ (n : ℕ). n * c.args.window) c.window_symbols.ensures in
     let done : window_symbols form * (c.args.window + 1) ≡ c.loop-symbol.symbol = omega arith in
     rw done (c.loop-symbol.invariant.added first h)
+
+pub turned_by-requires-clause-symbol_i : goal.turned_by-requires-clause-symbol_i
+turned_by-requires-clause-symbol_i c = grind (ints, arith, common_steps)
+
+pub turned_by-requires-clause-symbol_q : goal.turned_by-requires-clause-symbol_q
+turned_by-requires-clause-symbol_q c = grind (ints, arith, common_steps)
+
+pub loop-symbol-init : goal.loop-symbol-init
+loop-symbol-init c = grind (ints, arith, common_steps)
+
+pub overflow_mul-first : goal.overflow_mul-first
+overflow_mul-first c = grind (ints, arith, common_steps)
+
+pub turned_by-requires-clause-pilot_i : goal.turned_by-requires-clause-pilot_i
+turned_by-requires-clause-pilot_i c = grind (ints, arith, common_steps)
+
+pub turned_by-requires-clause-pilot_q : goal.turned_by-requires-clause-pilot_q
+turned_by-requires-clause-pilot_q c = grind (ints, arith, common_steps)

@@ -31,3 +31,6 @@ pub returns-clause-bound : goal.returns-clause-bound
 returns-clause-bound c =
     sum_within c.args.form c.loop-i.i (length c.args.fingers.now) c.loop-i.out (omega arith)
     (omega arith) c.loop-i.invariant.within
+
+pub add_finger-requires-clause-small : goal.add_finger-requires-clause-small
+add_finger-requires-clause-small c = grind (ints, arith, common_steps)

@@ -1,4 +1,6 @@
 -- Why `sums_on_lanes` of `lanes` keeps its contract.
+use Rattle.rake_finger.proofs.Common.{ints}
+use Rattle.std.proofs.lemmas.Grind.{common_steps}
 use Rattle.std.proofs.Common.{◌≤◌, ◌+◌, ◌*◌, ◌/◌, arith, length}
 use Rattle.pilot_search.proofs.LaneLemmas.{kept}
 use Rattle.pilot_search.proofs.LaneSums.{kept_near, products_kept, products_near, sums_kept, sums_whole}
@@ -75,3 +77,15 @@ returns-clause-covered c =
     (length c.args.samples.now / 8) _ _ c.sum_of_lanes-2.result
     (omega (arith, c.loop-k.auto.k-end, c.loop-k-test.false)) (omega (arith, c.requires.whole))
     c.loop-k.invariant.covered c.sum_of_lanes-2.ensures.value
+
+pub with_products-requires-clause-few : goal.with_products-requires-clause-few
+with_products-requires-clause-few c = grind (ints, arith, common_steps)
+
+pub loop-k-init : goal.loop-k-init
+loop-k-init c = grind (ints, arith, common_steps)
+
+pub with_products-requires-in-loop-k-clause-few : goal.with_products-requires-in-loop-k-clause-few
+with_products-requires-in-loop-k-clause-few c = grind (ints, arith, common_steps)
+
+pub covered_products-requires-clause-units : goal.covered_products-requires-clause-units
+covered_products-requires-clause-units c = grind (ints, arith, common_steps)

@@ -1,4 +1,5 @@
 -- Why `soft` of `values` keeps its contract.
+use Rattle.std.proofs.lemmas.Grind.{common_steps}
 use Rattle.std.proofs.Common.{◌≡◌, ◌+◌, ◌*◌, ◌/◌, ◌≤◌, ℕ, ap, ◌∙◌, arith, to_z, of_z, w64, unsigned_abs}
 use Rattle.std.proofs.lemmas.Int.{ints}
 use Rattle.chip_core.specs.declared.sample.Pair.{Pair}
@@ -68,3 +69,12 @@ returns-clause-bound c =
     soft_bounded c.args.form (unsigned_abs p.result.i) (unsigned_abs s.result.i)
     (unsigned_abs p.result.q) (unsigned_abs s.result.q) p_i s_i p_q s_q in
     omega (arith, ints, sum)
+
+pub overflow_mul-wide : goal.overflow_mul-wide
+overflow_mul-wide c = grind (ints, arith, common_steps)
+
+pub covered_sum-sum-requires-clause-held : goal.covered_sum-sum-requires-clause-held
+covered_sum-sum-requires-clause-held c = grind (ints, arith, common_steps)
+
+pub overflow_mul-chips-2 : goal.overflow_mul-chips-2
+overflow_mul-chips-2 c = grind (ints, arith, common_steps)

@@ -1,4 +1,6 @@
 -- Why `window_sums` of `windows` keeps its contract.
+use Rattle.rake_finger.proofs.Common.{ints}
+use Rattle.std.proofs.lemmas.Grind.{common_steps}
 use Rattle.std.proofs.Common.{◌≡◌, ◌+◌, ◌*◌, ◌<◌, ◌≤◌, ◌∙◌, ℕ, ap, arith}
 use Rattle.std.specs.Prelude.{unsigned_abs}
 use Rattle.std.proofs.lemmas.List.{length-set}
@@ -112,3 +114,27 @@ returns-clause-pilot c = λ samples held.
     (whole_symbols form c.loop-k.k
     (omega (arith, c.loop-k-test.false, c.loop-k.auto.k-end, c.window_symbols-k-end.ensures)))
     (omega (arith, wide))
+
+pub returns-clause-small : goal.returns-clause-small
+returns-clause-small c = grind (ints, arith, common_steps)
+
+pub overflow_mul-chips : goal.overflow_mul-chips
+overflow_mul-chips c = grind (ints, arith, common_steps)
+
+pub symbol_sums-sums-requires-clause-signs : goal.symbol_sums-sums-requires-clause-signs
+symbol_sums-sums-requires-clause-signs c = grind (ints, arith, common_steps)
+
+pub returns-clause-symbols : goal.returns-clause-symbols
+returns-clause-symbols c = grind (ints, arith, common_steps)
+
+pub returns-clause-pilot_i : goal.returns-clause-pilot_i
+returns-clause-pilot_i c = grind (ints, arith, common_steps)
+
+pub symbol_sums-sums-requires-clause-whole : goal.symbol_sums-sums-requires-clause-whole
+symbol_sums-sums-requires-clause-whole c = grind (ints, arith, common_steps)
+
+pub symbol_sums-sums-requires-clause-held : goal.symbol_sums-sums-requires-clause-held
+symbol_sums-sums-requires-clause-held c = grind (ints, arith, common_steps)
+
+pub returns-clause-pilot_q : goal.returns-clause-pilot_q
+returns-clause-pilot_q c = grind (ints, arith, common_steps)
