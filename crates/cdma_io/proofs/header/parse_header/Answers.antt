@@ -1,4 +1,6 @@
 -- Why `parse_header` of `header` keeps its contract.
+use Rattle.std.proofs.lemmas.Grind.{common_steps}
+use Rattle.std.proofs.lemmas.Int.{ints}
 use Rattle.std.proofs.Common.{sym, ap, ◌∙◌, arith, rules}
 use Rattle.cdma_io.specs.SampleFile.{most_samples}
 use Rattle.cdma_io.proofs.ByteNumbers.{AreBytes}
@@ -59,3 +61,6 @@ returns-clause-spelled c =
     let bytes = c.args.bytes.now in
     let small : AreBytes bytes = λ k. let fits = c.type_inv.bytes k in omega arith in
     parsed_spelling bytes _ c.requires small (returns-clause-value c)
+
+pub returns-clause-bytes_alone : goal.returns-clause-bytes_alone
+returns-clause-bytes_alone c = grind (ints, arith, common_steps)

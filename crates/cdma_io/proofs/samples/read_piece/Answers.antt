@@ -32,3 +32,6 @@ returns-then-count-wanted g c =
       later = c.in_ok-count.ensures.cause.later;
       cause = λ same. absurd (short_is_no_failure (c.args.place + c.in_ok-count.count) _ refl same);
     }
+
+pub parse_samples-requires-clause-bytes : goal.parse_samples-requires-clause-bytes
+parse_samples-requires-clause-bytes g c = grind (ints, arith, common_steps)

@@ -33,3 +33,15 @@ returns-clause-ok c = grind (ints, arith, common_steps)
 
 pub returns-clause-count : goal.returns-clause-count
 returns-clause-count c = grind (ints, arith, common_steps)
+
+pub returns-clause-cause : goal.returns-clause-cause
+returns-clause-cause c = grind (ints, arith, common_steps)
+
+pub returns-clause-bound : goal.returns-clause-bound
+returns-clause-bound c = grind (ints, arith, common_steps)
+
+pub returns-then-contains-clause-fails : goal.returns-then-contains-clause-fails
+returns-then-contains-clause-fails c = grind (ints, arith, common_steps)
+
+pub copy_from_slice-requires : goal.copy_from_slice-requires
+copy_from_slice-requires c = grind (ints, arith, common_steps)

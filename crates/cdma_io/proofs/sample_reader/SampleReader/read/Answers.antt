@@ -45,3 +45,15 @@ returns-in-Err-clause-taken g c =
     (λ n. ConsumesAtMost n (g.S.Source.rest c.args.source.now) (g.S.Source.rest c.read_samples.new.source))
     (asked g (goal.at.returns-in-Err-clause-taken g c).In-Err)
     c.in-Err.ensures.taken
+
+pub returns-in-Err-clause-cause : goal.returns-in-Err-clause-cause
+returns-in-Err-clause-cause g c = grind (ints, arith, common_steps)
+
+pub returns-in-Ok-clause-count : goal.returns-in-Ok-clause-count
+returns-in-Ok-clause-count g c = grind (ints, arith, common_steps)
+
+pub returns-in-Ok-clause-cause : goal.returns-in-Ok-clause-cause
+returns-in-Ok-clause-cause g c = grind (ints, arith, common_steps)
+
+pub returns-in-Err-clause-fault : goal.returns-in-Err-clause-fault
+returns-in-Err-clause-fault g c = grind (ints, arith, common_steps)
