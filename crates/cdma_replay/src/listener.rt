@@ -1,7 +1,6 @@
 //! Who hears the samples of a file.
 
 ghost use Rattle.std.specs.Prelude.{◌≡◌, ◌≤◌, ◌+◌, ◌++◌, List, [], length, All, OnOk, OnErr};
-ghost use Rattle.std.specs.Io.KnownBytes.{Appends};
 ghost use Rattle.chip_core.specs.declared.sample.Sample.{Sample as TheSample};
 ghost use Rattle.cdma_io.specs.Outside.{AppendsPrefix, HasCause};
 ghost use Rattle.heard_events.specs.Events.{events};
@@ -10,6 +9,7 @@ ghost use Rattle.heard_events.specs.Tuning.{Tuning};
 ghost use Rattle.event_tap.specs.Taps.{IsKept, KeptTap, run_taps};
 ghost use Rattle.owed_replies.specs.Hearing.{ByTaps, TellsMore, TellsPart, told};
 ghost use Rattle.cdma_replay.specs.Listeners.{GivesAll};
+ghost use Rattle.cdma_replay.specs.Pilots.{TellsPilot};
 
 use crate::ranks::write_ranks;
 use cdma_io::{Failed, Sink};
@@ -134,8 +134,8 @@ fn tell_pilot<T: KeepsTaps, K: Sink>(
     ensures room { has_room mobile.new ≡ has_room mobile.old }
     ensures kept { All IsKept (T.kept taps.new) }
     ensures ok { OnOk result ((t : Tuning) → StandsFor t mobile.old [] [] →
-        Appends (K.written sink.old) (K.written sink.new) (told (ByTaps t (T.kept taps.old)) [])
-        × GivesAll t (T.kept taps.old) mobile.new (T.kept taps.new) []) }
+        TellsPilot t (T.kept taps.old) mobile.new (T.kept taps.new)
+        (K.written sink.old) (K.written sink.new)) }
     ensures err { OnErr result ((t : Tuning) (samples : List TheSample) →
         StandsFor t mobile.old [] [] → AppendsPrefix (K.written sink.old) (K.written sink.new)
         (told (ByTaps t (T.kept taps.old)) samples)) }

@@ -28,10 +28,13 @@ returns-clause-ok g c =
     let told = rw gave at c.tell.ensures.ok in
     let behind = rw gave at c.tell.ensures.behind in
     on_ok_both c.tell.result _ _ _
-    (λ written next t stands. pilot_begins t c.args.mobile.now c.step-step.new.self
-    c.step-step.result event c.step-step.ensures gave stands (g.T.KeepsTaps.kept c.args.taps.now)
+    (λ written next t stands.
+    let begun =
+    pilot_begins t c.args.mobile.now c.step-step.new.self c.step-step.result event
+    c.step-step.ensures gave stands (g.T.KeepsTaps.kept c.args.taps.now)
     (g.T.KeepsTaps.kept c.tell.new.self) (g.K.Sink.written c.args.sink.now)
-    (g.K.Sink.written c.tell.new.sink) written next)
+    (g.K.Sink.written c.tell.new.sink) written next in
+    record { written = begun.0; gives = begun.1 })
     told behind
 
 pub returns-clause-err : goal.returns-clause-err

@@ -85,8 +85,8 @@ returns-in-Handset-clause-ok g c =
     (g.K.Sink.written c.tell_pilot.new.sink)) text l c.in-Handset.mobile kept
     (subst (λ (h : Listener). IsFreshListener text l h kept) c.in-Handset.is fresh)
     (λ t stands.
-    let (written, gives) = begins t (rw c.deref_mut.ensures.value stands) in
-    record { written = written; listens = gives }))
+    let begun = begins t (rw c.deref_mut.ensures.value stands) in
+    record { written = begun.written; listens = begun.gives }))
     c.tell_pilot.ensures.ok
 
 pub returns-in-Handset-clause-err : goal.returns-in-Handset-clause-err

@@ -1,0 +1,15 @@
+-- What is told of a handset before it takes any sample: its pilot.
+use Rattle.std.specs.Prelude.{ℕ, List, [], Option}
+use Rattle.std.specs.Io.KnownBytes.{Appends}
+use Rattle.heard_events.specs.Tuning.{Tuning}
+use Rattle.mobile_core.specs.declared.mobile.Mobile.{Mobile}
+use Rattle.event_tap.specs.Taps.{KeptTap}
+use Rattle.owed_replies.specs.Hearing.{ByTaps, told}
+use Rattle.cdma_replay.specs.Listeners.{GivesAll}
+
+-- a handset gave its pilot to taps, a sink got what is told before any sample, and these taps are
+-- kept after that
+pub record TellsPilot (t : Tuning) (taps : List KeptTap) (mobile : Mobile) (kept : List KeptTap)
+    (old new : Option (List ℕ)) : Type 0 where
+  pub written : Appends old new (told (ByTaps t taps) [])
+  pub gives : GivesAll t taps mobile kept []
