@@ -7,4 +7,6 @@ pub mod Hearings
 pub mod Lines
 pub mod MadeFiles
 pub mod RankLines
+pub mod Refused
+pub mod Stopped
 mod Counting

@@ -1,7 +1,7 @@
 -- Why `make_file` of `making` keeps its contract.
-use Rattle.cdma_replay.proofs.Common.{[], inl, inr, refl, rules, arith, Appends-nil, IfSome_then}
+use Rattle.cdma_replay.proofs.Common.{[], inl, inr, refl, arith, Appends-nil, IfSome_then}
 use Rattle.owed_replies.proofs.Files.{ended_by}
-use Rattle.cdma_replay.proofs.MadeFiles.{writes_part, writes_whole}
+use Rattle.cdma_replay.proofs.MadeFiles.{made_part, made_whole, writes_part, writes_whole}
 use Rattle.cdma_replay.proofs.making.make_file.Goals as goal
 
 -- the script names no cell, or isn't read
@@ -36,23 +36,11 @@ returns-in-Ok g c =
     let rest = g.S.Source.rest c.args.source.now in
     let plan = c.in_ok-cell.cell.plan in
     let named = c.in_ok-cell.ensures.named in
-    record {
-      done = λ done. IfSome_then rest named
-          (λ bytes is. record { plan = plan; named = is; written = c.in-Ok.ensures.ok });
-      at_end = λ done. c.in_ok-cell.ensures.at_end;
-      others = search rules;
-      memory = search rules;
-      early = search rules;
-      bad_script = search rules;
-      read_fault = search rules;
-      unwritten = search rules;
-      write_fault = search rules;
-      lawful = search rules;
-      written = writes_whole c.args.width plan rest _ _ named c.in-Ok.ensures.ok;
-      bound = c.open_cell.ensures.bound;
-      later_source = c.open_cell.ensures.later;
-      later_sink = c.write_cell.ensures.cause.later;
-    }
+    made_whole
+    (IfSome_then rest named
+    (λ bytes is. record { plan = plan; named = is; written = c.in-Ok.ensures.ok }))
+    c.in_ok-cell.ensures.at_end (writes_whole c.args.width plan rest _ _ named c.in-Ok.ensures.ok)
+    c.open_cell.ensures.bound c.open_cell.ensures.later c.write_cell.ensures.cause.later
 
 -- or a write fails
 pub returns : goal.returns
@@ -60,19 +48,6 @@ returns g c =
     let rest = g.S.Source.rest c.args.source.now in
     let plan = c.in_ok-cell.cell.plan in
     let named = c.in_ok-cell.ensures.named in
-    record {
-      done = search rules;
-      at_end = search rules;
-      others = search rules;
-      memory = search rules;
-      early = search rules;
-      bad_script = search rules;
-      read_fault = search rules;
-      unwritten = search rules;
-      write_fault = λ lost. c.in-Err.ensures.cause.failed;
-      lawful = λ lost. IfSome_then rest named (λ bytes is. rw is refl);
-      written = writes_part c.args.width plan rest _ _ named c.in-Err.ensures.err;
-      bound = c.open_cell.ensures.bound;
-      later_source = c.open_cell.ensures.later;
-      later_sink = c.write_cell.ensures.cause.later;
-    }
+    made_part c.in-Err.ensures.cause.failed (IfSome_then rest named (λ bytes is. rw is refl))
+    (writes_part c.args.width plan rest _ _ named c.in-Err.ensures.err) c.open_cell.ensures.bound
+    c.open_cell.ensures.later c.write_cell.ensures.cause.later

@@ -1,12 +1,13 @@
 -- Why `hear_rest` of `receiving` keeps its contract.
 use Rattle.cdma_replay.proofs.Common.{◌≡◌, ◌≤◌, ◌+◌, ◌-◌, ◌*◌, ℕ, min, IfSome, IsNone, length, length-take-le, take, ap, ◌∙◌, refl, subst}
 use Rattle.cdma_replay.proofs.Common.{arith, rules, Reading, width_of, sample_len, FileFault, ConsumesAtMost, Header, sample_len-mono}
-use Rattle.cdma_replay.proofs.Common.{IsLong, IsRestFault, file_status, HasRoom}
+use Rattle.cdma_replay.proofs.Common.{IsEnd, IsLong, IsRestFault, file_status, HasRoom}
 use Rattle.cdma_replay.proofs.Broken.{has_bytes, no_long_cut}
 use Rattle.cdma_replay.proofs.Faults.{rest_cut_fault, rest_extra_fault}
 use Rattle.owed_replies.proofs.Files.{blamed, ended_by, wrong_length}
 use Rattle.cdma_replay.proofs.HeardRest.{hears_all, hears_first, hears_more, hears_nothing, hears_part, hears_stopped}
 use Rattle.cdma_replay.proofs.Hearings.{room_for}
+use Rattle.cdma_replay.proofs.Stopped.{lost_not_bad, lost_not_misread}
 use Rattle.owed_replies.proofs.Bounds.{passed_most, piece_most}
 use Rattle.cdma_replay.proofs.receiving.hear_rest.Given.{Over}
 use Rattle.cdma_replay.proofs.receiving.hear_rest.Goals.{After-finish, After-read}
@@ -232,3 +233,35 @@ returns-in_err-finish-clause-bound g c =
 
 pub returns-clause-bound : goal.returns-clause-bound
 returns-clause-bound g c = finished_most g (goal.at.returns-clause-bound g c).After-finish
+
+-- a run that ends otherwise wasn't cut short, and the file isn't too long
+
+pub returns-clause-cut : goal.returns-clause-cut
+returns-clause-cut g c cut = absurd cut
+
+pub returns-clause-long : goal.returns-clause-long
+returns-clause-long g c long = absurd long
+
+pub returns-in-Err-clause-cut : goal.returns-in-Err-clause-cut
+returns-in-Err-clause-cut g c cut = absurd cut
+
+pub returns-in-Err-clause-long : goal.returns-in-Err-clause-long
+returns-in-Err-clause-long g c long = absurd long
+
+pub returns-clause-fault : goal.returns-clause-fault
+returns-clause-fault g c fault is = absurd (subst IsEnd is tt)
+
+pub returns-clause-place : goal.returns-clause-place
+returns-clause-place g c fault is = absurd (subst IsEnd is tt)
+
+pub returns-in-Err-clause-fault : goal.returns-in-Err-clause-fault
+returns-in-Err-clause-fault g c fault is = absurd (lost_not_bad fault is)
+
+pub returns-in-Err-clause-place : goal.returns-in-Err-clause-place
+returns-in-Err-clause-place g c fault is = absurd (lost_not_bad fault is)
+
+pub returns-in-Err-clause-sample_fault : goal.returns-in-Err-clause-sample_fault
+returns-in-Err-clause-sample_fault g c fault is = absurd (lost_not_bad fault is)
+
+pub returns-in-Err-clause-read_fault : goal.returns-in-Err-clause-read_fault
+returns-in-Err-clause-read_fault g c is = absurd (lost_not_misread is)

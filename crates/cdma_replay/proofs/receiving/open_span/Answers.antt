@@ -1,4 +1,7 @@
 -- Why `open_span` of `receiving` keeps its contract.
+use Rattle.std.proofs.lemmas.Grind.{common_steps}
+use Rattle.std.proofs.lemmas.Int.{ints}
+use Rattle.cdma_replay.proofs.Common.{arith}
 use Rattle.cdma_replay.proofs.Common.{length, rules, ◌≡◌, ◌≤◌, IsNone, None, ap, refl, err_from_is_err_and, Reading}
 use Rattle.cdma_replay.proofs.Broken.{no_long_cut, opening_few, span_few, unopened}
 use Rattle.cdma_replay.proofs.Faults.{fault_of_opening, fault_of_count, fault_of_span}
@@ -113,3 +116,6 @@ returns-in_err-read-clause-bound g c =
     (span_most (length c.args.span.now) (g.S.Source.rest c.args.source.now) _ _ reading
     c.in_ok-reader.ensures.told c.in_ok-reader.ensures.header
     (ap (λ (r : Reading). r.left) c.in_ok-reader.ensures.fresh) c.read.ensures.taken)
+
+pub returns-clause-taken : goal.returns-clause-taken
+returns-clause-taken g c = grind (ints, arith, common_steps)

@@ -1,12 +1,13 @@
 -- Why `receive_file` of `receiving` keeps its contract.
-use Rattle.cdma_replay.proofs.Common.{◌≡◌, ◌+◌, ℕ, List, [], IfSome, inr, length, ap, refl, ◌∙◌, subst, rules, arith, Sample, FileFault}
-use Rattle.cdma_replay.proofs.Common.{IsCut, IsLong, IsEnd, IsFault, IsFaultIn, IsOfFiles, ended, Listening, Listens, end_when, listening}
+use Rattle.cdma_replay.proofs.Common.{◌≡◌, ◌≤◌, ◌+◌, ℕ, List, [], IfSome, inr, length, ap, refl, ◌∙◌, subst, rules, arith, Sample, FileFault}
+use Rattle.cdma_replay.proofs.Common.{IsCut, IsLong, IsEnd, IsFaultIn, IsOfFiles, Listening, Listens, end_when, listening}
 use Rattle.cdma_replay.proofs.Common.{file_status, Status}
-use Rattle.cdma_replay.proofs.Broken.{nothing_all, nothing_first, writes_all, writes_first}
-use Rattle.owed_replies.proofs.Ends.{begins_file, by_end, by_file_status, ends_well, fault_no_end, lost_file, starved_file}
+use Rattle.cdma_replay.proofs.Broken.{writes_all, writes_first}
+use Rattle.owed_replies.proofs.Ends.{begins_file, by_end, ends_well, lost_file, starved_file}
 use Rattle.cdma_replay.proofs.Faults.{fault_of_rest}
-use Rattle.owed_replies.proofs.Files.{blamed, ended_by, unsearchable}
+use Rattle.owed_replies.proofs.Files.{ended_by}
 use Rattle.cdma_replay.proofs.Lines.{HasBegun, has_begun, writes_first_part, writes_first_text, writes_rest_part, writes_text}
+use Rattle.cdma_replay.proofs.Stopped.{stopped_file, unread_file}
 use Rattle.owed_replies.proofs.Bounds.{none_most, rest_most}
 use Rattle.owed_replies.proofs.Runs.{rose_before}
 use Rattle.cdma_replay.proofs.receiving.receive_file.Given.{Over}
@@ -17,48 +18,11 @@ use Rattle.cdma_replay.proofs.receiving.receive_file.Goals as goal
 pub returns-in_err-reader : goal.returns-in_err-reader
 returns-in_err-reader g c =
     let e = c.in_err-reader.field-0.0 in
-    let rest = g.S.Source.rest c.args.source.now in
     let told = c.in_err-reader.ensures in
-    let is : ended c.from_residual.result ≡ file_status e =
-    ended_by c.from_residual.result (file_status e) c.from_residual.ensures.1 in
-    let place : (fault : FileFault) → file_status e ≡ Status.BadFile fault →
-    IfSome rest (λ bytes. IsFaultIn c.args.reception.span bytes fault) =
-    λ fault blames.
-    let b = blamed c.from_residual.result e fault c.from_residual.ensures.1 (is ∙ blames) in
-    subst (λ (n : ℕ). IfSome rest (λ (bytes : List ℕ). IsFaultIn n bytes fault)) c.requires.span.0
-    (subst
-    (λ (f : FileFault). IfSome rest (λ (bytes : List ℕ). IsFaultIn (length c.args.span.now) bytes f))
-    b.0 (told.place b.2)) in
-    let faulty = by_file_status IsFault e tt tt in
-    let unwritten : ¬ (file_status e ≡ Status.WriteFault) =
-    by_file_status (λ (s : Status). ¬ (s ≡ Status.WriteFault)) e
-    (λ (r : Status.ReadFault ≡ Status.WriteFault). cc)
-    (λ (r : Status.BadFile e ≡ Status.WriteFault). cc) in
-    rw is (record {
-      done = λ end. absurd (fault_no_end _ faulty end);
-      at_end = λ end. absurd (fault_no_end _ faulty end);
-      others = by_file_status IsOfFiles e tt tt;
-      memory = λ none. refl;
-      early = λ none. absurd (subst IsFault none faulty);
-      alone = λ unheard unset. absurd (subst IsFault unset faulty);
-      bad_file = λ fault blames. (
-        (blamed c.from_residual.result e fault c.from_residual.ensures.1 (is ∙ blames)).1,
-        unsearchable rest c.args.reception.span fault (place fault blames),
-      );
-      place = place;
-      read_fault = search rules;
-      write_fault = λ lost. absurd (unwritten lost);
-      begun = λ lost. absurd (unwritten lost);
-      header = λ fault blames early. refl;
-      header_alone = search rules;
-      bound = told.bound;
-      written = search rules;
-      cut = λ cut. nothing_first _ (length c.args.span.now) c.args.reception rest _ _ _ c.requires.span.0
-          told.few;
-      long = λ long. nothing_all _ _ rest _ _ (told.no_longer long);
-      later_source = c.open_span.ensures.later;
-      later_sink = omega arith;
-    })
+    rw (ended_by c.from_residual.result (file_status e) c.from_residual.ensures.1)
+    (unread_file e (length c.args.span.now) c.requires.span.0 refl told.place
+    (λ is. c.open_span.ensures.cause (search rules)) told.header_alone told.bound told.few
+    told.no_longer c.open_span.ensures.later)
 
 -- there is no memory for the search, or for the listener
 pub returns-in_err-listener : goal.returns-in_err-listener
@@ -72,11 +36,11 @@ pub returns-in-Err : goal.returns-in-Err
 returns-in-Err g c =
     lost_file
     (begins_file _ _ c.requires.span.0 c.in_ok-reader.ensures.taken)
-    (search rules)
+    c.in-Err.ensures.cause.failed
     (rest_most c.in_ok-reader.ensures.taken (none_most _ _))
     (writes_first_text c.in_ok-listener.listener c.requires.span.0 c.in_ok-reader.ensures.taken
     c.header.ensures.value c.in_ok-listener.ensures.fresh c.in-Err.ensures.err)
-    c.open_span.ensures.later (search rules)
+    c.open_span.ensures.later c.begin.ensures.cause.later
 
 -- what is told before any sample was written
 begun_of : (g : Over) (c : In-Ok g) →
@@ -94,10 +58,11 @@ returns-in-Err-hear g c =
     let begun = begun_of g (goal.at.returns-in-Err-hear g c).In-Ok in
     lost_file
     (begins_file _ _ c.requires.span.0 c.in_ok-reader.ensures.taken)
-    (search rules)
+    (rose_before _ _ _ c.begin.ensures.cause.later c.in-Err-hear.ensures.cause.failed)
     (rest_most c.in_ok-reader.ensures.taken (none_most _ _))
     (writes_first_part begun c.in-Err-hear.ensures.err)
-    c.open_span.ensures.later (search rules)
+    c.open_span.ensures.later
+    (omega (arith, c.begin.ensures.cause.later, c.hear.ensures.cause.later))
 
 -- the others aren't heard to the end of the file
 pub returns-in_err-hear_rest : goal.returns-in_err-hear_rest
@@ -109,6 +74,8 @@ returns-in_err-hear_rest g c =
     let begun = begun_of g (goal.at.returns-in_err-hear_rest g c).In-Ok in
     let left : reader.left + c.args.reception.span ≡ reader.header.count =
     omega (arith, c.in_ok-reader.ensures.taken.left, c.requires.span.0) in
+    let later : g.K.Sink.faults c.args.sink.now ≤ g.K.Sink.faults c.hear.new.sink =
+    omega (arith, c.begin.ensures.cause.later, c.hear.ensures.cause.later) in
     let place : (fault : FileFault) → c.in_err-hear_rest.field-0.0 ≡ Status.BadFile fault →
     IfSome rest (λ bytes. IsFaultIn c.args.reception.span bytes fault) =
     λ fault blames.
@@ -117,32 +84,19 @@ returns-in_err-hear_rest g c =
     (told.place fault blames)) in
     rw (ended_by c.from_residual-in_err-hear_rest.result c.in_err-hear_rest.field-0.0
     c.from_residual-in_err-hear_rest.ensures.1)
-    (record {
-      done = λ end. absurd (fault_no_end _ told.others end);
-      at_end = λ end. absurd (fault_no_end _ told.others end);
-      others = search rules;
-      memory = λ none. absurd (subst IsFault none told.others);
-      early = λ none. absurd (subst IsFault none told.others);
-      alone = λ unheard unset. absurd (subst IsFault unset told.others);
-      bad_file = λ fault blames. (
-        (told.fault fault blames).0,
-        unsearchable rest c.args.reception.span fault (place fault blames),
-      );
-      place = place;
-      read_fault = λ failed. rose_before _ _ _ c.open_span.ensures.later (told.read_fault failed);
-      write_fault = search rules;
-      begun = λ lost. begins_file _ _ c.requires.span.0 c.in_ok-reader.ensures.taken;
-      header = λ fault blames early. absurd (told.sample_fault fault blames early);
-      header_alone = λ fault blames early. absurd (told.sample_fault fault blames early);
-      bound = rest_most c.in_ok-reader.ensures.taken c.hear_rest.ensures.bound;
-      written = writes_rest_part left begun c.in-Ok-hear.ensures.ok told.written;
-      cut = λ cut. writes_first rest _ _ _ _ begun.lawful left begun c.in-Ok-hear.ensures.ok
-          (told.cut cut);
-      long = λ long. writes_all rest _ _ _ _ begun.lawful left begun c.in-Ok-hear.ensures.ok
-          (told.long long);
-      later_source = search rules;
-      later_sink = search rules;
-    })
+    (stopped_file c.in_err-hear_rest.field-0.0 told.others
+    (begins_file _ _ c.requires.span.0 c.in_ok-reader.ensures.taken)
+    (λ fault blames. ((told.fault fault blames).0, place fault blames))
+    (λ failed. rose_before _ _ _ c.open_span.ensures.later (told.read_fault failed))
+    (λ lost. rose_before _ _ _ later (told.write_fault lost)) told.sample_fault
+    (rest_most c.in_ok-reader.ensures.taken c.hear_rest.ensures.bound)
+    (writes_rest_part left begun c.in-Ok-hear.ensures.ok told.written)
+    (λ cut. writes_first rest _ _ _ _ begun.lawful left begun c.in-Ok-hear.ensures.ok
+    (told.cut cut))
+    (λ long. writes_all rest _ _ _ _ begun.lawful left begun c.in-Ok-hear.ensures.ok
+    (told.long long))
+    (omega (arith, c.open_span.ensures.later, c.hear_rest.ensures.later_source))
+    (omega (arith, later, c.hear_rest.ensures.later_sink)))
 
 -- all samples are heard
 pub returns : goal.returns
@@ -181,6 +135,31 @@ returns g c =
       written = writes_rest_part left begun c.in-Ok-hear.ensures.ok told.written;
       cut = λ cut. absurd (by_end (λ (s : Status). ¬ (IsCut s)) _ end (λ x. x) (λ x. x) cut);
       long = λ long. absurd (by_end (λ (s : Status). ¬ (IsLong s)) _ end (λ x. x) (λ x. x) long);
-      later_source = search rules;
-      later_sink = search rules;
+      later_source = omega (arith, c.open_span.ensures.later, c.hear_rest.ensures.later_source);
+      later_sink = omega (
+        arith,
+        c.begin.ensures.cause.later,
+        c.hear.ensures.cause.later,
+        c.hear_rest.ensures.later_sink,
+      );
     }
+
+-- what is called is given what it requires
+
+pub begin-requires-clause-kept : goal.begin-requires-clause-kept
+begin-requires-clause-kept g c = c.requires.kept
+
+pub hear-requires-clause-kept : goal.hear-requires-clause-kept
+hear-requires-clause-kept g c = c.begin.ensures.kept
+
+pub hear_rest-requires-clause-kept : goal.hear_rest-requires-clause-kept
+hear_rest-requires-clause-kept g c = c.hear.ensures.kept
+
+pub hear_rest-requires-clause-piece : goal.hear_rest-requires-clause-piece
+hear_rest-requires-clause-piece g c = c.requires.piece
+
+pub hear_rest-requires-clause-good : goal.hear_rest-requires-clause-good
+hear_rest-requires-clause-good g c = c.in_ok-reader.ensures.good
+
+pub hear_rest-requires-clause-counted : goal.hear_rest-requires-clause-counted
+hear_rest-requires-clause-counted g c = omega (arith, c.in_ok-reader.ensures.taken.left)

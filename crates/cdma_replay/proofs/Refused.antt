@@ -1,0 +1,88 @@
+-- Lemmas on runs that move nothing: of arguments that name no job, or for want of memory.
+use Rattle.cdma_replay.proofs.Common.{◌≡◌, ℕ, List, [], Option, None, Result, Err, inl, refl, sym, ◌∙◌, arith, Appends-nil}
+use Rattle.cdma_replay.proofs.Common.{Purpose, Status, Find, Survey}
+use Rattle.command_line.specs.declared.job.Job.{Job}
+use Rattle.command_line.specs.declared.job.WordFault.{WordFault}
+use Rattle.owed_replies.proofs.Bounds.{unread_most}
+use Rattle.owed_replies.specs.Replies.{IsPurposeEnd, IsTaskEnd}
+use Rattle.owed_replies.specs.Runs.{RunsCommand}
+use Rattle.owed_replies.specs.Tasks.{task_of}
+use Rattle.owed_replies.specs.declared.task.Task.{Task}
+use Rattle.owed_replies.specs.declared.task.Task.TheVariants.{Receive}
+
+-- each task may end for want of memory
+purpose_starves : (purpose : Purpose) → IsPurposeEnd purpose Status.NoMemory
+purpose_starves Find = tt
+purpose_starves (Survey base width top) = tt
+purpose_starves purpose = tt
+
+task_starves : (task : Task) → IsTaskEnd task Status.NoMemory
+task_starves (Receive r limits) = purpose_starves r.purpose
+task_starves task = tt
+
+module _ {forms : List ℕ} {named : Option Job} {rest : Option (List ℕ)} {misread : ℕ}
+    {SameSource : Type 0} {old : Option (List ℕ)} {miswritten : ℕ} {SameSink : Type 0} where
+  pub refused_run : named ≡ None → SameSource → SameSink →
+      RunsCommand forms named Status.BadWords rest rest misread misread SameSource old old miswritten
+      miswritten SameSink SameSink
+  refused_run none same kept = record {
+    bad_words = (λ is. none, λ is. refl);
+    untouched = λ is. (same, kept);
+    exact = λ job bytes held reply is. absurd (cc);
+    clean = λ width script bytes held plan span workers fingers paging traffic limits header samples
+        is. absurd (cc);
+    all_distinct = λ width script bytes held plan span workers fingers paging traffic limits header
+        samples is. absurd (cc);
+    complete = λ job is. absurd (cc);
+    kind = λ job is. absurd (cc);
+    verdict = λ job is. absurd (cc);
+    read_fault = λ is. absurd (cc);
+    write_fault = λ job is. absurd (cc);
+    memory = λ job is. absurd (cc);
+    unread = λ job is. absurd (cc);
+    trial = λ number workers is. absurd (cc);
+    at_end = λ job is. absurd (cc);
+    early = λ fault. absurd fault;
+    header = λ fault is. absurd (cc);
+    bound = λ job is. absurd (cc);
+    written = λ job is. absurd (cc);
+    cut = λ job is. absurd (cc);
+    long = λ job is. absurd (cc);
+    later_source = omega arith;
+    later_sink = omega arith;
+  }
+
+  -- arguments that couldn't be read for want of memory aren't told as bad ones
+  pub starved_run : {T : Type 0} (words : Result T WordFault) → words ≡ Err WordFault.OutOfMemory →
+      (named ≡ None → words ≡ Err WordFault.Bad) → SameSource → SameSink →
+      RunsCommand forms named Status.NoMemory rest rest misread misread SameSource old old miswritten
+      miswritten SameSink SameSink
+  starved_run words starved bad same kept = record {
+    bad_words = (
+      λ is. absurd (cc),
+      λ none. let never : Err WordFault.OutOfMemory ≡ Err WordFault.Bad = sym starved ∙ bad none in absurd (cc),
+    );
+    untouched = λ is. absurd (cc);
+    exact = λ job bytes held reply also told was owed reads writes. inl refl;
+    clean = λ width script bytes held plan span workers fingers paging traffic limits header samples
+        also told was file enough clean reads writes. inl refl;
+    all_distinct = λ width script bytes held plan span workers fingers paging traffic limits header
+        samples also told was file enough clean free follows reads writes. inl refl;
+    complete = λ job also well writes. inl refl;
+    kind = λ job also. task_starves (task_of job);
+    verdict = λ job also told. absurd told;
+    read_fault = λ is. absurd (cc);
+    write_fault = λ job also is. absurd (cc);
+    memory = λ job also is. (kept, inl same);
+    unread = λ job also idle. same;
+    trial = λ number workers also is. absurd (cc);
+    at_end = λ job also reads end. absurd end;
+    early = λ fault. absurd fault;
+    header = λ fault is. absurd (cc);
+    bound = λ job also. unread_most (task_of job) rest;
+    written = λ job also. record { text = []; written = Appends-nil old; part = inl refl };
+    cut = λ job also cut. absurd cut;
+    long = λ job also long. absurd long;
+    later_source = omega arith;
+    later_sink = omega arith;
+  }
