@@ -13,6 +13,13 @@ use Rattle.cdma_replay.proofs.Common.{ranking, ranks_text, survey_text}
 use Rattle.cdma_replay.proofs.Hearings.{more_behind, part_behind}
 use Rattle.cdma_replay.specs.declared.listener.Listener.TheVariants as by
 use Rattle.owed_replies.proofs.Files.{none_within}
+use Rattle.owed_replies.specs.Replies.{IsPurposeEnd}
+
+-- what is heard of a file may end for want of memory, whatever it is heard for
+pub purpose_starves : (purpose : Purpose) → IsPurposeEnd purpose Status.NoMemory
+purpose_starves Find = tt
+purpose_starves (Survey base width top) = tt
+purpose_starves purpose = tt
 
 -- what a sweep over all phases found
 pub pilot-best : (samples : List Sample) (phase energy : ℕ) →

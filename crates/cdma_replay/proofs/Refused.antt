@@ -1,21 +1,17 @@
 -- Lemmas on runs that move nothing: of arguments that name no job, or for want of memory.
 use Rattle.cdma_replay.proofs.Common.{◌≡◌, ℕ, List, [], Option, None, Result, Err, inl, refl, sym, ◌∙◌, arith, Appends-nil}
-use Rattle.cdma_replay.proofs.Common.{Purpose, Status, Find, Survey}
+use Rattle.cdma_replay.proofs.Common.{Status}
+use Rattle.cdma_replay.proofs.Lines.{purpose_starves}
 use Rattle.command_line.specs.declared.job.Job.{Job}
 use Rattle.command_line.specs.declared.job.WordFault.{WordFault}
 use Rattle.owed_replies.proofs.Bounds.{unread_most}
-use Rattle.owed_replies.specs.Replies.{IsPurposeEnd, IsTaskEnd}
+use Rattle.owed_replies.specs.Replies.{IsTaskEnd}
 use Rattle.owed_replies.specs.Runs.{RunsCommand}
 use Rattle.owed_replies.specs.Tasks.{task_of}
 use Rattle.owed_replies.specs.declared.task.Task.{Task}
 use Rattle.owed_replies.specs.declared.task.Task.TheVariants.{Receive}
 
 -- each task may end for want of memory
-purpose_starves : (purpose : Purpose) → IsPurposeEnd purpose Status.NoMemory
-purpose_starves Find = tt
-purpose_starves (Survey base width top) = tt
-purpose_starves purpose = tt
-
 task_starves : (task : Task) → IsTaskEnd task Status.NoMemory
 task_starves (Receive r limits) = purpose_starves r.purpose
 task_starves task = tt
