@@ -1,114 +1,12 @@
 -- Lemmas on what is written of a sample file that breaks off, whose reading fails, or that goes on.
-use Rattle.cdma_replay.proofs.Common.{◌≡◌, ℕ, ◌+◌, ◌*◌, ◌<◌, ◌≤◌, ◌++◌, min, List, [], length, sym, ap, ◌∙◌, subst, arith, append_assoc}
-use Rattle.cdma_replay.proofs.Common.{length-append, Option, None, Some, IfSome, Ok, Err, flat_map-append, flat_map, Consumes, Sample}
-use Rattle.cdma_replay.proofs.Common.{ConsumesAtMost, ConsumesFewer, FileFault, Extra, ReadFault, Header, Width, Eight, Sixteen, CutsShort}
-use Rattle.cdma_replay.proofs.Common.{HasBits, IsLawfulHeader, Opens, Reading, header_spelling, opening, sample_len, sample_spelling}
-use Rattle.cdma_replay.proofs.Common.{width_of, All-append, opening-spelled, length-header_spelling, length-samples, sample_len-mono}
-use Rattle.cdma_replay.proofs.Common.{KeptTap, front_begins, HasWritten, HearsFirst, IsLong, IsUnopened, TakesFew, WritesAll, WritesFirst}
-use Rattle.cdma_replay.proofs.Common.{Listening, Listens, ListenerTells, listening, Listener, file_status, Reception}
+use Rattle.cdma_replay.proofs.Common.{◌≡◌, ℕ, ◌+◌, ◌*◌, ◌<◌, ◌≤◌, ◌++◌, List, [], length, sym, ap, ◌∙◌, subst, arith, append_assoc}
+use Rattle.cdma_replay.proofs.Common.{length-append, Option, None, Some, Ok, flat_map-append, flat_map, Sample, Header, HasBits}
+use Rattle.cdma_replay.proofs.Common.{IsLawfulHeader, header_spelling, opening, sample_len, sample_spelling, width_of, All-append}
+use Rattle.cdma_replay.proofs.Common.{length-header_spelling, length-samples, KeptTap, front_begins, HasWritten, HearsFirst, WritesAll}
+use Rattle.cdma_replay.proofs.Common.{WritesFirst, Listening, Listens, ListenerTells, listening, Listener, Reception}
 use Rattle.cdma_replay.proofs.Hearings.{more_behind}
 use Rattle.cdma_replay.proofs.Lines.{HasBegun, writes_whole}
-
--- ---- how many samples some bytes are
-
--- a sample has bytes
-pub has_bytes : (width : Width) → 1 ≤ sample_len width * 4096
-has_bytes Eight = omega arith
-has_bytes Sixteen = omega arith
-
-one_or_more : (width : Width) (n : ℕ) → 0 < n → 0 < sample_len width * n
-one_or_more Eight n some = omega (arith, some)
-one_or_more Sixteen n some = omega (arith, some)
-
--- more bytes are more samples
-no_fewer : (width : Width) (n k : ℕ) → sample_len width * n ≤ sample_len width * k → n ≤ k
-no_fewer Eight n k most = omega (arith, most)
-no_fewer Sixteen n k most = omega (arith, most)
-
--- ---- before the first samples were read
-
--- what a source lost is what it has less
-lost : (bytes left taken : List ℕ) → bytes ≡ taken ++ left →
-    length bytes ≡ length taken + length left
-lost bytes left taken is = ap length is ∙ length-append taken left
-
--- at most the header was taken
-pub opening_few : (count : ℕ) (rest left : Option (List ℕ)) → ConsumesAtMost 16 rest left →
-    TakesFew count rest left
-opening_few count None left part = tt
-opening_few count (Some bytes) None part = absurd part.consumed
-opening_few count (Some bytes) (Some after) part =
-    λ (header : Header) (taken : List ℕ) (n : ℕ) (opened : opening bytes ≡ Ok header)
-    (consumed : bytes ≡ taken ++ after) (enough : count ≤ n) (some : 0 < n).
-    omega (
-      arith,
-      part.fits,
-      lost bytes after part.bytes part.consumed,
-      lost bytes after taken consumed,
-      one_or_more (width_of header) n some,
-    )
-
--- the header, and not all of the first samples
-pub span_few : (count : ℕ) (rest mid left : Option (List ℕ)) (reading : Reading) →
-    IfSome rest (λ bytes. Opens (Ok reading) (opening bytes)) →
-    Consumes rest mid (header_spelling reading.header) →
-    ConsumesFewer (sample_len (width_of reading.header) * min count reading.left) mid left →
-    TakesFew count rest left
-span_few count None mid left reading told opened part = tt
-span_few count (Some bytes) None left reading told opened part = absurd opened
-span_few count (Some bytes) (Some more) None reading told opened part = absurd part.consumed
-span_few count (Some bytes) (Some more) (Some after) reading told opened part =
-    λ (header : Header) (taken : List ℕ) (n : ℕ) (is : opening bytes ≡ Ok header)
-    (consumed : bytes ≡ taken ++ after) (enough : count ≤ n) (some : 0 < n).
-    let same : reading.header ≡ header = (let both : Ok reading.header ≡ Ok header = sym told ∙ is in cc)
-    in
-    let few : length part.bytes < sample_len (width_of header) * min count reading.left =
-    subst (λ (h : Header). length part.bytes < sample_len (width_of h) * min count reading.left)
-    same part.fits in
-    omega (
-      arith,
-      few,
-      lost bytes more (header_spelling reading.header) opened,
-      length-header_spelling reading.header,
-      lost more after part.bytes part.consumed,
-      lost bytes after taken consumed,
-      sample_len-mono (width_of header) (min count reading.left) n (omega (arith, enough)),
-    )
-
--- bytes that were refused open no file
-pub unopened : (e : FileFault) (rest : Option (List ℕ)) →
-    IfSome rest (λ bytes. Opens (Err e) (opening bytes)) → IsLong (file_status e) → IsUnopened rest
-unopened e None told long = tt
-unopened (Extra place) (Some bytes) told long =
-    λ (header : Header) (is : opening bytes ≡ Ok header).
-    let refused : opening bytes ≡ Err (Extra place) = told (λ (r : Extra place ≡ ReadFault). cc) in
-    let never : Err (Extra place) ≡ Ok header = sym refused ∙ is in
-    absurd (cc)
-unopened e (Some bytes) told long = absurd long
-
--- so nothing is owed of them
-pub nothing_first : (taps : List KeptTap) (count : ℕ) (r : Reception)
-    (rest left old new : Option (List ℕ)) → count ≡ r.span →
-    TakesFew count rest left → WritesFirst taps r rest left old new
-nothing_first taps count r None left old new same few = tt
-nothing_first taps count r (Some bytes) left old new same few =
-    λ (header : Header) (taken : List ℕ) (n : ℕ) (opened : opening bytes ≡ Ok header)
-    (consumed : Consumes (Some bytes) left taken)
-    (long : 16 + sample_len (width_of header) * n ≤ length taken) (enough : r.span ≤ n) (some : 0 < n).
-    absurd (omega (arith, long, few header taken n opened consumed (omega (arith, enough, same)) some))
-
-pub nothing_all : (taps : List KeptTap) (r : Reception) (rest old new : Option (List ℕ)) → IsUnopened rest → WritesAll taps r rest old new
-nothing_all taps r None old new never = tt
-nothing_all taps r (Some bytes) old new never =
-    λ (header : Header) (opened : opening bytes ≡ Ok header). absurd (never header opened)
-
--- ---- after them
-
--- a file that breaks off isn't too long
-pub no_long_cut : (e : FileFault) (wanted from : ℕ) (old new : Option (List ℕ)) →
-    CutsShort e wanted from old new → ¬ (IsLong (file_status e))
-no_long_cut (Extra place) wanted from old new cut = absurd cut
-no_long_cut e wanted from old new cut = λ long. long
+use Rattle.owed_replies.proofs.CutFiles.{no_fewer, lost, same_header}
 
 -- the first samples were read and told of, and those after them so far as they were heard
 pub has_written : {taps : List KeptTap} {r : Reception} {header : Header} {samples : List Sample}
@@ -150,18 +48,6 @@ has_written {taps} {r} {header} {samples} bytes more (Some after) number begun t
           ∙ sym (append_assoc front (spelled (samples ++ others)) behind));
       written = writes_whole others begun (more_behind first.more heard.tells);
     }
-
--- the header that a lawful file opens with
-same_header : (bytes more : List ℕ) (header also : Header) (samples : List Sample) →
-    IsLawfulHeader header →
-    bytes ≡ (header_spelling header ++ flat_map (sample_spelling (width_of header)) samples) ++ more →
-    opening bytes ≡ Ok also → header ≡ also
-same_header bytes more header also samples lawful is opened =
-    let spelled = flat_map (sample_spelling (width_of header)) samples in
-    let both : Ok header ≡ Ok also =
-    sym (ap opening (is ∙ append_assoc (header_spelling header) spelled more)
-    ∙ opening-spelled header (spelled ++ more) lawful) ∙ opened in
-    cc
 
 -- where a file breaks off, or a read fails, fewer samples are missing than are read at once
 pub writes_first : {taps : List KeptTap} {r : Reception} {header : Header} {samples : List Sample}

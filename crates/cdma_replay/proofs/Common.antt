@@ -1,9 +1,9 @@
 -- What the proofs of this crate cite of what lies below, and of its own definitions, passed on from one place.
 pub use Rattle.std.specs.Prelude.{IfOk}
-pub use Rattle.std.proofs.Common.{All, Bool, Err, IfSome, IsNone, IsOk, List, None, Ok, OnOk, Option, Result, Some, [], ap}
-pub use Rattle.std.proofs.Common.{append-nil, append_assoc, arith, drop, false, filter, inl, inr, le_refl, length, length-append}
-pub use Rattle.std.proofs.Common.{length-take-le, map, min, pos, refl, replicate, rules, slice_get, subst, suc, sym, take, true, zero, ℕ, ℤ}
-pub use Rattle.std.proofs.Common.{◌*◌, ◌++◌, ◌+◌, ◌-◌, ◌<◌, ◌∙◌, ◌∷◌, ◌≡◌, ◌≢◌, ◌≤◌}
+pub use Rattle.std.proofs.Common.{All, Bool, Err, IfSome, IsNone, IsOk, List, None, Ok, OnOk, Option, Result, Some, [], ap, append-nil}
+pub use Rattle.std.proofs.Common.{append_assoc, arith, drop, false, filter, inl, inr, le_refl, length, length-append, length-take-le, map}
+pub use Rattle.std.proofs.Common.{min, pos, refl, replicate, rules, slice_get, subst, suc, sym, take, true, zero, ℕ, ℤ, ◌*◌, ◌++◌, ◌+◌, ◌-◌}
+pub use Rattle.std.proofs.Common.{◌<◌, ◌∙◌, ◌∷◌, ◌≡◌, ◌≢◌, ◌≤◌}
 pub use Rattle.std.proofs.KnownBytes.{Appends-nil, Appends-trans, Consumes-kept, Consumes-nil, Consumes-trans}
 pub use Rattle.std.proofs.Math.Seq.{take-add}
 pub use Rattle.std.proofs.lemmas.Bool.{cases_lt}
@@ -17,13 +17,11 @@ pub use Rattle.std.specs.Io.{StartsWith}
 pub use Rattle.std.specs.Io.KnownBytes.{Appends, Consumes, IsAtEnd, Keeps}
 pub use Rattle.std.specs.List.{flat_map, range_with_len}
 pub use Rattle.std.specs.Option.{ForSome}
-pub use Rattle.cdma_io.proofs.Opening.{length-header_spelling, opening-spelled}
+pub use Rattle.cdma_io.proofs.Opening.{length-header_spelling}
 pub use Rattle.cdma_io.proofs.Spelling.{length-samples, sample_len-mono}
-pub use Rattle.cdma_io.specs.Outside.{AppendsPrefix, ConsumesAtMost, ConsumesFewer}
-pub use Rattle.cdma_io.specs.SampleFile.{CutsShort, HasBits, IsLawfulHeader, Opens, Reading, RunsOn, header_spelling, next_place, opening}
-pub use Rattle.cdma_io.specs.SampleFile.{sample_len, sample_spelling, width_of}
+pub use Rattle.cdma_io.specs.Outside.{AppendsPrefix, ConsumesAtMost}
+pub use Rattle.cdma_io.specs.SampleFile.{HasBits, IsLawfulHeader, Reading, header_spelling, opening, sample_len, sample_spelling, width_of}
 pub use Rattle.cdma_io.specs.declared.file_fault.FileFault.{FileFault}
-pub use Rattle.cdma_io.specs.declared.file_fault.FileFault.TheVariants.{Extra, ReadFault, Short, TooFew}
 pub use Rattle.cdma_io.specs.declared.header.Header.{Header}
 pub use Rattle.command_line.specs.Args.{IsLawfulTraffic}
 pub use Rattle.cell_plan.specs.Sampled.{sample_with}
@@ -42,7 +40,7 @@ pub use Rattle.chip_core.specs.Complex.{of_sample}
 pub use Rattle.chip_core.specs.declared.assignment.Traffic.{Traffic}
 pub use Rattle.chip_core.specs.declared.sample.Sample.{Sample}
 pub use Rattle.chip_core.specs.declared.width.Width.{Width}
-pub use Rattle.chip_core.specs.declared.width.Width.TheVariants.{Eight, Sixteen}
+pub use Rattle.chip_core.specs.declared.width.Width.TheVariants.{Sixteen}
 pub use Rattle.clean_signal.proofs.signal.Samples.{length-made}
 pub use Rattle.clean_link.specs.HeardEach.{is_frame, is_page, is_sync}
 pub use Rattle.event_tap.proofs.Runs.{run_taps-append, run_taps-more, run_text-append, run_text-more, run_text-none}
@@ -82,9 +80,8 @@ pub use Rattle.tuned_listener.proofs.TunedTexts.{text_of_nothing}
 pub use Rattle.tuned_listener.specs.TunedListening.{ListensTuned, TellsTuned, TellsTunedPart, tuned_room}
 pub use Rattle.tuned_listener.specs.declared.tuned.TunedListener.{TunedListener}
 pub use Rattle.event_tap.specs.declared.tuned_text.TunedText.{TunedText}
-pub use Rattle.owed_replies.specs.Broken.{HasWritten, HearsFirst, IsCut, IsLong, IsUnopened, TakesFew, WritesAll, WritesFirst}
-pub use Rattle.owed_replies.specs.Find.{IsEnd, IsFault, IsFaultIn, IsOfFiles, IsRestFault, PassesSamples, TakesSpan, WritesNoMore}
-pub use Rattle.owed_replies.specs.Find.{WritesText, ended}
+pub use Rattle.owed_replies.specs.Broken.{HasWritten, HearsFirst, IsCut, IsLong, WritesAll, WritesFirst}
+pub use Rattle.owed_replies.specs.Find.{IsEnd, IsFaultIn, IsOfFiles, IsRestFault, PassesSamples, TakesSpan, WritesNoMore, WritesText}
 pub use Rattle.owed_replies.specs.Hearing.{AreNearTo, AreReady, ByFrames, ByTaps, HearsPart, Listening, Nobody, TellsMore, TellsPart}
 pub use Rattle.owed_replies.specs.Hearing.{end_when, first_text, is_told, listening, tuning_for}
 pub use Rattle.cdma_replay.specs.Listeners.{BeginsBehind, GivesAll, HasRoom, HasRoomFor, HasTold, HearsRest, IsFreshListener, Listens}

@@ -1,12 +1,10 @@
 -- The modules of lemmas of `cdma_replay`.
 pub mod Broken
 pub mod Common
-pub mod Faults
 pub mod HeardRest
 pub mod Hearings
 pub mod Lines
 pub mod MadeFiles
 pub mod RankLines
 pub mod Refused
-pub mod Stopped
 mod Counting

@@ -7,12 +7,10 @@ use Rattle.cdma_replay.proofs.Common.{CellPlan, ScriptFault, OutOfMemory, named,
 use Rattle.cdma_replay.proofs.Common.{prefix_behind, prefix_of, taken_begins, script_status, length-made, made_samples, WritesNoMoreMade}
 use Rattle.cdma_replay.proofs.Common.{made_file, piece_bytes}
 use Rattle.std.proofs.lemmas.List.{length-take-le, take-append-drop}
-use Rattle.cdma_io.specs.Outside.{ConsumesAtMost, Rose}
-use Rattle.owed_replies.specs.Make.{WritesMadeFile, sample_bytes}
-use Rattle.owed_replies.specs.TaskRuns.{MakesFile}
+use Rattle.owed_replies.specs.Make.{sample_bytes}
 use Rattle.cdma_replay.proofs.Counting.{next_made}
-use Rattle.owed_replies.specs.declared.status.Status.TheVariants as Status
 use Rattle.cell_script.proofs.ScriptAnswers.{too_big}
+use Rattle.owed_replies.specs.declared.status.Status.TheVariants as Status
 
 -- ---- scripts
 
@@ -237,54 +235,3 @@ writes_whole width plan rest old new is all =
     let file = made_file width plan in
     writes_part width plan rest old new is
     (prefix_of old new file file all (take_all (length file) file (omega arith)))
-
--- ---- runs that read a lawful script
-
-module _ {width : Width} {rest left : Option (List ℕ)} {misread misread_now : ℕ}
-    {SameSource : Type 0} {old new : Option (List ℕ)} {miswritten miswritten_now : ℕ}
-    {SameSink : Type 0} where
-  -- all of its file was written
-  pub made_whole : IfSome rest (λ bytes. WritesMadeFile width bytes old new) → IsAtEnd left →
-      WritesNoMoreMade width rest old new → ConsumesAtMost 1048577 rest left →
-      misread ≤ misread_now → miswritten ≤ miswritten_now →
-      MakesFile width Status.Done rest left misread misread_now SameSource old new miswritten
-      miswritten_now SameSink
-  made_whole done ends written bound later later_sink = record {
-    done = λ is. done;
-    at_end = λ is. ends;
-    others = (λ is. cc, λ is. cc, λ fault is. cc);
-    memory = λ is. absurd (cc);
-    early = λ is. absurd (cc);
-    bad_script = λ fault is. absurd (cc);
-    read_fault = λ is. absurd (cc);
-    unwritten = λ is. absurd (cc);
-    write_fault = λ is. absurd (cc);
-    lawful = λ is. absurd (cc);
-    written = written;
-    bound = bound;
-    later_source = later;
-    later_sink = later_sink;
-  }
-
-  -- or a write failed
-  pub made_part : Rose miswritten miswritten_now →
-      IfSome rest (λ bytes. IsOk (plan_named width bytes)) → WritesNoMoreMade width rest old new →
-      ConsumesAtMost 1048577 rest left → misread ≤ misread_now → miswritten ≤ miswritten_now →
-      MakesFile width Status.WriteFault rest left misread misread_now SameSource old new miswritten
-      miswritten_now SameSink
-  made_part lost lawful written bound later later_sink = record {
-    done = λ is. absurd (cc);
-    at_end = λ is. absurd (cc);
-    others = (λ is. cc, λ is. cc, λ fault is. cc);
-    memory = λ is. absurd (cc);
-    early = λ is. absurd (cc);
-    bad_script = λ fault is. absurd (cc);
-    read_fault = λ is. absurd (cc);
-    unwritten = λ is. absurd (cc);
-    write_fault = λ is. lost;
-    lawful = λ is. lawful;
-    written = written;
-    bound = bound;
-    later_source = later;
-    later_sink = later_sink;
-  }

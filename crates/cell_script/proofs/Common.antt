@@ -3,28 +3,23 @@ pub use Rattle.std.proofs.Common.{Bool, Err, IfSome, IsOk, List, None, Ok, OnOk,
 pub use Rattle.std.proofs.Common.{decimal, drop, false, get_or, inl, inr, is_some, length, length-append, not, refl, replicate, rules}
 pub use Rattle.std.proofs.Common.{subst, suc, sym, take, true, unsigned_abs, zero, ℕ, ℤ, ◌%◌, ◌*◌, ◌++◌, ◌+◌, ◌-◌, ◌<◌, ◌==◌, ◌^◌, ◌∙◌, ◌∷◌}
 pub use Rattle.std.proofs.Common.{◌≡◌, ◌≢◌, ◌≤◌, map, nat_eq, slice_index, unwrap_or, ◌&&◌, ◌/◌}
-pub use Rattle.std.proofs.Math.Dec.{eqb-suc-zero}
 pub use Rattle.std.proofs.Math.ListN.{set}
-pub use Rattle.std.proofs.Math.Nat.{pow-le-pow_right, pow-suc}
+pub use Rattle.std.proofs.Math.Nat.{pow-le-pow_right}
 pub use Rattle.std.proofs.lemmas.Bool.{and_parts, cases_eq, cond-false, cond-true, eq-eqb, eqb-false, eqb-true, false≢true, le-leb, le-ltb}
 pub use Rattle.std.proofs.lemmas.Bool.{leb-true, lt-ltb, ltb-false, ltb-true, ne_eqb, not-true, or_right, and_from, cases_lt, lt-leb}
-pub use Rattle.std.proofs.lemmas.Fmt.{decimal-digits_value, decimal_nonempty, digits_decimal, digits_value-decimal, first_decimal}
-pub use Rattle.std.proofs.lemmas.Fmt.{length-decimal-le}
+pub use Rattle.std.proofs.lemmas.Fmt.{digits_decimal, length-decimal-le}
 pub use Rattle.std.proofs.lemmas.Int.{ints}
-pub use Rattle.std.proofs.lemmas.List.{append-nil, at_drop_more, drop_all, get_or-replicate, get_or-set_other, get_or-set_same, length-drop}
-pub use Rattle.std.proofs.lemmas.List.{length-map, length-set, length-take-le, take-append-drop, take_all, take_more_set}
-pub use Rattle.std.proofs.lemmas.List.{length-replicate, length-take, map-append}
+pub use Rattle.std.proofs.lemmas.List.{append-nil, get_or-replicate, get_or-set_other, get_or-set_same, length-drop, length-map, length-set}
+pub use Rattle.std.proofs.lemmas.List.{length-take-le, take-append-drop, take_all, length-replicate, length-take, map-append}
 pub use Rattle.std.proofs.lemmas.List.Elements.{All-cons, All-head, All-map, All-nil, All-push, All-tail, All-weaker}
 pub use Rattle.std.proofs.lemmas.Nat.{mul-le, from_be_bytes-to_be_bytes_4, from_be_bytes-to_be_bytes_8}
-pub use Rattle.std.proofs.lemmas.Option.{cond_some, get_or_from_slice_get, same_Some}
-pub use Rattle.std.proofs.lemmas.Str.Parse.{IsNumeralModel, numerals_by_fold}
+pub use Rattle.std.proofs.lemmas.Option.{cond_some, same_Some}
 pub use Rattle.std.specs.Char.{is_ascii_digit}
 pub use Rattle.std.specs.Fmt.{signed_decimal}
 pub use Rattle.std.specs.Int.{w16, byte_at, bytes_high_first, to_be_bytes, w32, w64}
 pub use Rattle.std.specs.Option.{option_map_or, option_or}
 pub use Rattle.std.specs.Prelude.{All, FitsSigned, codes, flat_map, map, nat_le, nat_lt, negsuc, ok_or, option_and_then, option_map, pos}
 pub use Rattle.std.specs.Prelude.{◌||◌}
-pub use Rattle.std.specs.Prelude.{◌↔◌}
 pub use Rattle.std.specs.Str.{all_ascii_digits}
 pub use Rattle.cdma_io.specs.SampleFile.{most_samples}
 pub use Rattle.cell_plan.proofs.CarriedPages.{channel_carried, heard_messages}
@@ -48,10 +43,8 @@ pub use Rattle.cell_plan.specs.declared.traffic_frame.FrameRate.TheVariants.{Set
 pub use Rattle.cell_plan.specs.declared.traffic_frame.RateSet.{RateSet}
 pub use Rattle.cell_plan.specs.declared.traffic_frame.RateSet.TheVariants.{One, Two}
 pub use Rattle.cell_plan.specs.declared.traffic_frame.TrafficFrame.{TrafficFrame}
-pub use Rattle.chip_core.proofs.FieldLists.{length-binary}
 unfoldable pub use Rattle.chip_core.specs.Bits.{binary}
 pub use Rattle.chip_core.specs.Complex.{norm}
-unfoldable pub use Rattle.chip_core.specs.Decimals.{digits_from}
 pub use Rattle.chip_core.specs.Fields.{FieldsFit}
 pub use Rattle.chip_core.specs.declared.check_form.CheckForm.{CheckForm}
 pub use Rattle.chip_core.specs.declared.width.Width.{Width}
@@ -87,35 +80,31 @@ pub use Rattle.cell_script.specs.Rows.{AreUpTo, NumberRow, key_of, local_rows, n
 unfoldable pub use Rattle.cell_script.specs.Rows.{numbers_in, past_numbers}
 pub use Rattle.cell_script.specs.ScriptFields.{at_end, keyed, value_of}
 unfoldable pub use Rattle.cell_script.specs.ScriptFields.{script_field, past}
-pub use Rattle.cell_script.specs.LineForms.{AreIn, IsIn, IsSaid, LineForm, StatementRow, TextForm, ValueOf, Values}
+pub use Rattle.cell_script.specs.LineForms.{AreIn, IsIn, IsSaid, LineForm, StatementRow, TextForm, ValueOf, Values, fields_in, fields_text}
+pub use Rattle.cell_script.specs.LineForms.{lawful_line, past_fields, read_as, reader_of, writer_of, written_as}
 pub use Rattle.cell_script.specs.LineForms.TextForm.{BitList, SixteenDigits, Tabled}
-pub use Rattle.cell_script.specs.LineForms.{fields_in, fields_text, lawful_line, past_fields, read_as, reader_of, writer_of, written_as}
 pub use Rattle.cell_script.specs.ScriptJudged.{HasJudged, HasSeen, IsInOrder, IsJudged, gains_of, judged_fault}
-pub use Rattle.cell_script.specs.ScriptLines.{cell_line, frame_rate, has_lawful_rest, is_link, rate_by}
-pub use Rattle.cell_script.specs.ScriptLines.{lawful_message}
-pub use Rattle.cell_script.specs.ScriptLines.{check_form, gain_row, sync_fields}
-unfoldable pub use Rattle.cell_script.specs.ScriptLines.{cell_in, traffic_frame_in, freq_in, link_in, stated_page_in, paging_in}
-unfoldable pub use Rattle.cell_script.specs.ScriptLines.{past_freq, pilot_in, statement_in, sync_behind, sync_in, traffic_in}
-pub use Rattle.cell_script.specs.ScriptLines.{cell_statement, form_bit, frame_statement, link_statement, page_statement, paging_statement}
-pub use Rattle.cell_script.specs.ScriptLines.{pilot_statement, traffic_statement}
+pub use Rattle.cell_script.specs.ScriptLines.{cell_line, frame_rate, has_lawful_rest, is_link, rate_by, lawful_message, check_form}
+pub use Rattle.cell_script.specs.ScriptLines.{gain_row, sync_fields, cell_statement, form_bit, frame_statement, link_statement}
+pub use Rattle.cell_script.specs.ScriptLines.{page_statement, paging_statement, pilot_statement, traffic_statement}
+unfoldable pub use Rattle.cell_script.specs.ScriptLines.{cell_in, traffic_frame_in, freq_in, link_in, stated_page_in, paging_in, past_freq}
+unfoldable pub use Rattle.cell_script.specs.ScriptLines.{pilot_in, statement_in, sync_behind, sync_in, traffic_in}
 pub use Rattle.cell_script.specs.ScriptPlans.{IsLawfulStatement}
 unfoldable pub use Rattle.cell_script.specs.ScriptSplitting.{first_stated}
-pub use Rattle.cell_script.specs.ScriptStages.{after_cell, after_frame, after_link, after_page, after_paging, after_pilot}
-pub use Rattle.cell_script.specs.ScriptStages.{after_sync, after_traffic, behind_sync, count_behind, frames_stage, is_complete, is_cycle}
-pub use Rattle.cell_script.specs.ScriptStages.{may_follow}
-pub use Rattle.cell_script.specs.ScriptStages.{next_stage}
+pub use Rattle.cell_script.specs.ScriptStages.{after_frame, after_page, after_paging, after_traffic, behind_sync, count_behind, is_complete}
+pub use Rattle.cell_script.specs.ScriptStages.{is_cycle, may_follow, next_stage}
 unfoldable pub use Rattle.cell_script.specs.ScriptStages.{page_stage}
-pub use Rattle.cell_script.specs.ScriptValues.{all_clear, as_state, begins_with, text_after, binary_digit, hex_digit, is_plain, negative}
-pub use Rattle.cell_script.specs.ScriptValues.{number_in, octets_in, positive, signed_behind, unpadded, up_to}
-unfoldable pub use Rattle.cell_script.specs.ScriptValues.{bits_in_text, power_bits_in, digits_behind, hex_bits, hex_from, length_before}
-unfoldable pub use Rattle.cell_script.specs.ScriptValues.{number_up_to, serial_number_in, signed_in, state_in}
+pub use Rattle.line_text.specs.StatedValues.{all_clear, as_state, begins_with, text_after, binary_digit, hex_digit, number_in, octets_in}
+pub use Rattle.line_text.specs.StatedValues.{unpadded, up_to}
+unfoldable pub use Rattle.line_text.specs.StatedValues.{bits_in_text, power_bits_in, digits_behind, hex_bits, hex_from, length_before}
+unfoldable pub use Rattle.line_text.specs.StatedValues.{number_up_to, serial_number_in, signed_in, state_in}
 pub use Rattle.cell_script.specs.declared.judge.ChannelRows.{ChannelRows}
 pub use Rattle.cell_script.specs.declared.judge.Judge.{Judge}
 pub use Rattle.cell_script.specs.declared.script_fault.ScriptFault.{ScriptFault}
 pub use Rattle.cell_script.specs.declared.script_fault.ScriptFault.TheVariants.{Gain, Line, TooBig, Walsh}
 pub use Rattle.cell_script.specs.declared.stage.Stage.{Stage}
-pub use Rattle.cell_script.specs.declared.stage.Stage.TheVariants.{Cell, FirstFrame, FirstPage, Frames, Link, Pages, Paging, Pilot}
-pub use Rattle.cell_script.specs.declared.stage.Stage.TheVariants.{Sync, Traffic}
+pub use Rattle.cell_script.specs.declared.stage.Stage.TheVariants.{Cell, FirstFrame, FirstPage, Frames, Link, Pages, Paging, Pilot, Sync}
+pub use Rattle.cell_script.specs.declared.stage.Stage.TheVariants.{Traffic}
 pub use Rattle.cell_script.specs.declared.statements.PagingLine.{PagingLine}
 pub use Rattle.cell_script.specs.declared.statements.Statement.{Statement}
 pub use Rattle.cell_script.specs.declared.statements.TrafficLine.{TrafficLine}
@@ -131,8 +120,8 @@ pub use Rattle.hex.specs.Hex.{IsBytes, encode_lower, lower_digits}
 pub use Rattle.line_text.specs.Texts.{digit_of, octet_count}
 unfoldable pub use Rattle.line_text.specs.Texts.{bit_text, digits_of, packed_octets, padded, serial_digits, state_digits}
 pub use Rattle.quality_bits.proofs.Digits.{binary-number}
-pub use Rattle.cell_script.specs.Spelling.{channel_statements, line_of_paging, line_of_traffic}
-pub use Rattle.cell_script.specs.Spelling.{lines_of, local_values, network_values, numbers_text, paging_statements, statement_line}
-pub use Rattle.cell_script.specs.Spelling.{statement_text, statements_of, sync_statements, traffic_statements, with_line_feed, written_freq}
-unfoldable pub use Rattle.cell_script.specs.Spelling.{script_of, written_cell, written_frame, written_link, written_page}
-unfoldable pub use Rattle.cell_script.specs.Spelling.{written_paging, written_pilot, written_sync, written_traffic}
+pub use Rattle.cell_script.specs.Spelling.{line_of_paging, line_of_traffic, lines_of, local_values, network_values, numbers_text}
+pub use Rattle.cell_script.specs.Spelling.{paging_statements, statement_line, statement_text, statements_of, sync_statements}
+pub use Rattle.cell_script.specs.Spelling.{traffic_statements, with_line_feed, written_freq}
+unfoldable pub use Rattle.cell_script.specs.Spelling.{script_of, written_cell, written_frame, written_link, written_page, written_paging}
+unfoldable pub use Rattle.cell_script.specs.Spelling.{written_pilot, written_sync, written_traffic}

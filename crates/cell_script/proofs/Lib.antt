@@ -10,14 +10,12 @@ pub mod ScriptBounds
 pub mod ScriptKeys
 pub mod ScriptMessages
 pub mod ScriptNumbers
-pub mod ScriptNumerals
 pub mod ScriptPages
 pub mod ScriptRanges
 pub mod ScriptReading
 pub mod ScriptRows
 pub mod ScriptSplits
 pub mod ScriptTables
-pub mod ScriptTexts
 pub mod SpelledBytes
 pub mod SpelledFields
 pub mod SpelledLines

@@ -6,7 +6,7 @@ use Rattle.cell_script.proofs.Common.{ltb-true, nat_le, nat_lt, negsuc, past_fie
 use Rattle.cell_script.proofs.Common.{signed_decimal, state_digits, subst, suc, sym, true, w16, writer_of, written_as, ℕ, ℤ, ◌&&◌, ◌++◌}
 use Rattle.cell_script.proofs.Common.{◌+◌, ◌<◌, ◌==◌, ◌^◌, ◌∙◌, ◌∷◌, ◌≡◌, ◌≤◌}
 use Rattle.cell_script.proofs.ScriptBounds.{both_steps, ended, fields_ranged}
-use Rattle.cell_script.proofs.ScriptTexts.{before-none}
+use Rattle.line_text.proofs.StatedTexts.{before-none}
 use Rattle.cell_script.proofs.SpelledBytes.{are_within, bit_text_short, bit_text_within, decimal_short, decimal_within, digits_of_long}
 use Rattle.cell_script.proofs.SpelledBytes.{digits_of_within, serial_long, serial_within, state_long, state_within, within-append}
 use Rattle.cell_script.proofs.SpelledBytes.{within-cons, within-wider}

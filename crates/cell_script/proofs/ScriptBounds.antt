@@ -8,8 +8,8 @@ use Rattle.cell_script.proofs.Common.{option_and_then, past, power_bits_in, read
 use Rattle.cell_script.proofs.Common.{state_in, subst, suc, sym, take, text_after, true, unpadded, up_to, value_of, zero, ℕ, ◌*◌, ◌++◌, ◌+◌}
 use Rattle.cell_script.proofs.Common.{◌<◌, ◌==◌, ◌^◌, ◌∙◌, ◌∷◌, ◌≡◌, ◌≤◌}
 use Rattle.std.specs.Char.{digit_value}
-use Rattle.cell_script.proofs.ScriptNumerals.{one_signed_numeral}
-use Rattle.cell_script.proofs.ScriptTexts.{hex_digit_more, hex_from-none}
+use Rattle.line_text.proofs.Numerals.{one_signed_numeral}
+use Rattle.line_text.proofs.StatedTexts.{hex_digit_more, hex_from-none}
 use Rattle.cell_script.specs.declared.tables.FieldForm.TheVariants as forms
 
 -- ---- steps that may fail

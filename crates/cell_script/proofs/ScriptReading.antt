@@ -8,7 +8,7 @@ use Rattle.cell_script.proofs.Common.{next_stage, length_before}
 use Rattle.cell_script.proofs.ChannelStages.{added, empty_said, in_order, IsAt}
 use Rattle.cell_script.proofs.ScriptRanges.{line_bounds}
 use Rattle.cell_script.proofs.ScriptSplits.{line_counted, line_read, line_refused, line_unended, lines_read, stated_plan-lines}
-use Rattle.cell_script.proofs.ScriptTexts.{before_most}
+use Rattle.line_text.proofs.StatedTexts.{before_most}
 
 -- ---- the first line of a text
 

@@ -4,7 +4,7 @@ use Rattle.cell_script.proofs.Common.{drop, refl, sym, ap, ◌∙◌, arith, Opt
 use Rattle.cell_script.proofs.Common.{eqb-true, false≢true, take-append-drop, take_all, length-drop, length-take-le, CellPlan}
 use Rattle.cell_script.proofs.Common.{length_before, Draft, plan_at, with_line, is_line, lines, onto_first, draft_after, stated}
 use Rattle.cell_script.proofs.Common.{stated_plan, empty_draft, eqb-false}
-use Rattle.cell_script.proofs.ScriptTexts.{before-mark, before-other}
+use Rattle.line_text.proofs.StatedTexts.{before-mark, before-other}
 
 -- ---- clauses
 

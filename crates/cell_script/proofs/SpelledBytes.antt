@@ -8,9 +8,9 @@ use Rattle.cell_script.proofs.Common.{length-decimal-le, length-take, length-enc
 use Rattle.cell_script.proofs.Common.{number_lt, number, bit_text, digit_of, digits_of, octet_count, packed_octets, padded, serial_digits}
 use Rattle.cell_script.proofs.Common.{state_digits, is_line, length_before}
 use Rattle.line_text.proofs.Digits.{length-packed}
-use Rattle.cell_script.proofs.ScriptNumerals.{own_numerals}
+use Rattle.line_text.proofs.Numerals.{own_numerals}
 use Rattle.cell_script.proofs.ScriptSplits.{is_line-end, is_line-more}
-use Rattle.cell_script.proofs.ScriptTexts.{before-other}
+use Rattle.line_text.proofs.StatedTexts.{before-other}
 
 -- whether all bytes are in a range
 abbrev pub are_within : ℕ → ℕ → List ℕ → Bool

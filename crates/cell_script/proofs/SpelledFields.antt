@@ -3,7 +3,7 @@ use Rattle.cell_script.proofs.Common.{◌≡◌, ℕ, ◌==◌, true, List, [], 
 use Rattle.cell_script.proofs.Common.{append-nil, pointwise, drop-append_seam, take-append_seam, and_from, cond-true, eq-eqb, script_field}
 use Rattle.cell_script.proofs.Common.{append_assoc, keyed, Some, subst, sym, past, value_of, begins_with, length_before}
 use Rattle.cell_script.proofs.SpelledBytes.{are_within, before_low_mark}
-use Rattle.cell_script.proofs.ScriptTexts.{before-mark, before-none}
+use Rattle.line_text.proofs.StatedTexts.{before-mark, before-none}
 
 same_bytes : (xs : List ℕ) → pointwise nat_eq xs xs ≡ true
 same_bytes [] = refl

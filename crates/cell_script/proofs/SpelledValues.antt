@@ -10,11 +10,11 @@ use Rattle.cell_script.proofs.Common.{digits_of, octet_count, packed_octets, pad
 use Rattle.cell_script.proofs.Common.{text_after, bits_in_text, power_bits_in, digits_behind, hex_bits, hex_digit, hex_from, length_before}
 use Rattle.cell_script.proofs.Common.{number_up_to, octets_in, serial_number_in, state_in, unpadded, ℤ, FitsSigned, w16, signed_in}
 use Rattle.cell_script.proofs.Common.{signed_decimal}
-use Rattle.cell_script.proofs.ScriptNumerals.{one_numeral, one_signed_numeral}
+use Rattle.line_text.proofs.Numerals.{one_numeral, one_signed_numeral}
 use Rattle.std.proofs.lemmas.List.{length-drop}
 use Rattle.cell_script.proofs.SpelledBytes.{are_within, at_below, before_high_mark, bytes_are, decimal_within, digits_of_long, octet_digits}
 use Rattle.cell_script.proofs.SpelledBytes.{octet_digits_long, octets_are, serial_long, state_long}
-use Rattle.cell_script.proofs.ScriptTexts.{before-mark, hex_from-digit, hex_from-none}
+use Rattle.line_text.proofs.StatedTexts.{before-mark, hex_from-digit, hex_from-none}
 
 -- ---- numbers
 

@@ -9,6 +9,5 @@ pub mod ScriptLines
 pub mod ScriptPlans
 pub mod ScriptSplitting
 pub mod ScriptStages
-pub mod ScriptValues
 mod ScriptWorked
 pub mod Spelling

@@ -9,8 +9,8 @@ use Rattle.line_text.specs.Texts.{bit_text, digits_of, serial_digits, state_digi
 use Rattle.cell_script.specs.declared.tables.FieldForm.{FieldForm}
 use Rattle.cell_script.specs.declared.tables.FieldForm.TheVariants as forms
 use Rattle.cell_script.specs.ScriptFields.{◌>>=◌, at_end, script_field, past}
-use Rattle.cell_script.specs.ScriptValues.{bits_in_text, number_up_to, power_bits_in}
-use Rattle.cell_script.specs.ScriptValues.{serial_number_in, signed_in, state_in}
+use Rattle.line_text.specs.StatedValues.{bits_in_text, number_up_to, power_bits_in}
+use Rattle.line_text.specs.StatedValues.{serial_number_in, signed_in, state_in}
 
 -- ---- values
 

@@ -3,7 +3,7 @@ use Rattle.std.specs.Prelude.{ℕ, List, [], ◌∷◌, length, map, get_or, ◌
 use Rattle.std.specs.Prelude.{codes, Option, None, Some}
 use Rattle.sync_message.specs.Rows.{sync_names, sync_widths}
 use Rattle.cell_script.specs.ScriptFields.{◌>>=◌, script_field, past}
-use Rattle.cell_script.specs.ScriptValues.{number_up_to}
+use Rattle.line_text.specs.StatedValues.{number_up_to}
 
 -- a field that holds a number: its key, and the greatest number
 pub record NumberRow : Type 0 where

@@ -5,8 +5,8 @@ use Rattle.long_code.specs.LongCode.{IsState}
 use Rattle.cell_script.specs.declared.tables.FieldForm.{FieldForm}
 use Rattle.cell_script.specs.declared.tables.FieldForm.TheVariants as forms
 use Rattle.cell_script.specs.declared.tables.StatementField.{StatementField}
-use Rattle.cell_script.specs.ScriptValues.{begins_with, length_before, number_up_to}
-use Rattle.cell_script.specs.ScriptValues.{serial_number_in, signed_in, state_in}
+use Rattle.line_text.specs.StatedValues.{begins_with, length_before, number_up_to}
+use Rattle.line_text.specs.StatedValues.{serial_number_in, signed_in, state_in}
 
 -- what stands after a key, from there up to the next space, and from that space on
 abbrev pub keyed : List ℕ → List ℕ → List ℕ

@@ -29,7 +29,7 @@ use Rattle.cell_script.specs.LineForms.TextForm.{BitList, SixteenDigits}
 use Rattle.cell_script.specs.Rows.{NumberRow, local_rows, network_rows, numbers_in, past_numbers}
 use Rattle.cell_script.specs.Rows.{ranged}
 use Rattle.cell_script.specs.ScriptFields.{◌>>=◌, at_end, script_field, past}
-use Rattle.cell_script.specs.ScriptValues.{begins_with, bits_in_text, number_up_to}
+use Rattle.line_text.specs.StatedValues.{begins_with, bits_in_text, number_up_to}
 
 -- ---- statements
 

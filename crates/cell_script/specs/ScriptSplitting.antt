@@ -2,7 +2,7 @@
 use Rattle.std.specs.Prelude.{ℕ, nat_lt, if◌then◌else◌, List, length, take, Option, None}
 use Rattle.cell_script.specs.declared.statements.Statement.{Statement}
 use Rattle.cell_script.specs.ScriptLines.{statement_in}
-use Rattle.cell_script.specs.ScriptValues.{length_before}
+use Rattle.line_text.specs.StatedValues.{length_before}
 
 -- what the first line of a text states; None where it has no LF
 unfoldable pub first_stated : List ℕ → Option Statement

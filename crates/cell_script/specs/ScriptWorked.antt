@@ -18,9 +18,9 @@ use Rattle.cell_plan.specs.declared.plan.PagingPlan.{PagingPlan}
 use Rattle.cell_plan.specs.declared.plan.TrafficPlan.{TrafficPlan}
 use Rattle.cell_script.specs.declared.script_fault.ScriptFault.TheVariants.{Line, TooLoud, TooLong}
 use Rattle.chip_core.specs.Decimals.{digits_from}
-use Rattle.cell_script.specs.ScriptValues.{bits_in_text, power_bits_in, digits_behind, hex_bits}
-use Rattle.cell_script.specs.ScriptValues.{hex_from, length_before, number_up_to, serial_number_in}
-use Rattle.cell_script.specs.ScriptValues.{signed_in, state_in}
+use Rattle.line_text.specs.StatedValues.{bits_in_text, power_bits_in, digits_behind, hex_bits}
+use Rattle.line_text.specs.StatedValues.{hex_from, length_before, number_up_to, serial_number_in}
+use Rattle.line_text.specs.StatedValues.{signed_in, state_in}
 use Rattle.cell_script.specs.Rows.{numbers_in, past_numbers}
 use Rattle.cell_script.specs.ScriptFields.{script_field, past}
 use Rattle.cell_script.specs.ScriptDrafts.{with_line, with_next}

@@ -18,7 +18,6 @@ mod spelling;
 pub mod stage;
 pub mod statements;
 pub mod tables;
-mod values;
 mod writing;
 
 pub use reading::plan_of;

@@ -7,17 +7,17 @@ ghost use Rattle.cell_script.specs.Script.{plan_named, stated_plan};
 ghost use Rattle.cell_script.specs.ScriptJudged.{IsJudged};
 ghost use Rattle.cell_script.specs.ScriptPlans.{HasRow};
 ghost use Rattle.cell_script.specs.ScriptSplitting.{first_stated};
-ghost use Rattle.cell_script.specs.ScriptValues.{length_before};
+ghost use Rattle.line_text.specs.StatedValues.{length_before};
 
 use crate::build::{add_statement, empty_plan};
 use crate::judge::Judge;
 use crate::script_fault::ScriptFault;
 use crate::stage::Stage;
 use crate::statements::{Statement, statement_in};
-use crate::values::length_before;
 use cdma_io::Width;
 use cell_plan::CellPlan;
 use chip_core::OutOfMemory;
+use line_text::length_before;
 use std::alloc::Global;
 
 /// The most bytes that a script has.

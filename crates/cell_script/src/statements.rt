@@ -23,9 +23,9 @@ use crate::fields::{Fields, unsigned_line};
 use crate::tables::{
     CELL_FIELDS, LINK_FIELDS, PAGING_FIELDS, PILOT_FIELDS, SYNC_GAIN, TRAFFIC_FIELDS,
 };
-use crate::values::begins_with;
 use cell_plan::{CellIdentity, FrameRate, LinkPlan, Page, PilotPlan, SyncPlan, TrafficFrame};
 use chip_core::{Bits, CheckForm, Pair};
+use line_text::begins_with;
 use paging_message::PagingMessage;
 use symbol_path::{Rate, Rate2};
 use sync_message::{FREQ_FIELD, SyncFields, SyncMessage};

@@ -1,3 +1,5 @@
 -- The modules of lemmas of `line_text`.
-pub mod Digits
 mod BinaryDigits
+pub mod Digits
+pub mod Numerals
+pub mod StatedTexts

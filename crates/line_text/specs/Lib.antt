@@ -1,2 +1,3 @@
 -- The modules of definitions of `line_text`.
+pub mod StatedValues
 pub mod Texts

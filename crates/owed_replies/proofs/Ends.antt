@@ -4,6 +4,11 @@ use Rattle.owed_replies.proofs.Common.{[], Bool, flat_map, Appends-nil, Sample, 
 use Rattle.owed_replies.proofs.Common.{sample_spelling, width_of, KeptTap, front_begins, Status, Done, NoSync, BadFile, NoMemory}
 use Rattle.owed_replies.proofs.Common.{WriteFault, file_status, BeginsFile, IsEnd, IsFault, TakesNoMore, TakesSpan, WritesNoMore, ended}
 use Rattle.owed_replies.proofs.Common.{PurposeIsUnheard, end_when, is_told, listening, Purpose, Follow, Tuned, ReceivesFile, Reception}
+use Rattle.owed_replies.proofs.Common.{IsOk, Width, plan_named}
+use Rattle.std.specs.Io.KnownBytes.{IsAtEnd}
+use Rattle.owed_replies.specs.Make.{WritesNoMoreMade, WritesMadeFile}
+use Rattle.cdma_io.specs.Outside.{ConsumesAtMost}
+use Rattle.owed_replies.specs.TaskRuns.{MakesFile}
 
 -- a status that comes of a fault of the file blames a read, or the file's bytes
 pub by_file_status : (P : Status → Type 0) (fault : FileFault) → P Status.ReadFault →
@@ -115,6 +120,57 @@ module _ {taps : List KeptTap} {r : Reception} {rest left : Option (List ℕ)}
     written = written;
     cut = λ cut. absurd cut;
     long = λ long. absurd long;
+    later_source = later;
+    later_sink = later_sink;
+  }
+
+-- ---- runs that read a lawful script
+
+module _ {width : Width} {rest left : Option (List ℕ)} {misread misread_now : ℕ}
+    {SameSource : Type 0} {old new : Option (List ℕ)} {miswritten miswritten_now : ℕ}
+    {SameSink : Type 0} where
+  -- all of its file was written
+  pub made_whole : IfSome rest (λ bytes. WritesMadeFile width bytes old new) → IsAtEnd left →
+      WritesNoMoreMade width rest old new → ConsumesAtMost 1048577 rest left →
+      misread ≤ misread_now → miswritten ≤ miswritten_now →
+      MakesFile width Done rest left misread misread_now SameSource old new miswritten
+      miswritten_now SameSink
+  made_whole done ends written bound later later_sink = record {
+    done = λ is. done;
+    at_end = λ is. ends;
+    others = (λ is. cc, λ is. cc, λ fault is. cc);
+    memory = λ is. absurd (cc);
+    early = λ is. absurd (cc);
+    bad_script = λ fault is. absurd (cc);
+    read_fault = λ is. absurd (cc);
+    unwritten = λ is. absurd (cc);
+    write_fault = λ is. absurd (cc);
+    lawful = λ is. absurd (cc);
+    written = written;
+    bound = bound;
+    later_source = later;
+    later_sink = later_sink;
+  }
+
+  -- or a write failed
+  pub made_part : Rose miswritten miswritten_now →
+      IfSome rest (λ bytes. IsOk (plan_named width bytes)) → WritesNoMoreMade width rest old new →
+      ConsumesAtMost 1048577 rest left → misread ≤ misread_now → miswritten ≤ miswritten_now →
+      MakesFile width WriteFault rest left misread misread_now SameSource old new miswritten
+      miswritten_now SameSink
+  made_part lost lawful written bound later later_sink = record {
+    done = λ is. absurd (cc);
+    at_end = λ is. absurd (cc);
+    others = (λ is. cc, λ is. cc, λ fault is. cc);
+    memory = λ is. absurd (cc);
+    early = λ is. absurd (cc);
+    bad_script = λ fault is. absurd (cc);
+    read_fault = λ is. absurd (cc);
+    unwritten = λ is. absurd (cc);
+    write_fault = λ is. lost;
+    lawful = λ is. lawful;
+    written = written;
+    bound = bound;
     later_source = later;
     later_sink = later_sink;
   }

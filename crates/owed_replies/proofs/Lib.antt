@@ -6,9 +6,12 @@ pub mod CleanTexts
 pub mod Commands
 pub mod Common
 pub mod Completed
+pub mod CutFiles
 pub mod Ends
+pub mod Faults
 pub mod Files
 pub mod Replies
 pub mod Runs
+pub mod Stopped
 pub mod TaskRuns
 pub mod TuningLaw

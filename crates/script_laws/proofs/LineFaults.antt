@@ -24,8 +24,8 @@ use Rattle.cell_script.specs.ScriptDrafts.{Draft, empty_draft, plan_at, with_lin
 use Rattle.cell_script.specs.ScriptFields.{script_field, past}
 use Rattle.cell_script.specs.ScriptLines.{cell_in, traffic_frame_in, link_in, stated_page_in, pilot_in, statement_in}
 use Rattle.cell_script.specs.ScriptStages.{page_stage}
-use Rattle.cell_script.specs.ScriptValues.{bits_in_text, hex_bits, hex_from, length_before, power_bits_in, digits_behind, number_up_to}
-use Rattle.cell_script.specs.ScriptValues.{signed_in, state_in}
+use Rattle.line_text.specs.StatedValues.{bits_in_text, hex_bits, hex_from, length_before, power_bits_in, digits_behind, number_up_to}
+use Rattle.line_text.specs.StatedValues.{signed_in, state_in}
 use Rattle.cell_script.specs.declared.script_fault.ScriptFault.{ScriptFault}
 use Rattle.cell_script.specs.declared.script_fault.ScriptFault.TheVariants.{Line, Walsh, Gain, TooLoud, TooLong, TooBig}
 use Rattle.cell_script.specs.declared.stage.Stage.{Stage}

@@ -11,7 +11,7 @@ ghost use Rattle.cell_plan.specs.Pages.{sent_paging_rate};
 ghost use Rattle.cell_plan.specs.Plan.{IsLawfulPlan};
 ghost use Rattle.cell_script.specs.Script.{lines, plan_named, stated_plan};
 ghost use Rattle.cell_plan.specs.Stated.{HasMessages, IsCarried, IsReceivable};
-ghost use Rattle.cell_script.specs.ScriptValues.{number_up_to, signed_in};
+ghost use Rattle.line_text.specs.StatedValues.{number_up_to, signed_in};
 ghost use Rattle.cell_script.specs.Spelling.{script_of};
 ghost use Rattle.cell_plan.specs.declared.plan.CellPlan.{CellPlan};
 ghost use Rattle.cell_script.specs.declared.script_fault.ScriptFault.TheVariants.{Line};

@@ -27,7 +27,7 @@ unfoldable pub use Rattle.cell_script.specs.ScriptFields.{script_field, past}
 unfoldable pub use Rattle.cell_script.specs.ScriptLines.{freq_in, link_in, past_freq, statement_in, sync_behind, sync_in}
 pub use Rattle.cell_script.specs.ScriptStages.{after_frame, after_traffic, count_behind, frames_stage}
 unfoldable pub use Rattle.cell_script.specs.ScriptStages.{page_stage}
-unfoldable pub use Rattle.cell_script.specs.ScriptValues.{bits_in_text, hex_bits, length_before, number_up_to, signed_in}
+unfoldable pub use Rattle.line_text.specs.StatedValues.{bits_in_text, hex_bits, length_before, number_up_to, signed_in}
 pub use Rattle.cell_script.specs.declared.stage.Stage.{Stage}
 pub use Rattle.cell_script.specs.declared.stage.Stage.TheVariants.{FirstFrame, FirstPage, Frames, Link, Pages, Paging, Pilot, Sync}
 pub use Rattle.cell_script.specs.declared.statements.PagingLine.{PagingLine}

@@ -3,8 +3,8 @@ use Rattle.std.proofs.lemmas.Grind.{common_steps}
 use Rattle.std.proofs.lemmas.Int.{ints}
 use Rattle.cdma_replay.proofs.Common.{arith}
 use Rattle.cdma_replay.proofs.Common.{length, rules, ◌≡◌, ◌≤◌, IsNone, None, ap, refl, err_from_is_err_and, Reading}
-use Rattle.cdma_replay.proofs.Broken.{no_long_cut, opening_few, span_few, unopened}
-use Rattle.cdma_replay.proofs.Faults.{fault_of_opening, fault_of_count, fault_of_span}
+use Rattle.owed_replies.proofs.CutFiles.{no_long_cut, opening_few, span_few, unopened}
+use Rattle.owed_replies.proofs.Faults.{fault_of_opening, fault_of_count, fault_of_span}
 use Rattle.owed_replies.proofs.Files.{no_file, unsearchable}
 use Rattle.owed_replies.proofs.Bounds.{opening_most, span_most}
 use Rattle.cdma_replay.proofs.receiving.open_span.Goals as goal

@@ -4,10 +4,10 @@ use Rattle.cdma_replay.proofs.Common.{IsCut, IsLong, IsEnd, IsFaultIn, IsOfFiles
 use Rattle.cdma_replay.proofs.Common.{file_status, Status}
 use Rattle.cdma_replay.proofs.Broken.{writes_all, writes_first}
 use Rattle.owed_replies.proofs.Ends.{begins_file, by_end, ends_well, lost_file, starved_file}
-use Rattle.cdma_replay.proofs.Faults.{fault_of_rest}
+use Rattle.owed_replies.proofs.Faults.{fault_of_rest}
 use Rattle.owed_replies.proofs.Files.{ended_by}
 use Rattle.cdma_replay.proofs.Lines.{HasBegun, has_begun, writes_first_part, writes_first_text, writes_rest_part, writes_text}
-use Rattle.cdma_replay.proofs.Stopped.{stopped_file, unread_file}
+use Rattle.owed_replies.proofs.Stopped.{stopped_file, unread_file}
 use Rattle.owed_replies.proofs.Bounds.{none_most, rest_most}
 use Rattle.owed_replies.proofs.Runs.{rose_before}
 use Rattle.cdma_replay.proofs.receiving.receive_file.Given.{Over}

@@ -1,5 +1,5 @@
 -- Why the law `numbers_have_one_spelling` holds.
-use Rattle.cell_script.proofs.ScriptNumerals.{one_numeral, one_signed_numeral}
+use Rattle.line_text.proofs.Numerals.{one_numeral, one_signed_numeral}
 use Rattle.script_laws.proofs.laws.numbers_have_one_spelling.Goals as goal
 
 pub returns-clause-signed : goal.returns-clause-signed

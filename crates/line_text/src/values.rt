@@ -1,15 +1,15 @@
-//! The texts of values in a script.
+//! The values that the fields of a line state.
 
 ghost use Rattle.std.specs.Prelude.{◌≡◌, ◌≤◌, ◌<◌, ◌+◌, ◌*◌, ◌-◌, ◌^◌, ℕ, true, length, take, drop};
 ghost use Rattle.std.specs.Prelude.{codes, Some, None, IfSome, unsigned_abs, flat_map};
 ghost use Rattle.std.specs.Char.{is_ascii_digit};
 ghost use Rattle.chip_core.specs.Bits.{binary};
 ghost use Rattle.long_code.specs.LongCode.{IsState};
-ghost use Rattle.cell_script.specs.ScriptValues.{all_clear, begins_with, text_after, binary_digit};
-ghost use Rattle.cell_script.specs.ScriptValues.{bits_in_text, power_bits_in, serial_number_in};
-ghost use Rattle.cell_script.specs.ScriptValues.{hex_bits, hex_digit, hex_from, is_plain};
-ghost use Rattle.cell_script.specs.ScriptValues.{length_before, negative, number_in, number_up_to};
-ghost use Rattle.cell_script.specs.ScriptValues.{signed_in, state_in, unpadded};
+ghost use Rattle.line_text.specs.StatedValues.{all_clear, begins_with, text_after, binary_digit};
+ghost use Rattle.line_text.specs.StatedValues.{bits_in_text, power_bits_in, serial_number_in};
+ghost use Rattle.line_text.specs.StatedValues.{hex_bits, hex_digit, hex_from, is_plain};
+ghost use Rattle.line_text.specs.StatedValues.{length_before, negative, number_in, number_up_to};
+ghost use Rattle.line_text.specs.StatedValues.{signed_in, state_in, unpadded};
 
 use chip_core::{Bits, PowerBits, digits_in};
 use long_code::State;
@@ -18,7 +18,7 @@ use long_code::State;
 const MOST_OCTETS: usize = 148;
 
 /// How many bytes of a text stand before the first mark; all where it has none.
-pub(crate) fn length_before(text: &[u8], mark: u8) -> usize
+pub fn length_before(text: &[u8], mark: u8) -> usize
     ensures value { result ≡ length_before mark text.now }
     ensures most { result ≤ length text.now }
 {
@@ -33,15 +33,15 @@ pub(crate) fn length_before(text: &[u8], mark: u8) -> usize
 }
 
 /// Whether a text begins with another one.
-pub(crate) fn begins_with(text: &[u8], front: &[u8]) -> bool
+pub fn begins_with(text: &[u8], front: &[u8]) -> bool
     ensures { result ≡ begins_with text.now front.now }
 {
     text.strip_prefix(front).is_some()
 }
 
 /// The number that a text spells in decimal without leading zeros, if it is at most `most`.
-#[tactic(auto, unfolding(crate::specs::ScriptValues::number_up_to))]
-pub(crate) fn number_up_to(text: &[u8], most: u64) -> Option<u64>
+#[tactic(auto, unfolding(crate::specs::StatedValues::number_up_to))]
+pub fn number_up_to(text: &[u8], most: u64) -> Option<u64>
     ensures value { result ≡ number_up_to most text.now }
     ensures range { IfSome result (λ n. n ≤ most) }
 {
@@ -77,8 +77,8 @@ fn is_plain(text: &[u8]) -> bool
 }
 
 /// The number with a sign that a text spells, from -32,768 to 32,767; `-0` isn't one.
-#[tactic(auto, unfolding(crate::specs::ScriptValues::signed_in))]
-pub(crate) fn signed_in(text: &[u8]) -> Option<i64>
+#[tactic(auto, unfolding(crate::specs::StatedValues::signed_in))]
+pub fn signed_in(text: &[u8]) -> Option<i64>
     ensures value { result ≡ signed_in text.now }
     ensures range { IfSome result (λ n. unsigned_abs n ≤ 32768) }
 {
@@ -101,8 +101,8 @@ fn negative(size: u64) -> Option<i64>
 }
 
 /// The state of the long code that eleven hex digits spell.
-#[tactic(auto, unfolding(crate::specs::ScriptValues::state_in))]
-pub(crate) fn state_in(text: &[u8]) -> Option<u64>
+#[tactic(auto, unfolding(crate::specs::StatedValues::state_in))]
+pub fn state_in(text: &[u8]) -> Option<u64>
     ensures value { result ≡ state_in text.now }
     ensures range { IfSome result IsState }
 {
@@ -114,8 +114,8 @@ pub(crate) fn state_in(text: &[u8]) -> Option<u64>
 }
 
 /// The electronic serial number that eight hex digits spell.
-#[tactic(auto, unfolding(crate::specs::ScriptValues::serial_number_in))]
-pub(crate) fn serial_number_in(text: &[u8]) -> Option<u64>
+#[tactic(auto, unfolding(crate::specs::StatedValues::serial_number_in))]
+pub fn serial_number_in(text: &[u8]) -> Option<u64>
     ensures value { result ≡ serial_number_in text.now }
     ensures range { IfSome result (λ n. n < 2 ^ 32) }
 {
@@ -169,7 +169,7 @@ fn binary_digit(byte: u8) -> Option<bool>
 }
 
 /// The bits of sixteen digits 0 or 1.
-pub(crate) fn power_bits_in(text: &[u8]) -> Option<PowerBits>
+pub fn power_bits_in(text: &[u8]) -> Option<PowerBits>
     ensures { result ≡ power_bits_in text.now }
 {
     if text.len() != 16 {
@@ -184,8 +184,8 @@ pub(crate) fn power_bits_in(text: &[u8]) -> Option<PowerBits>
 
 /// The bits of a text `N:HEX`: N of them, at most 1,184, in two hex digits of either case for each
 /// octet of them, padded at the end with zero bits.
-#[tactic(auto, unfolding(crate::specs::ScriptValues::bits_in_text))]
-pub(crate) fn bits_in(text: &[u8]) -> Option<Bits>
+#[tactic(auto, unfolding(crate::specs::StatedValues::bits_in_text))]
+pub fn bits_in(text: &[u8]) -> Option<Bits>
     ensures { result ≡ bits_in_text text.now }
 {
     let colon = length_before(text, b':');
@@ -195,7 +195,7 @@ pub(crate) fn bits_in(text: &[u8]) -> Option<Bits>
 }
 
 /// The bits that hex digits spell.
-#[tactic(auto, unfolding(crate::specs::ScriptValues::hex_bits))]
+#[tactic(auto, unfolding(crate::specs::StatedValues::hex_bits))]
 fn hex_bits(digits: &[u8]) -> Option<Bits>
     ensures { result ≡ hex_bits digits.now }
 {

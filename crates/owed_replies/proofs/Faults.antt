@@ -1,9 +1,11 @@
 -- Lemmas on the one fault that a bad file has, and its place.
-use Rattle.cdma_replay.proofs.Common.{◌≡◌, ◌≢◌, ℕ, ◌+◌, ◌-◌, ◌*◌, ◌<◌, ◌≤◌, ◌++◌, min, List, length, refl, ap, subst, arith, inl, inr}
-use Rattle.cdma_replay.proofs.Common.{length-append, Option, None, Some, IfSome, Ok, Err, flat_map, Consumes, Sample, FileFault, Short}
-use Rattle.cdma_replay.proofs.Common.{Extra, ReadFault, TooFew, Header, CutsShort, IsLawfulHeader, Opens, Reading, RunsOn, header_spelling}
-use Rattle.cdma_replay.proofs.Common.{next_place, opening, sample_len, sample_spelling, width_of, opening-spelled, length-header_spelling}
-use Rattle.cdma_replay.proofs.Common.{length-samples, sample_len-mono, append_assoc, ◌∙◌, IsFaultIn, IsRestFault, PassesSamples}
+use Rattle.owed_replies.proofs.Common.{◌≡◌, ◌≢◌, ℕ, ◌+◌, ◌-◌, ◌*◌, ◌≤◌, ◌++◌, min, List, length, refl, ap, subst, arith, inl, inr}
+use Rattle.owed_replies.proofs.Common.{length-append, Option, None, Some, IfSome, Ok, Err, flat_map, Consumes, Sample, FileFault, Short}
+use Rattle.owed_replies.proofs.Common.{Extra, ReadFault, TooFew, Header, Opens, Reading, header_spelling, opening, sample_len}
+use Rattle.owed_replies.proofs.Common.{sample_spelling, width_of, opening-spelled, length-header_spelling, length-samples, sample_len-mono}
+use Rattle.owed_replies.proofs.Common.{append_assoc, ◌∙◌, IsFaultIn, IsRestFault, PassesSamples}
+use Rattle.std.proofs.Common.{◌<◌}
+use Rattle.cdma_io.specs.SampleFile.{CutsShort, IsLawfulHeader, RunsOn, next_place}
 
 -- opening the file answers it
 pub fault_of_opening : (rest : Option (List ℕ)) (span : ℕ) (e : FileFault) →

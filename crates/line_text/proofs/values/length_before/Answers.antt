@@ -1,7 +1,7 @@
 -- Why `length_before` of `values` keeps its contract.
-use Rattle.cell_script.proofs.Common.{◌∙◌, arith}
-use Rattle.cell_script.proofs.ScriptTexts.{mark_found, mark_later, mark_missing}
-use Rattle.cell_script.proofs.values.length_before.Goals as goal
+use Rattle.std.proofs.Common.{◌∙◌, arith}
+use Rattle.line_text.proofs.StatedTexts.{mark_found, mark_later, mark_missing}
+use Rattle.line_text.proofs.values.length_before.Goals as goal
 
 pub returns-then-byte-mark-clause-value : goal.returns-then-byte-mark-clause-value
 returns-then-byte-mark-clause-value c =

@@ -1,7 +1,8 @@
 -- Why `is_clear_from` of `values` keeps its contract.
-use Rattle.cell_script.proofs.Common.{false, ◌∙◌, arith, get_or_from_slice_get}
-use Rattle.cell_script.proofs.ScriptTexts.{clear_bit, set_bit}
-use Rattle.cell_script.proofs.values.is_clear_from.Goals as goal
+use Rattle.std.proofs.Common.{false, ◌∙◌, arith}
+use Rattle.std.proofs.lemmas.Option.{get_or_from_slice_get}
+use Rattle.line_text.proofs.StatedTexts.{clear_bit, set_bit}
+use Rattle.line_text.proofs.values.is_clear_from.Goals as goal
 
 pub returns-then-get : goal.returns-then-get
 returns-then-get c =

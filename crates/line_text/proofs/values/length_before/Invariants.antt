@@ -1,6 +1,7 @@
 -- What each pass of the loops in `length_before` of `values` keeps, and why they end.
-use Rattle.cell_script.proofs.Common.{◌≡◌, ◌+◌, drop, length_before}
-use Rattle.cell_script.proofs.values.length_before.Given as goal
+use Rattle.std.proofs.Common.{◌≡◌, ◌+◌, drop}
+use Rattle.line_text.specs.StatedValues.{length_before}
+use Rattle.line_text.proofs.values.length_before.Given as goal
 
 abbrev pub invariant-loop-byte : goal.invariant-loop-byte
 invariant-loop-byte l = record {

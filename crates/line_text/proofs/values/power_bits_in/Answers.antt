@@ -1,7 +1,8 @@
 -- Why `power_bits_in` of `values` keeps its contract.
-use Rattle.cell_script.proofs.Common.{sym, ◌∙◌, arith, length-set}
-use Rattle.cell_script.proofs.ScriptTexts.{digit_missing, digit_read, digits_read, not_sixteen, sixteen}
-use Rattle.cell_script.proofs.values.power_bits_in.Goals as goal
+use Rattle.std.proofs.Common.{sym, ◌∙◌, arith}
+use Rattle.std.proofs.lemmas.List.{length-set}
+use Rattle.line_text.proofs.StatedTexts.{digit_missing, digit_read, digits_read, not_sixteen, sixteen}
+use Rattle.line_text.proofs.values.power_bits_in.Goals as goal
 
 pub returns-then-text-ne16 : goal.returns-then-text-ne16
 returns-then-text-ne16 c = sym (not_sixteen c.args.text.now c.if-text-ne16.true)

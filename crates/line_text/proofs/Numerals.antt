@@ -1,11 +1,20 @@
 -- A number has one spelling in a script: the one that is printed.
-use Rattle.cell_script.proofs.Common.{◌≡◌, ℕ, zero, suc, ◌+◌, ◌*◌, ◌-◌, ◌^◌, ◌<◌, ◌≤◌, ◌==◌, Bool, true, false, cond, not, List, [], ◌∷◌}
-use Rattle.cell_script.proofs.Common.{length, get_or, refl, sym, ap, subst, ◌∙◌, arith, rules, Option, None, Some, decimal, ℤ, pos, negsuc}
-use Rattle.cell_script.proofs.Common.{FitsSigned, codes, nat_le, nat_lt, option_and_then, ◌↔◌, signed_decimal, w16, is_ascii_digit}
-use Rattle.cell_script.proofs.Common.{all_ascii_digits, cond-true, cond-false, eq-eqb, eqb-true, false≢true, le-leb, leb-true, ltb-true}
-use Rattle.cell_script.proofs.Common.{ltb-false, not-true, and_parts, eqb-suc-zero, IsNumeralModel, numerals_by_fold, decimal-digits_value}
-use Rattle.cell_script.proofs.Common.{digits_decimal, digits_value-decimal, decimal_nonempty, first_decimal, length-decimal-le, digits_from}
-use Rattle.cell_script.proofs.Common.{text_after, is_plain, negative, number_in, number_up_to, positive, signed_behind, signed_in, up_to}
+use Rattle.std.proofs.Common.{◌≡◌, ℕ, zero, suc, ◌+◌, ◌*◌, ◌-◌, ◌^◌, ◌<◌, ◌≤◌, ◌==◌, Bool, true, false, cond, not, List, [], ◌∷◌, length}
+use Rattle.std.proofs.Common.{get_or, refl, sym, ap, subst, ◌∙◌, arith, rules, Option, None, Some, decimal, ℤ}
+use Rattle.std.specs.Prelude.{pos, negsuc, FitsSigned, codes, nat_le, nat_lt, option_and_then, ◌↔◌}
+use Rattle.std.specs.Fmt.{signed_decimal}
+use Rattle.std.specs.Int.{w16}
+use Rattle.std.specs.Char.{is_ascii_digit}
+use Rattle.std.specs.Str.{all_ascii_digits}
+use Rattle.std.proofs.lemmas.Bool.{cond-true, cond-false, eq-eqb, eqb-true, false≢true, le-leb, leb-true, ltb-true, ltb-false, not-true}
+use Rattle.std.proofs.lemmas.Bool.{and_parts}
+use Rattle.std.proofs.Math.Dec.{eqb-suc-zero}
+use Rattle.std.proofs.lemmas.Str.Parse.{IsNumeralModel, numerals_by_fold}
+use Rattle.std.proofs.lemmas.Fmt.{decimal-digits_value, digits_decimal, digits_value-decimal, decimal_nonempty, first_decimal}
+use Rattle.std.proofs.lemmas.Fmt.{length-decimal-le}
+use Rattle.chip_core.specs.Decimals.{digits_from}
+use Rattle.line_text.specs.StatedValues.{text_after, is_plain, negative, number_in, number_up_to, positive, signed_behind, signed_in}
+use Rattle.line_text.specs.StatedValues.{up_to}
 
 -- the value of digits after a number
 abbrev pub read_on : ℕ → List ℕ → ℕ

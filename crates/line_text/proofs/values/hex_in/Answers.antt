@@ -1,7 +1,7 @@
 -- Why `hex_in` of `values` keeps its contract.
-use Rattle.cell_script.proofs.Common.{sym, ◌∙◌, arith}
-use Rattle.cell_script.proofs.ScriptTexts.{hex_missing, hex_digit_more, hex_read, hex_read_all, few_hex_digits}
-use Rattle.cell_script.proofs.values.hex_in.Goals as goal
+use Rattle.std.proofs.Common.{sym, ◌∙◌, arith}
+use Rattle.line_text.proofs.StatedTexts.{hex_missing, hex_digit_more, hex_read, hex_read_all, few_hex_digits}
+use Rattle.line_text.proofs.values.hex_in.Goals as goal
 
 pub returns-in_err-hex_digit-clause-value : goal.returns-in_err-hex_digit-clause-value
 returns-in_err-hex_digit-clause-value c =

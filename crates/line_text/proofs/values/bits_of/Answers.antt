@@ -1,7 +1,8 @@
 -- Why `bits_of` of `values` keeps its contract.
-use Rattle.cell_script.proofs.Common.{ℕ, ◌++◌, ap, ◌∙◌, binary}
-use Rattle.cell_script.proofs.ScriptTexts.{octet_added, octet_longer}
-use Rattle.cell_script.proofs.values.bits_of.Goals as goal
+use Rattle.std.proofs.Common.{ℕ, ◌++◌, ap, ◌∙◌}
+use Rattle.chip_core.specs.Bits.{binary}
+use Rattle.line_text.proofs.StatedTexts.{octet_added, octet_longer}
+use Rattle.line_text.proofs.values.bits_of.Goals as goal
 
 pub loop-octet-preserved : goal.loop-octet-preserved
 loop-octet-preserved c =

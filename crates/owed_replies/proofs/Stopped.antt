@@ -1,8 +1,9 @@
 -- Lemmas on runs over a sample file that end by a fault, before its first samples were read or after them.
-use Rattle.cdma_replay.proofs.Common.{◌≡◌, ◌≢◌, ℕ, ◌≤◌, List, [], Option, IfSome, Result, Err, inl, refl, sym, subst, arith, Appends-nil}
-use Rattle.cdma_replay.proofs.Common.{ConsumesAtMost, FileFault, ReadFault, KeptTap, Reception, Status, file_status, IsCut, IsLong}
-use Rattle.cdma_replay.proofs.Common.{IsUnopened, TakesFew, WritesAll, WritesFirst, IsFault, IsFaultIn, IsOfFiles, WritesNoMore}
-use Rattle.cdma_replay.proofs.Broken.{nothing_all, nothing_first}
+use Rattle.owed_replies.proofs.Common.{◌≡◌, ◌≢◌, ℕ, ◌≤◌, List, [], Option, IfSome, Result, Err, inl, refl, sym, subst, arith, Appends-nil}
+use Rattle.owed_replies.proofs.Common.{ConsumesAtMost, FileFault, ReadFault, KeptTap, Reception, Status, file_status, IsCut, IsLong}
+use Rattle.owed_replies.proofs.Common.{IsFault, IsFaultIn, IsOfFiles, WritesNoMore}
+use Rattle.owed_replies.specs.Broken.{IsUnopened, TakesFew, WritesAll, WritesFirst}
+use Rattle.owed_replies.proofs.CutFiles.{nothing_all, nothing_first}
 use Rattle.cdma_io.specs.Outside.{Rose}
 use Rattle.owed_replies.proofs.Ends.{by_file_status, fault_no_end}
 use Rattle.owed_replies.proofs.Files.{blamed, unsearchable}

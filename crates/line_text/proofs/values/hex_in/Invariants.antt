@@ -1,6 +1,7 @@
 -- What each pass of the loops in `hex_in` of `values` keeps, and why they end.
-use Rattle.cell_script.proofs.Common.{◌≡◌, ◌<◌, ◌≤◌, ◌^◌, drop, length, hex_from}
-use Rattle.cell_script.proofs.values.hex_in.Given as goal
+use Rattle.std.proofs.Common.{◌≡◌, ◌<◌, ◌≤◌, ◌^◌, drop, length}
+use Rattle.line_text.specs.StatedValues.{hex_from}
+use Rattle.line_text.proofs.values.hex_in.Given as goal
 
 abbrev pub invariant-loop-digit : goal.invariant-loop-digit
 invariant-loop-digit l = record {

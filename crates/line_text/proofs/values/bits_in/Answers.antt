@@ -1,7 +1,9 @@
 -- Why `bits_in` of `values` keeps its contract.
-use Rattle.cell_script.proofs.Common.{bits_in_text, arith, ints}
+use Rattle.line_text.specs.StatedValues.{bits_in_text}
+use Rattle.std.proofs.Common.{arith}
+use Rattle.std.proofs.lemmas.Int.{ints}
 use Rattle.std.proofs.lemmas.Grind.{common_steps}
-use Rattle.cell_script.proofs.values.bits_in.Goals as goal
+use Rattle.line_text.proofs.values.bits_in.Goals as goal
 
 pub returns : goal.returns
 unfolding bits_in_text
