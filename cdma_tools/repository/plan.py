@@ -13,6 +13,8 @@ from cdma_tools.repository.crate_list import all_below, crates_below
 PARTS = ("src", "specs", "proofs")
 # Of a check, in MB: the least, and that of a line of .rt, of .antt, and of .rt in the crates below.
 LEAST, OF_CODE, OF_PROOF, OF_BELOW = 1_000.0, 1.0, 0.2, 0.08
+# Of the time of a check, in that of a line of .rt: what any takes, and a line of .antt. So say the times of 25 crates.
+TIME_OF_ANY, TIME_OF_PROOF = 50.0, 0.04
 
 
 @dataclass
@@ -64,12 +66,17 @@ def planned(crates: dict[str, Crate], name: str) -> float:
     return LEAST + OF_CODE * crate.code + OF_PROOF * crate.proof + OF_BELOW * below
 
 
-def work_ahead(crates: dict[str, Crate], names: Collection[str]) -> dict[str, int]:
-    """Of each crate the lines of the longest chain from it upwards, each of which stands on the one before it."""
-    found: dict[str, int] = {}
+def time_of(crate: Crate) -> float:
+    """The time that a check of a crate takes, in that of a line of .rt."""
+    return TIME_OF_ANY + crate.code + TIME_OF_PROOF * crate.proof
+
+
+def work_ahead(crates: dict[str, Crate], names: Collection[str]) -> dict[str, float]:
+    """Of each crate the time of the longest chain from it upwards, each of which stands on the one before it."""
+    found: dict[str, float] = {}
     for name in sorted(names, key=lambda it: len(all_below(stands_on(crates), it)), reverse=True):
         above = [found[it] for it in found if name in crates[it].below]
-        found[name] = crates[name].code + crates[name].proof + max(above, default=0)
+        found[name] = time_of(crates[name]) + max(above, default=0.0)
     return found
 
 

@@ -293,13 +293,13 @@ class Planning(unittest.TestCase):
 
     def test_work_ahead(self) -> None:
         crates = {
-            "core": Crate("core", [], 10, 1), "wide": Crate("wide", ["core"], 300),
-            "short": Crate("short", ["core"], 10), "long": Crate("long", ["short"], 0, 400),
+            "core": Crate("core", [], 50), "wide": Crate("wide", ["core"], 300),
+            "short": Crate("short", ["core"], 10), "long": Crate("long", ["short"], 0, 10_000),
             "top": Crate("top", ["wide", "long"], 5), "apart": Crate("apart", ["core"], 9_999),
         }  # fmt: skip
         self.assertEqual(
             work_ahead(crates, {"core", "wide", "short", "long", "top"}),
-            {"top": 5, "wide": 305, "long": 405, "short": 415, "core": 426},
+            {"top": 55.0, "wide": 405.0, "long": 505.0, "short": 565.0, "core": 665.0},
         )
 
     def test_free_memory(self) -> None:
