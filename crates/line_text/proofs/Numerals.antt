@@ -1,4 +1,4 @@
--- A number has one spelling in a script: the one that is printed.
+-- A number has one spelling: the one that is printed.
 use Rattle.std.proofs.Common.{◌≡◌, ℕ, zero, suc, ◌+◌, ◌*◌, ◌-◌, ◌^◌, ◌<◌, ◌≤◌, ◌==◌, Bool, true, false, cond, not, List, [], ◌∷◌, length}
 use Rattle.std.proofs.Common.{get_or, refl, sym, ap, subst, ◌∙◌, arith, rules, Option, None, Some, decimal, ℤ}
 use Rattle.std.specs.Prelude.{pos, negsuc, FitsSigned, codes, nat_le, nat_lt, option_and_then, ◌↔◌}

@@ -1,4 +1,4 @@
--- Lemmas on the texts of values in a script: what each step of a loop over a text reads.
+-- Lemmas on texts that state values: what each step of a loop over a text reads.
 use Rattle.std.proofs.Common.{◌≡◌, ◌≢◌, ℕ, suc, ◌+◌, ◌*◌, ◌^◌, ◌<◌, ◌≤◌, ◌==◌, Bool, true, false, List, [], ◌∷◌, ◌++◌, length, get_or}
 use Rattle.std.proofs.Common.{drop, take, refl, sym, ap, ◌∙◌, arith, append_assoc, length-append, None, Some}
 use Rattle.std.specs.Prelude.{flat_map, option_and_then}

@@ -1,5 +1,5 @@
--- The texts of values in a script: numbers in decimal, states of the long code in hex digits, and
--- lists of bits.
+-- The values that texts state: numbers in decimal, states of the long code and serial numbers in
+-- hex digits, and lists of bits.
 use Rattle.std.specs.Prelude.{ℕ, suc, ◌+◌, ◌*◌, ◌^◌, ◌==◌, nat_lt, nat_le, nat_eq, Bool, true}
 use Rattle.std.specs.Prelude.{false, if◌then◌else◌, not, List, [], ◌∷◌, ◌++◌, length, take, drop}
 use Rattle.std.specs.Prelude.{get_or, codes, flat_map, Option, None, Some, Result, Ok, Err, ℤ, pos}

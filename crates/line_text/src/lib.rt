@@ -2,7 +2,7 @@
 //!
 //! A [`Text`] holds one line of at most 1,024 ASCII bytes: numbers in decimal, bits with their
 //! count, and states of the long code and serial numbers in hex digits. The functions whose names
-//! end in `_in` read such a value from its text.
+//! end in `_in`, and [`number_up_to`], read such a value from its text.
 #![tactic(auto)]
 
 mod text;

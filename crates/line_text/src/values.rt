@@ -1,4 +1,4 @@
-//! The values that the fields of a line state.
+//! The values that texts state: numbers, states of the long code, serial numbers and lists of bits.
 
 ghost use Rattle.std.specs.Prelude.{◌≡◌, ◌≤◌, ◌<◌, ◌+◌, ◌*◌, ◌-◌, ◌^◌, ℕ, true, length, take, drop};
 ghost use Rattle.std.specs.Prelude.{codes, Some, None, IfSome, unsigned_abs, flat_map};
@@ -39,7 +39,8 @@ pub fn begins_with(text: &[u8], front: &[u8]) -> bool
     text.strip_prefix(front).is_some()
 }
 
-/// The number that a text spells in decimal without leading zeros, if it is at most `most`.
+/// The number that a text spells in decimal without leading zeros; `None` where it spells none, or
+/// one above `most`.
 #[tactic(auto, unfolding(crate::specs::StatedValues::number_up_to))]
 pub fn number_up_to(text: &[u8], most: u64) -> Option<u64>
     ensures value { result ≡ number_up_to most text.now }
@@ -76,7 +77,8 @@ fn is_plain(text: &[u8]) -> bool
     text[0] != b'0'
 }
 
-/// The number with a sign that a text spells, from -32,768 to 32,767; `-0` isn't one.
+/// The number with a sign that a text spells, from -32,768 to 32,767, as `number_up_to` reads its
+/// digits; `None` where it spells none, and `-0` isn't one.
 #[tactic(auto, unfolding(crate::specs::StatedValues::signed_in))]
 pub fn signed_in(text: &[u8]) -> Option<i64>
     ensures value { result ≡ signed_in text.now }
@@ -100,7 +102,8 @@ fn negative(size: u64) -> Option<i64>
     Some(-(size as i64))
 }
 
-/// The state of the long code that eleven hex digits spell.
+/// The state of the long code (TIA/EIA-95-B, 7.1.3.1.10) that eleven hex digits of either case
+/// spell; `None` where the text isn't such digits, and where they spell 0 or more than 42 bits.
 #[tactic(auto, unfolding(crate::specs::StatedValues::state_in))]
 pub fn state_in(text: &[u8]) -> Option<u64>
     ensures value { result ≡ state_in text.now }
@@ -113,7 +116,8 @@ pub fn state_in(text: &[u8]) -> Option<u64>
     Some(state.value())
 }
 
-/// The electronic serial number that eight hex digits spell.
+/// The electronic serial number that eight hex digits of either case spell; `None` where the text
+/// isn't such digits.
 #[tactic(auto, unfolding(crate::specs::StatedValues::serial_number_in))]
 pub fn serial_number_in(text: &[u8]) -> Option<u64>
     ensures value { result ≡ serial_number_in text.now }
@@ -168,7 +172,8 @@ fn binary_digit(byte: u8) -> Option<bool>
     }
 }
 
-/// The bits of sixteen digits 0 or 1.
+/// The power control bits that sixteen digits 0 or 1 are, in order; `None` where the text isn't
+/// such digits.
 pub fn power_bits_in(text: &[u8]) -> Option<PowerBits>
     ensures { result ≡ power_bits_in text.now }
 {
@@ -183,7 +188,8 @@ pub fn power_bits_in(text: &[u8]) -> Option<PowerBits>
 }
 
 /// The bits of a text `N:HEX`: N of them, at most 1,184, in two hex digits of either case for each
-/// octet of them, padded at the end with zero bits.
+/// octet of them, padded at the end with zero bits. `None` where a text isn't of this form, has
+/// more or fewer octets than N bits need, or pads them with other bits.
 #[tactic(auto, unfolding(crate::specs::StatedValues::bits_in_text))]
 pub fn bits_in(text: &[u8]) -> Option<Bits>
     ensures { result ≡ bits_in_text text.now }
