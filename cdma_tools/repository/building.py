@@ -81,9 +81,9 @@ def free_memory() -> float:
 
 
 def jobs_for(memory: float, room: Room, others: int) -> int:
-    """The jobs of a crate that is planned with so much memory: one, and processors that no other one waits for."""
+    """The jobs of a crate that is planned with so much memory: one, and as many more as leave each other one its own."""
     held = 1 + int((room.memory / memory - 1) / OF_JOB)
-    return max(1, min(room.processors // others, held, MOST_JOBS))
+    return max(1, min(room.processors - others, held, MOST_JOBS))
 
 
 def log_of(root: str, name: str) -> str:
@@ -137,8 +137,8 @@ class Builder:
         self.root, self.asked, self.room, self.tell = root, name, room, tell
         self.below = stands_on(crates)
         names = {name, *all_below(self.below, name)}
-        ahead = work_ahead(crates, names)
-        self.left = sorted(names, key=lambda it: (-ahead[it], it))  # that wasn't begun, the longest work first
+        self.ahead = work_ahead(crates, names)
+        self.left = sorted(names, key=lambda it: (-self.ahead[it], it))  # that wasn't begun, the longest work first
         self.memory = {it: planned(crates, it) for it in names}
         self.built: set[str] = set()
         self.running: list[Run] = []
@@ -175,7 +175,12 @@ class Builder:
             room, memory = self.unused(), self.memory[name]
             if room.processors > 0 and (memory <= room.memory or not self.running):
                 most = JOBS_OF_PROGRAM if is_program(self.root, name) else MOST_JOBS
-                self.begin(name, min(jobs_for(memory, room, len(ready) - at), most))
+                jobs = jobs_for(memory, room, len(ready) - at - 1) if self.is_longest(name) else 1
+                self.begin(name, min(jobs, most))
+
+    def is_longest(self, name: str) -> bool:
+        """Whether no longer work lies ahead of a crate that isn't built: what is waited for in the end."""
+        return all(self.ahead[it] <= self.ahead[name] for it in [*self.left, *(run.name for run in self.running)])
 
     def free_place(self) -> str:
         """A place for a run: the checkout where it is free, else a copy that is, else a new one."""

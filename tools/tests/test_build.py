@@ -284,10 +284,10 @@ class Planning(unittest.TestCase):
     """Jobs and chains of work, by hand."""
 
     def test_jobs(self) -> None:
-        """A crate of 1,000 MB: another job takes 600 more, and each processor that others wait for is left to them."""
+        """A crate of 1,000 MB: another job takes 600 more, and each other crate that waits has a processor left."""
         for memory, processors, others, jobs in (
-            (1_000, 4, 1, 1), (1_599, 4, 1, 1), (1_600, 4, 1, 2), (2_800, 4, 1, 4), (9_000, 4, 1, 4), (9_000, 4, 2, 2),
-            (9_000, 4, 3, 1), (9_000, 4, 9, 1), (90_000, 64, 1, 8), (500, 4, 1, 1),
+            (1_000, 4, 0, 1), (1_599, 4, 0, 1), (1_600, 4, 0, 2), (2_800, 4, 0, 4), (9_000, 4, 0, 4), (9_000, 4, 1, 3),
+            (9_000, 4, 2, 2), (9_000, 4, 9, 1), (90_000, 64, 0, 8), (500, 4, 0, 1),
         ):  # fmt: skip
             self.assertEqual(jobs_for(1_000, Room(processors, memory), others), jobs, (memory, processors, others))
 
