@@ -28,7 +28,7 @@ from cdma_tools.workers import noted_interrupts
 
 OF_JOB = 0.6  # of what a crate is planned with, each job of its run but the first takes so much more
 MOST_JOBS = 8  # of one run: `rt` itself chooses no more
-JOBS_OF_PROGRAM = 2  # with which its build is quickest: four cost twice the processor time, and last longer
+JOBS_OF_PROGRAM = 2  # of its build: by three or four they end at different times, and it lasts longer
 OF_FREE = 0.85  # of the memory that is free, so much is planned with, as `rt ci` does
 LAST_LINES = 12  # of the log of a run that failed
 SECONDS_TO_END = 10.0
@@ -81,7 +81,7 @@ def free_memory() -> float:
 
 
 def jobs_for(memory: float, room: Room, others: int) -> int:
-    """The jobs of a crate that is planned with so much memory: one, and as many more as leave each other one its own."""
+    """The jobs of a crate that is planned with so much memory: one, and as many more as leave one to each other."""
     held = 1 + int((room.memory / memory - 1) / OF_JOB)
     return max(1, min(room.processors - others, held, MOST_JOBS))
 
