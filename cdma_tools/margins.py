@@ -1,14 +1,17 @@
 """How much noise the channels of a script's cell bear, whatever the noise is (docs/LINK.md, "A link with noise").
 
 Where each part of each sample differs by at most e from what the cell sends, a channel of gain g beside a pilot of gain
-g0, over a link of factor re + j im, keeps the sign of each of its symbols if
+g0, over a link of factor h, keeps the sign of each of its symbols if for each unit u of 1, j, -1 and -j, with
+w = g0 h - e u,
 
-    (g + g0) e (|re| + |im|) + 2 e^2  <  g g0 (re^2 + im^2)
+    e max(|Re w|, |Im w|)  <  g Re(w conj(h))
 
-The greatest such e is the channel's margin, in units of a sample's parts. It is a bound for the worst noise, and no
+That says what sixteen products say, of which each moves the pilot's level and the channel's by e along an axis. The
+greatest such e is the channel's margin, in units of a sample's parts. It is a bound for the worst noise, and no
 statistics: white noise of that standard deviation is borne far better.
 """
 
+import bisect
 import dataclasses
 import math
 from collections.abc import Collection
@@ -31,17 +34,24 @@ class Margin:
     of_signal: float
 
 
+def is_borne(re: int, im: int, pilot: int, gain: int, e: int) -> bool:
+    """Whether a channel of this gain, beside a pilot over a link of this factor, bears noise of the size e."""
+    for x, y in ((1, 0), (0, 1), (-1, 0), (0, -1)):
+        real, imaginary = pilot * re - e * x, pilot * im - e * y
+        if e * max(abs(real), abs(imaginary)) >= gain * (real * re + imaginary * im):
+            return False
+    return True
+
+
 def margin_of(script: Script, gain: int) -> int | None:
     """The greatest noise, in units of a sample's parts, that a channel of this gain bears; None where it doesn't bear even
     none, as where its gain is 0."""
-    pilot, factor = script.gains.get(PILOT_ROW, 0), script.link
-    real, imaginary = abs(int(factor.real)), abs(int(factor.imag))
-    slope = (gain + pilot) * (real + imaginary)
-    room = gain * pilot * (real * real + imaginary * imaginary) - 1
-    if room < 0:
+    pilot, re, im = script.gains.get(PILOT_ROW, 0), int(script.link.real), int(script.link.imag)
+    if not is_borne(re, im, pilot, gain, 0):
         return None
-    # The greatest e with 2 e^2 + slope e <= room, in whole numbers.
-    return (math.isqrt(slope * slope + 8 * room) - slope) // 4
+    # What moves one level to 0 isn't borne, and what is borne is all that is less than the margin or equal to it.
+    most = range(gain * (abs(re) + abs(im)))
+    return bisect.bisect_left(most, True, key=lambda e: not is_borne(re, im, pilot, gain, e + 1))
 
 
 def name_of(script: Script, row: int) -> str:

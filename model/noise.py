@@ -11,11 +11,17 @@ from model.script import PILOT_ROW, SYNC_ROW, Cell
 from model.words import read_words
 
 
+UNITS = ((1, 0), (0, 1), (-1, 0), (0, -1))
+
+
 def bears(cell: Cell, gain: int, noise: int) -> bool:
-    """Whether no noise of this size, in either part of each sample, turns a symbol of a channel of this gain."""
-    link = abs(cell.re) + abs(cell.im)
-    power = cell.re * cell.re + cell.im * cell.im
-    return (gain + cell.pilot_gain) * noise * link + 2 * noise * noise < gain * cell.pilot_gain * power
+    """Whether no noise of this size, in either part of each sample, turns a symbol of a channel of this gain: moved along
+    any axis each, the pilot's level and the channel's have a product above 0."""
+
+    def moved(by: int) -> list[tuple[int, int]]:
+        return [(by * cell.re + noise * x, by * cell.im + noise * y) for x, y in UNITS]
+
+    return all(p * x + q * y > 0 for p, q in moved(cell.pilot_gain) for x, y in moved(gain))
 
 
 def margin(cell: Cell, gain: int) -> int | None:

@@ -37,12 +37,12 @@ def script_of(re: int, im: int, gains: dict[int, int]) -> Script:
 
 
 class Worked(unittest.TestCase):
-    """The inequality by hand: (g + g0) e (|re| + |im|) + 2 e^2 < g g0 (re^2 + im^2)."""
+    """Margins by hand: over a link along one axis what is less than the channel's own amplitude, and else by products."""
 
-    # re, im, the pilot's gain, the channel's, and the margin. With -3 j, 100 and 30: 130 * 3 * 54 + 2 * 54^2 = 26,892 and
-    # 130 * 3 * 55 + 2 * 55^2 = 27,500, where the other side is 30 * 100 * 9 = 27,000. With 3, 100 and 100 the sides are
-    # 65,400 + 23,762 = 89,162, 66,000 + 24,200 = 90,200 and 90,000. With 1, 1 and 1: 2 e + 2 e^2 < 1 for 0 alone.
-    VALUES = [(0, -3, 100, 30, 54), (0, -3, 100, 60, 83), (3, 0, 100, 100, 109), (1, 0, 1, 1, 0), (-2, 1, 200, 60, 65)]
+    # re, im, the pilot's gain, the channel's, and the margin. With -2 + j, 200 and 60 noise of 131 takes the pilot's level
+    # from -400 + 200 j to -400 + 69 j and the channel's from -120 + 60 j to 11 + 60 j, whose product has the real part
+    # -4,400 + 4,140; of 130 it leaves -400 + 70 j and 10 + 60 j, and -4,000 + 4,200.
+    VALUES = [(0, -3, 100, 30, 89), (0, -3, 100, 60, 179), (3, 0, 100, 100, 299), (1, 0, 1, 1, 0), (-2, 1, 200, 60, 130)]
 
     def test_values_by_hand(self) -> None:
         for re, im, pilot, gain, wanted in self.VALUES:
@@ -67,7 +67,7 @@ class Worked(unittest.TestCase):
 
     def test_a_channel_that_is_missing_is_refused(self) -> None:
         script = script_of(0, -3, {0: 100, SYNC_ROW: 30})
-        self.assertEqual([one.margin for one in margins(script)], [54])
+        self.assertEqual([one.margin for one in margins(script)], [89])
         with self.assertRaisesRegex(Refused, "row 7"):
             margins(script, [SYNC_ROW, 7])
         with self.assertRaisesRegex(Refused, "nothing but a pilot"):
@@ -85,10 +85,10 @@ class Tool(unittest.TestCase):
         status, wrote, said = self.told(os.path.join(EXAMPLES, SECOND))
         self.assertEqual((status, said), (0, ""))
         rows = [line.split() for line in wrote.splitlines()]
-        # 54 of 90, and of sqrt(100^2 + 30^2 + 60^2) * 3 = 361.2; 83 of 180
-        self.assertEqual(rows[1], ["sync", "30", "90.0", "54", "0.600", "0.149"])
-        self.assertEqual(rows[2], ["paging", "1", "60", "180.0", "83", "0.461", "0.230"])
-        self.assertEqual(rows[3], ["all", "of", "these", "54"])
+        # 89 of 90, and of sqrt(100^2 + 30^2 + 60^2) * 3 = 361.2; 179 of 180
+        self.assertEqual(rows[1], ["sync", "30", "90.0", "89", "0.989", "0.246"])
+        self.assertEqual(rows[2], ["paging", "1", "60", "180.0", "179", "0.994", "0.496"])
+        self.assertEqual(rows[3], ["all", "of", "these", "89"])
 
     def test_a_command_names_the_channels(self) -> None:
         script = example(CALL)
@@ -127,7 +127,7 @@ class Tool(unittest.TestCase):
 
 
 class Beyond(unittest.TestCase):
-    """The bound isn't idle: noise of a small multiple of the margin, against the channel's chips, loses what is sent."""
+    """The bound isn't idle: noise of one more than the margin, against the channel's chips, loses what is sent."""
 
     def lines(self, size: int) -> list[str]:
         """What the model hears of the example's first 0.4 seconds with noise of a size against the sync channel."""
@@ -138,11 +138,11 @@ class Beyond(unittest.TestCase):
         outcome = run(["follow"], lambda: data)
         return [line for line in outcome.text().decode().splitlines() if line.startswith("sync ")]
 
-    def test_at_the_margin_the_message_is_heard_and_at_twice_it_is_lost(self) -> None:
+    def test_at_the_margin_the_message_is_heard_and_one_beyond_it_is_lost(self) -> None:
         heard = self.lines(0)
         self.assertEqual(len(heard), 1)
-        self.assertEqual(self.lines(54), heard)
-        self.assertEqual(self.lines(108), [])
+        self.assertEqual(self.lines(89), heard)
+        self.assertEqual(self.lines(90), [])
 
 
 if __name__ == "__main__":

@@ -1,5 +1,6 @@
 //! Laws of the definitions: each function does nothing, and its contract is the law.
 
+ghost use Rattle.clean_signal.specs.BoundedNoise.{BearsAllWithin, BearsBelowItsAmplitude};
 ghost use Rattle.clean_signal.specs.BoundedNoise.{LessIsBorne, MarginsAreOne, NoNoiseIsBorne};
 ghost use Rattle.clean_signal.specs.BoundedNoise.{NoisyChannelsHaveSentSigns};
 ghost use Rattle.clean_signal.specs.BoundedNoise.{NoisyCodewordsAreTheOnlyBest, OtherCellsAreNoise};
@@ -11,6 +12,10 @@ ghost use Rattle.clean_signal.specs.ChannelLaws.{StrengthsArePositive};
 ghost use Rattle.clean_signal.specs.NearFiles.{NearWithinNoneIsSame, NoiseAddsUp};
 ghost use Rattle.clean_signal.specs.NearFiles.{LouderLinksAreLouder, OtherPathsAreNoise};
 ghost use Rattle.clean_signal.specs.NearFiles.{RoundingIsNoise};
+ghost use Rattle.clean_signal.specs.NoisySearch.{FoundThroughLess, NearFilesAreFound};
+ghost use Rattle.clean_signal.specs.NoisySearch.{LoudPilotsAreFoundFirst, LoudPilotsAreGreatest};
+ghost use Rattle.clean_signal.specs.NoisySearch.{LouderPilotsAreFound, LouderPlansAreFiles};
+ghost use Rattle.clean_signal.specs.NoisySearch.{SearchBearsNoise};
 
 /// On a clean link the soft values of each frame in the file are `4 |h|^2 g0 g V C` times the signs
 /// of the symbols that the channel sends in it, where h is the link, g0 and g are the gains of the
@@ -32,17 +37,22 @@ pub fn channel_codewords_are_the_only_best()
     ensures channel { ChannelCodewordsAreTheOnlyBest }
 {}
 
-/// A channel bears noise of the size e where an inequality of the gains, the link and e holds, by
-/// which no noise turns the sign of one of its symbols that changes each sample of a file by at
-/// most e in I and by at most e in Q. A lesser noise is borne too, and so is it by a louder
-/// channel: the margin of several channels, the greatest noise that all of them bear, is that of
-/// the least gain. Noise of the size 0 is borne by each channel with a gain of a cell that can be
-/// received, and another cell, or another path, is noise of the size of its loudness.
+/// A channel bears noise of size e if sixteen inequalities of the gains, the link and e hold. Then
+/// no noise that changes each sample of a file by at most e in I and by at most e in Q turns the
+/// sign of one of the channel's symbols. The sixteen are the corners of what such noise makes of
+/// the levels of pilot and channel, so they hold everywhere between. Over a link along one axis, a
+/// channel that is no louder than the pilot bears exactly the noise below its own amplitude. A
+/// channel also bears any lesser noise, and a louder channel bears what a weaker one does: the
+/// margin of several channels, the greatest noise that all of them bear, is that of the least
+/// gain. Noise of size 0 is borne by each channel with a gain of a cell that can be received.
+/// Another cell, or another path, is noise of the size of its loudness.
 ///
-/// In such a file the soft values of each frame of a channel that bears the noise have the signs
-/// of the symbols that were sent, and none is 0. So of all codewords of the frame's span the sent
-/// one alone has the greatest score.
+/// In a file with noise that it bears, each soft value of the channel's frames has the sign of the
+/// symbol that was sent, and none is 0. So the codeword that was sent has a greater score than any
+/// other codeword of the frame's span.
 pub fn bounded_noise()
+    ensures within { BearsAllWithin }
+    ensures axis { BearsBelowItsAmplitude }
     ensures less { LessIsBorne }
     ensures least { TheLeastBearsForAll }
     ensures one { MarginsAreOne }
@@ -65,4 +75,27 @@ pub fn rounding_is_noise()
     ensures path { OtherPathsAreNoise }
     ensures louder { LouderLinksAreLouder }
     ensures rounded { RoundingIsNoise }
+{}
+
+/// A phase whose energy stands out from those of all other phases, on samples without noise, is the
+/// best phase of whatever samples differ from those by little: noise of the size e changes the
+/// absolute value of a phase's sum by at most 2 e for each sample, so the roots of two energies
+/// keep their order where they are more than 4 e apart for each sample. Of what a cell sends that
+/// can be computed from its script alone, and holds of each file with such noise.
+pub fn the_search_bears_noise()
+    ensures less { FoundThroughLess }
+    ensures search { SearchBearsNoise }
+    ensures files { NearFilesAreFound }
+{}
+
+/// Where a cell's pilot is as loud as all of its other channels together, each sample that it sends
+/// is a number of at least 0 times the link and the code's chip. So no phase has more energy than
+/// the path's own, on however many samples; and the search finds the path where that is phase 0.
+/// Where the pilot is louder than all of them, the search finds the path at any phase, from sixteen
+/// samples on: no other phase of the pilot's codes has the same sixteen chips, turned or not.
+pub fn loud_pilots_are_found()
+    ensures greatest { LoudPilotsAreGreatest }
+    ensures first { LoudPilotsAreFoundFirst }
+    ensures louder { LouderPilotsAreFound }
+    ensures file { LouderPlansAreFiles }
 {}
