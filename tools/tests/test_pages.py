@@ -178,7 +178,7 @@ class Readme(unittest.TestCase):
 
     def test_its_length(self) -> None:
         with open(os.path.join(ROOT, "README.md"), encoding="utf-8") as file:
-            self.assertLessEqual(len(file.readlines()), 150)
+            self.assertLessEqual(len(file.readlines()), 120)
 
     def test_links_name_files_and_headings_that_are_there(self) -> None:
         for page in (*PAGES, "CONTRIBUTING.md", "docs/ARCHITECTURE.md", "docs/PROOFS.md"):
