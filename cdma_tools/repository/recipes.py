@@ -168,10 +168,10 @@ def listed(recipe: Recipe, files: Mapping[str, str]) -> str:
     crates = sorted({path.split("/")[0] for path in paths})
     names = ", ".join(f"`{name}`" for name in recipe.names)
     passing = sum(PASSES_ON.search(path) is not None for path in paths)
-    more = f"{passing} more that only {'passes' if passing == 1 else 'pass'} names on"
+    more = f"{passing} more that only {'re-exports' if passing == 1 else 're-export'} names"
     within = f"{len(crates)} crate{'' if len(crates) == 1 else 's'}"
     counts = f"{len(paths) - passing} files of {within}, and {more}"
-    lines = [f"As {recipe.example} has it ({names}), {counts}:"]
+    lines = [f"Counted by {recipe.example} ({names}): {counts}:"]
     for crate in crates:
         own = ", ".join(f"`{shown(path)}`" for path in paths if path.split("/")[0] == crate)
         lines.append(f"- `{crate}`: {own}")

@@ -30,9 +30,9 @@ FILES = {
     "tap/specs/Lines.antt": "event_line (Found at') = lost_line_too at'\n",
     "tap/src/line.rt": "    text_of(lost_line, at)\n",
 }
-LOST = Recipe("the event of a lost pilot", (Variant("Event", "Lost"), Word("lost_line")))
+LOST = Recipe("a lost pilot", (Variant("Event", "Lost"), Word("lost_line")))
 LISTED = """\
-As the event of a lost pilot has it (`Event::Lost`, `lost_line`), 5 files of 2 crates, and 1 more that only passes names on:
+Counted by a lost pilot (`Event::Lost`, `lost_line`): 5 files of 2 crates, and 1 more that only re-exports names:
 - `heard`: `proofs/Common`, `specs/Alias`, `specs/Given`, `src/event.rt`, `src/make.rt`
 - `tap`: `src/line.rt`
 """
@@ -105,7 +105,7 @@ class Page(unittest.TestCase):
             with_lists("nothing\n", self.files)
 
     def test_an_event_touches_twenty_files_at_most(self) -> None:
-        self.assertRegex(listed(RECIPES["an event"], self.files), r", (1?\d|20) files of ")
+        self.assertRegex(listed(RECIPES["an event"], self.files), r": (1?\d|20) files of ")
 
 
 if __name__ == "__main__":
