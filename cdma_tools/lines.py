@@ -209,9 +209,9 @@ def records(*forms: Form) -> Form:
 COUNT = number(MOST_COUNT, text="whole number")
 OFFSET, ROW = field_of(9), field_of(8)
 BIT_TEXT = Form(check_bits, check_bits, "text N:HEX")
-AT = Field("at", COUNT, "the number of samples at which it was known")
-REST = Field("rest", BIT_TEXT, "the bits after the fields")
-BARE = Field("bits", BIT_TEXT, "the whole capsule")  # the one field that has no name in its line
+AT = Field("at", COUNT, "sample count when it was known")
+REST = Field("rest", BIT_TEXT, "bits after the fields")
+BARE = Field("bits", BIT_TEXT, "whole capsule")  # the one field that has no name in its line
 PN, SEQ = Field("pn", OFFSET, "PILOT_PN"), Field("seq", field_of(6), "CONFIG_MSG_SEQ")
 SID, NID = Field("sid", field_of(15), "SID"), Field("nid", field_of(16), "NID")
 WINDOWS = {name: Field(f"win{name}", field_of(4), f"SRCH_WIN_{name.upper()}") for name in "anr"}
@@ -285,18 +285,18 @@ TIME_FIELDS = (  # 7.7.3.3.2.17
     Field("hdm", field_of(2), "HDM_SEQ"),
 )
 SEARCH_FIELDS = (WINDOWS["a"], T_ADD, T_DROP, T_COMP, T_TDROP)
-MOMENT = Field("time", COUNT, "its time in units of 80 ms")
+MOMENT = Field("time", COUNT, "time in units of 80 ms")
 
 
 def frame(line: str, rates: tuple[int, ...]) -> Shape:
     """The line of a frame of a traffic channel."""
     told = (
-        Field("rate", one_of(rates), "its rate in bits a second"),
-        Field("good", field_of(1), "1 where it is good"),
-        Field("bits", BIT_TEXT, "its information bits"),
-        Field("commands", commands(), "its power control bits"),
+        Field("rate", one_of(rates), "rate in bits per second"),
+        Field("good", field_of(1), "1 if it is good"),
+        Field("bits", BIT_TEXT, "information bits"),
+        Field("commands", commands(), "power control bits"),
     )
-    return Shape(line, (Field("at", COUNT, "the number of samples at which it ended"), *told))
+    return Shape(line, (Field("at", COUNT, "sample count when it ended"), *told))
 
 
 def counts(*named: tuple[str, str]) -> tuple[Field, ...]:
@@ -305,13 +305,13 @@ def counts(*named: tuple[str, str]) -> tuple[Field, ...]:
 
 
 SHAPES = (
-    Shape("pilot", (Field("phase", field_of(15), "the best phase"), Field("energy", COUNT, "its energy"))),
+    Shape("pilot", (Field("phase", field_of(15), "best phase"), Field("energy", COUNT, "energy at that phase"))),
     Shape(
         "survey",
         (
-            Field("pn", OFFSET, "the pilot's offset"),
-            Field("delta", number(31, -31), "how many chips above its own phase it was found"),
-            Field("energy", COUNT, "its energy there"),
+            Field("pn", OFFSET, "pilot offset"),
+            Field("delta", number(31, -31), "chips above the pilot's own phase"),
+            Field("energy", COUNT, "energy there"),
         ),
     ),
     Shape("sync", (AT, *SYNC_FIELDS), None, (Group((Field("freq", field_of(11), "CDMA_FREQ"),)), REST)),
@@ -323,13 +323,13 @@ SHAPES = (
         (PN, SEQ, INCREMENT, Field("pilots", records(field_of(3), OFFSET), "NGHBR_CONFIG and NGHBR_PN"), REST),
     ),
     Shape("paging", (AT,), "channels", (PN, SEQ, Field("freqs", numbers(field_of(11)), "CDMA_FREQ"), REST)),
-    Shape("paging", (AT,), "other", (TYPE, Field("bits", BIT_TEXT, "the bits after the type"))),
+    Shape("paging", (AT,), "other", (TYPE, Field("bits", BIT_TEXT, "bits after the type"))),
     Shape(
         "slot",
         (
-            Field("at", COUNT, "the number of samples at which it ended"),
+            Field("at", COUNT, "sample count when it ended"),
             MOMENT,
-            Field("messages", field_of(16), "how many messages are in it"),
+            Field("messages", field_of(16), "number of messages in it"),
         ),
     ),
     frame("frame", RATES),
@@ -348,33 +348,33 @@ SHAPES = (
         (
             *TIME_FIELDS,
             Group(SEARCH_FIELDS),
-            Field("extra", BIT_TEXT, "the octets that ADD_LENGTH counts"),
+            Field("extra", BIT_TEXT, "octets counted by ADD_LENGTH"),
             Field("records", records(OFFSET, ROW, field_of(1)), "PILOT_PN, CODE_CHAN and PWR_COMB_IND"),
             REST,
         ),
     ),
-    Shape("traffic", (AT, *HEAD_FIELDS), "other", (TYPE, Field("bits", BIT_TEXT, "the bits after the head"))),
+    Shape("traffic", (AT, *HEAD_FIELDS), "other", (TYPE, Field("bits", BIT_TEXT, "bits after the head"))),
     Shape(
         "sets",
         (
-            Field("at", COUNT, "the sample at which the moment lies"),
+            Field("at", COUNT, "sample count at the moment"),
             MOMENT,
             Field(
                 "active",
                 records(OFFSET, ROW, field_of(3)),
-                "the active set: offset, Walsh row and power control subchannel of each pilot",
+                "active set: offset, Walsh row and power control subchannel of each pilot",
             ),
-            Field("candidate", numbers(OFFSET), "the candidate set's offsets"),
-            Field("report", field_of(1), "1 where a report is due"),
+            Field("candidate", numbers(OFFSET), "offsets of the candidate set"),
+            Field("report", field_of(1), "1 if a report is due"),
         ),
     ),
     *(Shape("raw", (AT,), channel, (BARE,)) for channel in ("sync", "paging", "traffic")),
     Shape(
         "trial",
-        counts(("number", "the link's number"), ("samples", "how many samples it has"))
-        + (Field("phase", field_of(15), "the best phase of the first 2,048 of them"),)
-        + counts(("syncs", "messages of the sync channel"), ("pagings", "messages of the paging channel"))
-        + counts(("frames", "frames of the traffic channel"), ("good", "how many of them are good")),
+        counts(("number", "number of the link"), ("samples", "number of samples"))
+        + (Field("phase", field_of(15), "best phase of the first 2,048 samples"),)
+        + counts(("syncs", "sync channel messages"), ("pagings", "paging channel messages"))
+        + counts(("frames", "traffic channel frames"), ("good", "good ones of these frames")),
     ),
 )
 BY_WORDS = {(shape.line, shape.word): shape for shape in SHAPES}
@@ -498,7 +498,7 @@ def spell_line(given: dict[str, Any]) -> str:
 
 def table_rows() -> Iterable[str]:
     """The table as docs/FORMATS.md has it: a row a field, for each kind of line."""
-    yield "| Line | Field | Is | JSON |"
+    yield "| Line | Field | Meaning | JSON |"
     yield "|---|---|---|---|"
     for shape in SHAPES:
         name = f"`{shape.line} {shape.word}`" if shape.word else f"`{shape.line}`"
