@@ -1,4 +1,4 @@
-"""The rules of the air interface, whose each is, and which of them a case rests on."""
+"""The rules of the air interface, the source of each, and the rules that a case rests on."""
 
 from __future__ import annotations
 
@@ -10,14 +10,14 @@ from cdma_tools.conformance.cases import Case
 
 
 class Source(enum.Enum):
-    """Whose a rule is."""
+    """Where a rule comes from."""
 
-    STANDARD = "the standard's"
-    OWN = "the project's own"
+    STANDARD = "the standard"
+    OWN = "this project"
 
 
 class Rule(NamedTuple):
-    """A rule: its name in cases, its heading and its mark in docs/LINK.md, whose it is, and what is own of it."""
+    """A rule: its name in cases, its heading and mark in docs/LINK.md, its source, and the part that is this project's own."""
 
     name: str
     heading: str
@@ -29,48 +29,48 @@ class Rule(NamedTuple):
 STANDARD, OWN = Source.STANDARD, Source.OWN
 CODES = "7.1.3.1.9"
 RULES = (
-    Rule("samples", "Time and samples", "own", OWN, "a sample of whole numbers for each chip"),
-    Rule("pilot_codes", "The pilot's codes", CODES, STANDARD, "which chip has the number 0"),
-    Rule("search", "The search", "own", OWN, "the energy, its ties, and the phases near the best one"),
+    Rule("samples", "Time and samples", "own", OWN, "one sample of whole numbers per chip"),
+    Rule("pilot_codes", "The pilot's codes", CODES, STANDARD, "which chip has number 0"),
+    Rule("search", "The search", "own", OWN, "energy, ties, phases near the best one"),
     Rule("long_code", "The long code", "7.1.3.1.10", STANDARD),
     Rule("walsh", "Walsh rows", "7.1.3.1.8", STANDARD),
     Rule("convolution", "The convolutional code", "7.1.3.1.3.1", STANDARD),
     Rule("frames", "Channels and their frames", "7.1.3.1.1 to 7.1.3.1.5", STANDARD),
-    Rule("rate_set_2", "Rate set 2", "own", OWN, "its tables, which symbols are dropped, and how a rate is chosen"),
+    Rule("rate_set_2", "Rate set 2", "own", OWN, "tables, dropped symbols, choice of a rate"),
     Rule("scrambling", "Scrambling and power control bits", "7.1.3.1.6, 7.1.3.1.7", STANDARD),
     Rule(
         "checks",
         "Frame quality and message checks",
         "7.1.3.5, 7.7.1, 7.7.2, 7.7.3",
         STANDARD,
-        "how the generators are written down, and that flags tell which checks are complemented",
+        "how generators are written down; flags for complemented checks",
     ),
-    Rule("fingers", "Fingers and soft values", "own", OWN, "windows, sums and soft values"),
-    Rule("strength", "The strength of a pilot", "own", OWN, "its window of samples and of chips, and ties"),
-    Rule("capsules", "Capsules", "7.7.1, 7.7.2, 7.7.3", STANDARD, "the bounds of a length"),
-    Rule("sync_message", "The Sync Channel Message", "7.7.1.3", STANDARD, "which values are looked at"),
-    Rule("half_frames", "Paging half-frames", "7.7.2.1", STANDARD, "what a receiver makes of the bits after a capsule"),
-    Rule("paging_messages", "Paging messages", "7.7.2.3", STANDARD, "how many bits may be left after the last record"),
+    Rule("fingers", "Fingers and soft values", "own", OWN, "windows, sums, soft values"),
+    Rule("strength", "The strength of a pilot", "own", OWN, "windows of samples and of chips, ties"),
+    Rule("capsules", "Capsules", "7.7.1, 7.7.2, 7.7.3", STANDARD, "bounds of a length"),
+    Rule("sync_message", "The Sync Channel Message", "7.7.1.3", STANDARD, "which values are checked"),
+    Rule("half_frames", "Paging half-frames", "7.7.2.1", STANDARD, "how bits after a capsule are read"),
+    Rule("paging_messages", "Paging messages", "7.7.2.3", STANDARD, "number of bits left after the last record"),
     Rule("traffic_parts", "The parts of a traffic frame", "7.1.3.5.11", STANDARD),
     Rule("traffic_messages", "Traffic messages", "own, after 7.7.3", OWN, "the layouts"),
-    Rule("best_codeword", "The best codeword", "own", OWN, "scores, ties, and spans of frames"),
-    Rule("cell", "What a cell sends", "7.1.3.1, 7.7.1", STANDARD, "cycles of messages, pages and frames, and gains"),
-    Rule("handset", "What a handset hears", "own", OWN, "places, the order of events, the choice of a rate"),
-    Rule("slots", "Slots", "6.6.2.1.1.3, 6.6.7.1; the hash own", OWN, "the hash that tells a handset's slot"),
+    Rule("best_codeword", "The best codeword", "own", OWN, "scores, ties, spans of frames"),
+    Rule("cell", "What a cell sends", "7.1.3.1, 7.7.1", STANDARD, "cycles of messages, pages and frames; gains"),
+    Rule("handset", "What a handset receives", "own", OWN, "places, order of events, choice of a rate"),
+    Rule("slots", "Slots", "6.6.2.1.1.3, 6.6.7.1; the hash own", OWN, "hash from a key to a slot"),
     Rule("pilot_sets", "Pilot sets and soft handoff", "6.6.6.2; own as a whole, after the standard", OWN, "all of it"),
     Rule("workers", "The search by workers", "own", OWN, "all of it"),
     Rule("survey", "The survey of pilots", "own", OWN, "all of it"),
-    Rule("clean_link", "A clean link", "own", OWN, "that all comes back that was sent"),
-    Rule("noise", "A link with noise", "own", OWN, "how much noise a channel bears in any case"),
+    Rule("clean_link", "A clean link", "own", OWN, "what is received of what was sent"),
+    Rule("noise", "A link with noise", "own", OWN, "noise that a channel bears in the worst case"),
 )
-# The form of files, arguments, lines and statuses is docs/FORMATS.md's, and no rule of the air.
+# docs/FORMATS.md specifies files, arguments, lines and statuses, which are no rules of the air interface.
 FORMATS = "formats"
 
 CELL = {"samples", "pilot_codes", "walsh", "cell"}
 HEARING = {"samples", "pilot_codes", "search", "walsh", "convolution", "frames", "fingers", "best_codeword", "handset"}
 MESSAGES = {"checks", "capsules"}
 SCRAMBLED = {"long_code", "scrambling"}
-# What each line of a receiver rests on, and each of a script that a cell sends.
+# The rules for each line of a receiver, and for each line of a script that a cell sends.
 LINES = {
     "sync": MESSAGES | {"sync_message"},
     "paging": MESSAGES | SCRAMBLED | {"sync_message", "half_frames", "paging_messages"},
@@ -95,12 +95,12 @@ COMMANDS = {
 
 
 def first_words(lines: Iterable[str]) -> set[str]:
-    """The first words of lines."""
+    """Returns the first words of lines."""
     return {line.split(" ", 1)[0] for line in lines}
 
 
 def rules_of(case: Case, status: int, lines: Iterable[str]) -> list[str]:
-    """The rules that a case rests on, in their order: by its arguments, what is wanted, and what a cell is to send."""
+    """Returns the rules that a case rests on, in order, by its arguments, its expected lines and what its cell sends."""
     commands = {words[0] for words in case.runs if words}
     if status > 1 or not commands <= set(COMMANDS):
         return [FORMATS]
@@ -115,8 +115,8 @@ def rules_of(case: Case, status: int, lines: Iterable[str]) -> list[str]:
 
 
 def table_rows() -> Iterable[str]:
-    """The table of all rules, as docs/LINK.md has it."""
-    yield "| Name in cases | Rule | Whose | Sections | Own |"
+    """Yields the rows of the table of all rules in docs/LINK.md."""
+    yield "| Name in cases | Rule | Source | Sections | Own part |"
     yield "|---|---|---|---|---|"
     for rule in RULES:
         sections = "" if rule.mark == "own" else rule.mark

@@ -31,7 +31,7 @@ class Table(unittest.TestCase):
 
     def test_each_section_is_a_rule_and_has_its_mark(self) -> None:
         headings = re.findall(r"(?m)^## (.*)$", self.text)
-        self.assertEqual(headings[0], "Whose each rule is")
+        self.assertEqual(headings[0], "Which rules are the standard's")
         self.assertEqual(headings[1:], [f"{rule.heading} ({rule.mark})" for rule in RULES])
 
     def test_the_table_there(self) -> None:
