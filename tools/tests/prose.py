@@ -1,0 +1,189 @@
+"""The sentences of pages, manual pages, help texts and docstrings, and the patterns that none of them may have.
+
+`python3 -m tools.tests.prose [PAGE ..]` prints the ten longest sentences of each page, with their lengths in words.
+"""
+
+import argparse
+import ast
+import inspect
+import os
+import re
+import sys
+from collections.abc import Iterable, Iterator
+from dataclasses import dataclass
+
+from tools.tests.helping import ROOT
+
+MOST_WORDS = 45
+SHOWN = 10
+PAGES = (
+    "docs/FORMATS.md",
+    "docs/LINK.md",
+)
+# Words before "else" with which it does not stand for "otherwise" or for a default.
+BEFORE_ELSE = (
+    "or", "anything", "everything", "nothing", "something", "anyone", "everyone", "nobody", "somebody", "what", "who",
+)  # fmt: skip
+CODE = "`x`"  # stands for code in a sentence
+
+
+@dataclass(frozen=True)
+class Sentence:
+    """A sentence, and where it begins: a place in the checkout and a line there."""
+
+    place: str
+    line: int
+    text: str
+
+    @property
+    def length(self) -> int:
+        """Its number of words; a piece of code is one."""
+        return sum(1 for word in self.text.split() if re.search(r"\w", word))
+
+
+@dataclass(frozen=True)
+class Pattern:
+    """Words that no sentence may have, and what to write instead."""
+
+    found: re.Pattern[str]
+    instead: str
+
+
+@dataclass(frozen=True)
+class Allowed:
+    """A text in which a pattern is right, in one place, and why."""
+
+    place: str
+    text: str
+    why: str
+
+
+def pattern(text: str, instead: str) -> Pattern:
+    """Returns a pattern by the text of its regular expression."""
+    return Pattern(re.compile(text), instead)
+
+
+PATTERNS = (
+    pattern("".join(rf"(?<!\b{word} )" for word in BEFORE_ELSE) + r"\b[Ee]lse\b", "'default N' or 'otherwise'"),
+    pattern(r"\b[Ss]o many\b", "the parameter's name, or 'n'"),
+    pattern(r"(?<!let )(?<!stand )(?<!stands )\b[Aa]lone\b", "'only' before the words that it limits"),
+    pattern(r"\b[Oo]we[ds]?\b", "'required', 'must write', 'expected'"),
+    pattern(r"^[Oo]f (?:an?|each|every|some|any) ", "subject, verb, object"),
+    pattern(r"^[Tt]o an? ", "subject, verb, object"),
+    pattern(r"\b[Bb]ehind\b", "'after'"),
+    pattern(r"\b[Ww]ant of\b", "'out of memory', 'lack of'"),
+    pattern("\N{EM DASH}", "a comma, a colon or two sentences"),
+)
+
+
+def sentences_of_block(place: str, line: int, text: str) -> Iterator[Sentence]:
+    """The sentences of one paragraph, item or cell, all of which are placed at its first line."""
+    text = re.sub(r"`[^`]+`", CODE, " ".join(text.split()))
+    text = re.sub(r"\[([^\]]*)\]\([^)]*\)", r"\1", text).replace("**", "")
+    for part in re.split(r"(?<=[.!?])(?<!e\.g\.)(?<!i\.e\.)[\"')]*\s+(?=[\"'(`A-Z0-9])", text):
+        if part.strip():
+            yield Sentence(place, line, part.strip())
+
+
+def page_sentences(place: str, text: str, code: str = "    ") -> Iterator[Sentence]:
+    """The sentences of a page in Markdown; lines that begin with `code`, and HTML comments, are left out."""
+    block: list[str] = []
+    first = 0
+    for number, line in enumerate([*text.splitlines(), ""], 1):
+        is_code = line.startswith(code) and not block
+        is_apart = not line.strip() or re.match(r"<!--|\||#|\s*(?:[-*]|\d+\.) ", line) is not None
+        if (is_apart or is_code) and block:
+            yield from sentences_of_block(place, first, " ".join(block))
+            block = []
+        if is_code or not line.strip() or line.startswith("<!--"):
+            continue
+        if line.startswith("|"):
+            for cell in re.split(r"(?<!\\)\|", line.strip("| ")):
+                yield from sentences_of_block(place, number, cell)
+        elif line.startswith("#"):
+            yield from sentences_of_block(place, number, line.lstrip("# "))
+        else:
+            first = first if block else number
+            block.append(re.sub(r"^\s*(?:[-*]|\d+\.) ", "", line))
+
+
+def manual_sentences(place: str, text: str) -> Iterator[Sentence]:
+    """Yields the sentences of a page in mdoc, without what it shows literally, between Bd and Ed, and lists of fields.
+
+    The words of a macro are code, but for punctuation at its end, which belongs to the sentence.
+    """
+    block: list[str] = []
+    first, is_left_out = 0, False
+    for number, line in enumerate([*text.splitlines(), ".Pp"], 1):
+        name = line.split(" ")[0]
+        if name in (".Pp", ".Sh", ".Ss", ".It", ".Bl", ".El", ".Bd", ".Ed", ".Op"):
+            yield from sentences_of_block(place, first, " ".join(block))
+            block = []
+            is_left_out = name == ".Bd" or line.startswith(".It Li ")
+        elif not is_left_out and not line.startswith('.\\"') and name not in (".Dd", ".Dt", ".Os"):
+            first = first if block else number
+            ends = re.search(r" ([.,;:)])$", line)
+            block.append(CODE + (ends[1] if ends else "") if line.startswith(".") else line)
+    yield from sentences_of_block(place, first, " ".join(block))
+
+
+def docstring_sentences(place: str, text: str) -> Iterator[Sentence]:
+    """The sentences of all docstrings of a module."""
+    module = ast.parse(text)
+    for node in ast.walk(module):
+        if isinstance(node, (ast.Module, ast.ClassDef, ast.FunctionDef, ast.AsyncFunctionDef)):
+            told = ast.get_docstring(node, clean=True)
+            if told:
+                line = node.body[0].lineno - 1
+                for it in page_sentences(place, told):
+                    yield Sentence(place, line + it.line, it.text)
+
+
+def help_sentences(place: str, parser: argparse.ArgumentParser) -> Iterator[Sentence]:
+    """The sentences of a command line's help: the description, what follows, and the help of each argument."""
+    yield from page_sentences(place, inspect.cleandoc(parser.description or "") + "\n\n" + (parser.epilog or ""))
+    for action in parser._actions:
+        if action.help and action.help != argparse.SUPPRESS:
+            yield from sentences_of_block(f"{place} {'/'.join(action.option_strings) or action.dest}", 0, action.help)
+        if isinstance(action, argparse._SubParsersAction):
+            for name, part in action.choices.items():
+                yield from help_sentences(f"{place} {name}", part)
+
+
+def sentences_in(place: str) -> list[Sentence]:
+    """The sentences of a file of this checkout: a page, a manual page, or a module with its docstrings."""
+    with open(os.path.join(ROOT, place), encoding="utf-8") as file:
+        text = file.read()
+    if place.endswith(".md"):
+        return list(page_sentences(place, text))
+    return list(manual_sentences(place, text) if place.endswith(".1") else docstring_sentences(place, text))
+
+
+def faults(found: Iterable[Sentence], allowed: Iterable[Allowed], used: set[Allowed]) -> Iterator[str]:
+    """What is wrong with sentences, each in a line; the exceptions that one of them needs are added to `used`."""
+    for sentence in found:
+        if sentence.length > MOST_WORDS:
+            yield f"{sentence.place}:{sentence.line}: {sentence.length} words: {sentence.text}"
+        for it in PATTERNS:
+            if not it.found.search(sentence.text):
+                continue
+            right = [one for one in allowed if one.place == sentence.place and one.text in sentence.text]
+            used.update(right)
+            if not right:
+                yield f"{sentence.place}:{sentence.line}: write {it.instead}: {sentence.text}"
+
+
+def longest(place: str) -> list[Sentence]:
+    """The longest sentences of a page, the longest first."""
+    return sorted(sentences_in(place), key=lambda it: -it.length)[:SHOWN]
+
+
+def main() -> None:
+    """Prints the longest sentences of the pages that are named, or of all that are held."""
+    for place in sys.argv[1:] or PAGES:
+        for it in longest(place):
+            print(f"{place}:{it.line}: {it.length}: {it.text}")
+
+
+if __name__ == "__main__":
+    main()
