@@ -1,8 +1,8 @@
-"""The crates of a repository, as crates.txt lists them: which stands on which, and in which layers they lie.
+"""The crates of a repository, as crates.txt lists them: their dependencies, sides and layers.
 
-`python3 -m cdma_tools.repository.crate_list` writes the picture of the layers; with --write it puts the picture at
-the head of docs/ARCHITECTURE.md, what each crate stands on into the table after it, and whose the crates of each
-layer are into crates.txt.
+`python3 -m cdma_tools.repository.crate_list` writes the picture of the layers. With --write it puts the picture, the
+table of crates and the line counts of the reading order into docs/ARCHITECTURE.md, and the sides of each layer's crates
+into crates.txt.
 """
 
 from __future__ import annotations
@@ -13,19 +13,22 @@ import sys
 from collections.abc import Callable, Mapping, Sequence
 
 from cdma_tools.places import TOP
+from cdma_tools.repository.reading_order import with_counts
 
-# The crates at the top of the base station, and of what a handset hears: these and all below them are its.
+# The top crates of the base station and of the handset. They and all crates below them belong to that side.
 SENDING, HEARING = ("base_modulator",), ("pilot_survey", "tuned_listener")
 # The columns of the picture, from the left.
 SIDES = ("base station", "both", "handset", "program, laws", "tests")
+# The head of the table of crates in docs/ARCHITECTURE.md; the purposes in it are written by hand.
+HEAD = "| Crate | Side | Layer | Purpose | Depends on |\n|---|---|---|---|---|\n"
 
 
 class NoList(Exception):
-    """Why crates.txt is no list of crates, in words."""
+    """Reason why crates.txt is not a list of crates."""
 
 
 def crates_below(root: str) -> dict[str, list[str]]:
-    """Each crate of crates.txt, in its order, with those that it stands on; what isn't listed is the kit's."""
+    """Returns the crates of crates.txt in order, each with its dependencies; a crate that isn't listed is the kit's."""
     path = os.path.join(root, "crates.txt")
     try:
         with open(path, encoding="utf-8") as file:
@@ -38,13 +41,13 @@ def crates_below(root: str) -> dict[str, list[str]]:
         if line:
             head, colon, below = line.partition(":")
             if not colon or not head.split():
-                raise NoList(f"crates.txt has a line that is none: {line[:60]!r}")
+                raise NoList(f"crates.txt has a line that names no crate: {line[:60]!r}")
             found[head.split()[0]] = below.split()
     return {name: [it for it in below if it in found] for name, below in found.items()}
 
 
 def all_below(below: Mapping[str, Sequence[str]], name: str) -> set[str]:
-    """The crates below one, those below them among them."""
+    """Returns all direct and indirect dependencies of a crate."""
     found: set[str] = set()
     left = list(below[name])
     while left:
@@ -56,7 +59,7 @@ def all_below(below: Mapping[str, Sequence[str]], name: str) -> set[str]:
 
 
 def chains(below: Mapping[str, Sequence[str]]) -> dict[str, list[str]]:
-    """Of each crate the longest list that ends with it, each of which stands on the one before; the first of equals."""
+    """Returns for each crate the longest chain of dependencies that ends with it, on a tie the first by crates.txt."""
     found: dict[str, list[str]] = {}
 
     def chain_to(name: str, above: tuple[str, ...]) -> list[str]:
@@ -72,19 +75,19 @@ def chains(below: Mapping[str, Sequence[str]]) -> dict[str, list[str]]:
 
 
 def longest_chain(below: Mapping[str, Sequence[str]]) -> list[str]:
-    """The longest list of crates each of which stands on the one before it; of equal ones the first by crates.txt."""
+    """Returns the longest chain of crates that each depend on the one before, on a tie the first by crates.txt."""
     return max(chains(below).values(), key=len, default=[])
 
 
 def right_below(below: Mapping[str, Sequence[str]], name: str) -> list[str]:
-    """The crates that one stands on, but for those that another of them stands on too, in the order of crates.txt."""
+    """Returns a crate's dependencies in the order of crates.txt, without those that another of them depends on."""
     further = {at for it in below[name] for at in all_below(below, it)}
     wanted = set(below[name]) - further
     return [it for it in below if it in wanted]
 
 
 def side_of(below: Mapping[str, Sequence[str]], name: str) -> str:
-    """The column of a crate: whose it is."""
+    """Returns the side of a crate, which is its column in the picture."""
     if name.endswith("_tests"):
         return "tests"
     is_sending, is_hearing = (any(name in {it} | all_below(below, it) for it in tops) for tops in (SENDING, HEARING))
@@ -94,7 +97,7 @@ def side_of(below: Mapping[str, Sequence[str]], name: str) -> str:
 
 
 def picture(below: Mapping[str, Sequence[str]]) -> str:
-    """The crates by layers, the highest first, in which each stands on lower ones alone; in one as in crates.txt."""
+    """Returns the picture: the crates by layers, the highest first, those of one layer in the order of crates.txt."""
     layers = {name: len(chain) for name, chain in chains(below).items()}
     rows: list[tuple[str, ...]] = [("", *SIDES)]
     for layer in range(max(layers.values(), default=0), 0, -1):
@@ -105,22 +108,33 @@ def picture(below: Mapping[str, Sequence[str]]) -> str:
     return "".join("  ".join(map(str.ljust, cells, widths)).rstrip() + "\n" for cells in rows)
 
 
-def with_picture(text: str, below: Mapping[str, Sequence[str]]) -> str:
-    """docs/ARCHITECTURE.md with the picture in place of its first, and what crates stand on in their rows."""
+def table(purposes: Mapping[str, str], below: Mapping[str, Sequence[str]]) -> str:
+    """Returns the table of crates, sorted by side, by layer and then as in crates.txt."""
+    layers = {name: len(chain) for name, chain in chains(below).items()}
+    sides = {name: side_of(below, name) for name in below}
+    rows = [
+        f"| `{name}` | {sides[name]} | {layers[name]} | {purposes.get(name, '')} | "
+        f"{', '.join(f'`{it}`' for it in right_below(below, name))} |\n"
+        for name in sorted(below, key=lambda it: (SIDES.index(sides[it]), layers[it]))
+    ]
+    return HEAD + "".join(rows)
+
+
+def with_crates(text: str, below: Mapping[str, Sequence[str]]) -> str:
+    """Returns docs/ARCHITECTURE.md with the picture as its first literal block, and with the table of crates."""
     shown = "".join(f"    {line}\n" for line in picture(below).splitlines())
-
-    def row(found: re.Match[str]) -> str:
-        if found[2] not in below:
-            return found[0]
-        return f"{found[1]} {', '.join(f'`{it}`' for it in right_below(below, found[2]))} |"
-
-    return re.sub(
-        r"(?m)^(\| `(\w+)` \|.*\|) [^|\n]*\|$", row, re.sub(r"(?m)^(    .*\n)+", lambda _: shown, text, count=1)
-    )
+    text = re.sub(r"(?m)^(    .*\n)+", lambda _: shown, text, count=1)
+    before, head, after = text.partition(HEAD)
+    if not head:
+        raise NoList("docs/ARCHITECTURE.md has no table of crates")
+    old = re.match(r"(?:\|.*\n)*", after)
+    rows = old[0] if old else ""
+    purposes = dict(re.findall(r"(?m)^\| `(\w+)` \|[^|]*\|[^|]*\| (.*?) \|[^|]*\|$", rows))
+    return before + table(purposes, below) + after[len(rows) :]
 
 
 def with_sides(text: str, below: Mapping[str, Sequence[str]]) -> str:
-    """crates.txt with a line before the crates of each of its groups for each column that has any: whose they are."""
+    """Returns crates.txt with comments that list the crates of each group by side."""
     groups = []
     for group in text.split("\n\n"):
         lines = [line for line in group.splitlines() if not line.startswith(tuple(f"# {side}: " for side in SIDES))]
@@ -133,7 +147,7 @@ def with_sides(text: str, below: Mapping[str, Sequence[str]]) -> str:
 
 
 def rewrite(path: str, change: Callable[[str, Mapping[str, Sequence[str]]], str]) -> None:
-    """Puts what a change makes of a file of this checkout in its place."""
+    """Replaces a file of this checkout by what `change` makes of its text."""
     path = os.path.join(TOP, path)
     with open(path, encoding="utf-8") as file:
         text = change(file.read(), crates_below(TOP))
@@ -142,11 +156,11 @@ def rewrite(path: str, change: Callable[[str, Mapping[str, Sequence[str]]], str]
 
 
 def main() -> None:
-    """Writes the picture, or puts all that is made into its place."""
+    """Prints the picture, or with --write updates the files."""
     if sys.argv[1:] != ["--write"]:
         print(picture(crates_below(TOP)), end="")
         return
-    rewrite(os.path.join("docs", "ARCHITECTURE.md"), with_picture)
+    rewrite(os.path.join("docs", "ARCHITECTURE.md"), lambda text, below: with_counts(with_crates(text, below), TOP))
     rewrite("crates.txt", with_sides)
 
 

@@ -17,7 +17,9 @@ from tools.tests.helping import ROOT
 MOST_WORDS = 45
 SHOWN = 10
 PAGES = (
+    "docs/ARCHITECTURE.md",
     "docs/FORMATS.md",
+    "docs/GLOSSARY.md",
     "docs/LINK.md",
 )
 # Words before "else" with which it does not stand for "otherwise" or for a default.

@@ -13,9 +13,10 @@ from cdma_tools.repository.crate_list import (
     longest_chain,
     picture,
     right_below,
-    with_picture,
+    with_crates,
     with_sides,
 )
+from cdma_tools.repository.reading_order import NoItem, lines_between, with_counts
 from tools.tests.helping import ROOT
 
 MOST_COLUMNS = 100
@@ -67,19 +68,62 @@ class Architecture(unittest.TestCase):
             self.text = file.read()
 
     def test_the_picture_and_the_table_are_those_of_the_list(self) -> None:
-        self.assertEqual(self.text, with_picture(self.text, self.below))
+        self.assertEqual(self.text, with_crates(self.text, self.below))
         self.assertIn("\n".join(f"    {line}" for line in picture(self.below).splitlines()), self.text)
         self.assertLessEqual(max(map(len, picture(self.below).splitlines())) + len("    "), MOST_COLUMNS)
 
     def test_the_table_has_each_crate_once(self) -> None:
         table = re.search(r"(?m)^\| Crate \|.*\n(\|.*\n)+", self.text)
         assert table is not None
-        self.assertEqual(re.findall(r"(?m)^\| `(\w+)` \|", table[0]), list(self.below))
+        rows = re.findall(r"(?m)^\| `(\w+)` \|([^|]*)\|([^|]*)\| ([^|]*) \|", table[0])
+        self.assertEqual(sorted(name for name, _, _, _ in rows), sorted(self.below))
+        for name, _, _, purpose in rows:
+            with self.subTest(name):
+                self.assertTrue(purpose, "write what it is for into docs/ARCHITECTURE.md")
 
-    def test_rows_of_other_tables_stay(self) -> None:
-        text = "    old\n\n| `cell` | does | has | none |\n| `find` | of | memory |\n"
-        wanted = "".join(f"    {line}\n" for line in PICTURE.splitlines())
-        self.assertEqual(with_picture(text, BELOW), wanted + "\n| `cell` | does | has | `codes` |\n| `find` | of | memory |\n")
+    def test_rows_are_sorted_and_purposes_stay(self) -> None:
+        head = "| Crate | Side | Layer | Purpose | Depends on |\n|---|---|---|---|---|\n"
+        old = "| `tuned_listener` | x | 0 | hears \\| waits | `gone` |\n"
+        old += "| `gone` | x | 1 | went | |\n| `cell` | | | a cell | |\n"
+        other = "\n| `find` | of | memory |\n"
+        wanted = "".join(f"    {line}\n" for line in PICTURE.splitlines()) + "\n" + head
+        made = with_crates("    old\n\n" + head + old + other, BELOW)
+        self.assertTrue(made.startswith(wanted + "| `cell` | base station | 3 | a cell | `codes` |\n"), made)
+        self.assertTrue(made.endswith("| `core_tests` | tests | 2 |  | `core` |\n" + other), made)
+        self.assertIn("| `tuned_listener` | handset | 3 | hears \\| waits | `codes` |\n", made)
+        self.assertNotIn("gone", made)
+
+    def test_the_line_counts_are_those_of_the_tree(self) -> None:
+        made = with_counts(self.text, ROOT)
+        self.assertEqual(self.text, made, "run python3 -m cdma_tools.repository.crate_list --write")
+
+    def test_the_reading_order_names_modules_of_the_model(self) -> None:
+        modules: list[str] = re.findall(r"(?m)^\| \d+ \| `[^`]+` \| `[^`]+` \|.*\| (?:`(\w+)` )?\|$", self.text)
+        self.assertEqual(len(modules), 24)
+        for module in {it for it in modules if it}:
+            self.assertTrue(os.path.exists(os.path.join(ROOT, "model", f"{module}.py")), module)
+
+
+class ReadingOrder(unittest.TestCase):
+    """How many lines lie between two items of a file."""
+
+    def test_definitions(self) -> None:
+        text = "use x.{one}\n\n-- A comment.\nabbrev pub one : N\none = 1\n\n-- two\npub record two : Type where\n"
+        text += "  pub a : N\n  -- of b\n  pub b : N\n      more\n  pub c : N\n\nend\n"
+        wanted = (("one", "one", 3), ("one", "a", 7), ("one", "b", 10), ("two", "two", 7), ("b", "b", 3))
+        for first, last, count in wanted:
+            with self.subTest(first=first, last=last):
+                self.assertEqual(lines_between(text, first, last), count)
+        with self.assertRaises(NoItem):
+            lines_between(text, "none", "one")
+
+    def test_code(self) -> None:
+        text = "//! A module.\n\nimpl X {\n    /// Doc.\n    pub fn one(\n        x: u8,\n    ) -> u8\n    {\n"
+        text += "        x\n    }\n\n    fn two() {\n    }\n}\n\n/// A law.\npub fn three()\n    ensures { A }\n{}\n"
+        wanted = (("pub fn one", "fn one", 7), ("fn one", "fn two", 10), ("pub fn three", "pub fn three", 4))
+        for first, last, count in wanted:
+            with self.subTest(first=first, last=last):
+                self.assertEqual(lines_between(text, first, last), count)
 
 
 class Sides(unittest.TestCase):

@@ -101,21 +101,5 @@ class Tool(unittest.TestCase):
         self.assertRegex(said, r"\Ahouse: /none.*\n\Z")
 
 
-class ReadingOrder(unittest.TestCase):
-    """The order to read the code in, of docs/ARCHITECTURE.md."""
-
-    def test_each_name_stands_in_its_file(self) -> None:
-        with open(os.path.join(ROOT, "docs", "ARCHITECTURE.md"), encoding="utf-8") as file:
-            rows = re.findall(r"(?m)^\| \d+ \| `([^`]+)` \| `([^`]+)` \| (\d+) \|.*\| (?:`(\w+)` )?\|$", file.read())
-        self.assertEqual(len(rows), 24)
-        for place, name, count, module in rows:
-            with self.subTest(place):
-                with open(os.path.join(ROOT, place), encoding="utf-8") as file:
-                    text = file.read()
-                self.assertRegex(text, rf"(?m)^.*\b{name}\b")
-                if module:
-                    self.assertTrue(os.path.exists(os.path.join(ROOT, "model", f"{module}.py")))
-
-
 if __name__ == "__main__":
     unittest.main()

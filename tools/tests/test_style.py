@@ -1,4 +1,4 @@
-"""The English of pages, help texts and docstrings: no sentence has a pattern of translated prose, and none is too long."""
+"""The English of pages, help texts and docstrings: no patterns of translated prose, and no sentence too long."""
 
 import unittest
 from collections.abc import Iterable
@@ -48,7 +48,18 @@ cdma_replay alone
 .It Li slot
 at (the place alone).
 """
-MODULE = '"""Tells.\n\nA second\nparagraph."""\n\nclass One:\n    """A class."""\n\n    def two(self):\n        """Returns."""\n'
+MODULE = """\
+'''Tells.
+
+A second
+paragraph.'''
+
+class One:
+    '''A class.'''
+
+    def two(self):
+        '''Returns.'''
+"""
 
 
 def texts(found: Iterable[Sentence]) -> list[str]:
@@ -57,7 +68,7 @@ def texts(found: Iterable[Sentence]) -> list[str]:
 
 
 class Parts(unittest.TestCase):
-    """How texts are divided into sentences, and what is found in them."""
+    """How texts are divided into sentences, and which faults are found in them."""
 
     def test_a_page(self) -> None:
         wanted = ["A title", "First sentence.", "Second one, e.g. with `x` more on two lines.", "An item."]
@@ -84,7 +95,7 @@ class Parts(unittest.TestCase):
                 self.assertEqual(len(list(faults([Sentence("p", 1, text)], (), set()))), 1)
 
     def test_what_is_right_is_not_found(self) -> None:
-        for text in ("or else", "somebody else's, anything else", "let alone two", "many", "a cell of a network", "owner"):
+        for text in ("or else", "somebody else's", "nothing else", "let alone two", "many", "a cell of a net", "owner"):
             with self.subTest(text):
                 self.assertEqual(list(faults([Sentence("p", 1, text)], (), set())), [])
 
