@@ -16,7 +16,7 @@ What `read_line` takes is just what `spell_line` gives back, byte by byte; any o
 """
 
 import re
-from typing import Any, Callable, Iterable, Iterator, NamedTuple
+from typing import Any, Callable, Iterator, NamedTuple
 
 TIME_NAME = "time_utc"  # under which the objects of a listening have the time of their `at`, besides the line's fields
 MOST_COUNT = 2**64 - 1  # what the program counts in is 64 bits wide
@@ -138,7 +138,7 @@ def hexadecimal(digits: int, width: int) -> Form:
     def spell(value: Any) -> str:
         return f"{within(whole(value), 0, 2**width - 1):0{digits}x}"
 
-    return Form(read, spell, f"{width} bits, in the line {digits} hex digits")
+    return Form(read, spell, f"{width} bits, {digits} hex digits in the line")
 
 
 def check_bits(given: Any) -> str:
@@ -166,7 +166,7 @@ def commands() -> Form:
             raise NoLine(f"{str(value)[:60]!r} is no list of {GROUPS}")
         return "".join(str(within(whole(bit), 0, 1)) for bit in value)
 
-    return Form(read, spell, f"list of {GROUPS} numbers 0 or 1")
+    return Form(read, spell, f"{GROUPS} numbers of 1 bit")
 
 
 def spelled_list(value: Any, spell: Callable[[Any], str]) -> str:
@@ -182,7 +182,7 @@ def numbers(form: Form) -> Form:
     def read(given: str) -> list[int]:
         return [form.read(part) for part in given.split(",")] if given else []
 
-    return Form(read, lambda value: spelled_list(value, form.spell), f"list of numbers of {form.text}")
+    return Form(read, lambda value: spelled_list(value, form.spell), f"numbers of {form.text}")
 
 
 def records(*forms: Form) -> Form:
@@ -202,7 +202,7 @@ def records(*forms: Form) -> Form:
     def read(given: str) -> list[list[int]]:
         return [read_record(part) for part in given.split(",")] if given else []
 
-    text = f"list of lists of {len(forms)} numbers of {', '.join(form.text for form in forms)}"
+    text = f"records of {', '.join(form.text for form in forms)}"
     return Form(read, lambda value: spelled_list(value, spell_record), text)
 
 
@@ -496,12 +496,11 @@ def spell_line(given: dict[str, Any]) -> str:
     return text + "".join(spell_part(part, given) for part in shape.body)
 
 
-def table_rows() -> Iterable[str]:
-    """The table as docs/FORMATS.md has it: a row a field, for each kind of line."""
-    yield "| Line | Field | Meaning | JSON |"
-    yield "|---|---|---|---|"
+def table_rows() -> Iterator[str]:
+    """Yields the list of all fields in docs/FORMATS.md: each kind of line, and below it a row for each field."""
+    names = max(len(field.name) for shape in SHAPES for field in shape.fields())
+    forms = max(len(field.form.text) for shape in SHAPES for field in shape.fields())
     for shape in SHAPES:
-        name = f"`{shape.line} {shape.word}`" if shape.word else f"`{shape.line}`"
+        yield f"{shape.line} {shape.word or ''}".rstrip()
         for field in shape.fields():
-            yield f"| {name} | `{field.name}` | {field.meaning} | {field.form.text} |"
-            name = ""
+            yield f"  {field.name:{names}}  {field.form.text:{forms}}  {field.meaning}"

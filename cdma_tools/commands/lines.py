@@ -39,9 +39,7 @@ def parser() -> argparse.ArgumentParser:
     words = Parser("lines", __doc__)
     words.add_argument("lines", nargs="?", default="-", metavar="LINES", help="what is turned, - for standard input")
     words.add_argument("--back", action="store_true", help="turn JSON into lines")
-    words.add_argument(
-        "--table", action="store_true", help="write the table of all fields, as docs/FORMATS.md has it, and end"
-    )
+    words.add_argument("--table", action="store_true", help="write the list of all fields in docs/FORMATS.md, and end")
     return words
 
 

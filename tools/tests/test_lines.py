@@ -307,7 +307,8 @@ def matched(pattern: str, text: str) -> re.Match[str]:
 
 class Documents(unittest.TestCase):
     def test_the_table_stands_in_the_formats(self) -> None:
-        self.assertIn("\n\n" + "\n".join(table_rows()) + "\n\n", text_of("docs", "FORMATS.md"))
+        shown = "".join(f"    {row}\n" for row in table_rows())
+        self.assertIn(f"\n\n{shown}\n", text_of("docs", "FORMATS.md"))
 
     def test_the_formats_show_each_kind_of_line(self) -> None:
         """Each line that docs/FORMATS.md shows has the fields of its kind in order, and each kind is shown once."""
