@@ -1,4 +1,4 @@
-"""docs/GLOSSARY.md: its tables are sorted, no word stands twice, and what owns a word is there."""
+"""docs/GLOSSARY.md: its lists are sorted, no term occurs twice, and the owner of each term exists."""
 
 from __future__ import annotations
 
@@ -18,22 +18,31 @@ def sorted_by(word: str) -> str:
 class Glossary(unittest.TestCase):
     def setUp(self) -> None:
         with open(os.path.join(ROOT, "docs", "GLOSSARY.md"), encoding="utf-8") as file:
-            text = file.read()
-        tables = re.findall(r"(?m)^\| Word \| Meaning \| (\w+) \|\n\|---\|---\|---\|\n((?:\|.*\n)+)", text)
-        self.tables = {name: [row.strip("| ").split(" | ") for row in rows.splitlines()] for name, rows in tables}
+            _, self.standard, self.own = re.split(r"(?m)^## .*\n", file.read())
 
-    def test_the_words_are_sorted(self) -> None:
-        self.assertEqual(list(self.tables), ["Section", "Owner"])
-        for rows in self.tables.values():
-            words = [sorted_by(word) for word, _, _ in rows]
+    def entries(self, text: str) -> list[tuple[str, str]]:
+        """Returns the terms of a list with their sections or owners."""
+        found = re.findall(r"(?m)^- \*\*(.+)\*\*: .+ \[([^\]]+)\]$", text)
+        self.assertEqual(len(found), text.count("\n- "))
+        return found
+
+    def test_the_terms_are_sorted(self) -> None:
+        for text in (self.standard, self.own):
+            words = [sorted_by(word) for word, _ in self.entries(text)]
             self.assertEqual(words, sorted(set(words)))
+
+    def test_each_term_of_the_standard_has_a_section(self) -> None:
+        for word, section in self.entries(self.standard):
+            with self.subTest(word):
+                self.assertRegex(section, r"\A(\d+(\.\d+)*(, | to |\Z))+\Z|\Aown\Z|\ATIA/EIA-98\Z")
 
     def test_each_owner_is_a_crate_or_a_folder(self) -> None:
         crates = crates_below(ROOT)
-        for word, _, owners in self.tables["Owner"]:
+        for word, owners in self.entries(self.own):
             for owner in re.findall(r"`([^`]*)`", owners):
                 with self.subTest(word):
                     self.assertTrue(owner in crates or os.path.isdir(os.path.join(ROOT, owner)), owner)
+            self.assertRegex(owners, r"\A(`[^`]+`(, |\Z))+\Z")
 
 
 if __name__ == "__main__":
