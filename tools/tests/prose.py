@@ -17,6 +17,7 @@ from tools.tests.helping import ROOT
 MOST_WORDS = 45
 SHOWN = 10
 PAGES = (
+    "conformance/README.md",
     "docs/ARCHITECTURE.md",
     "docs/FORMATS.md",
     "docs/GLOSSARY.md",
