@@ -5,6 +5,7 @@ ghost use Rattle.clean_signal.specs.BoundedNoise.{LessIsBorne, MarginsAreOne, No
 ghost use Rattle.clean_signal.specs.BoundedNoise.{NoisyChannelsHaveSentSigns};
 ghost use Rattle.clean_signal.specs.BoundedNoise.{NoisyCodewordsAreTheOnlyBest, OtherCellsAreNoise};
 ghost use Rattle.clean_signal.specs.BoundedNoise.{NoisyStreamsShowSymbols, TheLeastBearsForAll};
+ghost use Rattle.clean_signal.specs.BoundedNoise.{ChannelsAreTakenAway, MarginsAreExact};
 ghost use Rattle.clean_signal.specs.ChannelLaws.{ChannelCodewordsAreTheOnlyBest};
 ghost use Rattle.clean_signal.specs.ChannelLaws.{ChannelsHaveSentSigns, EarlyFramesAreZero};
 ghost use Rattle.clean_signal.specs.ChannelLaws.{SilentRowsAreZero, StreamsShowSymbols};
@@ -63,6 +64,16 @@ pub fn bounded_noise()
     ensures codewords { NoisyCodewordsAreTheOnlyBest }
 {}
 
+/// The margin of a channel cannot be greater. Noise of the size of the channel's own amplitude can
+/// take the channel away: the cell's samples without it differ from those with it by no more, and
+/// each soft value of its frames is 0 in them. So over a link along one axis, for a channel that is
+/// no louder than the pilot, the margin is exact. The channel bears noise of a size if, and only
+/// if, the soft values of a frame have the sent signs in every file with noise of that size.
+pub fn margins_are_exact()
+    ensures taken { ChannelsAreTakenAway }
+    ensures exact { MarginsAreExact }
+{}
+
 /// Samples that are near to others within 0 are the others, and noise upon noise is noise of the
 /// sum of both sizes. A second path to the cell is noise, as another cell is: it differs by at most
 /// the sum of its link's absolute parts, times the sum of the cell's gains. So is rounding. Over a
@@ -77,22 +88,22 @@ pub fn rounding_is_noise()
     ensures rounded { RoundingIsNoise }
 {}
 
-/// A phase whose energy stands out from those of all other phases, on samples without noise, is the
-/// best phase of whatever samples differ from those by little: noise of the size e changes the
+/// A phase whose energy stands out from those of all other phases, in samples without noise, is the
+/// best phase of all samples that differ little from those. Noise of the size e changes the
 /// absolute value of a phase's sum by at most 2 e for each sample, so the roots of two energies
-/// keep their order where they are more than 4 e apart for each sample. Of what a cell sends that
-/// can be computed from its script alone, and holds of each file with such noise.
+/// keep their order if they are more than 4 e apart for each sample. For what a cell sends, this
+/// can be computed from the script alone, and it holds for each file with such noise.
 pub fn the_search_bears_noise()
     ensures less { FoundThroughLess }
     ensures search { SearchBearsNoise }
     ensures files { NearFilesAreFound }
 {}
 
-/// Where a cell's pilot is as loud as all of its other channels together, each sample that it sends
-/// is a number of at least 0 times the link and the code's chip. So no phase has more energy than
-/// the path's own, on however many samples; and the search finds the path where that is phase 0.
-/// Where the pilot is louder than all of them, the search finds the path at any phase, from sixteen
-/// samples on: no other phase of the pilot's codes has the same sixteen chips, turned or not.
+/// If a cell's pilot is as loud as all of its other channels together, each sample that it sends is
+/// a number of at least 0 times the link and the code's chip. So no phase has more energy than the
+/// path's own, in any number of samples, and the search finds the path if that is phase 0. If the
+/// pilot is louder than all of them, the search finds the path at any phase, from sixteen samples
+/// on: no other phase of the pilot's codes has the same sixteen chips, turned or not.
 pub fn loud_pilots_are_found()
     ensures greatest { LoudPilotsAreGreatest }
     ensures first { LoudPilotsAreFoundFirst }
