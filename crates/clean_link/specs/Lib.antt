@@ -7,6 +7,7 @@ pub mod DistinctPlan
 pub mod HeardEach
 pub mod HeardFrames
 pub mod HeardPages
+pub mod MarginFile
 pub mod NoisyFile
 pub mod ReceivedFrames
 pub mod ReceivedLaws
