@@ -1,5 +1,7 @@
 -- The modules of lemmas of `reply_laws`.
 pub mod Common
+pub mod HeardThrough
+pub mod LouderPilots
 pub mod MadeLinks
 pub mod NearPaths
 pub mod NoisyReplies
@@ -9,3 +11,4 @@ pub mod SentLines
 pub mod SentReplies
 pub mod SleepLaw
 pub mod SlotReplies
+pub mod WholeFiles

@@ -85,7 +85,7 @@ unfolding made_file
 made_spelled width plan = refl
 
 -- the file of a lawful plan
-lawful_readable : (width : Width) (plan : CellPlan) → IsLawfulPlan width plan →
+pub lawful_readable : (width : Width) (plan : CellPlan) → IsLawfulPlan width plan →
     IsSampleFile (made_file width plan) (header_of width plan) (made_samples plan)
 lawful_readable width plan lawful =
     let read = sym (made_width width plan) in

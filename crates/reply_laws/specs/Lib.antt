@@ -1,4 +1,6 @@
 -- The modules of definitions of `reply_laws`.
+pub mod HeardThrough
+pub mod LouderPilots
 pub mod MadeLaws
 pub mod NoisyReplies
 pub mod OneCodeword
@@ -7,3 +9,4 @@ pub mod SentLines
 pub mod SentReplies
 pub mod SleepLaw
 pub mod SlotReplies
+pub mod WholeFiles

@@ -1,0 +1,176 @@
+-- Two whole files meet every premise of the laws.
+use Rattle.reply_laws.proofs.Common.{◌≡◌, ◌≤◌, ℕ, List, [], ◌∷◌, ◌-◌, ◌≢◌, length, map, take, refl, sym, ap, ◌∙◌, subst, arith}
+use Rattle.reply_laws.proofs.Common.{Some, None, Ok}
+use Rattle.reply_laws.proofs.Common.{All, All-nil, Sample, Sixteen, IsSampleFile, IsNotDirected, IsNoisyFile, Status}
+use Rattle.reply_laws.proofs.Common.{TrafficPlan}
+use Rattle.reply_laws.proofs.Common.{clean_end, end_when, is_some, mark, events, kept_by, run_text, settings_for, tuning_for, header_of}
+use Rattle.reply_laws.proofs.Common.{length-made, made_samples}
+use Rattle.reply_laws.proofs.Common.{named_receivable, plan_named}
+use Rattle.chip_core.specs.Decimals.{digits_from}
+use Rattle.hex.specs.Hex.{decode_pairs}
+use Rattle.cell_script.proofs.Common.{admits, binary, bits_in_text, bits_left, cell_in, draft_after, fill, freq_in, hex_bits, hex_from}
+use Rattle.cell_script.proofs.Common.{is_body}
+use Rattle.cell_script.proofs.Common.{is_line, length_before, lines, link_in, number_up_to, numbers_in, page_stage, paging_in, past}
+use Rattle.cell_script.proofs.Common.{past_freq}
+use Rattle.cell_script.proofs.Common.{past_numbers, pilot_in, script_field, signed_in, state_in, stated, stated_page_in, stated_plan}
+use Rattle.cell_script.proofs.Common.{statement_in, sync_behind, sync_in, with_line, with_next}
+use Rattle.cell_plan.specs.Plan.{IsFreeOf}
+use Rattle.clean_frames.specs.WholeSendings.{heard_behind, sending_ends, whole_sendings}
+use Rattle.clean_link.proofs.noise.FileAtMargin.{pages_told, sync_told}
+use Rattle.clean_link.proofs.noise.MarginFile.{meets_premises}
+use Rattle.clean_link.specs.CleanLink.{sending_event, sync_sent}
+use Rattle.clean_link.specs.Common.{capsule, check_bits, places, some_message, some_sync, spelling, sync_body, sync_capsule}
+use Rattle.clean_link.specs.SentEvents.{signaling_sent}
+use Rattle.clean_link.specs.NoisyFile.{cell, cell_beside, file, noisy_paging_plan, sync_with}
+use Rattle.clean_signal.proofs.noise.Near.{less_borne}
+use Rattle.clean_signal.proofs.signal.FoundPhase.{plan_files}
+use Rattle.command_line.specs.declared.job.Job.{Job}
+use Rattle.command_line.specs.declared.job.Job.TheVariants as jobs
+use Rattle.owed_replies.specs.Replies.{IsReply, Reply}
+use Rattle.owed_replies.specs.declared.status.Status.TheVariants.{Done}
+use Rattle.reply_laws.proofs.LouderPilots.{clean, enough, louder_follow, readable}
+use Rattle.reply_laws.proofs.MadeLinks.{lawful_readable}
+use Rattle.reply_laws.proofs.NoisyReplies.{noisy_follow, noisy_undirected}
+use Rattle.reply_laws.proofs.Owed.{follow_owes}
+use Rattle.reply_laws.specs.LouderPilots.{HasLouderPilot}
+use Rattle.reply_laws.specs.WholeFiles.{MeetsEachPremise, MeetsEachNoisePremise, margin_bytes, second_cell}
+use Rattle.reply_laws.specs.WholeFiles.{second_event, second_file}
+use Rattle.reply_laws.specs.WholeFiles.{second_header, second_script, second_text}
+
+-- ---- without noise
+
+named : plan_named Sixteen second_script ≡ Ok second_cell
+unfolding second_script plan_named stated_plan stated draft_after lines is_line with_line with_next
+    statement_in cell_in link_in pilot_in sync_in sync_behind freq_in past_freq paging_in
+    stated_page_in numbers_in past_numbers script_field past length_before number_up_to digits_from
+    signed_in state_in hex_from bits_in_text hex_bits decode_pairs binary is_body admits page_stage
+    bits_left fill
+named = refl
+
+louder : HasLouderPilot Sixteen second_script second_cell 2048
+louder = record { named = named; louder = omega arith; least = omega arith; enough = omega arith }
+
+none_directed : All IsNotDirected (signaling_sent second_cell None)
+unfolding signaling_sent
+none_directed = All-nil IsNotDirected
+
+abbrev ends_at : ℕ → ℕ
+ends_at sending = heard_behind 32768 1228800 (sending_ends second_cell (some_message 0) sending - 0)
+
+whole_are : (whole_sendings second_cell (some_message 0) ≡ 0 ∷ 1 ∷ 2 ∷ 3 ∷ [])
+    × (ends_at 0 ≡ 294848) × (ends_at 1 ≡ 589760) × (ends_at 2 ≡ 884672) × (ends_at 3 ≡ 1179584)
+unfolding sync_capsule sync_body spelling capsule check_bits places binary
+whole_are = (refl, refl, refl, refl, refl)
+
+second_sync : sync_sent second_cell ≡
+    second_event 294848 0 ∷ second_event 589760 1 ∷ second_event 884672 2 ∷ second_event 1179584 3 ∷ []
+unfolding sync_sent
+second_sync =
+    ap (map (sending_event second_cell (some_message 0))) whole_are.0
+    ∙ rw (whole_are.1, whole_are.2, whole_are.3, whole_are.4) refl
+
+told : clean_end second_cell ≡ Done
+told = rw (second_sync) refl
+
+no_traffic : IsFreeOf second_cell.traffic 1
+no_traffic = All-nil (λ (t : TrafficPlan). t.row ≢ 1)
+
+module _ (forms limits : List ℕ) (workers : ℕ) where
+  abbrev job : Job
+  job = jobs.Follow 2048 workers 1 1 None limits
+
+  abbrev whole : Reply
+  whole = Ok (second_text forms limits, Done)
+
+  -- the one reply that is owed
+  only : (reply : Reply) → IsReply forms job second_file reply → reply ≡ whole
+  only reply owed =
+      louder_follow workers 1 None limits (omega arith, omega arith) forms second_script Sixteen
+      second_cell 2048 reply louder owed no_traffic tt none_directed
+      ∙ ap (λ (end : Status). Ok (second_text forms limits, end)) told
+
+  owed : IsReply forms job second_file whole
+  owed =
+      let xs = made_samples second_cell in
+      let t = tuning_for (settings_for second_header 1 1 None) (take 2048 xs) in
+      let found : Reply = Ok (
+        run_text (kept_by limits forms) (events t xs),
+        end_when (is_some (mark t xs (length xs))),
+      ) in
+      let is : IsReply forms job second_file found =
+      follow_owes forms 2048 workers 1 1 None limits second_file second_header xs (readable louder)
+      (enough louder) in
+      subst (IsReply forms job second_file) (only found is) is
+
+pub meets_each : MeetsEachPremise
+meets_each = record {
+  louder = louder;
+  file = readable louder;
+  clean = clean louder 1 None tt none_directed;
+  free = no_traffic;
+  follows = tt;
+  noisy = record {
+    file = readable louder;
+    enough = enough louder;
+    near = plan_files Sixteen second_cell 2048 second_header
+        (named_receivable Sixteen second_script second_cell named) louder.louder louder.least
+        louder.enough refl refl;
+    sync = some_sync 0;
+    sends = refl;
+    bears = omega arith;
+  };
+  sync = second_sync;
+  owed = λ forms limits workers reply. (
+    only forms limits workers reply,
+    λ same.
+        subst (IsReply forms (job forms limits workers) second_file) (sym same)
+        (owed forms limits workers),
+  );
+  written = λ forms limits held workers status new answers.
+      answers (whole forms limits workers) (owed forms limits workers);
+}
+
+-- ---- with noise
+
+noisy_file : (span : ℕ) → 16 ≤ span → span ≤ 737280 →
+    IsNoisyFile 89 margin_bytes Sixteen cell span 1 (header_of Sixteen cell) file
+noisy_file span least long = record {
+  file =
+      subst (λ (xs : List Sample). IsSampleFile margin_bytes (header_of Sixteen cell) xs)
+      (sym meets_premises.sent)
+      (lawful_readable Sixteen (cell_beside (Some (sync_with 1))) meets_premises.sender.lawful);
+  enough =
+      rw (
+        ap (λ (xs : List Sample). length xs) meets_premises.sent,
+        length-made (cell_beside (Some (sync_with 1))),
+      ) long;
+  near = meets_premises.near span least long;
+  sync = sync_with 90;
+  sends = refl;
+  bears = meets_premises.hears.bears;
+}
+
+margin_told : clean_end cell ≡ Done
+margin_told = rw (sync_told) refl
+
+pub meets_noise : MeetsEachNoisePremise
+unfolding signaling_sent
+meets_noise = record {
+  noisy = noisy_file;
+  owed = λ forms limits workers span reply least long owed.
+      let noisy = noisy_file span least long in
+      let header = header_of Sixteen cell in
+      let t = tuning_for (settings_for header 1 1 None) (take span file) in
+      let undirected = noisy_undirected margin_bytes 89 Sixteen cell span 1 1 None header file noisy tt
+      (λ p traffic chosen. absurd (cc)) (All-nil IsNotDirected) in
+      let both = noisy_follow forms limits margin_bytes 89 Sixteen cell span workers 1 1 None header file
+      reply noisy undirected owed in (
+        events t file,
+        both.0 ∙ ap (λ (end : Status). Ok (run_text (kept_by limits forms) (events t file), end))
+            margin_told,
+        both.1.sync ∙ sync_told,
+        both.1.pages noisy_paging_plan (0, omega arith, refl) refl
+            (less_borne cell 90 180 89 89 meets_premises.hears.bears (omega arith) (omega arith))
+            ∙ pages_told,
+      );
+}

@@ -1,0 +1,6 @@
+-- Why the law `near_files_come_back` holds.
+use Rattle.reply_laws.proofs.HeardThrough.{comes_back}
+use Rattle.reply_laws.proofs.laws.near_files_come_back.Goals as goal
+
+pub returns : goal.returns
+returns c = comes_back

@@ -1,0 +1,126 @@
+-- Two whole files that meet every premise of the laws: the file of a script without noise, and one
+-- with noise of the size of its margin.
+use Rattle.std.specs.Prelude.{◌≡◌, ◌≤◌, ◌↔◌, ◌⊎◌, ◌++◌, ◌/◌, ℕ, List, [], ◌∷◌, codes, false}
+use Rattle.std.specs.Prelude.{filter, replicate}
+use Rattle.std.specs.Prelude.{None, Option, Some, Ok}
+use Rattle.cdma_io.specs.SampleFile.{IsSampleFile}
+use Rattle.cdma_io.specs.declared.header.Header.{Header}
+use Rattle.cell_plan.specs.Plan.{IsFreeOf}
+use Rattle.cell_plan.specs.Sampled.{made_samples}
+use Rattle.cell_plan.specs.Transmitter.{header_of}
+use Rattle.cell_plan.specs.declared.plan.CellPlan.{CellPlan}
+use Rattle.cell_plan.specs.declared.plan.PagingPlan.{PagingPlan}
+use Rattle.chip_core.specs.Bits.{binary}
+use Rattle.clean_link.specs.CleanLink.{sync_sent}
+use Rattle.clean_link.specs.Common.{Plain, Sixteen, Sync, message_of, some_message, some_sync}
+use Rattle.clean_link.specs.Common.{sync_capsule}
+use Rattle.clean_link.specs.HeardEach.{is_page, is_sync}
+use Rattle.clean_link.specs.NoisyFile.{cell, cell_beside, file, last_page, sync_event}
+use Rattle.clean_link.specs.NoisyFile.{sync_with}
+use Rattle.clean_link.specs.SentEvents.{FollowsSent}
+use Rattle.clean_signal.specs.WorkedCells.{cell_with}
+use Rattle.command_line.specs.declared.job.Job.TheVariants as jobs
+use Rattle.event_tap.specs.Taps.{kept_by, run_text}
+use Rattle.heard_events.specs.declared.event.Event.{Event}
+use Rattle.owed_replies.specs.CleanFiles.{IsCleanLink}
+use Rattle.owed_replies.specs.Hearing.{clean_events}
+use Rattle.owed_replies.specs.Make.{made_file}
+use Rattle.owed_replies.specs.Replies.{AnswersBehind, IsReply, Reply}
+use Rattle.owed_replies.specs.declared.status.Status.{Status}
+use Rattle.owed_replies.specs.declared.status.Status.TheVariants.{Done, NoMemory}
+use Rattle.reply_laws.specs.LouderPilots.{HasLouderPilot}
+use Rattle.reply_laws.specs.NoisyReplies.{IsNoisyFile}
+
+-- ---- without noise
+
+-- the script `examples/second_of_paging.script`
+unfoldable pub second_script : List ℕ
+second_script =
+    codes "cell pn=511 time=1000 lc=20000000000 checks=0" ++ 10
+    ∷ codes "link re=0 im=-3 start=0 samples=1228800" ++ 10
+    ∷ codes "pilot gain=100" ++ 10
+    ∷ codes "sync gain=30 prev=3 min=1 sid=1 nid=2 lp=13 ltm=0 daylt=0 prat=0 rest=3:00" ++ 10
+    ∷ codes "paging channel=1 gain=60" ++ 10
+    ∷ codes "page half 34:04ff8046c0" ++ 10 ∷ []
+
+-- its paging channel, whose page is of the type 4, with 26 bits after it
+abbrev pub second_paging : PagingPlan
+second_paging = record {
+  number = 1;
+  gain = 60;
+  pages = record { follows = false; body = binary 34 (0x04ff8046c0 / 64) } ∷ [];
+}
+
+-- the cell that it names
+abbrev pub second_cell : CellPlan
+second_cell = cell_with 0 1228800 Plain (Some (some_sync 0)) (second_paging ∷ []) []
+
+-- the header and the bytes of the file that `make` writes of it
+abbrev pub second_header : Header
+second_header = header_of Sixteen second_cell
+
+abbrev pub second_file : List ℕ
+second_file = made_file Sixteen second_cell
+
+-- the event of a transmission, which is known at so many samples
+abbrev pub second_event : ℕ → ℕ → Event
+second_event at sending =
+    let told = message_of second_cell.cell (some_message 0) sending in
+    Sync at (sync_capsule Plain told) told
+
+-- the text that taps of these forms and limits make of all that the cell sends
+abbrev pub second_text : List ℕ → List ℕ → List ℕ
+second_text forms limits = run_text (kept_by limits forms) (clean_events 2048 second_cell 1 None)
+
+pub record MeetsEachPremise : Type 0 where
+  -- The script names the cell. Its pilot is louder than both of its other channels together, so the
+  -- search finds its path in the first 2,048 samples. The file is a clean link for one finger, for
+  -- paging channel 1 and for no traffic channel: the default options of `follow`.
+  pub louder : HasLouderPilot Sixteen second_script second_cell 2048
+  pub file : IsSampleFile second_file second_header (made_samples second_cell)
+  pub clean : IsCleanLink Sixteen second_script second_cell 2048 1 1 None second_header
+      (made_samples second_cell)
+  pub free : IsFreeOf second_cell.traffic 1
+  pub follows : FollowsSent second_cell None
+  -- It is a file with noise of the size 0 too.
+  pub noisy : IsNoisyFile 0 second_file Sixteen second_cell 2048 1 second_header
+      (made_samples second_cell)
+  -- Four transmissions of the sync channel are whole, and tell the time.
+  pub sync : sync_sent second_cell ≡
+      second_event 294848 0 ∷ second_event 589760 1 ∷ second_event 884672 2
+      ∷ second_event 1179584 3 ∷ []
+  -- The one reply that `follow` owes is the text of all that the cell sends, and the run ends well.
+  pub owed : (forms limits : List ℕ) (workers : ℕ) (reply : Reply) →
+      IsReply forms (jobs.Follow 2048 workers 1 1 None limits) second_file reply ↔
+      (reply ≡ Ok (second_text forms limits, Done))
+  -- So a run that returns what it owes, unless memory runs out, writes exactly that. By the clause
+  -- `exact` of `RunsCommand`, the program's run does, if no call on the outside fails.
+  pub written : (forms limits held : List ℕ) (workers : ℕ) (status : Status)
+      (new : Option (List ℕ)) →
+      ((reply : Reply) →
+      IsReply forms (jobs.Follow 2048 workers 1 1 None limits) second_file reply →
+      (status ≡ NoMemory) ⊎ AnswersBehind held reply status new) →
+      (status ≡ NoMemory)
+      ⊎ ((status ≡ Done) × (new ≡ Some (held ++ second_text forms limits)))
+
+-- ---- with noise of 89
+
+-- The bytes of the worked file with noise of 89, which are those of a cell whose sync channel has
+-- the gain 1.
+abbrev pub margin_bytes : List ℕ
+margin_bytes = made_file Sixteen (cell_beside (Some (sync_with 1)))
+
+pub record MeetsEachNoisePremise : Type 0 where
+  -- They are a sample file of the cell with noise of 89, which its sync channel bears, for one
+  -- finger and any span from sixteen samples on.
+  pub noisy : (span : ℕ) → 16 ≤ span → span ≤ 737280 →
+      IsNoisyFile 89 margin_bytes Sixteen cell span 1 (header_of Sixteen cell) file
+  -- `follow` owes the text of a list of events: of the sync channel just the two whole
+  -- transmissions, and of paging channel 1 just the pages of the four half-frames after the mark.
+  pub owed : (forms limits : List ℕ) (workers span : ℕ) (reply : Reply) → 16 ≤ span →
+      span ≤ 737280 →
+      IsReply forms (jobs.Follow span workers 1 1 None limits) margin_bytes reply →
+      (heard : List Event)
+      × (reply ≡ Ok (run_text (kept_by limits forms) heard, Done))
+      × (filter is_sync heard ≡ sync_event 294848 0 ∷ sync_event 589760 1 ∷ [])
+      × (filter is_page heard ≡ replicate 4 last_page)
