@@ -33,6 +33,7 @@ INSTALLED = {
     "listen": "cdma-listen",
     "domain": "cdma-domain",
     "adapt": "cdma-adapt",
+    "script": "cdma-script",
 }
 
 

@@ -1,0 +1,1 @@
+"""Scripts of cells: what is wrong with one, in words, and how to begin a new one (docs/FORMATS.md, "Script")."""
