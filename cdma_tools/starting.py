@@ -10,31 +10,39 @@ import os
 import sys
 
 INTERRUPTED = 130  # the status of a command that an interrupt ended
-# What a checkout calls a command, where that isn't the name of its module.
-IN_CHECKOUT = {
-    "make_capture": "make_capture.py",
-    "conformance": "conformance/run",
-    "conformance_recordings": "conformance/run_recordings",
-    "conformance_check": "conformance/check",
-    "conformance_write": "conformance/write",
-}
-# And what it is called where it is installed.
-INSTALLED = {
-    "import_capture": "cdma-import",
-    "channel": "cdma-channel",
-    "scan": "cdma-scan",
-    "report": "cdma-report",
-    "lines": "cdma-lines",
-    "draw": "cdma-draw",
-    "explain": "cdma-explain",
-    "curve": "cdma-curve",
-    "conformance": "cdma-conformance",
-    "margin": "cdma-margin",
-    "listen": "cdma-listen",
-    "domain": "cdma-domain",
-    "adapt": "cdma-adapt",
-    "script": "cdma-script",
-}
+# All commands: the module in cdma_tools/commands, the launcher in a checkout, and the name where it is installed.
+COMMANDS = (
+    ("import_capture", "tools/import_capture", "cdma-import"),
+    ("channel", "tools/channel", "cdma-channel"),
+    ("scan", "tools/scan", "cdma-scan"),
+    ("report", "tools/report", "cdma-report"),
+    ("lines", "tools/lines", "cdma-lines"),
+    ("draw", "tools/draw", "cdma-draw"),
+    ("explain", "tools/explain", "cdma-explain"),
+    ("curve", "tools/curve", "cdma-curve"),
+    ("conformance", "conformance/run", "cdma-conformance"),
+    ("margin", "tools/margin", "cdma-margin"),
+    ("listen", "tools/listen", "cdma-listen"),
+    ("domain", "tools/domain", "cdma-domain"),
+    ("adapt", "tools/adapt", "cdma-adapt"),
+    ("script", "tools/script", "cdma-script"),
+    ("agree", "tools/agree", ""),
+    ("bench", "tools/bench", ""),
+    ("build", "tools/build", ""),
+    ("conformance_check", "conformance/check", ""),
+    ("conformance_recordings", "conformance/run_recordings", ""),
+    ("conformance_write", "conformance/write", ""),
+    ("gate_times", "tools/gate_times", ""),
+    ("hostile", "tools/hostile", ""),
+    ("house", "tools/house", ""),
+    ("install", "tools/install", ""),
+    ("make_capture", "tools/make_capture", ""),
+    ("package", "tools/package", ""),
+    ("radio_bench", "tools/radio_bench", ""),
+    ("starve", "tools/starve", ""),
+)
+IN_CHECKOUT = {module: launcher.removeprefix("tools/") for module, launcher, _ in COMMANDS}
+INSTALLED = {module: name for module, _, name in COMMANDS if name}
 
 
 def is_installed() -> bool:
@@ -45,6 +53,19 @@ def is_installed() -> bool:
 def called(tool: str) -> str:
     """What a tool is called: `scan` in a checkout, `cdma-scan` where it is installed."""
     return INSTALLED.get(tool, tool) if is_installed() else IN_CHECKOUT.get(tool, tool)
+
+
+def named_by(path: str) -> str:
+    """Returns the command of the launcher at a path: the path names it, or a link on the way to the launcher does."""
+    while True:
+        folder, name = os.path.split(path)
+        place = os.path.basename(os.path.realpath(folder or ".")) + "/" + name
+        for module, launcher, _ in COMMANDS:
+            if launcher == place:
+                return module
+        if not os.path.islink(path):
+            raise SystemExit(f"{name}: not the launcher of a command")
+        path = os.path.join(folder, os.readlink(path))
 
 
 def start(name: str) -> int:

@@ -5,7 +5,7 @@ amplitude, and Gaussian noise on both branches. The noise comes from a seed, so 
 file. The line that is printed is the one that a search over the first 2,048 samples gives if the pilot's phase is the
 best one: the energy is computed here by the definition, independently of the program.
 
-    tools/make_capture.py examples/pilot_in_noise.is95
+    tools/make_capture examples/pilot_in_noise.is95
 
 Exit status: 0 made, 1 the file can't be written, 2 wrong arguments.
 """

@@ -5,8 +5,8 @@
     tools/script new [OPTIONS]     writes a script to start from, by options or by questions
     tools/script words -- ARGS     what is wrong with arguments of cdma_replay
 
-FILE is a script as `cdma_replay make` takes it (docs/FORMATS.md, "Script"), - for standard input. The program names only
-the line of the first fault; `check` agrees with it, which its last line shows.
+FILE is a script as `cdma_replay make` takes it (docs/FORMATS.md, "Script"), - for standard input. The program names
+only the line of the first fault; `check` agrees with it, which its last line shows.
 
     tools/script check mine.script
     tools/script new --pn 100 --paging 1 --traffic 10:00c0ffee --seconds 2 --out mine.script
@@ -56,7 +56,9 @@ def parser() -> argparse.ArgumentParser:
 def add_file(part: argparse.ArgumentParser) -> None:
     """Adds the arguments that name a script."""
     part.add_argument("script", metavar="FILE", help="the script, - for standard input")
-    part.add_argument("--bits", type=int, choices=(8, 16), default=16, help="bits of a sample, as make has them (default 16)")
+    part.add_argument(
+        "--bits", type=int, choices=(8, 16), default=16, help="bits of a sample, as make has them (default 16)"
+    )
 
 
 def add_new(part: argparse.ArgumentParser) -> None:
@@ -72,11 +74,13 @@ def add_new(part: argparse.ArgumentParser) -> None:
     part.add_argument("--sync", type=LEVEL, default=DEFAULT_SYNC, metavar="DB",
                       help=f"the sync channel's level against the pilot in dB (default {DEFAULT_SYNC:g})")  # fmt: skip
     part.add_argument("--paging", type=paging_of, action="append", default=[], metavar="CHANNEL[:DB]",
-                      help=f"a paging channel, 1 to 7, and its level (default {DEFAULT_PAGING:g}); may be repeated")  # fmt: skip
+                      help=f"a paging channel, 1 to 7, and level (default {DEFAULT_PAGING:g}), repeatable")  # fmt: skip
     part.add_argument("--traffic", type=traffic_of, action="append", default=[], metavar="ROW:ESN[:OFFSET[:DB]]",
-                      help="a traffic channel: Walsh row 1 to 63, serial number of eight hex digits, FRAME_OFFSET 0 to 15 "
-                      f"(default 0), level (default {DEFAULT_TRAFFIC:g}); may be repeated")  # fmt: skip
-    part.add_argument("--rate-set", type=int, choices=(1, 2), default=1, help="rate set of the traffic frames (default 1)")
+                      help="a traffic channel: Walsh row 1 to 63, serial number in hex, FRAME_OFFSET 0 to 15 "
+                      f"(default 0), level (default {DEFAULT_TRAFFIC:g}), repeatable")  # fmt: skip
+    part.add_argument(
+        "--rate-set", type=int, choices=(1, 2), default=1, help="rate set of the traffic frames (default 1)"
+    )
     part.add_argument("--ask", action="store_true", help="ask for each value on the terminal")
     part.add_argument("--quiet", action="store_true", help="leave out the comments, which go to standard error")
     part.add_argument("--out", default="-", metavar="FILE", help="where the script goes (default: standard output)")
@@ -86,7 +90,9 @@ def long_code_state(text: str) -> int:
     """Returns the long code's state that eleven hex digits name."""
     value = read_by(lambda digits: int(digits, 16), text, "not eleven hex digits")
     if len(text) != 11 or not 1 <= value < 1 << 42:
-        raise argparse.ArgumentTypeError(f"not eleven hex digits from 00000000001 to 3ffffffffff: {text[:LONGEST_SHOWN]!r}")
+        raise argparse.ArgumentTypeError(
+            f"not eleven hex digits from 00000000001 to 3ffffffffff: {text[:LONGEST_SHOWN]!r}"
+        )
     return int(value)
 
 
@@ -100,7 +106,9 @@ def traffic_of(text: str) -> beginning.Traffic:
     """Returns the traffic channel that ROW:ESN[:OFFSET[:DB]] names, of rate set 1."""
     row, esn, offset, level, *more = [*text.split(":"), "", "", ""][: max(4, text.count(":") + 1)]
     if more or len(esn) != 8:
-        raise argparse.ArgumentTypeError(f"not ROW:ESN[:OFFSET[:DB]] with an ESN of eight hex digits: {text[:LONGEST_SHOWN]!r}")
+        raise argparse.ArgumentTypeError(
+            f"not ROW:ESN[:OFFSET[:DB]] with an ESN of eight hex digits: {text[:LONGEST_SHOWN]!r}"
+        )
     return beginning.Traffic(
         whole_within(1, 63)(row),
         read_by(lambda digits: int(digits, 16), esn, "not eight hex digits"),
@@ -197,7 +205,14 @@ def run_new(options: argparse.Namespace) -> int:
         ask(options)
     traffic = tuple(dataclasses.replace(one, rate_set=options.rate_set) for one in options.traffic)
     plan = beginning.Plan(
-        options.pn, options.time, options.state, options.seconds, options.bits, options.sync, tuple(options.paging), traffic
+        options.pn,
+        options.time,
+        options.state,
+        options.seconds,
+        options.bits,
+        options.sync,
+        tuple(options.paging),
+        traffic,
     )
     lines = beginning.lines_of(plan)
     text = "".join(line + "\n" for line, _ in lines)

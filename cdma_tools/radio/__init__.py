@@ -14,5 +14,6 @@
 | `locking` | all of that one after the other, and what was found |
 | `scanning` | many centre frequencies, one after the other |
 | `channel` | a recording as a radio would make it, from sample files |
-| `bench_cases` | the cells and links of `tools/radio_bench` |
+| `bench` | what a lock to a recording loses, for `tools/radio_bench` |
+| `bench_cases` | its cells and links |
 """

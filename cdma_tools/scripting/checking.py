@@ -1,7 +1,7 @@
 """Checks a script and reports all its faults: the place of each, why it is one, and what would be right.
 
-The verdict is the program's (docs/FORMATS.md, "Faults of a script"): the kinds of faults are tried in a fixed order, each
-over the whole script, and the first decides.
+The verdict is the program's (docs/FORMATS.md, "Faults of a script"): the kinds of faults are tried in a fixed order,
+each over the whole script, and the first decides.
 """
 
 import dataclasses
@@ -32,7 +32,7 @@ class Kind(enum.Enum):
 
 @dataclasses.dataclass(frozen=True)
 class Fault:
-    """A fault: its line and column, counted from 1, the text there, the reason, and the verdict that it alone would give."""
+    """A fault: line and column, counted from 1, the text there, the reason, and the verdict that it would give."""
 
     kind: Kind
     line: int
@@ -287,7 +287,9 @@ class Checker:
         if len(words) == count:
             return True
         column = words[count].column if len(words) > count else 1
-        self.add(column, "", f"{name} has {count} words after its name, here are {len(words)}: {statements.FORMS[name]}")
+        self.add(
+            column, "", f"{name} has {count} words after its name, here are {len(words)}: {statements.FORMS[name]}"
+        )
         return False
 
     def value(self, text: str, column: int, reader: Reader, name: str = "") -> object | None:
@@ -360,8 +362,9 @@ class Checker:
         loudness, most = factor * total, LOUDEST[self.width]
         if loudness > most:
             reason = (
-                f"(|re| + |im|) times the sum of the gains is {factor:,} x {total:,} = {loudness:,}, {loudness - most:,} more"
-                f" than {most:,}: bring the sum of the gains down to {most // factor:,}, or make the link weaker"
+                f"(|re| + |im|) times the sum of the gains is {factor:,} x {total:,} = {loudness:,},"
+                f" {loudness - most:,} more than {most:,}: bring the sum of the gains down to {most // factor:,},"
+                " or make the link weaker"
             )
             self.add_other(Kind.TOO_LOUD, (self.link_place[0], 1), loudness, reason)
 

@@ -61,7 +61,9 @@ def content_lines(script: Script, sync: dict[str, str] | None) -> list[str]:
     lines = []
     if sync:
         frequency = f", CDMA_FREQ {sync['freq']}" if "freq" in sync else ""
-        lines.append(f"sync     SID {sync['sid']}, NID {sync['nid']}, P_REV {sync['prev']}, PRAT {sync['prat']}{frequency}")
+        lines.append(
+            f"sync     SID {sync['sid']}, NID {sync['nid']}, P_REV {sync['prev']}, PRAT {sync['prat']}{frequency}"
+        )
     if script.paging:
         rate = {0: 9600, 1: 4800}.get(script.prat if script.prat is not None else -1)
         lines.append(f"paging   channels {', '.join(map(str, script.paging))} at {rate} bits a second")
@@ -78,4 +80,3 @@ def traffic_line(channel: Traffic) -> str:
         f"traffic  row {channel.row}, ESN {channel.esn}, offset {channel.offset}: a cycle of {len(channel.frames)}"
         f" frames ({kinds} bits a second), {len(channel.frames) * 0.02:.2f} s"
     )
-

@@ -1,4 +1,4 @@
-"""The statements of a script: their keys in order, which may follow which, and what the values of one line need together."""
+"""The statements of a script: their keys in order, which may follow which, and how pages are laid out."""
 
 from cdma_tools.scripting.values import BitText, HexDigits, Number, Reader, bits_of
 
@@ -137,4 +137,6 @@ class Cycle:
         filled = self.laid + -(-self.laid // self.size)
         if filled <= MOST_CYCLE:
             return None
-        return f"with this page the channel's cycle has {filled:,} bits, {filled - MOST_CYCLE:,} more than {MOST_CYCLE:,}"
+        return (
+            f"with this page the channel's cycle has {filled:,} bits, {filled - MOST_CYCLE:,} more than {MOST_CYCLE:,}"
+        )

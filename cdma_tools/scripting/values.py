@@ -31,6 +31,12 @@ def quoted(text: str) -> str:
     return repr(text if len(text) <= LONGEST_SHOWN else text[:LONGEST_SHOWN] + "..")
 
 
+def leading(pattern: str, text: str) -> int:
+    """Returns how many characters at the beginning of a text match a pattern that also matches none."""
+    found = re.match(pattern, text)
+    return found.end() if found else 0
+
+
 @dataclasses.dataclass(frozen=True)
 class Number:
     """Reads a decimal number from `least` to `most`; only a reader with a negative `least` accepts a minus sign."""
@@ -49,7 +55,7 @@ class Number:
         if not figures:
             raise Wrong(f"a number is missing ({self.wanted()})")
         if not re.fullmatch("[0-9]+", figures):
-            raise Wrong(self.why_no_number(text), len(sign) + len(re.match("[0-9]*", figures)[0]))  # type: ignore[index]
+            raise Wrong(self.why_no_number(text), len(sign) + leading("[0-9]*", figures))
         if figures[0] == "0" and (len(figures) > 1 or sign):
             raise Wrong(f"write {figures.lstrip('0') or '0'} without a leading {'sign' if figures == '0' else 'zero'}")
         if len(figures) > 20 or not self.least <= int(text) <= self.most:
@@ -85,9 +91,9 @@ class HexDigits:
         """Returns the number of a text."""
         if text[:2].lower() == "0x":
             raise Wrong(f"write {self.wanted()} without 0x")
-        digits = re.match("[0-9a-fA-F]*", text)
-        if digits and digits.end() < len(text):
-            raise Wrong(f"{text[digits.end()]!r} isn't a hex digit ({self.wanted()})", digits.end())
+        good = leading("[0-9a-fA-F]*", text)
+        if good < len(text):
+            raise Wrong(f"{text[good]!r} isn't a hex digit ({self.wanted()})", good)
         if len(text) != self.count:
             raise Wrong(f"{len(text)} digits where {self.count} are needed ({self.wanted()})")
         if not self.least <= int(text, 16) <= self.most:
@@ -116,7 +122,7 @@ class BitText:
 
     def octets(self, count: int, digits: str, place: int) -> str:
         """Returns the first `count` bits of hex digits, which begin at a place of the text."""
-        good = len(re.match("[0-9a-fA-F]*", digits)[0])  # type: ignore[index]
+        good = leading("[0-9a-fA-F]*", digits)
         if good < len(digits):
             raise Wrong(f"{digits[good]!r} isn't a hex digit", place + good)
         needed = -(-count // 8) * 2
@@ -141,7 +147,7 @@ class Commands:
 
     def read(self, text: str) -> str:
         """Returns the digits."""
-        good = len(re.match("[01]*", text)[0])  # type: ignore[index]
+        good = leading("[01]*", text)
         if good < len(text):
             raise Wrong(f"{text[good]!r} where a power control bit is needed ({self.wanted()})", good)
         if len(text) != 16:

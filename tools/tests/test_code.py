@@ -74,6 +74,8 @@ class Code(unittest.TestCase):
     def test_no_tool_changes_where_python_looks_for_modules(self) -> None:
         """Nothing in the package reaches for modules by itself: so no class is loaded twice."""
         for place, module in modules("cdma_tools"):
+            if place.endswith("launching.py"):
+                continue  # a checkout's launcher, which is run and not imported
             for node in ast.walk(module):
                 if isinstance(node, ast.Attribute):
                     with self.subTest(f"{place}:{node.lineno}"):

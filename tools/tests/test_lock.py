@@ -12,7 +12,7 @@ needs("numpy", "scipy")
 import numpy  # noqa: E402
 from numpy.typing import NDArray  # noqa: E402
 
-from cdma_tools.commands.radio_bench import without_pilot  # noqa: E402
+from cdma_tools.radio.bench import without_pilot  # noqa: E402
 from tools.tests.radio_helping import (  # noqa: E402
     CHIP_RATE,
     PERIOD,

@@ -27,7 +27,8 @@ from cdma_tools.commands import channel  # noqa: E402
 from cdma_tools.errors import Refused  # noqa: E402
 from cdma_tools.hostile_tools import told_fault  # noqa: E402
 from cdma_tools.program import NOT_FOUND, find_program  # noqa: E402
-from cdma_tools.starting import IN_CHECKOUT, INSTALLED, called  # noqa: E402
+from cdma_tools.repository import launchers  # noqa: E402
+from cdma_tools.starting import COMMANDS, IN_CHECKOUT, INSTALLED, called, named_by  # noqa: E402
 from cdma_tools.writing import write_beside  # noqa: E402
 from tools.tests.radio_helping import run_main  # noqa: E402
 
@@ -97,19 +98,43 @@ class Command(unittest.TestCase):
 
     def test_each_refuses_an_unknown_option_in_one_line(self) -> None:
         for way in WAYS:
-            with open(os.path.join(ROOT, way), encoding="utf-8") as file:
-                name = re.findall(r'start\("(\w+)"\)', file.read())[0]
+            name = named_by(os.path.join(ROOT, way))
             with self.subTest(way):
                 status, wrote, said = run_main(name, "--none")
                 self.assertEqual((status, wrote, said.count("\n")), (2, "", 1), said)
                 self.assertTrue(said.startswith(f"{called(name)}: "), said)
 
     def test_installed_commands_are_entries(self) -> None:
-        with open(os.path.join(ROOT, "pyproject.toml"), encoding="utf-8") as file:
-            named = re.findall(r'(?m)^(cdma-\w+) = "cdma_tools\.entries:(\w+)"$', file.read())
-        self.assertEqual([(name, name.replace("-", "_")) for name in INSTALLED.values()], named)
         for module, name in INSTALLED.items():
             self.assertEqual(getattr(entries, name.replace("-", "_")).args, (module,))
+        with self.assertRaises(AttributeError):
+            entries.cdma_none()
+
+    def test_launchers_and_installed_commands_are_those_of_one_table(self) -> None:
+        self.assertEqual(launchers.differences(), [])
+        modules = {name[:-3] for name in os.listdir(os.path.join(ROOT, "cdma_tools", "commands")) if name.endswith(".py")}
+        self.assertEqual({module for module, _, _ in COMMANDS}, modules - {"__init__"})
+
+    def test_a_changed_launcher_is_found_and_mended(self) -> None:
+        top = temporary_folder(self.addCleanup)
+        for folder in ("tools", "conformance"):
+            os.mkdir(os.path.join(top, folder))
+        with open(os.path.join(top, "pyproject.toml"), "w", encoding="utf-8") as file:
+            file.write('[project.scripts]\ncdma-old = "cdma_tools.entries:cdma_old"\n\n[other]\n')
+        with open(os.path.join(top, "tools", "scan"), "w", encoding="utf-8") as file:
+            file.write("#!/bin/sh\n")
+        found = launchers.differences(top)
+        self.assertEqual(len(found), len(COMMANDS) + 1, found)
+        launchers.write(top)
+        self.assertEqual(launchers.differences(top), [])
+        os.symlink(launchers.TARGET, os.path.join(top, "tools", "more"))
+        self.assertEqual(launchers.differences(top), ["tools/more: not in the table of commands"])
+
+    def test_a_link_to_a_launcher_is_its_command(self) -> None:
+        link = os.path.join(temporary_folder(self.addCleanup), "mine")
+        os.symlink(os.path.join(ROOT, "conformance", "run"), link)
+        ran = subprocess.run([link, "--version"], capture_output=True, text=True, timeout=SECONDS)
+        self.assertTrue(ran.stdout.startswith("conformance/run "), ran)
 
     def test_an_installed_command_has_its_own_name_in_its_help(self) -> None:
         setting = "import sys; sys.argv[0] = '/usr/bin/cdma-scan'; from cdma_tools import entries"
@@ -424,7 +449,7 @@ class Outputs(Folder):
         self.assertEqual((status, wrote[:15], said), (0, b"<!DOCTYPE html>", ""))
         status, wrote, _ = run_tool("import_capture", "--type", "ci8", "--rate", "2457600", self.raw, "-")
         self.assertEqual((status, wrote[:4]), (0, b"IS95"))
-        status, wrote, said = run_tool("make_capture.py", "--count", 64, "-")
+        status, wrote, said = run_tool("make_capture", "--count", 64, "-")
         self.assertEqual((status, len(wrote), said[:11]), (0, 16 + 4 * 64, "pilot phase"))
         self.assertEqual(run_main("explain", "--sync", self.cell, "--picture", "-")[0], 2)
 

@@ -12,7 +12,7 @@ needs("numpy", "scipy")
 
 import numpy  # noqa: E402
 
-from cdma_tools.radio import bench_cases, bench_cells  # noqa: E402
+from cdma_tools.radio import bench, bench_cases, bench_cells  # noqa: E402
 from model.run import run  # noqa: E402
 from tools.tests.radio_helping import run_main  # noqa: E402
 
@@ -110,14 +110,14 @@ class Benches(Programs):
     def test_counts(self) -> None:
         sent = collections.Counter({"sync a": 1, "sync b": 1, "paging x": 3, "frame y": 2})
         heard = collections.Counter({"sync a": 1, "paging x": 2, "paging z": 9, "frame y": 3})
-        self.assertEqual(loaded("radio_bench").counts(sent, heard), "1/2/2")
+        self.assertEqual(bench.counts(sent, heard), "1/2/2")
 
     def test_true_values(self) -> None:
         case = bench_cases.Case("X", "quiet", "cu8", 2.4e6, "--carrier -15000 --drift 50 --clock 25 --clock-drift 0.4")
-        self.assertEqual(loaded("radio_bench").true_values(case, 2.0), (-14_950, 25.4))
+        self.assertEqual(bench.true_values(case, 2.0), (-14_950, 25.4))
 
     def test_what_has_no_pilot_is_of_twenty_kinds(self) -> None:
-        made = [loaded("radio_bench").without_pilot(number, 5_000) for number in range(20)]
+        made = [bench.without_pilot(number, 5_000) for number in range(20)]
         self.assertEqual({len(samples) for samples in made}, {5_000})
         self.assertTrue(all(numpy.isfinite(samples).all() for samples in made))
         self.assertEqual(len({complex(samples[7]) for samples in made}), 20)

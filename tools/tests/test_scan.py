@@ -11,7 +11,7 @@ needs("numpy", "scipy")
 import numpy  # noqa: E402
 
 from cdma_tools.commands import scan  # noqa: E402
-from cdma_tools.commands.radio_bench import without_pilot  # noqa: E402
+from cdma_tools.radio.bench import without_pilot  # noqa: E402
 from cdma_tools.radio import scanning  # noqa: E402
 from tools.tests.radio_helping import Recordings, run_main  # noqa: E402
 

@@ -1,4 +1,4 @@
-"""The tool `script`: its verdict on scripts and on arguments is the program's, and its reasons are those of typical slips."""
+"""The tool `script`: its verdicts are the program's, and its reasons name typical slips."""
 
 import contextlib
 import io
@@ -56,7 +56,7 @@ def by_model(script: bytes, width: int = 16) -> str | None:
 
 
 def by_program(script: bytes, width: int = 16) -> str | None:
-    """The program's verdict on a script; its output has no room, so a script that names a cell ends at the first write."""
+    """The program's verdict on a script; its output has no room, so a right script ends at the first write."""
     assert PROGRAM
     with open("/dev/full", "wb") as full:
         done = subprocess.run(
@@ -86,7 +86,11 @@ def edited(draw: random.Random, text: str) -> bytes:
             if not numbers:
                 continue
             found = draw.choice(numbers)
-            text = text[: found.start()] + str(draw.choice((0, 1, 7, 63, 64, 512, 65_536, 1 << 32, 1 << 64))) + text[found.end() :]
+            text = (
+                text[: found.start()]
+                + str(draw.choice((0, 1, 7, 63, 64, 512, 65_536, 1 << 32, 1 << 64)))
+                + text[found.end() :]
+            )
         else:
             words = rows[row].split(" ")
             draw.shuffle(words)
@@ -199,8 +203,11 @@ class Arguments(unittest.TestCase):
 
     def test_random_arguments_as_the_model(self) -> None:
         draw = random.Random(SEED)
-        words = "find follow rate2 list idle survey make trial --span --workers --fingers --paging --esn --row --offset --k"
-        words += " --key --cycle --base --width --top --bits --number --raw 1 2 8 16 32 64 0000abcd 512 --span=64 --row=10 --"
+        words = (
+            "find follow rate2 list idle survey make trial --span --workers --fingers --paging --esn --row --offset --k"
+        )
+        words += " --key --cycle --base --width --top --bits --number --raw 1 2 8 16 32 64 512"
+        words += " 0000abcd --span=64 --row=10 --"
         right = 0
         for _ in range(4_000):
             given = [draw.choice(words.split()) for _ in range(draw.choice((1, 1, 3, 3, 5, 7)))]
@@ -253,15 +260,24 @@ class Tool(unittest.TestCase):
                 text = file.read()
             self.assertEqual(check(text.encode(), int(width)), [])
             gains = [int(gain) for gain in re.findall("gain=([0-9]+)", text)]
-            for gain, level in zip(gains, (0, -9, -3, -20, -8.5), strict=True):
-                error = 20 * math.log10(gain / gains[0]) - level
-                self.assertLess(abs(error), 0.05 if width == "16" else 1, (width, gain))
+            for gain, level in zip(gains[1:], (-9, -3, -20, -8.5), strict=True):
+                self.assertLessEqual(abs(gain - gains[0] * 10 ** (level / 20)), 0.5, (width, gain))
+                self.assertIn(f"{20 * math.log10(gain / gains[0]):.1f} dB", said)
 
     def test_a_cell_in_words(self) -> None:
         status, wrote, _ = self.run_tool("show", os.path.join(EXAMPLES, "second_of_paging.script"))
         self.assertEqual(status, 0)
-        # 1,228,800 samples are a second; of 100^2 + 30^2 + 60^2 = 14,500 the pilot has 69 %, -1.6 dB; 30 to 100 is -10.5 dB.
-        for text in ("PN 511", "1980-01-06 00:01:20.00", "times 0 - 3j", "1.000 s", "-1.6 dB", "-10.5 dB", "570 of 32,767"):
+        # 1,228,800 samples are a second. The pilot has 10,000 of 100^2 + 30^2 + 60^2 = 14,500, -1.6 dB, and 30 to 100
+        # is -10.5 dB.
+        for text in (
+            "PN 511",
+            "1980-01-06 00:01:20.00",
+            "times 0 - 3j",
+            "1.000 s",
+            "-1.6 dB",
+            "-10.5 dB",
+            "570 of 32,767",
+        ):
             self.assertIn(text, wrote)
         self.assertRegex(wrote, r"sync +32 +30 +-12\.1 dB +-10\.5 dB +89\n")
 

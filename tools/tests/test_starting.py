@@ -9,7 +9,7 @@ import subprocess
 import time
 import unittest
 
-from cdma_tools.starting import called
+from cdma_tools.starting import called, named_by
 from tools.tests.helping import PYTHON, ROOT
 
 SECONDS = 300  # that a tool may take on a machine that is busy with other things; alone it takes less than one
@@ -45,8 +45,7 @@ def told_at_import(way: str, number: int, count: int, text: str = "") -> tuple[i
 
 def name_of(way: str) -> str:
     """What a tool calls itself."""
-    with open(os.path.join(ROOT, way), encoding="utf-8") as file:
-        return called(re.findall(r'start\("(\w+)"\)', file.read())[0])
+    return called(named_by(os.path.join(ROOT, way)))
 
 
 class Imports(unittest.TestCase):

@@ -1,0 +1,15 @@
+#!/usr/bin/python3 -S
+"""Starts a command in a checkout: tools/NAME and conformance/NAME are links to this file, which name the command."""
+import sys
+
+try:
+    import os
+
+    sys.path[0] = os.path.dirname(os.path.dirname(os.path.realpath(__file__)))
+    from cdma_tools.starting import named_by, start
+except KeyboardInterrupt:
+    print("/".join(sys.argv[0].split("/")[-2:]).removeprefix("tools/") + ": broken off", file=sys.stderr)
+    raise SystemExit(130) from None
+
+if __name__ == "__main__":
+    sys.exit(start(named_by(sys.argv[0])))
