@@ -144,6 +144,10 @@ pub use Rattle.sync_message.specs.SyncMessage.{IsSyncMessage}
 pub use Rattle.viterbi.proofs.Zipped.{zipped_at}
 pub use Rattle.viterbi.specs.Codewords.{Codeword, correlation}
 pub use Rattle.walsh.specs.Walsh.{walsh}
+pub use Rattle.clean_link.specs.BySigns.{AllComesBackBySigns, AreEventsBySigns, AreFramesBySigns, ChannelsComeBackBySigns}
+pub use Rattle.clean_link.specs.BySigns.{FollowedHaveSigns, HearsBySigns, NoEventIsDirectedBySigns, SyncTellsTheMark}
+pub use Rattle.clean_link.specs.SentSigns.{FrameHasSigns, FromMark, HasSyncSigns, IsCellMark, MarkIsAt, MarksAreAt, PagingFrameHasSigns}
+pub use Rattle.clean_link.specs.SentSigns.{SyncHasSigns, TrafficFrameHasSigns}
 pub use Rattle.clean_link.specs.CleanLaws.{ChannelFramesComeBack, NoisyFramesComeBack, PagingCodewordsAreTheOnlyBest}
 pub use Rattle.clean_link.specs.CleanLaws.{SentCodewordsAreTheOnlyBest, SilentPagingFramesAreZeros, NoisyIsMarkedWhereHeard}
 pub use Rattle.clean_link.specs.CleanLaws.{NoisyPagingFramesComeBack, NoisySendingsComeBack, WholeSendingsComeBack, AreZeroWithoutSync}
@@ -175,14 +179,15 @@ pub use Rattle.clean_frames.specs.WholePages.{KnownPage, end_chip, message_in, p
 pub use Rattle.clean_frames.specs.WholePages.{round_sent}
 pub use Rattle.clean_link.specs.HeardPages.{PagesComeBack, ReadPage, known_page, pages_within, type_within}
 unfoldable pub use Rattle.clean_frames.specs.WholePages.{pages_sent}
-pub use Rattle.clean_link.specs.ReceivedFrames.{AreReceived, IsDistinctFrame2, IsReceived, IsReceivedAs, IsSentFrame2, codeword_symbols2}
+pub use Rattle.clean_link.specs.ReceivedFrames.{AreReceived, AreReceivedFrom, IsDistinctFrame2, IsReceived, IsReceivedAs, IsSentFrame2}
+pub use Rattle.clean_link.specs.ReceivedFrames.{codeword_symbols2}
 pub use Rattle.clean_link.specs.ReceivedFrames.{cycled_frame2}
 pub use Rattle.clean_link.specs.ReceivedLaws.{EachFrameIsReceived, FramesBehindMark, FramesShowPowerBits, FramesShowSymbols}
 pub use Rattle.clean_link.specs.ReceivedLaws.{IsReceivedBySigns, IsSentFrame2BySigns, NoisyFramesAreReceived, NoisyFramesBehindMark}
 pub use Rattle.clean_link.specs.ReceivedLaws.{NoisyReceivedAreTheOnlyBest, NoisySetTwoAreTheOnlyBest, NoisySetTwoBehindMark}
 pub use Rattle.clean_link.specs.ReceivedLaws.{NoisySetTwoFramesComeBack, SetOneSends, SetTwoBehindMark, SetTwoFramesComeBack, SetTwoSends}
 pub use Rattle.clean_link.specs.SentEvents.{FollowsSent, NoEventIsDirected, WholeMessagesComeBack, by_places, is_at, known_event}
-pub use Rattle.clean_link.specs.SentEvents.{pages_behind_mark, pages_with_sync, told_followed}
+pub use Rattle.clean_link.specs.SentEvents.{pages_after, pages_behind_mark, told_followed}
 unfoldable pub use Rattle.clean_link.specs.SentEvents.{frame_events_at, message_events_at, paging_events_at, paging_sent, sent_events}
 unfoldable pub use Rattle.clean_link.specs.SentEvents.{sets_events_at, sets_heard, signaling_sent, traffic_sent}
 pub use Rattle.clean_link.specs.TrafficLaws.{ArePowered, EachFrameIsHeard, HavePowerSigns, HeardAreTheOnlyBest, HearsSentTraffic, IsHeardAs}

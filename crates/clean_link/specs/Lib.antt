@@ -1,5 +1,6 @@
 -- The modules of definitions of `clean_link`.
 pub mod Common
+pub mod BySigns
 pub mod CleanLaws
 pub mod CleanLink
 pub mod DistinctFrames
@@ -12,6 +13,7 @@ pub mod NoisyFile
 pub mod ReceivedFrames
 pub mod ReceivedLaws
 pub mod SentEvents
+pub mod SentSigns
 pub mod TrafficLaws
 mod FramesWorked
 mod HeardWorked

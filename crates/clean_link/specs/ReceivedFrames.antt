@@ -1,6 +1,6 @@
 -- The frames of a traffic channel of either rate set that a clean link gives back, each received of
 -- the reference base station alone (TIA/EIA-95-B, 7.1.3.5).
-use Rattle.std.specs.Prelude.{ℕ, ◌*◌, ◌≡◌, true, Bool, List, map, ℤ, pos, Some}
+use Rattle.std.specs.Prelude.{ℕ, ◌*◌, ◌≡◌, true, Bool, List, map, ℤ, pos, Option, Some}
 use Rattle.clean_link.specs.Common.{superframe_chips, kept_count, Data, good_frame2, decoded2}
 use Rattle.clean_link.specs.Common.{Decoded2, set_two, FrameCycle, CellPlan, TrafficPlan}
 use Rattle.clean_link.specs.Common.{SetTwoFrame, SoftFrame}
@@ -61,14 +61,18 @@ pub record IsSentFrame2 (plan : CellPlan) (p : TrafficPlan) (frame : ℕ) (f : S
 
 -- ---- after a mark
 
--- Soft frames that are just a channel's frames that begin at the mark or after it and lie in the
--- file, in order, one for each of them, of which something is true; the first whole transmission
--- tells how many superframes the mark is after local chip 0.
-pub record AreReceived (plan : CellPlan) (p : TrafficPlan) (Is : ℕ → SoftFrame → Type 0)
-    (frames : List SoftFrame) : Type 0 where
+-- Soft frames that are just a channel's frames that begin at a mark or after it and lie in the
+-- file, in order, one for each of them, of which something is true; the mark is so many superframes
+-- after local chip 0.
+pub record AreReceivedFrom (plan : CellPlan) (p : TrafficPlan) (at : Option ℕ)
+    (Is : ℕ → SoftFrame → Type 0) (frames : List SoftFrame) : Type 0 where
   pub superframes : ℕ
-  pub told : told_with_sync plan plan.sync ≡ Some superframes
+  pub told : at ≡ Some superframes
   pub soft : ℕ → SoftFrame
   pub each : frames ≡ map soft (received_frames plan p (superframe_chips * superframes))
   pub are : (frame : ℕ) → is_received plan p (superframe_chips * superframes) frame ≡ true →
       Is frame (soft frame)
+
+-- of the mark that the first whole transmission tells
+abbrev pub AreReceived : CellPlan → TrafficPlan → (ℕ → SoftFrame → Type 0) → List SoftFrame → Type 0
+AreReceived plan p = AreReceivedFrom plan p (told_with_sync plan plan.sync)

@@ -7,7 +7,7 @@ use Rattle.clean_link.specs.Common.{CellPlan, SyncPlan, TrafficPlan, events, at_
 use Rattle.clean_link.specs.Common.{Paging, Pilot, Traffic, IsReceivable, Sample, mark, frames_at}
 use Rattle.clean_link.specs.Common.{messages_at, sets_at, page_event, pages_behind, if_followed}
 use Rattle.clean_link.specs.CleanLink.{sync_sent, IsNotDirected, IsOnPath, IsTunedToPlan, tuning_to}
-use Rattle.clean_frames.specs.WholeSendings.{whole_sendings, told_by_first, told_with_sync}
+use Rattle.clean_frames.specs.WholeSendings.{told_with_sync}
 use Rattle.clean_link.specs.HeardFrames.{frames_sent, messages_sent}
 use Rattle.clean_frames.specs.SentFrames.{AreDistinct, IsAssigned, SendsSetOne}
 use Rattle.clean_frames.specs.WholePages.{KnownPage, pages_sent}
@@ -45,16 +45,13 @@ pages_behind_mark plan channel (Some superframes) =
     map known_event (pages_sent plan channel (superframe_chips * superframes))
 
 -- with the values 2 and 3 of PRAT no paging channel is heard
-abbrev pub pages_with_sync : CellPlan → ℕ → Option SyncPlan → List Event
-pages_with_sync plan channel None = []
-pages_with_sync plan channel (Some sync) =
-    if nat_lt sync.message.prat 2
-    then pages_behind_mark plan channel
-    (told_by_first plan sync.message (whole_sendings plan sync.message))
-    else []
+abbrev pub pages_after : CellPlan → ℕ → Option ℕ → Option SyncPlan → List Event
+pages_after plan channel at None = []
+pages_after plan channel at (Some sync) =
+    if nat_lt sync.message.prat 2 then pages_behind_mark plan channel at else []
 
 unfoldable pub paging_sent : CellPlan → ℕ → List Event
-paging_sent plan channel = pages_with_sync plan channel plan.sync
+paging_sent plan channel = pages_after plan channel (told_with_sync plan plan.sync) plan.sync
 
 -- ---- the traffic channel
 

@@ -1,11 +1,11 @@
 -- Files whose sync channel bears their noise: a handset that hears one is told the time just where
 -- the cell tells it.
-use Rattle.owed_replies.proofs.Common.{◌≡◌, ℕ, List, length, take, refl, sym, ap, ◌∙◌, subst, Option, None, Some, is_some, nat_lt, Contains}
+use Rattle.owed_replies.proofs.Common.{◌≡◌, ℕ, List, length, take, refl, sym, ap, ◌∙◌, subst, Option, None, Some, is_some, Contains}
 use Rattle.owed_replies.proofs.Common.{Sample, Width, Header, CellPlan, PagingPlan, TrafficPlan, SyncPlan, IsReceivable, made_samples, mark}
-use Rattle.owed_replies.proofs.Common.{Mark, Tuning, IsOnPath, IsNearFile, IsPlanFile, IsCellFile, lawful_traffic, named_receivable}
-use Rattle.owed_replies.proofs.Common.{clean_end, end_when, settings_for, tuning_for, Traffic, All-contains, Bears, HearsSentSync, IsNear}
-use Rattle.owed_replies.proofs.Common.{IsPagingPlan, IsSyncPlan, ShowsSync, clean_sync, events_of_channel, heard_sync, marked_in}
-use Rattle.owed_replies.proofs.Common.{near-equal, near-same, none_borne, sent_paging_rate, sync_sent}
+use Rattle.owed_replies.proofs.Common.{Tuning, IsOnPath, IsNearFile, IsPlanFile, IsCellFile, lawful_traffic, named_receivable}
+use Rattle.owed_replies.proofs.Common.{clean_end, end_when, settings_for, tuning_for, Traffic, All-contains, Bears, HasSyncSigns, IsNear}
+use Rattle.owed_replies.proofs.Common.{IsPagingPlan, IsSyncPlan, MarkIsAt, clean_signs, marked_in, near_sync, shows_sync, told_with_sync}
+use Rattle.owed_replies.proofs.Common.{near-equal, near-same, none_borne, sent_paging_rate, tells_the_mark}
 use Rattle.owed_replies.proofs.TuningLaw.{near_long, on_plans_path}
 
 -- The sync channel bears noise of this size, or the cell sends none and there is no noise.
@@ -79,57 +79,28 @@ module _ {e : ℕ} {width : Width} {plan : CellPlan} {span : ℕ} {header : Head
   pub long : length samples ≡ plan.link.samples
   long = near_long e width plan span fingers header samples file.near
 
-  -- a sync channel that is sent
-  pub hears : (sync : SyncPlan) → plan.sync ≡ Some sync → Bears plan sync.gain e →
-      HearsSentSync width plan sync e samples
-  hears sync sends bears = record {
-    receivable = file.near.receivable;
-    sends = sends;
-    near = file.near.near;
-    bears = bears;
-  }
-
-  -- What holds of the cell's own samples where there is no noise, and of near samples where a sync
-  -- channel bears their noise, holds of the file's samples.
-  pub by_sync : (P : List Sample → Type 0) → (e ≡ 0 → P (made_samples plan)) →
-      ((sync : SyncPlan) → HearsSentSync width plan sync e samples → P samples) → P samples
-  by_sync P none some = by_channel plan.sync refl file.sync
+  -- Each frame of the sync channel has the sent signs: where one is sent it bears the noise, and where
+  -- none is, the samples are the cell's.
+  pub signs : HasSyncSigns width plan samples
+  signs = by_channel plan.sync refl file.sync
     where
-      by_channel : (channel : Option SyncPlan) → plan.sync ≡ channel →
-          BearsSync plan e channel → P samples
-      by_channel None silent none_there =
-          subst P
-          (sym (near-same samples (made_samples plan)
-          (subst (λ (n : ℕ). IsNear n samples (made_samples plan)) none_there file.near.near)))
-          (none none_there)
-      by_channel (Some sync) sends bears = some sync (hears sync sends bears)
-
-  -- the frames of the sync channel come back
-  pub shows : ShowsSync width plan samples
-  shows =
-      by_sync (ShowsSync width plan) (λ none. clean_sync width plan file.near.receivable)
-      (λ sync is. heard_sync width plan sync e samples is)
-
-  marked : is_some (mark tuning samples (length samples)) ≡ nat_lt 0 (length (sync_sent plan))
-  marked =
-      ap (λ (n : ℕ). is_some (mark tuning samples n)) long ∙ marked_in shows path
-
-  -- each whole transmission tells the time
-  pub end_is : end_when (is_some (mark tuning samples (length samples))) ≡ clean_end plan
-  end_is = ap end_when marked
-
-  -- where a mark is set, a sync channel is sent, and bears the noise
-  pub sync_there : (m : Mark) → mark tuning samples (length samples) ≡ Some m →
-      (sync : SyncPlan) × HearsSentSync width plan sync e samples
-  unfolding sync_sent
-  sync_there m set = by_channel plan.sync refl file.sync
-    where
-      by_channel : (channel : Option SyncPlan) → plan.sync ≡ channel →
-          BearsSync plan e channel → (sync : SyncPlan) × HearsSentSync width plan sync e samples
+      by_channel : (channel : Option SyncPlan) → plan.sync ≡ channel → BearsSync plan e channel →
+          HasSyncSigns width plan samples
       by_channel None silent none =
-          let one : is_some (Some m) ≡ nat_lt 0 (length (events_of_channel plan None)) =
-          sym (ap is_some set) ∙ marked
-          ∙ ap (λ (channel : Option SyncPlan). nat_lt 0 (length (events_of_channel plan channel)))
-          silent in
-          absurd (cc)
-      by_channel (Some sync) sends bears = (sync, hears sync sends bears)
+          subst (HasSyncSigns width plan)
+          (sym (near-same samples (made_samples plan)
+          (subst (λ (n : ℕ). IsNear n samples (made_samples plan)) none file.near.near)))
+          (clean_signs width plan file.near.receivable)
+      by_channel (Some sync) sends bears =
+          near_sync samples file.near.receivable sends file.near.near bears
+
+  -- so the mark is the one that it tells, and each whole transmission tells the time
+  pub told_mark : MarkIsAt plan (mark tuning samples (length samples)) (told_with_sync plan plan.sync)
+  told_mark =
+      subst (λ (n : ℕ). MarkIsAt plan (mark tuning samples n) (told_with_sync plan plan.sync)) (sym long)
+      (tells_the_mark width plan samples signs tuning path)
+
+  pub end_is : end_when (is_some (mark tuning samples (length samples))) ≡ clean_end plan
+  end_is =
+      ap (λ (n : ℕ). end_when (is_some (mark tuning samples n))) long
+      ∙ ap end_when (marked_in (shows_sync signs) path)

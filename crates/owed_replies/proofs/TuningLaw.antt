@@ -14,7 +14,7 @@ near_long e width plan span fingers header samples file =
     length-near e samples (made_samples plan) file.near ∙ length-made plan
 
 -- one finger is on the best phase
-own_delta : (samples : List Sample) →
+pub own_delta : (samples : List Sample) →
     near_deltas samples (best_phase samples) 1 ≡ pos 0 ∷ []
 own_delta samples =
     one_delta samples (best_phase samples) (energy samples (best_phase samples))

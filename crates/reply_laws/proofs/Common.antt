@@ -51,19 +51,25 @@ pub use Rattle.chip_core.specs.declared.sample.Pair.{Pair}
 pub use Rattle.chip_core.specs.declared.sample.Sample.{Sample}
 pub use Rattle.chip_core.specs.declared.width.Width.{Width}
 pub use Rattle.chip_core.specs.declared.width.Width.TheVariants.{Eight, Sixteen}
-pub use Rattle.clean_link.proofs.messages.EachChannel.{noisy_each_channel, no_event_directed, noisy_no_event}
+pub use Rattle.clean_link.proofs.frames.ChannelFrames.{near_frame, near_paging}
+pub use Rattle.clean_link.proofs.messages.EachChannel.{channels_by_signs, frames_behind_all, no_event_by_signs, no_event_directed}
+pub use Rattle.clean_link.proofs.messages.EachChannel.{tells_the_mark}
+pub use Rattle.clean_link.proofs.messages.MessagesBack.{all_by_signs}
 pub use Rattle.clean_signal.proofs.signal.Samples.{length-made, made_at}
-pub use Rattle.clean_link.proofs.traffic.Back.{one_near, untold_in}
+pub use Rattle.clean_link.proofs.traffic.Back.{one_near}
 pub use Rattle.clean_link.proofs.traffic.Signs.{power_pairs, lawful_traffic, set_one_sends}
 pub use Rattle.clean_link.proofs.traffic.Frames.{one_taken, one_there}
-pub use Rattle.clean_link.proofs.traffic.Received.{noisy_frames_behind_mark, noisy_set_two_behind_mark}
+pub use Rattle.clean_link.proofs.traffic.Received.{signed_behind_mark, signed_set_two}
+pub use Rattle.cell_plan.specs.Signal.{traffic_carrier}
 pub use Rattle.clean_signal.specs.BoundedNoise.{Bears}
 pub use Rattle.clean_link.specs.CleanLink.{IsNotDirected, IsOnPath, tuning_to}
 pub use Rattle.clean_frames.specs.SentFrames.{IsAssigned, SendsSetOne, SendsSetTwo, SendsSymbols, frame_ends, received_frames, replaced_of}
 pub use Rattle.clean_frames.specs.SentFrames.{sent_bits, sent_power_bits, codeword_symbols}
-pub use Rattle.clean_link.specs.ReceivedLaws.{HoldsBehindMark, IsReceivedBySigns, IsSentFrame2BySigns}
-pub use Rattle.clean_link.specs.ReceivedFrames.{AreReceived, cycled_frame2}
+pub use Rattle.clean_link.specs.ReceivedLaws.{IsReceivedBySigns, IsSentFrame2BySigns}
+pub use Rattle.clean_link.specs.ReceivedFrames.{AreReceivedFrom, cycled_frame2}
+pub use Rattle.clean_link.specs.SentSigns.{FromMark, HasSyncSigns, MarkIsAt, MarksAreAt, PagingFrameHasSigns, TrafficFrameHasSigns}
 pub use Rattle.clean_link.specs.SentEvents.{FollowsSent, signaling_sent}
+unfoldable pub use Rattle.clean_link.specs.SentEvents.{paging_sent}
 pub use Rattle.clean_frames.specs.WholeSendings.{told_with_sync}
 unfoldable pub use Rattle.event_tap.specs.EventLines.{event_line}
 unfoldable pub use Rattle.event_tap.specs.FrameLines.{frame2_line}
@@ -106,8 +112,9 @@ pub use Rattle.rate_set_two.specs.TrafficFrames.{decoded2}
 pub use Rattle.rate_set_two.specs.Laws.{good_frame2}
 pub use Rattle.rate_set_two.specs.declared.traffic.Decoded2.{Decoded2}
 pub use Rattle.short_code.specs.ShortCode.{pilot_chip}
-pub use Rattle.slot_link.proofs.File.{slot_texts_back, noisy_slot_texts_back}
-pub use Rattle.slot_link.specs.Laws.{slots_sent}
+pub use Rattle.slot_link.proofs.File.{slot_texts_back}
+pub use Rattle.slot_link.specs.Laws.{slots_after}
+unfoldable pub use Rattle.slot_link.specs.Laws.{slots_sent}
 pub use Rattle.tuned_listener.proofs.Sleep.{same_mark, sleeps}
 pub use Rattle.tuned_listener.proofs.SlotTimes.{mark_is_late, written_of_slots}
 pub use Rattle.tuned_listener.proofs.TunedTexts.{listed_texts, rate2_texts}
@@ -129,6 +136,7 @@ pub use Rattle.reply_laws.specs.ReplyLaws.{MakeOwesTheFile, Rate2OwesTheFrames, 
 pub use Rattle.reply_laws.specs.ReplyLaws.{OwesTheFrames}
 pub use Rattle.reply_laws.specs.SentLines.{AreSentLines, IsLineOfSetOne, IsLineOfSetTwo, IsSentLine, IsSentLine2, IsSentText, LinesComeBack}
 pub use Rattle.reply_laws.specs.SentLines.{ListedLinesComeBack, SetTwoLinesComeBack}
+pub use Rattle.reply_laws.specs.SignedReplies.{IsFileOnPath, IsReplyFrom, SignedRepliesComeBack}
 pub use Rattle.reply_laws.specs.SentReplies.{IsSentReply, ListRepliesComeBack, Rate2RepliesComeBack, RepliesComeBack}
 pub use Rattle.reply_laws.specs.SleepLaw.{SleepChangesNoReply}
 pub use Rattle.reply_laws.specs.SlotReplies.{FileSlotsComeBack, IdleRepliesComeBack}

@@ -9,6 +9,7 @@ pub mod OneCodeword
 pub mod Owed
 pub mod SentLines
 pub mod SentReplies
+pub mod SignedReplies
 pub mod SleepLaw
 pub mod SlotReplies
 pub mod WholeFiles

@@ -5,15 +5,18 @@ use Rattle.reply_laws.proofs.Common.{IsTrafficFrame, SetOne, planned, one_in_tur
 use Rattle.reply_laws.proofs.Common.{Header, IsSetOneFrame, CellPlan, TrafficPlan, SetOneFrame, SetTwoFrame, event_line}
 use Rattle.reply_laws.proofs.Common.{frame2_line, traffic_channel, mark, soft_frames, frame_event, Tuning, Mark, Traffic, SoftFrame}
 use Rattle.reply_laws.proofs.Common.{IsReceivable, frame_ends, received_frames, replaced_of, sent_bits, sent_power_bits, codeword_symbols}
-use Rattle.reply_laws.proofs.Common.{IsAssigned, SendsSetOne, SendsSetTwo, SendsSymbols, cycled_frame2, AreReceived, told_with_sync}
+use Rattle.reply_laws.proofs.Common.{AreReceivedFrom, IsOnPath, MarkIsAt, TrafficFrameHasSigns, near_frame, signed_behind_mark}
+use Rattle.reply_laws.proofs.Common.{signed_set_two, traffic_carrier}
+use Rattle.reply_laws.proofs.Common.{IsAssigned, SendsSetOne, SendsSetTwo, SendsSymbols, cycled_frame2, told_with_sync}
+use Rattle.clean_signal.proofs.signal.CarriersApart.{traffic_sent}
+use Rattle.rake_finger.specs.declared.form.Form.TheVariants.{Data}
 use Rattle.reply_laws.proofs.Common.{power_pairs, one_taken, one_there, Decoded, lawful_traffic, set_one_sends, listed_texts, rate2_texts}
 use Rattle.reply_laws.proofs.Common.{decoded_line, frames_text, listed_text, rate2_text, text_behind, tuned_text, TunedText, Listed}
 use Rattle.reply_laws.proofs.Common.{RateSetTwo, settings_for, tuning_for, AreSentLines, IsLineOfSetOne, IsLineOfSetTwo, IsSentLine}
 use Rattle.reply_laws.proofs.Common.{IsSentLine2, IsSentText, LinesComeBack, ListedLinesComeBack, SetTwoLinesComeBack, named_receivable}
-use Rattle.reply_laws.proofs.Common.{Bears, Decoded2, HoldsBehindMark, IsReceivedBySigns, IsSentFrame2BySigns, noisy_frames_behind_mark}
-use Rattle.reply_laws.proofs.Common.{noisy_set_two_behind_mark, signs_frame_listed, untold_in, good_frame2}
+use Rattle.reply_laws.proofs.Common.{Bears, Decoded2, IsReceivedBySigns, IsSentFrame2BySigns, signs_frame_listed, good_frame2}
 use Rattle.listed_frame.specs.ListedFrames.{listed}
-use Rattle.owed_replies.proofs.BorneFiles.{IsBorneFile, cell_borne, long, none_on_traffic, path, shows, sync_there}
+use Rattle.owed_replies.proofs.BorneFiles.{IsBorneFile, cell_borne, long, none_on_traffic, path, told_mark}
 
 -- ---- any frames
 
@@ -22,35 +25,19 @@ abbrev IsLineByLine : TunedText → (SoftFrame → List ℕ) → Type 0
 IsLineByLine form line = (check : CheckForm) (m : Mark) (frames : List SoftFrame) →
     frames_text form check m [] frames ≡ flat_map line frames
 
--- In a file whose sync channel bears its noise: where the frames after a mark are those of which
--- this is true, and the line of one of them is one of which that is true, the text is of such lines.
-module _ (e : ℕ) (width : Width) (plan : CellPlan) (p : TrafficPlan) (span fingers paging : ℕ)
-    (followed : Option Traffic) (traffic : Traffic) (header : Header) (samples : List Sample)
-    (file : IsBorneFile e width plan span fingers header samples)
-    (form : TunedText) (line : SoftFrame → List ℕ) (lines : IsLineByLine form line)
+-- Where a mark is the cell's, the frames after it are those of which this is true, and the line of one
+-- of them is one of which that is true, the text is of such lines.
+module _ {plan : CellPlan} {p : TrafficPlan} (t : Tuning) (traffic : Traffic) (samples : List Sample)
+    (at : Option ℕ) (form : TunedText) (line : SoftFrame → List ℕ) (lines : IsLineByLine form line)
     (Says : ℕ → SoftFrame → Type 0) (Is : ℕ → List ℕ → Type 0)
-    (all : (m : Mark) →
-    mark (tuning_for (settings_for header fingers paging followed) (take span samples)) samples
-    (length samples) ≡ Some m →
-    AreReceived plan p Says
-    (soft_frames (tuning_for (settings_for header fingers paging followed) (take span samples))
-    (traffic_channel traffic) m samples))
+    (all : (m : Mark) → MarkIsAt plan (Some m) at →
+    AreReceivedFrom plan p at Says (soft_frames t (traffic_channel traffic) m samples))
     (back : (frame : ℕ) (soft : SoftFrame) → Says frame soft → Is frame (line soft))
   where
-    abbrev t : Tuning
-    t = tuning_for (settings_for header fingers paging followed) (take span samples)
-
     -- after the mark that is set, and where none is
-    behind_last : (last : Option Mark) → mark t samples (length samples) ≡ last →
-        IsSentText plan p Is (told_with_sync plan plan.sync)
-        (text_behind form t (traffic_channel traffic) samples last)
-    behind_last None unset =
-        let on = path fingers paging followed file in
-        let count : length samples ≡ t.count = long fingers paging followed file ∙ sym on.count in
-        let none =
-        untold_in (shows fingers paging followed file) on plan.sync refl
-        (ap (mark t samples) (sym count) ∙ unset) in
-        subst (λ (told : Option ℕ). IsSentText plan p Is told []) (sym none) refl
+    behind_last : (last : Option Mark) → MarkIsAt plan last at →
+        IsSentText plan p Is at (text_behind form t (traffic_channel traffic) samples last)
+    behind_last None none = subst (λ (o : Option ℕ). IsSentText plan p Is o []) (sym none) refl
     behind_last (Some m) set =
         let some = all m set in
         let text = text_behind form t (traffic_channel traffic) samples (Some m) in
@@ -62,53 +49,83 @@ module _ (e : ℕ) (width : Width) (plan : CellPlan) (p : TrafficPlan) (span fin
               (received_frames plan p (98304 * some.superframes));
           are = λ frame received. back frame (some.soft frame) (some.are frame received);
         } in
-        subst (λ (told : Option ℕ). IsSentText plan p Is told text) (sym some.told) sent
+        subst (λ (o : Option ℕ). IsSentText plan p Is o text) (sym some.told) sent
 
-    text_back : IsSentText plan p Is (told_with_sync plan plan.sync)
-        (tuned_text form t (traffic_channel traffic) samples)
+    text_back : MarkIsAt plan (mark t samples (length samples)) at →
+        IsSentText plan p Is at (tuned_text form t (traffic_channel traffic) samples)
     unfolding tuned_text
-    text_back = behind_last (mark t samples (length samples)) refl
+    text_back set = behind_last (mark t samples (length samples)) set
 
--- so of each channel that bears the noise
-abbrev pub BorneLinesComeBack : TunedText → (TrafficPlan → Type 0) →
+-- In a file of any origin a channel has such a text after the cell's mark, and the line of each frame
+-- with the sent signs is that of what is sent.
+abbrev pub SignedLinesComeBack : TunedText → (TrafficPlan → Type 0) →
     (CellPlan → TrafficPlan → ℕ → List ℕ → Type 0) → Type 0
-BorneLinesComeBack form Sends Is = (e : ℕ) (width : Width) (plan : CellPlan) (p : TrafficPlan)
-    (span fingers paging : ℕ) (followed : Option Traffic) (traffic : Traffic) (header : Header)
-    (samples : List Sample) → IsBorneFile e width plan span fingers header samples →
-    Bears plan p.gain e → Contains plan.traffic p → IsAssigned p traffic → Sends p →
-    IsSentText plan p (Is plan p) (told_with_sync plan plan.sync)
-    (tuned_text form (tuning_for (settings_for header fingers paging followed) (take span samples))
-    (traffic_channel traffic) samples)
+SignedLinesComeBack form Sends Is = (width : Width) (plan : CellPlan) (p : TrafficPlan) (t : Tuning)
+    (traffic : Traffic) (samples : List Sample) (at : Option ℕ) → IsReceivable width plan →
+    length samples ≡ plan.link.samples → IsOnPath plan t →
+    MarkIsAt plan (mark t samples (length samples)) at → Contains plan.traffic p →
+    IsAssigned p traffic → Sends p →
+    IsSentText plan p (λ frame line. TrafficFrameHasSigns plan p samples frame → Is plan p frame line) at
+    (tuned_text form t (traffic_channel traffic) samples)
 
--- of whose frames something is true after a mark
-borne_lines : (form : TunedText) (line : SoftFrame → List ℕ) → IsLineByLine form line →
+-- what holds of frames after a mark by their signs
+abbrev HoldsBySigns : (TrafficPlan → Type 0) → (CellPlan → TrafficPlan → ℕ → SoftFrame → Type 0) → Type 0
+HoldsBySigns Sends Says = (width : Width) (plan : CellPlan) (p : TrafficPlan) (t : Tuning)
+    (traffic : Traffic) (samples : List Sample) (at : Option ℕ) (m : Mark) → IsReceivable width plan →
+    IsOnPath plan t → Contains plan.traffic p → IsAssigned p traffic →
+    length samples ≡ plan.link.samples → MarkIsAt plan (Some m) at → Sends p →
+    AreReceivedFrom plan p at
+    (λ frame soft. TrafficFrameHasSigns plan p samples frame → Says plan p frame soft)
+    (soft_frames t (traffic_channel traffic) m samples)
+
+signed_lines : (form : TunedText) (line : SoftFrame → List ℕ) → IsLineByLine form line →
     (Sends : TrafficPlan → Type 0) (Is : CellPlan → TrafficPlan → ℕ → List ℕ → Type 0)
-    (Says : CellPlan → TrafficPlan → ℕ → SoftFrame → Type 0) →
-    HoldsBehindMark (λ plan p frames. Sends p → AreReceived plan p (Says plan p) frames) →
+    (Says : CellPlan → TrafficPlan → ℕ → SoftFrame → Type 0) → HoldsBySigns Sends Says →
     ((width : Width) (plan : CellPlan) (p : TrafficPlan) (frame : ℕ) (soft : SoftFrame) →
     IsReceivable width plan → Contains plan.traffic p → Sends p → Says plan p frame soft →
     Is plan p frame (line soft)) →
-    BorneLinesComeBack form Sends Is
-borne_lines form line lines Sends Is Says behind back e width plan p span fingers paging followed
-    traffic header samples file bears has assigned some =
-    text_back e width plan p span fingers paging followed traffic header samples file form line lines
-    (Says plan p) (Is plan p)
-    (λ m set.
-    let (sync, is) = sync_there fingers paging followed file m set in
-    behind width plan sync p e samples
-    (tuning_for (settings_for header fingers paging followed) (take span samples)) traffic m is
-    bears (path fingers paging followed file) has assigned set some)
-    (λ frame soft says. back width plan p frame soft file.near.receivable has some says)
+    SignedLinesComeBack form Sends Is
+signed_lines form line lines Sends Is Says behind back width plan p t traffic samples at is long on set
+    has assigned some =
+    text_back t traffic samples at form line lines
+    (λ frame soft. TrafficFrameHasSigns plan p samples frame → Says plan p frame soft)
+    (λ frame line. TrafficFrameHasSigns plan p samples frame → Is plan p frame line)
+    (λ m here. behind width plan p t traffic samples at m is on has assigned long here some)
+    (λ frame soft says signs. back width plan p frame soft is has some (says signs)) set
+
+-- all lines are so where all frames have something
+pub all_lines : (plan : CellPlan) (p : TrafficPlan) (Has : ℕ → Type 0) (Is : ℕ → List ℕ → Type 0) →
+    ((frame : ℕ) → Has frame) → (at : Option ℕ) (text : List ℕ) →
+    IsSentText plan p (λ frame line. Has frame → Is frame line) at text → IsSentText plan p Is at text
+all_lines plan p Has Is have None text none = none
+all_lines plan p Has Is have (Some superframes) text sent = record {
+  line = sent.line;
+  each = sent.each;
+  are = λ frame received. sent.are frame received (have frame);
+}
+
+-- and those of a channel that bears the noise of a file
+pub borne_signs : {e : ℕ} {width : Width} {plan : CellPlan} {p : TrafficPlan} {span fingers : ℕ}
+    {header : Header} (samples : List Sample) → IsBorneFile e width plan span fingers header samples →
+    Contains plan.traffic p → Bears plan p.gain e →
+    (frame : ℕ) → TrafficFrameHasSigns plan p samples frame
+borne_signs {e} {plan = plan} {p} samples file has bears =
+    near_frame (traffic_carrier plan p) Data e samples file.near.receivable (traffic_sent plan p has)
+    file.near.near bears
 
 -- a file that holds what a script's cell sends has no noise
 of_cell : (form : TunedText) (Sends : TrafficPlan → Type 0)
-    (Is : CellPlan → TrafficPlan → ℕ → List ℕ → Type 0) → BorneLinesComeBack form Sends Is →
+    (Is : CellPlan → TrafficPlan → ℕ → List ℕ → Type 0) → SignedLinesComeBack form Sends Is →
     LinesComeBack form Sends Is
-of_cell form Sends Is borne width script plan p span fingers paging followed traffic header samples file
+of_cell form Sends Is signed width script plan p span fingers paging followed traffic header samples file
     counted has assigned some =
-    borne 0 width plan p span fingers paging followed traffic header samples
-    (cell_borne file counted) (none_on_traffic (named_receivable width script plan file.named) has)
-    has assigned some
+    let receivable = named_receivable width script plan file.named in
+    let borne = cell_borne file counted in
+    let t = tuning_for (settings_for header fingers paging followed) (take span samples) in
+    all_lines plan p (TrafficFrameHasSigns plan p samples) (Is plan p)
+    (borne_signs samples borne has (none_on_traffic receivable has)) (told_with_sync plan plan.sync) _
+    (signed width plan p t traffic samples _ receivable (long fingers paging followed borne)
+    (path fingers paging followed borne) (told_mark fingers paging followed borne) has assigned some)
 
 -- ---- frames of rate set 1
 
@@ -222,22 +239,24 @@ set_two_line plan p frame soft (f, here, sent) = (f, here, line_back plan p fram
 
 -- ---- the laws
 
-pub listed_borne : (k : ℕ) → 1 ≤ k → BorneLinesComeBack (Listed k) SendsSetOne IsLineOfSetOne
-listed_borne k most =
-    borne_lines (Listed k) (listed_of k) (λ check m frames. listed_texts check m [] frames k)
+pub listed_signed : (k : ℕ) → 1 ≤ k → SignedLinesComeBack (Listed k) SendsSetOne IsLineOfSetOne
+listed_signed k most =
+    signed_lines (Listed k) (listed_of k) (λ check m frames. listed_texts check m [] frames k)
     SendsSetOne IsLineOfSetOne ShowsSent
-    (λ width plan sync p e samples t traffic m is bears on has assigned set some.
-    noisy_frames_behind_mark width plan sync p e samples t traffic m is bears on has assigned set)
+    (λ width plan p t traffic samples at m is on has assigned long set some.
+    signed_behind_mark samples is on has assigned long m set)
     (listed_line k most)
 
-pub set_two_borne : BorneLinesComeBack RateSetTwo SendsSetTwo IsLineOfSetTwo
-set_two_borne =
-    borne_lines RateSetTwo rate2_of (λ check m frames. rate2_texts check m [] frames) SendsSetTwo
-    IsLineOfSetTwo IsSent2 noisy_set_two_behind_mark
+pub set_two_signed : SignedLinesComeBack RateSetTwo SendsSetTwo IsLineOfSetTwo
+set_two_signed =
+    signed_lines RateSetTwo rate2_of (λ check m frames. rate2_texts check m [] frames) SendsSetTwo
+    IsLineOfSetTwo IsSent2
+    (λ width plan p t traffic samples at m is on has assigned long set some.
+    signed_set_two samples is on has assigned long m set some)
     (λ width plan p frame soft is has some sent. set_two_line plan p frame soft sent)
 
 pub listed_lines : ListedLinesComeBack
-listed_lines k most = of_cell (Listed k) SendsSetOne IsLineOfSetOne (listed_borne k most)
+listed_lines k most = of_cell (Listed k) SendsSetOne IsLineOfSetOne (listed_signed k most)
 
 pub set_two_lines : SetTwoLinesComeBack
-set_two_lines = of_cell RateSetTwo SendsSetTwo IsLineOfSetTwo set_two_borne
+set_two_lines = of_cell RateSetTwo SendsSetTwo IsLineOfSetTwo set_two_signed

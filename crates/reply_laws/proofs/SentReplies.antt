@@ -1,14 +1,13 @@
 -- What `rate2` and `list` owe of a file whose noise the sync channel and the traffic channel bear
 -- comes back frame by frame.
-use Rattle.reply_laws.proofs.Common.{◌≤◌, ℕ, List, length, subst, Contains, Sample, Width, Header, CellPlan, TrafficPlan, Traffic}
-use Rattle.reply_laws.proofs.Common.{SendsSetOne, SendsSetTwo, TunedText, Listed, RateSetTwo, traffic_channel, None, Job, IsSampleFile}
-use Rattle.reply_laws.proofs.Common.{IsReply, Reply, IsLineOfSetOne, IsLineOfSetTwo, IsAssigned, IsSentReply, ListRepliesComeBack}
-use Rattle.reply_laws.proofs.Common.{Rate2RepliesComeBack, RepliesComeBack, named_receivable, Bears, OwesTheFrames}
-use Rattle.owed_replies.proofs.BorneFiles.{IsBorneFile, cell_borne, end_is, none_on_traffic}
-use Rattle.reply_laws.proofs.Owed.{list_owes, rate2_owes}
-use Rattle.owed_replies.proofs.Replies.{one_reply}
-use Rattle.reply_laws.proofs.SentLines.{BorneLinesComeBack, listed_borne, set_two_borne}
-use Rattle.command_line.specs.declared.job.Job.TheVariants as jobs
+use Rattle.reply_laws.proofs.Common.{◌≤◌, ℕ, List, length, Contains, Sample, Width, Header, CellPlan, TrafficPlan, Traffic, SendsSetOne}
+use Rattle.reply_laws.proofs.Common.{SendsSetTwo, None, Job, IsSampleFile, IsReply, Reply, IsLineOfSetOne, IsLineOfSetTwo, IsAssigned}
+use Rattle.reply_laws.proofs.Common.{IsSentReply, ListRepliesComeBack, Rate2RepliesComeBack, RepliesComeBack, named_receivable, Bears}
+use Rattle.reply_laws.proofs.Common.{SignedRepliesComeBack, TrafficFrameHasSigns, tells_the_mark}
+use Rattle.owed_replies.proofs.BorneFiles.{IsBorneFile, cell_borne, none_on_traffic, signs}
+use Rattle.reply_laws.proofs.SentLines.{borne_signs}
+pub use Rattle.reply_laws.proofs.SignedReplies.{list_job, rate2_job}
+use Rattle.reply_laws.proofs.SignedReplies.{borne_on_path, sent_reply, signed_list, signed_rate2}
 
 -- A sample file whose noise its sync channel bears, and a traffic channel of the cell's that bears it
 -- too.
@@ -32,21 +31,18 @@ BorneRepliesComeBack job Sends Is = (forms bytes : List ℕ) (e : ℕ) (width : 
     IsReply forms (job span workers fingers traffic) bytes reply →
     IsSentReply plan p (Is plan p) reply
 
--- where it owes the text of these frames
-borne_replies : (job : ℕ → ℕ → ℕ → Traffic → Job) (form : TunedText) →
-    ((span workers fingers : ℕ) (traffic : Traffic) →
-    OwesTheFrames (job span workers fingers traffic) span fingers (traffic_channel traffic) form) →
-    (Sends : TrafficPlan → Type 0) (Is : CellPlan → TrafficPlan → ℕ → List ℕ → Type 0) →
-    BorneLinesComeBack form Sends Is → BorneRepliesComeBack job Sends Is
-borne_replies job form owes Sends Is lines forms bytes e width plan p span workers fingers traffic
-    header samples reply heard sends owed =
-    subst (IsSentReply plan p (Is plan p))
-    (one_reply forms (job span workers fingers traffic) bytes _ reply
-    (owes span workers fingers traffic forms bytes header samples heard.file heard.enough) owed) (
-      lines e width plan p span fingers 1 None traffic header samples heard.borne heard.bears
-          heard.sent heard.assigned sends,
-      end_is fingers 1 None heard.borne,
-    )
+-- by the signs of its frames
+borne_replies : (job : ℕ → ℕ → ℕ → Traffic → Job) (Sends : TrafficPlan → Type 0)
+    (Is : CellPlan → TrafficPlan → ℕ → List ℕ → Type 0) → SignedRepliesComeBack job Sends Is →
+    BorneRepliesComeBack job Sends Is
+borne_replies job Sends Is signed forms bytes e width plan p span workers fingers traffic header samples
+    reply heard sends owed =
+    sent_reply plan p (TrafficFrameHasSigns plan p samples) (Is plan p) reply
+    (borne_signs samples heard.borne heard.sent heard.bears)
+    (signed forms bytes width plan p span workers fingers traffic header samples reply _
+    (borne_on_path heard.file heard.enough heard.borne)
+    (tells_the_mark width plan samples (signs fingers 1 None heard.borne)) heard.sent heard.assigned
+    sends owed)
 
 -- a file that holds what a script's cell sends has no noise
 of_cell : (job : ℕ → ℕ → ℕ → Traffic → Job) (Sends : TrafficPlan → Type 0)
@@ -65,27 +61,11 @@ of_cell job Sends Is back forms script bytes width plan p span workers fingers t
 
 -- ---- the laws
 
-abbrev pub rate2_job : ℕ → ℕ → ℕ → Traffic → Job
-rate2_job span workers fingers traffic =
-    jobs.Rate2 span workers fingers traffic.offset traffic.esn traffic.row
-
-abbrev pub list_job : ℕ → ℕ → ℕ → ℕ → Traffic → Job
-list_job k span workers fingers traffic =
-    jobs.List span workers fingers traffic.offset traffic.esn traffic.row k
-
 pub rate2_borne : BorneRepliesComeBack rate2_job SendsSetTwo IsLineOfSetTwo
-rate2_borne =
-    borne_replies rate2_job RateSetTwo
-    (λ span workers fingers traffic.
-    rate2_owes span workers fingers traffic.offset traffic.esn traffic.row)
-    SendsSetTwo IsLineOfSetTwo set_two_borne
+rate2_borne = borne_replies rate2_job SendsSetTwo IsLineOfSetTwo signed_rate2
 
 pub list_borne : (k : ℕ) → 1 ≤ k → BorneRepliesComeBack (list_job k) SendsSetOne IsLineOfSetOne
-list_borne k least =
-    borne_replies (list_job k) (Listed k)
-    (λ span workers fingers traffic.
-    list_owes span workers fingers traffic.offset traffic.esn traffic.row k)
-    SendsSetOne IsLineOfSetOne (listed_borne k least)
+list_borne k least = borne_replies (list_job k) SendsSetOne IsLineOfSetOne (signed_list k least)
 
 pub rate2_replies : Rate2RepliesComeBack
 rate2_replies = of_cell rate2_job SendsSetTwo IsLineOfSetTwo rate2_borne

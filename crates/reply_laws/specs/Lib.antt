@@ -7,6 +7,7 @@ pub mod OneCodeword
 pub mod ReplyLaws
 pub mod SentLines
 pub mod SentReplies
+pub mod SignedReplies
 pub mod SleepLaw
 pub mod SlotReplies
 pub mod WholeFiles

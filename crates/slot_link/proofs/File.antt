@@ -11,7 +11,6 @@ use Rattle.chip_core.specs.declared.sample.Sample.{Sample}
 use Rattle.chip_core.specs.declared.width.Width.{Width}
 use Rattle.slot_mode.specs.Slots.{is_monitored}
 use Rattle.cell_plan.specs.Pages.{sent_paging_rate, page_cycle}
-use Rattle.cell_plan.specs.Sampled.{made_samples}
 use Rattle.cell_plan.specs.declared.plan.CellPlan.{CellPlan}
 use Rattle.cell_plan.specs.declared.plan.PagingPlan.{PagingPlan}
 use Rattle.cell_plan.specs.declared.plan.SyncPlan.{SyncPlan}
@@ -24,21 +23,16 @@ use Rattle.heard_events.specs.declared.channel.Channel.TheVariants.{Paging}
 use Rattle.heard_events.specs.declared.mark.Mark.{Mark}
 use Rattle.event_tap.specs.SlotLines.{frame_of_slot, frame_of_slot_end, is_heard, is_slot_within, lines_behind, lines_by_times}
 use Rattle.event_tap.specs.SlotLines.{lines_of_slot, lines_of_slots, slot_bound, slot_lines, slot_softs, slot_pages}
-use Rattle.clean_signal.specs.BoundedNoise.{Bears, IsNear}
 use Rattle.clean_link.specs.CleanLink.{IsOnPath, IsTrueMark}
-use Rattle.clean_frames.specs.WholeSendings.{told_with_sync}
-use Rattle.clean_link.specs.CleanLaws.{ShowsSync}
+use Rattle.clean_link.specs.SentSigns.{FromMark, MarkIsAt, PagingFrameHasSigns}
+use Rattle.cell_plan.specs.Stated.{IsReceivable}
 use Rattle.clean_link.proofs.frames.Times.{paging_alone, paging_file_from, paging_file_to, known_at_once}
 use Rattle.clean_signal.proofs.frames.Times.{IsAlone}
-use Rattle.clean_link.proofs.frames.ChannelFrames.{clean_sync, heard_sync, paging_borne, paging_shown}
-use Rattle.clean_link.proofs.marks.MarksTrue.{marks_in, rate_in, unmarked_in}
-use Rattle.clean_signal.proofs.noise.Near.{length-near, near-self, zipped_frames}
-use Rattle.clean_signal.proofs.signal.Samples.{length-made}
-use Rattle.clean_link.proofs.traffic.Back.{told_behind_mark_in, untold_in}
-use Rattle.slot_link.specs.Laws.{HearsSlots, NoisySlotTextsComeBack, SlotTextsComeBack, AreSlotPages, NoisySlotsComeBack, SlotsComeBack}
-use Rattle.slot_link.specs.Laws.{sent_in_span, SlotBitsComeBack, SlotBitsComeBackBySigns, SpansComeBack, SpansComeBackBySigns}
-use Rattle.slot_link.specs.Laws.{SlotPagesComeBack, monitored_slots, sent_slot, slots_behind_mark, slots_sent, slots_to_end}
-use Rattle.slot_link.specs.Laws.{slots_with_sync, pages_in_slot, bits_in_slot, placed_message, round_in_slot}
+use Rattle.clean_link.proofs.frames.ChannelFrames.{paging_frame_shown, read_after}
+use Rattle.clean_signal.proofs.noise.Near.{zipped_frames}
+use Rattle.slot_link.specs.Laws.{HearsSlots, SlotTextsComeBack, AreSlotPages, SlotsComeBack, SlotBitsComeBackBySigns}
+use Rattle.slot_link.specs.Laws.{SpansComeBackBySigns, SlotPagesComeBack, monitored_slots, sent_slot, slots_behind_mark, slots_after}
+use Rattle.slot_link.specs.Laws.{slots_to_end, sent_in_span, pages_in_slot, bits_in_slot, placed_message, round_in_slot}
 use Rattle.std.proofs.lemmas.List.Elements.{All-contains}
 use Rattle.chip_core.specs.declared.check_form.CheckForm.{CheckForm}
 use Rattle.quality_bits.specs.declared.rate.Rate.{Rate}
@@ -56,7 +50,6 @@ use Rattle.symbol_path.specs.SentOrder.{data_shape, sent}
 use Rattle.quality_bits.specs.TrafficCodewords.{repeats_of}
 use Rattle.symbol_path.proofs.Agreement.{length-sent}
 use Rattle.viterbi.specs.Best.{IsAllowed}
-use Rattle.viterbi.specs.Laws.{signed}
 use Rattle.viterbi.specs.declared.codeword.Ends.TheVariants.{Free}
 use Rattle.frame_decoder.specs.Spans.{own_bits, paging_channel, Channel}
 use Rattle.frame_decoder.specs.declared.span_format.FrameKind.TheVariants as kinds
@@ -64,7 +57,6 @@ use Rattle.frame_decoder.proofs.Parts.{length-frames}
 use Rattle.cell_plan.specs.Sendings.{continued_symbols}
 use Rattle.clean_signal.specs.Signals.{span_codeword}
 use Rattle.clean_signal.proofs.frames.Scores.{ShowCodeword, shown_codeword_own, whole_frames, frame_at, length-before, sent_as_one}
-use Rattle.viterbi.proofs.Agreement.{signed_have}
 use Rattle.std.specs.Option.{option_to_list}
 use Rattle.std.proofs.Math.Nat.{mul-le-mul_right}
 use Rattle.std.proofs.Math.Seq.{take-append-add}
@@ -102,12 +94,6 @@ signed_spans_back c symbols bits_of first frames own softs whole each inside hav
     shown_codeword_own c symbols frames own codeword softs whole shown inside
     (codeword_allowed c bits_of first frames whole.enough each)
     ∙ frame_at (λ j. bits_of (first + j)) c.bits frames own (λ j. each (first + j)) inside
-
-pub spans_back : SpansComeBack
-spans_back c symbols strength bits_of first frames own whole each some inside =
-    let order = sent_in_span c bits_of first frames in
-    signed_spans_back c symbols bits_of first frames own (signed strength order) whole each inside
-    (signed_have strength order some)
 
 -- ---- parts of soft values have the signs of parts of the symbols
 
@@ -195,12 +181,6 @@ unfolding slot_bits
 signed_slot_bits_back rate bits_of first softs each have =
     flat_map_ext_places (slot_frame_bits rate softs) (λ k. bits_of (first + k)) 4
     (λ k inside. frame_of_four rate bits_of first softs each have k inside)
-
-pub slot_bits_back : SlotBitsComeBack
-slot_bits_back rate strength bits_of first each some =
-    let order = sent_in_span (paging_channel rate) bits_of first 4 in
-    signed_slot_bits_back rate bits_of first (signed strength order) each
-    (signed_have strength order some)
 
 -- ---- capsules frame by frame
 
@@ -317,55 +297,50 @@ slot_pages_back rate form pages first whole =
     (kept r) laid (pages_placed size form 0 0 0 pages large (omega arith) whole.heard)
     (λ p there is. page_told form first (cycle * r) p there))
 
-module _ (width : Width) (plan : CellPlan) (sync : SyncPlan) (p : PagingPlan) (t : Tuning)
-    (m : Mark) (superframes : ℕ) (is : HearsSlots width plan sync p t m superframes) where
+module _ (width : Width) (plan : CellPlan) (p : PagingPlan) (t : Tuning)
+    (m : Mark) (superframes : ℕ) (is : HearsSlots width plan p t m superframes) where
   -- the handset takes the channel to have the cell's rate
   same_rate : streams.paging_rate m.prat ≡ sent_paging_rate plan.sync
-  same_rate = ap streams.paging_rate is.rate ∙ sym (ap sent_paging_rate is.sends)
+  same_rate = ap streams.paging_rate is.cell.rate ∙ sym (ap sent_paging_rate is.cell.sends)
 
   -- the frames of a slot that ends in the file lie in it
   there : (i k : ℕ) → i < slots_to_end plan superframes → k < 4 →
       is_in_file t.count (streams.paging_stream t p.number m) (4 * i + k) ≡ true
   there i k inside low =
-      let place = is.marked.place in
+      let place = is.cell.marked.place in
       paging_file_from t p.number m is.tuned.alone (4 * i + k)
       (omega (arith, inside, low, place, is.tuned.count))
 
-  -- So of near samples their soft values have the signs of what is sent, and the pages come back.
-  pub slot_back : (e : ℕ) (samples : List Sample) → IsNear e samples (made_samples plan) →
-      Bears plan p.gain e → (i : ℕ) → i < slots_to_end plan superframes →
+  -- So where their soft values have the signs of what is sent, the pages come back.
+  pub slot_back : (samples : List Sample) (i : ℕ) → i < slots_to_end plan superframes →
+      ((k : ℕ) → k < 4 → PagingFrameHasSigns plan p samples (4 * (superframes + i) + k)) →
       AreSlotPages plan p t m superframes i samples
-  slot_back e samples near bears i inside =
+  slot_back samples i inside signs =
       let rate = sent_paging_rate plan.sync in
       let bits_of = cycle_frame_bits (cycle_of plan p) in
       let first : ℕ = 4 * (superframes + i) in
       let s = streams.paging_stream t p.number m in
       let form = plan.cell.check30 in
-      let shown = paging_shown width plan sync p t m superframes e samples is.receivable is.sends is.sent
-      is.tuned is.marked is.rate near bears in
+      let read = read_after plan p t m superframes samples is.tuned is.cell in
       ap (λ (c : CheckForm). slot_pages c (streams.paging_rate m.prat)
       (slot_bits (streams.paging_rate m.prat) (slot_softs samples s i))) is.tuned.checks_of_30
       ∙ ap (slot_pages form (streams.paging_rate m.prat))
-      (signed_slot_bits_back (streams.paging_rate m.prat) bits_of first (slot_softs samples s i) shown.each
+      (signed_slot_bits_back (streams.paging_rate m.prat) bits_of first (slot_softs samples s i) read.each
       (zipped_frames HasSign (λ k. order_of s bits_of (first + k))
       (λ k. frame_softs samples s (4 * i + k)) 4
       (λ k low.
       let same : 4 * superframes + (4 * i + k) ≡ first + k = omega arith in
       subst (λ (n : ℕ). HaveSigns (order_of s bits_of n) (frame_softs samples s (4 * i + k))) same
-      (shown.shown (4 * i + k) (there i k inside low)))))
+      (paging_frame_shown plan p t m superframes samples is.tuned is.cell (4 * i + k)
+      (subst (PagingFrameHasSigns plan p samples) (sym same) (signs k low)) (there i k inside low)))))
       ∙ ap (λ (r : Rate). slot_pages form r (bits_in_slot bits_of first)) same_rate
       ∙ slot_pages_back rate form p.pages first
       (stated_pages rate p
       (All-contains (IsStatedPaging rate) plan.paging p is.receivable.pages is.sent))
 
-pub noisy_slots_back : NoisySlotsComeBack
-noisy_slots_back width plan sync p t m superframes i e samples is near bears inside =
-    slot_back width plan sync p t m superframes is e samples near bears i inside
-
 pub slots_back : SlotsComeBack
-slots_back width plan sync p t m superframes i is inside =
-    slot_back width plan sync p t m superframes is 0 (made_samples plan)
-    (near-self 0 (made_samples plan)) (paging_borne width plan p is.receivable is.sent) i inside
+slots_back width plan p t m superframes i samples is =
+    slot_back width plan p t m superframes is samples i
 
 -- ---- the slots in the file
 
@@ -473,13 +448,10 @@ module _ (plan : CellPlan) (t : Tuning) (number : ℕ) (m : Mark) (superframes :
 
 -- ---- their lines
 
-module _ (width : Width) (plan : CellPlan) (sync : SyncPlan) (p : PagingPlan) (t : Tuning)
-    (m : Mark) (superframes : ℕ) (is : HearsSlots width plan sync p t m superframes) (e : ℕ)
-    (samples : List Sample) (near : IsNear e samples (made_samples plan))
-    (bears : Bears plan p.gain e) where
-  long : length samples ≡ plan.link.samples
-  long = length-near e samples (made_samples plan) near ∙ length-made plan
-
+module _ (width : Width) (plan : CellPlan) (p : PagingPlan) (t : Tuning)
+    (m : Mark) (superframes : ℕ) (is : HearsSlots width plan p t m superframes)
+    (samples : List Sample) (long : length samples ≡ plan.link.samples)
+    (signs : (k : ℕ) → PagingFrameHasSigns plan p samples (4 * superframes + k)) where
   -- the lines of a slot are those that are sent
   lines_back : (slot : ℕ) → slot < slots_to_end plan superframes →
       lines_of_slot t.check30 m samples (channel_stream t (Paging p.number) m) slot ≡
@@ -488,14 +460,18 @@ module _ (width : Width) (plan : CellPlan) (sync : SyncPlan) (p : PagingPlan) (t
       let s = channel_stream t (Paging p.number) m in
       let pages = pages_in_slot (sent_paging_rate plan.sync) plan.cell.check30 p.pages
       (4 * (superframes + slot)) in
-      let place = is.marked.place in
+      let marked = is.cell.marked in
+      let place = marked.place in
       let ends : frame_of_slot_end s slot 3 ≡
       98304 * (superframes + slot + 1) - plan.link.start =
-      omega (arith, place, end_is plan t p.number m superframes is.tuned is.marked samples long slot 3) in
+      omega (arith, place, end_is plan t p.number m superframes is.tuned marked samples long slot 3) in
       let time : m.time + slot ≡ plan.cell.time + (superframes + slot) =
-      omega (arith, is.marked.time) in
+      omega (arith, marked.time) in
       ap (slot_lines (frame_of_slot_end s slot 3) (m.time + slot))
-      (slot_back width plan sync p t m superframes is e samples near bears slot inside)
+      (slot_back width plan p t m superframes is samples slot inside
+      (λ k low.
+      let same : 4 * superframes + (4 * slot + k) ≡ 4 * (superframes + slot) + k = omega arith in
+      subst (PagingFrameHasSigns plan p samples) same (signs (4 * slot + k))))
       ∙ ap (λ (at : ℕ). slot_lines at (m.time + slot) pages) ends
       ∙ ap (λ (now : ℕ). slot_lines (98304 * (superframes + slot + 1) - plan.link.start) now pages)
       time
@@ -506,7 +482,8 @@ module _ (width : Width) (plan : CellPlan) (sync : SyncPlan) (p : PagingPlan) (t
       slots_behind_mark key cycle plan p (Some superframes)
   text_low key cycle low =
       let lines = lines_of_slot t.check30 m samples (channel_stream t (Paging p.number) m) in
-      ap (flat_map lines) (slots_low plan t p.number m superframes is.tuned is.marked samples long key cycle low)
+      ap (flat_map lines)
+      (slots_low plan t p.number m superframes is.tuned is.cell.marked samples long key cycle low)
       ∙ flat_map_ext_filter_places
       (λ i. is_monitored (plan.cell.time + (superframes + i)) key cycle) lines
       (λ i. sent_slot plan p (superframes + i)) (slots_to_end plan superframes)
@@ -517,78 +494,50 @@ module _ (width : Width) (plan : CellPlan) (sync : SyncPlan) (p : PagingPlan) (t
   text_high key cycle high =
       ap
       (flat_map (lines_of_slot t.check30 m samples (channel_stream t (Paging p.number) m)))
-      (slots_high plan t p.number m superframes is.tuned is.marked samples long key cycle high)
+      (slots_high plan t p.number m superframes is.tuned is.cell.marked samples long key cycle high)
 
-  text_back : (key cycle : ℕ) → told_with_sync plan (Some sync) ≡ Some superframes →
-      lines_by_times key cycle t p.number m samples ≡ slots_with_sync key cycle plan p (Some sync)
-  text_back key cycle told =
+  text_back : (key cycle : ℕ) (at : Option ℕ) → at ≡ Some superframes →
+      lines_by_times key cycle t p.number m samples ≡ slots_after key cycle plan p at plan.sync
+  text_back key cycle at told =
+      let sync = is.cell.sync in
       let same : nat_lt m.prat 2 ≡ nat_lt sync.message.prat 2 =
-      ap (λ (n : ℕ). nat_lt n 2) is.rate in
+      ap (λ (n : ℕ). nat_lt n 2) is.cell.rate in
+      let text : Bool → List ℕ =
+      λ rated. if rated then slots_behind_mark key cycle plan p (Some superframes) else [] in
+      let sent : slots_after key cycle plan p at plan.sync ≡ text (nat_lt sync.message.prat 2) =
+      ap (slots_after key cycle plan p at) is.cell.sends
+      ∙ ap (λ (o : Option ℕ). slots_after key cycle plan p o (Some sync)) told in
       elim (cases_Bool (nat_lt sync.message.prat 2)) [
-        | inl low ↦ rw (low, told) (text_low key cycle (same ∙ low))
-        | inr high ↦ rw high (text_high key cycle (same ∙ high))
+        | inl low ↦ text_low key cycle (same ∙ low) ∙ sym (sent ∙ ap text low)
+        | inr high ↦ text_high key cycle (same ∙ high) ∙ sym (sent ∙ ap text high)
       ]
 
 -- ---- the law
 
-either_none : (b : Bool) (xs : List ℕ) → xs ≡ [] → (if b then xs else []) ≡ []
-either_none true xs none = none
-either_none false xs none = refl
+none_after : (key cycle : ℕ) (plan : CellPlan) (p : PagingPlan) (at : Option ℕ)
+    (sync : Option SyncPlan) → at ≡ None → slots_after key cycle plan p at sync ≡ []
+none_after key cycle plan p at None none = refl
+none_after key cycle plan p at (Some sync) none =
+    either_none (nat_lt sync.message.prat 2) (ap (slots_behind_mark key cycle plan p) none)
+  where
+    either_none : (b : Bool) {xs : List ℕ} → xs ≡ [] → (if b then xs else []) ≡ []
+    either_none true none = none
+    either_none false none = refl
 
--- Of near samples that show the frames of the sync channel, and which the paging channel bears.
-module _ (width : Width) (plan : CellPlan) (p : PagingPlan) (t : Tuning) (key cycle e : ℕ)
-    (samples : List Sample) (shows : ShowsSync width plan samples)
-    (near : IsNear e samples (made_samples plan)) (bears : Bears plan p.gain e)
-    (tuned : IsOnPath plan t) (sent : Contains plan.paging p) where
-  count : length samples ≡ t.count
-  count = length-near e samples (made_samples plan) near ∙ length-made plan ∙ sym tuned.count
-
-  -- without a mark none is sent
-  none_sent : (sync : Option SyncPlan) → told_with_sync plan sync ≡ None →
-      slots_with_sync key cycle plan p sync ≡ []
-  none_sent None told = refl
-  none_sent (Some sync) told =
-      either_none (nat_lt sync.message.prat 2)
-      (slots_behind_mark key cycle plan p (told_with_sync plan (Some sync)))
-      (ap (slots_behind_mark key cycle plan p) told)
-
-  -- with the mark that is set
-  by_sync : (sync : Option SyncPlan) (m : Mark) → plan.sync ≡ sync →
-      mark t samples t.count ≡ Some m →
-      lines_by_times key cycle t p.number m samples ≡ slots_with_sync key cycle plan p sync
-  by_sync None m silent set =
-      let unset = unmarked_in shows tuned t.count silent in absurd (cc)
-  by_sync (Some sync) m sends set =
-      let (superframes, true_mark) = marks_in shows tuned t.count m set in
-      text_back width plan sync p t m superframes
-      (record {
-        receivable = shows.receivable;
-        tuned = tuned;
-        sends = sends;
-        sent = sent;
-        marked = true_mark;
-        rate = rate_in shows tuned sync t.count m sends set;
-      }) e samples near bears key cycle
-      (told_behind_mark_in shows tuned (Some sync) m sends set superframes true_mark.time)
-
-  by_mark : (set : Option Mark) → mark t samples t.count ≡ set →
-      lines_behind key cycle t p.number samples set ≡ slots_sent key cycle plan p
-  unfolding slots_sent
-  by_mark None unset =
-      sym (none_sent plan.sync (untold_in shows tuned plan.sync refl unset))
-  by_mark (Some m) set = by_sync plan.sync m refl set
-
-  slot_texts : lines_of_slots key cycle t p.number samples ≡ slots_sent key cycle plan p
-  slot_texts =
-      ap (λ (n : ℕ). lines_behind key cycle t p.number samples (mark t samples n)) count
-      ∙ by_mark (mark t samples t.count) refl
-
-pub noisy_slot_texts_back : NoisySlotTextsComeBack
-noisy_slot_texts_back width plan sync p t key cycle e samples is tuned sent bears =
-    slot_texts width plan p t key cycle e samples (heard_sync width plan sync e samples is) is.near bears
-    tuned sent
+-- Of samples in which each of the channel's frames from a mark on has the sent signs.
+module _ {width : Width} {plan : CellPlan} {p : PagingPlan} {t : Tuning} (key cycle : ℕ)
+    (samples : List Sample) (at : Option ℕ) (receivable : IsReceivable width plan)
+    (long : length samples ≡ plan.link.samples) (tuned : IsOnPath plan t)
+    (sent : Contains plan.paging p) (signs : FromMark (PagingFrameHasSigns plan p samples) at) where
+  by_mark : (set : Option Mark) → MarkIsAt plan set at →
+      lines_behind key cycle t p.number samples set ≡ slots_after key cycle plan p at plan.sync
+  by_mark None none = sym (none_after key cycle plan p at plan.sync none)
+  by_mark (Some m) (superframes, told, cell) =
+      text_back width plan p t m superframes
+      (record { receivable = receivable; tuned = tuned; sent = sent; cell = cell }) samples long
+      (λ k. signs superframes k told) key cycle at told
 
 pub slot_texts_back : SlotTextsComeBack
-slot_texts_back width plan p t key cycle is tuned sent =
-    slot_texts width plan p t key cycle 0 (made_samples plan) (clean_sync width plan is)
-    (near-self 0 (made_samples plan)) (paging_borne width plan p is sent) tuned sent
+slot_texts_back width plan p t key cycle at samples is long tuned sent marked signs =
+    by_mark key cycle samples at is long tuned sent signs (mark t samples (length samples))
+    (subst (λ (n : ℕ). MarkIsAt plan (mark t samples n) at) (sym long) marked)

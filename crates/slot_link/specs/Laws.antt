@@ -1,4 +1,4 @@
--- The laws of slots on a clean link, and on one with bounded noise.
+-- The laws of slots, by the signs of a paging channel's soft values.
 use Rattle.std.specs.Prelude.{ℕ, ◌+◌, ◌*◌, ◌<◌, ◌≡◌, Bool, List, length, ℤ, Some, ◌-◌, ◌/◌}
 use Rattle.std.specs.Prelude.{if◌then◌else◌, nat_lt, [], filter, Option, None, map}
 use Rattle.std.specs.List.{Contains, flat_map}
@@ -9,28 +9,26 @@ use Rattle.chip_core.specs.declared.sample.Sample.{Sample}
 use Rattle.chip_core.specs.declared.width.Width.{Width}
 use Rattle.symbol_path.specs.SentOrder.{sent}
 use Rattle.quality_bits.specs.declared.rate.Rate.{Rate}
-use Rattle.viterbi.specs.Laws.{signed}
 use Rattle.viterbi.specs.Signs.{HaveSigns}
 use Rattle.frame_decoder.specs.Spans.{Channel, own_bits, paging_channel}
 use Rattle.slot_mode.specs.Frames.{slot_bits}
 use Rattle.cell_plan.specs.PageCycles.{cycled, paging_frame_size}
 use Rattle.cell_plan.specs.Pages.{page_cycle, sent_paging_rate}
-use Rattle.cell_plan.specs.Sampled.{made_samples}
 use Rattle.cell_plan.specs.Sendings.{continued_symbols}
 use Rattle.cell_plan.specs.declared.plan.CellPlan.{CellPlan}
 use Rattle.cell_plan.specs.declared.plan.Page.{Page}
 use Rattle.cell_plan.specs.declared.plan.PagingPlan.{PagingPlan}
 use Rattle.cell_plan.specs.declared.plan.SyncPlan.{SyncPlan}
 use Rattle.heard_events.specs.Channels.{channel_stream}
+use Rattle.heard_events.specs.Marks.{mark}
 use Rattle.heard_events.specs.PagingStreams as heard
 use Rattle.heard_events.specs.Tuning.{Tuning}
 use Rattle.heard_events.specs.declared.channel.Channel.TheVariants as channels
 use Rattle.heard_events.specs.declared.mark.Mark.{Mark}
 use Rattle.event_tap.specs.SlotLines.{lines_of_slots, slot_pages, slot_softs, slot_lines}
-use Rattle.clean_signal.specs.BoundedNoise.{Bears, IsNear}
-use Rattle.clean_link.specs.CleanLink.{IsOnPath, IsTrueMark}
-use Rattle.clean_frames.specs.WholeSendings.{whole_sendings, told_by_first}
-use Rattle.clean_link.specs.CleanLaws.{HearsSentSync}
+use Rattle.clean_link.specs.CleanLink.{IsOnPath}
+use Rattle.clean_link.specs.SentSigns.{FromMark, IsCellMark, MarkIsAt, PagingFrameHasSigns}
+use Rattle.clean_frames.specs.WholeSendings.{told_with_sync}
 use Rattle.cell_plan.specs.Stated.{IsReceivable}
 use Rattle.clean_signal.specs.Signals.{IsWholeChannel}
 use Rattle.clean_frames.specs.WholePages.{AreWholePages, end_chip, message_in, cycle_half_frames}
@@ -89,18 +87,16 @@ slots_behind_mark key cycle plan p (Some first) =
     flat_map (λ i. sent_slot plan p (first + i)) (monitored_slots key cycle plan first)
 
 -- with the values 2 and 3 of PRAT no paging channel is heard
-abbrev pub slots_with_sync : ℕ → ℕ → CellPlan → PagingPlan → Option SyncPlan → List ℕ
-slots_with_sync key cycle plan p None = []
-slots_with_sync key cycle plan p (Some sync) =
-    if nat_lt sync.message.prat 2
-    then slots_behind_mark key cycle plan p
-    (told_by_first plan sync.message (whole_sendings plan sync.message))
-    else []
+abbrev pub slots_after : ℕ → ℕ → CellPlan → PagingPlan → Option ℕ → Option SyncPlan → List ℕ
+slots_after key cycle plan p at None = []
+slots_after key cycle plan p at (Some sync) =
+    if nat_lt sync.message.prat 2 then slots_behind_mark key cycle plan p at else []
 
 -- What is written for the handset of a key that monitors one of the cell's paging channels in a
 -- cycle: the first whole transmission of the sync channel tells the mark.
 unfoldable pub slots_sent : ℕ → ℕ → CellPlan → PagingPlan → List ℕ
-slots_sent key cycle plan p = slots_with_sync key cycle plan p plan.sync
+slots_sent key cycle plan p =
+    slots_after key cycle plan p (told_with_sync plan plan.sync) plan.sync
 
 -- ---- frames
 
@@ -120,15 +116,6 @@ SpansComeBackBySigns =
     HaveSigns (sent_in_span c bits_of first frames) softs →
     own_bits c frames own softs ≡ bits_of (first + own)
 
--- So do those that are one positive number times the signs.
-abbrev pub SpansComeBack : Type 0
-SpansComeBack =
-    (c : Channel) (symbols strength : ℕ) (bits_of : ℕ → List Bool) (first frames own : ℕ) →
-    IsWholeChannel c symbols → ((k : ℕ) → length (bits_of k) ≡ c.bits) → 0 < strength →
-    own < frames →
-    own_bits c frames own (signed strength (sent_in_span c bits_of first frames)) ≡
-    bits_of (first + own)
-
 -- So the bits of a slot are those that are sent in its four frames, though each is decoded with its
 -- neighbours in the slot alone.
 abbrev pub SlotBitsComeBackBySigns : Type 0
@@ -137,13 +124,6 @@ SlotBitsComeBackBySigns =
     ((k : ℕ) → length (bits_of k) ≡ (paging_channel rate).bits) →
     HaveSigns (sent_in_span (paging_channel rate) bits_of first 4) softs →
     slot_bits rate softs ≡ bits_in_slot bits_of first
-
-abbrev pub SlotBitsComeBack : Type 0
-SlotBitsComeBack =
-    (rate : Rate) (strength : ℕ) (bits_of : ℕ → List Bool) (first : ℕ) →
-    ((k : ℕ) → length (bits_of k) ≡ (paging_channel rate).bits) → 0 < strength →
-    slot_bits rate (signed strength (sent_in_span (paging_channel rate) bits_of first 4)) ≡
-    bits_in_slot bits_of first
 
 -- ---- pages
 
@@ -160,15 +140,13 @@ SlotPagesComeBack =
 -- ---- in a file
 
 -- A handset with one finger, which lies on the path of a cell that sends this paging channel, and a
--- mark that is true of the cell and tells its PRAT.
-pub record HearsSlots (width : Width) (plan : CellPlan) (sync : SyncPlan) (p : PagingPlan)
-    (t : Tuning) (m : Mark) (superframes : ℕ) : Type 0 where
+-- mark that is the cell's.
+pub record HearsSlots (width : Width) (plan : CellPlan) (p : PagingPlan) (t : Tuning) (m : Mark)
+    (superframes : ℕ) : Type 0 where
   pub receivable : IsReceivable width plan
   pub tuned : IsOnPath plan t
-  pub sends : plan.sync ≡ Some sync
   pub sent : Contains plan.paging p
-  pub marked : IsTrueMark plan m superframes
-  pub rate : m.prat ≡ sync.message.prat
+  pub cell : IsCellMark plan m superframes
 
 -- Of slot i, counted from the mark on, just the pages come back that are sent in it.
 abbrev pub AreSlotPages : CellPlan → PagingPlan → Tuning → Mark → ℕ → ℕ → List Sample → Type 0
@@ -178,37 +156,24 @@ AreSlotPages plan p t m superframes i samples =
     (slot_softs samples (channel_stream t (channels.Paging p.number) m) i))
     ≡ pages_in_slot (sent_paging_rate plan.sync) plan.cell.check30 p.pages (4 * (superframes + i))
 
--- So it is of each slot from the mark on that ends in the file, where the samples are near to the
--- cell's within what the paging channel bears.
-abbrev pub NoisySlotsComeBack : Type 0
-NoisySlotsComeBack =
-    (width : Width) (plan : CellPlan) (sync : SyncPlan) (p : PagingPlan) (t : Tuning) (m : Mark)
-    (superframes i e : ℕ) (samples : List Sample) →
-    HearsSlots width plan sync p t m superframes → IsNear e samples (made_samples plan) →
-    Bears plan p.gain e → i < slots_to_end plan superframes →
-    AreSlotPages plan p t m superframes i samples
-
--- On a clean link it is so, since a noise of 0 is borne by every channel.
+-- So it is of each slot from the mark on that ends in a file of any origin, where the soft values
+-- of its four frames have the signs that are sent.
 abbrev pub SlotsComeBack : Type 0
 SlotsComeBack =
-    (width : Width) (plan : CellPlan) (sync : SyncPlan) (p : PagingPlan) (t : Tuning) (m : Mark)
-    (superframes i : ℕ) →
-    HearsSlots width plan sync p t m superframes → i < slots_to_end plan superframes →
-    AreSlotPages plan p t m superframes i (made_samples plan)
+    (width : Width) (plan : CellPlan) (p : PagingPlan) (t : Tuning) (m : Mark)
+    (superframes i : ℕ) (samples : List Sample) →
+    HearsSlots width plan p t m superframes → i < slots_to_end plan superframes →
+    ((k : ℕ) → k < 4 → PagingFrameHasSigns plan p samples (4 * (superframes + i) + k)) →
+    AreSlotPages plan p t m superframes i samples
 
--- So the lines of the slots of a file in which the sync channel bears the noise too, for a handset
+-- Where each of the channel's frames from a mark on has them, the lines of the slots, for a handset
 -- that sleeps through all but those of a key and a cycle, are what the cell sends: slot by slot the
 -- slot's line, and the lines of its pages.
-abbrev pub NoisySlotTextsComeBack : Type 0
-NoisySlotTextsComeBack =
-    (width : Width) (plan : CellPlan) (sync : SyncPlan) (p : PagingPlan) (t : Tuning)
-    (key cycle e : ℕ) (samples : List Sample) →
-    HearsSentSync width plan sync e samples → IsOnPath plan t → Contains plan.paging p →
-    Bears plan p.gain e → lines_of_slots key cycle t p.number samples ≡ slots_sent key cycle plan p
-
--- So are those of a clean link's file, also where the cell sends no sync channel.
 abbrev pub SlotTextsComeBack : Type 0
 SlotTextsComeBack =
-    (width : Width) (plan : CellPlan) (p : PagingPlan) (t : Tuning) (key cycle : ℕ) →
-    IsReceivable width plan → IsOnPath plan t → Contains plan.paging p →
-    lines_of_slots key cycle t p.number (made_samples plan) ≡ slots_sent key cycle plan p
+    (width : Width) (plan : CellPlan) (p : PagingPlan) (t : Tuning) (key cycle : ℕ)
+    (at : Option ℕ) (samples : List Sample) → IsReceivable width plan →
+    length samples ≡ plan.link.samples → IsOnPath plan t → Contains plan.paging p →
+    MarkIsAt plan (mark t samples plan.link.samples) at →
+    FromMark (PagingFrameHasSigns plan p samples) at →
+    lines_of_slots key cycle t p.number samples ≡ slots_after key cycle plan p at plan.sync

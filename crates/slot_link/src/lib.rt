@@ -1,5 +1,5 @@
-//! What a sleeping handset hears on a clean link, and on one with bounded noise: laws over the
-//! definitions of what a base station sends and of the slots that a handset monitors.
+//! What a sleeping handset hears in a file of any origin: laws over the definitions of what a base
+//! station sends and of the slots that a handset monitors.
 //!
 //! A clean link is a sample file that holds what one cell sends over one path, without noise. The
 //! bits of a slot come from its four frames alone: the span of the slot's first frame has none

@@ -12,11 +12,17 @@ use Rattle.clean_link.proofs.Common.{paging_mask, scrambling, data_shape, repeat
 use Rattle.clean_link.proofs.Common.{cycled, frame_scrambling, paging_frame_size, IsLawfulPlan, IsPagingPlan, cycle_of, paging_carrier}
 use Rattle.clean_link.proofs.Common.{PagingPlan, Data, paging_stream, descrambled, unscrambled, Stream, Mark, IsTrueMark}
 use Rattle.clean_link.proofs.Common.{PagingFramesComeBack, PagingHaveSentSigns, PagingCodewordsAreTheOnlyBest, SilentPagingFramesAreZeros}
+use Rattle.clean_link.proofs.Common.{FrameHasSigns, HasSyncSigns, IsCellMark, PagingFrameHasSigns, HasSign, frame_softs, Carrier, carriers}
 use Rattle.clean_link.proofs.Common.{SilentPagingIsZero, ordered_symbols, scrambled_with, ChannelFramesComeBack, NoisyFramesComeBack}
-use Rattle.clean_signal.proofs.signal.CarriersApart.{sync_sent, sync_silent, paging_sent, paging_silent}
-use Rattle.clean_signal.proofs.noise.Near.{none_borne, near-self}
+use Rattle.clean_signal.proofs.signal.CarriersApart.{plan_apart, sync_sent, sync_silent, paging_sent, paging_silent}
+use Rattle.clean_signal.proofs.noise.Near.{length-near, none_borne, near-self, signs_turn}
+use Rattle.clean_signal.proofs.signal.Frames.{noisy_relates}
+use Rattle.clean_signal.proofs.signal.Samples.{length-made}
+use Rattle.clean_signal.specs.Signals.{IsFrameAt}
+use Rattle.rake_finger.specs.declared.form.Form.{Form}
+use Rattle.viterbi.specs.Signs.{HaveSigns}
 use Rattle.clean_signal.proofs.frames.Scores.{whole_frames}
-use Rattle.clean_signal.proofs.frames.Heard.{IsShown, shown_alone}
+use Rattle.clean_signal.proofs.frames.Heard.{heard_shown, IsShown, order_of, shown_alone, stream_related}
 use Rattle.clean_link.proofs.frames.OwnBits.{shown_back, silent_back}
 use Rattle.clean_link.proofs.frames.Times.{frames_begin, in_file_to, paging_file_to}
 use Rattle.heard_events.specs.PagingStreams.{paging_rate}
@@ -102,75 +108,107 @@ sent_signs width plan sync t k at is on here = (
       (sym (sync_symbols-is plan sync.message (first_sync_frame plan + k))),
 )
 
-pub zero_without_sync : AreZeroWithoutSync
-zero_without_sync width plan t k at none on here =
+-- where nothing is sent on the sync channel's row its soft values are 0
+zero_in : (width : Width) (plan : CellPlan) (samples : List Sample) (t : Tuning) (k : ℕ) →
+    IsReceivable width plan → ((u : ℕ) → IsFrameAt plan Sync u →
+    softs samples (path_finger plan 32 ∷ []) Sync u ≡ replicate 128 (pos 0)) → IsOnPath plan t →
+    is_in_file t.count (sync_stream t) k ≡ true →
+    frame_softs samples (sync_stream t) k ≡ replicate 128 (pos 0)
+zero_in width plan samples t k at silent on here =
     let u = frame_start (sync_stream t) k in
     let begins = frames_begin plan t k at.lawful.pn on.phase in
-    ap (λ (fs : List Finger). softs (made_samples plan) fs Sync u) (fingers_are plan t 32 on)
-    ∙ silent_rows width plan 32 Sync u at (omega arith) (sync_silent width plan at.lawful none)
-    (record {
+    ap (λ (fs : List Finger). softs samples fs Sync u) (fingers_are plan t 32 on)
+    ∙ silent u (record {
       room = omega (arith, in_file_to t k on.alone here, on.count);
       aligned = omega (arith, begins);
     })
 
-pub frames_zero : FramesAreZeros
-frames_zero width plan t k at none on here =
-    silent_back t.count k (made_samples plan) (sync_stream t) (omega arith)
-    (λ j there. zero_without_sync width plan t j at none on there) here
-
 -- ---- samples that show the channel's frames
 
--- those near to the cell's, where the channel bears the noise
-sync_shown : (width : Width) (plan : CellPlan) (sync : SyncPlan) (t : Tuning) (e : ℕ)
-    (samples : List Sample) → IsReceivable width plan → plan.sync ≡ Some sync → IsOnPath plan t →
-    IsNear e samples (made_samples plan) → Bears plan sync.gain e →
+-- those in which each frame has the sent signs
+sync_shown : {width : Width} {plan : CellPlan} {samples : List Sample} (sync : SyncPlan) (t : Tuning) →
+    HasSyncSigns width plan samples → plan.sync ≡ Some sync → IsOnPath plan t →
     IsShown t.count samples (sync_stream t) (sync_frame_bits plan.cell sync.message)
     (first_sync_frame plan)
-sync_shown width plan sync t e samples is sends on near bears =
+sync_shown {plan = plan} {samples = samples} sync t is sends on =
     subst
     (λ (n : ℕ). IsShown n samples (sync_stream t) (sync_frame_bits plan.cell sync.message)
     (first_sync_frame plan)) (sym on.count)
-    (noisy_shown e samples is (sync_sent plan sync sends) (sync_heard plan sync t is.lawful.pn on)
-    (sync_read plan sync t) near bears)
+    (heard_shown samples (λ k. is.signs sync sends (first_sync_frame plan + k))
+    (sync_heard plan sync t is.receivable.lawful.pn on) (sync_read plan sync t))
 
-pub heard_sync : (width : Width) (plan : CellPlan) (sync : SyncPlan) (e : ℕ)
-    (samples : List Sample) → HearsSentSync width plan sync e samples → ShowsSync width plan samples
-heard_sync width plan sync e samples is = record {
+pub shows_sync : {width : Width} {plan : CellPlan} {samples : List Sample} →
+    HasSyncSigns width plan samples → ShowsSync width plan samples
+shows_sync {width} {plan} {samples} is = record {
   receivable = is.receivable;
-  back = λ other t k sends on here.
-      let same : ◌≡◌ {A = Option SyncPlan} (Some sync) (Some other) = sym is.sends ∙ sends in
-      let one : sync ≡ other = ap (λ (o : Option SyncPlan). unwrap_or o sync) same in
-      shown_back (sync_shown width plan other t e samples is.receivable sends on is.near
-      (subst (λ (x : SyncPlan). Bears plan x.gain e) one is.bears)) k here;
+  back = λ sync t k sends on here. shown_back (sync_shown sync t is sends on) k here;
   none = λ t k silent on here.
-      let same : ◌≡◌ {A = Option SyncPlan} None (Some sync) = sym silent ∙ is.sends in
+      silent_back t.count k samples (sync_stream t) (omega arith)
+      (λ j there. zero_in width plan samples t j is.receivable (is.silent silent) on there) here;
+}
+
+-- a channel that bears the noise has them, in each of its frames
+pub near_frame : {width : Width} {plan : CellPlan} (c : Carrier) (form : Form) (e : ℕ)
+    (samples : List Sample) → IsReceivable width plan → Contains (carriers plan) c →
+    IsNear e samples (made_samples plan) → Bears plan c.gain e →
+    (frame : ℕ) → FrameHasSigns plan c form samples frame
+near_frame {width} {plan} c form e samples is has near bears frame u =
+    noisy_relates plan c form e samples is.lawful.pn (plan_apart width plan is.lawful) has near bears u
+    frame
+
+-- so near samples, where the sync channel bears the noise
+pub near_sync : {width : Width} {plan : CellPlan} {sync : SyncPlan} {e : ℕ} (samples : List Sample) →
+    IsReceivable width plan → plan.sync ≡ Some sync → IsNear e samples (made_samples plan) →
+    Bears plan sync.gain e → HasSyncSigns width plan samples
+near_sync {plan = plan} {sync} {e} samples is sent near bears = record {
+  receivable = is;
+  long = length-near e samples (made_samples plan) near ∙ length-made plan;
+  signs = λ other sends.
+      let same : ◌≡◌ {A = Option SyncPlan} (Some sync) (Some other) = sym sent ∙ sends in
+      let one : sync ≡ other = ap (λ (o : Option SyncPlan). unwrap_or o sync) same in
+      near_frame (sync_carrier plan other) Sync e samples is (sync_sent plan other sends) near
+      (subst (λ (x : SyncPlan). Bears plan x.gain e) one bears);
+  silent = λ silent u at.
+      let same : ◌≡◌ {A = Option SyncPlan} None (Some sync) = sym silent ∙ sent in
       absurd (cc);
 }
 
 -- and those of a clean link, with a sync channel or without one
-clean_shown : (width : Width) (plan : CellPlan) (sync : SyncPlan) (t : Tuning) →
-    IsReceivable width plan → plan.sync ≡ Some sync → IsOnPath plan t →
-    IsShown t.count (made_samples plan) (sync_stream t) (sync_frame_bits plan.cell sync.message)
-    (first_sync_frame plan)
-clean_shown width plan sync t is sends on =
-    sync_shown width plan sync t 0 (made_samples plan) is sends on (near-self 0 (made_samples plan))
-    (none_borne width plan sync.gain is (gain_some plan sync sends is.lawful.sync))
+pub clean_signs : (width : Width) (plan : CellPlan) → IsReceivable width plan →
+    HasSyncSigns width plan (made_samples plan)
+clean_signs width plan is = record {
+  receivable = is;
+  long = length-made plan;
+  signs = λ sync sends.
+      near_frame (sync_carrier plan sync) Sync 0 (made_samples plan) is (sync_sent plan sync sends)
+      (near-self 0 (made_samples plan))
+      (none_borne width plan sync.gain is (gain_some plan sync sends is.lawful.sync));
+  silent = λ silent u at.
+      silent_rows width plan 32 Sync u is (omega arith) (sync_silent width plan is.lawful silent) at;
+}
 
-pub frames_back : FramesComeBack
-frames_back width plan sync t k at is on here =
-    shown_back (clean_shown width plan sync t at is on) k here
-
-pub codewords_alone : SentCodewordsAreTheOnlyBest
-codewords_alone width plan sync t k at is on here =
-    shown_alone (clean_shown width plan sync t at is on) k here
+pub heard_sync : (width : Width) (plan : CellPlan) (sync : SyncPlan) (e : ℕ)
+    (samples : List Sample) → HearsSentSync width plan sync e samples → ShowsSync width plan samples
+heard_sync width plan sync e samples is =
+    shows_sync (near_sync samples is.receivable is.sends is.near is.bears)
 
 pub clean_sync : (width : Width) (plan : CellPlan) → IsReceivable width plan →
     ShowsSync width plan (made_samples plan)
-clean_sync width plan is = record {
-  receivable = is;
-  back = λ sync t k sends on here. frames_back width plan sync t k is sends on here;
-  none = λ t k silent on here. frames_zero width plan t k is silent on here;
-}
+clean_sync width plan is = shows_sync (clean_signs width plan is)
+
+pub zero_without_sync : AreZeroWithoutSync
+zero_without_sync width plan t k at none =
+    zero_in width plan (made_samples plan) t k at ((clean_signs width plan at).silent none)
+
+pub frames_zero : FramesAreZeros
+frames_zero width plan t k at = (clean_sync width plan at).none t k
+
+pub frames_back : FramesComeBack
+frames_back width plan sync t k at = (clean_sync width plan at).back sync t k
+
+pub codewords_alone : SentCodewordsAreTheOnlyBest
+codewords_alone width plan sync t k at is on here =
+    shown_alone (sync_shown sync t (clean_signs width plan at) is on) k here
 
 -- ---- scrambling
 
@@ -298,24 +336,49 @@ paging_signs width plan sync p t m superframes k is sends has on at told here =
           (sym same),
     )
 
--- Of near samples, the soft values of its frames have the signs of what the channel sends in them.
-pub paging_shown : (width : Width) (plan : CellPlan) (sync : SyncPlan) (p : PagingPlan) (t : Tuning)
-    (m : Mark) (superframes e : ℕ) (samples : List Sample) → IsReceivable width plan →
-    plan.sync ≡ Some sync → Contains plan.paging p → IsOnPath plan t → IsTrueMark plan m superframes →
-    m.prat ≡ sync.message.prat → IsNear e samples (made_samples plan) → Bears plan p.gain e →
-    IsShown t.count samples (paging_stream t p.number m) (cycle_frame_bits (cycle_of plan p))
-    (4 * superframes)
-paging_shown width plan sync p t m superframes e samples is sends has on at told near bears =
-    let s = paging_stream t p.number m in
-    let bits_of = cycle_frame_bits (cycle_of plan p) in
-    subst (λ (n : ℕ). IsShown n samples s bits_of (4 * superframes)) (sym on.count)
-    (noisy_shown e samples is (paging_sent plan p has) (paging_heard plan p t m superframes on at)
-    (paging_read plan p t m superframes at (rates_agree plan sync m sends told)) near bears)
+module _ (plan : CellPlan) (p : PagingPlan) (t : Tuning) (m : Mark) (superframes : ℕ)
+    (samples : List Sample) (on : IsOnPath plan t) (at : IsCellMark plan m superframes) where
+  abbrev stream : Stream
+  stream = paging_stream t p.number m
+
+  abbrev bits_of : ℕ → List Bool
+  bits_of = cycle_frame_bits (cycle_of plan p)
+
+  pub read_after : AreReadBy (paging_carrier plan p) stream bits_of (4 * superframes)
+  read_after =
+      paging_read plan p t m superframes at.marked (rates_agree plan at.sync m at.sends at.rate)
+
+  -- The soft values of a frame from the mark on show what the channel sends in it, where they have the
+  -- signs of it.
+  pub paging_frame_shown : (k : ℕ) → PagingFrameHasSigns plan p samples (4 * superframes + k) →
+      is_in_file t.count stream k ≡ true →
+      HaveSigns (order_of stream bits_of (4 * superframes + k)) (frame_softs samples stream k)
+  paging_frame_shown k signs here =
+      stream_related HasSign signs_turn samples (paging_heard plan p t m superframes on at.marked)
+      read_after k signs (inside plan t stream k on here)
+
+  -- and those of all of them
+  pub paging_shown : ((k : ℕ) → PagingFrameHasSigns plan p samples (4 * superframes + k)) →
+      IsShown t.count samples stream bits_of (4 * superframes)
+  paging_shown signs = record {
+    whole = read_after.whole;
+    each = read_after.each;
+    shown = λ k here. paging_frame_shown k (signs k) here;
+  }
+
+-- a paging channel that bears the noise has them
+pub near_paging : {width : Width} {plan : CellPlan} {p : PagingPlan} {e : ℕ} (samples : List Sample) →
+    IsReceivable width plan → Contains plan.paging p → IsNear e samples (made_samples plan) →
+    Bears plan p.gain e → (frame : ℕ) → PagingFrameHasSigns plan p samples frame
+near_paging {plan = plan} {p} {e} samples is has near bears =
+    near_frame (paging_carrier plan p) Data e samples is (paging_sent plan p has) near bears
 
 pub noisy_paging_back : NoisyPagingFramesComeBack
 noisy_paging_back width plan sync p t m superframes k e samples is sends has on at told here near bears =
     shown_back
-    (paging_shown width plan sync p t m superframes e samples is sends has on at told near bears) k here
+    (paging_shown plan p t m superframes samples on
+    (record { marked = at; sync = sync; sends = sends; rate = told })
+    (λ k. near_paging samples is has near bears (4 * superframes + k))) k here
 
 -- a noise of 0 is borne by any paging channel
 pub paging_borne : (width : Width) (plan : CellPlan) (p : PagingPlan) → IsReceivable width plan →
@@ -331,8 +394,10 @@ paging_frames_back width plan sync p t m superframes k is sends has on at told h
 pub paging_codewords_alone : PagingCodewordsAreTheOnlyBest
 paging_codewords_alone width plan sync p t m superframes k is sends has on at told here =
     shown_alone
-    (paging_shown width plan sync p t m superframes 0 (made_samples plan) is sends has on at told
-    (near-self 0 (made_samples plan)) (paging_borne width plan p is has)) k here
+    (paging_shown plan p t m superframes (made_samples plan) on
+    (record { marked = at; sync = sync; sends = sends; rate = told })
+    (λ k. near_paging (made_samples plan) is has (near-self 0 (made_samples plan)) (paging_borne width plan p is has)
+    (4 * superframes + k))) k here
 
 -- A frame of a paging channel that isn't sent has soft values of 0. It lies in the file and begins
 -- with a block of 64 chips, so its row is orthogonal to all that the cell sends, and 0 stays 0 when

@@ -14,23 +14,27 @@ use Rattle.clean_link.proofs.Common.{All-weaker, ◌≢◌, All-append, All-cons
 use Rattle.clean_link.proofs.Common.{NoEventIsDirected, signaling_sent}
 use Rattle.clean_link.proofs.traffic.Steady.{frames_from_mark, messages_from_mark, first_legs, first_pilot, events_at_all, gathered_all}
 use Rattle.clean_link.proofs.traffic.Steady.{one_stream}
-use Rattle.clean_link.proofs.frames.ChannelFrames.{clean_sync, heard_sync}
-use Rattle.clean_signal.proofs.noise.Near.{length-near}
+use Rattle.clean_link.proofs.Common.{AreEventsBySigns, AreFramesBySigns, ChannelsComeBackBySigns, FromMark, HearsBySigns, MarkIsAt}
+use Rattle.clean_link.proofs.Common.{IsReceivable, NoEventIsDirectedBySigns, SyncTellsTheMark, TrafficFrameHasSigns, pages_after, Data}
+use Rattle.clean_link.proofs.Common.{traffic_carrier}
+use Rattle.clean_link.proofs.frames.ChannelFrames.{clean_signs, near_frame, near_paging, near_sync, shows_sync}
+use Rattle.clean_signal.proofs.noise.Near.{near-self, none_borne}
+use Rattle.clean_signal.proofs.signal.CarriersApart.{traffic_sent}
+use Rattle.clean_link.proofs.traffic.Signs.{lawful_traffic, signed_power_bits}
 use Rattle.clean_link.proofs.messages.Kinds.{frames_of_all, messages_of_all, pages_of_all, sync_of_all, IsKind, frame_kind, paging_kind}
 use Rattle.clean_link.proofs.messages.Kinds.{sets_kind, sync_kind}
-use Rattle.clean_link.proofs.messages.MessagesBack.{PagesShown, clean_pages, noisy_pages_shown, pages_shown}
+use Rattle.clean_link.proofs.messages.MessagesBack.{PagesShown, clean_pages, pages_shown, signed_pages_shown}
 use Rattle.clean_link.proofs.sendings.Heard.{sendings_in, none_known}
-use Rattle.clean_signal.proofs.signal.Samples.{length-made}
-use Rattle.clean_link.proofs.traffic.Back.{hears_behind, one_near, undirected, untold_in, heard_behind_mark, told_there}
-use Rattle.clean_link.proofs.traffic.Frames.{clean_traffic, each_heard, frame_there, heard_as, heard_there, inside_at, noisy_traffic}
-use Rattle.clean_link.proofs.traffic.Frames.{same_places, messages_heard, noisy_none_directed, none_directed}
+use Rattle.clean_link.proofs.traffic.Back.{mark_told, one_near, undirected, heard_behind_mark, told_there}
+use Rattle.clean_link.proofs.traffic.Frames.{each_heard, frame_there, heard_as, heard_there, inside_at, same_places, messages_heard}
+use Rattle.clean_link.proofs.traffic.Frames.{signed_frame_back, signed_none_directed, signed_traffic}
 use Rattle.heard_events.specs.declared.event.Event.TheVariants.{Traffic as OnTraffic}
 
 -- ---- frames after a true mark
 
 module _ {width : Width} {plan : CellPlan} {p : TrafficPlan} {t : Tuning} {traffic : Traffic}
     {m : Mark} {superframes : ℕ} (is : HearsSentTraffic width plan p t traffic m superframes)
-    (samples : List Sample) (shows : ShowsTraffic plan p t traffic m superframes samples) where
+    (samples : List Sample) where
   abbrev legs : ℕ → List Leg
   legs = first_legs traffic m
 
@@ -38,26 +42,27 @@ module _ {width : Width} {plan : CellPlan} {p : TrafficPlan} {t : Tuning} {traff
   event frame =
       frame_heard t traffic m legs samples (frame_ends plan p frame) (frame - 4 * superframes)
 
-  -- what is heard of one that is in the file
+  -- what is heard of one that is in the file, where it has the sent signs
   event_there : (k : ℕ) (f : SetOneFrame) →
       is_in_file t.count (one_stream t traffic m) k ≡ true →
       cycled_frame (frames_of plan p) (4 * superframes + k) ≡ f ∷ [] →
+      TrafficFrameHasSigns plan p samples (4 * superframes + k) →
       IsEventOf plan p (4 * superframes + k)
       (frame_heard t traffic m legs samples (frame_ends plan p (4 * superframes + k)) k)
-  event_there k f there frame =
+  event_there k f there frame has =
       let heard : IsHeardAs plan p t traffic m legs superframes k f =
       heard_there is legs (first_pilot traffic m) k f there frame in
       let number = 4 * superframes + k in
       let ends = frame_ends plan p number in
       let decoded = decoded_at t traffic m legs samples k in
-      let power_bits = shows.power_bits legs k f heard in (
+      let power_bits = signed_power_bits samples is heard has in (
         f,
         frame,
         record {
           decoded = decoded;
           powered = ap (frame_event ends decoded) power_bits;
           back = λ distinct.
-              let back = shows.decoded legs k f heard
+              let back = signed_frame_back samples is heard has
               (subst (λ (ps : List ℕ). IsDistinctFrame ps f) (same_places is k) distinct) in
               heard_as ends f back.score decoded (power_bits_at t traffic m legs samples k) back.same
               power_bits;
@@ -67,25 +72,23 @@ module _ {width : Width} {plan : CellPlan} {p : TrafficPlan} {t : Tuning} {traff
   -- of one that is received
   event_of : SendsSetOne p → (frame : ℕ) →
       is_received plan p (plan.link.start + m.sample) frame ≡ true →
-      IsEventOf plan p frame (event frame)
-  event_of some frame received =
+      TrafficFrameHasSigns plan p samples frame → IsEventOf plan p frame (event frame)
+  event_of some frame received has =
       let k : ℕ = frame - 4 * superframes in
       let (here, there) = inside_at is frame received in
       let (f, sent) = frame_there is some k in
       subst (λ (n : ℕ). IsEventOf plan p n
       (frame_heard t traffic m legs samples (frame_ends plan p n) k)) here
-      (event_there k f there sent)
+      (event_there k f there sent (subst (TrafficFrameHasSigns plan p samples) (sym here) has))
 
 -- ---- a handset that follows a channel
 
-module _ {width : Width} {plan : CellPlan} {t : Tuning} {all_samples : List Sample}
-    (is : ShowsSync width plan all_samples) (tuned : IsOnPath plan t)
+module _ {width : Width} {plan : CellPlan} {t : Tuning} (all_samples : List Sample) (at : Option ℕ)
+    (is : IsReceivable width plan) (tuned : IsOnPath plan t)
     (long : length all_samples ≡ plan.link.samples)
+    (marked : MarkIsAt plan (mark t all_samples t.count) at)
     (not_directed : All IsNotDirected (events t all_samples))
-    (p : TrafficPlan) (f : FollowsOne plan t.traffic p)
-    (shows : (m : Mark) (superframes : ℕ) →
-    HearsSentTraffic width plan p t f.traffic m superframes →
-    ShowsTraffic plan p t f.traffic m superframes all_samples) where
+    (p : TrafficPlan) (f : FollowsOne plan t.traffic p) where
   abbrev last : Option Mark
   last = mark t all_samples t.count
 
@@ -96,11 +99,11 @@ module _ {width : Width} {plan : CellPlan} {t : Tuning} {all_samples : List Samp
       if_followed (heard n) t.traffic (mark t all_samples n)
       ≡ if_followed (heard n) t.traffic last) →
       ((es : List Event) → es ≡ [] → Are None es) →
-      ((m : Mark) (superframes : ℕ) → last ≡ Some m →
+      ((m : Mark) (superframes : ℕ) → last ≡ Some m → at ≡ Some superframes →
       HearsSentTraffic width plan p t f.traffic m superframes →
       Are (Some superframes)
       (flat_map (λ n. heard n f.traffic m) (places (plan.link.samples + 1)))) →
-      Are (told_with_sync plan plan.sync)
+      Are at
       (flat_map (λ n. if_followed (heard n) t.traffic (mark t all_samples n))
       (places (plan.link.samples + 1)))
   each_behind Are heard once none behind =
@@ -113,76 +116,83 @@ module _ {width : Width} {plan : CellPlan} {t : Tuning} {all_samples : List Samp
       (λ n below. once n (omega (arith, below, count)))
       ∙ ap (λ (followed : Option Traffic).
       flat_map (λ n. if_followed (heard n) followed last) all) f.follows in
-      subst (Are (told_with_sync plan plan.sync)) (sym by_last) (by_mark last refl)
+      subst (Are at) (sym by_last) (by_mark last refl marked)
     where
-      by_mark : (m : Option Mark) → last ≡ m →
-          Are (told_with_sync plan plan.sync)
+      by_mark : (m : Option Mark) → last ≡ m → MarkIsAt plan m at →
+          Are at
           (flat_map (λ n. if_followed (heard n) (Some f.traffic) m)
           (places (plan.link.samples + 1)))
-      by_mark None unset =
+      by_mark None unset untold =
           subst (λ (told : Option ℕ). Are told
           (flat_map (λ (n : ℕ). let none : List Event = [] in none)
-          (places (plan.link.samples + 1)))) (sym (untold_in is tuned plan.sync refl unset))
+          (places (plan.link.samples + 1)))) (sym untold)
           (none _ (none_known (places (plan.link.samples + 1))))
-      by_mark (Some m) set =
-          let b = hears_behind is tuned p f.traffic m f.sent f.assigned set in
-          subst (λ (told : Option ℕ). Are told
-          (flat_map (λ n. heard n f.traffic m) (places (plan.link.samples + 1)))) (sym b.told)
-          (behind m b.superframes set b.hears)
+      by_mark (Some m) set (superframes, told, cell) =
+          subst (λ (o : Option ℕ). Are o
+          (flat_map (λ n. heard n f.traffic m) (places (plan.link.samples + 1)))) (sym told)
+          (behind m superframes set told
+          (record {
+            receivable = is;
+            sent = f.sent;
+            assigned = f.assigned;
+            tuned = tuned;
+            marked = cell.marked;
+          }))
 
   -- its frames
-  frames_behind : (m : Mark) (superframes : ℕ) → last ≡ Some m →
+  frames_behind : (m : Mark) (superframes : ℕ) → last ≡ Some m → at ≡ Some superframes →
       HearsSentTraffic width plan p t f.traffic m superframes →
-      AreEventsOf plan p superframes
+      AreEventsBySigns plan p all_samples superframes
       (flat_map (frames_at t f.traffic m all_samples) (places (plan.link.samples + 1)))
-  frames_behind m superframes set hears =
+  frames_behind m superframes set told hears =
       let place = hears.marked.place in
       record {
-        event = event hears all_samples (shows m superframes hears);
+        event = event hears all_samples;
         each = each_heard hears
-            (first_legs f.traffic m) (first_pilot f.traffic m) all_samples
-            (shows m superframes hears)
+            (first_legs f.traffic m) (first_pilot f.traffic m) all_samples long
             (undirected plan t all_samples tuned long not_directed f.traffic m f.follows set)
-            ∙ ap (λ (chip : ℕ). map (event hears all_samples (shows m superframes hears))
-            (received_frames plan p chip)) place;
+            ∙ ap (λ (chip : ℕ). map (event hears all_samples) (received_frames plan p chip)) place;
         are = λ frame received.
-            event_of hears all_samples (shows m superframes hears) f.one frame
+            event_of hears all_samples f.one frame
             (ap (λ (chip : ℕ). is_received plan p chip frame) place ∙ received);
       }
 
-  pub frames_each : AreFramesBehind plan p (told_with_sync plan plan.sync)
+  pub frames_each : AreFramesBySigns plan p all_samples at
       (flat_map (frame_events_at t all_samples) (places (plan.link.samples + 1)))
   unfolding frame_events_at
   frames_each =
-      each_behind (AreFramesBehind plan p) (λ n traffic m. frames_at t traffic m all_samples n)
+      each_behind (AreFramesBySigns plan p all_samples) (λ n traffic m. frames_at t traffic m all_samples n)
       (λ n most.
       by_one_mark t (one_near t plan tuned) all_samples n t.count n _ most (omega arith)
       (frames_from_mark t (one_near t plan tuned) t.traffic all_samples n))
       (λ es none. none) frames_behind
 
   -- and its messages
-  messages_behind : (m : Mark) (superframes : ℕ) → last ≡ Some m →
+  messages_behind : FromMark (TrafficFrameHasSigns plan p all_samples) at → (m : Mark)
+      (superframes : ℕ) → last ≡ Some m → at ≡ Some superframes →
       HearsSentTraffic width plan p t f.traffic m superframes →
       AreDistinct plan p (98304 * superframes) →
       flat_map (messages_at t f.traffic m all_samples) (places (plan.link.samples + 1))
       ≡ messages_of_channel plan p (98304 * superframes)
-  messages_behind m superframes set hears distinct =
+  messages_behind signs m superframes set told hears distinct =
       let place = hears.marked.place in
       messages_heard hears f.one
       (subst (AreDistinct plan p) (sym place) distinct) (first_legs f.traffic m)
-      (first_pilot f.traffic m) all_samples (shows m superframes hears)
+      (first_pilot f.traffic m) all_samples
+      (signed_traffic hears long (λ k. signs superframes k told))
       (undirected plan t all_samples tuned long not_directed f.traffic m f.follows set)
       ∙ ap (messages_of_channel plan p) place
 
-  pub messages_each : AreMessagesBehind plan p (told_with_sync plan plan.sync)
+  pub messages_each : FromMark (TrafficFrameHasSigns plan p all_samples) at →
+      AreMessagesBehind plan p at
       (flat_map (message_events_at t all_samples) (places (plan.link.samples + 1)))
   unfolding message_events_at
-  messages_each =
+  messages_each signs =
       each_behind (AreMessagesBehind plan p) (λ n traffic m. messages_at t traffic m all_samples n)
       (λ n most.
       by_one_mark t (one_near t plan tuned) all_samples n t.count n _ most (omega arith)
       (messages_from_mark t (one_near t plan tuned) t.traffic all_samples n))
-      (λ es none. none) messages_behind
+      (λ es none. none) (messages_behind signs)
 
 -- ---- all channels
 
@@ -214,42 +224,58 @@ gathered plan t samples long test g apart left =
     ∙ ap (λ (n : ℕ). filter test (flat_map (events_at t samples) (places (n + 1)))) long
     ∙ left
 
-module _ {width : Width} {plan : CellPlan} {t : Tuning} {samples : List Sample}
-    (is : ShowsSync width plan samples) (tuned : IsOnPath plan t)
-    (long : length samples ≡ plan.link.samples) where
-  sync_back : filter is_sync (events t samples) ≡ sync_sent plan
-  sync_back =
-      gathered plan t samples long is_sync (sync_events_at t samples) refl
-      (sync_of_all t samples (places (plan.link.samples + 1)))
-      ∙ sendings_in is tuned
-
-  pages_back : PagesShown plan t samples →
-      filter is_page (events t samples) ≡ paging_sent plan t.paging
+module _ {width : Width} {plan : CellPlan} {t : Tuning} (samples : List Sample) {at : Option ℕ}
+    (is : IsReceivable width plan) (long : length samples ≡ plan.link.samples)
+    (tuned : IsOnPath plan t) (marked : MarkIsAt plan (mark t samples t.count) at) where
+  pages_back : PagesShown plan t samples at →
+      filter is_page (events t samples) ≡ pages_after plan t.paging at plan.sync
   pages_back shown =
       gathered plan t samples long is_page (paging_events_at t samples) refl
       (pages_of_all t samples (places (plan.link.samples + 1)))
-      ∙ pages_shown is tuned shown
+      ∙ pages_shown samples tuned shown marked
 
-  module _ (not_directed : All IsNotDirected (events t samples)) (p : TrafficPlan)
-      (follows : FollowsOne plan t.traffic p)
-      (shows : (m : Mark) (superframes : ℕ) →
-      HearsSentTraffic width plan p t follows.traffic m superframes →
-      ShowsTraffic plan p t follows.traffic m superframes samples) where
-    frames_back : AreFramesBehind plan p (told_with_sync plan plan.sync)
-        (filter is_frame (events t samples))
-    frames_back =
-        subst (AreFramesBehind plan p (told_with_sync plan plan.sync))
+  hears_by_signs : All IsNotDirected (events t samples) →
+      HearsBySigns width plan samples at t.paging t.traffic (events t samples)
+  hears_by_signs not_directed = record {
+    sync = λ signs.
+        gathered plan t samples long is_sync (sync_events_at t samples) refl
+        (sync_of_all t samples (places (plan.link.samples + 1)))
+        ∙ sendings_in (shows_sync signs) tuned;
+    pages = λ q has numbered signs. pages_back (signed_pages_shown samples q is tuned has numbered signs);
+    frames = λ p follows.
+        subst (AreFramesBySigns plan p samples at)
         (sym (gathered plan t samples long is_frame (frame_events_at t samples) refl
         (frames_of_all t samples (places (plan.link.samples + 1)))))
-        (frames_each is tuned long not_directed p follows shows)
-
-    messages_back : AreMessagesBehind plan p (told_with_sync plan plan.sync)
-        (filter is_message (events t samples))
-    messages_back =
-        subst (AreMessagesBehind plan p (told_with_sync plan plan.sync))
+        (frames_each samples at is tuned long marked not_directed p follows);
+    messages = λ p follows signs.
+        subst (AreMessagesBehind plan p at)
         (sym (gathered plan t samples long is_message (message_events_at t samples) refl
         (messages_of_all t samples (places (plan.link.samples + 1)))))
-        (messages_each is tuned long not_directed p follows shows)
+        (messages_each samples at is tuned long marked not_directed p follows signs);
+  }
+
+-- ---- by signs
+
+pub tells_the_mark : SyncTellsTheMark
+tells_the_mark width plan samples is t tuned =
+    subst (λ (n : ℕ). MarkIsAt plan (mark t samples n) (told_with_sync plan plan.sync)) tuned.count
+    (mark_told (shows_sync is) tuned (mark t samples t.count) refl)
+
+pub channels_by_signs : ChannelsComeBackBySigns
+channels_by_signs width plan samples t at is long tuned marked =
+    hears_by_signs samples is long tuned
+    (subst (λ (n : ℕ). MarkIsAt plan (mark t samples n) at) (sym tuned.count) marked)
+
+-- what is heard where each frame of a traffic channel has the sent signs
+pub frames_behind_all : (plan : CellPlan) (p : TrafficPlan) (samples : List Sample) (at : Option ℕ)
+    (frames : List Event) → ((frame : ℕ) → TrafficFrameHasSigns plan p samples frame) →
+    AreFramesBySigns plan p samples at frames → AreFramesBehind plan p at frames
+frames_behind_all plan p samples None frames signs none = none
+frames_behind_all plan p samples (Some superframes) frames signs are = record {
+  event = are.event;
+  each = are.each;
+  are = λ frame received. are.are frame received (signs frame);
+}
 
 -- ---- the laws
 
@@ -257,45 +283,53 @@ module _ {width : Width} {plan : CellPlan} {t : Tuning} {samples : List Sample}
 -- channel, of the paging channel and of the traffic channel as they are sent. The number of a
 -- paging channel that is sent is no traffic channel's row, so it is heard as a free one is.
 pub each_channel : EachChannelComesBack
+unfolding paging_sent
 each_channel width plan t is tuned least most not_directed =
     let samples = made_samples plan in
-    let shows = clean_sync width plan is in
-    let long = length-made plan in
-    let free = λ (none : IsFreeOf plan.traffic t.paging). pages_back shows tuned long
-    (clean_pages width plan t is (record {
+    let none = near-self 0 samples in
+    let signs = clean_signs width plan is in
+    let marked = mark_told (shows_sync signs) tuned (mark t samples t.count) refl in
+    let hears = hears_by_signs samples is signs.long tuned marked not_directed in
+    let sent = λ (p : TrafficPlan) (has : Contains plan.traffic p). near_frame
+    (traffic_carrier plan p) Data 0 samples is (traffic_sent plan p has) none
+    (none_borne width plan p.gain is (lawful_traffic width plan p is.lawful has).gain) in
+    let free = λ (none : IsFreeOf plan.traffic t.paging). pages_back samples is signs.long tuned marked
+    (clean_pages width plan t _ is (record {
       path = tuned;
       first_channel = least;
       last_channel = most;
       free = none;
     })) in
     record {
-      sync = sync_back shows tuned long;
+      sync = hears.sync signs;
       pages = λ sent.
           free (free_where_sent plan.traffic plan.paging t.paging is.lawful.traffic.free sent);
       free = free;
       frames = λ p follows.
-          frames_back shows tuned long not_directed p follows
-          (λ m superframes hears. clean_traffic hears);
+          frames_behind_all plan p samples _ _ (sent p follows.sent) (hears.frames p follows);
       messages = λ p follows.
-          messages_back shows tuned long not_directed p follows
-          (λ m superframes hears. clean_traffic hears);
+          hears.messages p follows (λ superframes k told. sent p follows.sent (4 * superframes + k));
     }
 
 pub noisy_each_channel : NoisyEachChannelComesBack
+unfolding paging_sent
 noisy_each_channel width plan sync e samples t is tuned not_directed =
-    let shows = heard_sync width plan sync e samples is in
-    let long = length-near e samples (made_samples plan) is.near ∙ length-made plan in
+    let signs = near_sync samples is.receivable is.sends is.near is.bears in
+    let receivable = is.receivable in
+    let marked = mark_told (shows_sync signs) tuned (mark t samples t.count) refl in
+    let hears = hears_by_signs samples receivable signs.long tuned marked not_directed in
+    let sent = λ (p : TrafficPlan) (has : Contains plan.traffic p). near_frame
+    (traffic_carrier plan p) Data e samples receivable (traffic_sent plan p has) is.near in
     record {
-      sync = sync_back shows tuned long;
+      sync = hears.sync signs;
       pages = λ q has numbered bears.
-          pages_back shows tuned long
-          (noisy_pages_shown width plan sync e samples t q is tuned has numbered bears);
+          hears.pages q has numbered
+          (λ superframes k told. near_paging samples receivable has is.near bears (4 * superframes + k));
       frames = λ p follows bears.
-          frames_back shows tuned long not_directed p follows
-          (λ m superframes hears. noisy_traffic hears e samples is.near bears);
+          frames_behind_all plan p samples _ _ (sent p follows.sent bears) (hears.frames p follows);
       messages = λ p follows bears.
-          messages_back shows tuned long not_directed p follows
-          (λ m superframes hears. noisy_traffic hears e samples is.near bears);
+          hears.messages p follows
+          (λ superframes k told. sent p follows.sent bears (4 * superframes + k));
     }
 
 -- ---- channel by channel
@@ -315,7 +349,7 @@ none_of_kind kind es other are =
 -- no message directs a handoff of a channel that is followed after a true mark, where none is sent
 abbrev UndirectedWhereSent : Width → CellPlan → Tuning → List Sample → Type 0
 UndirectedWhereSent width plan t samples = (p : TrafficPlan) (traffic : Traffic) (m : Mark)
-    (superframes : ℕ) → t.traffic ≡ Some traffic →
+    (superframes : ℕ) → t.traffic ≡ Some traffic → told_with_sync plan plan.sync ≡ Some superframes →
     HearsSentTraffic width plan p t traffic m superframes → SendsSetOne p →
     AreDistinct plan p (plan.link.start + m.sample) →
     All IsNotDirected (messages_of_channel plan p (plan.link.start + m.sample)) →
@@ -332,7 +366,7 @@ module _ {width : Width} {plan : CellPlan} {t : Tuning} {samples : List Sample}
   unfolding signaling_sent messages_sent
   behind_last (Some traffic) (Some m) chosen set follows none n most =
       let b = heard_behind_mark is tuned traffic m set follows in
-      undirected b.p traffic m b.behind.superframes chosen b.behind.hears b.one b.distinct
+      undirected b.p traffic m b.behind.superframes chosen b.behind.told b.behind.hears b.one b.distinct
       (All-same IsNotDirected (messages_of_channel plan b.p (plan.link.start + m.sample)) _
       (told_there is tuned traffic m (messages_of_channel plan) b) none) n most
   behind_last followed last chosen set follows none n most = All-nil IsNotDirected
@@ -379,17 +413,28 @@ module _ {width : Width} {plan : CellPlan} {t : Tuning} {samples : List Sample}
 
 -- ---- the laws
 
+pub no_event_by_signs : NoEventIsDirectedBySigns
+no_event_by_signs width plan samples t is tuned follows signs none =
+    undirected_events (shows_sync is) tuned
+    (λ p traffic m superframes chosen told hears one distinct quiet.
+    signed_none_directed hears one distinct quiet samples
+    (signed_traffic hears is.long
+    (λ k. signs p traffic chosen hears.sent hears.assigned superframes k told)))
+    is.long follows none
+
 pub no_event_directed : NoEventIsDirected
 no_event_directed width plan t is tuned follows none =
-    undirected_events (clean_sync width plan is) tuned
-    (λ p traffic m superframes chosen hears one distinct quiet.
-    none_directed width plan p t traffic m superframes hears one distinct quiet)
-    (length-made plan) follows none
+    no_event_by_signs width plan (made_samples plan) t (clean_signs width plan is) tuned follows
+    (λ p traffic chosen has assigned superframes k told.
+    near_frame (traffic_carrier plan p) Data 0 (made_samples plan) is (traffic_sent plan p has)
+    (near-self 0 (made_samples plan))
+    (none_borne width plan p.gain is (lawful_traffic width plan p is.lawful has).gain)
+    (4 * superframes + k)) none
 
 pub noisy_no_event : NoEventIsDirectedByNoise
 noisy_no_event width plan sync e samples t is tuned follows bears none =
-    undirected_events (heard_sync width plan sync e samples is) tuned
-    (λ p traffic m superframes chosen hears one distinct quiet.
-    noisy_none_directed width plan p t traffic m superframes e samples hears is.near
-    (bears p traffic chosen hears.sent hears.assigned) one distinct quiet)
-    (length-near e samples (made_samples plan) is.near ∙ length-made plan) follows none
+    no_event_by_signs width plan samples t
+    (near_sync samples is.receivable is.sends is.near is.bears) tuned follows
+    (λ p traffic chosen has assigned superframes k told.
+    near_frame (traffic_carrier plan p) Data e samples is.receivable (traffic_sent plan p has) is.near
+    (bears p traffic chosen has assigned) (4 * superframes + k)) none

@@ -3,23 +3,23 @@
 -- known, and nothing else.
 use Rattle.clean_link.proofs.Common.{◌≡◌, ℕ, ◌+◌, ◌*◌, Bool, true, false, List, [], ◌∷◌, ◌++◌, length, map, refl, sym, ap, ◌∙◌, arith, inl}
 use Rattle.clean_link.proofs.Common.{inr, nat_lt, Option, None, Some, ℤ, pos, if◌then◌else◌, All, flat_map, cases_Bool, ltb-true}
-use Rattle.clean_link.proofs.Common.{map-append, places, CheckForm, Sample, Width, made_samples, told_superframes, phase_at, CellPlan}
+use Rattle.clean_link.proofs.Common.{map-append, places, CheckForm, Sample, Width, made_samples, phase_at, CellPlan}
 use Rattle.clean_link.proofs.Common.{SyncPlan, events, events_at, frame_events_at, heard_within, message_events_at, paging_events_at}
 use Rattle.clean_link.proofs.Common.{sets_events_at, mark, page_event, pages_at, pages_behind, sync_events_at, Tuning, Event, Pilot, Mark}
 use Rattle.clean_link.proofs.Common.{AreAt, IsAt, all_at, by_one_mark, pages_from_mark, flat_map_ext_places, IsNotDirected, IsOnPath}
-use Rattle.clean_link.proofs.Common.{IsTunedToPlan, sync_sent, tuning_to, whole_sendings, IsReceivable, ReadPage, known_page, pages_sent}
+use Rattle.clean_link.proofs.Common.{IsTunedToPlan, sync_sent, tuning_to, IsReceivable, ReadPage, known_page, pages_sent}
 use Rattle.clean_link.proofs.Common.{pages_within, FollowsSent, WholeMessagesComeBack, known_event, paging_sent, pages_behind_mark}
-use Rattle.clean_link.proofs.Common.{pages_with_sync, sent_events, by_places, sets_heard, signaling_sent, subst, told_by_first}
-use Rattle.clean_link.proofs.Common.{traffic_sent, ◌<◌, All-contains, Contains, IsStatedPaging, IsTrueMark, PagingPlan, sent_paging_rate}
-use Rattle.clean_link.proofs.Common.{Bears, HearsSentSync, ShowsSync, zero, suc, ◌≤◌, filter, range_with_len, cases_order, eq-eqb, ne_eqb}
+use Rattle.clean_link.proofs.Common.{AllComesBackBySigns, FromMark, IsCellMark, MarkIsAt, PagingFrameHasSigns, pages_after, if_followed}
+use Rattle.clean_link.proofs.Common.{sent_events, by_places, sets_heard, signaling_sent, subst, frames_at, messages_at, sets_at, Traffic}
+use Rattle.clean_link.proofs.Common.{traffic_sent, ◌<◌, Contains, PagingPlan}
+use Rattle.clean_link.proofs.Common.{zero, suc, ◌≤◌, filter, range_with_len, cases_order, eq-eqb, ne_eqb}
 use Rattle.clean_link.proofs.Common.{append-nil, filter-append, at_of, All-head, All-tail, is_at}
 use Rattle.clean_link.proofs.traffic.Steady.{events_at_all, right_all, left_all}
-use Rattle.clean_link.proofs.marks.MarksTrue.{first_in, unset_in, marks_in, rate_in, time_of, unmarked_in}
-use Rattle.clean_link.proofs.frames.ChannelFrames.{clean_sync}
-use Rattle.clean_link.proofs.pages.Back.{noisy_pages, pages_back, sent_of_number}
-use Rattle.clean_link.proofs.sendings.Heard.{sendings_back}
+use Rattle.clean_link.proofs.frames.ChannelFrames.{clean_sync, shows_sync}
+use Rattle.clean_link.proofs.pages.Back.{pages_back, sent_of_number, signed_pages}
+use Rattle.clean_link.proofs.sendings.Heard.{none_known, sendings_back, sendings_in}
 use Rattle.clean_signal.proofs.signal.Samples.{length-made}
-use Rattle.clean_link.proofs.traffic.Back.{frames_all, messages_all, one_near}
+use Rattle.clean_link.proofs.traffic.Back.{frames_all, mark_told, messages_all, one_near}
 
 -- ---- events of one number of samples
 kept_here : (n : ℕ) (es : List Event) → AreAt n es → filter (is_at n) es ≡ es
@@ -107,28 +107,37 @@ unrated t channel m samples n off =
     off
     ∙ none_gathered (places (n + 1))
 
--- what is sent with a sync channel, by its PRAT and by what its first whole transmission tells
-with_sync_is : (plan : CellPlan) (channel : ℕ) (sync : SyncPlan) (rated : Bool)
-    (told : Option ℕ) → nat_lt sync.message.prat 2 ≡ rated →
-    told_by_first plan sync.message (whole_sendings plan sync.message) ≡ told →
-    pages_with_sync plan channel (Some sync)
-    ≡ (if rated then pages_behind_mark plan channel told else [])
-with_sync_is plan channel sync rated told rated_is told_is =
-    ap (λ (b : Bool). if b then pages_behind_mark plan channel
-    (told_by_first plan sync.message (whole_sendings plan sync.message)) else []) rated_is
-    ∙ ap (λ (o : Option ℕ). if rated then pages_behind_mark plan channel o else []) told_is
+-- what is sent after a mark, and where none is set
+after_is : (plan : CellPlan) (channel : ℕ) (sync : SyncPlan) (at : Option ℕ) (superframes : ℕ)
+    (rated : Bool) → plan.sync ≡ Some sync → at ≡ Some superframes →
+    nat_lt sync.message.prat 2 ≡ rated →
+    pages_after plan channel at plan.sync
+    ≡ (if rated then pages_behind_mark plan channel (Some superframes) else [])
+after_is plan channel sync at superframes rated sends told rated_is =
+    ap (pages_after plan channel at) sends
+    ∙ ap (λ (o : Option ℕ). pages_after plan channel o (Some sync)) told
+    ∙ ap (λ (b : Bool). if b then pages_behind_mark plan channel (Some superframes) else []) rated_is
 
--- After a true mark that tells the rate, what is heard of the followed channel is its whole pages.
-abbrev pub PagesShown : CellPlan → Tuning → List Sample → Type 0
-PagesShown plan t samples = (sync : SyncPlan) (m : Mark) (superframes : ℕ) →
-    plan.sync ≡ Some sync → m.prat ≡ sync.message.prat → m.prat < 2 →
-    IsTrueMark plan m superframes →
+none_after : (plan : CellPlan) (channel : ℕ) (at : Option ℕ) (sync : Option SyncPlan) → at ≡ None →
+    pages_after plan channel at sync ≡ []
+none_after plan channel at None none = refl
+none_after plan channel at (Some sync) none =
+    ap (λ (o : Option ℕ). pages_after plan channel o (Some sync)) none
+    ∙ either (nat_lt sync.message.prat 2)
+  where
+    either : (b : Bool) → (if b then (let none : List Event = [] in none) else []) ≡ []
+    either true = refl
+    either false = refl
+
+-- After a mark that is the cell's, what is heard of the followed channel is its whole pages.
+abbrev pub PagesShown : CellPlan → Tuning → List Sample → Option ℕ → Type 0
+PagesShown plan t samples at = (m : Mark) (superframes : ℕ) → at ≡ Some superframes →
+    IsCellMark plan m superframes → m.prat < 2 →
     pages_within t t.paging (Some m) samples plan.link.samples ≡
     pages_sent plan t.paging (plan.link.start + m.sample)
 
-module _ {width : Width} {plan : CellPlan} {t : Tuning} {samples : List Sample}
-    (is : ShowsSync width plan samples) (tuned : IsOnPath plan t)
-    (shown : PagesShown plan t samples) where
+module _ {plan : CellPlan} {t : Tuning} (samples : List Sample) {at : Option ℕ}
+    (tuned : IsOnPath plan t) (shown : PagesShown plan t samples at) where
   -- by the mark of all samples
   by_last_mark : flat_map (paging_events_at t samples) (places (plan.link.samples + 1))
       ≡ map known_event
@@ -149,100 +158,61 @@ module _ {width : Width} {plan : CellPlan} {t : Tuning} {samples : List Sample}
       ∙ gathered_known (λ n. pages_behind t t.paging last samples n)
       (places (plan.link.samples + 1))
 
-  module _ (sync : SyncPlan) (sends : plan.sync ≡ Some sync) where
-    -- where no transmission is whole
-    unset : mark t samples t.count ≡ None →
-        pages_with_sync plan t.paging (Some sync) ≡ []
-    unset none_set =
-        let none = unset_in is tuned sync sends none_set in
-        with_sync_is plan t.paging sync (nat_lt sync.message.prat 2) None refl
-        (ap (told_by_first plan sync.message) none)
-        ∙ either (nat_lt sync.message.prat 2)
-      where
-        either : (b : Bool) → (if b then (let none : List Event = [] in none) else []) ≡ []
-        either true = refl
-        either false = refl
-
-    -- after the mark that is set
-    marked : (m : Mark) → mark t samples t.count ≡ Some m →
-        map known_event
-        (pages_within t t.paging (Some m) samples plan.link.samples)
-        ≡ pages_with_sync plan t.paging (Some sync)
-    marked m set =
-        let rate = rate_in is tuned sync t.count m sends set in
-        let (superframes, true_mark) = marks_in is tuned t.count m set in
-        let first = first_in is tuned sync sends m set in
-        let time = time_of plan sync.message first.sending in
-        let told : superframes ≡ told_superframes plan.cell sync.message first.sending =
-        omega (arith, true_mark.time, first.time, time) in
-        let chip : plan.link.start + m.sample
-        ≡ 98304 * told_superframes plan.cell sync.message first.sending =
-        true_mark.place ∙ ap (λ (n : ℕ). 98304 * n) told in
-        let rated : nat_lt sync.message.prat 2 ≡ nat_lt m.prat 2 =
-        ap (λ (n : ℕ). nat_lt n 2) (sym rate) in
-        let first_is = ap (told_by_first plan sync.message) first.first in
-        elim (cases_Bool (nat_lt m.prat 2)) [
-          | inl on ↦
-              let low = ltb-true m.prat 2 on in
-              let pages = shown sync m superframes sends rate low true_mark in
-              ap (map known_event) (pages ∙ ap (pages_sent plan t.paging) chip)
-              ∙ sym (with_sync_is plan t.paging sync true _ (rated ∙ on) first_is)
-          | inr off ↦
-              ap (map known_event) (unrated t t.paging m samples plan.link.samples off)
-              ∙ sym (with_sync_is plan t.paging sync false _ (rated ∙ off) first_is)
-        ]
-
-  pages_by : (channel : Option SyncPlan) (last : Option Mark) → plan.sync ≡ channel →
-      mark t samples t.count ≡ last →
+  pages_by : (last : Option Mark) → MarkIsAt plan last at →
       map known_event (pages_within t t.paging last samples plan.link.samples)
-      ≡ pages_with_sync plan t.paging channel
-  pages_by None last silent set =
-      let none = sym set ∙ unmarked_in is tuned t.count silent in
-      ap (λ (m : Option Mark). map known_event
-      (pages_within t t.paging m samples plan.link.samples)) none
-      ∙ ap (map known_event) (none_gathered (places (plan.link.samples + 1)))
-  pages_by (Some sync) None sends none =
+      ≡ pages_after plan t.paging at plan.sync
+  pages_by None none =
       ap (map known_event) (none_gathered (places (plan.link.samples + 1)))
-      ∙ sym (unset sync sends none)
-  pages_by (Some sync) (Some m) sends set = marked sync sends m set
+      ∙ sym (none_after plan t.paging at plan.sync none)
+  pages_by (Some m) (superframes, told, cell) =
+      let rated : nat_lt cell.sync.message.prat 2 ≡ nat_lt m.prat 2 =
+      ap (λ (n : ℕ). nat_lt n 2) (sym cell.rate) in
+      elim (cases_Bool (nat_lt m.prat 2)) [
+        | inl on ↦
+            let low = ltb-true m.prat 2 on in
+            ap (map known_event)
+            (shown m superframes told cell low ∙ ap (pages_sent plan t.paging) cell.marked.place)
+            ∙ sym (after_is plan t.paging cell.sync at superframes true cell.sends told (rated ∙ on))
+        | inr off ↦
+            ap (map known_event) (unrated t t.paging m samples plan.link.samples off)
+            ∙ sym (after_is plan t.paging cell.sync at superframes false cell.sends told (rated ∙ off))
+      ]
 
   -- its events are the whole pages
-  pub pages_shown : flat_map (paging_events_at t samples) (places (plan.link.samples + 1))
-      ≡ paging_sent plan t.paging
-  unfolding paging_sent
-  pages_shown =
-      by_last_mark ∙ pages_by plan.sync (mark t samples t.count) refl refl
+  pub pages_shown : MarkIsAt plan (mark t samples t.count) at →
+      flat_map (paging_events_at t samples) (places (plan.link.samples + 1))
+      ≡ pages_after plan t.paging at plan.sync
+  pages_shown marked = by_last_mark ∙ pages_by (mark t samples t.count) marked
 
 -- of a clean link
-pub clean_pages : (width : Width) (plan : CellPlan) (t : Tuning) → IsReceivable width plan →
-    IsTunedToPlan plan t → PagesShown plan t (made_samples plan)
-clean_pages width plan t is tuned sync m superframes sends rate low true_mark =
-    pages_back width plan sync t t.paging m superframes is is.pages tuned.path tuned.first_channel
-    tuned.last_channel tuned.free sends rate low true_mark
+pub clean_pages : (width : Width) (plan : CellPlan) (t : Tuning) (at : Option ℕ) →
+    IsReceivable width plan → IsTunedToPlan plan t → PagesShown plan t (made_samples plan) at
+clean_pages width plan t at is tuned m superframes told cell low =
+    pages_back width plan cell.sync t t.paging m superframes is is.pages tuned.path tuned.first_channel
+    tuned.last_channel tuned.free cell.sends cell.rate low cell.marked
 
 pages_all : (width : Width) (plan : CellPlan) (t : Tuning) → IsReceivable width plan →
     IsTunedToPlan plan t →
     flat_map (paging_events_at t (made_samples plan)) (places (plan.link.samples + 1))
     ≡ paging_sent plan t.paging
+unfolding paging_sent
 pages_all width plan t is tuned =
-    pages_shown (clean_sync width plan is) tuned.path (clean_pages width plan t is tuned)
+    pages_shown (made_samples plan) tuned.path (clean_pages width plan t _ is tuned)
+    (mark_told (clean_sync width plan is) tuned.path (mark t (made_samples plan) t.count) refl)
 
--- and of near samples
-pub noisy_pages_shown : (width : Width) (plan : CellPlan) (sync : SyncPlan) (e : ℕ)
-    (samples : List Sample) (t : Tuning) (q : PagingPlan) → HearsSentSync width plan sync e samples →
-    IsOnPath plan t → Contains plan.paging q → q.number ≡ t.paging → Bears plan q.gain e →
-    PagesShown plan t samples
-noisy_pages_shown width plan sync e samples t q is tuned has numbered bears other m superframes
-    sends rate low true_mark =
-    let stated = All-contains (IsStatedPaging (sent_paging_rate plan.sync)) plan.paging q
-    is.receivable.pages has in
+-- and where each frame from the mark on has the sent signs
+pub signed_pages_shown : {width : Width} {plan : CellPlan} (samples : List Sample) {t : Tuning}
+    {at : Option ℕ} (q : PagingPlan) → IsReceivable width plan → IsOnPath plan t →
+    Contains plan.paging q → q.number ≡ t.paging → FromMark (PagingFrameHasSigns plan q samples) at →
+    PagesShown plan t samples at
+signed_pages_shown {width} {plan} samples {t} q is tuned has numbered signs m superframes told cell
+    low =
     subst
     (λ (channel : ℕ). pages_within t channel (Some m) samples plan.link.samples ≡
     pages_sent plan channel (plan.link.start + m.sample))
     numbered
-    (noisy_pages width plan other q t m superframes e samples is.receivable has stated tuned sends
-    rate low true_mark is.near bears
-    ∙ sym (sent_of_number plan q (plan.link.start + m.sample) is.receivable.lawful.apart has))
+    (signed_pages samples is has tuned cell low (λ k. signs superframes k told)
+    ∙ sym (sent_of_number plan q (plan.link.start + m.sample) is.lawful.apart has))
 
 -- ---- the pilot sets
 
@@ -281,12 +251,16 @@ sets_all plan t tuned =
 
 -- ---- all channels
 
-module _ (width : Width) (plan : CellPlan) (t : Tuning) (is : IsReceivable width plan)
-    (tuned : IsTunedToPlan plan t) (follows : FollowsSent plan t.traffic)
-    (not_directed : All IsNotDirected (events t (made_samples plan))) where
-  abbrev samples : List Sample
-  samples = made_samples plan
-
+module _ (plan : CellPlan) (t : Tuning) (samples : List Sample)
+    (sendings : flat_map (sync_events_at t samples) (places (plan.link.samples + 1)) ≡ sync_sent plan)
+    (pages : flat_map (paging_events_at t samples) (places (plan.link.samples + 1))
+    ≡ paging_sent plan t.paging)
+    (frames : flat_map (frame_events_at t samples) (places (plan.link.samples + 1))
+    ≡ traffic_sent plan t.traffic)
+    (messages : flat_map (message_events_at t samples) (places (plan.link.samples + 1))
+    ≡ signaling_sent plan t.traffic)
+    (sets : flat_map (sets_events_at t samples) (places (plan.link.samples + 1))
+    ≡ sets_heard plan t.energy t.paging t.traffic) where
   abbrev count : ℕ
   count = plan.link.samples
 
@@ -327,14 +301,14 @@ module _ (width : Width) (plan : CellPlan) (t : Tuning) (is : IsReceivable width
       (signaling_sent plan t.traffic) (sets_heard plan t.energy t.paging t.traffic)
       (λ n.
       right_all (IsAt n) (frame_events_at t samples n) (messages_known n) (traffic_known_at n))
-      (messages_all width plan t is tuned.path not_directed follows) (sets_all plan t tuned.path)
+      messages sets
 
   -- with the traffic channel's frames
   traffic_back : flat_map traffic_known (places (count + 1)) ≡ traffic_told
   traffic_back =
       gathered_by_places (frame_events_at t samples) messages_known count
       (traffic_sent plan t.traffic) messages_told traffic_known_at
-      (frames_all width plan t is tuned.path not_directed follows) known_back
+      frames known_back
 
   -- with the paging channel
   data_back : flat_map data_known (places (count + 1))
@@ -342,7 +316,7 @@ module _ (width : Width) (plan : CellPlan) (t : Tuning) (is : IsReceivable width
   data_back =
       gathered_by_places (paging_events_at t samples) traffic_known count
       (paging_sent plan t.paging) traffic_told data_known_at
-      (pages_all width plan t is tuned) traffic_back
+      pages traffic_back
 
   -- and with the sync channel
   all_back : flat_map (events_at t samples) (places (count + 1))
@@ -354,13 +328,51 @@ module _ (width : Width) (plan : CellPlan) (t : Tuning) (is : IsReceivable width
       (λ n below. events_at_all t samples n)
       ∙ gathered_by_places (sync_events_at t samples) data_known count (sync_sent plan)
       (by_places count (paging_sent plan t.paging) traffic_told) known_at
-      (sendings_back width plan t is tuned.path) data_back
+      sendings data_back
+
+  all_events : length samples ≡ plan.link.samples → IsOnPath plan t →
+      events t samples ≡ sent_events plan t.energy t.paging t.traffic
+  unfolding heard_within sent_events
+  all_events long tuned =
+      let heard : ℕ → List Event = λ n. flat_map (events_at t samples) (places (n + 1)) in
+      ap (λ (phase : ℕ). Pilot phase t.energy ∷ heard (length samples)) tuned.phase
+      ∙ ap (λ (es : List Event). Pilot (phase_at plan plan.link.start) t.energy ∷ es)
+      (ap heard long ∙ all_back)
 
 pub messages_back : WholeMessagesComeBack
-unfolding heard_within sent_events
 messages_back width plan t is tuned follows not_directed =
-    let heard : ℕ → List Event =
-    λ n. flat_map (events_at t (made_samples plan)) (places (n + 1)) in
-    ap (λ (phase : ℕ). Pilot phase t.energy ∷ heard (length (made_samples plan))) tuned.path.phase
-    ∙ ap (λ (es : List Event). Pilot (phase_at plan plan.link.start) t.energy ∷ es)
-    (ap heard (length-made plan) ∙ all_back width plan t is tuned follows not_directed)
+    all_events plan t (made_samples plan) (sendings_back width plan t is tuned.path)
+    (pages_all width plan t is tuned)
+    (frames_all width plan t is tuned.path not_directed follows)
+    (messages_all width plan t is tuned.path not_directed follows) (sets_all plan t tuned.path)
+    (length-made plan) tuned.path
+
+-- ---- where no traffic channel is followed
+
+none_followed : (t : Tuning) (samples : List Sample) (heard : ℕ → Traffic → Mark → List Event)
+    (ns : List ℕ) → t.traffic ≡ None →
+    flat_map (λ n. if_followed (heard n) t.traffic (mark t samples n)) ns ≡ []
+none_followed t samples heard ns none =
+    ap (λ (followed : Option Traffic).
+    flat_map (λ n. if_followed (heard n) followed (mark t samples n)) ns) none
+    ∙ none_known ns
+
+-- Neither its frames nor its messages nor pilot sets are heard or sent, and the other channels' frames
+-- have the sent signs.
+pub all_by_signs : AllComesBackBySigns
+unfolding frame_events_at message_events_at sets_events_at traffic_sent signaling_sent sets_heard
+    paging_sent
+all_by_signs width plan samples t q is tuned none has numbered signs =
+    let all = places (plan.link.samples + 1) in
+    let shows = shows_sync is in
+    all_events plan t samples (sendings_in shows tuned)
+    (pages_shown samples tuned (signed_pages_shown samples q is.receivable tuned has numbered signs)
+    (mark_told shows tuned (mark t samples t.count) refl))
+    (none_followed t samples (λ n traffic m. frames_at t traffic m samples n) all none
+    ∙ sym (ap (traffic_sent plan) none))
+    (none_followed t samples (λ n traffic m. messages_at t traffic m samples n) all none
+    ∙ sym (ap (signaling_sent plan) none))
+    (none_followed t samples (λ n traffic m. sets_at t traffic m samples n) all none
+    ∙ sym (ap (sets_heard plan t.energy t.paging) none ∙ none_known all))
+    is.long tuned
+    ∙ ap (sent_events plan t.energy t.paging) none

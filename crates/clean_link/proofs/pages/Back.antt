@@ -18,7 +18,9 @@ use Rattle.clean_link.proofs.Common.{paging_bound, paging_stream, known_now, kno
 use Rattle.clean_link.proofs.Common.{flat_map_ext_filter, flat_map_ext_filter_places, frame_capsules}
 use Rattle.clean_frames.proofs.pages.Scans.{zero_frames_end_none}
 use Rattle.clean_frames.proofs.pages.CyclesBack.{stated_pages, whole_pages_back}
-use Rattle.clean_link.proofs.frames.ChannelFrames.{noisy_paging_back, paging_borne, silent_paging_back}
+use Rattle.clean_link.proofs.Common.{IsCellMark, PagingFrameHasSigns}
+use Rattle.clean_link.proofs.frames.ChannelFrames.{near_paging, paging_borne, paging_shown, silent_paging_back}
+use Rattle.clean_link.proofs.frames.OwnBits.{shown_back}
 use Rattle.clean_signal.proofs.noise.Near.{near-self}
 use Rattle.clean_link.proofs.frames.Times.{paging_file_from, paging_file_to, paging_known_is, paging_timed}
 use Rattle.heard_events.specs.PagingEvents.{paging_bits_before}
@@ -552,24 +554,37 @@ found plan channel mark_chip pages (p ∷ paging) each none =
 
 -- ---- the law
 
--- of samples near to the cell's, where the channel bears the noise
+-- where each frame from the mark on has the sent signs
+pub signed_pages : {width : Width} {plan : CellPlan} {p : PagingPlan} {t : Tuning} {m : Mark}
+    {superframes : ℕ} (samples : List Sample) → IsReceivable width plan → Contains plan.paging p →
+    IsOnPath plan t → IsCellMark plan m superframes → m.prat < 2 →
+    ((k : ℕ) → PagingFrameHasSigns plan p samples (4 * superframes + k)) →
+    pages_within t p.number (Some m) samples plan.link.samples
+    ≡ pages_of_channel plan p (plan.link.start + m.sample)
+signed_pages {width} {plan} {p} {t} {m} {superframes} samples receivable has tuned cell low signs =
+    let is : HearsPages width plan cell.sync t m superframes = record {
+      receivable = receivable;
+      tuned = tuned;
+      sends = cell.sends;
+      rate = cell.rate;
+      low = low;
+      marked = cell.marked;
+    } in
+    let time = frames_timed plan t p.number m tuned in
+    let rate = sent_paging_rate plan.sync in
+    by_capsules p.number is time samples
+    (λ k. cycle_frame_bits (cycle_of plan p) (4 * superframes + k))
+    (λ k there. shown_back (paging_shown plan p t m superframes samples tuned cell signs) k there)
+    ∙ channel_tells p.number is time p
+    (stated_pages rate p (All-contains (IsStatedPaging rate) plan.paging p receivable.pages has))
+
+-- so of near samples, where the channel bears the noise
 pub noisy_pages : NoisyPagesComeBack
 noisy_pages width plan sync p t m superframes e samples receivable has stated tuned sends rate low marked near
     bears =
-    let is : HearsPages width plan sync t m superframes = record {
-      receivable = receivable;
-      tuned = tuned;
-      sends = sends;
-      rate = rate;
-      low = low;
-      marked = marked;
-    } in
-    let time = frames_timed plan t p.number m tuned in
-    by_capsules p.number is time samples
-    (λ k. cycle_frame_bits (cycle_of plan p) (4 * superframes + k))
-    (λ k there. noisy_paging_back width plan sync p t m superframes k e samples receivable sends has tuned
-    marked rate there near bears)
-    ∙ channel_tells p.number is time p (stated_pages (sent_paging_rate plan.sync) p stated)
+    signed_pages samples receivable has tuned
+    (record { marked = marked; sync = sync; sends = sends; rate = rate }) low
+    (λ k. near_paging samples receivable has near bears (4 * superframes + k))
 
 -- of a clean link, on whatever row
 pub pages_back : PagesComeBack

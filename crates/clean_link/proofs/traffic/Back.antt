@@ -7,9 +7,10 @@ use Rattle.clean_link.proofs.Common.{frame_events_at, message_events_at, mark, A
 use Rattle.clean_link.proofs.Common.{sync_stream, Event, Mark, Traffic, by_one_mark, flat_map_ext_places, IsNotDirected, IsOnPath}
 use Rattle.clean_link.proofs.Common.{IsReceivable, frames_of_channel, frames_sent, told_on_row, AreDistinct, SendsSetOne}
 use Rattle.clean_link.proofs.Common.{messages_of_channel, messages_sent, signaling_sent, told_by_first, told_followed, told_with_sync}
+use Rattle.clean_link.proofs.Common.{MarkIsAt}
 use Rattle.clean_link.proofs.Common.{traffic_sent, FollowsSent, HearsSentTraffic, IsUndirected, IsAssigned, Sample, ShowsSync}
 use Rattle.clean_link.proofs.traffic.Steady.{frames_from_mark, messages_from_mark, undirected_behind}
-use Rattle.clean_link.proofs.marks.MarksTrue.{first_in, unset_in, marks_in, time_of, unmarked_in}
+use Rattle.clean_link.proofs.marks.MarksTrue.{first_in, unset_in, marks_in, rate_in, time_of, unmarked_in}
 use Rattle.clean_link.proofs.frames.ChannelFrames.{clean_sync}
 use Rattle.clean_link.proofs.traffic.Frames.{sent_frames_back, sent_messages_back}
 use Rattle.clean_signal.proofs.signal.Samples.{length-made}
@@ -106,6 +107,28 @@ module _ {width : Width} {plan : CellPlan} {t : Tuning} {samples : List Sample}
   untold_in None silent unset = refl
   untold_in (Some sync) sends unset =
       ap (told_by_first plan sync.message) (unset_in is tuned sync sends unset)
+
+  -- so the mark is the one that it tells
+  pub mark_told : (set : Option Mark) → mark t samples t.count ≡ set →
+      MarkIsAt plan set (told_with_sync plan plan.sync)
+  mark_told None unset = untold_in plan.sync refl unset
+  mark_told (Some m) set = by_channel plan.sync refl
+    where
+      by_channel : (channel : Option SyncPlan) → plan.sync ≡ channel →
+          MarkIsAt plan (Some m) (told_with_sync plan plan.sync)
+      by_channel None silent =
+          let unset = unmarked_in is tuned t.count silent in absurd (cc)
+      by_channel (Some sync) sends =
+          let (superframes, marked) = marks_in is tuned t.count m set in (
+            superframes,
+            told_behind_mark_in plan.sync m refl set superframes marked.time,
+            record {
+              marked = marked;
+              sync = sync;
+              sends = sends;
+              rate = rate_in is tuned sync t.count m sends set;
+            },
+          )
 
   -- a channel that is sent, after the mark that is set
   pub hears_behind : (p : TrafficPlan) (traffic : Traffic) (m : Mark) → Contains plan.traffic p →

@@ -16,12 +16,14 @@ use Rattle.clean_link.proofs.Common.{NoisySentFramesComeBack, NoisyTrafficFrames
 use Rattle.clean_link.proofs.Common.{CheckForm, messages_at, capsule_with, signaling_message_at, message_events, message_heard, messages_by}
 use Rattle.clean_link.proofs.Common.{signal_at, signal_in, signal_of, signals_before, has_frame, filter_ext_places, message_told}
 use Rattle.clean_link.proofs.Common.{messages_of_channel, signal_sent, signals_in, signals_received, SentMessagesComeBack}
+use Rattle.clean_link.proofs.Common.{HasSign, TrafficFrameHasSigns}
 use Rattle.clean_link.proofs.Common.{NoisySentMessagesComeBack, IsNotDirected, NoneIsDirected, NoneIsDirectedByNoise}
 use Rattle.clean_link.proofs.pages.Back.{given_in_order, IsBound}
 use Rattle.clean_link.proofs.sendings.Order.{flat_map-filter, given_where, moved_up}
-use Rattle.clean_signal.proofs.noise.Near.{length-near, near-self}
-use Rattle.clean_link.proofs.traffic.Signs.{noisy_power_bits, power_pairs, lawful_traffic, noisy_traffic_signs, same_state, traffic_borne}
-use Rattle.clean_link.proofs.traffic.Signs.{traffic_signs}
+use Rattle.clean_link.specs.TrafficLaws.{IsDecodedAs}
+use Rattle.clean_signal.proofs.noise.Near.{length-near, near-self, signs_turn}
+use Rattle.clean_link.proofs.traffic.Signs.{heard_related, power_pairs, lawful_traffic, near_traffic, noisy_traffic_signs, same_state}
+use Rattle.clean_link.proofs.traffic.Signs.{signed_power_bits, traffic_borne, traffic_signs}
 use Rattle.clean_signal.proofs.signal.Samples.{length-made}
 use Rattle.clean_link.proofs.traffic.Steady.{one_now, one_stream, one_stream_is, traffic_file_from, traffic_file_to, traffic_known_is}
 use Rattle.clean_link.proofs.traffic.Steady.{traffic_timed, one_pilot_heard, first_legs, first_pilot, frames_of_one, each_of_all}
@@ -250,15 +252,14 @@ module _ {width : Width} {plan : CellPlan} {p : TrafficPlan} {t : Tuning} {traff
       frame = frame;
     }
 
-    module _ (samples : List Sample)
-        (shows : ShowsTraffic plan p t traffic m superframes samples) where
+    module _ (samples : List Sample) (long : length samples ≡ plan.link.samples) where
       -- a distinct frame is told as it was sent
-      told_is : (k : ℕ) (f : SetOneFrame) → inside k ≡ true →
+      told_is : ShowsTraffic plan p t traffic m superframes samples → (k : ℕ) (f : SetOneFrame) → inside k ≡ true →
           cycled_frame (frames_of plan p) (4 * superframes + k) ≡ f ∷ [] →
           IsDistinctFrame (replaced_in traffic m k) f →
           frame_heard t traffic m legs samples (known_at t.count stream k) k ∷ []
           ≡ frame_told plan p (4 * superframes + k)
-      told_is k f there frame distinct =
+      told_is shows k f there frame distinct =
           let heard = heard_there k f there frame in
           let decoded = shows.decoded legs k f heard distinct in
           let ends = frame_ends plan p (4 * superframes + k) in
@@ -286,8 +287,7 @@ module _ {width : Width} {plan : CellPlan} {p : TrafficPlan} {t : Tuning} {traff
             (known_now t.count stream n (frames_bound n))
         heard_at_once n below =
             let count = is.tuned.count in
-            let made = shows.long in
-            frames_of_one t traffic m legs samples one n (omega (arith, below, count, made))
+            frames_of_one t traffic m legs samples one n (omega (arith, below, count, long))
             (λ k. one_pilot_heard t traffic m samples n k
             (λ i most. undirected i (omega (arith, most, below, count))))
             ∙ frames_each n
@@ -328,27 +328,32 @@ module _ {width : Width} {plan : CellPlan} {p : TrafficPlan} {t : Tuning} {traff
             ∙ sym (one_each told (received_frames plan p mark_chip))
 
         -- and where all of them are distinct, what was sent
-        pub sent_heard : SendsSetOne p → AreDistinct plan p mark_chip →
+        pub sent_heard : ShowsTraffic plan p t traffic m superframes samples → SendsSetOne p →
+            AreDistinct plan p mark_chip →
             flat_map (frames_at t traffic m samples) (places (plan.link.samples + 1)) ≡
             frames_of_channel plan p mark_chip
-        sent_heard some distinct =
+        sent_heard shows some distinct =
             heard_by_frames
             ∙ flat_map_ext_filter_places inside
             (λ k. frame_heard t traffic m legs samples (known_at t.count stream k) k ∷ [])
             (λ k. frame_told plan p (4 * superframes + k)) (frames_bound t.count)
             (λ k below there.
             let (f, frame) = frame_there some k in
-            told_is k f there frame (distinct_there distinct k f there frame))
+            told_is shows k f there frame (distinct_there distinct k f there frame))
             ∙ sym (by_marks_frames (frame_told plan p))
 
 -- ---- near samples show the channel's frames
 
-pub noisy_frame_back : NoisyTrafficFramesComeBack
+pub signed_frame_back : {width : Width} {plan : CellPlan} {p : TrafficPlan} {t : Tuning}
+    {traffic : Traffic} {m : Mark} {legs : ℕ → List Leg} {superframes k : ℕ} {f : SetOneFrame}
+    (samples : List Sample) → HearsSentTraffic width plan p t traffic m superframes →
+    IsHeardAs plan p t traffic m legs superframes k f →
+    TrafficFrameHasSigns plan p samples (4 * superframes + k) →
+    IsDistinctFrame (replaced_in traffic m k) f → IsDecodedAs f (decoded_at t traffic m legs samples k)
 unfolding decoded_at
-noisy_frame_back width plan p t traffic m legs superframes k e f samples is heard near bears distinct =
+signed_frame_back {t = t} {traffic} {m} {legs} {k = k} {f} samples is heard has distinct =
     let few = (power_pairs (frame_state traffic m k) (traffic_mask traffic.esn)).long in
-    let signs = noisy_traffic_signs width plan p t traffic m legs superframes k e f samples is heard near
-    bears in
+    let signs = heard_related is heard HasSign signs_turn samples has in
     record {
       score = _;
       same = signs_frame (replaced_in traffic m k) f.rate f.information
@@ -356,19 +361,30 @@ noisy_frame_back width plan p t traffic m legs superframes k e f samples is hear
           (sized is heard) signs.1 distinct;
     }
 
+pub noisy_frame_back : NoisyTrafficFramesComeBack
+noisy_frame_back width plan p t traffic m legs superframes k e f samples is heard near bears =
+    signed_frame_back samples is heard (near_traffic is e samples near bears (4 * superframes + k))
+
+-- where each frame from the mark on has the sent signs, the samples show the channel
+pub signed_traffic : {width : Width} {plan : CellPlan} {p : TrafficPlan} {t : Tuning}
+    {traffic : Traffic} {m : Mark} {superframes : ℕ} {samples : List Sample} →
+    HearsSentTraffic width plan p t traffic m superframes → length samples ≡ plan.link.samples →
+    ((k : ℕ) → TrafficFrameHasSigns plan p samples (4 * superframes + k)) →
+    ShowsTraffic plan p t traffic m superframes samples
+signed_traffic {samples = samples} is long signs = record {
+  long = long;
+  decoded = λ legs k f heard. signed_frame_back samples is heard (signs k);
+  power_bits = λ legs k f heard. signed_power_bits samples is heard (signs k);
+}
+
 pub noisy_traffic : {width : Width} {plan : CellPlan} {p : TrafficPlan} {t : Tuning}
     {traffic : Traffic} {m : Mark} {superframes : ℕ} →
     HearsSentTraffic width plan p t traffic m superframes → (e : ℕ) (samples : List Sample) →
     IsNear e samples (made_samples plan) → Bears plan p.gain e →
     ShowsTraffic plan p t traffic m superframes samples
-noisy_traffic {width} {plan} {p} {t} {traffic} {m} {superframes} is e samples near bears = record {
-  long = length-near e samples (made_samples plan) near ∙ length-made plan;
-  decoded = λ legs k f heard distinct.
-      noisy_frame_back width plan p t traffic m legs superframes k e f samples is heard near bears
-      distinct;
-  power_bits = λ legs k f heard.
-      noisy_power_bits width plan p t traffic m legs superframes k e f samples is heard near bears;
-}
+noisy_traffic {plan = plan} {superframes = superframes} is e samples near bears =
+    signed_traffic is (length-near e samples (made_samples plan) near ∙ length-made plan)
+    (λ k. near_traffic is e samples near bears (4 * superframes + k))
 
 -- so do those of a clean link
 pub clean_traffic : {width : Width} {plan : CellPlan} {p : TrafficPlan} {t : Tuning}
@@ -382,12 +398,14 @@ clean_traffic {plan = plan} is =
 
 pub noisy_each_frame : NoisyEachFrameIsHeard
 noisy_each_frame width plan p t traffic m superframes e samples is near bears legs undirected one =
-    each_heard is legs one samples (noisy_traffic is e samples near bears) undirected
+    each_heard is legs one samples (length-near e samples (made_samples plan) near ∙ length-made plan)
+    undirected
 
 pub noisy_sent_frames : NoisySentFramesComeBack
 noisy_sent_frames width plan p t traffic m superframes e samples is near bears some undirected distinct =
-    sent_heard is (first_legs traffic m) (first_pilot traffic m) samples
-    (noisy_traffic is e samples near bears) undirected some distinct
+    let shows = noisy_traffic is e samples near bears in
+    sent_heard is (first_legs traffic m) (first_pilot traffic m) samples shows.long undirected shows some
+    distinct
 
 pub each_frame_heard : EachFrameIsHeard
 each_frame_heard width plan p t traffic m superframes legs is undirected one =
@@ -566,14 +584,15 @@ module _ {width : Width} {plan : CellPlan} {p : TrafficPlan} {t : Tuning} {traff
             (subst (All IsNotDirected) (sym heard) (none_of_one n (omega (arith, most))))
       ]
 
+  pub signed_none_directed : IsUndirected t traffic m samples plan.link.samples
+  signed_none_directed i most = none_before (plan.link.samples + 1) (omega arith) i (omega (arith, most))
+
 -- ---- the law
 
 pub none_directed : NoneIsDirected
-none_directed width plan p t traffic m superframes is some distinct none i most =
-    none_before is some distinct none (made_samples plan) (clean_traffic is)
-    (plan.link.samples + 1) (omega arith) i (omega (arith, most))
+none_directed width plan p t traffic m superframes is some distinct none =
+    signed_none_directed is some distinct none (made_samples plan) (clean_traffic is)
 
 pub noisy_none_directed : NoneIsDirectedByNoise
-noisy_none_directed width plan p t traffic m superframes e samples is near bears some distinct none i most =
-    none_before is some distinct none samples (noisy_traffic is e samples near bears)
-    (plan.link.samples + 1) (omega arith) i (omega (arith, most))
+noisy_none_directed width plan p t traffic m superframes e samples is near bears some distinct none =
+    signed_none_directed is some distinct none samples (noisy_traffic is e samples near bears)

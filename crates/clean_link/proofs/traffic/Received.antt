@@ -11,17 +11,19 @@ use Rattle.clean_link.proofs.Common.{ShowPowerBits, cycled_frame2, codeword_symb
 use Rattle.clean_link.proofs.Common.{FramesBehindMark, FramesShowPowerBits, FramesShowSymbols, SetTwoBehindMark, IsSentFrame2}
 use Rattle.clean_link.proofs.Common.{HearsSentTraffic, SetTwoFramesComeBack, Bears, IsNear, IsReceivedBySigns, IsSentFrame2BySigns}
 use Rattle.clean_link.proofs.Common.{NoisyFramesAreReceived, NoisyFramesBehindMark, NoisySetTwoBehindMark, NoisySetTwoFramesComeBack}
+use Rattle.clean_link.proofs.Common.{AreReceivedFrom, HasSyncSigns, MarkIsAt, TrafficFrameHasSigns, told_with_sync, traffic_carrier}
 use Rattle.clean_link.proofs.Common.{HavePowerSigns, NoisyFrame, IsReceived, ShowsSync, ◌<ℤ◌, correlation, AgreeElsewhere, unreplaced}
 use Rattle.clean_link.proofs.Common.{frame_softs, stream_of, HeardAreTheOnlyBest, ReceivedAreTheOnlyBest, SetTwoAreTheOnlyBest, by_lt_z}
 use Rattle.clean_link.proofs.Common.{codeword_symbols, KeepSigns, NoisyReceivedAreTheOnlyBest, NoisySetTwoAreTheOnlyBest}
 use Rattle.clean_link.proofs.Common.{NoisyFramesAreTheOnlyBest, agree_left, shown_keep}
 use Rattle.cell_plan.specs.TrafficFrames.{sent_frame_state}
-use Rattle.clean_link.proofs.frames.ChannelFrames.{clean_sync, heard_sync}
-use Rattle.clean_signal.proofs.noise.Near.{none_borne, length-near, near-self}
+use Rattle.clean_link.proofs.frames.ChannelFrames.{clean_signs, near_frame, near_sync, shows_sync}
+use Rattle.clean_signal.proofs.noise.Near.{near-self}
 use Rattle.clean_signal.proofs.signal.Samples.{length-made}
-use Rattle.clean_link.proofs.traffic.Back.{hears_behind}
-use Rattle.clean_link.proofs.traffic.Signs.{heard_power_bits, power_pairs, frame_powered, frame_shown, lawful_traffic, noisy_powered}
-use Rattle.clean_link.proofs.traffic.Signs.{noisy_shown, set_two_sends, noisy_traffic_signs, traffic_borne}
+use Rattle.clean_link.proofs.traffic.Back.{mark_told}
+use Rattle.clean_signal.proofs.signal.CarriersApart.{traffic_sent}
+use Rattle.clean_link.proofs.traffic.Signs.{heard_power_bits, power_pairs, frame_powered, frame_shown, lawful_traffic, near_traffic}
+use Rattle.clean_link.proofs.traffic.Signs.{signed_powered, signed_shown, set_two_sends, noisy_traffic_signs, traffic_borne}
 use Rattle.clean_link.proofs.traffic.Frames.{by_marks_frames, inside_at, known_is, one_each, one_taken, one_there, same_places, sized}
 use Rattle.clean_link.proofs.traffic.Steady.{one_stream, traffic_file_to, traffic_known_is}
 use Rattle.clean_link.specs.TrafficLaws.{IsOnlyBestIn}
@@ -142,7 +144,7 @@ module _ {width : Width} {plan : CellPlan} {p : TrafficPlan} {t : Tuning} {traff
   -- What is so of each frame in the file that sends this, by its number after the mark, is so by
   -- the channel's number: with the places of its power control bits, and its end.
   by_channel : (Is : List ℕ → ℕ → ℕ → Type 0) (frame : ℕ) (symbols power_bits : List Bool) →
-      ((k : ℕ) → is_in_file t.count stream k ≡ true →
+      ((k : ℕ) → 4 * superframes + k ≡ frame → is_in_file t.count stream k ≡ true →
       SendsSymbols plan p (4 * superframes + k) symbols power_bits →
       Is (replaced_in traffic m k) (known_at t.count stream k) k) →
       is_received plan p (plan.link.start + m.sample) frame ≡ true →
@@ -154,7 +156,7 @@ module _ {width : Width} {plan : CellPlan} {p : TrafficPlan} {t : Tuning} {traff
       let places = same_places is k in
       let ends = known_is is k in
       let behind =
-      each k there (subst (λ (n : ℕ). SendsSymbols plan p n symbols power_bits) (sym here) sent) in
+      each k here there (subst (λ (n : ℕ). SendsSymbols plan p n symbols power_bits) (sym here) sent) in
       subst (λ (n : ℕ). Is (replaced_of plan p n) (frame_ends plan p n) k) here
       (subst (λ (n : ℕ). Is (replaced_of plan p (4 * superframes + k)) n k) ends
       (subst (λ (replaced : List ℕ). Is replaced (known_at t.count stream k) k) (sym places)
@@ -196,19 +198,20 @@ module _ {width : Width} {plan : CellPlan} {p : TrafficPlan} {t : Tuning} {traff
         (λ frame. behind frame ∷ []))
         ∙ sym (one_each behind (received_frames plan p (plan.link.start + m.sample)))
 
-    -- Of near samples, the raw soft values of each have the signs of its power control bits, so these
+    -- The raw soft values of one with the sent signs have those of its power control bits, so these
     -- come back, whatever its descrambled soft values show.
-    pub received_by : (e : ℕ) → IsNear e samples (made_samples plan) → Bears plan p.gain e →
-        (Show : List ℕ → List ℤ → Type 0) (frame : ℕ) (symbols power_bits : List Bool) →
+    pub received_by : (Show : List ℕ → List ℤ → Type 0) (frame : ℕ) (symbols power_bits : List Bool) →
+        TrafficFrameHasSigns plan p samples frame →
         ((k : ℕ) → is_in_file t.count stream k ≡ true →
         SendsSymbols plan p (4 * superframes + k) symbols power_bits →
+        TrafficFrameHasSigns plan p samples (4 * superframes + k) →
         Show (replaced_in traffic m k) (soft k).descrambled) →
         is_received plan p (plan.link.start + m.sample) frame ≡ true →
         SendsSymbols plan p frame symbols power_bits →
         IsReceived plan p frame power_bits (Show (replaced_of plan p frame))
         (soft (frame - 4 * superframes))
         × HavePowerSigns (replaced_of plan p frame) power_bits (raw (frame - 4 * superframes))
-    received_by e near bears Show frame symbols power_bits shown received sent =
+    received_by Show frame symbols power_bits has shown received sent =
         let power : List ℕ → List Bool → Option PowerControl =
         λ replaced bits. Some (record { replaced = replaced; power_bits = bits }) in
         let (ends, powered, shows, signs) =
@@ -217,14 +220,14 @@ module _ {width : Width} {plan : CellPlan} {p : TrafficPlan} {t : Tuning} {traff
         × ((soft k).power ≡ power replaced (sent_bits power_bits))
         × Show replaced (soft k).descrambled × HavePowerSigns replaced power_bits (raw k))
         frame symbols power_bits
-        (λ k there sends.
-        let signs =
-        noisy_powered is k sends there e samples near bears in (
+        (λ k same there sends.
+        let own = subst (TrafficFrameHasSigns plan p samples) (sym same) has in
+        let signs = signed_powered is k sends there samples own in (
           refl,
           ap (power (replaced_in traffic m k))
               (heard_power_bits (heard.frame_state traffic m k) (traffic_mask traffic.esn) power_bits
               (raw k) signs),
-          shown k there sends,
+          shown k there sends own,
           signs,
         )) received sent in
         (record { ends = ends; powered = powered; shown = shows }, signs)
@@ -235,21 +238,34 @@ pub each_frame_received : EachFrameIsReceived
 each_frame_received width plan p t traffic m superframes samples is long =
     each_received is samples long
 
+-- where it has the sent signs, whatever it sends
+pub signed_received : {width : Width} {plan : CellPlan} {p : TrafficPlan} {t : Tuning}
+    {traffic : Traffic} {m : Mark} {superframes : ℕ} (samples : List Sample) (frame : ℕ)
+    (symbols power_bits : List Bool) → HearsSentTraffic width plan p t traffic m superframes →
+    TrafficFrameHasSigns plan p samples frame →
+    is_received plan p (plan.link.start + m.sample) frame ≡ true →
+    SendsSymbols plan p frame symbols power_bits →
+    IsReceivedBySigns plan p frame symbols power_bits
+    (soft_frame t (traffic_channel traffic) m samples (frame - 4 * superframes))
+    × HavePowerSigns (replaced_of plan p frame) power_bits
+    (raw_at t (traffic_channel traffic) m samples (frame - 4 * superframes))
+signed_received samples frame symbols power_bits is has =
+    received_by is samples (λ replaced. NoisyFrame replaced symbols) frame symbols power_bits has
+    (λ k there sent own. signed_shown is k sent there samples own)
+
 pub noisy_frames_received : NoisyFramesAreReceived
 noisy_frames_received width plan p t traffic m superframes e samples is near bears frame symbols
     power_bits =
-    received_by is samples e near bears
-    (λ replaced. NoisyFrame replaced symbols) frame symbols power_bits
-    (λ k there sent. noisy_shown is k sent there e samples near bears)
+    signed_received samples frame symbols power_bits is (near_traffic is e samples near bears frame)
 
 -- of a clean link, where the soft values are known
 pub frames_show_symbols : FramesShowSymbols
 frames_show_symbols width plan p t traffic m superframes frame symbols power_bits is received sent =
-    let lawful = lawful_traffic width plan p is.receivable.lawful is.sent in
-    (received_by is (made_samples plan) 0
-    (near-self 0 (made_samples plan)) (none_borne width plan p.gain is.receivable lawful.gain)
+    let none = near-self 0 (made_samples plan) in
+    (received_by is (made_samples plan)
     (λ replaced. ShowFrame replaced (soft_strength plan Data p.gain) symbols) frame symbols power_bits
-    (λ k there sends. frame_shown is k sends there) received sent).0
+    (near_traffic is 0 (made_samples plan) none (traffic_borne is) frame)
+    (λ k there sends own. frame_shown is k sends there) received sent).0
 
 pub frames_show_power_bits : FramesShowPowerBits
 frames_show_power_bits width plan p t traffic m superframes frame symbols power_bits is =
@@ -257,7 +273,7 @@ frames_show_power_bits width plan p t traffic m superframes frame symbols power_
     by_channel is
     (λ replaced ends k. ShowPowerBits replaced strength power_bits
     (raw_at t (traffic_channel traffic) m (made_samples plan) k)) frame symbols power_bits
-    (λ k there sent. frame_powered is k sent there)
+    (λ k same there sent. frame_powered is k sent there)
 
 -- ---- frames of rate set 2
 
@@ -290,34 +306,61 @@ noisy_set_two_back plan p frame f soft sized received =
 -- ---- in a file
 
 module _ {width : Width} {plan : CellPlan} {p : TrafficPlan} {t : Tuning} {traffic : Traffic}
-    {samples : List Sample} (shows : ShowsSync width plan samples) (tuned : IsOnPath plan t)
+    (samples : List Sample) (receivable : IsReceivable width plan) (tuned : IsOnPath plan t)
     (sent : Contains plan.traffic p) (assigned : IsAssigned p traffic)
-    (long : length samples ≡ plan.link.samples) (m : Mark)
-    (set : mark t samples (length samples) ≡ Some m) where
+    (long : length samples ≡ plan.link.samples) {at : Option ℕ} (m : Mark)
+    (set : MarkIsAt plan (Some m) at) where
   -- What is so of each frame after a true mark is so of those after the mark that is set.
   behind_mark : (Is : ℕ → SoftFrame → Type 0) →
       ((superframes : ℕ) → HearsSentTraffic width plan p t traffic m superframes → (frame : ℕ) →
       is_received plan p (plan.link.start + m.sample) frame ≡ true →
       Is frame (soft_frame t (traffic_channel traffic) m samples (frame - 4 * superframes))) →
-      AreReceived plan p Is (soft_frames t (traffic_channel traffic) m samples)
+      AreReceivedFrom plan p at Is (soft_frames t (traffic_channel traffic) m samples)
   behind_mark Is each =
-      let count : length samples ≡ t.count = long ∙ sym tuned.count in
-      let last : mark t samples t.count ≡ Some m = ap (mark t samples) (sym count) ∙ set in
-      let behind = hears_behind shows tuned p traffic m sent assigned last in
-      let superframes = behind.superframes in
+      let (superframes, told, cell) = set in
+      let hears : HearsSentTraffic width plan p t traffic m superframes = record {
+        receivable = receivable;
+        sent = sent;
+        assigned = assigned;
+        tuned = tuned;
+        marked = cell.marked;
+      } in
       let soft : ℕ → SoftFrame = λ frame.
       soft_frame t (traffic_channel traffic) m samples (frame - 4 * superframes) in
-      let chip = behind.hears.marked.place in
+      let chip = cell.marked.place in
       record {
         superframes = superframes;
-        told = behind.told;
+        told = told;
         soft = soft;
-        each = each_received behind.hears samples long
+        each = each_received hears samples long
             ∙ ap (λ (c : ℕ). map soft (received_frames plan p c)) chip;
         are = λ frame received.
-            each superframes behind.hears frame
+            each superframes hears frame
             (ap (λ (c : ℕ). is_received plan p c frame) chip ∙ received);
       }
+
+  -- so each that has the sent signs is received by them
+  pub signed_behind_mark : AreReceivedFrom plan p at
+      (λ frame soft. TrafficFrameHasSigns plan p samples frame → (symbols power_bits : List Bool) →
+      SendsSymbols plan p frame symbols power_bits →
+      IsReceivedBySigns plan p frame symbols power_bits soft)
+      (soft_frames t (traffic_channel traffic) m samples)
+  signed_behind_mark =
+      behind_mark _ (λ superframes hears frame received has symbols power_bits sends.
+      (signed_received samples frame symbols power_bits hears has received sends).0)
+
+-- of all frames, where all have something
+pub given_all : {plan : CellPlan} {p : TrafficPlan} {at : Option ℕ} {frames : List SoftFrame}
+    (Has : ℕ → Type 0) (Is : ℕ → SoftFrame → Type 0) → ((frame : ℕ) → Has frame) →
+    AreReceivedFrom plan p at (λ frame soft. Has frame → Is frame soft) frames →
+    AreReceivedFrom plan p at Is frames
+given_all Has Is have all = record {
+  superframes = all.superframes;
+  told = all.told;
+  soft = all.soft;
+  each = all.each;
+  are = λ frame received. all.are frame received (have frame);
+}
 
 -- one of the frames of rate set 2 is sent at each number
 frame2_there : (width : Width) (plan : CellPlan) (p : TrafficPlan) → IsReceivable width plan →
@@ -333,56 +376,90 @@ frame2_there width plan p is sent some frame =
     )
 
 -- and comes back, where what is received of it by what it sends is that of a frame that does
-set_two_of : (plan : CellPlan) (p : TrafficPlan)
+set_two_of : (plan : CellPlan) (p : TrafficPlan) {at : Option ℕ} (Has : ℕ → Type 0)
     (Receives : ℕ → List Bool → List Bool → SoftFrame → Type 0)
     (Back : ℕ → SetTwoFrame → SoftFrame → Type 0) (frames : List SoftFrame) →
     ((frame : ℕ) → (f : SetTwoFrame) × (cycled_frame2 (frames_of plan p) frame ≡ f ∷ [])
     × IsSetTwoFrame f) → ((frame : ℕ) (f : SetTwoFrame) (soft : SoftFrame) → IsSetTwoFrame f →
-    Receives frame (codeword_symbols2 f) f.power_bits soft → Back frame f soft) → AreReceived plan p
-    (λ frame soft. (symbols power_bits : List Bool) → SendsSymbols plan p frame symbols power_bits →
-    Receives frame symbols power_bits soft) frames → AreReceived plan p
-    (λ frame soft. (f : SetTwoFrame) × (cycled_frame2 (frames_of plan p) frame ≡ f ∷ [])
-    × Back frame f soft) frames
-set_two_of plan p Receives Back frames there back all = record {
+    Receives frame (codeword_symbols2 f) f.power_bits soft → Back frame f soft) →
+    AreReceivedFrom plan p at (λ frame soft. Has frame → (symbols power_bits : List Bool) →
+    SendsSymbols plan p frame symbols power_bits → Receives frame symbols power_bits soft) frames →
+    AreReceivedFrom plan p at (λ frame soft. Has frame → (f : SetTwoFrame)
+    × (cycled_frame2 (frames_of plan p) frame ≡ f ∷ []) × Back frame f soft) frames
+set_two_of plan p Has Receives Back frames there back all = record {
   superframes = all.superframes;
   told = all.told;
   soft = all.soft;
   each = all.each;
-  are = λ frame received.
+  are = λ frame received has.
       let (f, here, sized) = there frame in (
         f,
         here,
         back frame f (all.soft frame) sized
-            (all.are frame received (codeword_symbols2 f) f.power_bits
+            (all.are frame received has (codeword_symbols2 f) f.power_bits
             (set_two_sends plan p frame f here)),
       );
 }
+
+-- those of rate set 2 that have the sent signs
+pub signed_set_two : {width : Width} {plan : CellPlan} {p : TrafficPlan} {t : Tuning}
+    {traffic : Traffic} (samples : List Sample) (receivable : IsReceivable width plan)
+    (tuned : IsOnPath plan t) (sent : Contains plan.traffic p) (assigned : IsAssigned p traffic)
+    (long : length samples ≡ plan.link.samples) {at : Option ℕ} (m : Mark)
+    (set : MarkIsAt plan (Some m) at) → SendsSetTwo p →
+    AreReceivedFrom plan p at
+    (λ frame soft. TrafficFrameHasSigns plan p samples frame → (f : SetTwoFrame)
+    × (cycled_frame2 (frames_of plan p) frame ≡ f ∷ []) × IsSentFrame2BySigns plan p frame f soft)
+    (soft_frames t (traffic_channel traffic) m samples)
+signed_set_two {width} {plan} {p} samples receivable tuned sent assigned long m set some =
+    set_two_of plan p (TrafficFrameHasSigns plan p samples) (IsReceivedBySigns plan p)
+    (IsSentFrame2BySigns plan p) _ (frame2_there width plan p receivable sent some)
+    (noisy_set_two_back plan p)
+    (signed_behind_mark samples receivable tuned sent assigned long m set)
+
+-- ---- after the mark that a sync channel tells
+
+told_last : {width : Width} {plan : CellPlan} {samples : List Sample} {t : Tuning} {m : Mark} →
+    HasSyncSigns width plan samples → IsOnPath plan t → mark t samples (length samples) ≡ Some m →
+    MarkIsAt plan (Some m) (told_with_sync plan plan.sync)
+told_last {samples = samples} {t} {m} is tuned set =
+    mark_told (shows_sync is) tuned (Some m)
+    (ap (mark t samples) (tuned.count ∙ sym is.long) ∙ set)
 
 -- ---- the laws
 
 pub frames_behind_mark : FramesBehindMark
 frames_behind_mark width plan p t traffic m is tuned sent assigned set =
-    behind_mark (clean_sync width plan is) tuned sent assigned (length-made plan) m set _
+    behind_mark (made_samples plan) is tuned sent assigned (length-made plan) m
+    (told_last (clean_signs width plan is) tuned set) _
     (λ superframes hears frame received symbols power_bits.
     frames_show_symbols width plan p t traffic m superframes frame symbols power_bits hears received)
 
 pub set_two_behind_mark : SetTwoBehindMark
 set_two_behind_mark width plan p t traffic m is tuned sent assigned some set =
-    set_two_of plan p (IsReceivedAs plan p) (IsSentFrame2 plan p) _
+    given_all (λ frame. Unit {0}) _ (λ frame. tt)
+    (set_two_of plan p (λ frame. Unit {0}) (IsReceivedAs plan p) (IsSentFrame2 plan p) _
     (frame2_there width plan p is sent some) (set_two_back plan p)
-    (frames_behind_mark width plan p t traffic m is tuned sent assigned set)
+    (behind_mark (made_samples plan) is tuned sent assigned (length-made plan) m
+    (told_last (clean_signs width plan is) tuned set) _
+    (λ superframes hears frame received has symbols power_bits.
+    frames_show_symbols width plan p t traffic m superframes frame symbols power_bits hears received)))
 
 -- of near samples
 pub noisy_frames_behind_mark : NoisyFramesBehindMark
 noisy_frames_behind_mark width plan sync p e samples t traffic m is bears tuned sent assigned set =
-    behind_mark (heard_sync width plan sync e samples is) tuned sent assigned
-    (length-near e samples (made_samples plan) is.near ∙ length-made plan) m set _
-    (λ superframes hears frame received symbols power_bits sends.
-    (noisy_frames_received width plan p t traffic m superframes e samples hears is.near bears frame
-    symbols power_bits received sends).0)
+    let signs = near_sync samples is.receivable is.sends is.near is.bears in
+    given_all (TrafficFrameHasSigns plan p samples) _
+    (near_frame (traffic_carrier plan p) Data e samples is.receivable (traffic_sent plan p sent) is.near
+    bears)
+    (signed_behind_mark samples is.receivable tuned sent assigned signs.long m
+    (told_last signs tuned set))
 
 pub noisy_set_two_behind_mark : NoisySetTwoBehindMark
 noisy_set_two_behind_mark width plan sync p e samples t traffic m is bears tuned sent assigned set some =
-    set_two_of plan p (IsReceivedBySigns plan p) (IsSentFrame2BySigns plan p) _
-    (frame2_there width plan p is.receivable sent some) (noisy_set_two_back plan p)
-    (noisy_frames_behind_mark width plan sync p e samples t traffic m is bears tuned sent assigned set)
+    let signs = near_sync samples is.receivable is.sends is.near is.bears in
+    given_all (TrafficFrameHasSigns plan p samples) _
+    (near_frame (traffic_carrier plan p) Data e samples is.receivable (traffic_sent plan p sent) is.near
+    bears)
+    (signed_set_two samples is.receivable tuned sent assigned signs.long m
+    (told_last signs tuned set) some)

@@ -15,12 +15,14 @@ use Rattle.clean_link.proofs.Common.{eq-eqb, get_or-map-places, length-map-place
 use Rattle.clean_link.proofs.Common.{is_replaced, unscrambled, zipped_at, not, map, ◌+ℤ◌, ◌&&◌, int_lt, range_with_len, ints, list_any_at}
 use Rattle.clean_link.proofs.Common.{places, map-places-all, power_place, power_place_in_groups, pairs_below, pairs_in_groups}
 use Rattle.clean_link.proofs.Common.{pairs_neighbours, ArePairs, power_bit, group_sum, group_sums, map_ext_places, power_bits_at, sent_bits}
+use Rattle.clean_link.proofs.Common.{TrafficFrameHasSigns, sent_power_bits}
 use Rattle.clean_link.proofs.Common.{PowerBitsComeBack, SixteenPowerBitsAreSent, NoisyPowerBitsComeBack, le_false, lt_true}
 use Rattle.chip_core.proofs.Finds.{nat_eq-flipped}
 use Rattle.clean_signal.proofs.signal.CarriersApart.{plan_apart, traffic_sent}
 use Rattle.clean_signal.proofs.frames.ChannelSigns.{strength_some}
-use Rattle.clean_link.proofs.frames.ChannelFrames.{length-scrambling, fingers_are}
-use Rattle.clean_signal.proofs.signal.Frames.{clean_relates, noisy_relates}
+use Rattle.clean_link.proofs.frames.ChannelFrames.{length-scrambling, fingers_are, near_frame}
+use Rattle.clean_signal.proofs.frames.Heard.{FrameRelates}
+use Rattle.clean_signal.proofs.signal.Frames.{clean_relates}
 use Rattle.clean_link.proofs.traffic.Steady.{one_fingers, one_stream, one_stream_is, traffic_file_to, one_sums}
 use Rattle.clean_signal.proofs.noise.Near.{none_borne, near-self, IsSigned, Relates, Turns, signed_turn, signs_turn}
 use Rattle.symbol_path.specs.FramesTwo as second
@@ -207,11 +209,11 @@ module _ {width : Width} {plan : CellPlan} {p : TrafficPlan} {t : Tuning} {traff
       clean_relates plan (traffic_carrier plan p) Data is.receivable.lawful.pn
       (plan_apart width plan is.receivable.lawful) (traffic_sent plan p is.sent)
 
-  traffic_noisy : (e : ℕ) (samples : List Sample) → IsNear e samples (made_samples plan) →
-      Bears plan p.gain e → Relates HasSign plan (traffic_carrier plan p) Data samples
-  traffic_noisy e samples near bears =
-      noisy_relates plan (traffic_carrier plan p) Data e samples is.receivable.lawful.pn
-      (plan_apart width plan is.receivable.lawful) (traffic_sent plan p is.sent) near bears
+  pub near_traffic : (e : ℕ) (samples : List Sample) → IsNear e samples (made_samples plan) →
+      Bears plan p.gain e → (frame : ℕ) → TrafficFrameHasSigns plan p samples frame
+  near_traffic e samples near bears =
+      near_frame (traffic_carrier plan p) Data e samples is.receivable (traffic_sent plan p is.sent) near
+      bears
 
 module _ {width : Width} {plan : CellPlan} {p : TrafficPlan} {t : Tuning} {traffic : Traffic}
     {m : Mark} {superframes : ℕ} (is : HearsSentTraffic width plan p t traffic m superframes) (k : ℕ)
@@ -264,7 +266,7 @@ module _ {width : Width} {plan : CellPlan} {p : TrafficPlan} {t : Tuning} {traff
   -- ---- of samples whose soft values stand to the symbols in a relation
 
   module _ (R : Bool → ℤ → Type 0) (turns : Turns R) (samples : List Sample)
-      (relates : Relates R plan (traffic_carrier plan p) Data samples) where
+      (relates : FrameRelates R plan (traffic_carrier plan p) Data samples (4 * superframes + k)) where
     -- the soft values as the finger hears them
     abbrev raw : List ℤ
     raw = softs samples (fingers_of traffic.row t.phase t.deltas) Data u
@@ -274,7 +276,7 @@ module _ {width : Width} {plan : CellPlan} {p : TrafficPlan} {t : Tuning} {traff
         subst (λ (fs : List Finger). AllZip R given (softs samples fs Data u)) (sym finger)
         (subst (λ (xs : List Bool). AllZip R xs (softs samples (path_finger plan p.row ∷ []) Data u))
         given_is
-        (relates u (4 * superframes + k) is_frame (ap length given_is ∙ given_long)))
+        (relates u is_frame (ap length given_is ∙ given_long)))
 
     -- and descrambled by the scrambling
     descrambled_are : frame_softs samples (one_stream t traffic m) k
@@ -304,32 +306,36 @@ module _ {width : Width} {plan : CellPlan} {p : TrafficPlan} {t : Tuning} {traff
         powered_there R state mask power_bits raw (zip_with xor symbols (scrambling state mask))
         raw_related
 
-  -- ---- of a clean link, and of near samples
+  -- ---- of a clean link, and of samples in which the frame has the sent signs
+
+  clean_frame : FrameRelates (IsSigned (soft_strength plan Data p.gain)) plan (traffic_carrier plan p)
+      Data (made_samples plan) (4 * superframes + k)
+  clean_frame u = traffic_clean is u (4 * superframes + k)
 
   pub frame_shown : ShowFrame (replaced_in traffic m k) (soft_strength plan Data p.gain) symbols
       (frame_softs (made_samples plan) (one_stream t traffic m) k)
   frame_shown = record {
     strong = traffic_strong is;
-    long = frame_long _ (signed_turn _) (made_samples plan) (traffic_clean is);
-    shows = frame_kept _ (signed_turn _) (made_samples plan) (traffic_clean is);
+    long = frame_long _ (signed_turn _) (made_samples plan) clean_frame;
+    shows = frame_kept _ (signed_turn _) (made_samples plan) clean_frame;
   }
 
   pub frame_powered : ShowPowerBits (replaced_in traffic m k) (soft_strength plan Data p.gain)
       power_bits (softs (made_samples plan) (fingers_of traffic.row t.phase t.deltas) Data u)
-  frame_powered = frame_power _ (signed_turn _) (made_samples plan) (traffic_clean is)
+  frame_powered = frame_power _ (signed_turn _) (made_samples plan) clean_frame
 
-  module _ (e : ℕ) (samples : List Sample) (near : IsNear e samples (made_samples plan))
-      (bears : Bears plan p.gain e) where
-    pub noisy_shown : NoisyFrame (replaced_in traffic m k) symbols
+  module _ (samples : List Sample)
+      (signs : TrafficFrameHasSigns plan p samples (4 * superframes + k)) where
+    pub signed_shown : NoisyFrame (replaced_in traffic m k) symbols
         (frame_softs samples (one_stream t traffic m) k)
-    noisy_shown = record {
-      long = frame_long HasSign signs_turn samples (traffic_noisy is e samples near bears);
-      keeps = frame_kept HasSign signs_turn samples (traffic_noisy is e samples near bears);
+    signed_shown = record {
+      long = frame_long HasSign signs_turn samples signs;
+      keeps = frame_kept HasSign signs_turn samples signs;
     }
 
-    pub noisy_powered : HavePowerSigns (replaced_in traffic m k) power_bits
+    pub signed_powered : HavePowerSigns (replaced_in traffic m k) power_bits
         (softs samples (fingers_of traffic.row t.phase t.deltas) Data u)
-    noisy_powered = frame_power HasSign signs_turn samples (traffic_noisy is e samples near bears)
+    signed_powered = frame_power HasSign signs_turn samples signs
 
 -- ---- of the reference's pilot among the active ones
 
@@ -347,8 +353,8 @@ module _ {width : Width} {plan : CellPlan} {p : TrafficPlan} {t : Tuning} {traff
   sends_codeword = set_one_sends plan p (4 * superframes + k) f heard.frame
 
   -- its soft values stand to what is sent as those of the channel's frames do
-  heard_related : (R : Bool → ℤ → Type 0) → Turns R → (samples : List Sample) →
-      Relates R plan (traffic_carrier plan p) Data samples →
+  pub heard_related : (R : Bool → ℤ → Type 0) → Turns R → (samples : List Sample) →
+      FrameRelates R plan (traffic_carrier plan p) Data samples (4 * superframes + k) →
       (length (frame_softs samples (stream_of t traffic m legs k) k) ≡ 384)
       × AreKept R (replaced_in traffic m k) (codeword_symbols f)
       (frame_softs samples (stream_of t traffic m legs k) k)
@@ -372,12 +378,13 @@ pub traffic_signs : TrafficHaveSentSigns
 traffic_signs width plan p t traffic m legs superframes k f is heard =
     let strength = soft_strength plan Data p.gain in
     let all = heard_related is heard (IsSigned strength) (signed_turn strength) (made_samples plan)
-    (traffic_clean is) in
+    (λ u. traffic_clean is u (4 * superframes + k)) in
     (traffic_strong is, all.1, all.2)
 
 pub noisy_traffic_signs : NoisyTrafficHasSentSigns
 noisy_traffic_signs width plan p t traffic m legs superframes k e f samples is heard near bears =
-    heard_related is heard HasSign signs_turn samples (traffic_noisy is e samples near bears)
+    heard_related is heard HasSign signs_turn samples
+    (near_traffic is e samples near bears (4 * superframes + k))
 
 -- ---- the places of power control bits
 
@@ -510,14 +517,23 @@ heard_power_bits state mask power_bits softs have =
 
 -- ---- the laws
 
-pub noisy_power_bits : NoisyPowerBitsComeBack
+pub signed_power_bits : {width : Width} {plan : CellPlan} {p : TrafficPlan} {t : Tuning}
+    {traffic : Traffic} {m : Mark} {legs : ℕ → List Leg} {superframes k : ℕ} {f : SetOneFrame}
+    (samples : List Sample) → HearsSentTraffic width plan p t traffic m superframes →
+    IsHeardAs plan p t traffic m legs superframes k f →
+    TrafficFrameHasSigns plan p samples (4 * superframes + k) →
+    power_bits_at t traffic m legs samples k ≡ sent_power_bits f
 unfolding power_bits_at
-noisy_power_bits width plan p t traffic m legs superframes k e f samples is heard near bears =
+signed_power_bits {t = t} {traffic} {m} {legs} {k = k} {f} samples is heard signs =
     ap (λ (all : List (List ℤ)). map (power_bit all) (places 16))
     (one_sums t traffic m legs k heard.pilot samples)
     ∙ heard_power_bits (frame_state traffic m k) (traffic_mask traffic.esn) f.power_bits
     (raw_softs t traffic m legs samples k)
-    (noisy_traffic_signs width plan p t traffic m legs superframes k e f samples is heard near bears).2
+    (heard_related is heard HasSign signs_turn samples signs).2
+
+pub noisy_power_bits : NoisyPowerBitsComeBack
+noisy_power_bits width plan p t traffic m legs superframes k e f samples is heard near bears =
+    signed_power_bits samples is heard (near_traffic is e samples near bears (4 * superframes + k))
 
 pub power_bits_back : PowerBitsComeBack
 power_bits_back width plan p t traffic m legs superframes k f is heard =

@@ -57,8 +57,9 @@ pub stream_symbols : laws.StreamsShowSymbols
 stream_symbols width plan c s bits_of base k is has heard read here =
     let strength = soft_strength plan s.form c.gain in
     signed_is strength (order_of s bits_of (base + k)) (frame_softs (made_samples plan) s k)
-    (stream_related (IsSigned strength) (signed_turn strength) (made_samples plan)
-    (clean_relates plan c s.form is.lawful.pn (plan_apart width plan is.lawful) has) heard read k here)
+    (stream_related (IsSigned strength) (signed_turn strength) (made_samples plan) heard read k
+    (λ u. clean_relates plan c s.form is.lawful.pn (plan_apart width plan is.lawful) has u (base + k))
+    here)
 
 -- ---- a stream of near samples
 
@@ -67,10 +68,10 @@ pub noisy_shown : {width : Width} {plan : CellPlan} {c : Carrier} {s : StreamOf 
     Contains (carriers plan) c → IsHeardBy plan c s base → AreReadBy c s bits_of base →
     IsNear e samples (made_samples plan) → Bears plan c.gain e →
     IsShown plan.link.samples samples s bits_of base
-noisy_shown {width} {plan} {c} {s} e samples is has heard read near bears =
+noisy_shown {width} {plan} {c} {s} {base = base} e samples is has heard read near bears =
     heard_shown samples
-    (noisy_relates plan c s.form e samples is.lawful.pn (plan_apart width plan is.lawful) has near
-    bears)
+    (λ k u. noisy_relates plan c s.form e samples is.lawful.pn (plan_apart width plan is.lawful) has
+    near bears u (base + k))
     heard read
 
 pub noisy_streams : NoisyStreamsShowSymbols

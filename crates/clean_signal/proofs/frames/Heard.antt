@@ -10,7 +10,7 @@ use Rattle.clean_signal.proofs.Common.{IsOnlyBest, IsWholeChannel, scrambled_wit
 use Rattle.clean_signal.proofs.Common.{if◌then◌else◌, cases_eq, StreamOf, Channel, flat_map-zero}
 use Rattle.clean_signal.proofs.frames.Scores.{ShowCodeword, shown_codeword_alone, shown_codeword_own, silent_own, frame_at, length-before}
 use Rattle.clean_signal.proofs.frames.Scores.{sent_as_one}
-use Rattle.clean_signal.proofs.noise.Near.{Relates, Turns, signs_turn, unscrambled_related, zipped_frames}
+use Rattle.clean_signal.proofs.noise.Near.{Turns, signs_turn, unscrambled_related, zipped_frames}
 use Rattle.clean_signal.proofs.frames.Times.{room_alone}
 
 pub record IsInSpan (P : ℕ → Bool) (k first frames : ℕ) : Type 0 where
@@ -230,14 +230,20 @@ heard_frame plan c s base k heard here = record {
   begins = heard_begins s.form plan.link.start s.first c.first base k heard.begins;
 }
 
+-- one frame of the channel stands so to the symbols that the channel sends in it
+abbrev pub FrameRelates : (Bool → ℤ → Type 0) → CellPlan → Carrier → Form → List Sample → ℕ → Type 0
+FrameRelates R plan c form samples frame = (u : ℕ) → IsFrameOf plan c form u frame →
+    length (c.symbols frame) ≡ symbols form →
+    AllZip R (c.symbols frame) (softs samples (path_finger plan c.row ∷ []) form u)
+
 module _ (R : Bool → ℤ → Type 0) (turns : Turns R) {plan : CellPlan} {c : Carrier} {s : StreamOf Channel}
-    {bits_of : ℕ → List Bool} {base : ℕ} (samples : List Sample)
-    (relates : Relates R plan c s.form samples) (heard : IsHeardBy plan c s base)
+    {bits_of : ℕ → List Bool} {base : ℕ} (samples : List Sample) (heard : IsHeardBy plan c s base)
     (read : AreReadBy c s bits_of base) where
   -- its descrambled soft values stand to the symbols before scrambling as the raw ones to those sent
-  pub stream_related : (k : ℕ) → is_in_file plan.link.samples s k ≡ true →
+  pub stream_related : (k : ℕ) → FrameRelates R plan c s.form samples (base + k) →
+      is_in_file plan.link.samples s k ≡ true →
       AllZip R (order_of s bits_of (base + k)) (frame_softs samples s k)
-  stream_related k here =
+  stream_related k relates here =
       let bits = s.scrambling k in
       let code = continued_symbols bits_of (base + k) in
       let order = sent s.channel.shape s.channel.repeats code in
@@ -252,13 +258,14 @@ module _ (R : Bool → ℤ → Type 0) (turns : Turns R) {plan : CellPlan} {c : 
       (subst (λ (fs : List Finger). AllZip R (scrambled_with bits order) (softs samples fs s.form u))
       (sym heard.alone)
       (subst (λ (xs : List Bool). AllZip R xs (softs samples (path_finger plan c.row ∷ []) s.form u))
-      (read.sent k) (relates u (base + k) (heard_frame plan c s base k heard here) all)))
+      (read.sent k) (relates u (heard_frame plan c s base k heard here) all)))
 
 pub heard_shown : {plan : CellPlan} {c : Carrier} {s : StreamOf Channel} {bits_of : ℕ → List Bool} {base : ℕ}
-    (samples : List Sample) → Relates HasSign plan c s.form samples → IsHeardBy plan c s base →
+    (samples : List Sample) → ((k : ℕ) → FrameRelates HasSign plan c s.form samples (base + k)) →
+    IsHeardBy plan c s base →
     AreReadBy c s bits_of base → IsShown plan.link.samples samples s bits_of base
 heard_shown samples relates heard read = record {
   whole = read.whole;
   each = read.each;
-  shown = stream_related HasSign signs_turn samples relates heard read;
+  shown = λ k here. stream_related HasSign signs_turn samples heard read k (relates k) here;
 }

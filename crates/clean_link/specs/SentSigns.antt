@@ -1,0 +1,72 @@
+-- Soft values with the signs that a cell sends, in a file of any origin, and a mark that is the
+-- cell's.
+use Rattle.std.specs.Prelude.{◌≡◌, ℕ, ◌+◌, ◌*◌, List, [], ◌∷◌, length, pos, replicate, None, Option}
+use Rattle.std.specs.Prelude.{Some}
+use Rattle.cell_plan.specs.Signal.{sync_carrier, paging_carrier, traffic_carrier}
+use Rattle.clean_link.specs.CleanLink.{IsOnPath, IsTrueMark}
+use Rattle.clean_link.specs.Common.{CellPlan, PagingPlan, SyncPlan, TrafficPlan, Carrier, Data}
+use Rattle.clean_link.specs.Common.{IsReceivable, Mark, Sample, softs, Tuning, Width, mark}
+use Rattle.clean_signal.specs.Common.{symbols, Form, HaveSigns}
+use Rattle.clean_signal.specs.Signals.{path_finger, IsFrameAt, IsFrameOf}
+use Rattle.rake_finger.specs.declared.form.Form.TheVariants.{Sync}
+
+-- ---- soft values with the sent signs
+
+-- The soft values of frame `frame` of a channel have the signs of the symbols that the channel
+-- sends in it, and none is 0: those that one finger on the cell's path finds on the channel's row,
+-- not descrambled, where the frame lies in the file. A traffic frame's symbols are those that are
+-- sent, power control bits among them. Nothing else is asked of the samples, so it doesn't matter
+-- what noise, other channels, cells and paths they hold.
+abbrev pub FrameHasSigns : CellPlan → Carrier → Form → List Sample → ℕ → Type 0
+FrameHasSigns plan c form samples frame = (u : ℕ) → IsFrameOf plan c form u frame →
+    length (c.symbols frame) ≡ symbols form →
+    HaveSigns (c.symbols frame) (softs samples (path_finger plan c.row ∷ []) form u)
+
+-- each frame of the sync channel
+abbrev pub SyncHasSigns : CellPlan → SyncPlan → List Sample → Type 0
+SyncHasSigns plan sync samples =
+    (frame : ℕ) → FrameHasSigns plan (sync_carrier plan sync) Sync samples frame
+
+-- a paging channel's frames have 24,576 chips from local chip 0 on, so four are a superframe
+abbrev pub PagingFrameHasSigns : CellPlan → PagingPlan → List Sample → ℕ → Type 0
+PagingFrameHasSigns plan p samples = FrameHasSigns plan (paging_carrier plan p) Data samples
+
+-- and so are four of a traffic channel's
+abbrev pub TrafficFrameHasSigns : CellPlan → TrafficPlan → List Sample → ℕ → Type 0
+TrafficFrameHasSigns plan p samples = FrameHasSigns plan (traffic_carrier plan p) Data samples
+
+-- Each frame is so from a mark on, which is so many superframes after local chip 0, where one is
+-- set.
+abbrev pub FromMark : (ℕ → Type 0) → Option ℕ → Type 0
+FromMark Is at = (superframes k : ℕ) → at ≡ Some superframes → Is (4 * superframes + k)
+
+-- ---- a file, whatever its origin
+
+-- The samples are as many as those of a cell that can be received. Each frame of its sync channel
+-- has the sent signs, and where the cell sends none, the soft values of the sync channel's row are
+-- 0.
+pub record HasSyncSigns (width : Width) (plan : CellPlan) (samples : List Sample) : Type 0 where
+  pub receivable : IsReceivable width plan
+  pub long : length samples ≡ plan.link.samples
+  pub signs : (sync : SyncPlan) → plan.sync ≡ Some sync → SyncHasSigns plan sync samples
+  pub silent : plan.sync ≡ None → (u : ℕ) → IsFrameAt plan Sync u →
+      softs samples (path_finger plan 32 ∷ []) Sync u ≡ replicate 128 (pos 0)
+
+-- A mark is the cell's: it is at the start of this superframe, its time and its long-code state are
+-- the cell's there, and its PRAT is the sync message's.
+pub record IsCellMark (plan : CellPlan) (m : Mark) (superframes : ℕ) : Type 0 where
+  pub marked : IsTrueMark plan m superframes
+  pub sync : SyncPlan
+  pub sends : plan.sync ≡ Some sync
+  pub rate : m.prat ≡ sync.message.prat
+
+-- a mark that may be set is the cell's, after this many superframes
+abbrev pub MarkIsAt : CellPlan → Option Mark → Option ℕ → Type 0
+MarkIsAt plan None at = at ≡ None
+MarkIsAt plan (Some m) at =
+    (superframes : ℕ) × (at ≡ Some superframes) × IsCellMark plan m superframes
+
+-- so is the mark that these samples set for each handset on the cell's path
+abbrev pub MarksAreAt : CellPlan → List Sample → Option ℕ → Type 0
+MarksAreAt plan samples at =
+    (t : Tuning) → IsOnPath plan t → MarkIsAt plan (mark t samples plan.link.samples) at

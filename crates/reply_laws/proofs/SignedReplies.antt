@@ -1,0 +1,214 @@
+-- What is owed of a file of any origin comes back by the signs of its soft values.
+use Rattle.reply_laws.proofs.Common.{◌≤◌, ◌≡◌, ℕ, List, [], ◌∷◌, length, take, map, refl, sym, ap, ◌∙◌, subst, Option, None, Some, Ok, Err}
+use Rattle.reply_laws.proofs.Common.{Contains, Sample, Width, Header, CellPlan, TrafficPlan, Traffic, IsOnPath, Tuning, Mark, mark}
+use Rattle.reply_laws.proofs.Common.{SendsSetOne, SendsSetTwo, TunedText, Listed, RateSetTwo, traffic_channel, Job, IsSampleFile, Status}
+use Rattle.reply_laws.proofs.Common.{IsReply, Reply, IsLineOfSetOne, IsLineOfSetTwo, IsSentReply, OwesTheFrames, told_with_sync, Slots}
+use Rattle.reply_laws.proofs.Common.{FromMark, HasSyncSigns, MarkIsAt, MarksAreAt, TrafficFrameHasSigns, IsFileOnPath, IsReplyFrom}
+use Rattle.reply_laws.proofs.Common.{SignedRepliesComeBack, channels_by_signs, no_event_by_signs, all_by_signs, tells_the_mark, kept_by}
+use Rattle.reply_laws.proofs.Common.{run_text, events, settings_for, tuning_for, end_when, clean_end, slot_texts_back, slots_after, energy}
+use Rattle.reply_laws.proofs.Common.{best_phase, near_deltas, one_near, written_of_slots, Paging, tuned_text}
+use Rattle.reply_laws.proofs.Common.{arith, suc}
+use Rattle.std.specs.Prelude.{is_some, nat_lt}
+use Rattle.std.proofs.lemmas.Bool.{lt-ltb}
+use Rattle.cell_plan.specs.Transmitter.{phase_at}
+use Rattle.cell_plan.specs.declared.plan.SyncPlan.{SyncPlan}
+use Rattle.clean_frames.specs.WholeSendings.{told_by_first, whole_sendings}
+use Rattle.clean_link.specs.CleanLink.{events_of_channel, sending_event, sync_sent}
+use Rattle.clean_link.specs.SentEvents.{sent_events}
+use Rattle.heard_events.specs.declared.event.Event.{Event}
+use Rattle.owed_replies.proofs.BorneFiles.{IsBorneFile}
+use Rattle.owed_replies.proofs.Replies.{one_reply}
+use Rattle.owed_replies.proofs.TuningLaw.{near_long, own_delta}
+use Rattle.reply_laws.proofs.Owed.{follow_owes, idle_owes, list_owes, rate2_owes}
+use Rattle.reply_laws.proofs.SentLines.{SignedLinesComeBack, all_lines, listed_signed, set_two_signed}
+use Rattle.reply_laws.specs.SignedReplies as laws
+use Rattle.command_line.specs.declared.job.Job.TheVariants as jobs
+
+-- ---- how a run ends
+
+-- a mark is set just where it is told
+set_at : (plan : CellPlan) (set : Option Mark) (at : Option ℕ) → MarkIsAt plan set at →
+    is_some set ≡ is_some at
+set_at plan None at none = ap (λ (o : Option ℕ). is_some o) (sym none)
+set_at plan (Some m) at (superframes, told, cell) = ap (λ (o : Option ℕ). is_some o) (sym told)
+
+-- and the first whole transmission tells one where there is one
+told_some : (plan : CellPlan) (sync : Option SyncPlan) →
+    is_some (told_with_sync plan sync) ≡ nat_lt 0 (length (events_of_channel plan sync))
+told_some plan None = refl
+told_some plan (Some sync) = by_sendings (whole_sendings plan sync.message)
+  where
+    by_sendings : (sendings : List ℕ) → is_some (told_by_first plan sync.message sendings)
+        ≡ nat_lt 0 (length (map (sending_event plan sync.message) sendings))
+    by_sendings [] = refl
+    by_sendings (sending ∷ sendings) =
+        sym (lt-ltb 0 (suc (length (map (sending_event plan sync.message) sendings))) (omega arith))
+
+pub told_end : (plan : CellPlan) → end_when (is_some (told_with_sync plan plan.sync)) ≡ clean_end plan
+unfolding sync_sent
+told_end plan = ap end_when (told_some plan plan.sync)
+
+-- ---- a handset that hears such a file
+
+-- a file that is near to what a cell sends is one
+pub borne_on_path : {e : ℕ} {bytes : List ℕ} {width : Width} {plan : CellPlan} {span fingers : ℕ}
+    {header : Header} {samples : List Sample} → IsSampleFile bytes header samples →
+    span ≤ length samples → IsBorneFile e width plan span fingers header samples →
+    IsFileOnPath bytes width plan span fingers header samples
+borne_on_path {e} {width = width} {plan} {span} {fingers} {header} {samples} file enough borne = record {
+  file = file;
+  enough = enough;
+  receivable = borne.near.receivable;
+  long = near_long e width plan span fingers header samples borne.near;
+  checks_of_30 = borne.near.checks_of_30;
+  checks_of_16 = borne.near.checks_of_16;
+  found = borne.near.found;
+  alone = borne.near.alone;
+}
+
+module _ {bytes : List ℕ} {width : Width} {plan : CellPlan} {span fingers : ℕ} {header : Header}
+    {samples : List Sample} (file : IsFileOnPath bytes width plan span fingers header samples)
+    (paging : ℕ) (traffic : Option Traffic) where
+  abbrev tuning : Tuning
+  tuning = tuning_for (settings_for header fingers paging traffic) (take span samples)
+
+  on : IsOnPath plan tuning
+  on =
+      let first = take span samples in
+      record {
+        count = sym file.file.counted ∙ file.long;
+        checks_of_30 = file.checks_of_30;
+        checks_of_16 = file.checks_of_16;
+        phase = file.found;
+        alone = ap (near_deltas first (best_phase first)) file.alone ∙ own_delta first;
+      }
+
+  -- the mark of all samples
+  marked : (at : Option ℕ) → MarksAreAt plan samples at →
+      MarkIsAt plan (mark tuning samples (length samples)) at
+  marked at marks =
+      subst (λ (n : ℕ). MarkIsAt plan (mark tuning samples n) at) (sym file.long) (marks tuning on)
+
+  end_at : (at : Option ℕ) → MarksAreAt plan samples at →
+      end_when (is_some (mark tuning samples (length samples))) ≡ end_when (is_some at)
+  end_at at marks = ap end_when (set_at plan _ at (marked at marks))
+
+-- ---- all channels
+
+-- The one reply that is owed is the text of the handset's events, with the end that the mark tells.
+-- The handset is on the cell's path, so each channel comes back in these events by its signs.
+pub signed_follow : laws.SignedFollowRepliesComeBack
+signed_follow forms limits bytes width plan span workers fingers paging traffic header samples reply at file
+    marks undirected owed =
+    let t = tuning_for (settings_for header fingers paging traffic) (take span samples) in
+    let job : Job = jobs.Follow span workers fingers paging traffic limits in
+    let there = on file paging traffic in (
+      one_reply forms job bytes reply _ owed
+          (follow_owes forms span workers fingers paging traffic limits bytes header samples file.file
+          file.enough)
+          ∙ ap (λ (end : Status). Ok (run_text (kept_by limits forms) (events t samples), end))
+          (end_at file paging traffic at marks),
+      channels_by_signs width plan samples t at file.receivable file.long there (marks t there) undirected,
+    )
+
+pub signed_undirected : laws.NoHandoffIsDirectedBySigns
+signed_undirected bytes width plan span fingers paging followed header samples file is follows signs none =
+    no_event_by_signs width plan samples
+    (tuning_for (settings_for header fingers paging followed) (take span samples)) is
+    (on file paging followed) follows signs none
+
+-- a whole text and its end
+abbrev whole : List ℕ → Status → Reply
+whole text end = Ok (text, end)
+
+same_whole : (text other : List ℕ) (end last : Status) → text ≡ other → end ≡ last →
+    whole text end ≡ whole other last
+same_whole text other end last texts ends =
+    ap (whole text) ends ∙ ap (λ (t : List ℕ). whole t last) texts
+
+pub signed_whole : laws.SignedWholeRepliesComeBack
+signed_whole forms limits bytes width plan q span workers fingers header samples reply file is has signs
+    owed =
+    let t = tuning_for (settings_for header fingers q.number None) (take span samples) in
+    let job : Job = jobs.Follow span workers fingers q.number None limits in
+    one_reply forms job bytes reply _ owed
+    (follow_owes forms span workers fingers q.number None limits bytes header samples file.file
+    file.enough)
+    ∙ same_whole _ _ _ _
+    (ap (run_text (kept_by limits forms))
+    (all_by_signs width plan samples t q is (on file q.number None) refl has refl signs
+    ∙ ap (λ (phase : ℕ). sent_events plan (energy (take span samples) phase) q.number None) file.found))
+    (end_at file q.number None (told_with_sync plan plan.sync) (tells_the_mark width plan samples is)
+    ∙ told_end plan)
+
+-- ---- one channel
+
+abbrev pub rate2_job : ℕ → ℕ → ℕ → Traffic → Job
+rate2_job span workers fingers traffic =
+    jobs.Rate2 span workers fingers traffic.offset traffic.esn traffic.row
+
+abbrev pub list_job : ℕ → ℕ → ℕ → ℕ → Traffic → Job
+list_job k span workers fingers traffic =
+    jobs.List span workers fingers traffic.offset traffic.esn traffic.row k
+
+-- where a job owes the text of the channel's frames
+signed_replies : (job : ℕ → ℕ → ℕ → Traffic → Job) (form : TunedText) →
+    ((span workers fingers : ℕ) (traffic : Traffic) →
+    OwesTheFrames (job span workers fingers traffic) span fingers (traffic_channel traffic) form) →
+    (Sends : TrafficPlan → Type 0) (Is : CellPlan → TrafficPlan → ℕ → List ℕ → Type 0) →
+    SignedLinesComeBack form Sends Is → SignedRepliesComeBack job Sends Is
+signed_replies job form owes Sends Is lines forms bytes width plan p span workers fingers traffic header
+    samples reply at file marks has assigned sends owed =
+    subst
+    (IsReplyFrom plan p at
+    (λ frame line. TrafficFrameHasSigns plan p samples frame → Is plan p frame line))
+    (one_reply forms (job span workers fingers traffic) bytes _ reply
+    (owes span workers fingers traffic forms bytes header samples file.file file.enough) owed) (
+      lines width plan p (tuning file 1 None) traffic samples at file.receivable file.long
+          (on file 1 None) (marked file 1 None at marks) has assigned sends,
+      end_at file 1 None at marks,
+    )
+
+pub signed_rate2 : laws.SignedRate2RepliesComeBack
+signed_rate2 =
+    signed_replies rate2_job RateSetTwo
+    (λ span workers fingers traffic.
+    rate2_owes span workers fingers traffic.offset traffic.esn traffic.row)
+    SendsSetTwo IsLineOfSetTwo set_two_signed
+
+pub signed_list : laws.SignedListRepliesComeBack
+signed_list k least =
+    signed_replies (list_job k) (Listed k)
+    (λ span workers fingers traffic.
+    list_owes span workers fingers traffic.offset traffic.esn traffic.row k)
+    SendsSetOne IsLineOfSetOne (listed_signed k least)
+
+pub signed_idle : laws.SignedIdleRepliesComeBack
+signed_idle forms bytes width plan p span workers fingers key cycle header samples reply at file marks has
+    signs owed =
+    let job : Job = jobs.Idle span workers fingers p.number key cycle in
+    let t = tuning_for (settings_for header fingers 1 None) (take span samples) in
+    let there = on file 1 None in
+    one_reply forms job bytes reply _ owed
+    (idle_owes span workers fingers p.number key cycle forms bytes header samples file.file file.enough)
+    ∙ same_whole _ _ _ _
+    (written_of_slots key cycle t p.number samples (one_near t plan there)
+    ∙ slot_texts_back width plan p t key cycle at samples file.receivable file.long there has
+    (marks t there) signs)
+    (end_at file 1 None at marks)
+
+-- ---- after the mark that the sync channel tells
+
+-- where each of the channel's frames has the sent signs
+pub sent_reply : (plan : CellPlan) (p : TrafficPlan) (Has : ℕ → Type 0) (Is : ℕ → List ℕ → Type 0)
+    (reply : Reply) → ((frame : ℕ) → Has frame) →
+    IsReplyFrom plan p (told_with_sync plan plan.sync) (λ frame line. Has frame → Is frame line) reply →
+    IsSentReply plan p Is reply
+sent_reply plan p Has Is (Ok given) have (text, end) =
+    (all_lines plan p Has Is have (told_with_sync plan plan.sync) given.0 text, end ∙ told_end plan)
+sent_reply plan p Has Is (Err fault) have none = none
+
+pub idle_end : (plan : CellPlan) (text : List ℕ) (reply : Reply) →
+    reply ≡ Ok (text, end_when (is_some (told_with_sync plan plan.sync))) →
+    reply ≡ Ok (text, clean_end plan)
+idle_end plan text reply is = is ∙ ap (whole text) (told_end plan)

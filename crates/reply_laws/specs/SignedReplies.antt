@@ -1,0 +1,143 @@
+-- What is owed of a file of any origin: of each channel whose soft values have the signs that a
+-- cell sends, just what the cell sends.
+use Rattle.std.specs.Prelude.{◌≡◌, ◌≤◌, ℕ, List, length, take, All, Option, None, Some, Ok, Err}
+use Rattle.std.specs.Prelude.{is_some}
+use Rattle.std.specs.List.{Contains}
+use Rattle.chip_core.specs.declared.assignment.Traffic.{Traffic}
+use Rattle.chip_core.specs.declared.sample.Sample.{Sample}
+use Rattle.chip_core.specs.declared.width.Width.{Width}
+use Rattle.cdma_io.specs.SampleFile.{IsSampleFile}
+use Rattle.cdma_io.specs.declared.header.Header.{Header}
+use Rattle.pilot_search.specs.Search.{best_phase, energy}
+use Rattle.cell_plan.specs.Stated.{IsReceivable}
+use Rattle.cell_plan.specs.Transmitter.{phase_at}
+use Rattle.cell_plan.specs.declared.plan.CellPlan.{CellPlan}
+use Rattle.cell_plan.specs.declared.plan.PagingPlan.{PagingPlan}
+use Rattle.cell_plan.specs.declared.plan.TrafficPlan.{TrafficPlan}
+use Rattle.heard_events.specs.Events.{events}
+use Rattle.event_tap.specs.Taps.{kept_by, run_text}
+use Rattle.clean_frames.specs.SentFrames.{IsAssigned, SendsSetOne, SendsSetTwo}
+use Rattle.clean_frames.specs.WholeSendings.{told_with_sync}
+use Rattle.clean_link.specs.BySigns.{FollowedHaveSigns, HearsBySigns}
+use Rattle.clean_link.specs.CleanLink.{IsNotDirected}
+use Rattle.clean_link.specs.SentEvents.{sent_events, FollowsSent, signaling_sent}
+use Rattle.clean_link.specs.SentSigns.{FromMark, HasSyncSigns, MarksAreAt, PagingFrameHasSigns}
+use Rattle.clean_link.specs.SentSigns.{TrafficFrameHasSigns}
+use Rattle.slot_link.specs.Laws.{slots_after}
+use Rattle.command_line.specs.declared.job.Job.{Job}
+use Rattle.command_line.specs.declared.job.Job.TheVariants as jobs
+use Rattle.owed_replies.specs.Hearing.{clean_end, end_when, settings_for, tuning_for}
+use Rattle.owed_replies.specs.Replies.{IsReply, Reply}
+use Rattle.reply_laws.specs.SentLines.{IsLineOfSetOne, IsLineOfSetTwo, IsSentText}
+
+-- A sample file of as many samples as the span is or more, whatever they are, in which a handset
+-- with one finger lies on a cell's path: the cell can be received, there are as many samples as its
+-- link has, the flags are the cell's, the search finds its path, and there is one finger.
+pub record IsFileOnPath (bytes : List ℕ) (width : Width) (plan : CellPlan) (span fingers : ℕ)
+    (header : Header) (samples : List Sample) : Type 0 where
+  pub file : IsSampleFile bytes header samples
+  pub enough : span ≤ length samples
+  pub receivable : IsReceivable width plan
+  pub long : length samples ≡ plan.link.samples
+  pub checks_of_30 : header.check30 ≡ plan.cell.check30
+  pub checks_of_16 : header.check16 ≡ plan.cell.check16
+  pub found : best_phase (take span samples) ≡ phase_at plan plan.link.start
+  pub alone : fingers ≡ 1
+
+-- ---- all channels
+
+-- Where the mark is the cell's and no handoff is directed, `follow` owes of such a file what the
+-- taps make of its handset's events, in which each channel comes back by its own signs. The run
+-- ends well where a mark is set.
+abbrev pub SignedFollowRepliesComeBack : Type 0
+SignedFollowRepliesComeBack =
+    (forms limits bytes : List ℕ) (width : Width) (plan : CellPlan)
+    (span workers fingers paging : ℕ) (traffic : Option Traffic) (header : Header)
+    (samples : List Sample) (reply : Reply) (at : Option ℕ) →
+    IsFileOnPath bytes width plan span fingers header samples → MarksAreAt plan samples at →
+    let t = tuning_for (settings_for header fingers paging traffic) (take span samples) in
+    All IsNotDirected (events t samples) →
+    IsReply forms (jobs.Follow span workers fingers paging traffic limits) bytes reply →
+    (reply ≡ Ok (run_text (kept_by limits forms) (events t samples), end_when (is_some at)))
+    × HearsBySigns width plan samples at paging traffic (events t samples)
+
+-- No handoff is directed where the sync channel has the sent signs, and the handset follows no
+-- traffic channel, or one that has them, each of whose frames from the mark on is distinct, and no
+-- message that is sent on it directs one.
+abbrev pub NoHandoffIsDirectedBySigns : Type 0
+NoHandoffIsDirectedBySigns =
+    (bytes : List ℕ) (width : Width) (plan : CellPlan) (span fingers paging : ℕ)
+    (followed : Option Traffic) (header : Header) (samples : List Sample) →
+    IsFileOnPath bytes width plan span fingers header samples → HasSyncSigns width plan samples →
+    FollowsSent plan followed → FollowedHaveSigns plan samples followed →
+    All IsNotDirected (signaling_sent plan followed) →
+    All IsNotDirected
+    (events (tuning_for (settings_for header fingers paging followed) (take span samples)) samples)
+
+-- What `follow` owes where no traffic channel is followed: the whole text of the pilot at the
+-- cell's phase, of all whole transmissions, and of all whole pages of the paging channel that is
+-- followed.
+abbrev pub IsWholeReply : List ℕ → List ℕ → CellPlan → ℕ → ℕ → List Sample → Reply → Type 0
+IsWholeReply forms limits plan span paging samples reply =
+    let own = energy (take span samples) (phase_at plan plan.link.start) in
+    reply ≡ Ok (run_text (kept_by limits forms) (sent_events plan own paging None), clean_end plan)
+
+-- It owes that of such a file where the sync channel and that paging channel have the sent signs.
+abbrev pub SignedWholeRepliesComeBack : Type 0
+SignedWholeRepliesComeBack =
+    (forms limits bytes : List ℕ) (width : Width) (plan : CellPlan) (q : PagingPlan)
+    (span workers fingers : ℕ) (header : Header) (samples : List Sample) (reply : Reply) →
+    IsFileOnPath bytes width plan span fingers header samples → HasSyncSigns width plan samples →
+    Contains plan.paging q →
+    FromMark (PagingFrameHasSigns plan q samples) (told_with_sync plan plan.sync) →
+    IsReply forms (jobs.Follow span workers fingers q.number None limits) bytes reply →
+    IsWholeReply forms limits plan span q.number samples reply
+
+-- ---- one channel
+
+-- a whole text that has one line for each frame after a mark, where one is set, and the end that it
+-- tells
+abbrev pub IsReplyFrom : CellPlan → TrafficPlan → Option ℕ → (ℕ → List ℕ → Type 0) → Reply → Type 0
+IsReplyFrom plan p at Is (Ok whole) =
+    IsSentText plan p Is at whole.0 × (whole.1 ≡ end_when (is_some at))
+IsReplyFrom plan p at Is (Err end) = ⊥
+
+-- Of a traffic channel that the cell sends a job owes one line for each frame after the cell's
+-- mark, and the line of each frame with the sent signs is that of what is sent, whatever the others
+-- are.
+abbrev pub SignedRepliesComeBack : (ℕ → ℕ → ℕ → Traffic → Job) → (TrafficPlan → Type 0) →
+    (CellPlan → TrafficPlan → ℕ → List ℕ → Type 0) → Type 0
+SignedRepliesComeBack job Sends Is = (forms bytes : List ℕ) (width : Width)
+    (plan : CellPlan) (p : TrafficPlan) (span workers fingers : ℕ) (traffic : Traffic)
+    (header : Header) (samples : List Sample) (reply : Reply) (at : Option ℕ) →
+    IsFileOnPath bytes width plan span fingers header samples → MarksAreAt plan samples at →
+    Contains plan.traffic p → IsAssigned p traffic → Sends p →
+    IsReply forms (job span workers fingers traffic) bytes reply →
+    IsReplyFrom plan p at
+    (λ frame line. TrafficFrameHasSigns plan p samples frame → Is plan p frame line) reply
+
+-- So does `rate2` of a channel of rate set 2,
+abbrev pub SignedRate2RepliesComeBack : Type 0
+SignedRate2RepliesComeBack = SignedRepliesComeBack
+    (λ span workers fingers traffic.
+    jobs.Rate2 span workers fingers traffic.offset traffic.esn traffic.row) SendsSetTwo
+    IsLineOfSetTwo
+
+-- and `list` of a channel of rate set 1, with any number of codewords of a rate from 1 on.
+abbrev pub SignedListRepliesComeBack : Type 0
+SignedListRepliesComeBack = (k : ℕ) → 1 ≤ k → SignedRepliesComeBack
+    (λ span workers fingers traffic.
+    jobs.List span workers fingers traffic.offset traffic.esn traffic.row k) SendsSetOne
+    IsLineOfSetOne
+
+-- `idle` owes of a paging channel that the cell sends just the lines of its slots after the cell's
+-- mark, where each of its frames from there on has the sent signs.
+abbrev pub SignedIdleRepliesComeBack : Type 0
+SignedIdleRepliesComeBack =
+    (forms bytes : List ℕ) (width : Width) (plan : CellPlan) (p : PagingPlan)
+    (span workers fingers key cycle : ℕ) (header : Header) (samples : List Sample)
+    (reply : Reply) (at : Option ℕ) →
+    IsFileOnPath bytes width plan span fingers header samples → MarksAreAt plan samples at →
+    Contains plan.paging p → FromMark (PagingFrameHasSigns plan p samples) at →
+    IsReply forms (jobs.Idle span workers fingers p.number key cycle) bytes reply →
+    reply ≡ Ok (slots_after key cycle plan p at plan.sync, end_when (is_some at))
