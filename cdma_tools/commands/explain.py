@@ -33,6 +33,7 @@ import numpy as np
 from numpy.typing import NDArray
 
 from cdma_tools.arguments import Parser, whole_within
+from cdma_tools.captures import read_whole
 from cdma_tools.errors import Refused
 from cdma_tools.explaining.frame_steps import (
     NoFrame,
@@ -45,18 +46,15 @@ from cdma_tools.explaining.frame_steps import (
     traffic_steps,
 )
 from cdma_tools.plots import NEEDED, picture_of
-from cdma_tools.sample_header import MOST_CHIPS, Header
 from cdma_tools.writing import STANDARD
 from model.bits import text_of_bits
-from model.files import BadFile, Capture, read_capture
+from model.files import Capture
 from model.handset import Assigned
 
 WIDTH = 79
 COLUMNS = 64
 MOST_PATHS = 3
 MOST_SYMBOLS = 4
-MOST_BYTES = max(Header(version, 0, count).file_bytes for version, count in MOST_CHIPS.items())
-"""The bytes of the longest sample file."""
 LONGEST_NUMBER = 42
 """The most bits of a field that is written as a number: those of LC_STATE."""
 MOST_TEXT = 52
@@ -242,22 +240,11 @@ def drawn(steps: Steps, path: str) -> None:
     draw(steps, path)
 
 
-def read(options: argparse.Namespace) -> Capture:
-    """The samples of the file."""
-    with open(options.file, "rb") as file:
-        capture = read_capture(file.read(MOST_BYTES + 1), options.span)  # of what is longer, one byte more is enough
-    if capture.end:
-        raise capture.end
-    return capture
-
-
 def main(arguments: list[str] | None = None) -> int:
     """Runs the tool, and answers its exit status."""
     options = checked(arguments)
     try:
-        steps = steps_of(read(options), options)
-    except BadFile as why:
-        raise Refused(f"{options.file}: bad file: {why}") from None
+        steps = steps_of(read_whole(options.file, options.span), options)
     except NoFrame as why:
         raise Refused(f"{options.file}: {why}") from None
     if options.picture:
