@@ -1,13 +1,16 @@
 """How much noise a cell's channels bear, and noise that is as bad as it can be (docs/LINK.md, "A link with noise")."""
 
+import math
 from dataclasses import replace
-from typing import Any
+from typing import Any, NamedTuple
 
 import numpy as np
 from numpy.typing import NDArray
 
-from model.cell import samples
+from model.cell import OFFSET_STEP, samples
+from model.codes import PERIOD
 from model.script import PILOT_ROW, SYNC_ROW, Cell
+from model.search import energies
 from model.words import read_words
 
 
@@ -35,6 +38,38 @@ def margin(cell: Cell, gain: int) -> int | None:
         middle = (least + beyond) // 2
         least, beyond = (middle, beyond) if bears(cell, gain, middle) else (least, middle)
     return least
+
+
+class Roots(NamedTuple):
+    """Roots of the energies of a cell's `span` clean samples: that of the path's own phase, rounded down, and the
+    greatest one of all other phases, rounded up."""
+
+    own: int
+    others: int
+    span: int
+
+    def margin(self) -> int | None:
+        """Returns the greatest noise through which the search finds the path; None if it bears not even none.
+
+        Noise of the size e changes a root by at most 2 e for each sample, so that of the path stays greater than all
+        others if others + 4 e span < own.
+        """
+        apart = self.own - self.others - 1
+        return apart // (4 * self.span) if apart >= 0 else None
+
+
+def own_phase(cell: Cell) -> int:
+    """Returns the phase of the code at which the cell's path stands in its samples."""
+    return (cell.start - OFFSET_STEP * cell.pn) % PERIOD
+
+
+def search_roots(cell: Cell, span: int) -> Roots:
+    """Returns the roots of the energies of the cell's first `span` samples, or of all of them if it sends fewer."""
+    clean = np.concatenate(list(samples(replace(cell, samples=min(span, cell.samples)))))
+    found = energies(clean)
+    own, others = int(found[own_phase(cell)]), int(np.delete(found, own_phase(cell)).max())
+    root = math.isqrt(others)
+    return Roots(math.isqrt(own), root + (root * root < others), len(clean))
 
 
 def rows_heard(words: list[str]) -> list[int]:

@@ -1,92 +1,144 @@
-"""Says how much noise each channel of a script's cell bears, whatever the noise is.
+"""Reports how much noise the channels of a script's cell and the search for it can take, whatever the noise is.
 
-SCRIPT is the script of a cell, as `make` takes it (docs/FORMATS.md), or - for standard input. Where each part, I and Q, of
-each sample differs by at most a channel's margin from what the cell sends, no symbol of the channel is turned, whatever the
-noise is. Where the sync channel bears it too, the search finds the cell and no handoff is directed, what the channel sends
-comes back: that is proved (docs/PROOFS.md). Another cell, another path of the same cell and rounding are such noise too
-(docs/LINK.md, "A link with noise").
+SCRIPT is the script of a cell, as `make` takes it (docs/FORMATS.md), or - for standard input. If each part, I and Q,
+of each sample differs by at most a channel's margin from what the cell sends, no symbol of the channel is turned,
+whatever the noise is. If the search and the sync channel bear that noise too, and no handoff is directed, everything
+that the channel sends comes back over one finger: that is proved (docs/PROOFS.md). Another cell, another path of the
+same cell and rounding are such noise too (docs/LINK.md, "A link with noise").
 
-    channel      its kind, and its Walsh row where it isn't the sync channel
+    channel      search, sync, or the kind of the channel and its Walsh row; the search depends on the pilot
     gain         as in the script
     amplitude    the root mean square of what it adds to a sample's I or Q: the gain times the size of the link's factor
     margin       the greatest noise that is borne, in the same units
     of channel   the margin's share of that amplitude
     of signal    the margin's share of the root mean square of all that the cell sends
 
-COMMAND and its arguments, as those of `cdma_replay`, name the channels that are meant: the sync channel, which every one of
-follow, rate2, list and idle needs, the paging channel of --paging, and the traffic channel of --row. All channels of the
-script are meant where no command is given. The last line has the margin of all that are meant, which is the least.
+The search's margin follows from the energies of the cell's clean samples at all phases, over the first --span samples.
+
+COMMAND and its arguments, as those of `cdma_replay`, name the channels that are meant: the sync channel, which each of
+follow, rate2, list and idle needs, the paging channel of --paging, and the traffic channel of --row. Its --span is
+taken too. Without a command, all channels of the script are meant. The last line has the least margin of all rows.
+
+With --file FILE, the tool reports which frames of a sample file come back in any case. FILE may have any origin: noise
+of any size, other cells, other paths, a radio. It must have as many samples as the script's cell sends, the script's
+flags, and the cell's phase as the best one of the search. A frame is covered if each of its soft values, as one finger
+reads it, has the sign that was sent. Whatever the other channels do, a channel is heard as it was sent if all of its
+frames are covered, and a frame of a traffic channel if it is covered. That is proved too.
+
+    channel      sync, or the kind of the channel and its Walsh row
+    first        the sample at which the first of the frames begins
+    frames       those of sync that lie in the file, and those of other channels that do from the mark on
+    covered      how many of them are covered
+    least        the least soft value of all of them, times the sign that was sent: above 0 if all are covered
 
     tools/margin examples/second_of_paging.script
+    tools/margin --span 4096 examples/lesson.script
     tools/margin examples/call.script follow --paging 1 --esn 00c0ffee --row 12
     tools/margin --json - < examples/call.script
+    tools/margin --file noisy.is95 examples/second_of_paging.script follow
 
-Exit status: 0 told, 1 the script can't be read, 2 wrong arguments, no script, a channel that the script doesn't send, or one
-whose margin is 0.
+Exit status: 0 reported, 1 the script or the file can't be read, 2 wrong arguments, no script, no sample file, a channel
+that the script doesn't send, a margin of 0, the search's or a channel's, or a file and a script that don't belong
+together.
 """
 
 import argparse
 import dataclasses
 import json
 import sys
+from collections.abc import Sequence
 
-from cdma_tools.arguments import Parser
+from cdma_tools.arguments import Parser, Within, whole_within
+from cdma_tools.captures import read_whole
 from cdma_tools.errors import Refused, WrongArguments
-from cdma_tools.margins import Margin, margins
+from cdma_tools.margins import Margin, margins, name_of, rows_sent, search_margin
 from cdma_tools.scripts import SYNC_ROW, Script, read_script
+from cdma_tools.signs import Signs, signs
+from model.handset import Mark
+from model.script import BadScript, Cell
+from model.script import read_script as read_cell
 
 MOST_BYTES = 1_048_576
 FIRST_PAGING = 1
-LAST_PAGING, LAST_ROW = 7, 63
 HEARING = {"follow": ("paging", "row"), "rate2": ("row",), "list": ("row",), "idle": ("paging",)}
 NEEDS_ROW = ("rate2", "list")
-MOST_ROWS = {"paging": LAST_PAGING, "row": LAST_ROW}
+ROWS = {"paging": whole_within(1, 7), "row": whole_within(1, 63)}
+SPAN, DEFAULT_SPAN = whole_within(64, 32_768), 2_048
+FINGERS = whole_within(1, 3)
+UNMARKED = "no message sets the cell's mark, so no frame of a paging or traffic channel is covered\n"
 
 
 def parser() -> argparse.ArgumentParser:
-    """The arguments of the command line."""
+    """Returns the parser of the command line."""
     arguments = Parser("margin", __doc__)
     arguments.add_argument("script", metavar="SCRIPT", help="the script of a cell, - for standard input")
-    arguments.add_argument("command", nargs=argparse.REMAINDER, metavar="COMMAND ..", help="what hears the cell, as cdma_replay's")
-    arguments.add_argument("--json", action="store_true", help="an object a channel, one a line, in place of the table")
+    arguments.add_argument(
+        "command", nargs=argparse.REMAINDER, metavar="COMMAND ..", help="what hears the cell, as cdma_replay's"
+    )
+    arguments.add_argument("--file", metavar="FILE", help="report which frames of this sample file are covered instead")
+    arguments.add_argument("--json", action="store_true", help="an object for each row, a line each, not the table")
+    span = f"samples that the search takes, default {DEFAULT_SPAN:,}"
+    arguments.add_argument("--span", type=SPAN, default=DEFAULT_SPAN, metavar="N", help=span)
     return arguments
 
 
-def row_of(name: str, value: str) -> int:
-    """The Walsh row that the value of --paging or --row names; Refused where it names none."""
-    if not value.isdecimal() or not 1 <= int(value) <= MOST_ROWS[name]:
-        raise Refused(f"--{name} is 1 to {MOST_ROWS[name]}, not {value!r}")
-    return int(value)
+@dataclasses.dataclass(frozen=True)
+class Heard:
+    """What a command of the program hears, and how: the span of its search, the Walsh rows of its channels but the
+    pilot's, and the number of its fingers.
+
+    `rows` is None if no command is given: all channels are meant.
+    """
+
+    span: int
+    rows: list[int] | None = None
+    fingers: int = 1
 
 
-def rows_meant(command: list[str], script: Script) -> list[int] | None:
-    """The Walsh rows of the channels that a command of the program hears, the pilot's apart; None where none is given.
+def options_of(command: list[str]) -> dict[str, str]:
+    """Returns the values of a command's options by their names; Refused if one has no value."""
+    found: dict[str, str] = {}
+    words = command[1:]
+    while words:
+        option, sign, value = words.pop(0).partition("=")
+        if not option.startswith("--") or not (sign or words):
+            raise Refused(f"{option!r} is no option with a value")
+        found[option[2:]] = value if sign else words.pop(0)
+    return found
 
-    Other options than those that name a channel are passed over with their values. The paging channel that is followed where
-    none is named is meant if it is sent. Refused where the command hears no cell.
+
+def read_option(name: str, kind: Within, value: str) -> int:
+    """Returns the number of an option; Refused if its value isn't one within its bounds."""
+    try:
+        return int(kind(value))
+    except argparse.ArgumentTypeError:
+        raise Refused(f"--{name} is {kind.told()}, not {value!r}") from None
+
+
+def heard_by(command: list[str], span: int, script: Script) -> Heard:
+    """Returns what a command hears of a script's cell.
+
+    Options that name neither a channel nor a span are passed over with their values. Without --paging, the first paging
+    channel is meant if it is sent. Refused if the command hears no cell.
     """
     if not command:
-        return None
-    name, options = command[0], command[1:]
+        return Heard(span)
+    name, options = command[0], options_of(command)
     if name not in HEARING:
         raise Refused(f"{name!r} isn't one of {', '.join(HEARING)}")
-    named: dict[str, int] = {}
-    while options:
-        option, sign, value = options.pop(0).partition("=")
-        if not option.startswith("--") or not (sign or options):
-            raise Refused(f"{option!r} is no option with a value")
-        value = value if sign else options.pop(0)
-        if option[2:] in HEARING[name]:
-            named[option[2:]] = row_of(option[2:], value)
+    named = {word: read_option(word, ROWS[word], options[word]) for word in HEARING[name] if word in options}
     if name in NEEDS_ROW and "row" not in named:
         raise Refused(f"{name} needs --row")
     if "paging" in HEARING[name] and "paging" not in named and FIRST_PAGING in script.paging:
         named["paging"] = FIRST_PAGING
-    return [SYNC_ROW, *named.values()]
+    if "span" in options:
+        span = read_option("span", SPAN, options["span"])
+    fingers = read_option("fingers", FINGERS, options.get("fingers", "1"))
+    return Heard(span, [SYNC_ROW, *named.values()], fingers)
 
 
 def table(found: list[Margin]) -> str:
-    """The margins as a table, with the least in its last line."""
+    """Returns the margins as a table, with the least in its last line."""
     head = f"{'channel':<12}{'gain':>7}{'amplitude':>11}{'margin':>8}{'of channel':>12}{'of signal':>11}\n"
     rows = [
         f"{one.name:<12}{one.gain:>7}{one.amplitude:>11.1f}{one.margin:>8}{one.of_channel:>12.3f}{one.of_signal:>11.3f}\n"
@@ -95,13 +147,27 @@ def table(found: list[Margin]) -> str:
     return head + "".join(rows) + f"{'all of these':<30}{min(one.margin for one in found):>8}\n"
 
 
-def objects(found: list[Margin]) -> str:
-    """The margins as JSON, an object a line."""
+def signs_table(mark: Mark | None, found: list[Signs]) -> str:
+    """Returns what is covered of a file as a table, with the mark in its last line."""
+    head = f"{'channel':<12}{'first':>10}{'frames':>8}{'covered':>9}{'least':>22}\n"
+    rows = [
+        f"{one.name:<12}{shown(one.first):>10}{one.frames:>8}{one.covered:>9}{shown(one.least):>22}\n" for one in found
+    ]
+    return head + "".join(rows) + (f"the mark is at sample {mark.sample}\n" if mark else UNMARKED)
+
+
+def shown(number: int | None) -> str:
+    """Returns a number of the table, or a dash if there is none."""
+    return "-" if number is None else str(number)
+
+
+def objects(found: Sequence[Margin | Signs]) -> str:
+    """Returns the rows as JSON, an object a line."""
     return "".join(json.dumps(dataclasses.asdict(one)) + "\n" for one in found)
 
 
 def script_text(path: str, name: str) -> str:
-    """The text of a script's file; Refused where it has more bytes than a script may have, or isn't ASCII."""
+    """Returns the text of a script's file; Refused if it has more bytes than a script may have, or isn't ASCII."""
     if path == "-":
         data = sys.stdin.buffer.read(MOST_BYTES + 1)
     else:
@@ -115,24 +181,60 @@ def script_text(path: str, name: str) -> str:
         raise Refused(f"{name}: no ASCII text: no script") from None
 
 
-def told(path: str, command: list[str]) -> list[Margin]:
-    """The margins of the channels of a script that a command hears; Refused as `read_script` and `margins` refuse."""
-    name = "standard input" if path == "-" else path
-    script = read_script(script_text(path, name), name)
+def cell_of(text: str, name: str) -> Cell:
+    """Returns the cell that a script names; Refused if it names none."""
     try:
-        return margins(script, rows_meant(command, script))
+        return read_cell(text.encode("ascii"))
+    except BadScript as why:
+        raise Refused(f"{name}: bad script: {why}") from None
+
+
+def report(path: str, command: list[str], options: argparse.Namespace, is_json: bool) -> str:
+    """Returns the report on a script and what a command hears of it; Refused if there is nothing to report."""
+    name = "standard input" if path == "-" else path
+    text = script_text(path, name)
+    script, cell = read_script(text, name), cell_of(text, name)
+    heard = heard_by(command, options.span, script)
+    try:
+        names = {row: name_of(script, row) for row in rows_sent(script, heard.rows)}
+        found = [] if options.file else rows_of(script, cell, heard)
     except Refused as why:
         raise Refused(f"{name}: {why}") from None
+    if not options.file:
+        return objects(found) if is_json else table(found)
+    mark, covered = signs_in(options.file, cell, name, heard, names)
+    return objects(covered) if is_json else signs_table(mark, covered)
+
+
+def rows_of(script: Script, cell: Cell, heard: Heard) -> list[Margin]:
+    """Returns the margins of the channels that are heard, after that of the search; Refused if one bears no noise."""
+    channels = margins(script, heard.rows)
+    return [search_margin(script, cell, heard.span), *channels]
+
+
+def signs_in(
+    path: str, cell: Cell, name: str, heard: Heard, names: dict[int, str]
+) -> tuple[Mark | None, list[Signs]]:
+    """Returns the cell's mark in a file, and what is covered of the named channels; Refused if the file is foreign.
+
+    `name` is that of the cell's script.
+    """
+    if heard.fingers != 1:
+        raise Refused(f"the law is about one finger, and the command has --fingers {heard.fingers}")
+    capture = read_whole(path, heard.span)
+    try:
+        return signs(capture, cell, heard.span, names)
+    except Refused as why:
+        raise Refused(f"{path} isn't a file of {name}: {why}") from None
 
 
 def main(arguments: list[str] | None = None) -> int:
-    """Runs the tool, and answers its exit status."""
+    """Runs the tool, and returns the exit status."""
     options = parser().parse_args(arguments)
     # No command of the program has --json, so it is this tool's wherever it stands.
     command = [argument for argument in options.command if argument != "--json"]
     try:
-        found = told(options.script, command)
+        sys.stdout.write(report(options.script, command, options, options.json or command != options.command))
     except Refused as why:
         raise WrongArguments(str(why)) from None
-    sys.stdout.write(objects(found) if options.json or command != options.command else table(found))
     return 0
