@@ -13,9 +13,10 @@ from cdma_tools.conformance import cases
 from cdma_tools.errors import Refused
 from model.air import Noise, TooLoud, received
 from model.files import header_bytes, read_capture, sample_bytes
-from model.noise import margins, rows_heard, weaker
+from model.noise import margins, rows_heard, search_roots, weaker
 from model.run import WRITE_FAULT, run
 from model.script import BadScript, Cell, read_script
+from model.words import read_words
 
 HELD_IN_MEMORY = 8_000_000
 """The most samples of a file that a check takes without being told to take long ones: some seconds and 0.5 GiB."""
@@ -94,9 +95,21 @@ def farthest(data: bytes, clean: bytes) -> int:
     return int(max(abs(apart.real).max(), abs(apart.imag).max()))
 
 
+def what_bears_less(cell: Cell, words: Sequence[str], near: int) -> list[str]:
+    """Returns a line for each channel that a run hears, and for its search, that bears less noise than `near`."""
+    _, options = read_words(list(words))
+    margin_of = {f"the channel on row {row}": most for row, most in margins(cell, rows_heard(list(words))).items()}
+    margin_of["the search"] = search_roots(cell, options["span"]).margin()
+    return [
+        f"{what} bears {most}, less than near: {near}"
+        for what, most in margin_of.items()
+        if most is None or most < near
+    ]
+
+
 def near_differences(case: cases.Case, data: bytes, near: int) -> list[tuple[list[str], list[str]]]:
-    """What differs where a case says that its samples are so near to its cell's: how near they are, what each channel
-    bears, and what the model hears of the cell without noise."""
+    """What differs if a case says that its samples are so near to its cell's: how near they are, what each channel and
+    the search bear, and what the model hears of the cell without noise."""
     cell = meant_cell(case)
     clean = header_bytes(case.bits, cell.checks, cell.samples) + sample_bytes(case.bits, received(case.bits, [cell], []))
     found = []
@@ -104,9 +117,8 @@ def near_differences(case: cases.Case, data: bytes, near: int) -> list[tuple[lis
     if apart > near:
         found.append((case.words, [f"a part of a sample is {apart} from the cell's, more than near: {near}"]))
     for words in case.runs:
-        for row, most in margins(cell, rows_heard(words)).items():
-            if most is None or most < near:
-                found.append((words, [f"the channel on row {row} bears {most}, less than near: {near}"]))
+        if less := what_bears_less(cell, words, near):
+            found.append((words, less))
         said = cases.differences(case, answer_of(case, words, clean))
         found += [(words, ["without noise:", *said])] if said else []
     return found

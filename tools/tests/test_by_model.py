@@ -115,6 +115,16 @@ class Check(Folder):
             self.assertTrue(out.endswith("1 cases, 1 differ\n"))
             self.put(good)
 
+    def test_noise_that_the_search_does_not_bear(self) -> None:
+        """Noise of half of the pilot's amplitude may hide its phase, whatever the other energies are."""
+        self.put(DRAFT.replace("bits: 16\n", "bits: 16\nnear: 40\n"))
+        self.said(WRITE, "one")
+        self.assertEqual(self.said(CHECK, "--jobs", "1", "one")[:2], (0, "1 cases, 0 differ\n"))
+        self.put(self.got().replace("near: 40", "near: 50"))
+        status, out, _ = self.said(CHECK, "--jobs", "1", "one")
+        self.assertEqual(status, 1)
+        self.assertRegex(out, "the search bears 4[0-9], less than near: 50")
+
     def test_long_cases_are_left(self) -> None:
         self.put(DRAFT)
         self.said(WRITE, "one")
