@@ -16,6 +16,7 @@ ghost use Rattle.clean_signal.specs.NearFiles.{RoundingIsNoise};
 ghost use Rattle.clean_signal.specs.NoisySearch.{FoundThroughLess, NearFilesAreFound};
 ghost use Rattle.clean_signal.specs.NoisySearch.{LoudPilotsAreFoundFirst, LoudPilotsAreGreatest};
 ghost use Rattle.clean_signal.specs.NoisySearch.{LouderPilotsAreFound, LouderPlansAreFiles};
+ghost use Rattle.clean_signal.specs.NoisySearch.{LouderPilotsBearNoise};
 ghost use Rattle.clean_signal.specs.NoisySearch.{SearchBearsNoise};
 
 /// On a clean link the soft values of each frame in the file are `4 |h|^2 g0 g V C` times the signs
@@ -103,10 +104,14 @@ pub fn the_search_bears_noise()
 /// a number of at least 0 times the link and the code's chip. So no phase has more energy than the
 /// path's own, in any number of samples, and the search finds the path if that is phase 0. If the
 /// pilot is louder than all of them, the search finds the path at any phase, from sixteen samples
-/// on: no other phase of the pilot's codes has the same sixteen chips, turned or not.
+/// on: no other phase of the pilot's codes has the same sixteen chips, turned or not. Through noise
+/// it still finds it, by a span of whole sixteens, if the noise is less than a 64th of the
+/// amplitude that the pilot has to spare over the link: twice its gain less the sum of all gains,
+/// times the absolute value of the link's factor.
 pub fn loud_pilots_are_found()
     ensures greatest { LoudPilotsAreGreatest }
     ensures first { LoudPilotsAreFoundFirst }
     ensures louder { LouderPilotsAreFound }
     ensures file { LouderPlansAreFiles }
+    ensures noise { LouderPilotsBearNoise }
 {}
