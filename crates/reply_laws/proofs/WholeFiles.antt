@@ -1,7 +1,7 @@
--- Two whole files meet every premise of the laws.
+-- Whole files meet every premise of the laws.
 use Rattle.reply_laws.proofs.Common.{◌≡◌, ◌≤◌, ℕ, List, [], ◌∷◌, ◌-◌, ◌≢◌, length, map, take, refl, sym, ap, ◌∙◌, subst, arith}
 use Rattle.reply_laws.proofs.Common.{Some, None, Ok}
-use Rattle.reply_laws.proofs.Common.{All, All-nil, Sample, Sixteen, IsSampleFile, IsNotDirected, IsNoisyFile, Status}
+use Rattle.reply_laws.proofs.Common.{All, All-nil, IsReceivable, Sample, Sixteen, IsSampleFile, IsNotDirected, IsNoisyFile, Status}
 use Rattle.reply_laws.proofs.Common.{TrafficPlan}
 use Rattle.reply_laws.proofs.Common.{clean_end, end_when, is_some, mark, events, kept_by, run_text, settings_for, tuning_for, header_of}
 use Rattle.reply_laws.proofs.Common.{length-made, made_samples}
@@ -33,44 +33,67 @@ use Rattle.reply_laws.proofs.MadeLinks.{lawful_readable}
 use Rattle.reply_laws.proofs.NoisyReplies.{noisy_follow, noisy_undirected}
 use Rattle.reply_laws.proofs.Owed.{follow_owes}
 use Rattle.reply_laws.specs.LouderPilots.{HasLouderPilot}
+use Rattle.clean_signal.proofs.signal.PhasesApart.{pilots_bear}
+use Rattle.clean_signal.specs.BoundedNoise.{Bears, IsMargin}
+use Rattle.reply_laws.proofs.HeardThrough.{comes_back}
+use Rattle.reply_laws.specs.NoisyReplies.{IsHeardThrough}
+use Rattle.std.proofs.lemmas.List.Elements.{All-cons, All-head, All-tail}
+use Rattle.std.specs.Prelude.{codes}
+use Rattle.reply_laws.specs.WholeFiles.{ComesBackThroughAnyNoise, loud_cell, script_with_pilot, second_messages, second_paging, second_with}
 use Rattle.reply_laws.specs.WholeFiles.{MeetsEachPremise, MeetsEachNoisePremise, margin_bytes, second_cell}
-use Rattle.reply_laws.specs.WholeFiles.{second_event, second_file}
+use Rattle.reply_laws.specs.WholeFiles.{second_file}
 use Rattle.reply_laws.specs.WholeFiles.{second_header, second_script, second_text}
 
 -- ---- without noise
 
-named : plan_named Sixteen second_script ≡ Ok second_cell
-unfolding second_script plan_named stated_plan stated draft_after lines is_line with_line with_next
+-- both scripts
+scripts_named : (plan_named Sixteen second_script ≡ Ok second_cell)
+    × (plan_named Sixteen (script_with_pilot (codes "2000")) ≡ Ok loud_cell)
+unfolding script_with_pilot plan_named stated_plan stated draft_after lines is_line with_line with_next
     statement_in cell_in link_in pilot_in sync_in sync_behind freq_in past_freq paging_in
     stated_page_in numbers_in past_numbers script_field past length_before number_up_to digits_from
     signed_in state_in hex_from bits_in_text hex_bits decode_pairs binary is_body admits page_stage
     bits_left fill
-named = refl
+scripts_named = (refl, refl)
 
 louder : HasLouderPilot Sixteen second_script second_cell 2048
-louder = record { named = named; louder = omega arith; least = omega arith; enough = omega arith }
+louder = record {
+  named = scripts_named.0;
+  louder = omega arith;
+  least = omega arith;
+  enough = omega arith;
+}
 
-none_directed : All IsNotDirected (signaling_sent second_cell None)
+receivable : IsReceivable Sixteen second_cell
+receivable = named_receivable Sixteen second_script second_cell scripts_named.0
+
+loud_receivable : IsReceivable Sixteen loud_cell
+loud_receivable =
+    named_receivable Sixteen (script_with_pilot (codes "2000")) loud_cell scripts_named.1
+
+none_directed : (gain : ℕ) → All IsNotDirected (signaling_sent (second_with gain) None)
 unfolding signaling_sent
-none_directed = All-nil IsNotDirected
+none_directed gain = All-nil IsNotDirected
 
-abbrev ends_at : ℕ → ℕ
-ends_at sending = heard_behind 32768 1228800 (sending_ends second_cell (some_message 0) sending - 0)
+abbrev ends_at : ℕ → ℕ → ℕ
+ends_at gain sending =
+    heard_behind 32768 1228800 (sending_ends (second_with gain) (some_message 0) sending - 0)
 
-whole_are : (whole_sendings second_cell (some_message 0) ≡ 0 ∷ 1 ∷ 2 ∷ 3 ∷ [])
-    × (ends_at 0 ≡ 294848) × (ends_at 1 ≡ 589760) × (ends_at 2 ≡ 884672) × (ends_at 3 ≡ 1179584)
+whole_are : (gain : ℕ) → (whole_sendings (second_with gain) (some_message 0) ≡ 0 ∷ 1 ∷ 2 ∷ 3 ∷ [])
+    × (ends_at gain 0 ≡ 294848) × (ends_at gain 1 ≡ 589760) × (ends_at gain 2 ≡ 884672)
+    × (ends_at gain 3 ≡ 1179584)
 unfolding sync_capsule sync_body spelling capsule check_bits places binary
-whole_are = (refl, refl, refl, refl, refl)
+whole_are gain = (refl, refl, refl, refl, refl)
 
-second_sync : sync_sent second_cell ≡
-    second_event 294848 0 ∷ second_event 589760 1 ∷ second_event 884672 2 ∷ second_event 1179584 3 ∷ []
+second_sync : (gain : ℕ) → sync_sent (second_with gain) ≡ second_messages
 unfolding sync_sent
-second_sync =
-    ap (map (sending_event second_cell (some_message 0))) whole_are.0
-    ∙ rw (whole_are.1, whole_are.2, whole_are.3, whole_are.4) refl
+second_sync gain =
+    let are = whole_are gain in
+    ap (map (sending_event (second_with gain) (some_message 0))) are.0
+    ∙ rw (are.1, are.2, are.3, are.4) refl
 
-told : clean_end second_cell ≡ Done
-told = rw (second_sync) refl
+told : (gain : ℕ) → clean_end (second_with gain) ≡ Done
+told gain = rw (second_sync gain) refl
 
 no_traffic : IsFreeOf second_cell.traffic 1
 no_traffic = All-nil (λ (t : TrafficPlan). t.row ≢ 1)
@@ -86,8 +109,8 @@ module _ (forms limits : List ℕ) (workers : ℕ) where
   only : (reply : Reply) → IsReply forms job second_file reply → reply ≡ whole
   only reply owed =
       louder_follow workers 1 None limits (omega arith, omega arith) forms second_script Sixteen
-      second_cell 2048 reply louder owed no_traffic tt none_directed
-      ∙ ap (λ (end : Status). Ok (second_text forms limits, end)) told
+      second_cell 2048 reply louder owed no_traffic tt (none_directed 100)
+      ∙ ap (λ (end : Status). Ok (second_text forms limits, end)) (told 100)
 
   owed : IsReply forms job second_file whole
   owed =
@@ -106,20 +129,28 @@ pub meets_each : MeetsEachPremise
 meets_each = record {
   louder = louder;
   file = readable louder;
-  clean = clean louder 1 None tt none_directed;
+  clean = clean louder 1 None tt (none_directed 100);
   free = no_traffic;
   follows = tt;
   noisy = record {
     file = readable louder;
     enough = enough louder;
     near = plan_files Sixteen second_cell 2048 second_header
-        (named_receivable Sixteen second_script second_cell named) louder.louder louder.least
-        louder.enough refl refl;
+        receivable louder.louder louder.least louder.enough refl refl;
     sync = some_sync 0;
     sends = refl;
     bears = omega arith;
   };
-  sync = second_sync;
+  through = record {
+    receivable = receivable;
+    enough = louder.enough;
+    found = pilots_bear 0 10 3 128 Sixteen second_cell receivable refl (omega arith) (omega arith)
+        (omega arith) (omega arith);
+    sync = some_sync 0;
+    sends = refl;
+    bears = omega arith;
+  };
+  sync = second_sync 100;
   owed = λ forms limits workers reply. (
     only forms limits workers reply,
     λ same.
@@ -172,5 +203,49 @@ meets_noise = record {
         both.1.pages noisy_paging_plan (0, omega arith, refl) refl
             (less_borne cell 90 180 89 89 meets_premises.hears.bears (omega arith) (omega arith))
             ∙ pages_told,
+      );
+}
+
+-- ---- with any noise up to 89
+
+loud_margin : IsMargin loud_cell (60 ∷ 30 ∷ []) 89
+loud_margin = (
+  All-cons (λ (g : ℕ). Bears loud_cell g 89) 60 (30 ∷ []) (omega arith)
+      (All-cons (λ (g : ℕ). Bears loud_cell g 89) 30 [] (omega arith)
+      (All-nil (λ (g : ℕ). Bears loud_cell g 89))),
+  λ all.
+      let other = All-tail (λ (g : ℕ). Bears loud_cell g 90) 60 (30 ∷ []) all in
+      let more = All-head (λ (g : ℕ). Bears loud_cell g 90) 30 [] other in
+      absurd (omega (arith, more.above.above)),
+)
+
+loud_through : IsHeardThrough 89 Sixteen loud_cell 2048
+loud_through = record {
+  receivable = loud_receivable;
+  enough = omega arith;
+  found = pilots_bear 89 1910 3 128 Sixteen loud_cell loud_receivable refl (omega arith) (omega arith)
+      (omega arith) (omega arith);
+  sync = some_sync 0;
+  sends = refl;
+  bears = omega arith;
+}
+
+pub loud_comes_back : ComesBackThroughAnyNoise
+loud_comes_back = record {
+  named = scripts_named.1;
+  margin = loud_margin;
+  through = loud_through;
+  back = comes_back 89 Sixteen loud_cell 2048 loud_through;
+  follow = λ workers limits forms bytes header samples reply file owed.
+      let all = comes_back 89 Sixteen loud_cell 2048 loud_through in
+      let (heard, is, hears) = all.follow workers 1 None limits (record {
+        follows = tt;
+        bears = λ p traffic chosen. absurd (cc);
+        undirected = none_directed 2000;
+      }) forms bytes header samples reply file owed in (
+        heard,
+        is ∙ ap (λ (end : Status). Ok (run_text (kept_by limits forms) heard, end)) (told 2000),
+        hears.sync ∙ second_sync 2000,
+        hears.pages second_paging (0, omega arith, refl) refl (omega arith),
       );
 }

@@ -1,5 +1,5 @@
--- Two whole files that meet every premise of the laws: the file of a script without noise, and one
--- with noise of the size of its margin.
+-- Files that meet every premise of the laws: the file of a script without noise, one with noise of
+-- the size of its margin, and all files of a cell with noise up to its margin.
 use Rattle.std.specs.Prelude.{◌≡◌, ◌≤◌, ◌↔◌, ◌⊎◌, ◌++◌, ◌/◌, ℕ, List, [], ◌∷◌, codes, false}
 use Rattle.std.specs.Prelude.{filter, replicate}
 use Rattle.std.specs.Prelude.{None, Option, Some, Ok}
@@ -10,6 +10,7 @@ use Rattle.cell_plan.specs.Sampled.{made_samples}
 use Rattle.cell_plan.specs.Transmitter.{header_of}
 use Rattle.cell_plan.specs.declared.plan.CellPlan.{CellPlan}
 use Rattle.cell_plan.specs.declared.plan.PagingPlan.{PagingPlan}
+use Rattle.cell_script.specs.Script.{plan_named}
 use Rattle.chip_core.specs.Bits.{binary}
 use Rattle.clean_link.specs.CleanLink.{sync_sent}
 use Rattle.clean_link.specs.Common.{Plain, Sixteen, Sync, message_of, some_message, some_sync}
@@ -17,7 +18,8 @@ use Rattle.clean_link.specs.Common.{sync_capsule}
 use Rattle.clean_link.specs.HeardEach.{is_page, is_sync}
 use Rattle.clean_link.specs.NoisyFile.{cell, cell_beside, file, last_page, sync_event}
 use Rattle.clean_link.specs.NoisyFile.{sync_with}
-use Rattle.clean_link.specs.SentEvents.{FollowsSent}
+use Rattle.clean_link.specs.SentEvents.{FollowsSent, paging_sent}
+use Rattle.clean_signal.specs.BoundedNoise.{IsMargin}
 use Rattle.clean_signal.specs.WorkedCells.{cell_with}
 use Rattle.command_line.specs.declared.job.Job.TheVariants as jobs
 use Rattle.event_tap.specs.Taps.{kept_by, run_text}
@@ -28,20 +30,25 @@ use Rattle.owed_replies.specs.Make.{made_file}
 use Rattle.owed_replies.specs.Replies.{AnswersBehind, IsReply, Reply}
 use Rattle.owed_replies.specs.declared.status.Status.{Status}
 use Rattle.owed_replies.specs.declared.status.Status.TheVariants.{Done, NoMemory}
+use Rattle.reply_laws.specs.HeardThrough.{ComesBackThrough, HoldsOfNearReplies}
 use Rattle.reply_laws.specs.LouderPilots.{HasLouderPilot}
-use Rattle.reply_laws.specs.NoisyReplies.{IsNoisyFile}
+use Rattle.reply_laws.specs.NoisyReplies.{IsHeardThrough, IsNoisyFile}
 
 -- ---- without noise
 
--- the script `examples/second_of_paging.script`
-unfoldable pub second_script : List ℕ
-second_script =
+-- the script `examples/second_of_paging.script`, with this number as the pilot's gain
+unfoldable pub script_with_pilot : List ℕ → List ℕ
+script_with_pilot gain =
     codes "cell pn=511 time=1000 lc=20000000000 checks=0" ++ 10
     ∷ codes "link re=0 im=-3 start=0 samples=1228800" ++ 10
-    ∷ codes "pilot gain=100" ++ 10
+    ∷ codes "pilot gain=" ++ gain ++ 10
     ∷ codes "sync gain=30 prev=3 min=1 sid=1 nid=2 lp=13 ltm=0 daylt=0 prat=0 rest=3:00" ++ 10
     ∷ codes "paging channel=1 gain=60" ++ 10
     ∷ codes "page half 34:04ff8046c0" ++ 10 ∷ []
+
+-- the script as it is there
+abbrev pub second_script : List ℕ
+second_script = script_with_pilot (codes "100")
 
 -- its paging channel, whose page is of the type 4, with 26 bits after it
 abbrev pub second_paging : PagingPlan
@@ -51,9 +58,14 @@ second_paging = record {
   pages = record { follows = false; body = binary 34 (0x04ff8046c0 / 64) } ∷ [];
 }
 
--- the cell that it names
+-- the cell that it names, with this gain of the pilot
+abbrev pub second_with : ℕ → CellPlan
+second_with gain = record (cell_with 0 1228800 Plain (Some (some_sync 0)) (second_paging ∷ []) []) {
+  pilot = record { gain = gain };
+}
+
 abbrev pub second_cell : CellPlan
-second_cell = cell_with 0 1228800 Plain (Some (some_sync 0)) (second_paging ∷ []) []
+second_cell = second_with 100
 
 -- the header and the bytes of the file that `make` writes of it
 abbrev pub second_header : Header
@@ -67,6 +79,12 @@ abbrev pub second_event : ℕ → ℕ → Event
 second_event at sending =
     let told = message_of second_cell.cell (some_message 0) sending in
     Sync at (sync_capsule Plain told) told
+
+-- those of all whole transmissions
+abbrev pub second_messages : List Event
+second_messages =
+    second_event 294848 0 ∷ second_event 589760 1 ∷ second_event 884672 2 ∷ second_event 1179584 3
+    ∷ []
 
 -- the text that taps of these forms and limits make of all that the cell sends
 abbrev pub second_text : List ℕ → List ℕ → List ℕ
@@ -82,13 +100,12 @@ pub record MeetsEachPremise : Type 0 where
       (made_samples second_cell)
   pub free : IsFreeOf second_cell.traffic 1
   pub follows : FollowsSent second_cell None
-  -- It is a file with noise of the size 0 too.
+  -- It is a file with noise of the size 0 too, and its cell is heard through noise of the size 0.
   pub noisy : IsNoisyFile 0 second_file Sixteen second_cell 2048 1 second_header
       (made_samples second_cell)
+  pub through : IsHeardThrough 0 Sixteen second_cell 2048
   -- Four transmissions of the sync channel are whole, and tell the time.
-  pub sync : sync_sent second_cell ≡
-      second_event 294848 0 ∷ second_event 589760 1 ∷ second_event 884672 2
-      ∷ second_event 1179584 3 ∷ []
+  pub sync : sync_sent second_cell ≡ second_messages
   -- The one reply that `follow` owes is the text of all that the cell sends, and the run ends well.
   pub owed : (forms limits : List ℕ) (workers : ℕ) (reply : Reply) →
       IsReply forms (jobs.Follow 2048 workers 1 1 None limits) second_file reply ↔
@@ -124,3 +141,25 @@ pub record MeetsEachNoisePremise : Type 0 where
       × (reply ≡ Ok (run_text (kept_by limits forms) heard, Done))
       × (filter is_sync heard ≡ sync_event 294848 0 ∷ sync_event 589760 1 ∷ [])
       × (filter is_page heard ≡ replicate 4 last_page)
+
+-- ---- with any noise up to 89
+
+-- the same cell with a pilot of the gain 2,000
+abbrev pub loud_cell : CellPlan
+loud_cell = second_with 2000
+
+-- Of a script with this pilot no premise is left but that a file is near: the search finds the
+-- cell's path in each file with noise of at most 89 in I and in Q of each sample, which is all that
+-- the sync channel bears. So each command reports what the cell sends, whatever the noise is.
+pub record ComesBackThroughAnyNoise : Type 0 where
+  pub named : plan_named Sixteen (script_with_pilot (codes "2000")) ≡ Ok loud_cell
+  pub margin : IsMargin loud_cell (60 ∷ 30 ∷ []) 89
+  pub through : IsHeardThrough 89 Sixteen loud_cell 2048
+  pub back : ComesBackThrough 89 loud_cell 2048
+  -- `follow` reports just the four whole transmissions, and just the whole pages of channel 1.
+  pub follow : (workers : ℕ) (limits : List ℕ) →
+      HoldsOfNearReplies 89 loud_cell (jobs.Follow 2048 workers 1 1 None limits)
+      (λ forms samples reply. (heard : List Event)
+      × (reply ≡ Ok (run_text (kept_by limits forms) heard, Done))
+      × (filter is_sync heard ≡ second_messages)
+      × (filter is_page heard ≡ paging_sent loud_cell 1))
