@@ -78,18 +78,18 @@ level_most : (gain : ℕ) (symbol : Option Bool) → unsigned_abs (level_of gain
 level_most gain None = omega arith
 level_most gain (Some symbol) = product_most (pos gain) (sign symbol) (sign_unit symbol)
 
-amplitude_most : (chip : ℕ) (c : Carrier) → unsigned_abs (amplitude chip c) ≤ c.gain
+pub amplitude_most : (chip : ℕ) (c : Carrier) → unsigned_abs (amplitude chip c) ≤ c.gain
 amplitude_most chip c =
     let row = product_most (level chip c) (sign (walsh c.row (chip % 64))) (sign_unit _) in
     let symbol = level_most c.gain (symbol_of c chip) in
     omega (arith, row, symbol)
 
 -- the gains of channels
-abbrev gains : List Carrier → ℕ
+abbrev pub gains : List Carrier → ℕ
 gains [] = 0
 gains (c ∷ cs) = c.gain + gains cs
 
-amplitudes_most : (chip : ℕ) (cs : List Carrier) → unsigned_abs (amplitudes chip cs) ≤ gains cs
+pub amplitudes_most : (chip : ℕ) (cs : List Carrier) → unsigned_abs (amplitudes chip cs) ≤ gains cs
 amplitudes_most chip [] = omega arith
 amplitudes_most chip (c ∷ cs) =
     omega (
@@ -100,22 +100,22 @@ amplitudes_most chip (c ∷ cs) =
     )
 
 -- channels after others add their gains
-gains_append : (cs ds : List Carrier) → gains (cs ++ ds) ≡ gains cs + gains ds
+pub gains_append : (cs ds : List Carrier) → gains (cs ++ ds) ≡ gains cs + gains ds
 gains_append [] ds = omega arith
 gains_append (c ∷ cs) ds = omega (arith, gains_append cs ds)
 
-sync_gains : (plan : CellPlan) (sync : Option SyncPlan) →
+pub sync_gains : (plan : CellPlan) (sync : Option SyncPlan) →
     gains (sync_carriers plan sync) ≡ sync_gain sync
 sync_gains plan None = refl
 sync_gains plan (Some sync) = omega arith
 
-paging_gains-is : (plan : CellPlan) (paging : List PagingPlan) →
+pub paging_gains-is : (plan : CellPlan) (paging : List PagingPlan) →
     gains (map (paging_carrier plan) paging) ≡ paging_gains paging
 paging_gains-is plan [] = refl
 paging_gains-is plan (p ∷ paging) =
     ap (λ (n : ℕ). p.gain + n) (paging_gains-is plan paging)
 
-traffic_gains-is : (plan : CellPlan) (traffic : List TrafficPlan) →
+pub traffic_gains-is : (plan : CellPlan) (traffic : List TrafficPlan) →
     gains (map (traffic_carrier plan) traffic) ≡ traffic_gains traffic
 traffic_gains-is plan [] = refl
 traffic_gains-is plan (t ∷ traffic) =

@@ -10,13 +10,13 @@ use Rattle.clean_signal.proofs.Common.{CellPlan, Carrier, amplitude, amplitudes,
 use Rattle.clean_signal.proofs.Common.{signal_of_carriers, walsh, Form, Sync, Data, soft, soft_is, symbol_chips, window_chips, symbols}
 use Rattle.clean_signal.proofs.Common.{pilot_sum, turned_part, turned_part-is, get_or-map-places, length-map-places, IsNear, IsCloseSample}
 use Rattle.clean_signal.proofs.Common.{HaveSigns, IsFrameOf, IsAligned, level_at, path_finger, CarriersAreApart}
+use Rattle.cell_plan.proofs.Amplitudes.{amplitude_most}
 use Rattle.rake_finger.proofs.Sooner.{symbol_inside}
 use Rattle.clean_signal.proofs.frames.ChannelSigns.{noisy_signs}
 use Rattle.clean_signal.proofs.noise.Axes.{below_amplitude, times_none}
 use Rattle.clean_signal.proofs.noise.Near.{near-near, near-self}
 use Rattle.clean_signal.proofs.signal.CarriersApart.{plan_apart}
 use Rattle.clean_signal.proofs.signal.Frames.{Finds, channel_level, frame_aligned, row_total, softs_none, symbol_blocks}
-use Rattle.clean_signal.proofs.signal.OwnPhase.{amplitude_most}
 use Rattle.clean_signal.proofs.signal.Rows.{chips_sum, level_at-alone}
 use Rattle.clean_signal.proofs.signal.Samples.{AreSentAs}
 use Rattle.clean_signal.specs.BoundedNoise.{channel_loudness, sample_without}

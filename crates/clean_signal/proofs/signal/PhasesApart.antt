@@ -6,9 +6,10 @@ use Rattle.clean_signal.proofs.Common.{times, scaled, pilot_chip, energy, made_s
 use Rattle.clean_signal.proofs.Common.{mul-lt-mul_of_pos_left, distrib_right, length-take-le, ⊎_elim, ◌⊎◌, inl, inr, cases_lt, sum_below}
 use Rattle.clean_signal.proofs.Common.{sum_append, sum_same, phase_correlation, phase_at}
 use Rattle.chip_core.proofs.IndexSums.{sum_front}
-use Rattle.clean_signal.proofs.signal.CodeWindows.{odd_of, odd_step, one_phase, way_of, way_step}
+use Rattle.chip_core.proofs.Magnitudes.{abs_sum}
+use Rattle.short_code.proofs.CodeWindows.{odd_of, odd_step, one_phase, way_of, way_step}
 use Rattle.clean_signal.proofs.signal.FoundPhase.{decide, size_least, turn_of, turned_is, turned_small, turned_sum, unit, unit_size}
-use Rattle.clean_signal.proofs.signal.OwnPhase.{abs_sum, amount, norm_scaled, norm_times, own_phase, plan_spread, scaled_size}
+use Rattle.clean_signal.proofs.signal.OwnPhase.{amount, norm_scaled, norm_times, own_phase, plan_spread, scaled_size}
 use Rattle.clean_signal.proofs.signal.OwnPhase.{size_at}
 use Rattle.clean_signal.proofs.signal.Samples.{length-made}
 use Rattle.clean_signal.specs.NoisySearch.{IsFoundThrough}
