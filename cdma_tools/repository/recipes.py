@@ -81,11 +81,10 @@ Name = Word | Variant | Fields
 
 @dataclass(frozen=True)
 class Recipe:
-    """One kind of part: the existing one that it is counted by, the names that lead to its places, and the crates."""
+    """One kind of part: the existing one that it is counted by, and the names that lead to its places in all crates."""
 
     example: str
     names: tuple[Name, ...]
-    crates: tuple[str, ...] = ()
 
 
 def words(*names: str) -> tuple[Name, ...]:
@@ -97,17 +96,15 @@ RECIPES: Mapping[str, Recipe] = {
     "an event": Recipe(
         "the event of the pilot sets",
         (Variant("Event", "Sets"), *words("sets_line", "append_sets", "sets_at", "sets_events_at")),
-        ("heard_events", "mobile_core", "event_tap", "clean_link", "cdma_replay"),
     ),
     "a message of the paging channel": Recipe(
         "the CDMA Channel List Message",
         (
             Variant("PagingMessage", "Channels"),
             *words("ChannelList", "ChannelFields", "CHANNEL_LIST", "CHANNEL_FIELDS", "IsChannelList"),
-            *words("channel_widths", "channel_values", "channel_contents", "channels_from", "channel_names"),
-            *words("channel_shape", "kind == 4", "mod Channels"),
+            *words("channel_widths", "channel_values", "channel_contents", "channel_names"),
+            *words("channel_shape", "kind == 4"),
         ),
-        ("paging_message", "event_tap"),
     ),
     "script keys of such a message": Recipe(
         "the statement `page`",
@@ -119,7 +116,6 @@ RECIPES: Mapping[str, Recipe] = {
             *(Variant(enum, "Survey") for enum in ("Command", "Job", "Purpose")),
             *words("SURVEY_OPTIONS", "survey_entry", "survey_text"),
         ),
-        ("command_line", "cdma_replay"),
     ),
     "a rate": Recipe("1,200 bits a second", (Variant("Rate", "R1200"),)),
     "a rate of rate set 2": Recipe("1,800 bits a second", (Variant("Rate2", "R1800"),)),
@@ -130,7 +126,6 @@ RECIPES: Mapping[str, Recipe] = {
             Fields(("fingers", "paging", "traffic")),
             *words("settings.traffic", "settings.now.traffic", "t.traffic", "HearsFrames"),
         ),
-        ("command_line", "heard_events", "mobile_core", "cdma_replay", "clean_link", "event_tap"),
     ),
 }
 
@@ -150,11 +145,10 @@ def files_of_crates(root: str) -> Iterator[tuple[str, str]]:
 
 def touched(recipe: Recipe, files: Mapping[str, str]) -> list[str]:
     """The files that have one of a recipe's names, in order; each of its names must stand in some file."""
-    within = {path: text for path, text in files.items() if not recipe.crates or path.split("/")[0] in recipe.crates}
     for name in recipe.names:
-        if not any(name.is_in(text) for text in within.values()):
+        if not any(name.is_in(text) for text in files.values()):
             raise NoRecipe(f"no file names {name}, by which {recipe.example} is found")
-    return sorted(path for path, text in within.items() if any(name.is_in(text) for name in recipe.names))
+    return sorted(path for path, text in files.items() if any(name.is_in(text) for name in recipe.names))
 
 
 def shown(path: str) -> str:

@@ -61,9 +61,9 @@ class Lists(unittest.TestCase):
     def test_each_file_that_names_the_part_is_there(self) -> None:
         self.assertEqual(listed(LOST, FILES), LISTED)
 
-    def test_other_crates_are_left_out(self) -> None:
-        within = Recipe(LOST.example, (Word("lost_line"),), ("tap",))
-        self.assertEqual(touched(within, {**FILES, "other/src/line.rt": "lost_line"}), ["tap/src/line.rt"])
+    def test_no_crate_is_left_out(self) -> None:
+        found = touched(Recipe(LOST.example, (Word("lost_line"),)), {**FILES, "other/src/line.rt": "lost_line"})
+        self.assertEqual(found, ["other/src/line.rt", "tap/src/line.rt"])
 
     def test_a_name_that_no_file_has_is_an_error(self) -> None:
         with self.assertRaisesRegex(NoRecipe, "^no file names Event::Gone, by which the event is found$"):
