@@ -1,5 +1,5 @@
 #!/usr/bin/python3 -S
-"""Starts a command in a checkout: tools/NAME and conformance/NAME are links to this file, which name the command."""
+"""Starts a command in a checkout: tools/NAME and conformance/NAME are copies of this file, whose paths name it."""
 import sys
 
 try:

@@ -1,20 +1,23 @@
 """The launchers of a checkout and the installed commands, made from the one table in `starting`.
 
-    python3 -m cdma_tools.repository.launchers            says what differs from the table, status 1 if anything does
-    python3 -m cdma_tools.repository.launchers --write    brings the links and pyproject.toml up to date
+    python3 -m cdma_tools.repository.launchers            reports what differs from the table; status 1 if anything does
+    python3 -m cdma_tools.repository.launchers --write    brings the launchers and pyproject.toml up to date
+
+A launcher is a copy of cdma_tools/launching.py: a link would do, but `rt ci` refuses links.
 """
 
 import os
 import re
 import sys
 
-from cdma_tools.places import TOP
+from cdma_tools.places import PACKAGE, TOP
 from cdma_tools.starting import COMMANDS
 
-TARGET = "../cdma_tools/launching.py"
+LAUNCHER = os.path.join(PACKAGE, "launching.py")
 FOLDERS = ("tools", "conformance")
 PROJECT = "pyproject.toml"
 SCRIPTS = re.compile(r"(?m)^\[project\.scripts\]\n(?:cdma-.*\n)*")
+MODE = 0o755
 
 
 def wanted_scripts() -> str:
@@ -24,43 +27,52 @@ def wanted_scripts() -> str:
     return f"[project.scripts]\n{lines}"
 
 
-def links_of(folder: str, top: str) -> dict[str, str]:
-    """Returns the launchers in a folder of the checkout at `top`, each with where it leads; a file leads nowhere."""
-    found = {}
-    for name in os.listdir(os.path.join(top, folder)):
-        path = os.path.join(top, folder, name)
-        if os.path.islink(path):
-            found[f"{folder}/{name}"] = os.readlink(path)
-        elif os.path.isfile(path) and os.access(path, os.X_OK):
-            found[f"{folder}/{name}"] = ""
-    return found
+def read(path: str) -> bytes:
+    """Returns the bytes of a file."""
+    with open(path, "rb") as file:
+        return file.read()
+
+
+def is_launcher(path: str) -> bool:
+    """Whether a file is an executable copy of the launcher, and no link."""
+    is_plain = os.path.isfile(path) and not os.path.islink(path)
+    return is_plain and os.access(path, os.X_OK) and read(path) == read(LAUNCHER)
+
+
+def programs_in(folder: str, top: str) -> list[str]:
+    """Returns the executable files in a folder of the checkout at `top`, by their places in it."""
+    paths = {
+        f"{folder}/{name}": os.path.join(top, folder, name) for name in sorted(os.listdir(os.path.join(top, folder)))
+    }
+    return [place for place, path in paths.items() if os.path.isfile(path) and os.access(path, os.X_OK)]
 
 
 def differences(top: str = TOP) -> list[str]:
-    """Says what differs from the table."""
-    wanted = {launcher: TARGET for _, launcher, _ in COMMANDS}
-    there = {place: target for folder in FOLDERS for place, target in links_of(folder, top).items()}
-    found = [f"{place}: not a link to {TARGET}" for place in wanted if there.get(place) != TARGET]
+    """Reports what differs from the table."""
+    wanted = [launcher for _, launcher, _ in COMMANDS]
+    found = [
+        f"{place}: no copy of cdma_tools/launching.py" for place in wanted if not is_launcher(os.path.join(top, place))
+    ]
+    there = [place for folder in FOLDERS for place in programs_in(folder, top)]
     found += [f"{place}: not in the table of commands" for place in there if place not in wanted]
-    with open(os.path.join(top, PROJECT), encoding="utf-8") as file:
-        if wanted_scripts() not in file.read():
-            found.append(f"{PROJECT}: other commands than the table has")
+    if wanted_scripts() not in read(os.path.join(top, PROJECT)).decode():
+        found.append(f"{PROJECT}: other commands than the table has")
     return found
 
 
 def write(top: str = TOP) -> None:
-    """Brings the links and pyproject.toml up to date."""
+    """Brings the launchers and pyproject.toml up to date."""
     for _, launcher, _ in COMMANDS:
         path = os.path.join(top, launcher)
-        if not os.path.islink(path) or os.readlink(path) != TARGET:
-            if os.path.lexists(path):
-                os.unlink(path)
-            os.symlink(TARGET, path)
+        if os.path.lexists(path):
+            os.unlink(path)
+        with open(path, "wb") as file:
+            file.write(read(LAUNCHER))
+        os.chmod(path, MODE)
     project = os.path.join(top, PROJECT)
-    with open(project, encoding="utf-8") as file:
-        text = file.read()
-    with open(project, "w", encoding="utf-8") as file:
-        file.write(SCRIPTS.sub(lambda _: wanted_scripts(), text))
+    text = SCRIPTS.sub(lambda _: wanted_scripts(), read(project).decode())
+    with open(project, "w", encoding="utf-8") as out:
+        out.write(text)
 
 
 def main() -> int:
