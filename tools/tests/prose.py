@@ -22,6 +22,7 @@ PAGES = (
     "docs/FORMATS.md",
     "docs/GLOSSARY.md",
     "docs/LINK.md",
+    "docs/cdma_replay.1",
 )
 # Words before "else" with which it does not stand for "otherwise" or for a default.
 BEFORE_ELSE = (
@@ -111,7 +112,7 @@ def page_sentences(place: str, text: str, code: str = "    ") -> Iterator[Senten
 
 
 def manual_sentences(place: str, text: str) -> Iterator[Sentence]:
-    """Yields the sentences of a page in mdoc, without what it shows literally, between Bd and Ed, and lists of fields.
+    """Yields the sentences of a page in mdoc, without what it shows literally, between Bd and Ed.
 
     The words of a macro are code, but for punctuation at its end, which belongs to the sentence.
     """
@@ -122,7 +123,7 @@ def manual_sentences(place: str, text: str) -> Iterator[Sentence]:
         if name in (".Pp", ".Sh", ".Ss", ".It", ".Bl", ".El", ".Bd", ".Ed", ".Op"):
             yield from sentences_of_block(place, first, " ".join(block))
             block = []
-            is_left_out = name == ".Bd" or line.startswith(".It Li ")
+            is_left_out = name == ".Bd"
         elif not is_left_out and not line.startswith('.\\"') and name not in (".Dd", ".Dt", ".Os"):
             first = first if block else number
             ends = re.search(r" ([.,;:)])$", line)

@@ -1,4 +1,4 @@
-"""The manual page: mandoc has no complaint, and each command, option and status that docs/FORMATS.md has stands in it."""
+"""The manual page: mandoc does not complain, and each command, option, line and status of docs/FORMATS.md is in it."""
 
 import os
 import re
@@ -40,26 +40,20 @@ class Page(unittest.TestCase):
         statuses = re.findall(r"\n\| (\d) \|", formats[formats.index("| Status |") :])
         self.assertEqual(re.findall(r"\n\.It (\d)\n", page), statuses)
 
-    def test_each_line_has_its_fields(self) -> None:
-        """Each kind of line stands in it with its fields, in their order, each by its name in the standard or what it is."""
+    def test_each_kind_of_line_stands_in_it(self) -> None:
         page = text_of(PAGE)
         part = page[page.index(".Ss Lines that are written\n") : page.index(".Sh EXIT STATUS\n")]
-        items = re.findall(r"(?m)^\.It Li (.+)\n((?:[^.].*\n)+)", part)
-        told = {title: " ".join(text.split()) for title, text in items}
-        wanted = {}
-        for shape in SHAPES:
-            fields = ", ".join(f"{one.name} ({one.meaning})" for one in shape.fields())
-            wanted[f"{shape.line} {shape.word or ''}".strip()] = f"{fields}."
-        self.assertEqual(told, wanted)
+        kinds = [kind for item in re.findall(r"(?m)^\.It Li (.+)$", part) for kind in item.split(" , ")]
+        self.assertEqual(kinds, [f"{shape.line} {shape.word or ''}".rstrip() for shape in SHAPES])
 
     def test_what_it_names_is_installed(self) -> None:
-        """No path of a checkout's tools stands in it, which a reader of an installed page hasn't."""
+        """It names no path of a checkout, which the reader of an installed page does not have."""
         page = text_of(PAGE)
         for path in re.findall(r"\.Pa (\S+)", page):
             self.assertTrue(path.startswith(("share/", "docs/", "/usr")), path)
             if path.startswith("docs/"):
                 self.assertTrue(os.path.exists(os.path.join(ROOT, path)), path)
-        for command in re.findall(r"\.Ql (cdma-\w+)", page):
+        for command in re.findall(r"(?m)^\.Ql (cdma-\w+)", page):
             self.assertIn(command, INSTALLED.values())
 
 

@@ -45,8 +45,8 @@ It ends
 .Bd -literal
 cdma_replay alone
 .Ed
-.It Li slot
-at (the place alone).
+.It 0
+all was read
 """
 MODULE = """\
 '''Tells.
@@ -78,7 +78,7 @@ class Parts(unittest.TestCase):
 
     def test_a_manual_page(self) -> None:
         found = texts(manual_sentences("p", MANUAL))
-        self.assertEqual(found, ["search in the first `x` samples.", "It ends `x`."])
+        self.assertEqual(found, ["search in the first `x` samples.", "It ends `x`.", "all was read"])
 
     def test_docstrings(self) -> None:
         found = list(docstring_sentences("p", MODULE))
