@@ -33,13 +33,16 @@ def shown(text: str) -> str:
 
 
 class Help(argparse.RawDescriptionHelpFormatter):
-    """Help in which an option with a number tells its bounds."""
+    """Help that adds the bounds of a number to its option."""
 
     def _get_help_string(self, action: argparse.Action) -> str | None:
-        """The help of an option, with its bounds."""
+        """Returns the help of an option, with its bounds."""
         text = super()._get_help_string(action)
-        told = action.type.told() if isinstance(action.type, Within) else ""
-        return f"{text} ({told})" if text and told and told not in text else text
+        bounds = action.type.told() if isinstance(action.type, Within) else ""
+        if not text or not bounds or bounds in text:
+            return text
+        before, default, after = text.partition("(default ")
+        return f"{before}({bounds}, default {after}" if default else f"{text} ({bounds})"
 
 
 class PartParser(argparse.ArgumentParser):
@@ -67,7 +70,7 @@ class Parser(PartParser):
     def __init__(self, tool: str, description: str | None, has_version: bool = True, **more: Any) -> None:
         super().__init__(prog=called(tool), description=shown(description or ""), **more)
         if has_version:
-            self.add_argument("--version", action="version", version=version_of(tool), help="say the version, and end")
+            self.add_argument("--version", action="version", version=version_of(tool), help="print the version, and end")
 
     def parse_known_args(self, args: Sequence[str] | None = None, namespace: Any = None) -> tuple[Any, list[str]]:
         """Takes the arguments apart, with negative numbers joined to the options before them."""
@@ -182,10 +185,10 @@ MINUTES, MOST_MINUTES = 5, 1_440
 
 
 def add_minutes_option(parser: argparse.ArgumentParser) -> None:
-    """Adds the option --minutes, for how long a run of a program is waited."""
+    """Adds the option --minutes, the longest time of a run of a program."""
     kind = whole_within(1, MOST_MINUTES)
     parser.add_argument(
-        "--minutes", type=kind, default=MINUTES, metavar="N", help=f"the longest that a run may take, else {MINUTES}"
+        "--minutes", type=kind, default=MINUTES, metavar="N", help=f"longest time of a run, in minutes (default {MINUTES})"
     )
 
 

@@ -12,7 +12,7 @@ from cdma_tools.places import BUILT
 NAME = "cdma_replay"
 LONGEST_RUN = 600  # seconds that a run over a sample file may take
 VARIABLE = "CDMA_REPLAY"
-HELP = f"cdma_replay; else ${VARIABLE}, else the one that is built in this checkout, else {NAME} on the path"
+HELP = f"cdma_replay (default ${VARIABLE}, or the one built in this checkout, or {NAME} on the path)"
 NOT_FOUND = (
     f"no {NAME}: --program names none, nor does ${VARIABLE}, none is built in this checkout (rt ci builds it), and none"
     " is on the path"

@@ -44,10 +44,10 @@ class Result:
 
 def add_result_options(parser: argparse.ArgumentParser) -> None:
     """Adds the options for results that a machine reads."""
-    parser.add_argument("--junit", metavar="FILE", help="write the results as JUnit's XML too, once all cases are done")
+    parser.add_argument("--junit", metavar="FILE", help="also write the results as JUnit XML, when all cases are done")
     forms = parser.add_mutually_exclusive_group()
-    forms.add_argument("--tap", action="store_true", help="write results as TAP, version 13, in place of text")
-    forms.add_argument("--json", action="store_true", help="write results as one JSON object, in place of text")
+    forms.add_argument("--tap", action="store_true", help="write results as TAP version 13 instead of text")
+    forms.add_argument("--json", action="store_true", help="write results as one JSON object instead of text")
 
 
 class Results:

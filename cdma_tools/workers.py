@@ -119,5 +119,5 @@ def add_jobs_option(parser: Parser, what: str, jobs: int = 0) -> None:
         type=whole_within(1, MOST_JOBS),
         default=jobs or processors,
         metavar="N",
-        help=f"{what} at once, " + (f"1 to {MOST_JOBS} [{jobs}]" if jobs else "else one a processor"),
+        help=f"{what} at once (default {jobs or 'one per processor'})",
     )

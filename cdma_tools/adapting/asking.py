@@ -1,4 +1,4 @@
-"""How an adapter asks a receiver: it runs a command line, or talks to a TCP port, and passes on what is answered."""
+"""Asks a receiver for an adapter: runs a command line or connects to a TCP port, and passes the answer on."""
 
 import contextlib
 import os
@@ -24,11 +24,11 @@ PIECE = 1 << 16
 
 
 class ReadFault(Exception):
-    """That a read of the input failed."""
+    """A read of the input failed."""
 
 
 class WriteFault(Exception):
-    """That the output wasn't taken."""
+    """The output wasn't taken."""
 
 
 def write(piece: bytes) -> None:
@@ -60,10 +60,10 @@ def piece_of(source: IO[bytes]) -> bytes:
 
 
 class Answer:
-    """What a receiver answers: its lines are passed on as they come, and the status that it may tell is kept."""
+    """The answer of a receiver: its lines are passed on as they come, and its status is kept."""
 
     def __init__(self, is_json: bool, has_status: bool) -> None:
-        """With has_status a last line tells the status, and the line on standard error where there is one."""
+        """With has_status the last line has the status, and the line for standard error if there is one."""
         self.is_json, self.has_status = is_json, has_status
         self.status: int | None = None
         self.error = ""
@@ -77,7 +77,7 @@ class Answer:
                 raise Refused(f"the receiver's line {number}: {why}") from None
 
     def take(self, line: bytes) -> None:
-        """Passes a line on, or keeps the status that it tells."""
+        """Passes a line on, or keeps the status in it."""
         if self.status is not None:
             raise NoLine("a line after the status")
         if not self.is_json:
@@ -98,12 +98,12 @@ class Answer:
             write(spell_line(given).encode("ascii") + b"\n")
 
     def end(self, status: str = "", error: str = "") -> None:
-        """Keeps the status and the line on standard error that a receiver tells."""
+        """Keeps the status and the receiver's line for standard error."""
         self.status, self.error = status_of(status), printable(error)
 
 
 def status_of(text: str) -> int:
-    """The status that a receiver tells."""
+    """Returns the status in a receiver's last line."""
     if not text.isdecimal() or int(text[:4]) > MOST_STATUS:
         raise NoLine(f"no status from 0 to {MOST_STATUS}: {text[:40]!r}")
     return int(text)
@@ -123,7 +123,7 @@ def files_of(words: Sequence[str], source: IO[bytes]) -> Iterator[dict[str, str]
 
 
 def ask_command(words: Sequence[str], arguments: Sequence[str], source: IO[bytes], is_json: bool) -> int:
-    """Runs a command line whose places are filled, passes on its lines, and answers its status."""
+    """Runs a command line whose places are filled, passes on its lines, and returns its status."""
     answer = Answer(is_json, has_status=False)
     with files_of(words, source) as files:
         command = filled(words, arguments, files)
@@ -149,7 +149,7 @@ def ask_command(words: Sequence[str], arguments: Sequence[str], source: IO[bytes
 
 
 def send(connection: socket.socket, arguments: Sequence[str], source: IO[bytes]) -> None:
-    """Sends the arguments as one line and then the input; a receiver may have heard enough before its end."""
+    """Sends the arguments as one line and then the input; a receiver may close before the input ends."""
     with contextlib.suppress(BrokenPipeError, ConnectionResetError):
         connection.sendall(shlex.join(arguments).encode("utf-8") + b"\n")
         while piece := source.read(PIECE):
@@ -158,7 +158,7 @@ def send(connection: socket.socket, arguments: Sequence[str], source: IO[bytes])
 
 
 def ask_port(place: tuple[str, int], arguments: Sequence[str], source: IO[bytes], is_json: bool) -> int:
-    """Asks a receiver at a TCP port, passes on its lines, and answers the status that it tells, or else 0."""
+    """Asks a receiver at a TCP port, passes on its lines, and returns its status, by default 0."""
     answer = Answer(is_json, has_status=True)
     with taken(source) as whole, connected(place) as connection, connection.makefile("rb") as lines:
         sender = threading.Thread(target=send, args=(connection, arguments, whole), daemon=True)
@@ -174,7 +174,7 @@ def ask_port(place: tuple[str, int], arguments: Sequence[str], source: IO[bytes]
 
 @contextlib.contextmanager
 def connected(place: tuple[str, int]) -> Iterator[socket.socket]:
-    """A connection to a port, on which no time is too long once it stands."""
+    """A connection to a port; once it is open there is no time limit."""
     try:
         connection = socket.create_connection(place, timeout=CONNECT_SECONDS)
     except OSError as why:

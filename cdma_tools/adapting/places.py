@@ -48,7 +48,7 @@ def filled(words: Sequence[str], arguments: Sequence[str], files: Mapping[str, s
     values = {**values_of(arguments), **files}
 
     def value_of(found: re.Match[str]) -> str:
-        """What stands in a place: what the case gives, or else what the place has after its equals sign."""
+        """Returns the value of a place: the case's, otherwise the text after the place's equals sign."""
         value = values.get(found[1], found[2])
         if value is None:
             raise WrongArguments(f"the case has no --{found[1]}, and the place {found[0]} has nothing for that")

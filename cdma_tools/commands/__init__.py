@@ -1,8 +1,8 @@
-"""The commands: a module for each, whose `main` takes the arguments and answers the exit status.
+"""The commands: a module for each, whose `main` takes the arguments and returns the exit status.
 
-A process of its own runs one by `starting.start(NAME)`, and it ends as a shell expects: faults are one line, a closed
-pipe ends it quietly, and Ctrl-C or SIGTERM with one line and status 130. In a checkout `tools/NAME` and
-`conformance/NAME` call that, installed commands do (`entries`), and so does `python3 -m cdma_tools NAME`.
+`starting.start(NAME)` runs one in a process, which ends as a shell expects: a fault is one line, a closed pipe ends it
+quietly, and Ctrl-C or SIGTERM ends it with one line and status 130. `tools/NAME` and `conformance/NAME` in a checkout,
+installed commands (`entries`) and `python3 -m cdma_tools NAME` all start that way.
 """
 
 import importlib
@@ -30,7 +30,7 @@ FAILED_AS = {
 
 
 def run(name: str, ready: Callable[[], None]) -> int:
-    """Runs a command with the arguments of this process, and answers its exit status; see `status_of` for `ready`."""
+    """Runs a command with the arguments of this process, and returns its exit status; see `status_of` for `ready`."""
     open_streams()
     try:
         status = status_of(name, ready=ready)
@@ -48,7 +48,8 @@ def run(name: str, ready: Callable[[], None]) -> int:
 
 
 def status_of(name: str, arguments: list[str] | None = None, ready: Callable[[], None] | None = None) -> int:
-    """The exit status of a command, whose faults are said in one line; without arguments it takes the process's.
+    """Returns the exit status of a command, whose faults are written in one line; the default arguments are the
+    process's.
 
     `ready` is called when the command is imported, before it runs.
     """
@@ -90,7 +91,7 @@ def open_streams() -> None:
 
 
 def close_quietly() -> int:
-    """Lets what standard output still holds go nowhere, and answers the status of an output that wasn't taken."""
+    """Discards what standard output still holds, and returns the status of an output that wasn't taken."""
     nothing = os.open(os.devnull, os.O_WRONLY)
     os.dup2(nothing, sys.stdout.fileno())
     os.close(nothing)
@@ -98,7 +99,7 @@ def close_quietly() -> int:
 
 
 def process_arguments(name: str) -> list[str]:
-    """How another process runs a command by the same Python and the same package: its arguments go after these."""
+    """Returns the first arguments with which another process runs a command, by the same Python and package."""
     setting = (
         f"import sys; sys.path.insert(0, {TOP!r}); from cdma_tools.starting import start; sys.exit(start({name!r}))"
     )

@@ -1,31 +1,31 @@
-"""Lets a receiver that doesn't read standard input be asked as one that does.
+"""Runs a receiver that doesn't read standard input as if it did.
 
-conformance/run, tools/curve and the other tools run a receiver with the arguments of docs/FORMATS.md, and with a
-sample file on its standard input. This command takes both, and asks a receiver that is made otherwise. So the
-program that these tools are given is a script of two lines:
+conformance/run, tools/curve and the other tools run a receiver with the arguments of docs/FORMATS.md, and with a sample
+file on its standard input. This command takes both, and passes them on to a receiver with another interface. The
+program that these tools are given is then a script of two lines:
 
     #!/bin/sh
     exec tools/adapt --command "my_receiver --in {input} --out {output} --walsh {row=1}" -- "$@"
 
---command LINE runs a command line, which is taken apart as a shell does, and run without one. Its places are filled:
+--command LINE runs a command line, which is split as a shell splits it, but run without a shell. These places in it are
+filled:
 
-    {input}        the name of a file with what stood on standard input; without it the receiver reads that itself
-    {output}       the name of a file to which the receiver writes its lines; without it they are its standard output
+    {input}        name of a file with the content of standard input; without it the receiver reads standard input
+    {output}       name of a file to which the receiver writes its lines; without it they are its standard output
     {arguments}    all arguments of the case, each by itself
     {command}      the first of them: follow, find and so on
-    {row}          the value of the argument --row, and so with each other name; {row=1} gives 1 where the case has none
+    {row}          value of the argument --row, and so for any other name; {row=1} gives 1 if the case has none
 
---connect HOST:PORT asks a receiver at a TCP port. Each connection is one run: it gets a line with the case's
-arguments, as a shell would quote them, then the input, up to the end of what is sent; it answers with lines, and
-closes. A last line `status 1 no sync message` tells its exit status, which else is 0, and the line for standard
-error where there is one.
+--connect HOST:PORT asks a receiver at a TCP port. Each connection is one run. The receiver gets a line with the case's
+arguments, quoted as for a shell, and then the input to its end. It writes lines, and closes. A last line `status 1 no
+sync message` has its exit status (default 0) and its line for standard error.
 
-With --json the lines are JSON, one object a line, in the form of tools/lines, and the last line at a port is
+With --json the lines are JSON, one object per line, in the form of tools/lines, and the last line at a port is
 {"status": 1, "error": "no sync message"}.
 
-Exit status: the receiver's own, 128 and the signal's number where a signal ended it; 2 wrong arguments, 4 a read of
-the input failed, which the line `read fault` says, 5 the output wasn't taken, with the line `write fault`, 9 the
-receiver can't be run or reached, or a line of it is no JSON of these.
+Exit status: the receiver's own, 128 and the signal's number if a signal ended it; 2 wrong arguments, 4 reading the
+input failed (line `read fault`), 5 the output wasn't taken (line `write fault`), 9 the receiver can't be run or
+reached, or one of its lines isn't JSON of this form.
 """
 
 import argparse
@@ -52,22 +52,22 @@ def parser() -> Parser:
     """The command line."""
     words = Parser("adapt", __doc__)
     ways = words.add_mutually_exclusive_group(required=True)
-    ways.add_argument("--command", metavar="LINE", help="run this command line, whose places are filled")
-    ways.add_argument("--connect", metavar="HOST:PORT", type=place_of, help="ask the receiver at this TCP port")
+    ways.add_argument("--command", metavar="LINE", help="command line to run, with its places filled")
+    ways.add_argument("--connect", metavar="HOST:PORT", type=place_of, help="TCP port at which to ask the receiver")
     words.add_argument("--json", action="store_true", help="the receiver's lines are JSON")
-    words.add_argument("arguments", nargs="*", metavar="ARGUMENT", help="the arguments of the case, after --")
+    words.add_argument("arguments", nargs="*", metavar="ARGUMENT", help="arguments of the case, after --")
     return words
 
 
 def asked(options: argparse.Namespace) -> int:
-    """Asks the receiver, and answers its status."""
+    """Asks the receiver, and returns its status."""
     if options.connect:
         return ask_port(options.connect, options.arguments, sys.stdin.buffer, options.json)
     return ask_command(pieces_of(options.command), options.arguments, sys.stdin.buffer, options.json)
 
 
 def main(arguments: list[str] | None = None) -> int:
-    """Runs the tool, and answers its exit status."""
+    """Runs the tool, and returns its exit status."""
     options = parser().parse_args(arguments)
     try:
         return asked(options)

@@ -1,15 +1,15 @@
-"""Lets the model and a program do the same random runs, and says where they differ.
+"""Gives the same random runs to the model and to a program, and reports the differences.
 
-A run is a case as conformance/ has them, drawn from a number: run k from the seed plus k. It has cells with random
-channels, other paths, a second cell, noise, a file that is cut or too long, a script with a fault, or arguments of any
-command. The program is asked for its text, its status and its line on standard error; the model of `model/` says what
-they should be. A case in which they differ is kept as FOLDER/seed_N.case.
+A run is a case as in conformance/, drawn from a number: run k uses the seed plus k. It has cells with random channels,
+other paths, a second cell, noise, a file that is cut or too long, a script with a fault, or arguments of any command.
+The text, the status and the line on standard error that the program writes are compared with those of `model/`. A case
+in which they differ is kept as FOLDER/seed_N.case.
 
     tools/agree --seed 1 --count 100 crates/cdma_replay/out/cdma_replay
-    tools/agree --seed 4711 --count 1 cdma_replay        the run of a number that was told
+    tools/agree --seed 4711 --count 1 cdma_replay        the run of a reported number
     tools/agree --seed 1 --count 1 --print               its case
 
-Exit status: 0 no difference, 1 some, 2 wrong arguments, or a program that can't be run.
+Exit status: 0 no difference, 1 some, 2 wrong arguments, or the program can't be run.
 """
 
 from __future__ import annotations
@@ -36,7 +36,7 @@ MOST_SHOWN = 4
 
 
 class Looked(NamedTuple):
-    """What was seen of the run of a seed: its command, and what differs, in lines."""
+    """Result of the run of a seed: its command, and the differences in lines."""
 
     seed: int
     command: str
@@ -49,7 +49,7 @@ def drawn(seed: int) -> Draft:
 
 
 def compared(program: str, seed: int) -> Looked:
-    """The run of a seed by the program and by the model; raises `Refused` where the program can't be run."""
+    """Runs a seed with the program and with the model; raises `Refused` if the program can't be run."""
     case = drawn(seed)
     try:
         data = input_of(case)
@@ -64,7 +64,7 @@ def compared(program: str, seed: int) -> Looked:
 
 
 def differences(model: cases.Answer, program: cases.Answer) -> list[str]:
-    """What differs of two answers, in lines."""
+    """Returns the differences of two answers, in lines."""
     said = []
     if program.status != model.status:
         said.append(f"status {program.status}, by the model {model.status}")
@@ -76,7 +76,7 @@ def differences(model: cases.Answer, program: cases.Answer) -> list[str]:
 
 
 def text_differences(model: bytes, program: bytes) -> list[str]:
-    """Where two outputs differ first: as bytes where one is a sample file, else line by line."""
+    """Returns the first difference of two outputs: by bytes if one is a sample file, otherwise by lines."""
     if b"IS95" in (model[:4], program[:4]):
         pairs = enumerate(zip(model, program))
         place = next((at for at, (one, other) in pairs if one != other), min(len(model), len(program)))
@@ -91,20 +91,20 @@ def text_differences(model: bytes, program: bytes) -> list[str]:
 def parser() -> Parser:
     """The command line."""
     words = Parser("agree", __doc__)
-    words.add_argument("compared", nargs="?", metavar="PROGRAM", help="the program that the model is compared with")
+    words.add_argument("compared", nargs="?", metavar="PROGRAM", help="program to compare with the model")
     add_program_option(words)
-    words.add_argument("--seed", type=count_of, required=True, metavar="N", help="the seed of the first run")
-    words.add_argument("--count", type=whole_within(1, MOST_RUNS), required=True, metavar="K", help="how many runs")
+    words.add_argument("--seed", type=count_of, required=True, metavar="N", help="seed of the first run")
+    words.add_argument("--count", type=whole_within(1, MOST_RUNS), required=True, metavar="K", help="number of runs")
     add_jobs_option(words, "runs")
     words.add_argument(
-        "--keep", default="differences", metavar="FOLDER", help="where cases are kept, else differences/"
+        "--keep", default="differences", metavar="FOLDER", help="folder in which cases are kept (default differences/)"
     )
     words.add_argument("--print", action="store_true", help="print the cases, and run nothing")
     return words
 
 
 def checked(given: list[str] | None) -> argparse.Namespace:
-    """The options; ends the program where an argument is wrong."""
+    """Returns the options; ends the program if an argument is wrong."""
     words = parser()
     options = words.parse_args(given)
     if not options.print:
@@ -113,7 +113,7 @@ def checked(given: list[str] | None) -> argparse.Namespace:
 
 
 def kept(folder: str, seed: int) -> str:
-    """Where the case of a seed was kept."""
+    """Returns the path at which the case of a seed is kept."""
     os.makedirs(folder, exist_ok=True)
     path = os.path.join(folder, f"seed_{seed}.case")
     with write_beside(path) as file:
@@ -122,13 +122,13 @@ def kept(folder: str, seed: int) -> str:
 
 
 def shown(looked: Looked, path: str) -> str:
-    """What is written of a run that differs."""
+    """Returns the report of a run that differs."""
     lines = [f"seed {looked.seed}: {shlex.join(drawn(looked.seed).words)}: {path}"]
     return "\n".join(lines + [f"    {line}" for line in looked.said[:MOST_SHOWN]])
 
 
 def compare_all(options: argparse.Namespace) -> int:
-    """Does all runs, writes what differs, and answers in how many something does."""
+    """Does all runs, writes the differences, and returns the number of runs that differ."""
     seeds = range(options.seed, options.seed + options.count)
     commands: dict[str, int] = {}
     differ, began = 0, time.monotonic()
@@ -143,7 +143,7 @@ def compare_all(options: argparse.Namespace) -> int:
 
 
 def main(arguments: list[str] | None = None) -> int:
-    """Runs the tool, and answers its exit status."""
+    """Runs the tool, and returns its exit status."""
     options = checked(arguments)
     if options.print:
         for seed in range(options.seed, options.seed + options.count):

@@ -1,21 +1,21 @@
 """Times the built program on inputs that it makes itself, and prints a table.
 
-For each run: the best wall-clock time of several, and the greatest resident memory. Then the sweep over all
-phases, on lanes and by a plain loop, the decoder and the list decoder, as tests of receiver_tests do it; and a million
-messages of each kind, read and written, as tests of message_tests do it. Build them first, as by
-`(cd crates/cdma_replay && rt run -- find < ../../examples/pilot_in_noise.is95)`,
-`(cd crates/receiver_tests && rt test)` and `(cd crates/message_tests && rt test)`.
+For each run: the best wall-clock time of several, and the greatest resident memory. Then, as tests of receiver_tests do
+it, the sweep over all phases, on lanes and by a plain loop, the decoder and the list decoder. Then, as tests of
+message_tests do it, a million messages of each kind, read and written. Build them first, for example with `(cd
+crates/cdma_replay && rt run -- find < ../../examples/pilot_in_noise.is95)`, `(cd crates/receiver_tests && rt test)` and
+`(cd crates/message_tests && rt test)`.
 
     tools/bench
     tools/bench ./cdma_replay
     tools/bench --peers
 
-With --peers other work is timed: ours and that of libraries that Debian has, in turns and on the same numbers. The
-best codeword of 192 bits by libfec and IT++; all phases of 2,048 samples by FFTW, in single and double precision; two
-seconds of a recording through the pulse by GNU Radio's resampler, beside the front of tools/import_capture --lock. Small
-programs are built around them in a temporary folder, which needs gcc and g++ and the packages libfec-dev, libitpp-dev,
-libfftw3-dev and gnuradio; of what isn't there it is said. The times are those of a processor, the least of many runs,
-and each result is held against ours. Each line says what a library has not.
+--peers times other work instead: ours and that of Debian's libraries, in turns and on the same numbers. It takes the
+best codeword of 192 bits by libfec and IT++; all phases of 2,048 samples by FFTW, in single and double precision; and
+two seconds of a recording through the pulse by GNU Radio's resampler, next to the front of tools/import_capture --lock.
+Small programs are built around the libraries in a temporary folder, which needs gcc and g++ and the packages
+libfec-dev, libitpp-dev, libfftw3-dev and gnuradio; a line says what is missing. The times are processor times, the
+least of many runs, and each result is compared with ours. Each line says what a library lacks.
 
 Exit status: 0 all was timed, 1 something couldn't be, 2 wrong arguments.
 """
@@ -118,7 +118,7 @@ RUNS = [
 
 
 def write_noise(path: str, count: int, seed: int = 1995) -> None:
-    """A sample file of uniform noise, in which no phase stands out."""
+    """Writes a sample file of uniform noise, in which no phase stands out."""
     noise = random.Random(seed)
     block = noise.randbytes(4 * min(count, 1 << 20))
     with open(path, "wb") as out:
@@ -152,7 +152,7 @@ def seconds_of(program: str, words: list[str], path: str) -> float:
 
 
 def peak_of(program: str, words: list[str], path: str) -> int:
-    """The greatest resident memory of one run in KiB, as the kernel tells it while the program runs."""
+    """Returns the greatest resident memory of one run in KiB, as the kernel reports it while the program runs."""
     peak = 0
     with open(path, "rb") as source:
         child = start(program, words, source)
@@ -191,7 +191,7 @@ def print_sweeps() -> None:
 
 
 def test_processor_seconds(tests: str, name: str) -> float:
-    """Seconds that one test kept a processor busy, whatever else runs on the machine."""
+    """Returns the processor seconds of one test, which don't depend on what else runs on the machine."""
     child = subprocess.Popen([tests, name], stdout=subprocess.DEVNULL, stderr=subprocess.DEVNULL, env=NO_ENVIRONMENT)
     _, status, used = os.wait4(child.pid, 0)
     if status != 0:
@@ -228,7 +228,7 @@ def print_messages() -> None:
 
 
 def print_row(program: str, name: str, words: list[str], path: str, count: int) -> None:
-    """The best time of several runs of a command over a file of so many samples, and the greatest memory."""
+    """Prints the best time of several runs of a command over a file of `count` samples, and the greatest memory."""
     seconds = min(seconds_of(program, words, path) for _ in range(9))
     peak = max(peak_of(program, words, path) for _ in range(2))
     print(f"{name:<24}{count:>12}{seconds:>10.3f}{peak:>10}")
@@ -282,7 +282,7 @@ def print_runs(program: str) -> None:
 
 
 def run_processor_seconds(program: str, words: list[str], path: str, wanted: int = 0) -> float:
-    """Processor seconds of one run over a file, whatever else runs on the machine; it has to end with a status."""
+    """Returns the processor seconds of one run over a file, which must end with the status `wanted`."""
     with open(path, "rb") as source:
         child = subprocess.Popen(
             [program, *words], stdin=source, stdout=subprocess.DEVNULL, stderr=subprocess.DEVNULL, env=NO_ENVIRONMENT
@@ -302,7 +302,7 @@ def one_decoding_seconds() -> float:
 
 
 def print_libraries(program: str) -> None:
-    """The tables of ours beside the libraries'."""
+    """Prints the tables of our work next to that of the libraries."""
     from cdma_tools.peers.measuring import print_peers
 
     with tempfile.TemporaryDirectory() as folder:
@@ -322,10 +322,10 @@ def print_libraries(program: str) -> None:
 
 
 def main(arguments: list[str] | None = None) -> int:
-    """Runs the tool, and answers its exit status."""
+    """Runs the tool, and returns its exit status."""
     parser = Parser("bench", __doc__)
-    parser.add_argument("timed", metavar="PROGRAM", nargs="?", help="the program, else that of --program")
-    parser.add_argument("--peers", action="store_true", help="time our work beside that of Debian's libraries")
+    parser.add_argument("timed", metavar="PROGRAM", nargs="?", help="program to time (default that of --program)")
+    parser.add_argument("--peers", action="store_true", help="time our work next to that of Debian's libraries")
     add_program_option(parser)
     options = parser.parse_args(arguments)
     program = find_program(options.timed or options.program)

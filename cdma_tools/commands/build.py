@@ -1,24 +1,23 @@
 """Builds the program, or another crate, and all crates below it, several at once.
 
-`rt run` and `rt lib` build the crates below one after the other. Here `rt lib` of each is begun as soon as those below
-it are built, the longest chain of work first, as many at once as there are processors and memory for; where processors
-are left over, a library gets several jobs. Then the crate that was asked for is built in this checkout: a program by
-`rt run` with two jobs at most, so that it lies in crates/NAME/out/NAME, a library by `rt lib`. What `rt` kept is taken
-over, and not built again.
+`rt run` and `rt lib` build the crates below one after the other. This tool starts `rt lib` of each crate as soon as
+those below it are built, the longest chain of work first, as many at once as processors and memory allow. A library
+gets several jobs if processors are left over. Then the requested crate is built in this checkout: a program by `rt run`
+with at most two jobs, in crates/NAME/out/NAME, a library by `rt lib`. What `rt` kept is used, and not built again.
 
     tools/build
     tools/build mobile_core --jobs 2 --memory 8
 
-A line tells that a crate is begun, and one that it is built, each after the time since the start. What `rt` writes of
-a crate is in crates/NAME/out/build.log. All runs but one at a time work in copies of the crates, which lie in a
-temporary folder (TMPDIR says where) and are removed at the end.
+A line says when a crate begins and when it is built, with the time since the start. The output of `rt` for a crate is
+in crates/NAME/out/build.log. All runs but one at a time work in copies of the crates, in a temporary folder (TMPDIR),
+which is removed at the end.
 
 A crate is planned with 1 GB, 1 MB for each line of its .rt files, 0.2 MB for each line of .antt, and 0.08 MB for each
-line of .rt of the crates below it; each job but the first takes 0.6 of that more. One that is planned with more than
-there is is built alone.
+line of .rt of the crates below it; each job but the first takes 0.6 of that more. A crate that is planned with more
+than there is is built with no other.
 
-Exit status: 0 all is built, 1 a crate isn't, and those that were under way are ended, 2 where the arguments are wrong,
-no rt is on the path, or the folder is no checkout.
+Exit status: 0 all is built, 1 a crate isn't, and those under way are ended, 2 if the arguments are wrong, no rt is on
+the path, or the folder is no checkout.
 """
 
 from __future__ import annotations
@@ -42,15 +41,15 @@ MOST_MEMORY = 100_000  # GB
 def parser() -> Parser:
     """The command line."""
     words = Parser("build", __doc__)
-    words.add_argument("name", metavar="NAME", nargs="?", default=PROGRAM, help=f"the crate, else {PROGRAM}")
+    words.add_argument("name", metavar="NAME", nargs="?", default=PROGRAM, help=f"crate to build (default {PROGRAM})")
     add_jobs_option(words, "jobs of all crates")
     words.add_argument(
         "--memory",
         type=number_above(0, MOST_MEMORY),
         metavar="GB",
-        help=f"the memory that is planned with, in GB, else {100 * OF_FREE:g} %% of what is free",
+        help=f"memory to plan with, in GB (default {100 * OF_FREE:g} %% of what is free)",
     )
-    words.add_argument("--root", metavar="FOLDER", default=TOP, help="the checkout to build in, else this one")
+    words.add_argument("--root", metavar="FOLDER", default=TOP, help="checkout to build in (default this one)")
     return words
 
 
@@ -60,11 +59,11 @@ def crates_in(root: str, name: str) -> dict[str, Crate]:
         crates = crates_of(root)
         longest_chain(stands_on(crates))  # which tells of a circle
     except (NoList, Refused) as why:
-        raise WrongArguments(f"{root} is no checkout with crates: {why}") from None
+        raise WrongArguments(f"{root} is not a checkout with crates: {why}") from None
     if name not in crates:
         raise WrongArguments(f"crates.txt has no crate {name}")
     if not shutil.which("rt"):
-        raise WrongArguments("no rt on the path: it is the command of Rattle's kit, of which README.md tells")
+        raise WrongArguments("no rt on the path: it is the command of Rattle's kit (see README.md)")
     return crates
 
 
@@ -74,7 +73,7 @@ def tell(line: str) -> None:
 
 
 def main(arguments: list[str] | None = None) -> int:
-    """Builds, and answers the exit status."""
+    """Builds, and returns the exit status."""
     options = parser().parse_args(arguments)
     root, name, begun = os.path.abspath(options.root), options.name, time.monotonic()
     crates = crates_in(root, name)

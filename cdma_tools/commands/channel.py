@@ -1,16 +1,16 @@
 """Makes a recording as a radio would, from the sample files of cells.
 
-Each FILE is a sample file of version 1 or 2, as cdma_replay make writes it, one sample a chip and without noise:
+Each FILE is a sample file of version 1 or 2, as cdma_replay make writes it, with one sample per chip and no noise:
 FILE, FILE:DB or FILE:DB:CHIPS, with its level in dB and its delay in chips. RECORDING is a file of raw samples, or a
-.sigmf-meta, beside which the .sigmf-data is written; the .sigmf-meta then has the truth in a note: as name=value, and
-whole as `cdma_tools:arguments`, with which channel makes the same recording again, and `cdma_tools:cells`, each cell
-with its file's checksum, its level, its delay, and the powers of a chip of it and of its pilot.
+.sigmf-meta, next to which the .sigmf-data is written. The .sigmf-meta then has the truth in a note as name=value. It
+also has `cdma_tools:arguments`, with which channel makes the same recording again, and `cdma_tools:cells`: for each
+cell its file's checksum, level, delay, and the powers of a chip of it and of its pilot.
 
-The cells are sent with the pulse of TIA/EIA-95-B, 7.1.3.1.10, go over all --paths, and are recorded at --rate with
-the radio's errors. A positive --clock is a radio whose clock is slow, so that chips come faster. --ec-io adds noise
-until the first cell's pilot has that share of all power; --eb-nt DB:ROW:RATE until a bit of a Walsh row of the first
-cell, at so many bits a second, has that energy over the density of noise and other cells. The same arguments and seed
-give the same file. --ideal writes what an ideal receiver would have of the same link, for comparison.
+The cells are sent with the pulse of TIA/EIA-95-B, 7.1.3.1.10, over all --paths, and are recorded at --rate with the
+radio's errors. With a positive --clock the radio's clock is slow, so chips come faster. --ec-io adds noise until the
+first cell's pilot has that share of all power. --eb-nt DB:ROW:RATE adds noise until a bit of a Walsh row of the first
+cell, at RATE bits per second, has that energy over the density of noise and other cells. The same arguments and seed
+make the same file. --ideal writes what an ideal receiver gets from the same link, for comparison.
 
     tools/channel --type cu8 --rate 2400000 --carrier 2000 --clock 5 --ec-io -10 cell.is95 radio.sigmf-meta
     tools/channel --rate 4000000 --carrier -1500 --paths 0:0:0:10,1.5:-3:0:10 cell.is95 other.is95:-3:40 radio.sigmf-meta
@@ -84,7 +84,7 @@ def eb_nt_of(text: str) -> tuple[float, int, int]:
 
 
 def loss_of(text: str) -> tuple[int, int]:
-    """A sample, and how many are lost from there on."""
+    """Returns a sample, and the number of samples lost from there on."""
     place, _, count = text.partition(":")
     return count_of(place), count_of(count)
 
@@ -104,24 +104,24 @@ def cell_of(text: str) -> Cell:
 def parser() -> argparse.ArgumentParser:
     """The command line."""
     words = Parser("channel", __doc__)
-    words.add_argument("files", nargs="+", metavar="FILE[:DB[:CHIPS]]", help="cells, the first one the wanted")
+    words.add_argument("files", nargs="+", metavar="FILE[:DB[:CHIPS]]", help="cells, the wanted one first")
     words.add_argument("recording", metavar="RECORDING", help="raw samples, - for standard output, or a .sigmf-meta")
     words.add_argument(
         "--seconds",
         type=number_above(0, MOST_SECONDS),
         metavar="S",
-        help="at most so long; else as long as the first cell",
+        help="longest recording (default as long as the first cell)",
     )
     words.add_argument(
-        "--seed", type=count_of, default=1, metavar="N", help="of noise, fading and the carrier's phase, else 1"
+        "--seed", type=count_of, default=1, metavar="N", help="seed of noise, fading and the carrier's phase (default 1)"
     )
-    words.add_argument("--ideal", metavar="FILE", help="write the ideal receiver's sample file of the link too")
+    words.add_argument("--ideal", metavar="FILE", help="also write an ideal receiver's sample file of the link")
     noise = words.add_argument_group("the noise").add_mutually_exclusive_group()
     noise.add_argument(
-        "--ec-io", type=number_within(-100, 0), metavar="DB", help="the first cell's pilot over all power"
+        "--ec-io", type=number_within(-100, 0), metavar="DB", help="power of the first cell's pilot over all power"
     )
     noise.add_argument(
-        "--eb-nt", type=eb_nt_of, metavar="DB:ROW:RATE", help="a row's bit over the density of what disturbs it"
+        "--eb-nt", type=eb_nt_of, metavar="DB:ROW:RATE", help="energy of a row's bit over the density of noise and interference"
     )
     add_link_options(words)
     return words
@@ -132,14 +132,14 @@ def add_link_options(words: argparse.ArgumentParser) -> None:
     link = words.add_argument_group("the link")
     link.add_argument(
         "--paths", type=paths_of, default=[Path()], metavar="P,P,..",
-        help="DELAY[:DB[:DEGREES[:HZ]]] each: chips, level, phase, and the Doppler of a path that fades, else one path",
+        help="DELAY[:DB[:DEGREES[:HZ]]] each: chips, level, phase, and Doppler of a path that fades (default one path)",
     )  # fmt: skip
     link.add_argument("--equaliser", action="store_true", help="with the base station's phase equaliser")
-    link.add_argument("--delay", type=DELAY, default=0.0, metavar="CHIPS", help="of the first sample, any fraction")
+    link.add_argument("--delay", type=DELAY, default=0.0, metavar="CHIPS", help="delay of the first sample, any fraction")
     radio = words.add_argument_group("the radio")
-    radio.add_argument("--type", choices=TYPES, default="ci16_le", help="how the samples are kept, else ci16_le")
+    radio.add_argument("--type", choices=TYPES, default="ci16_le", help="sample type (default ci16_le)")
     radio.add_argument(
-        "--rate", type=rate_of, default=rate_of("2400000"), metavar="N", help="samples a second, else 2,400,000"
+        "--rate", type=rate_of, default=rate_of("2400000"), metavar="N", help="samples per second (default 2,400,000)"
     )
     for name, unit, reader, what in (
         ("carrier", "HZ", hertz_of, "by which the carrier lies above the middle"),
@@ -148,7 +148,7 @@ def add_link_options(words: argparse.ArgumentParser) -> None:
         ("clock-drift", "PPM", number_within(-100, 100), "by which that rises in a second"),
         ("dc", "PART", number_within(-1_000, 1_000), "an offset of both branches, as a part of the root mean square"),
     ):
-        radio.add_argument(f"--{name}", type=reader, default=0.0, metavar=unit, help=f"{what}, else 0")
+        radio.add_argument(f"--{name}", type=reader, default=0.0, metavar=unit, help=f"{what} (default 0)")
     radio.add_argument(
         "--iq", type=imbalance_of, default=(0.0, 0.0), metavar="DB:DEGREES", help="imbalance of the branches"
     )
@@ -156,16 +156,16 @@ def add_link_options(words: argparse.ArgumentParser) -> None:
         "--level",
         type=number_within(-200, 60),
         metavar="DB",
-        help="the root mean square against full scale; near 0 it overloads",
+        help="root mean square relative to full scale; near 0 it overloads",
     )
     radio.add_argument("--conjugate", action="store_true", help="an inverted spectrum")
     radio.add_argument(
-        "--lose", type=loss_of, action="append", metavar="AT:COUNT", help="from sample AT on so many are lost"
+        "--lose", type=loss_of, action="append", metavar="AT:COUNT", help="lose COUNT samples from sample AT on"
     )
 
 
 def radio_of(options: argparse.Namespace) -> Radio:
-    """The radio that the options tell."""
+    """Returns the radio of the options."""
     imbalance, skew = options.iq
     return Radio(
         options.rate, options.type, options.carrier, options.drift, options.clock, options.clock_drift, options.delay,
@@ -174,7 +174,7 @@ def radio_of(options: argparse.Namespace) -> Radio:
 
 
 def link_of(options: argparse.Namespace) -> Link:
-    """The link that the options tell."""
+    """Returns the link of the options."""
     link = Link([cell_of(text) for text in options.files], options.paths, options.seed)
     try:
         add_noise(options, link)
@@ -229,7 +229,7 @@ def arguments_of(options: argparse.Namespace) -> list[str]:
 
 
 def cell_told(text: str, cell: Cell) -> dict[str, object]:
-    """What is told of a cell."""
+    """Returns the description of a cell in the .sigmf-meta."""
     with open(cell.file.path, "rb") as file:
         checksum = hashlib.file_digest(file, "sha512").hexdigest()
     return {
@@ -239,7 +239,7 @@ def cell_told(text: str, cell: Cell) -> dict[str, object]:
 
 
 def truth(options: argparse.Namespace, link: Link) -> str:
-    """What the recording was made with, as name=value."""
+    """Returns the parameters of the recording, as name=value."""
     paths = ",".join(colons(path) for path in options.paths)
     share = decibels(link.pilot / (link.power + link.noise))
     more = [f"{name}={value}" for name, value in given_numbers(options).items()]
@@ -255,7 +255,7 @@ def truth(options: argparse.Namespace, link: Link) -> str:
 
 
 def write_recording(options: argparse.Namespace, link: Link, chips: int) -> Made:
-    """Writes the samples, and the .sigmf-meta where it is asked for."""
+    """Writes the samples, and the .sigmf-meta if one is requested."""
     is_sigmf = options.recording.endswith(sigmf.META)
     path = options.recording[: -len(sigmf.META)] + sigmf.DATA if is_sigmf else options.recording
     total = int(chips * float(options.rate) / CHIP_RATE)
@@ -274,7 +274,7 @@ def write_recording(options: argparse.Namespace, link: Link, chips: int) -> Made
 
 
 def write_all(options: argparse.Namespace, link: Link) -> Made:
-    """Writes the recording, and the ideal receiver's file where it is asked for, which is opened before all else."""
+    """Writes the recording and, if requested, the ideal receiver's file, which is opened first."""
     chips = link.cells[0].count
     if options.seconds:
         chips = min(chips, int(options.seconds * CHIP_RATE))
@@ -287,7 +287,7 @@ def write_all(options: argparse.Namespace, link: Link) -> Made:
 
 
 def main(arguments: list[str] | None = None) -> int:
-    """Runs the tool, and answers its exit status."""
+    """Runs the tool, and returns its exit status."""
     options = parser().parse_args(arguments)
     with contextlib.closing(link_of(options)) as link:
         made = write_all(options, link)

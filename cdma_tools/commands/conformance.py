@@ -1,14 +1,14 @@
-"""Asks a receiver what it makes of the cases here, and says what differs from what each case wants.
+"""Runs a receiver on the cases, and reports the differences from what each case expects.
 
-PROGRAM is run with the arguments of a case, over the input that this describes; what it writes, its exit status and,
-where the case says it, the line on standard error must be the case's. Most inputs are sample files made of the
-case's scripts, by `MAKER make`, where several scripts' samples are added up, and noise is added where the case says
-so. MAKER is PROGRAM where --maker names no other: so a receiver that makes no samples is tried with another
-program's, and the cases that ask for samples or for a trial are left out.
+PROGRAM is run with the arguments of a case, over the input that the case describes. Its output, its exit status and, if
+the case has one, its line on standard error must be the case's. Most inputs are sample files made from the case's
+scripts by `MAKER make`; samples of several scripts are added up, and noise is added if the case says so. MAKER is
+PROGRAM unless --maker names another. With --maker a receiver that makes no samples can be tried, and the cases about
+samples and trials are left out.
 
-What the cases want comes from model/, the link in plain Python, written from docs/LINK.md and docs/FORMATS.md alone.
-A receiver with arguments of its own is tried through a script that takes these. conformance/README.md has the form of a
-case.
+The expected results come from model/, the link in plain Python, which was written only from docs/LINK.md and
+docs/FORMATS.md. A receiver with other arguments is tried through a script that translates them. conformance/README.md
+has the form of a case.
 
     conformance/run crates/cdma_replay/out/cdma_replay
     conformance/run --maker cdma_replay ./receiver
@@ -16,24 +16,23 @@ case.
     conformance/run --jobs 4 ./receiver
     conformance/run --list
 
-Each case names the rules that it rests on; --list and --rules tell whose they are. With --standard only those cases
-are asked in which the standard alone fixes something: one cell's samples, without noise or with noise that each
-channel bears in any case. Of them the fields of sync and paging messages are compared, and the rate and the bits of
-good frames that no codeword of another rate comes near: not places, energies, the order of ties, power control bits,
-nor what stands before and after.
+Each case names its rules; --list and --rules say which of them are the standard's. --standard asks only for cases in
+which the standard itself fixes something: one cell's samples, without noise or with noise that each channel bears in
+every case. It compares the fields of sync and paging messages, and the rate and the bits of good frames that no
+codeword of another rate comes near. It doesn't compare places, energies, the order of ties, power control bits, or what
+comes before and after.
 
     conformance/run --standard --maker cdma_replay ./receiver
 
-A receiver may tell the steps of a frame, in lines that stand before those of the frame or of the message that ends in
-it (docs/FORMATS.md, "Steps of a frame"): the symbols as it hears them, the scrambling bits, soft values, the codeword,
-the quality indicator. With --explain such lines are taken, and where something differs it is said which step of the
-first frame that differs isn't that of tools/explain. Soft values are compared by their signs, where these are sure.
+A receiver may write the steps of a frame, in lines before those of the frame or of the message that ends in it
+(docs/FORMATS.md, "Steps of a frame"): the symbols as received, the scrambling bits, soft values, the codeword, the
+quality indicator. --explain accepts such lines. If something differs, it names the step of the first different frame
+that isn't that of tools/explain. Soft values are compared by their signs, if these are sure.
 
     conformance/run --explain --only traffic_9600 --maker cdma_replay ./receiver
 
-A receiver that doesn't end within --minutes, is ended by a signal, writes without end (64 MiB more than is wanted)
-or writes bytes that aren't text has failed that case, which says so; all that it has begun is ended, and the rest of
-the cases go on.
+A case fails if the receiver doesn't end within --minutes, is ended by a signal, writes without end (64 MiB more than
+expected) or writes bytes that aren't text. All processes that it began are ended, and the other cases continue.
 
 Exit status: 0 nothing differs, 1 something does, 2 wrong arguments or a case that can't be read.
 """
@@ -63,14 +62,14 @@ def parser() -> Parser:
     words = Parser("conformance", __doc__)
     add_options(words, "samples", "the inputs")
     words.add_argument(
-        "--standard", action="store_true", help="ask only for what the standard fixes, and compare no more than that"
+        "--standard", action="store_true", help="ask and compare only what the standard fixes"
     )
     words.add_argument(
         "--explain",
         action="store_true",
-        help="take lines of steps too, and say which step of the first frame that differs is another (by the model)",
+        help="accept lines of steps, and name the wrong step of the first frame that differs (by the model)",
     )
-    words.add_argument("--rules", action="store_true", help="write the table of rules that cases rest on, and run none")
+    words.add_argument("--rules", action="store_true", help="print the table of rules, and run no case")
     add_result_options(words)
     return words
 
@@ -86,7 +85,7 @@ def listed(names: Sequence[str]) -> None:
 
 
 def compared_by(options: argparse.Namespace) -> Compared:
-    """What compares an answer with a case."""
+    """Returns the function that compares an answer with a case."""
     plain = standard.differences if options.standard else differences
     if not options.explain:
         return lambda case, answer, words, data: plain(case, answer)
@@ -96,7 +95,7 @@ def compared_by(options: argparse.Namespace) -> Compared:
 
 
 def result_of(case: Case, options: argparse.Namespace) -> tuple[Result, str]:
-    """What comes of a case, and what a reader is told of it."""
+    """Returns the result of a case, and its report."""
     began = time.monotonic()
     maker = options.maker or options.program
     found = tried(case, options.program, maker, options.keep, options.minutes, compared_by(options))
@@ -107,21 +106,21 @@ def result_of(case: Case, options: argparse.Namespace) -> tuple[Result, str]:
 
 
 def reason_of(case: Case, options: argparse.Namespace) -> str:
-    """Why a case is left out; empty where it is asked."""
+    """Returns why a case is left out, empty if it isn't."""
     if options.standard:
         return standard.reason(case)
     return MAKES if options.maker and not options.only and case.makes() else ""
 
 
 def taken(options: argparse.Namespace, name: str) -> tuple[Result, str]:
-    """What comes of a case that may be left out, and what a reader is told of it."""
+    """Returns the result of a case that may be left out, and its report."""
     case = Case(name)
     why = reason_of(case, options)
     return (Result(name, case.purpose, left_out=why), "") if why else result_of(case, options)
 
 
 def run_all(names: Sequence[str], options: argparse.Namespace) -> int:
-    """Runs the cases, writes what differs, and answers in how many something does."""
+    """Runs the cases, writes the differences, and returns the number of cases that differ."""
     results = Results("conformance", options, len(names))
     for result, text in mapped_in_turn(functools.partial(taken, options), names, options.jobs):
         results.take(result, text)
@@ -132,7 +131,7 @@ def run_all(names: Sequence[str], options: argparse.Namespace) -> int:
 
 
 def main(arguments: list[str] | None = None) -> int:
-    """Runs the tool, and answers its exit status."""
+    """Runs the tool, and returns its exit status."""
     options, names = checked(parser(), arguments, names_of_cases())
     if options.rules:
         print("\n".join(table_rows()))

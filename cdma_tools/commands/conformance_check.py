@@ -1,7 +1,7 @@
-"""Makes each case anew by the model, and says what differs from what the case wants.
+"""Makes each case again with the model, and reports the differences from the case.
 
-The samples, the text and the status are those of `model/`, the link in plain Python, so a difference is a case that was
-changed by hand, or a model that was. Cases with more samples than eight million take long, and are left out without
+The samples, the text and the status are those of `model/`, the link in plain Python, so a difference means that the
+case or the model was changed by hand. Cases of more than eight million samples take long, and are left out without
 --all. `conformance/write` brings a case up to date.
 
     conformance/check
@@ -23,26 +23,26 @@ from cdma_tools.workers import add_jobs_option, mapped
 def parser() -> Parser:
     """The command line."""
     words = Parser("conformance_check", __doc__)
-    words.add_argument("names", nargs="*", metavar="NAME", help="these cases alone, else all that don't take long")
-    words.add_argument("--all", action="store_true", help="those that take long too")
+    words.add_argument("names", nargs="*", metavar="NAME", help="cases to check (default all that don't take long)")
+    words.add_argument("--all", action="store_true", help="also check cases that take long")
     add_jobs_option(words, "cases")
     return words
 
 
 def looked_at(name: str) -> str:
-    """What is written of a case: nothing where nothing differs. Raises `Refused`."""
+    """Returns the report of a case, empty if nothing differs; raises `Refused`."""
     case = cases.Case(name)
     return "".join(cases.shown(case, words, said) for words, said in differences(case))
 
 
 def main(arguments: list[str] | None = None) -> int:
-    """Runs the tool, and answers its exit status."""
+    """Runs the tool, and returns its exit status."""
     words = parser()
     options = words.parse_args(arguments)
     names = cases.names_of_cases()
     for name in options.names:
         if name not in names:
-            words.error(f"no case {name}: conformance/run --list has them all")
+            words.error(f"no case {name}: conformance/run --list lists all cases")
     try:
         chosen = options.names or [name for name in names if options.all or not is_long(cases.Case(name))]
         differ = 0

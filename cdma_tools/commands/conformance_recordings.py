@@ -1,12 +1,12 @@
-"""Asks a receiver what it hears of recordings of a radio, and says what differs from what was sent.
+"""Runs a receiver on recordings of a radio, and reports the differences from what was sent.
 
-Of each case in recordings/ the cells are made of its scripts, by `MAKER make`, a recording of them by tools/channel,
-and a sample file of that by tools/import_capture --lock. PROGRAM is then run with the case's arguments and the sample
-file on standard input. Of what it writes, the lines of messages and frames count, in their order, without their
-places: a radio's first sample lies anywhere. MAKER is PROGRAM where --maker names no other.
+For each case in recordings/, `MAKER make` makes the cells from its scripts, tools/channel makes a recording of them,
+and tools/import_capture --lock makes a sample file of that. PROGRAM is then run with the case's arguments and the
+sample file on standard input. Only the lines of messages and frames count, in their order and without their places,
+because a radio's first sample lies anywhere. MAKER is PROGRAM unless --maker names another.
 
-The lines that are wanted are those of the cell itself, without a radio, as a program of its own hears it that was
-written from the rules in docs/LINK.md and docs/FORMATS.md. --clean leaves the radio out, and so tries just them.
+The expected lines are those of the cell itself, without a radio, as decoded by an independent program that was written
+from docs/LINK.md and docs/FORMATS.md. --clean leaves the radio out, and so tries only these.
 
     conformance/run_recordings crates/cdma_replay/out/cdma_replay
     conformance/run_recordings --maker cdma_replay ./receiver
@@ -14,8 +14,8 @@ written from the rules in docs/LINK.md and docs/FORMATS.md. --clean leaves the r
     conformance/run_recordings --json ./receiver > results.json
     conformance/run_recordings --list
 
-A receiver that doesn't end within --minutes, is ended by a signal or writes without end (more than 64 MiB) has
-failed that case, which says so, and the rest of the cases go on.
+A case fails if the receiver doesn't end within --minutes, is ended by a signal or writes without end (more than 64
+MiB). The other cases continue.
 
 Exit status: 0 nothing differs, 1 something does, 2 wrong arguments or a case that can't be read.
 """
@@ -63,7 +63,7 @@ class RecordedCase:
             raise Refused(f"the case {name} has {len(self.scripts)} scripts, and levels of another number of cells")
 
     def take(self, line: str, block: list[str] | None) -> list[str] | None:
-        """Takes a line, and answers the block that the next one may belong to."""
+        """Takes a line, and returns the block to which the next one may belong."""
         if line.startswith("  ") and block is not None:
             block.append(line[2:])
             return block
@@ -74,13 +74,13 @@ class RecordedCase:
             return self.lines
         key, separator, value = line.partition(":")
         if not separator:
-            raise Refused(f"the case {self.name} has a line that is none: {line[:60]!r}")
+            raise Refused(f"the case {self.name} has a wrong line: {line[:60]!r}")
         self.fields[key] = value.strip()
         return None
 
 
 def made(words: list[str], minutes: int, data: bytes = b"") -> bytes:
-    """What a program writes that has to end well."""
+    """Returns the output of a program that must succeed."""
     try:
         ran = subprocess.run(words, input=data, capture_output=True, timeout=60 * minutes)
     except OSError as why:
@@ -123,7 +123,7 @@ def lines_of(text: bytes) -> list[str]:
 
 
 def differences(wanted: list[str], heard: list[str]) -> list[str]:
-    """What differs, in lines; none where nothing does."""
+    """Returns the differences in lines, empty if there is none."""
     changed = [
         line
         for line in difflib.unified_diff(wanted, heard, "wanted", "heard", lineterm="", n=0)
@@ -134,7 +134,7 @@ def differences(wanted: list[str], heard: list[str]) -> list[str]:
 
 
 def tried(case: RecordedCase, options: argparse.Namespace, folder: str) -> list[str]:
-    """What differs in one case."""
+    """Returns the differences in one case."""
     path = samples_of(case, options.maker or options.program, folder, options.clean, options.minutes)
     with open(path, "rb") as file:
         if not options.keep:
@@ -154,14 +154,14 @@ def parser() -> Parser:
     words = Parser("conformance_recordings", __doc__)
     add_options(words, "cells", "all files")
     words.add_argument(
-        "--clean", action="store_true", help="leave the radio out: the receiver gets the cell's own samples"
+        "--clean", action="store_true", help="leave the radio out: give the receiver the cell's own samples"
     )
     add_result_options(words)
     return words
 
 
 def result_of(options: argparse.Namespace, name: str) -> tuple[Result, str]:
-    """What comes of a case, and what a reader is told of it."""
+    """Returns the result of a case, and its report."""
     began, case = time.monotonic(), RecordedCase(name)
     with tempfile.TemporaryDirectory(prefix="recordings-") as folder:
         found = tried(case, options, options.keep or folder)
@@ -172,7 +172,7 @@ def result_of(options: argparse.Namespace, name: str) -> tuple[Result, str]:
 
 
 def run_all(names: list[str], options: argparse.Namespace) -> int:
-    """Tries the cases, writes what differs, and answers in how many something does."""
+    """Tries the cases, writes the differences, and returns the number of cases that differ."""
     results = Results("recordings", options, len(names))
     for result, text in mapped_in_turn(functools.partial(result_of, options), names, options.jobs):
         results.take(result, text)
@@ -180,7 +180,7 @@ def run_all(names: list[str], options: argparse.Namespace) -> int:
 
 
 def main(arguments: list[str] | None = None) -> int:
-    """Runs the tool, and answers its exit status."""
+    """Runs the tool, and returns its exit status."""
     options, names = checked(parser(), arguments, names_in(CASES))
     try:
         if not options.list:

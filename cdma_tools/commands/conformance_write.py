@@ -1,15 +1,15 @@
-"""Makes what a case wants by the model, from its arguments and its input, and puts it into the case's file.
+"""Writes the expected results of a case into its file, as the model computes them from its arguments and its input.
 
 A case begins as conformance/cases/NAME.case with `purpose:`, `words:` and its input: a script after `script:`, with
-`bits:`, or bytes after `file:`. Status, rules, checksum and text, and above status 1 the line on standard error,
-are put in, or put right where they stand already; all other lines stay. Of `make` the number of bytes and their
-checksum are put in place of a text.
+`bits:`, or bytes after `file:`. This tool adds or corrects the status, rules, checksum and text, and above status 1 the
+line on standard error; all other lines remain. For `make` it writes the number of bytes and their checksum instead of a
+text.
 
     conformance/write my_case
     conformance/write --print my_case
 
-Exit status: 0 written, or nothing was to be changed, 1 a case makes no input, or its runs don't end alike, 2 wrong
-arguments or a case that can't be read. What isn't written stays as it was.
+Exit status: 0 written, or nothing to change, 1 a case makes no input, or its runs don't end alike, 2 wrong arguments or
+a case that can't be read. A case that isn't written stays as it was.
 """
 
 from __future__ import annotations
@@ -29,7 +29,7 @@ FIRST_WITH_ERROR = 2
 
 
 def wants(case: Draft) -> dict[str, Item]:
-    """What the model says of a case, by the keys of its file; raises `Refused` where its runs don't end alike."""
+    """Returns the model's results for a case, by the keys of its file; raises `Refused` if its runs don't end alike."""
     data = input_of(case)
     answers = [answer_of(case, words, data) for words in case.runs]
     answer = answers[0]
@@ -53,7 +53,7 @@ def wants(case: Draft) -> dict[str, Item]:
 
 
 def brought_up_to_date(name: str, text: str) -> str:
-    """A case's file with what the model wants in it: new lines stand where the table of the form has them."""
+    """Returns a case's file with the model's results; new lines are placed in the order of the table of the form."""
     items = items_of(text)
     found = wants(Draft(name, items))
     if "output" in found:
@@ -72,8 +72,8 @@ def brought_up_to_date(name: str, text: str) -> str:
 def parser() -> Parser:
     """The command line."""
     words = Parser("conformance_write", __doc__)
-    words.add_argument("names", nargs="+", metavar="NAME", help="the name of a case")
-    words.add_argument("--print", action="store_true", help="print the files, and write none")
+    words.add_argument("names", nargs="+", metavar="NAME", help="name of a case")
+    words.add_argument("--print", action="store_true", help="print the files instead of writing them")
     return words
 
 
@@ -99,7 +99,7 @@ def bring_up_to_date(name: str, is_printed: bool) -> None:
 
 
 def main(arguments: list[str] | None = None) -> int:
-    """Runs the tool, and answers its exit status."""
+    """Runs the tool, and returns its exit status."""
     options = parser().parse_args(arguments)
     for name in options.names:
         bring_up_to_date(name, options.print)

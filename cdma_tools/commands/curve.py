@@ -1,8 +1,8 @@
 """Measures how often a receiver loses the frames of a traffic channel, over Eb/Nt: counts, a CSV and a picture.
 
-SCRIPT names a cell with a traffic channel (docs/FORMATS.md). Its samples are made once, by the program, here MAKER.
-At each Eb/Nt from --from to --to files are made of them with white Gaussian noise, one after the other; the receiver
-hears each, and each of its frame lines is compared with the frame that was sent:
+SCRIPT names a cell with a traffic channel (docs/FORMATS.md). The program, here MAKER, makes its samples once. At each
+Eb/Nt from --from to --to, files are made from them with white Gaussian noise, one after the other. The receiver decodes
+each, and each of its frame lines is compared with the frame that was sent:
 
     lost              no line
     marked_bad        good=0, and not the frame that was sent
@@ -10,43 +10,42 @@ hears each, and each of its frame lines is compared with the frame that was sent
     other_rate        good=1, with another rate
     wrong_but_good    good=1, with the right rate and wrong bits
 
-All of these are errors. Sync and paging messages are counted as lost where they aren't heard. What is to be heard is
-what MAKER hears of the samples without noise. A point ends after the file with which each receiver has --errors
-errors of frames, or with which --frames frames were sent. Where frames have several rates they are counted by rate,
-and --from and --to are the Eb/Nt of the greatest one.
+All of these are errors. Sync and paging messages are lost if they aren't decoded. The expected lines are those that
+MAKER decodes from the samples without noise. A point ends after the file with which each receiver has --errors errors
+of frames, or with which --frames frames were sent. Frames of several rates are counted by rate, and --from and --to are
+the Eb/Nt of the greatest one.
 
-DIR gets counts.sqlite, which keeps each file's counts as they come, so that a run that was broken off goes on where
-it was; curve.csv; and curve.png, with the union bound of the code. The noise depends on the seed, the point and the
-file's number alone: the counts are the same on every machine, for any number of workers. docs/CURVES.md has the
-formulas.
+DIR gets counts.sqlite, which keeps each file's counts as they come, so that an interrupted run continues; curve.csv;
+and curve.png, with the union bound of the code. The noise depends only on the seed, the point and the file's number, so
+the counts are the same on every machine and for any number of workers. docs/CURVES.md has the formulas.
 
     tools/curve examples/frames_9600.script --from 1 --to 3 --step 0.5 --frames 5000
     tools/curve examples/frames_9600.script --from 1 --to 3 --step 0.5 --frames 5000 \\
         --words follow --words "list --k 4" --out lists
     tools/curve examples/frames_9600.script --from 1 --to 3 --step 0.5 --frames 5000 --receiver ./my_receiver
 
-With --channel the samples go over a link and into a radio, whose recording is locked to as tools/import_capture --lock
-does it: so a receiver is measured from its antenna on, with the lock as its synchronisation. OPTIONS are those of
+With --channel the samples go over a link and into a radio, and the lock of tools/import_capture --lock follows the
+recording. So a receiver is measured from its antenna on, with the lock as its synchronisation. OPTIONS are those of
 tools/channel for the link and the radio: --paths with Rayleigh fading, --carrier, --clock, --delay, --type, --rate and
-so on. Each file is a recording with fading and noise of its own. What meets chips for which the lock heard no pilot,
-or is in a file that it refuses, is counted apart, as unlocked, and is an error too. Each DB is that of the mean power.
+so on. Each file is a recording with fading and noise of its own. A frame or message is counted apart, as unlocked, if
+the lock found no pilot for its chips or refuses the file; that is an error too. Each DB is that of the mean power.
 
     tools/curve examples/frames_9600.script --from 3 --to 9 --step 2 --frames 3000 \\
         --channel "--paths 0:0:0:81.4 --carrier 300 --clock 3 --delay 0.3" --out kmh100
 
---limits FILE names a CSV of the frame error rates that are allowed: its first line is point_db,share or
-point_db,channel,share, and each further one has the Eb/Nt of a point from --from to --to, a channel as curve.csv names
-it (else each channel of frames), and the greatest share of frames in error. Each receiver passes a limit where the 95 %
-interval lies at or below it, and fails where the interval is above it, or holds it: more --frames then tell.
+--limits FILE names a CSV of the allowed frame error rates. Its first line is point_db,share or point_db,channel,share.
+Each further line has the Eb/Nt of a point from --from to --to, a channel as curve.csv names it (default: each channel
+of frames), and the greatest share of frames in error. A receiver passes a limit if the 95 % interval lies at or below
+it. It fails if the interval lies above it, or includes it: then more --frames decide.
 
     tools/curve examples/frames_9600.script --from 2 --to 3 --step 1 --frames 5000 \\
         --limits limits.csv --junit results.xml
 
-With --tap and --json the results take the place of the table. A case of them is a limit of a receiver, and without
-limits a channel of a receiver at a point; --against is a case of its own.
+With --tap and --json the results replace the table. A case is a limit of a receiver, or without limits a channel of a
+receiver at a point; --against is a case of its own.
 
-Exit status: 0 all points were counted, 1 something failed, a limit isn't met or --against differs, and what was
-counted is kept, 2 wrong arguments.
+Exit status: 0 all points were counted, 1 something failed, a limit isn't met or --against differs, and the counts are
+kept, 2 wrong arguments.
 """
 
 import argparse
@@ -121,10 +120,10 @@ def is_factor(factor: complex) -> bool:
 
 
 class LinkOptions(PartParser):
-    """The options of a link that stand within one argument; a fault is one of that argument."""
+    """The options of a link within one argument; a fault in them is a fault of that argument."""
 
     def error(self, message: str) -> NoReturn:
-        """Raises the fault, which is told of the argument."""
+        """Raises the fault, which is reported for the argument."""
         raise argparse.ArgumentTypeError(message)
 
 
@@ -135,7 +134,7 @@ def antenna_of(text: str) -> Antenna:
     try:
         given = shlex.split(text)
     except ValueError as why:
-        raise wrong(f"no options, {why}", text) from None
+        raise wrong(f"wrong options: {why}", text) from None
     options = words.parse_args(joined(given))
     if options.rate < CHIP_RATE:
         raise wrong(f"a lock needs {CHIP_RATE:,} samples a second or more", text)
@@ -145,28 +144,28 @@ def antenna_of(text: str) -> Antenna:
 def parser() -> argparse.ArgumentParser:
     """The command line."""
     words = Parser("curve", __doc__)
-    words.add_argument("script", metavar="SCRIPT", help="the script of a cell with a traffic channel")
-    words.add_argument("--from", dest="begin", type=DECIBELS, metavar="DB", required=True, help="the first Eb/Nt")
-    words.add_argument("--to", dest="end", type=DECIBELS, metavar="DB", required=True, help="the last Eb/Nt")
+    words.add_argument("script", metavar="SCRIPT", help="script of a cell with a traffic channel")
+    words.add_argument("--from", dest="begin", type=DECIBELS, metavar="DB", required=True, help="first Eb/Nt")
+    words.add_argument("--to", dest="end", type=DECIBELS, metavar="DB", required=True, help="last Eb/Nt")
     words.add_argument(
         "--step",
         type=Within(Decimal, 0, MOST_DECIBELS, is_above=True),
         metavar="DB",
         required=True,
-        help="the step between two",
+        help="step between two Eb/Nt",
     )
-    words.add_argument("--frames", type=FRAMES, metavar="N", required=True, help="frames that are enough for a point")
-    words.add_argument("--errors", type=FRAMES, metavar="N", default=ERRORS, help=f"errors that are, else {ERRORS}")
-    words.add_argument("--receiver", metavar="PROGRAM", help="the receiver; MAKER is counted beside it, else alone")
+    words.add_argument("--frames", type=FRAMES, metavar="N", required=True, help="number of frames that completes a point")
+    words.add_argument("--errors", type=FRAMES, metavar="N", default=ERRORS, help=f"number of errors that completes a point (default {ERRORS})")
+    words.add_argument("--receiver", metavar="PROGRAM", help="receiver to count besides MAKER (default only MAKER)")
     add_program_option(words, "--maker")
     words.add_argument(
         "--words",
         action="append",
         metavar="ARGUMENTS",
-        help="the receiver's arguments, else follow or rate2; may be given again",
+        help="arguments of the receiver (default follow or rate2); may be repeated",
     )
     words.add_argument(
-        "--row", type=whole_within(1, 63), metavar="N", help="the traffic channel's row, else the first's"
+        "--row", type=whole_within(1, 63), metavar="N", help="row of the traffic channel (default the first)"
     )
     words.add_argument(
         "--path",
@@ -174,7 +173,7 @@ def parser() -> argparse.ArgumentParser:
         action="append",
         default=[],
         metavar="D:F",
-        help="another path, D chips later, F times the script's own; may be given again",
+        help="another path, D chips later, F times the script's own; may be repeated",
     )
     words.add_argument(
         "--channel",
@@ -183,38 +182,38 @@ def parser() -> argparse.ArgumentParser:
         help="send the samples over a link of tools/channel, record them with its radio, and lock to the recording",
     )
     words.add_argument(
-        "--other", action="append", default=[], metavar="SCRIPT", help="another cell on the air; may be given again"
+        "--other", action="append", default=[], metavar="SCRIPT", help="another cell on the air; may be repeated"
     )
     words.add_argument(
         "--seed",
         type=whole_within(0, (1 << 64) - 1),
         metavar="N",
         default=SEED,
-        help=f"the seed of the noise, else {SEED}",
+        help=f"seed of the noise (default {SEED})",
     )
     words.add_argument(
         "--workers",
         type=whole_within(1, MOST_WORKERS),
         metavar="N",
-        help="workers on this machine, else one a processor",
+        help="number of workers on this machine (default one per processor)",
     )
-    words.add_argument("--scheduler", metavar="ADDRESS", help="a scheduler of dask.distributed, as tcp://host:8786")
+    words.add_argument("--scheduler", metavar="ADDRESS", help="scheduler of dask.distributed, for example tcp://host:8786")
     words.add_argument(
         "--minutes",
         type=number_above(0, MOST_MINUTES),
         metavar="N",
         default=MINUTES,
-        help=f"for a run, else {MINUTES:g}",
+        help=f"longest time of a run, in minutes (default {MINUTES:g})",
     )
-    words.add_argument("--out", metavar="DIR", help="the folder of the counts, else SCRIPT's name and .curve")
+    words.add_argument("--out", metavar="DIR", help="folder of the counts (default SCRIPT's name and .curve)")
     words.add_argument(
-        "--beside", action="append", default=[], metavar="DIR", help="a folder to draw too; may be given again"
+        "--beside", action="append", default=[], metavar="DIR", help="another folder to draw; may be repeated"
     )
-    words.add_argument("--title", type=title_of, metavar="TEXT", help="the picture's title")
+    words.add_argument("--title", type=title_of, metavar="TEXT", help="title of the picture")
     words.add_argument(
         "--against", metavar="CSV", help="compare the counts with those of an older curve.csv, at most 16 MiB"
     )
-    words.add_argument("--limits", metavar="FILE", help="hold the shares of frames in error against those allowed here")
+    words.add_argument("--limits", metavar="FILE", help="compare the shares of frames in error with the limits in this file")
     add_result_options(words)
     return words
 
@@ -224,7 +223,7 @@ def text_of(path: str) -> str:
     try:
         return io.StringIO(read_within(path, MEGABYTE).decode("ascii"), newline=None).read()
     except UnicodeDecodeError:
-        raise Refused(f"{path}: no script: it isn't ASCII text") from None
+        raise Refused(f"{path}: not a script: it isn't ASCII text") from None
 
 
 def label_of(program: str, words: str, antenna: Antenna | None) -> str:
@@ -317,7 +316,7 @@ def rows_of(setup: Setup, ready: Prepared, ledger: Ledger, levels: dict[int, flo
 
 
 def compared(kept: Sequence[report.Row], rows: Sequence[report.Row], path: str) -> Result:
-    """What comes of a comparison with older rows; what differs is said on standard error too."""
+    """Returns the result of a comparison with older rows, and writes the differences to standard error."""
     differing = report.differences(kept, rows)
     for line in differing:
         said(called("curve"), line)
@@ -367,7 +366,7 @@ def run(options: argparse.Namespace) -> int:
 
 
 def main(arguments: list[str] | None = None) -> int:
-    """Runs the tool, and answers its exit status."""
+    """Runs the tool, and returns its exit status."""
     words = parser()
     options = words.parse_args(arguments)
     if options.channel and options.path:

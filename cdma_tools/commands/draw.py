@@ -1,18 +1,17 @@
 """Draws what the program writes, as a picture: PNG or SVG, by the end of its name.
 
-    tools/draw survey PICTURE [LINES]        the strengths of pilots, as bars
-    tools/draw follow PICTURE [LINES]        a run of a handset, as a time line
-    tools/draw correlation PICTURE FILE      the correlation of a sample file with the pilot's code
+    tools/draw survey PICTURE [LINES]        strengths of pilots, as bars
+    tools/draw follow PICTURE [LINES]        run of a handset, as a time line
+    tools/draw correlation PICTURE FILE      correlation of a sample file with the pilot's code
 
-LINES is a file with the lines that `survey` or `follow` wrote, or - for standard input, which it is where it
-isn't given. FILE is a sample file, or - for standard input; its correlation is computed here. An input of more than
-256 MiB is refused.
+LINES is a file with the lines that `survey` or `follow` wrote, or - for standard input (default). FILE is a sample
+file, or - for standard input; this tool computes its correlation. An input of more than 256 MiB is refused.
 
     cdma_replay survey --top 20 < radio.is95 | tools/draw survey strengths.png
     cdma_replay follow < second.is95 | tools/draw follow run.svg
     tools/draw correlation peak.png examples/pilot_in_noise.is95
 
-Exit status: 0 drawn, 1 the input isn't what is drawn or the picture can't be written, 2 wrong arguments.
+Exit status: 0 drawn, 1 the input has another form or the picture can't be written, 2 wrong arguments.
 """
 
 import argparse
@@ -42,9 +41,9 @@ def read_lines(lines: Iterable[str], kinds: tuple[str, ...], command: str) -> It
         try:
             read = read_line(line)
         except NoLine as why:
-            raise Refused(f"line {number} is no line of {command}: {why}: {line[:60]!r}") from None
+            raise Refused(f"line {number} is not a line of {command}: {why}: {line[:60]!r}") from None
         if read["line"] not in kinds:
-            raise Refused(f"line {number} is no line of {command}: {line[:60]!r}")
+            raise Refused(f"line {number} is not a line of {command}: {line[:60]!r}")
         yield number, read
 
 
@@ -57,15 +56,15 @@ def strengths_of(lines: Iterable[str]) -> list[tuple[int, int, int]]:
 
 
 def run_of(lines: Iterable[str]) -> Run:
-    """The run that lines of follow tell."""
+    """Returns the run that lines of follow describe."""
     run = Run(read_lines(lines, FOLLOWED, "follow"))
     if run.is_empty:
-        raise Refused("no line of follow that tells an event after the pilot")
+        raise Refused("no line of follow with an event after the pilot")
     return run
 
 
 def draw_survey(pyplot: Any, options: argparse.Namespace, found: list[tuple[int, int, int]]) -> Any:
-    """The figure of a survey: bars by rank, or by pilot where there are many."""
+    """Returns the figure of a survey: bars by rank, or by pilot if there are many."""
     found = found[: options.top] if options.top else found
     figure, axes = pyplot.subplots(figsize=(9, 4))
     energies = [energy for _, _, energy in found]
@@ -137,7 +136,7 @@ def draw_commands(axes: Any, run: Run) -> None:
 
 
 def draw_sets(axes: Any, run: Run) -> None:
-    """A lane for each pilot: active broad, a candidate narrow, and a mark where a report was due."""
+    """Draws a lane for each pilot: broad while active, narrow while a candidate, and a mark when a report was due."""
     active, candidates = run.spans("active"), run.spans("candidate")
     pilots = sorted({*active, *candidates})
     for name, spans, height, color in (("active", active, 0.6, "#2f6f9f"), ("candidate", candidates, 0.25, "#d08a2a")):
@@ -184,25 +183,25 @@ def parser() -> argparse.ArgumentParser:
     words = Parser("draw", __doc__)
     kinds = words.add_subparsers(dest="kind", required=True, metavar="KIND", parser_class=PartParser)
     survey = kinds.add_parser("survey", help="the strengths of pilots, as bars")
-    survey.add_argument("--top", type=whole_within(1, 512), metavar="N", help="draw the first N lines alone")
-    survey.add_argument("--log", action="store_true", help="a logarithmic scale, where no energy is 0")
+    survey.add_argument("--top", type=whole_within(1, 512), metavar="N", help="draw only the first N lines")
+    survey.add_argument("--log", action="store_true", help="logarithmic scale, if no energy is 0")
     follow = kinds.add_parser("follow", help="a run of a handset, as a time line")
     correlation = kinds.add_parser("correlation", help="the correlation with the pilot's code around its best phase")
     correlation.add_argument(
-        "--span", type=whole_within(64, PERIOD), default=2_048, metavar="N", help="samples, else 2048"
+        "--span", type=whole_within(64, PERIOD), default=2_048, metavar="N", help="number of samples (default 2048)"
     )
     correlation.add_argument(
-        "--width", type=whole_within(1, 1_000), default=32, metavar="N", help="chips to each side, else 32"
+        "--width", type=whole_within(1, 1_000), default=32, metavar="N", help="chips to each side (default 32)"
     )
     correlation.add_argument(
-        "--phase", type=whole_within(0, PERIOD - 1), metavar="N", help="look around this phase, not the best"
+        "--phase", type=whole_within(0, PERIOD - 1), metavar="N", help="draw around this phase instead of the best"
     )
     for kind, name in ((survey, "LINES"), (follow, "LINES"), (correlation, "FILE")):
         kind.add_argument(
-            "picture", type=picture_of, metavar="PICTURE", help="the file to write, .png or .svg, - for standard output"
+            "picture", type=picture_of, metavar="PICTURE", help="file to write, .png or .svg, - for standard output"
         )
-        kind.add_argument("input", nargs="?", default="-", metavar=name, help="what is drawn, - for standard input")
-        kind.add_argument("--title", type=title_of, metavar="TEXT", help="the title, in place of the tool's own")
+        kind.add_argument("input", nargs="?", default="-", metavar=name, help="input to draw, - for standard input")
+        kind.add_argument("--title", type=title_of, metavar="TEXT", help="title instead of the tool's own")
     return words
 
 
@@ -218,7 +217,7 @@ def lines_of(data: bytes) -> list[str]:
     try:
         return data.decode("ascii").splitlines()
     except UnicodeDecodeError:
-        raise Refused("it isn't text of the program") from None
+        raise Refused("it is not text of the program") from None
 
 
 def drawn(options: argparse.Namespace, data: bytes) -> Any:
@@ -233,7 +232,7 @@ def drawn(options: argparse.Namespace, data: bytes) -> Any:
 
 
 def main(arguments: list[str] | None = None) -> int:
-    """Runs the tool, and answers its exit status."""
+    """Runs the tool, and returns its exit status."""
     options = parser().parse_args(arguments)
     data = read_input(options.input)
     try:

@@ -7,19 +7,18 @@
 Frames of the sync channel are counted from the first that begins in the file, those of a paging or a traffic channel
 from the mark, which the first sync message sets. Each step is a value of docs/LINK.md that can be computed by hand:
 
-    1  the pilot sums of each finger, and the symbol sums before and after the pilot has turned them
-    2  the scrambling bits: chips of the long code
-    3  the soft values in the order in which the symbols are sent, turned back by the scrambling bits
-    4  the soft values of the code symbols, in the encoder's order: those of the rate that is shown
-    5  the best codeword of each rate, with its score and that of the next best
-    6  the quality indicator, as sent and as computed
-    7  the bits with their fields, and what they say
+    1  pilot sums of each finger, and symbol sums before and after the pilot has turned them
+    2  scrambling bits: chips of the long code
+    3  soft values in the order in which the symbols are sent, descrambled
+    4  soft values of the code symbols, in the encoder's order, at the rate that is shown
+    5  the best codeword of each rate, with its score and that of the second best
+    6  quality indicator, as sent and as computed
+    7  the bits with their fields, and what they mean
 
-In steps 3 and 4 a letter is a symbol: 0 or 1 where it is sure, o or i where it is weaker than half of the mean, p where
-a power control bit stands, . where nothing is known.
+In steps 3 and 4 a letter is a symbol: 0 or 1 if it is sure, o or i if it is weaker than half of the mean, p for a power
+control bit, . if nothing is known.
 
-Exit status: 0 shown, 1 there is no such frame, or the file or the picture can't be read or written, 2 wrong
-arguments.
+Exit status: 0 shown, 1 there is no such frame, or the file or the picture can't be read or written, 2 wrong arguments.
 """
 
 from __future__ import annotations
@@ -129,7 +128,7 @@ def reading_lines(steps: Steps) -> list[str]:
 
 
 def quality_lines(steps: Steps) -> list[str]:
-    """The quality indicators, where the channel has them."""
+    """Returns the quality indicators, if the channel has them."""
     told = []
     for reading in steps.readings:
         if reading.right:
@@ -188,26 +187,26 @@ def parser() -> argparse.ArgumentParser:
         "--traffic", nargs=2, metavar=("ESN", "ROW"), help="a frame of the traffic channel on row 1 to 63, not 32"
     )
     words.add_argument(
-        "--offset", type=whole_within(0, 15), default=0, metavar="N", help="the traffic channel's FRAME_OFFSET, else 0"
+        "--offset", type=whole_within(0, 15), default=0, metavar="N", help="FRAME_OFFSET of the traffic channel (default 0)"
     )
-    words.add_argument("--rate-set", type=int, choices=[1, 2], default=1, help="the traffic channel's, else 1")
+    words.add_argument("--rate-set", type=int, choices=[1, 2], default=1, help="rate set of the traffic channel (default 1)")
     words.add_argument(
-        "--frame", type=whole_within(0, 1 << 20), default=0, metavar="K", help="which frame, from 0 on, else 0"
-    )
-    words.add_argument(
-        "--span", type=whole_within(64, 32_768), default=2_048, metavar="N", help="samples that are searched, else 2048"
+        "--frame", type=whole_within(0, 1 << 20), default=0, metavar="K", help="number of the frame, from 0 on (default 0)"
     )
     words.add_argument(
-        "--fingers", type=whole_within(1, 3), default=1, metavar="N", help="paths of the base station, else 1"
+        "--span", type=whole_within(64, 32_768), default=2_048, metavar="N", help="number of samples searched (default 2048)"
     )
     words.add_argument(
-        "--picture", type=picture_of, metavar="PICTURE", help="draw the steps too: PNG or SVG, by the end of the name"
+        "--fingers", type=whole_within(1, 3), default=1, metavar="N", help="number of paths of the base station (default 1)"
+    )
+    words.add_argument(
+        "--picture", type=picture_of, metavar="PICTURE", help="also draw the steps: PNG or SVG, by the end of the name"
     )
     return words
 
 
 def checked(given: list[str] | None) -> argparse.Namespace:
-    """The options; ends the program where an argument is wrong."""
+    """Returns the options; ends the program if an argument is wrong."""
     words = parser()
     options = words.parse_args(given)
     if options.traffic and not re.fullmatch("[0-9a-fA-F]{8}", options.traffic[0]):
@@ -232,7 +231,7 @@ def steps_of(capture: Capture, options: argparse.Namespace) -> Steps:
 
 
 def drawn(steps: Steps, path: str) -> None:
-    """Draws the steps; raises `Refused` where matplotlib is missing."""
+    """Draws the steps; raises `Refused` if matplotlib is missing."""
     try:
         from cdma_tools.explaining.frame_picture import draw
     except ImportError as missing:
@@ -241,7 +240,7 @@ def drawn(steps: Steps, path: str) -> None:
 
 
 def main(arguments: list[str] | None = None) -> int:
-    """Runs the tool, and answers its exit status."""
+    """Runs the tool, and returns its exit status."""
     options = checked(arguments)
     try:
         steps = steps_of(read_whole(options.file, options.span), options)

@@ -1,22 +1,22 @@
-"""Says when the parts of a run of `rt ci` ended, and with how much memory each crate was planned.
+"""Reports when the parts of a run of `rt ci` ended, and the memory with which each crate was planned.
 
-LOG is what a run of `rt ci` writes, with a time before each line, as `ts` of moreutils writes it:
+LOG is the output of `rt ci` with a time before each line, as `ts` of moreutils writes it:
 
     rt ci 2>&1 | ts > gate.log
     tools/gate_times gate.log
 
-Times count from the first line of the log. A row for each crate, in the order of crates.txt: the memory that `rt ci`
-plans a check of the crate with; when its proof ended, and the proof of its tests; and when the trials of its edits
-were begun and told. `kept` stands where an earlier run had proved the same files, `failed` after the time of what
-wasn't proved, `-` where the log says nothing (yet, or as of tests that are kept), and no time of tests or edits where
-the crate has none. `rt ci` tells of all edits at its end, so that column says no more of a crate than that they had
-all been tried by then. Then comes the longest chain of crates, each of which stands on the one before it, and what
-the run of the log took.
+Times count from the first line of the log. There is a row for each crate, in the order of crates.txt. It has the memory
+with which `rt ci` plans a check of the crate, the time at which its proof ended, that of its tests' proof, and the
+times at which the trials of its edits began and were reported. `kept` means that an earlier run proved the same files,
+`failed` after a time that the proof failed, `-` that the log says nothing (yet, or for tests that are kept). A crate
+without tests or edits has no time for them. `rt ci` reports all edits at its end, so that column only says that all had
+been tried by then. The last lines are the longest chain of crates that each depend on the one before, and the time of
+the whole run.
 
-The plan is 1 GB, 1 MB for each line of the crate's .rt files, its tests among them, 0.2 MB for each line of .antt,
-and 0.08 MB for each line of .rt of the crates below it. What `rt` adds for the kit's libraries isn't counted.
+The plan is 1 GB, 1 MB for each line of the crate's .rt files, its tests among them, 0.2 MB for each line of .antt, and
+0.08 MB for each line of .rt of the crates below it. What `rt` adds for the kit's libraries isn't counted.
 
-Exit status: 0, or 2 where the arguments, the log or crates.txt can't be read.
+Exit status: 0, or 2 if the arguments, the log or crates.txt can't be read.
 """
 
 from __future__ import annotations
@@ -52,7 +52,8 @@ TOLD = re.compile(rf"rt: must-fail {NAME}/(\S+): ")
 
 @dataclass
 class Times:
-    """When the parts of a crate ended, in seconds from the log's first line; None where the log doesn't say."""
+    """Times at which the parts of a crate ended, in seconds from the log's first line; None if the log has no such
+    time."""
 
     proof: float | None = None
     tests: float | None = None
@@ -63,7 +64,7 @@ class Times:
 
 
 def moment(line: str, at: int) -> tuple[float, str]:
-    """The time that stands before a line, in seconds from some moment, and the line after it."""
+    """Returns the time before a line, in seconds from some moment, and the rest of the line."""
     for form in TIMES:
         found = form.match(line)
         if found:
@@ -77,13 +78,13 @@ def moment(line: str, at: int) -> tuple[float, str]:
 
 
 def day_of(groups: dict[str, str | None]) -> int:
-    """The day of the year that a time names, or 0 where it names none."""
+    """Returns the day of the year in a time, or 0 if it has none."""
     if "month" not in groups:
         return 0
     month, day = str(groups["month"]), int(str(groups["day"]))
     number = MONTHS.index(month) if month in MONTHS else int(month) - 1
     if not (0 <= number < 12 and 1 <= day <= 31):
-        raise Refused(f"month {month}, day {day} is no day")
+        raise Refused(f"month {month}, day {day} is not a day")
     return DAYS_BEFORE[number] + day
 
 
@@ -131,7 +132,7 @@ def take_begun(times: Times, _match: re.Match[str], at: float) -> None:
 
 
 def take_told(times: Times, _match: re.Match[str], at: float) -> None:
-    """Takes note that an edit was told."""
+    """Notes that an edit was reported."""
     times.told = at
 
 
@@ -141,7 +142,7 @@ def clock(seconds: float | None) -> str:
 
 
 def row(crate: Crate, plan: float, times: Times) -> tuple[str, ...]:
-    """What is written of a crate."""
+    """Returns the row of a crate."""
     proof = "kept" if times.kept else clock(times.proof) + " failed" * ("proof" in times.failed)
     tests = clock(times.tests) + " failed" * ("tests" in times.failed) if crate.has_tests else ""
     edits = (clock(times.begun), clock(times.told), str(crate.edits)) if crate.edits else ("", "", "")
@@ -163,7 +164,7 @@ def report(root: str, lines: Iterable[str]) -> str:
     crates = crates_of(root)
     found, end = taken(lines)
     if not found:
-        raise Refused("the log names no crate that was proved or is kept")
+        raise Refused("the log names no crate that was proved or kept")
     rows: list[tuple[str, ...]] = [("crate", "planned", "proof", "tests", "edits begun", "told", "edits")]
     rows += [row(crate, planned(crates, name), found.get(name, Times())) for name, crate in crates.items()]
     chain = longest_chain(stands_on(crates))
@@ -178,13 +179,13 @@ def report(root: str, lines: Iterable[str]) -> str:
 def parser() -> Parser:
     """The command line."""
     words = Parser("gate_times", __doc__)
-    words.add_argument("log", metavar="LOG", help="the log, or - for standard input")
-    words.add_argument("--root", metavar="FOLDER", default=TOP, help="the checkout whose files are read, else this one")
+    words.add_argument("log", metavar="LOG", help="log, or - for standard input")
+    words.add_argument("--root", metavar="FOLDER", default=TOP, help="checkout whose files are read (default this one)")
     return words
 
 
 def main(arguments: list[str] | None = None) -> int:
-    """Runs the tool, and answers its exit status."""
+    """Runs the tool, and returns its exit status."""
     options = parser().parse_args(arguments)
     try:
         if options.log == "-":

@@ -1,21 +1,21 @@
 """Draws the crates as the rooms of a house, from the tree.
 
-Each crate of crates.txt is a room: in the column of the tower that needs it, and in the row of its layer, so that it
-stands on rooms below it alone. A room tells four numbers of lines, and a bar shows them, drawn to one scale:
+Each crate of crates.txt is a room, in the column of its side and in the row of its layer, so it stands only on rooms
+below it. A room has four numbers of lines, and a bar shows them, all to one scale:
 
     code          of src/, its tests too, without contracts
     contracts     requires, ensures and every other ghost of src/
     definitions   of specs/
     proofs        of proofs/
 
-Empty lines and comments aren't counted, nor are the edits of must-fail/.
+Empty lines, comments and the edits of must-fail/ aren't counted.
 
     tools/house
     tools/house --write docs/pictures/house.svg
 
-Without --write the numbers are written as a table. docs/pictures/house.svg is made so, and a test holds it to the tree.
+Without --write the numbers are printed as a table. A test compares docs/pictures/house.svg with the tree.
 
-Exit status: 0, 1 where crates.txt or a file can't be read or written, 2 for wrong arguments.
+Exit status: 0, 1 if crates.txt or a file can't be read or written, 2 for wrong arguments.
 """
 
 from __future__ import annotations
@@ -33,7 +33,7 @@ from cdma_tools.writing import write_beside
 def parser() -> Parser:
     """The arguments of the command line."""
     words = Parser("house", __doc__)
-    words.add_argument("--write", metavar="FILE", help="write the picture into this file, as SVG")
+    words.add_argument("--write", metavar="FILE", help="write the picture to this file, as SVG")
     return words
 
 

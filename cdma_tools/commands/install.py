@@ -1,11 +1,10 @@
-"""Puts the built program, the tools, manual pages and documents below a prefix, as the package of tools/package has
+"""Installs the built program, the tools, manual pages and documents below a prefix, as the package of tools/package has
 them.
 
-PREFIX/bin gets cdma_replay and the commands cdma-NAME, PREFIX/share the rest. It builds nothing: `rt ci` at the top of
-the repository leaves the program behind, and so does
-`(cd crates/cdma_replay && rt run -- find < ../../examples/pilot_in_noise.is95)`. Folders that aren't there are made,
-and older files of these names are replaced, each at once. --remove takes away what was put there, and folders that are
-empty then.
+PREFIX/bin gets cdma_replay and the commands cdma-NAME, PREFIX/share the rest. It builds nothing: build the program
+first with `rt ci` at the top of the repository, or with `(cd crates/cdma_replay && rt run -- find <
+../../examples/pilot_in_noise.is95)`. Missing folders are made, and older files of these names are replaced, each at
+once. --remove removes what was installed, and folders that are then empty.
 
     tools/install /usr/local
     tools/install --program ./cdma_replay "$HOME/.local"
@@ -25,16 +24,16 @@ from cdma_tools.places import BUILT
 def parser() -> Parser:
     """The command line."""
     arguments = Parser("install", __doc__)
-    arguments.add_argument("prefix", metavar="PREFIX", help="the folder that gets bin/ and share/")
+    arguments.add_argument("prefix", metavar="PREFIX", help="folder for bin/ and share/")
     arguments.add_argument(
-        "--program", metavar="FILE", help="the built program, else the one that is built in this checkout"
+        "--program", metavar="FILE", help="built program (default the one built in this checkout)"
     )
-    arguments.add_argument("--remove", action="store_true", help="take away what was installed")
+    arguments.add_argument("--remove", action="store_true", help="remove what was installed")
     return arguments
 
 
 def main(arguments: list[str] | None = None) -> int:
-    """Runs the tool, and answers its exit status."""
+    """Runs the tool, and returns its exit status."""
     words = parser()
     options = words.parse_args(arguments)
     if not options.prefix:

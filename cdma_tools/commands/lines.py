@@ -1,20 +1,19 @@
-"""Turns the program's lines into JSON, one object a line, and back again to the very same lines.
+"""Turns the program's lines into JSON, one object per line, and back into exactly the same lines.
 
-LINES is a file of lines that the program wrote, or - for standard input, which it is where it isn't given. The names
-of an object are those of the line's fields, in its order; docs/FORMATS.md has them all. Under "line" stands the
-line's first word, under "message" the kind of a paging or traffic message, and under "channel" the channel of a raw
-one. Numbers are numbers, LC_STATE too; bits are text as in the line, N:HEX; lists are lists, and the power control
-bits of a frame a list of sixteen numbers.
+LINES is a file of lines that the program wrote, or - for standard input (default). The names of an object are those of
+the line's fields, in its order; docs/FORMATS.md lists them. "line" is the line's first word, "message" the kind of a
+paging or traffic message, and "channel" the channel of a raw one. Numbers are numbers, including LC_STATE. Bits are
+text as in the line, N:HEX. Lists are lists, and the power control bits of a frame a list of sixteen numbers.
 
     cdma_replay follow < second.is95 | tools/lines | jq -c 'select(.line == "paging") | [.at, .message]'
     cdma_replay follow < second.is95 | tools/lines > heard.json
     tools/lines --back heard.json > heard.txt
 
-In Python, pandas.read_json("heard.json", lines=True) makes a table of it, and what to_json(orient="records",
-lines=True) writes of that goes back too. Each line is read and written by itself, as it comes. A text that the
-program can't have written is an error: its number is told, and what was written before it stands.
+In Python, pandas.read_json("heard.json", lines=True) makes a table of it, and the output of to_json(orient="records",
+lines=True) goes back too. Each line is read and written by itself, as it comes. A text that the program can't have
+written is an error: its line number is reported, and what was written before it remains.
 
-Exit status: 0 all was turned, 1 a line is none or can't be read or written, 2 wrong arguments.
+Exit status: 0 all lines were turned, 1 a line is wrong or can't be read or written, 2 wrong arguments.
 """
 
 import argparse
@@ -37,14 +36,14 @@ def turn(source: Iterable[bytes], turned: Callable[[str], str]) -> None:
 def parser() -> argparse.ArgumentParser:
     """The command line."""
     words = Parser("lines", __doc__)
-    words.add_argument("lines", nargs="?", default="-", metavar="LINES", help="what is turned, - for standard input")
+    words.add_argument("lines", nargs="?", default="-", metavar="LINES", help="lines to turn, - for standard input (default)")
     words.add_argument("--back", action="store_true", help="turn JSON into lines")
     words.add_argument("--table", action="store_true", help="write the list of all fields in docs/FORMATS.md, and end")
     return words
 
 
 def main(arguments: list[str] | None = None) -> int:
-    """Runs the tool, and answers its exit status."""
+    """Runs the tool, and returns its exit status."""
     options = parser().parse_args(arguments)
     if options.table:
         print("\n".join(table_rows()))

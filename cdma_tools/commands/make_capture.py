@@ -73,28 +73,28 @@ def energy(taken: Sequence[Sample], phase: int, i_signs: Sequence[int], q_signs:
 def parser() -> Parser:
     """The command line."""
     arguments = Parser("make_capture", __doc__)
-    arguments.add_argument("file", metavar="FILE", help="the sample file to write, - for standard output")
+    arguments.add_argument("file", metavar="FILE", help="sample file to write, - for standard output")
     arguments.add_argument(
-        "--count", type=whole_within(1, MOST_SAMPLES), default=4_096, metavar="N", help="samples in the file, else 4096"
+        "--count", type=whole_within(1, MOST_SAMPLES), default=4_096, metavar="N", help="number of samples (default 4096)"
     )
     arguments.add_argument(
         "--phase", type=whole_within(0, PERIOD - 1), default=12_345, metavar="N",
-        help="the pilot's code phase at sample 0, else 12345",
+        help="code phase of the pilot at sample 0 (default 12345)",
     )  # fmt: skip
     arguments.add_argument(
         "--amplitude", type=whole_within(0, MOST), default=40, metavar="N",
-        help="the pilot's amplitude on each branch, else 40",
+        help="amplitude of the pilot on each branch (default 40)",
     )  # fmt: skip
     arguments.add_argument(
         "--noise", type=number_within(0, MOST), default=200.0, metavar="X",
-        help="the noise's standard deviation on each branch, else 200",
+        help="standard deviation of the noise on each branch (default 200)",
     )  # fmt: skip
-    arguments.add_argument("--seed", type=count_of, default=1995, metavar="N", help="the seed of the noise, else 1995")
+    arguments.add_argument("--seed", type=count_of, default=1995, metavar="N", help="seed of the noise (default 1995)")
     return arguments
 
 
 def main(arguments: list[str] | None = None) -> int:
-    """Runs the tool, and answers its exit status."""
+    """Runs the tool, and returns its exit status."""
     options = parser().parse_args(arguments)
     i_signs, q_signs = signs(I_LAGS), signs(Q_LAGS)
     taken = list(samples(options, i_signs, q_signs))

@@ -1,7 +1,7 @@
-"""Makes a package of Debian's kind of the built program, the tools, the model, the cases and the documents.
+"""Makes a Debian package of the built program, the tools, the model, the cases and the documents.
 
-It takes the program that `rt` built in this checkout, which it builds of proved crates alone, and no other. The package
-is cdma-replay_VERSION_amd64.deb in the folder that is named, or in this one. The same files make the same package.
+It takes only the program that `rt` built in this checkout, which it builds only from proved crates. The package is
+cdma-replay_VERSION_amd64.deb in FOLDER. The same files make the same package.
 
     tools/package
     tools/package /tmp && sudo apt install /tmp/cdma-replay_*.deb
@@ -20,13 +20,13 @@ def parser() -> Parser:
     """The command line."""
     arguments = Parser("package", __doc__)
     arguments.add_argument(
-        "folder", nargs="?", default=".", metavar="FOLDER", help="the folder that gets the package, else this one"
+        "folder", nargs="?", default=".", metavar="FOLDER", help="folder for the package (default this one)"
     )
     return arguments
 
 
 def main(arguments: list[str] | None = None) -> int:
-    """Runs the tool, and answers its exit status."""
+    """Runs the tool, and returns its exit status."""
     words = parser()
     options = words.parse_args(arguments)
     if not os.path.isdir(options.folder):

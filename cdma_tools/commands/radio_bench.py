@@ -1,11 +1,11 @@
 """Measures what a lock to a recording loses, and prints tables.
 
-Of each of 23 links the program makes a cell, tools/channel a recording of it, and tools/import_capture --lock a sample
-file, which the program follows. A row has what the handset hears of messages and frames that were sent: sync messages,
-paging messages, and frames of the traffic channel whose bits are right. "sent" is the cell itself, "ideal" an ideal
-receiver of the same link, with noise of its own; "loss" is by how much the chips' signal over noise lies below the
-ideal one's, where the link has one path that doesn't fade; "carrier" and "clock" are the errors of what was found, in
-the middle of the recording; "s" is the processor's time of the lock, all of the process, and "MB" its greatest memory.
+For each of 23 links the program makes a cell, tools/channel a recording of it, and tools/import_capture --lock a sample
+file, which the program follows. A row has the sync messages, the paging messages, and the frames of the traffic channel
+with right bits that the handset decodes. "sent" is the cell itself, and "ideal" an ideal receiver of the same link,
+with noise of its own. "loss" is the amount by which the chips' signal-to-noise ratio lies below the ideal one's, if the
+link has one path that doesn't fade. "carrier" and "clock" are the errors of the lock in the middle of the recording.
+"s" is the processor time of the whole process of the lock, and "MB" its greatest memory.
 
     tools/radio_bench crates/cdma_replay/out/cdma_replay
     tools/radio_bench --only A --only M3 cdma_replay
@@ -13,14 +13,17 @@ the middle of the recording; "s" is the processor's time of the lock, all of the
     tools/radio_bench --stream cdma_replay
     tools/radio_bench --cells --only equal cdma_replay
 
---figures measures the rest: how long 2 and 27 seconds take, twenty recordings without a pilot, pilots at an Ec/Io of
--20 dB, and a second cell. --stream measures the lock that streams, over twelve seconds of each link against the lock of
-a file, and then tools/listen over a minute: "dB" is the pilot's share of all power in the chips of each, and "last"
-that of the last four seconds; "x air" is how many seconds of the air a second of the processor takes once the lock is
-there, "late" how long after its sample a chip comes at most. --cells measures recordings of two and three busy cells in
-place of links of one: of each cell what was sent, what an ideal receiver hears of it alone in the same noise and over
-the same paths, and what is heard of the lock by its --pn, with the stronger cells taken off. Each needs 300 MB of room
-for files. Times are those of one processor.
+--figures measures the rest: the time for 2 and for 27 seconds, twenty recordings without a pilot, pilots at an Ec/Io of
+-20 dB, and a second cell.
+
+--stream measures the lock that streams, over twelve seconds of each link and next to the lock of a file, and then
+tools/listen over a minute. "dB" is the pilot's share of all power in the chips of each, and "last" that of the last
+four seconds. "x air" is the number of seconds of the air that a second of the processor takes once the lock is there,
+"late" the greatest delay of a chip after its sample.
+
+--cells measures recordings of two and three busy cells instead of links of one. It prints for each cell what was sent,
+what an ideal receiver decodes of only that cell in the same noise and over the same paths, and what is decoded after
+the lock by its --pn, with the stronger cells removed. Each needs 300 MB for files. Times are those of one processor.
 
 Exit status: 0 all was measured, 1 something couldn't be, 2 wrong arguments.
 """
@@ -53,23 +56,23 @@ def parser() -> Parser:
         "timed",
         nargs="?",
         metavar="PROGRAM",
-        help="the program that makes cells and follows them, else that of --program",
+        help="program that makes cells and follows them (default that of --program)",
     )
     add_program_option(words)
     words.add_argument(
-        "--only", metavar="NAME", action="append", default=[], help="this link alone; may be given again"
+        "--only", metavar="NAME", action="append", default=[], help="only this link; may be repeated"
     )
-    words.add_argument("--figures", action="store_true", help="the figures, and no table")
-    words.add_argument("--stream", action="store_true", help="the lock that streams, against that of a file")
+    words.add_argument("--figures", action="store_true", help="print the figures, and no table")
+    words.add_argument("--stream", action="store_true", help="compare the lock that streams with that of a file")
     words.add_argument(
-        "--cells", action="store_true", help="recordings of two and three cells in place of links of one"
+        "--cells", action="store_true", help="recordings of two and three cells instead of links of one"
     )
     words.add_argument("--keep", metavar="FOLDER", help="work in this folder, and leave the last files in it")
     return words
 
 
 def main(arguments: list[str] | None = None) -> int:
-    """Runs the tool, and answers its exit status."""
+    """Runs the tool, and returns its exit status."""
     words = parser()
     options = words.parse_args(arguments)
     known = [case.name for case in CELLS_CASES] if options.cells else [case.name for case in CASES]

@@ -1,16 +1,15 @@
-"""Lets each allocation of the built program fail in turn, and fails where a run doesn't end as its contract says.
+"""Makes each allocation of the built program fail in turn, and fails if a run doesn't end as its contract says.
 
-Of each command: the program runs once as it is, and then once for each allocation that it makes, which is refused.
-Such a run ends with status 6, nothing on standard output and the line of that status on standard error; or, where the
-program does without what was refused, as the first one did. The refusal comes from the C library's calls, which a
-small library put before it counts; gcc compiles that library. So what the program's runtime and its threads allocate
-fails too. Build the program first, as by `(cd crates/cdma_replay && rt run -- find <
-../../examples/pilot_in_noise.is95)`.
+For each command the program runs once as it is, and then once for each allocation that it makes, with that allocation
+refused. Such a run must end with status 6, nothing on standard output and the line of that status on standard error;
+or, if the program can do without the allocation, as the first run did. A small library, which gcc compiles, counts and
+refuses the C library's calls. So allocations of the program's runtime and threads fail too. Build the program first,
+for example with `(cd crates/cdma_replay && rt run -- find < ../../examples/pilot_in_noise.is95)`.
 
     tools/starve
     tools/starve --program ./cdma_replay
 
-Exit status: 0 no fault, 1 some, or gcc or the program isn't there, 2 wrong arguments.
+Exit status: 0 no fault, 1 some, or gcc or the program is missing, 2 wrong arguments.
 """
 
 import os
@@ -95,7 +94,8 @@ class Starved:
         self.count = os.path.join(folder, "count")
 
     def run(self, words: list[str], data: bytes, call: int) -> tuple[int, bytes, bytes, int]:
-        """How a run ends in which so-many-eth allocation is refused, 0 for none, and how many it made."""
+        """Returns how a run ends in which allocation `call` is refused, 0 for none, and the number of its allocations.
+        """
         env = {"LD_PRELOAD": self.library, "REFUSED_CALL": str(call), "COUNT_FILE": self.count}
         with open(self.count, "wb") as file:
             file.write(NUMBER.pack(0))
@@ -104,10 +104,10 @@ class Starved:
             return ran.returncode, ran.stdout, ran.stderr, NUMBER.unpack(file.read())[0]
 
     def faults(self, words: list[str], data: bytes) -> list[str]:
-        """What is wrong with the runs of a command."""
+        """Returns the faults of the runs of a command."""
         status, text, said, calls = self.run(words, data, 0)
         if status not in (0, 1) or calls == 0:
-            return [f"{words[0]}: status {status} and {calls} allocations where none is refused: {said!r}"]
+            return [f"{words[0]}: status {status} and {calls} allocations when none is refused: {said!r}"]
         found: list[str] = []
         ends: Counter[int] = Counter()
         for call in range(1, calls + 1):
@@ -149,7 +149,7 @@ def runs_of(program: str) -> list[tuple[list[str], bytes]]:
 
 
 def main(arguments: list[str] | None = None) -> int:
-    """Runs the tool, and answers its exit status."""
+    """Runs the tool, and returns its exit status."""
     parser = Parser("starve", __doc__)
     add_program_option(parser)
     program = find_program(parser.parse_args(arguments).program)

@@ -1,1 +1,1 @@
-"""What the model makes of a case of conformance/, and cases that are drawn from a number."""
+"""Cases for receivers: what the model makes of a case of conformance/, and cases drawn from a number."""

@@ -1,4 +1,5 @@
-"""What the model makes of a case: its input, and how each of its runs ends. The commands that check and write cases stand on it."""
+"""What the model makes of a case: its input, and the end of each of its runs, for the commands that check and write
+cases."""
 
 from __future__ import annotations
 
@@ -31,7 +32,7 @@ class Item(NamedTuple):
 
 
 class Draft(cases.Case):
-    """A case whose wants may be missing: others stand in for them while it is read."""
+    """A case that may lack expected results; placeholders stand for them while it is read."""
 
     def __init__(self, name: str, items: list[Item]) -> None:
         self.items = items
@@ -90,13 +91,13 @@ def meant_cell(case: cases.Case) -> Cell:
 
 
 def farthest(data: bytes, clean: bytes) -> int:
-    """By how much the parts of two sample files differ at most."""
+    """Returns the greatest difference of the parts of two sample files."""
     apart = read_capture(data, 0).samples - read_capture(clean, 0).samples
     return int(max(abs(apart.real).max(), abs(apart.imag).max()))
 
 
 def what_bears_less(cell: Cell, words: Sequence[str], near: int) -> list[str]:
-    """Returns a line for each channel that a run hears, and for its search, that bears less noise than `near`."""
+    """Returns a line for each channel that a run receives, and for its search, that bears less noise than `near`."""
     _, options = read_words(list(words))
     margin_of = {f"the channel on row {row}": most for row, most in margins(cell, rows_heard(list(words))).items()}
     margin_of["the search"] = search_roots(cell, options["span"]).margin()
@@ -108,8 +109,8 @@ def what_bears_less(cell: Cell, words: Sequence[str], near: int) -> list[str]:
 
 
 def near_differences(case: cases.Case, data: bytes, near: int) -> list[tuple[list[str], list[str]]]:
-    """What differs if a case says that its samples are so near to its cell's: how near they are, what each channel and
-    the search bear, and what the model hears of the cell without noise."""
+    """Returns the differences from what a case says of samples that are near to its cell's: how near they are, what
+    each channel and the search bear, and what the model decodes of the cell without noise."""
     cell = meant_cell(case)
     clean = header_bytes(case.bits, cell.checks, cell.samples) + sample_bytes(case.bits, received(case.bits, [cell], []))
     found = []
@@ -130,10 +131,10 @@ def input_of(case: cases.Case) -> bytes:
 
 
 def answer_of(case: cases.Case, words: Sequence[str], data: bytes) -> cases.Answer:
-    """How a run of the model ends, in this process.
+    """Returns the end of a run of the model, in this process.
 
-    A directory and a connection that was dropped are inputs whose first read fails. An output whose reader is gone, or
-    that is full, fails where something is written.
+    The first read of a directory or of a dropped connection fails. A write fails if the output's reader is gone, or if
+    the output is full.
     """
     source = io.BytesIO(data)
 
@@ -161,7 +162,7 @@ def differences(case: cases.Case) -> list[tuple[list[str], list[str]]]:
 
 
 def is_long(case: cases.Case) -> bool:
-    """Whether a case has more samples than a check takes without being told."""
+    """Whether a case has more samples than a check takes unless it is asked to."""
     counts = [word for script in case.scripts for line in script for word in line.split() if word.startswith("samples=")]
     made = case.input == "samples" and any(int(word[8:]) > HELD_IN_MEMORY for word in counts if word[8:].isdecimal())
     return made or len(case.given) > 4 * HELD_IN_MEMORY

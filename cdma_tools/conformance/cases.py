@@ -53,7 +53,8 @@ NEAR = (
 
 
 class Answer(NamedTuple):
-    """How a run ended: its status, what it wrote (None where that is lost), its standard error, and the bytes it took."""
+    """The end of a run: its status, its output (None if that is lost), its standard error, and the number of bytes it
+    read."""
 
     status: int
     wrote: bytes | None
@@ -112,7 +113,7 @@ class Case:
             raise self.refuse("isn't ASCII text") from None
 
     def take(self, line: str, block: list[str] | None) -> list[str] | None:
-        """Takes a line, and answers the block that the next one may belong to."""
+        """Takes a line, and returns the block to which the next one may belong."""
         if line.startswith("  ") and block is not None:
             block.append(line[2:])
             return block
@@ -163,7 +164,7 @@ class Case:
         return self.numbers(key, 1, most)[0] if key in self.fields else None
 
     def output(self) -> tuple[str | None, tuple[int, str] | None]:
-        """Where the output is lost, if it is; and the number of bytes and the checksum of what is written, if it's no text."""
+        """Returns where the output is lost, if it is, and the length and checksum of an output that isn't text."""
         value = self.fields.get("output")
         if (value is None) == (self.text is None):
             raise self.refuse("has not just one of text: and output:")
@@ -175,7 +176,7 @@ class Case:
         return None, (int(words[0]), words[1])
 
     def take_changes(self) -> None:
-        """What is changed, cut off and added of the input."""
+        """Reads the changes of the input: bytes that are replaced, cut off and added."""
         try:
             self.given = b"".join(spelled(line) for line in self.file or [])
             place, _, piece = self.fields.get("change", "0 ").partition(" ")
@@ -264,8 +265,8 @@ def one_louder(script: Sequence[str], row: int) -> list[str]:
 
 
 def add_opposed(sums: array.array[int], parts: array.array[int], louder: array.array[int], size: int) -> None:
-    """Noise against a channel: in each part this size, with the sign that the channel's part of the sample hasn't. What the
-    channel adds is what one more of its gain adds."""
+    """Adds noise against a channel: in each part it has this size and the sign opposite to the channel's part of the
+    sample. What the channel adds is the difference that one more of its gain makes."""
     for at, (old, new) in enumerate(zip(parts, louder)):
         sums[at] -= size * ((new > old) - (new < old))
 
@@ -308,7 +309,7 @@ def input_of(case: Case, make: Callable[[], bytes]) -> bytes:
 
 @contextlib.contextmanager
 def source_of(case: Case, data: bytes) -> Iterator[IO[bytes] | int]:
-    """What a receiver reads: a file with these bytes, a directory, or a connection that was dropped."""
+    """Yields the receiver's input: a file with these bytes, a directory, or a dropped connection."""
     if case.input == "directory":
         with tempfile.TemporaryDirectory() as folder:
             descriptor = os.open(folder, os.O_RDONLY)
@@ -329,7 +330,7 @@ def source_of(case: Case, data: bytes) -> Iterator[IO[bytes] | int]:
 
 
 def sink_of(case: Case) -> int:
-    """What a receiver writes to: a pipe that is read, a pipe whose reader is gone, or a disk that is full."""
+    """Returns the receiver's output: a pipe that is read, a pipe whose reader is gone, or a full disk."""
     if case.sink == "full":
         return os.open("/dev/full", os.O_WRONLY)
     if case.sink == "closed":
@@ -342,7 +343,8 @@ def sink_of(case: Case) -> int:
 def asked(
     case: Case, program: str, words: Sequence[str], data: bytes, minutes: int, is_group: bool = False
 ) -> Answer | str:
-    """How a run of a receiver ends; where it has to be ended, why. With is_group nothing is left that it has begun."""
+    """Returns the end of a run of a receiver, or why it had to be ended. With is_group nothing that it began remains.
+    """
     sink = sink_of(case)
     most = MOST_MORE + (case.written[0] if case.written else len(case.wanted()))
     try:
@@ -356,7 +358,8 @@ def asked(
 
 
 def stretches(wanted: Sequence[str], written: Sequence[str]) -> Iterator[tuple[list[str], int]]:
-    """Of each stretch in which two texts differ: its first lines in both, with their numbers, and how many are left out."""
+    """Yields each stretch in which two texts differ: its first lines in both, with numbers, and the number of lines
+    left out."""
     for tag, a, b, c, d in difflib.SequenceMatcher(None, wanted, written, autojunk=False).get_opcodes():
         if tag != "equal":
             said = numbered("wanted", wanted[a:b], a) + numbered("written", written[c:d], c)
@@ -364,7 +367,7 @@ def stretches(wanted: Sequence[str], written: Sequence[str]) -> Iterator[tuple[l
 
 
 def numbered(what: str, lines: Sequence[str], before: int) -> list[str]:
-    """The first of some lines, with their numbers in a text that has so many lines before them."""
+    """Returns the first lines of a stretch, with their numbers in a text that has `before` lines above them."""
     return [f"line {before + 1 + k} {what}: {line[:MOST_LETTERS]}" for k, line in enumerate(lines[:MOST_SHOWN])]
 
 
@@ -374,7 +377,7 @@ def claimed(wrote: bytes) -> bytes:
 
 
 def lines_in(wrote: bytes, most: int) -> tuple[list[str], int]:
-    """The first lines of a text, with escapes for bytes that aren't ASCII, and how many are left out."""
+    """Returns the first lines of a text, with escapes for bytes that aren't ASCII, and the number of lines left out."""
     lines = wrote.split(b"\n", most)
     left = lines.pop().count(b"\n") if len(lines) > most else 0
     if lines and not lines[-1]:
@@ -383,7 +386,7 @@ def lines_in(wrote: bytes, most: int) -> tuple[list[str], int]:
 
 
 def not_text(wrote: bytes) -> list[str]:
-    """Where a text has a byte that isn't ASCII, if it has one."""
+    """Returns the place of the first byte of a text that isn't ASCII, if it has one."""
     try:
         wrote.decode("ascii")
         return []
@@ -393,7 +396,7 @@ def not_text(wrote: bytes) -> list[str]:
 
 
 def text_differences(case: Case, wrote: bytes) -> list[str]:
-    """What differs of a text, in lines."""
+    """Returns the differences of a text, in lines."""
     if case.near is not None:
         wrote = claimed(wrote)
     if wrote == case.wanted():
@@ -408,7 +411,7 @@ def text_differences(case: Case, wrote: bytes) -> list[str]:
 
 
 def error_differences(wanted: str, told: bytes) -> list[str]:
-    """What differs of the line on standard error, which is none where nothing is wanted."""
+    """Returns the differences of the line on standard error, empty if the case expects none."""
     if told == (wanted + "\n" if wanted else "").encode("ascii"):
         return []
     written = told.decode(errors="replace")
@@ -418,7 +421,7 @@ def error_differences(wanted: str, told: bytes) -> list[str]:
 
 
 def differences(case: Case, answer: Answer) -> list[str]:
-    """What differs, in lines; none where nothing does."""
+    """Returns the differences in lines, empty if there is none."""
     said = []
     if answer.status != case.status:
         said.append(f"{ended_text(answer.status)}, wanted {case.status}")
@@ -448,7 +451,8 @@ def tried(
     minutes: int,
     compared: Compared,
 ) -> list[tuple[list[str], list[str]]]:
-    """The arguments of each run that differs in a case, and what differs, by what compares its answer with the case."""
+    """Returns for each run that differs its arguments and its differences, by the function that compares it with the
+    case."""
     data = input_of(case, lambda: samples_of(case, maker, minutes))
     wanted = case.fields.get("sha256")
     if wanted and hashlib.sha256(data).hexdigest() != wanted:
@@ -471,6 +475,6 @@ def names_of_cases() -> list[str]:
 
 
 def shown(case: Case, words: Sequence[str], said: Sequence[str]) -> str:
-    """What is written of a run that differs."""
+    """Returns the report of a run that differs."""
     lines = "".join(f"    {printable(line)}\n" for line in said)
     return f"{case.name}: {case.purpose}: {shlex.join(words)}\n" + lines

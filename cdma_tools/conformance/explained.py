@@ -1,12 +1,12 @@
-"""Which step of a frame a receiver takes otherwise, by the lines `step` that it may write of its frames.
+"""Finds the first wrong step of a receiver's frame, by the lines `step` that it may write about its frames.
 
-A line stands before that of the message or of the frame which ends in the frame, and has values of steps:
+A line comes before that of the message or of the frame that ends in the frame, and has values of steps:
 
     step sync frame=K heard=.. softs=.. symbols=.. word=..
     step paging frame=K heard=.. scrambling=.. softs=.. symbols=.. word=..
     step traffic frame=K heard=.. scrambling=.. softs=.. symbols=.. word=.. quality=..
 
-The frames are counted, and the steps are those, of `explain`, which the model computes. docs/FORMATS.md has the form.
+Frames are counted, and steps defined, as by `explain`, which the model computes. docs/FORMATS.md has the form.
 """
 
 from __future__ import annotations
@@ -64,7 +64,7 @@ class NoStep(Exception):
 
 
 def told_of(line: str) -> Told:
-    """The values of a line of steps; NoStep where it is none."""
+    """Returns the values of a line of steps; raises NoStep if it is no such line."""
     found = LINE.fullmatch(line)
     if not found:
         raise NoStep(f"a line of steps has another form than docs/FORMATS.md: {line[:80]}")
@@ -76,7 +76,8 @@ def told_of(line: str) -> Told:
 
 
 def parted(wrote: bytes) -> tuple[bytes, list[list[str]]]:
-    """What a receiver wrote without its lines of steps; and those before each of its lines, and after the last."""
+    """Returns a receiver's output without its lines of steps, and the lines of steps before each line and after the
+    last."""
     kept, steps = [], [list[str]()]
     for line in wrote.splitlines(keepends=True):
         if line.startswith(FIRST_WORD):
@@ -105,7 +106,8 @@ def bits_in(text: str) -> list[int]:
 
 
 def soft_difference(text: str, right: NDArray[Any], erased: Sequence[int] | NDArray[Any] = ()) -> str:
-    """What differs of soft values from the right ones, by the signs of those that are sure; empty where nothing."""
+    """Returns the difference of soft values from the right ones, by the signs of those that are sure; empty if there is
+    none."""
     signs = signs_of(text)
     if len(signs) != len(right):
         return f"{len(signs)} values, and {len(right)} are right"
@@ -119,7 +121,7 @@ def soft_difference(text: str, right: NDArray[Any], erased: Sequence[int] | NDAr
 
 
 def bit_difference(text: str, right: Sequence[int]) -> str:
-    """What differs of bits from the right ones; empty where nothing does."""
+    """Returns the difference of bits from the right ones, empty if there is none."""
     bits = bits_in(text)
     if len(bits) != len(right):
         return f"{len(bits)} bits, and {len(right)} are right"
@@ -128,13 +130,13 @@ def bit_difference(text: str, right: Sequence[int]) -> str:
 
 
 def reading_with(steps: Steps, count: int) -> Reading:
-    """The rate of which the code symbols are so many, else the one that is right."""
+    """Returns the rate with `count` code symbols, otherwise the right one."""
     fits = [reading for reading in steps.readings if len(reading.softs) == count]
     return fits[0] if fits else steps.readings[steps.shown]
 
 
 def step_differences(told: Told, steps: Steps) -> Iterator[tuple[str, str]]:
-    """The name of each step that is told, in order, and what differs in it."""
+    """Yields the name and the difference of each step of a line, in order."""
     shown = steps.readings[steps.shown]
     scrambling = [] if steps.scrambling is None else [int(bit) for bit in steps.scrambling]
     readers: dict[str, Callable[[str], str]] = {
@@ -151,7 +153,7 @@ def step_differences(told: Told, steps: Steps) -> Iterator[tuple[str, str]]:
 
 
 class Explainer:
-    """The steps of frames of one file, as receivers with these words hear it."""
+    """The steps of frames of one file, for receivers with these arguments."""
 
     def __init__(self, words: Sequence[str], data: bytes) -> None:
         parts = [part for word in words[1:] for part in word.split("=", 1)]
@@ -163,7 +165,7 @@ class Explainer:
         self.found = found_in(self.capture, self.number("span", 2_048), self.number("fingers", 1))
 
     def number(self, name: str, other: int) -> int:
-        """The number of an option, else another one."""
+        """Returns the number of an option, or a default."""
         return int(self.given.get(name, other))
 
     def steps(self, channel: str, frame: int) -> Steps:
@@ -186,7 +188,7 @@ def first_difference(wanted: Sequence[str], written: Sequence[str]) -> int:
 
 
 def explained(case: Case, words: Sequence[str], data: bytes, written: Sequence[str], lines: Sequence[str]) -> list[str]:
-    """What is said of the lines of steps that stand before the first line that differs."""
+    """Returns the report on the lines of steps before the first line that differs."""
     place = first_difference(case.text or [], written)
     if not lines:
         return [f"no step is told before line {place + 1}, the first that differs"]
@@ -211,7 +213,7 @@ def explained(case: Case, words: Sequence[str], data: bytes, written: Sequence[s
 def compared_with_steps(
     compared: Callable[[Case, Answer], list[str]], case: Case, answer: Answer, words: Sequence[str], data: bytes
 ) -> list[str]:
-    """What differs of an answer without its lines of steps, and which step of the first frame does."""
+    """Returns the differences of an answer without its lines of steps, and the first wrong step."""
     if answer.wrote is None or case.text is None:
         return compared(case, answer)
     wrote, steps = parted(answer.wrote if case.near is None else claimed(answer.wrote))

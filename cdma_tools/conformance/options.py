@@ -1,4 +1,4 @@
-"""What the commands that ask a receiver share of their command lines."""
+"""Parts of the command line that all commands which ask a receiver share."""
 
 import argparse
 import os
@@ -30,7 +30,7 @@ def add_options(parser: Parser, made: str, kept: str) -> None:
 
 
 def checked(parser: Parser, arguments: list[str] | None, names: list[str]) -> tuple[argparse.Namespace, list[str]]:
-    """The options, and those of the cases that are asked for; ends the program where an argument is wrong."""
+    """Returns the options and the names of the requested cases; ends the program if an argument is wrong."""
     options = parser.parse_args(arguments)
     unknown = [name for name in options.only or [] if name not in names]
     if unknown:

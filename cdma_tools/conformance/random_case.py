@@ -1,7 +1,7 @@
 """Random cases for `agree`: cells, paths, noise, cuts, arguments of every command, and scripts and files with faults.
 
-A case is a text as conformance/README.md has it, without what is wanted of it, and the same for the same seed. Files
-are short: no more samples than a handset needs to hear what the case is about.
+A case is a text in the form of conformance/README.md without the expected results, and is the same for the same seed.
+Files have no more samples than a handset needs to decode what the case is about.
 """
 
 from __future__ import annotations
@@ -26,7 +26,7 @@ SMALL = 2_100
 
 @dataclass
 class Scene:
-    """A base station that is drawn: its numbers, its gains, and what a handset may be told of it."""
+    """A random base station: its numbers, its gains, and what a handset may know of it."""
 
     rng: random.Random
     bits: int = 16
@@ -51,13 +51,14 @@ class Scene:
         return self.rng.randint(3, 5) if self.bits == 8 else self.rng.randint(25, 150)
 
     def mark_slots(self) -> int:
-        """How many units of the system time after the cell's time the mark lies that the first whole sending sets."""
+        """Returns the time from the cell's time to the mark of the first whole transmission, in units of the system
+        time."""
         sendings = -(-(self.start - 64 * self.pn) // (SLOT * SENDING))
         return SENDING * sendings + SENDING + AHEAD
 
 
 def drawn_bits(rng: random.Random, count: int) -> Bits:
-    """So many random bits."""
+    """Returns `count` random bits."""
     return spelled(count, rng.getrandbits(count)) if count else []
 
 
@@ -133,7 +134,7 @@ def paging_lines(scene: Scene, channel: int) -> list[str]:
 
 
 def drawn_direction(scene: Scene) -> Bits:
-    """What follows the head of a handoff direction, which may be one that is refused."""
+    """Returns the bits after the head of a handoff direction, which may be one that is refused."""
     rng = scene.rng
     search = rng.random() < 0.4
     soon = (scene.time + scene.mark_slots() + rng.randint(1, 2)) % 64
@@ -227,7 +228,7 @@ def link_line(scene: Scene, start: int, samples: int) -> str:
 
 
 def script_of(scene: Scene, samples: int, what: str) -> list[str]:
-    """A cell's lines: its `pilot` alone, its `sync` channel too, or `all` its channels."""
+    """Returns the lines of a cell: only its `pilot`, its `sync` channel too, or `all` its channels."""
     lines = [f"cell pn={scene.pn} time={scene.time} lc={scene.lc:011x} checks={scene.checks}",
              link_line(scene, scene.start, samples), f"pilot gain={scene.gain() * 2}"]  # fmt: skip
     if what != "pilot":
@@ -300,7 +301,7 @@ def search_options(rng: random.Random, samples: int) -> dict[str, str]:
 
 
 def heard_options(scene: Scene, command: str, samples: int) -> dict[str, str]:
-    """Options of a command that hears frames: mostly those of what the scene sends."""
+    """Returns options of a command that decodes frames, mostly those of what the scene sends."""
     rng = scene.rng
     options = search_options(rng, samples)
     if rng.random() < 0.6:
@@ -357,7 +358,7 @@ def handed(rng: random.Random) -> list[str]:
 
 
 def heard(scene: Scene, command: str) -> list[str]:
-    """A command that hears frames, over a file that ends some frames after the mark."""
+    """Returns a case of a command that decodes frames, over a file that ends some frames after the mark."""
     rng = scene.rng
     scene.rate_set_2 = command == "rate2" and rng.random() < 0.9 or command == "follow" and rng.random() < 0.1
     if scene.handoff:

@@ -1,4 +1,4 @@
-"""What of a case the standard fixes: which cases are asked, and which parts of their lines are compared."""
+"""What the standard fixes of a case: which cases are asked, and which parts of their lines are compared."""
 
 from __future__ import annotations
 
@@ -18,7 +18,7 @@ REPLACED = 32
 
 
 def reason(case: Case) -> str:
-    """Why the standard doesn't fix what a case wants; empty where it fixes some of it."""
+    """Returns why the standard doesn't fix the results of a case, empty if it fixes some of them."""
     if case.status > 1 or case.input != "samples" or not case.scripts or case.text is None:
         return "what it wants is a matter of this project's formats"
     if any(words[:1] != ["follow"] for words in case.runs):
@@ -46,7 +46,8 @@ def sent_by(case: Case) -> set[tuple[str, str]]:
 
 
 def fixed(lines: Sequence[str], kind: str, sent: set[tuple[str, str]]) -> list[str]:
-    """Of each line of a kind the part that the standard fixes: all but its place, and of a frame its rate and bits."""
+    """Returns the part of each line of a kind that the standard fixes: all but its place, and of a frame its rate and
+    bits."""
     parts = [PLACE.sub("", line, count=1) for line in lines if line.startswith(kind + " at=")]
     return [frame_part(part, sent) for part in parts] if kind == "frame" else parts
 
@@ -76,7 +77,7 @@ def is_distinct(speed: int, text: str) -> bool:
 
 
 def matches(wanted: Sequence[str], written: Sequence[str], kind: str) -> bool:
-    """Whether what is wanted stands in what was written, line after line; any frame does where none is fixed."""
+    """Whether the expected lines occur in the output one after the other; any frame matches if none is fixed."""
     is_free = kind == "frame"
     for begin in range(len(written) - len(wanted) + 1):
         pairs = zip(wanted, written[begin:])
@@ -86,7 +87,7 @@ def matches(wanted: Sequence[str], written: Sequence[str], kind: str) -> bool:
 
 
 def longest(wanted: Sequence[str], written: Sequence[str]) -> int:
-    """How many first lines of what is wanted stand in what was written, at the place that has most of them."""
+    """Returns the greatest number of first expected lines that occur in the output one after the other."""
     most = 0
     for begin in range(len(written)):
         here = 0
@@ -99,10 +100,10 @@ def longest(wanted: Sequence[str], written: Sequence[str]) -> int:
 
 
 def differences(case: Case, answer: Answer) -> list[str]:
-    """What differs in the parts that the standard fixes, in lines; none where nothing does.
+    """Returns the differences in the parts that the standard fixes, in lines, empty if there is none.
 
-    Of each kind what is wanted has to stand in what is written, in order and with nothing between. Before and after it
-    may be more: how soon a receiver hears, and how late, is its own.
+    The expected lines of each kind must occur in order, with nothing between. More may come before and after them: how
+    soon and how late a receiver decodes is its own matter.
     """
     wrote = answer.wrote or b""
     written, _ = lines_in(wrote, len(case.text or []) + MOST_COMPARED)

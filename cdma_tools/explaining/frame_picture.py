@@ -21,7 +21,7 @@ ROW_BITS = 64
 
 
 def draw(steps: Steps, path: str) -> None:
-    """Draws the panels to a file, PNG or SVG by the end of its name: whole or not at all."""
+    """Draws the panels to a file, PNG or SVG by the end of its name, completely or not at all."""
     figure = Figure(figsize=SIZE, dpi=DOTS, layout="constrained")
     figure.suptitle(steps.title, fontsize=13)
     grid = figure.add_gridspec(5, 3, height_ratios=[2.4, 0.35, 1.2, 1.2, 1.7])
@@ -37,7 +37,7 @@ def draw(steps: Steps, path: str) -> None:
 
 
 def square(axes: Axes, values: NDArray[Any], title: str) -> None:
-    """A plane of complex numbers round 0, with its axes."""
+    """Draws a plane of complex numbers around 0, with its axes."""
     reach = 1.2 * max(np.abs(values.real).max(), np.abs(values.imag).max(), 1)
     axes.set(xlim=(-reach, reach), ylim=(-reach, reach), aspect="equal")
     axes.axhline(0, color="0.8", linewidth=0.8, zorder=0)
@@ -96,7 +96,7 @@ def bars(axes: Axes, softs: NDArray[Any], replaced: NDArray[Any]) -> None:
 
 
 def sent_panel(axes: Axes, steps: Steps) -> None:
-    """Step 3: the soft values as sent, and where power control bits stand."""
+    """Draws step 3: the soft values as sent, and the places of power control bits."""
     softs = steps.turned.copy().astype(float)
     if steps.scrambling is not None:
         softs[steps.replaced] = np.where(steps.scrambling, -steps.heard, steps.heard)[steps.replaced]
@@ -137,7 +137,7 @@ def score_panel(axes: Axes, steps: Steps) -> None:
 
 
 def next_best(best: int, other: int) -> str:
-    """How near the next best codeword comes to the best one."""
+    """Returns how near the second best codeword comes to the best one."""
     return (
         f"next best: {100 * other / best:.1f} %"
         if best > 0
@@ -148,7 +148,7 @@ def next_best(best: int, other: int) -> str:
 
 
 def score_label(steps: Steps, place: int) -> str:
-    """The name of a reading beside its bars."""
+    """Returns the name of a reading next to its bars."""
     reading = steps.readings[place]
     if len(steps.readings) == 1:
         return "the\nspan"

@@ -66,7 +66,7 @@ class NoFrame(Exception):
 
 @dataclass
 class Path:
-    """What one finger gives: the pilot sum of each window, and each symbol's sum before and after it is turned."""
+    """The sums of one finger: the pilot sum of each window, and each symbol's sum before and after it is turned."""
 
     finger: Finger
     pilots: NDArray[Any]
@@ -100,7 +100,7 @@ class Part:
 
 @dataclass
 class Steps:
-    """All steps of a frame. Soft values are in the sent order: as heard, and turned back by the scrambling bits."""
+    """All steps of a frame. Soft values are in the sent order, raw and descrambled."""
 
     title: str
     form: Form
@@ -118,7 +118,7 @@ class Steps:
 
 
 def paths_of(capture: Capture, fingers: list[Finger], form: Form, start: int) -> list[Path]:
-    """What each finger gives of the frame that begins at a reference sample."""
+    """Returns the sums of each finger over the frame that begins at a reference sample."""
     found = []
     for finger in fingers:
         pilots, sums = finger_sums(capture, finger, form, start)
@@ -128,7 +128,7 @@ def paths_of(capture: Capture, fingers: list[Finger], form: Form, start: int) ->
 
 
 def unlike(softs: NDArray[Any], symbols: NDArray[Any]) -> int:
-    """How many soft values have the sign of the other symbol."""
+    """Returns the number of soft values with the sign of the other symbol."""
     return int(np.sum(softs * (1 - 2 * symbols) < 0))
 
 
@@ -162,7 +162,7 @@ def paging_layout(body: Bits) -> Iterator[tuple[str, int]]:
 
 
 def traffic_layout(body: Bits) -> Iterator[tuple[str, int]]:
-    """The fields of a traffic message after its type; those of a direction as far as its bits tell them."""
+    """Yields the fields of a traffic message after its type; those of a direction as far as its bits reach."""
     yield from by_table(HEAD_FIELDS)
     kind, encryption = number(body[:LENGTH]), number(body[15:17])
     if encryption == 0 and kind == 7:
@@ -222,7 +222,7 @@ def capsule_parts(channel: str, capsule: Bits, begin: int) -> list[Part]:
 
 
 def ended(channel: str, capsule: Bits, complemented: bool) -> str:
-    """What a capsule that ends here is."""
+    """Returns the description of a capsule that ends here."""
     body = body_of(capsule, complemented, CHECKS[channel])
     if body is None:
         return f"a capsule of {len(capsule) // 8} octets ends here, and its check is wrong: it is no message"
@@ -317,7 +317,7 @@ def paging_steps(capture: Capture, found: Found, mark: Mark, channel: int, index
 
 
 def fill_half(steps: Steps, held: Bits | None, half: Bits, complemented: bool) -> Bits | None:
-    """Adds the fields of a half-frame to the steps of a frame, and answers what is held after it."""
+    """Adds the fields of a half-frame to the steps of a frame, and returns the bits of an open capsule after it."""
     steps.parts.append(Part("SCI", half[:1], str(half[0])))
     after, capsules = take_half_frame(held, half)
     before, rest = ([] if half[0] else held), half[1:]
@@ -351,9 +351,10 @@ def reading_of(rate: Rate, kept: NDArray[Any]) -> Reading:
 def traffic_fingers(
     capture: Capture, found: Found, mark: Mark, assigned: Assigned, index: int
 ) -> dict[int, list[Finger]]:
-    """The fingers over which a handset hears a frame, by their power control subchannel: those of its active pilots.
+    """Returns the fingers over which a handset receives a frame, by power control subchannel: those of its active
+    pilots.
 
-    Messages of paging channel 1 move its pilot sets too.
+    Messages of paging channel 1 also change its pilot sets.
     """
     pages = list(hear_paging(capture, found, mark, 1, capture.count))
     for event in hear_traffic(capture, found, mark, assigned, pages, capture.count):
@@ -363,7 +364,7 @@ def traffic_fingers(
 
 
 def traffic_steps(capture: Capture, found: Found, mark: Mark, assigned: Assigned, index: int, rate_set: int) -> Steps:
-    """The steps of a frame of a traffic channel of rate set 1, or 2 from the reference alone."""
+    """Returns the steps of a frame of a traffic channel of rate set 1, or of rate set 2 from only the reference."""
     rates = RATE_SET_1 if rate_set == 1 else RATE_SET_2
     subchannels = {0: reference_fingers(found, assigned.row)}
     if rate_set == 1:
@@ -426,7 +427,7 @@ def signalling_parts(part: Bits) -> list[Part]:
 
 
 def corrections(reading: Reading) -> str:
-    """How many code symbols the best codeword corrects."""
+    """Returns the number of code symbols that the best codeword corrects."""
     return f"the best codeword corrects {reading.unlike} of {len(reading.softs)} code symbols (steps 4 and 5)"
 
 
@@ -462,7 +463,7 @@ def found_in(capture: Capture, span: int, fingers: int) -> Found:
 
 
 def mark_of(capture: Capture, found: Found) -> Mark:
-    """The mark that a file's sync channel sets; raises `NoFrame` where none does."""
+    """Returns the mark that a file's sync channel sets; raises `NoFrame` if it sets none."""
     _, mark = hear_sync(capture, found, capture.count)
     if mark is None:
         raise NoFrame("no sync message tells the time, so there is no mark: look at --sync")

@@ -1,9 +1,9 @@
-"""How the program and the tools are handed on: their files below a prefix, and a package of Debian's kind.
+"""Distribution of the program and the tools: their files below a prefix, and a Debian package.
 
-| Module | Has |
+| Module | Content |
 |---|---|
-| `tree` | the files of an installation, and how they are put below a prefix and taken away again |
-| `manuals` | a manual page for each command, made of its parser |
-| `completions` | what a shell completes |
-| `debian` | the package: control, copyright, changelog, and its making |
+| `tree` | files of an installation, how they are put below a prefix and removed again |
+| `manuals` | a manual page for each command, made from its parser |
+| `completions` | completions for bash and zsh |
+| `debian` | the package: control, copyright, changelog, and how it is made |
 """

@@ -1,4 +1,4 @@
-"""What bash and zsh complete: the options of a command, the choices of an option, and else the names of files."""
+"""Completions for bash and zsh: the options of a command, the choices of an option, otherwise file names."""
 
 import argparse
 import re
@@ -59,7 +59,7 @@ def help_of(action: argparse.Action) -> str:
 
 
 def value_of(action: argparse.Action) -> str:
-    """The name of an option's value, empty where it takes none."""
+    """Returns the name of an option's value, empty if it takes none."""
     if action.nargs == 0:
         return ""
     named = action.metavar[0] if isinstance(action.metavar, tuple) else action.metavar
@@ -67,7 +67,7 @@ def value_of(action: argparse.Action) -> str:
 
 
 def completed(parser: argparse.ArgumentParser) -> list[Option]:
-    """The options of a command as a shell completes them; where several parts have one, it is the first's."""
+    """Returns the options of a command for a shell; if several parts have an option, it is the first's."""
     found: dict[tuple[str, ...], Option] = {}
     for action in options_of(parser):
         names = tuple(action.option_strings)
@@ -92,7 +92,7 @@ def completion_of(name: str, module: str) -> str:
 
 
 def masked(text: str, letters: str) -> str:
-    """A text in which these letters, and the backslash, stand for themselves."""
+    """Returns a text with these letters and the backslash escaped."""
     return re.sub(f"[{re.escape(letters)}\\\\]", lambda found: "\\" + found[0], text)
 
 

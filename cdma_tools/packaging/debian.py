@@ -95,7 +95,7 @@ def settle(folder: str) -> None:
 
 
 def build(files: Iterable[Entry], path: str) -> None:
-    """Makes the package of the files of an installation, whole or not at all."""
+    """Makes the package from the files of an installation, completely or not at all."""
     packaged = list(as_packaged(files))
     with tempfile.TemporaryDirectory(prefix="package-") as folder:
         root = os.path.join(folder, "root")

@@ -15,7 +15,7 @@ HEAD = '.\\" Made of the parser of {name}.\n.TH {title} 1 "{date}" "cdma-replay 
 
 
 def parser_of(name: str, module: str) -> Parser:
-    """The parser of a command, as it is where the command is installed."""
+    """Returns the parser of a command, under its installed name."""
     with mock.patch.object(sys, "argv", [name]):
         made: Parser = importlib.import_module(f"cdma_tools.commands.{module}").parser()
     return made
@@ -47,7 +47,7 @@ def synopsis(parser: argparse.ArgumentParser) -> str:
 
 
 def invocation(action: argparse.Action) -> str:
-    """How an argument is written."""
+    """Returns the form of an argument."""
     if not action.option_strings:
         return f"\\fI{escaped(str(action.metavar or action.dest))}\\fR"
     told = ", ".join(f"\\fB{escaped(option)}\\fR" for option in action.option_strings)
@@ -58,7 +58,7 @@ def invocation(action: argparse.Action) -> str:
 
 
 def options(parser: argparse.ArgumentParser) -> str:
-    """What each argument is, by the groups of the command line."""
+    """Returns the descriptions of all arguments, by the groups of the command line."""
     formatter = parser._get_formatter()
     said = [".SH OPTIONS\n"]
     for group in parser._action_groups:

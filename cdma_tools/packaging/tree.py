@@ -53,7 +53,7 @@ class Entry(NamedTuple):
 
 
 def check_program(path: str) -> None:
-    """Refuses what isn't the program, or doesn't run here: without arguments it ends with status 2 and says so."""
+    """Refuses a file that isn't the program or doesn't run here: without arguments the program ends with status 2."""
     if not os.path.isfile(path) or not os.access(path, os.X_OK):
         raise Refused(f"no program at {path}: build it first, as by rt ci at the top of the repository")
     try:
@@ -93,7 +93,7 @@ def commands() -> dict[str, str]:
 
 
 def shared_files() -> Iterator[Entry]:
-    """The package, the model, the cases and the examples. What only a checkout runs stays there."""
+    """Yields the package, the model, the cases and the examples, without what only a checkout runs."""
     for folder in FOLDERS:
         for place in files_below(folder):
             is_way = folder == "conformance" and os.path.dirname(place) == folder and "." not in place
@@ -137,7 +137,7 @@ def put(prefix: str, entry: Entry) -> None:
 
 
 def put_all(prefix: str, files: Iterable[Entry]) -> list[str]:
-    """Puts files below a prefix, with a list of them, and answers their places."""
+    """Puts files below a prefix, with a list of them, and returns their places."""
     places = []
     for entry in files:
         put(prefix, entry)
@@ -161,7 +161,7 @@ def listed(prefix: str) -> list[str]:
 
 
 def take_away(prefix: str) -> list[str]:
-    """Takes away what an installation put below a prefix, and folders that are empty then; answers what was taken."""
+    """Removes what an installation put below a prefix, and folders that are then empty; returns what it removed."""
     places = listed(prefix)
     for place in places:
         path = os.path.join(prefix, place)

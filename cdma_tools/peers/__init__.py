@@ -1,8 +1,8 @@
-"""What `tools/bench --peers` measures beside our own work: libraries of Debian with a like task, on the same numbers.
+"""Libraries of Debian that `tools/bench --peers` measures next to our own work, with similar tasks on the same numbers.
 
-| File | Is |
+| File | Content |
 |---|---|
-| `libraries` | the programs that are built of the sources here, and how they are run |
+| `libraries` | the programs that are built from the sources here, and how they are run |
 | `inputs` | the numbers that all of them get |
 | `measuring` | ours and theirs in turns, and the table |
 | `decoder_fec.c`, `decoder_itpp.cpp` | libfec's and IT++'s decoder of the code of constraint length 9 |

@@ -57,7 +57,7 @@ class Missing(Exception):
 
 
 def ran(command: Sequence[str], data: bytes, what: str) -> bytes:
-    """What a run writes; Refused where it fails or doesn't end."""
+    """Returns the output of a run; raises Refused if it fails or doesn't end."""
     try:
         done = subprocess.run(command, input=data, capture_output=True, timeout=LONGEST)
     except subprocess.TimeoutExpired:
@@ -70,7 +70,7 @@ def ran(command: Sequence[str], data: bytes, what: str) -> bytes:
 
 
 def built(library: Library, folder: str) -> str:
-    """The program around a library, built in a folder; Missing where it can't be."""
+    """Builds the program around a library in a folder, and returns its path; raises Missing if it can't be built."""
     name, ending = os.path.splitext(library.source)
     compiler = shutil.which(COMPILERS[ending])
     if compiler is None:
@@ -92,7 +92,7 @@ def turn_of(program: str, turns: int, data: bytes) -> tuple[float, str]:
 
 
 def python_of_gnu_radio() -> str:
-    """The Python that has GNU Radio: this one, or Debian's; Missing where neither has it."""
+    """Returns the Python that has GNU Radio, this one or Debian's; raises Missing if neither has it."""
     for python in dict.fromkeys([sys.executable, "/usr/bin/python3"]):
         tried = [python, "-I", "-c", f"import {GNU_RADIO}"]
         if os.access(python, os.X_OK) and not subprocess.run(tried, capture_output=True).returncode:

@@ -36,7 +36,7 @@ WIDTH = 24
 
 
 def in_turns(timed: dict[str, Timed], rounds: int) -> dict[str, float]:
-    """The least seconds of each of some works, which are done in turns so many times."""
+    """Returns the least seconds of each of several works, done in turns for `rounds` rounds."""
     least: dict[str, float] = {}
     for _ in range(rounds):
         for name, work in timed.items():
@@ -63,7 +63,7 @@ def checked(library: Library, program: str, data: bytes, wanted: str) -> Timed:
 
 
 def works_of(libraries: Sequence[Library], folder: str, data: bytes, wanted: str) -> dict[str, Timed]:
-    """The works of the libraries that are there; of the others it is told why they aren't measured."""
+    """Returns the works of the installed libraries, and reports why the others aren't measured."""
     works: dict[str, Timed] = {}
     for library in libraries:
         try:
@@ -116,7 +116,7 @@ def front_seconds(path: str) -> float:
 
 
 def gnu_radio_work(folder: str, path: str) -> Timed:
-    """The work of GNU Radio's resampler over a recording; Missing where it isn't there."""
+    """Returns the work of GNU Radio's resampler over a recording; raises Missing if it isn't installed."""
     python, taps = python_of_gnu_radio(), os.path.join(folder, "taps")
     chips = os.path.join(folder, "chips")
     pulse_taps().tofile(taps)

@@ -1,1 +1,1 @@
-"""What the repository's own files say of its crates."""
+"""Descriptions of the crates, made from the repository's own files."""

@@ -1,9 +1,9 @@
-"""Builds a crate and those below it with `rt`, several at once: each run has copies of the crates of its own.
+"""Builds a crate and those below it with `rt`, several at once, each in a copy of the crates.
 
-`rt` locks the folders of a crate and of all below it, so two of its runs in one checkout come one after the other. But
-it shares what it built among the checkouts of a machine: where the same text was built over the same libraries, it
-takes that over, and proves it nowhere again. So the first of several runs works in the checkout, the others in copies
-beside one another, and the crate that is asked for comes last, in the checkout, which takes the libraries over.
+`rt` locks the folders of a crate and of all below it, so two runs in one checkout come one after the other. But it
+shares what it built among the checkouts of a machine: if the same text was built over the same libraries, it takes that
+over, and proves nothing again. So the first of several runs works in the checkout, and the others in copies. The
+requested crate comes last, in the checkout, which takes the libraries over.
 """
 
 from __future__ import annotations
@@ -39,12 +39,12 @@ MEMORY_INFO, GROUP_LIMIT, GROUP_HELD = "/proc/meminfo", "/sys/fs/cgroup/memory.m
 
 
 class Failed(Exception):
-    """That a crate wasn't built, in words."""
+    """Reason why a crate wasn't built."""
 
 
 @dataclass(frozen=True)
 class Room:
-    """How many processors there are, and how much memory, in MB."""
+    """A number of processors and an amount of memory in MB."""
 
     processors: int
     memory: float
@@ -63,7 +63,7 @@ class Run:
 
 
 def number_in(path: str, form: str) -> int | None:
-    """The number that a form finds in a file of the system, None where there is none."""
+    """Returns the number that a form finds in a file of the system, or None."""
     with contextlib.suppress(OSError), open(path, encoding="ascii") as file:
         found = re.search(form, file.read())
         return int(found[1]) if found else None
@@ -87,7 +87,7 @@ def jobs_for(memory: float, room: Room, others: int) -> int:
 
 
 def log_of(root: str, name: str) -> str:
-    """Where the log of a crate's run is kept."""
+    """Returns the path of the log of a crate's run."""
     return os.path.join(root, "crates", name, "out", "build.log")
 
 
@@ -108,7 +108,7 @@ def command_of(root: str, name: str, jobs: int) -> list[str]:
 
 
 def copy_crates(root: str, folder: str) -> str:
-    """Makes a folder with a copy of all crates, without what was built of them, and answers it."""
+    """Makes a folder with a copy of all crates, without anything built from them, and returns its path."""
     top = os.path.join(root, "crates")
 
     def left_out(at: str, _names: list[str]) -> set[str]:
@@ -131,7 +131,7 @@ def remove(folder: str) -> None:
 
 
 class Builder:
-    """Builds a crate and those below it, as many at once as there is room for; `tell` takes lines about it."""
+    """Builds a crate and those below it, as many at once as resources allow; `tell` takes lines about the progress."""
 
     def __init__(self, root: str, crates: dict[str, Crate], name: str, room: Room, tell: Callable[[str], None]) -> None:
         self.root, self.asked, self.room, self.tell = root, name, room, tell
@@ -148,7 +148,7 @@ class Builder:
         self.begun = time.monotonic()
 
     def build(self) -> None:
-        """Builds all, and ends what is under way where one fails or an interrupt comes."""
+        """Builds all, and ends runs under way if one fails or an interrupt comes."""
         self.folder = tempfile.mkdtemp(prefix="cdma-build-")
         try:
             while self.left or self.running:
@@ -162,14 +162,15 @@ class Builder:
             remove(self.folder)
 
     def unused(self) -> Room:
-        """What no run has."""
+        """Returns the resources that no run uses."""
         taken = self.running
         return Room(
             self.room.processors - sum(it.jobs for it in taken), self.room.memory - sum(it.memory for it in taken)
         )
 
     def begin_ready(self) -> None:
-        """Begins crates that stand on built ones alone, as long as there is room; one at least is under way then."""
+        """Begins crates that depend only on built ones, as long as resources last; afterwards at least one is under
+        way."""
         ready = [name for name in self.left if self.built.issuperset(self.below[name])]
         for at, name in enumerate(ready):
             room, memory = self.unused(), self.memory[name]
@@ -183,14 +184,14 @@ class Builder:
         return all(self.ahead[it] <= self.ahead[name] for it in [*self.left, *(run.name for run in self.running)])
 
     def free_place(self) -> str:
-        """A place for a run: the checkout where it is free, else a copy that is, else a new one."""
+        """Returns a place for a run: the checkout or a copy if one is free, otherwise a new copy."""
         if self.places:
             return self.places.pop(0)
         self.copies += 1
         return copy_crates(self.root, os.path.join(self.folder, str(self.copies)))
 
     def begin(self, name: str, jobs: int) -> None:
-        """Begins a crate: the one that is asked for stands alone, so its place is the checkout."""
+        """Begins a crate; the requested one is built with no other, so its place is the checkout."""
         place = self.free_place()
         self.left.remove(name)
         source = os.path.join(self.root, "crates", name, "stdin")
@@ -215,7 +216,7 @@ class Builder:
         self.say(f"{name} begun, {jobs} job{'s' if jobs > 1 else ''}")
 
     def wait(self) -> None:
-        """Waits until a run has ended, and takes what has; raises Failed where a crate wasn't built."""
+        """Waits until a run has ended, and takes all that have; raises Failed if a crate wasn't built."""
         os.waitid(os.P_ALL, 0, os.WEXITED | os.WNOWAIT)
         for run in [it for it in self.running if it.child.poll() is not None]:
             self.running.remove(run)

@@ -24,7 +24,7 @@ STYLE = "text{font-family:sans-serif;fill:#222}.n{font-size:13px;font-weight:bol
 
 
 class Lines(NamedTuple):
-    """How many lines of each kind a crate has, those without text and those of comments left out."""
+    """Numbers of lines of a crate by kind, without empty lines and comments."""
 
     code: int = 0
     contracts: int = 0
@@ -47,7 +47,7 @@ class Room:
 
 
 def told_lines(text: str, ending: str) -> Iterator[str]:
-    """The lines of a file that say something to the compiler or the prover."""
+    """Yields the lines of a file that the compiler or the prover reads."""
     for line in text.splitlines():
         if line.strip() and not line.lstrip().startswith(COMMENTS[ending]):
             yield line
@@ -130,7 +130,7 @@ def room_drawn(room: Room, most: int) -> str:
 
 
 def head_drawn(total: Lines) -> str:
-    """What stands above the rooms: the sums with their colours, and the names of the columns."""
+    """Returns the part above the rooms: the sums with their colours, and the names of the columns."""
     drawn = []
     for at, (kind, count, colour) in enumerate(zip(KINDS, total, COLOURS)):
         drawn.append(box(MARGIN + LABEL + at * 220, 14, 14, 14, colour))

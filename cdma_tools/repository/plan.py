@@ -1,4 +1,4 @@
-"""How much work each crate is: the lines of its files, the memory that a check of them is planned with, what waits."""
+"""Work of each crate: the lines of its files, the memory planned for a check, and the crates that wait for it."""
 
 from __future__ import annotations
 
@@ -19,7 +19,7 @@ TIME_OF_ANY, TIME_OF_PROOF = 50.0, 0.04
 
 @dataclass
 class Crate:
-    """A crate: the crates that it stands on, how many lines its files have, and whether it has tests and edits."""
+    """A crate: its dependencies, the numbers of lines of its files, and whether it has tests and edits."""
 
     name: str
     below: list[str]
@@ -72,7 +72,8 @@ def time_of(crate: Crate) -> float:
 
 
 def work_ahead(crates: dict[str, Crate], names: Collection[str]) -> dict[str, float]:
-    """Of each crate the time of the longest chain from it upwards, each of which stands on the one before it."""
+    """Returns for each crate the time of the longest chain that begins with it, in which each depends on the one
+    before."""
     found: dict[str, float] = {}
     for name in sorted(names, key=lambda it: len(all_below(stands_on(crates), it)), reverse=True):
         above = [found[it] for it in found if name in crates[it].below]

@@ -1,4 +1,4 @@
-"""The reading order of docs/ARCHITECTURE.md: from which item of a file to which, and how many lines that is."""
+"""The reading order of docs/ARCHITECTURE.md: the items from which and to which to read, and the number of lines."""
 
 from __future__ import annotations
 

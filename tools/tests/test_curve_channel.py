@@ -237,7 +237,7 @@ class Runs(unittest.TestCase):
             ("--paths 1:x", "argument --paths: no number: 'x'"),
             ("--seed 3", "unrecognized arguments: --seed 3"),
             ("--rate 1000000", "a lock needs 1,228,800 samples a second or more"),
-            ("'", "no options, No closing quotation"),
+            ("'", "wrong options: No closing quotation"),
             ("--carrier", "expected one argument"),
         ):
             with self.subTest(options):

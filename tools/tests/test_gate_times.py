@@ -123,8 +123,8 @@ class GateTimes(unittest.TestCase):
         good = "00:00:01 rt: core proved"
         bad: tuple[tuple[list[str], str], ...] = (
             ([good, "rt: left proved"], "line 2 has no time before it"),
-            (["Nov 99 00:00:01 rt: core proved"], "month Nov, day 99 is no day"),
-            (["2026-13-01T00:00:01 rt: core proved"], "month 13, day 1 is no day"),
+            (["Nov 99 00:00:01 rt: core proved"], "month Nov, day 99 is not a day"),
+            (["2026-13-01T00:00:01 rt: core proved"], "month 13, day 1 is not a day"),
             (["00:00:01 nothing"], "the log names no crate"),
             ([], "the log names no crate"),
         )
@@ -134,7 +134,7 @@ class GateTimes(unittest.TestCase):
                 self.assertEqual((status, wrote), (2, ""))
                 self.assertIn(f"gate_times: {why}", faults)
         for text, why in (
-            ("core", "has a line that is none"),
+            ("core", "names no crate"),
             ("core: top\ntop: core\n", "has a circle: core top core"),
             ("core:\nnew:\n", "no folder"),
         ):
