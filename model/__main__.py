@@ -13,7 +13,7 @@ INTERRUPTED = 130
 
 
 def main() -> int:
-    """Runs a command on standard input, and answers its exit status."""
+    """Runs a command on standard input, and returns its exit status."""
     from model.run import WRITE_FAULT, run
 
     outcome = run(sys.argv[1:], sys.stdin.buffer.read)

@@ -1,4 +1,4 @@
-"""What a receiver gets of several cells, and noise: sums of samples (conformance/README.md)."""
+"""What a receiver gets from several cells and noise: sums of samples (conformance/README.md)."""
 
 from typing import Any, NamedTuple
 
@@ -18,8 +18,8 @@ class TooLoud(Exception):
 
 
 def draws(seed: int, bound: int, count: int) -> NDArray[Any]:
-    """So many draws of noise from -bound to bound, all states at once: each is a power of the multiplier times the
-    seed, plus the increment times the sum of the powers before it, modulo 2^32."""
+    """Returns `count` draws of noise from -bound to bound, all states at once: each is a power of the multiplier times
+    the seed, plus the increment times the sum of the powers before it, modulo 2^32."""
     powers = np.cumprod(np.full(count, MULTIPLIER, np.uint32), dtype=np.uint32)
     before = np.concatenate([np.ones(1, np.uint32), powers[:-1]])
     states = powers * np.uint32(seed) + np.uint32(INCREMENT) * np.cumsum(before, dtype=np.uint32)
@@ -27,7 +27,7 @@ def draws(seed: int, bound: int, count: int) -> NDArray[Any]:
 
 
 class Noise(NamedTuple):
-    """What is done to a sum of samples: uniform noise of a seed and a bound, noise of a size against the first cell's
+    """Changes of a sum of samples: uniform noise of a seed and a bound, noise of a size against the first cell's
     channel on a row, and a number by which all is then divided."""
 
     uniform: tuple[int, int] | None = None
@@ -36,9 +36,9 @@ class Noise(NamedTuple):
 
 
 def received(bits: int, cells: list[Cell], places: list[int], noise: Noise = Noise()) -> NDArray[Any]:
-    """The first cell's samples, with the others' added from their places on, and noise.
+    """Returns the first cell's samples, with the others' added from their places on, and noise.
 
-    Raises `TooLoud` where a sum isn't one of samples of so many bits.
+    Raises `TooLoud` if a sum isn't a sample of `bits` bits.
     """
     total = np.concatenate(list(samples(cells[0])))
     for place, cell in zip(places, cells[1:]):

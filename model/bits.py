@@ -29,7 +29,8 @@ def text_of_bits(bits: Bits) -> str:
 
 
 def bits_of_text(text: str) -> Bits | None:
-    """The bits of `N:HEX`, with digits of either case; None where it is no such text, or the padding isn't zero."""
+    """Returns the bits of `N:HEX`, with digits of either case; None if it is another text, or the padding isn't zero.
+    """
     found = BIT_TEXT.fullmatch(text)
     if not found:
         return None

@@ -49,7 +49,8 @@ class Channel(NamedTuple):
 
 
 def power_places(state: int, mask: int, scrambling: NDArray[Any]) -> NDArray[Any]:
-    """Which 32 symbols of the frame that begins at a state its power control bits replace, two for each (7.1.3.1.7)."""
+    """Returns the 32 symbols of the frame that begins at a state that its power control bits replace, two each
+    (7.1.3.1.7)."""
     before = scrambling_bits(state_before(state, GROUP), mask, 24)
     groups = np.concatenate([before, scrambling]).reshape(17, 24)[:16]
     starts = 24 * np.arange(16) + groups[:, 20:] @ [1, 2, 4, 8]
@@ -90,7 +91,7 @@ def sync_channel(cell: Cell) -> Channel:
 
 
 def page_cycle(channel: Paging, size: int, complemented: bool) -> Bits:
-    """The half-frames of a cycle of pages, with so many body bits each after the SCI bit (7.7.2.1)."""
+    """Returns the half-frames of a cycle of pages, with `size` body bits each after the SCI bit (7.7.2.1)."""
     body: Bits = []
     begun = set()
     for follows, page in channel.pages:
@@ -145,7 +146,7 @@ def channels(cell: Cell) -> list[Channel]:
 
 
 def levels(channel: Channel, begin: int, end: int) -> NDArray[Any]:
-    """What a channel sends, without its row, in the blocks of 64 chips from one to before another."""
+    """Returns what a channel sends, without its row, in the blocks of 64 chips from `begin` to before `end`."""
     found = np.zeros(end - begin, int)
     if channel.row == PILOT_ROW:
         return found + channel.gain
@@ -159,8 +160,8 @@ def levels(channel: Channel, begin: int, end: int) -> NDArray[Any]:
 
 
 def samples(cell: Cell, only: set[int] | None = None) -> Iterator[NDArray[Any]]:
-    """The samples of a cell, or what its channels on some rows alone add to them, piece by piece: whole complex numbers of
-    which no part passes 32,767."""
+    """Yields the samples of a cell, or only what its channels on some rows add to them, piece by piece: whole complex
+    numbers whose parts are at most 32,767."""
     sent = [channel for channel in channels(cell) if only is None or channel.row in only]
     rows = WALSH[[channel.row for channel in sent]]
     link = complex(cell.re, cell.im)

@@ -27,7 +27,7 @@ POINTS = (1 - 2 * np.array(pilot_chips(I_LAGS))) + 1j * (1 - 2 * np.array(pilot_
 
 
 def points(phase: int, count: int) -> NDArray[Any]:
-    """The points of so many chips from a phase on."""
+    """Returns the points of `count` chips from a phase on."""
     return np.take(POINTS, np.arange(phase, phase + count), mode="wrap")
 
 
@@ -55,7 +55,7 @@ def product(one: int, other: int) -> int:
 
 
 def state_after(state: int, chips: int) -> int:
-    """The long code's state so many chips later: times x to that power."""
+    """Returns the long code's state `chips` chips later, which is it times x to that power."""
     power = 2
     while chips:
         if chips & 1:
@@ -66,14 +66,14 @@ def state_after(state: int, chips: int) -> int:
 
 
 def state_before(state: int, chips: int) -> int:
-    """The one state that gives this one after so many chips."""
+    """Returns the one state that gives this one after `chips` chips."""
     for _ in range(chips):
         state = (state ^ LONG_POLYNOMIAL if state & 1 else state) >> 1
     return state
 
 
 def octet_products(factor: int) -> list[list[int]]:
-    """Of each octet of a state, and each value of it, the product with a factor."""
+    """Returns for each octet of a state, and each value of it, the product with a factor."""
     values = [256, 256, 256, 256, 256, 4]
     return [[product(value << 8 * octet, factor) for value in range(values[octet])] for octet in range(6)]
 

@@ -26,7 +26,7 @@ def code_symbols(start: int, bits: Bits) -> NDArray[Any]:
 
 
 def sent_order(width: int, columns: int) -> NDArray[Any]:
-    """A(i): which of the repeated symbols is sent as symbol i, with rows of 2^width and so many columns."""
+    """Returns A(i), the repeated symbol that is sent as symbol i, with rows of 2^width and `columns` columns."""
     return np.array([
         (place % columns << width) + number(spelled(width, place // columns)[::-1])
         for place in range(columns << width)
@@ -42,7 +42,7 @@ PAGING_ORDERS = {192: DATA_ORDER, 96: DATA_ORDER // 2}
 
 
 def gathered(order: NDArray[Any], softs: NDArray[Any], symbols: int) -> NDArray[Any]:
-    """Of each code symbol the sum of the soft values of those that send it; of one that none sends, 0."""
+    """Returns for each code symbol the sum of the soft values of those that send it, 0 if none does."""
     sums = np.zeros(symbols, np.int64)
     np.add.at(sums, order, softs)
     return sums
@@ -114,7 +114,7 @@ RATE_SET_2 = (
 
 
 def quality(rate: Rate, information: Bits) -> Bits:
-    """The quality indicator of a frame's information; none where the rate has none."""
+    """Returns the quality indicator of a frame's information, empty if the rate has none."""
     return check_bits(rate.check, information) if rate.check else []
 
 
@@ -124,7 +124,7 @@ def frame_bits(rate: Rate, information: Bits) -> Bits:
 
 
 def is_right(rate: Rate, bits: Bits) -> bool:
-    """Whether a frame's quality indicator is that of its information; true where the rate has none."""
+    """Whether a frame's quality indicator is that of its information; true if the rate has none."""
     return bits[rate.information : rate.bits() - TAIL] == quality(rate, bits[: rate.information])
 
 
@@ -142,10 +142,11 @@ NEVER = -(1 << 62)
 
 
 def best_codewords(softs: NDArray[Any], zero_ends: bool) -> tuple[NDArray[Any], NDArray[Any], NDArray[Any]]:
-    """Of each row of soft values, two for each bit, the best codeword: scores, start states, and bits, a row for each.
+    """Returns the best codeword of each row of soft values, two for each bit: scores, start states, and bits, a row for
+    each.
 
-    The step into a state comes from one of two states, which differ in the bit that has just left: codewords that meet
-    there differ last in it, so that 0 is taken on a tie.
+    The step into a state comes from one of two states, which differ in the bit that has just left. Codewords that meet
+    there differ last in that bit, so 0 is taken on a tie.
     """
     spans, steps = len(softs), softs.shape[1] // 2
     scores = np.zeros((spans, 256), np.int64)

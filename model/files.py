@@ -28,7 +28,7 @@ class BadFile(Exception):
 
 @dataclass(frozen=True)
 class Capture:
-    """A sample file: its flags, the count of its header, the samples that it has, and how it ends where not by count.
+    """A sample file: its flags, the count in its header, its samples, and its fault at the end if it has one.
 
     A sample is a complex number of whole parts.
     """
@@ -40,7 +40,7 @@ class Capture:
     end: BadFile | None
 
     def taken(self, span: int) -> int:
-        """How many samples are heard where so many are searched: all of them, or all whole pieces."""
+        """Returns the number of samples received if `span` are searched: all of them, or all complete pieces."""
         if len(self.samples) == self.count:
             return self.count
         return span + (len(self.samples) - span) // PIECE * PIECE
@@ -63,7 +63,7 @@ def read_header(data: bytes) -> tuple[int, int, int]:
 
 
 def read_capture(data: bytes, needed: int) -> Capture:
-    """The sample file in bytes, of which a command needs so many samples; raises `BadFile`."""
+    """Returns the sample file in bytes, which must have `needed` samples; raises `BadFile`."""
     version, flags, count = read_header(data)
     if count < needed:
         raise BadFile("too few", COUNT_PLACE)

@@ -28,8 +28,8 @@ DATA_FORM = Form(64, 1_536, 384)
 
 
 class Finger(NamedTuple):
-    """A path of one base station: the code phase of sample 0, how many chips earlier than the reference its samples
-    come, and a Walsh row."""
+    """A path of one base station: the code phase of sample 0, the number of chips by which its samples precede the
+    reference's, and a Walsh row."""
 
     phase: int
     delta: int
@@ -57,7 +57,7 @@ def soft_values(capture: Capture, fingers: list[Finger], form: Form, start: int)
 
 
 def is_inside(count: int, fingers: list[Finger], form: Form, start: int) -> bool:
-    """Whether all samples of a frame lie among so many, for every finger."""
+    """Whether all samples of a frame lie among the first `count`, for every finger."""
     return all(0 <= start - finger.delta <= count - form.chips() for finger in fingers)
 
 
@@ -85,7 +85,7 @@ class Stream(NamedTuple):
         return self.first + self.form.chips() * index
 
     def is_inside(self, count: int, index: int) -> bool:
-        """Whether there is such a frame, and all of it lies among so many samples."""
+        """Whether the frame exists, and all of it lies among the first `count` samples."""
         return index >= 0 and is_inside(count, self.fingers, self.form, self.start(index))
 
     def end(self, index: int) -> int:
@@ -100,12 +100,13 @@ class Stream(NamedTuple):
 
 
 def span_of(stream: Stream, count: int, index: int) -> list[int]:
-    """The frames with which one is decoded: it and those beside it, where they lie in the file."""
+    """Returns the frames with which one is decoded: it and its neighbors that lie in the file."""
     return [other for other in (index - 1, index, index + 1) if other == index or stream.is_inside(count, other)]
 
 
 def decoded_spans(stream: Stream, softs: dict[int, NDArray[Any]], spans: dict[int, list[int]]) -> dict[int, Bits]:
-    """Of each frame its own bits in the best codeword of its span, by the soft values of all frames' code symbols."""
+    """Returns for each frame its own bits in the best codeword of its span, by the soft values of all frames' code
+    symbols."""
     found = {}
     for length in {len(span) for span in spans.values()}:
         alike = {index: span for index, span in spans.items() if len(span) == length}
@@ -118,7 +119,7 @@ def decoded_spans(stream: Stream, softs: dict[int, NDArray[Any]], spans: dict[in
 
 
 def stream_frames(capture: Capture, stream: Stream, taken: int) -> Iterator[tuple[int, int, Bits]]:
-    """Each frame that is known within so many samples: its number, the samples at which it is known, its bits."""
+    """Yields each frame known within `taken` samples: its number, the samples at which it is known, its bits."""
     spans, softs = {}, {}
     index = 0
     while stream.start(index) < taken + stream.form.chips():
@@ -166,10 +167,11 @@ def best_at(rate: Rate, softs: NDArray[Any]) -> tuple[int, Bits]:
 
 
 def chosen(rates: tuple[Rate, ...], codewords: list[list[tuple[int, Bits]]]) -> Decoded:
-    """The frame that each rate's codewords make, best first.
+    """Returns the frame that each rate's codewords, best first, make.
 
-    Of each rate the first codeword whose quality indicator is right is a candidate; the one of greatest score is the
-    frame, the higher rate on a tie, and it is good where its score is above 0. Else it is the first rate's best codeword.
+    The first codeword of each rate whose quality indicator is right is a candidate. The one with the greatest score is
+    the frame, on a tie the higher rate, and it is good if its score is above 0. Otherwise the frame is the first rate's
+    best codeword.
     """
     candidates = []
     for rate, listed in zip(rates, codewords):
@@ -183,13 +185,13 @@ def chosen(rates: tuple[Rate, ...], codewords: list[list[tuple[int, Bits]]]) -> 
 
 
 def traffic_frame(rates: tuple[Rate, ...], softs: NDArray[Any], places: NDArray[Any]) -> Decoded:
-    """The frame that turned soft values tell, by the best codeword of each rate."""
+    """Returns the frame of descrambled soft values, by the best codeword of each rate."""
     kept = without(softs, places)
     return chosen(rates, [[best_at(rate, kept)] for rate in rates])
 
 
 def commands(softs: list[NDArray[Any]], places: NDArray[Any]) -> str:
-    """The sixteen power control bits of a frame, by the soft values of each subchannel that no scrambling turns:
-    0, which raises the power, where each subchannel's two symbols sum up above 0 (7.1.3.1.10)."""
+    """Returns the sixteen power control bits of a frame, by the raw soft values of each subchannel: 0, which raises the
+    power, if each subchannel's two symbols sum up above 0 (7.1.3.1.10)."""
     raised = np.all([values[places].reshape(16, 2).sum(axis=1) > 0 for values in softs], axis=0)
     return "".join("0" if up else "1" for up in raised)

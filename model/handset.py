@@ -1,4 +1,4 @@
-"""What a handset hears: the mark, the channels after it, and the events in their order (own)."""
+"""What a handset receives: the mark, the channels after it, and the events in their order (own)."""
 
 from typing import Any, Callable, Iterator, NamedTuple
 
@@ -46,7 +46,7 @@ SYNC_RANK, PAGING_RANK, FRAME_RANK, TRAFFIC_RANK, SETS_RANK = range(5)
 
 
 class Event(NamedTuple):
-    """Something heard at a number of samples: its rank, the tap that tells it, its line, and its message and capsule."""
+    """An event at a number of samples: its rank, the tap that takes it, its line, and its message and capsule."""
 
     at: int
     rank: int
@@ -67,7 +67,7 @@ class Mark(NamedTuple):
 
 
 class Assigned(NamedTuple):
-    """A traffic channel that a handset is told of."""
+    """A traffic channel that is assigned to a handset."""
 
     serial: int
     row: int
@@ -83,12 +83,13 @@ def reference_fingers(found: Found, row: int) -> list[Finger]:
 
 
 def sync_stream(found: Found) -> Stream:
-    """The sync channel: its frames begin where the reference path's code does."""
+    """Returns the sync channel: its frames begin where the reference path's code does."""
     return Stream(reference_fingers(found, SYNC_ROW), SYNC_FORM, -found.phase % PERIOD, 32, SYNC_ORDER)
 
 
 def hear_sync(capture: Capture, found: Found, taken: int) -> tuple[list[Event], Mark | None]:
-    """The sync messages within so many samples, and the mark that the first with a state of the long code sets."""
+    """Returns the sync messages within `taken` samples, and the mark that the first with a state of the long code sets.
+    """
     events, mark, held, began = [], None, None, 0
     stream = sync_stream(found)
     for index, known, bits in stream_frames(capture, stream, taken):
@@ -111,7 +112,7 @@ def hear_sync(capture: Capture, found: Found, taken: int) -> tuple[list[Event], 
 
 
 def paging_stream(found: Found, mark: Mark, channel: int) -> Stream:
-    """A paging channel from the mark on, of which the mark's PRAT tells a rate."""
+    """Returns a paging channel from the mark on, whose rate is that of the mark's PRAT."""
     bits, mask = PAGING_FRAME_BITS[mark.prat], paging_mask(channel, mark.pn)
     return Stream(reference_fingers(found, channel), DATA_FORM, mark.sample, bits, PAGING_ORDERS[bits],
                   lambda index: scrambling_bits(state_after(mark.lc, FRAME * index), mask))  # fmt: skip
@@ -136,7 +137,7 @@ def paging_messages(frames: list[Bits], complemented: bool) -> Iterator[tuple[in
 
 
 def hear_paging(capture: Capture, found: Found, mark: Mark, channel: int, taken: int) -> Iterator[Event]:
-    """The messages of a paging channel within so many samples; none where the mark's PRAT tells no rate."""
+    """Yields the messages of a paging channel within `taken` samples; none if the mark's PRAT has no rate."""
     if mark.prat not in PAGING_FRAME_BITS:
         return
     frames = list(stream_frames(capture, paging_stream(found, mark, channel), taken))
@@ -172,7 +173,7 @@ Decode = Callable[[NDArray[Any], NDArray[Any]], Decoded]
 def reference_frames(
     capture: Capture, found: Found, mark: Mark, assigned: Assigned, taken: int, decode: Decode, name: str
 ) -> Iterator[str]:
-    """The lines of the frames of a traffic channel that are heard from the reference base station alone."""
+    """Yields the lines of the frames of a traffic channel received only from the reference base station."""
     fingers = reference_fingers(found, assigned.row)
     index = 0
     while mark.sample + GROUP * assigned.offset + FRAME * index < taken:
@@ -200,7 +201,8 @@ def active_fingers(found: Found, mark: Mark, sets: Sets, deltas: dict[int, int])
 def hear_frame(
     capture: Capture, clock: Clock, fingers: dict[int, list[Finger]], taken: int
 ) -> tuple[int, Decoded, str] | None:
-    """A frame heard by fingers: the samples at which it ends, the frame, its power control bits; None if not inside."""
+    """Returns a frame from fingers: the samples at which it ends, the frame, its power control bits; None if it isn't
+    inside."""
     every = [finger for own in fingers.values() for finger in own]
     at = end_of(every, DATA_FORM, clock.start)
     if not is_inside(capture.count, every, DATA_FORM, clock.start) or at > taken:
@@ -212,7 +214,7 @@ def hear_frame(
 
 
 def traffic_event(capture: Capture, at: int, capsule: Bits | None) -> Iterator[Event]:
-    """The message of a capsule that ended with a frame, where it is one."""
+    """Yields the message of a capsule that ended with a frame, if it decodes."""
     body = body_of(capsule, capture.complement_16, MESSAGE_16) if capsule else None
     message = traffic_message(body) if body is not None else None
     if message is not None and capsule is not None:
@@ -254,7 +256,7 @@ def hear_traffic(
 
 
 def moment_event(capture: Capture, mark: Mark, sets: Sets, deltas: dict[int, int], moment: int) -> Iterator[Event]:
-    """What happens to the sets at a moment; an event where a report is due or a list changed."""
+    """Moves the sets at a moment; yields an event if a report is due or a list changed."""
     at, time = mark.sample + SLOT * moment, mark.time + moment
     before, neighbors = sets.shown(), list(sets.neighbors)
     hand_off(sets, time)
@@ -274,7 +276,7 @@ def moment_event(capture: Capture, mark: Mark, sets: Sets, deltas: dict[int, int
 def follow(
     capture: Capture, found: Found, channel: int, assigned: Assigned | None, taken: int
 ) -> tuple[list[Event], Mark | None]:
-    """All events within so many samples after the pilot's, in their order, and the mark."""
+    """Returns all events within `taken` samples after the pilot's, in their order, and the mark."""
     events, mark = hear_sync(capture, found, taken)
     if mark:
         pages = list(hear_paging(capture, found, mark, channel, taken))
@@ -284,7 +286,7 @@ def follow(
 
 
 def told(events: list[Event], limits: dict[str, int]) -> Iterator[str]:
-    """The lines of events, each tap telling so many of its kind: `pilots`, `messages`, `frames` and `raw`."""
+    """Yields the lines of events, up to the limits of their taps: `pilots`, `messages`, `frames` and `raw`."""
     left = dict(limits)
     for event in events:
         for tap, line in ((event.tap, event.line), ("raw", event.raw)):

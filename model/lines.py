@@ -83,7 +83,7 @@ def sets_line(at: int, time: int, shown: tuple[list[tuple[int, int, int]], list[
 
 
 def slot_line(at: int, time: int, messages: int) -> str:
-    """A slot that a sleeping handset hears."""
+    """Returns the line of a slot that a sleeping handset monitors."""
     return f"slot at={at} time={time} messages={messages}"
 
 
@@ -93,5 +93,5 @@ def raw_line(at: int, channel: str, capsule: Bits) -> str:
 
 
 def trial_line(number: int, samples: int, phase: int, counts: dict[str, int]) -> str:
-    """What a trial heard."""
+    """Returns the line of a trial."""
     return f"trial number={number} samples={samples} phase={phase}{fields(counts, counts)}"

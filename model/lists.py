@@ -1,4 +1,4 @@
-"""The first so many codewords, and frames that are taken from such lists (docs/FORMATS.md, `list`)."""
+"""The first `count` codewords, and frames taken from such lists (docs/FORMATS.md, `list`)."""
 
 from typing import Any
 
@@ -11,10 +11,10 @@ from model.frames import Decoded, chosen, rate_softs, without
 
 
 def first_codewords(count: int, softs: NDArray[Any], zero_ends: bool) -> list[tuple[int, Bits]]:
-    """The first codewords of soft values, two for each bit, in the order of codewords: scores, and bits.
+    """Returns the first codewords of soft values, two for each bit, in the order of codewords: scores, and bits.
 
-    Of each state so many codewords are kept, first ones first. Those of the state before whose leaving bit is 0 come
-    before those of the other one on a tie, so a stable sort by score merges the two lists in the order of codewords.
+    The first `count` codewords of each state are kept. On a tie those of the previous state whose leaving bit is 0 come
+    first, so a stable sort by score merges the two lists in the order of codewords.
     """
     steps = len(softs) // 2
     scores = np.full((256, count), NEVER)
@@ -41,11 +41,11 @@ def bits_back(taken: NDArray[Any], state: int, rank: int) -> Bits:
 
 
 def listed_codewords(count: int, rate: Rate, softs: NDArray[Any]) -> list[tuple[int, Bits]]:
-    """The codewords of a rate that are looked through: so many where it has a quality indicator, else the best one."""
+    """Returns the codewords of a rate that are tried: `count` if it has a quality indicator, otherwise the best one."""
     return first_codewords(count if rate.check else 1, rate_softs(rate, softs), zero_ends=True)
 
 
 def listed_frame(count: int, softs: NDArray[Any], places: NDArray[Any]) -> Decoded:
-    """The frame of rate set 1 that turned soft values tell, by so many codewords of each rate."""
+    """Returns the frame of rate set 1 of descrambled soft values, by `count` codewords of each rate."""
     kept = without(softs, places)
     return chosen(RATE_SET_1, [listed_codewords(count, rate, kept) for rate in RATE_SET_1])

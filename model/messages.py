@@ -23,7 +23,7 @@ class Reader:
         self.bits = bits
 
     def take(self, width: int) -> int:
-        """The number in the next so many bits."""
+        """Returns the number in the next `width` bits."""
         if len(self.bits) < width:
             raise TooShort
         front, self.bits = self.bits[:width], self.bits[width:]
@@ -34,7 +34,7 @@ class Reader:
         return {name: self.take(width) for name, width in table.items()}
 
     def records(self, width: int) -> list["Reader"]:
-        """As many records of a width as fit; raises `TooShort` where more than 7 bits are left after them."""
+        """Returns as many records of a width as fit; raises `TooShort` if more than 7 bits are left after them."""
         found = []
         while len(self.bits) >= width:
             found.append(Reader(self.bits[:width]))
@@ -52,7 +52,7 @@ class TooShort(Exception):
 
 
 def message_check(check: Check, complemented: bool, bits: Bits) -> Bits:
-    """The check of MSG_LENGTH and the body, complemented where the file's flags say so."""
+    """Returns the check of MSG_LENGTH and the body, complemented if the file's flags say so."""
     return [bit ^ complemented for bit in check_bits(check, bits)]
 
 
@@ -63,21 +63,21 @@ def capsule_of(body: Bits, complemented: bool, check: Check = MESSAGE_30) -> Bit
 
 
 def body_of(capsule: Bits, complemented: bool, check: Check = MESSAGE_30) -> Bits | None:
-    """The body of a whole capsule, where its check is right."""
+    """Returns the body of a complete capsule, if its check is right."""
     front = capsule[: -check.degree]
     return front[LENGTH:] if message_check(check, complemented, front) == capsule[len(front) :] else None
 
 
 def stated_length(bits: Bits) -> int | None:
-    """The bits of the capsule that begins here, by its MSG_LENGTH; None where that is outside its bounds."""
+    """Returns the number of bits of the capsule that begins here, by its MSG_LENGTH; None if that is out of bounds."""
     octets = number(bits[:LENGTH])
     return 8 * octets if LEAST_OCTETS <= octets <= MOST_OCTETS else None
 
 
 def take_piece(held: Bits | None, piece: Bits) -> tuple[Bits | None, Bits | None]:
-    """What a sync frame or a signalling part does to the capsule under way: what is held then, and the capsule that ends.
+    """Adds a sync frame or a signalling part to the open capsule: returns the open capsule then, and the one that ends.
 
-    A piece is the bit that says whether a capsule begins, and body bits. None is held where no capsule is open.
+    A piece is the bit that says whether a capsule begins, and body bits. None stands for no open capsule.
     """
     if piece[0]:
         held = []
@@ -93,9 +93,9 @@ def take_piece(held: Bits | None, piece: Bits) -> tuple[Bits | None, Bits | None
 
 
 def take_half_frame(held: Bits | None, half: Bits) -> tuple[Bits | None, list[Bits]]:
-    """What a paging half-frame does to the capsule under way: what is held then, and the capsules that end (7.7.2.1).
+    """Adds a paging half-frame to the open capsule: returns the open capsule then, and those that end (7.7.2.1).
 
-    After a capsule the next one may begin at once, where 8 bits or more of the half-frame are left.
+    After a capsule the next one may begin at once, if 8 bits or more of the half-frame are left.
     """
     capsules: list[Bits] = []
     if half[0]:
@@ -124,7 +124,7 @@ OCTETS_WITHOUT_FREQUENCY = 25
 
 
 def sync_message(body: Bits) -> Message | None:
-    """The message of a body, with `freq` where it has one; None where it is none."""
+    """Returns the message of a body, with `freq` if it has one; None if the body is rejected."""
     octets = (LENGTH + len(body) + MESSAGE_30.degree) // 8
     reader = Reader(body)
     if octets < OCTETS_WITHOUT_FREQUENCY or reader.take(LENGTH) != SYNC_TYPE:
@@ -155,7 +155,7 @@ CHANNEL_FIELDS = {"pn": 9, "seq": 6}
 
 
 def paging_message(body: Bits) -> Message | None:
-    """The message of a body: `system`, `neighbors`, `channels` or `other`; None where it is none."""
+    """Returns the message of a body: `system`, `neighbors`, `channels` or `other`; None if the body is rejected."""
     try:
         return paging_fields(Reader(body))
     except TooShort:
@@ -186,7 +186,7 @@ PRIMARY_BITS = (80, 40, 16, 0)
 
 
 def signalling_part(speed: int, information: Bits) -> Bits | None:
-    """The signalling part of a frame's information, where it has one."""
+    """Returns the signalling part of a frame's information, if it has one."""
     if speed != 9_600 or information[:2] != [1, 0]:
         return None
     return information[4 + PRIMARY_BITS[number(information[2:4])] :]
@@ -200,7 +200,8 @@ HANDOFF_FIELDS = {"use": 1, "action": 6, "hdm": 2}
 
 
 def traffic_message(body: Bits) -> Message | None:
-    """The message of a body, with its head: `system`, `neighbors`, `handoff` or `other`; None where it is none."""
+    """Returns the message of a body, with its head: `system`, `neighbors`, `handoff` or `other`; None if it is
+    rejected."""
     try:
         reader = Reader(body)
         kind = reader.take(LENGTH)
@@ -211,7 +212,7 @@ def traffic_message(body: Bits) -> Message | None:
 
 
 def traffic_fields(layout: int | None, kind: int, reader: Reader) -> Message:
-    """What follows the head, by a layout; all bits where there is none for it. Raises `TooShort`."""
+    """Returns the fields after the head, by a layout; all bits if the type has none. Raises `TooShort`."""
     other = {"what": "other", "type": kind, "rest": reader.bits}
     if layout == 7:
         message: Message = {"what": "system"} | reader.fields(IN_TRAFFIC_FIELDS)

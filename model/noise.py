@@ -1,4 +1,4 @@
-"""How much noise a cell's channels bear, and noise that is as bad as it can be (docs/LINK.md, "A link with noise")."""
+"""The noise that a cell's channels bear, and the worst noise of a size (docs/LINK.md, "A link with noise")."""
 
 import math
 from dataclasses import replace
@@ -28,7 +28,7 @@ def bears(cell: Cell, gain: int, noise: int) -> bool:
 
 
 def margin(cell: Cell, gain: int) -> int | None:
-    """The greatest noise that a channel of this gain bears; None where it doesn't even bear none."""
+    """Returns the greatest noise that a channel of this gain bears; None if it doesn't even bear noise of 0."""
     if not bears(cell, gain, 0):
         return None
     least, beyond = 0, 1
@@ -73,7 +73,7 @@ def search_roots(cell: Cell, span: int) -> Roots:
 
 
 def rows_heard(words: list[str]) -> list[int]:
-    """The Walsh rows of the channels that a command hears beside the pilot's: the sync channel's first."""
+    """Returns the Walsh rows of the channels that a command receives besides the pilot's, the sync channel's first."""
     _, options = read_words(words)
     return [SYNC_ROW, *(options[name] for name in ("paging", "row") if name in options)]
 
@@ -84,8 +84,8 @@ def margins(cell: Cell, rows: list[int]) -> dict[int, int | None]:
 
 
 def against(cell: Cell, row: int, size: int) -> NDArray[Any]:
-    """Noise against the channel on a row: in each part of each sample this size, with the sign that the channel's part of
-    the sample hasn't, and 0 where the channel adds nothing."""
+    """Returns noise against the channel on a row: in each part of each sample it has this size and the sign opposite to
+    the channel's part of the sample, and is 0 if the channel adds nothing."""
     adds = np.concatenate(list(samples(cell, {row})))
     return -size * (np.sign(adds.real) + 1j * np.sign(adds.imag))
 
@@ -101,7 +101,7 @@ def rounded(sums: NDArray[Any], by: int) -> NDArray[Any]:
 
 
 def weaker(cell: Cell, by: int) -> Cell | None:
-    """The cell over a link by so much weaker; None where its factor isn't whole."""
+    """Returns the cell over a link that is weaker by a factor; None if its own factor isn't whole then."""
     if cell.re % by or cell.im % by:
         return None
     return replace(cell, re=cell.re // by, im=cell.im // by)

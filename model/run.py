@@ -21,7 +21,7 @@ SPAN = DEFAULTS["span"]
 
 
 class Outcome(NamedTuple):
-    """How a command ends: its status, what it writes, and the line on standard error."""
+    """The end of a command: its status, its output, and the line on standard error."""
 
     status: int
     written: Iterable[bytes]
@@ -37,7 +37,7 @@ WRITE_FAULT = Outcome(5, [], "write fault")
 
 
 def run(words: list[str], read: Callable[[], bytes]) -> Outcome:
-    """What a command with such arguments makes of its input, which is read only where they are right."""
+    """Runs a command with such arguments on its input, which is read only if they are right."""
     try:
         command, options = read_words(words)
         if command == "trial":
@@ -73,7 +73,7 @@ def make(script: bytes, bits: int) -> Iterable[bytes]:
 
 
 def listen(command: str, options: Options, data: bytes) -> Outcome:
-    """What a command that reads a sample file makes of it; raises `BadFile` where it has too few samples."""
+    """Runs a command that reads a sample file; raises `BadFile` if the file has too few samples."""
     span = options["span"]
     capture = read_capture(data, span)
     if command == "survey":
@@ -88,12 +88,12 @@ def listen(command: str, options: Options, data: bytes) -> Outcome:
 
 
 def assigned_of(options: Options) -> Assigned:
-    """The traffic channel that options tell."""
+    """Returns the traffic channel of the options."""
     return Assigned(options["esn"], options["row"], options["offset"])
 
 
 def heard_lines(command: str, options: Options, capture: Capture) -> tuple[list[str], bool]:
-    """The lines of a command that finds the pilot first, and whether it learned the time, where it needs that."""
+    """Returns the lines of a command that finds the pilot first, and whether it learned the time, if it needs that."""
     span = options["span"]
     found = search(capture.samples[:span], options.get("fingers", 1))
     taken = capture.taken(span)
@@ -122,7 +122,7 @@ def heard_lines(command: str, options: Options, capture: Capture) -> tuple[list[
 
 
 def trial(number: int) -> str:
-    """The line of a trial: the link that a number tells, made and followed."""
+    """Returns the line of a trial: the link of a number, made and followed."""
     script, serial = trial_script(number)
     cell = read_script(script.encode("ascii"))
     link = np.concatenate([piece.astype(np.complex64) for piece in samples(cell)])

@@ -86,7 +86,7 @@ class Cell:
 
 
 class Refused(Exception):
-    """A line that can't stand where it stands."""
+    """A line that is wrong at its place."""
 
 
 # ---- the words of a line
@@ -108,12 +108,12 @@ def decimal(least: int, most: int) -> Callable[[str], int]:
 
 
 def below(width: int) -> Callable[[str], int]:
-    """Reads a number of so many bits."""
+    """Reads a number of `width` bits."""
     return decimal(0, (1 << width) - 1)
 
 
 def digits(count: int, least: int, most: int) -> Callable[[str], int]:
-    """Reads just so many hex digits of either case, within bounds."""
+    """Reads exactly `count` hex digits of either case, within bounds."""
 
     def read(text: str) -> int:
         if not re.fullmatch(f"[0-9a-fA-F]{{{count}}}", text) or not least <= int(text, 16) <= most:
@@ -190,7 +190,7 @@ def take_sync(cell: Cell, words: list[str]) -> None:
 
 
 def take_paging(cell: Cell, words: list[str]) -> None:
-    """`paging channel=C gain=G`, where the data rate is one of a paging channel."""
+    """`paging channel=C gain=G`, if the data rate is one of a paging channel."""
     if cell.sync["prat"] not in BODY_BITS:
         raise Refused
     cell.paging.append(Paging(**named(words, PAGING)))
@@ -272,7 +272,7 @@ def read_script(script: bytes, width: int = 16) -> Cell:
 
 
 def read_lines(lines: list[str]) -> Cell:
-    """The cell of lines, of which the last one is empty; raises `BadScript` where one can't stand."""
+    """Returns the cell of lines, of which the last one is empty; raises `BadScript` if one is wrong."""
     cell, before, place = Cell(), "", 0
     try:
         for place, line in enumerate(lines[:-1], 1):
@@ -290,7 +290,7 @@ def read_lines(lines: list[str]) -> Cell:
 
 
 def judge(cell: Cell, width: int) -> None:
-    """Raises `BadScript` where rows, gains or the count of samples can't be."""
+    """Raises `BadScript` if rows, gains or the number of samples are wrong."""
     used = {PILOT_ROW, SYNC_ROW}
     for row in [channel.channel for channel in cell.paging] + [channel.row for channel in cell.traffic]:
         if row in used:

@@ -16,7 +16,8 @@ MEASURED = 512
 
 
 class Found(NamedTuple):
-    """What a search finds: the best phase, its energy, and how many chips earlier than it each path's samples come."""
+    """Result of a search: the best phase, its energy, and the number of chips by which each path's samples precede it.
+    """
 
     phase: int
     energy: int
@@ -24,17 +25,17 @@ class Found(NamedTuple):
 
 
 def correlation_bound(samples: NDArray[Any]) -> float:
-    """How far at most the transforms' sums are off: some units in the last place for each of 15 steps of three
-    transforms, times the greatest value that the sums could have."""
+    """Returns an upper bound on the error of the transforms' sums: some units in the last place for each of 15 steps of
+    three transforms, times the greatest value that the sums could have."""
     steps = 3 * (PERIOD.bit_length() - 1)
     return 8 * steps * float(np.finfo(float).eps) * float(np.linalg.norm(samples) * np.linalg.norm(POINTS))
 
 
 def energies(samples: NDArray[Any]) -> NDArray[Any]:
-    """The energy of each of the 32,768 phases over at most so many samples: whole numbers.
+    """Returns the energy of each of the 32,768 phases over at most 32,768 samples, in whole numbers.
 
-    The sums of samples times conjugate points are whole, and come from a fast transform that is less than a quarter
-    off, so that the next whole number is the sum.
+    The sums of samples times conjugate points are whole. They come from a fast transform with an error below a quarter,
+    so the nearest whole number is the sum.
     """
     assert correlation_bound(samples) < 0.25
     sums = np.fft.ifft(np.fft.fft(samples.astype(complex), PERIOD).conj() * np.fft.fft(POINTS))
@@ -44,7 +45,7 @@ def energies(samples: NDArray[Any]) -> NDArray[Any]:
 
 
 def search(samples: NDArray[Any], fingers: int = 1) -> Found:
-    """The best phase of samples, and so many paths near it: by greater energy, then by lesser phase."""
+    """Returns the best phase of samples, and `fingers` paths near it, by descending energy, then by ascending phase."""
     found = energies(samples)
     best = int(found.argmax())
     near = [(best + delta) % PERIOD for delta in range(-NEAR, NEAR + 1)]

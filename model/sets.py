@@ -62,7 +62,7 @@ class Sets:
         return WINDOW_CHIPS[self.thresholds["winn" if pilot in self.neighbors else "wina"]]
 
     def shown(self) -> tuple[list[tuple[int, int, int]], list[int]]:
-        """The lists that an event tells."""
+        """Returns the lists in an event's line."""
         return [(one.pilot, one.row, one.subchannel) for one in self.active], list(self.candidates)
 
     def has_expired(self, timer: int | None, time: int) -> bool:
@@ -72,7 +72,7 @@ class Sets:
 
 
 def hear(sets: Sets, message: Message, first: int) -> None:
-    """What a message changes when it is heard; `first` is the time of the first moment that isn't before its end."""
+    """Changes the sets by a message; `first` is the time of the first moment that isn't before its end."""
     if message["what"] == "system":
         take_thresholds(sets, message)
     elif message["what"] == "neighbors":

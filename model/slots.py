@@ -30,7 +30,7 @@ def is_monitored(key: int, cycle: int, time: int) -> bool:
 def slot_lines(
     capture: Capture, found: Found, mark: Mark, channel: int, key: int, cycle: int, taken: int
 ) -> Iterator[str]:
-    """The lines of the slots that a handset hears: each slot by itself, its frames as spans among the four."""
+    """Yields the lines of the monitored slots: each slot by itself, its frames as spans among the four."""
     if mark.prat not in PAGING_FRAME_BITS:
         return
     stream = paging_stream(found, mark, channel)

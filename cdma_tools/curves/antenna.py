@@ -1,8 +1,8 @@
-"""From the antenna on: a cell's samples over a radio's link, and the lock that makes a sample file of them again.
+"""From the antenna on: a cell's samples over a radio's link, and the lock that makes a sample file from them again.
 
-A recording is made as `channel` makes one, and locked to as `import_capture --lock` does it, knowing nothing of the
-link. Where the script's samples lie in what the lock writes is then told by the truth of the recording: by the code's
-phase of the first chip, and by its time.
+A recording is made as `channel` makes one, and locked to as `import_capture --lock` does it, without knowledge of the
+link. The truth of the recording then gives the place of the script's samples in the lock's file: by the code's phase of
+the first chip, and by its time.
 """
 
 import contextlib
@@ -28,7 +28,7 @@ FOREVER = 1 << 62
 
 @dataclasses.dataclass(frozen=True)
 class Antenna:
-    """A link and a radio, and the options that name them, as they are told."""
+    """A link and a radio, and the options that name them, as they were given."""
 
     text: str
     paths: tuple[Path, ...]
@@ -39,7 +39,7 @@ class Antenna:
         return [abs(path.gain) ** 2 for path in self.paths]
 
     def kind(self) -> AirKind:
-        """Whether its paths stand still, or one alone fades, or several."""
+        """Returns whether its paths are steady, or only one fades, or several."""
         if not any(path.doppler for path in self.paths):
             return AirKind.WHITE
         return AirKind.RAYLEIGH if len(self.paths) == 1 else AirKind.FADING
@@ -47,10 +47,11 @@ class Antenna:
 
 @dataclasses.dataclass(frozen=True)
 class Caught:
-    """What a lock makes of a recording: a sample file, and where the script's samples lie in it.
+    """Result of a lock to a recording: a sample file, and the place of the script's samples in it.
 
-    `begin` is the script's sample that comes first, `length` how many of them the recording has from there on, and
-    `unheard` the spans of samples for which the lock heard no pilot. `is_late` is set where one is before the first.
+    `begin` is the script's sample that comes first, `length` the number of samples that the recording has from there
+    on, and `unheard` the spans of samples for which the lock found no pilot. `is_late` is set if one is before the
+    first.
     """
 
     data: bytes
@@ -68,13 +69,13 @@ def chips_before(radio: Radio, seconds: float) -> float:
 
 
 def first_sample(radio: Radio, found: Locked, phase: int) -> int:
-    """The script's sample that a lock wrote first, where the script's first sample has a code phase."""
+    """Returns the script's sample that a lock wrote first, by the code phase of the script's first sample."""
     near = round(chips_before(radio, found.begin))
     return near + (found.phase - phase - near + PERIOD // 2) % PERIOD - PERIOD // 2
 
 
 def caught_of(radio: Radio, found: Locked, phase: int, data: bytes) -> Caught:
-    """What a lock that found this has made."""
+    """Returns the result of a lock that found this."""
     pace = CHIP_RATE * (1 + 1e-6 * radio.clock)
     unheard, lost = [], 0
     for gap in found.gaps:
@@ -104,7 +105,7 @@ def record_to(path: str, antenna: Antenna, cells: Sequence[bytes], noise: float,
 def caught(
     antenna: Antenna, cells: Sequence[bytes], noise: float, seed: int, flags: int, fingers: Collection[int]
 ) -> dict[int, Caught | Refused]:
-    """What a lock makes of a recording for receivers of so many fingers each; or why it is refused."""
+    """Returns the locks to a recording by the number of the receivers' fingers, or why one is refused."""
     radio, made = antenna.radio, dict[int, Caught | Refused]()
     with tempfile.TemporaryDirectory(prefix="curve-") as folder:
         path = os.path.join(folder, "recording")

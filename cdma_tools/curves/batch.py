@@ -1,6 +1,6 @@
-"""One batch of a point: a file of the script's samples with noise of its own, received and counted. What a worker does.
+"""One batch of a point, a worker's task: a file of the script's samples with noise of its own, received and counted.
 
-A batch's counts depend on its setup, its level of noise and its numbers alone; nothing is kept from batch to batch but
+A batch's counts depend only on its setup, its level of noise and its numbers. Nothing is kept from batch to batch but
 the samples without noise, which each process makes once.
 """
 
@@ -57,7 +57,7 @@ class Setup:
 
 @dataclasses.dataclass(frozen=True)
 class Prepared:
-    """The samples without noise (parts, i and q in turn), and what each curve's arguments are to hear in them."""
+    """The samples without noise (parts, i and q in turn), and what each curve's arguments should receive from them."""
 
     script: Script
     traffic: Traffic
@@ -103,7 +103,7 @@ def on_air(setup: Setup, parts: NDArray[numpy.int16]) -> NDArray[numpy.int16]:
 
 @functools.lru_cache(maxsize=1)
 def prepared(setup: Setup) -> Prepared:
-    """What a process keeps of a setup."""
+    """Returns what a process keeps of a setup."""
     check_machine(setup)
     script = read_script(setup.text, setup.name)
     traffic = chosen_channel(script, setup.row, setup.name)
@@ -147,7 +147,7 @@ def cells_of(setup: Setup, ready: Prepared) -> Iterator[bytes]:
 
 
 def fingers_of(words: str) -> int:
-    """How many fingers a receiver's words name, else 1."""
+    """Returns the number of fingers in a receiver's arguments, by default 1."""
     found = 1
     parts = [part for word in shlex.split(words) for part in word.split("=", 1)]
     for name, value in zip(parts, parts[1:]):
@@ -158,7 +158,8 @@ def fingers_of(words: str) -> int:
 
 @functools.lru_cache(maxsize=256)
 def expected_from(setup: Setup, words: str, begin: int, length: int) -> Expected:
-    """What receivers with these words are to hear of so many samples of the script from one on, without noise."""
+    """Returns what receivers with these arguments should receive, without noise, from `length` samples from `begin` on.
+    """
     ready = prepared(setup)
     samples = min(length, len(ready.parts) // 2 - begin)
     cut = dataclasses.replace(ready.script, start=ready.script.start + begin, samples=samples)
@@ -168,7 +169,8 @@ def expected_from(setup: Setup, words: str, begin: int, length: int) -> Expected
 
 
 def wanted_of(setup: Setup, words: str, got: Caught) -> Expected:
-    """What is to be heard of a file that a lock made: from its first chip on, where the pilot wasn't lost there."""
+    """Returns what should be received from a file that a lock made, from its first chip on, if the pilot wasn't lost
+    there."""
     if got.is_late:
         return moved(expected_from(setup, words, 0, got.begin + got.length), got.begin)
     return expected_from(setup, words, got.begin, got.length)
@@ -191,7 +193,7 @@ def run_locked(setup: Setup, antenna: Antenna, ready: Prepared, noise: float, se
 
 
 def check_lock(setup: Setup, antenna: Antenna, ready: Prepared) -> None:
-    """Refuses a link over which the lock takes no pilot even without noise: the first seconds tell."""
+    """Refuses a link over which the lock finds no pilot even without noise in the first seconds."""
     first, *others = cells_of(setup, ready)
     count = min(len(ready.parts), 2 * TRIED)
     head = sample_file(ready.flags, ready.parts[:count])

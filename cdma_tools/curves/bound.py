@@ -1,9 +1,10 @@
-"""The union bound on frame errors: how far the words of a frame lie apart, and how often noise takes one for another.
+"""The union bound on frame errors: the distances of a frame's words, and the probability that noise takes one for
+another.
 
 The code has rate 1/2, constraint length 9 and the generators 753 and 561, octal (7.1.3.1.3.1). A receiver that takes
-the best word errs only where some word whose path leaves the right one once, and comes back to it once, fits better:
-for a word that differs in several stretches, one of the stretches alone does too. The code is linear, so the right
-word may be that of zeros.
+the best word errs only if a word fits better whose path leaves the right one once and returns to it once: if a word
+differs in several stretches, the word that differs in only one of them also fits better. The code is linear, so the
+right word may be that of zeros.
 """
 
 import dataclasses
@@ -51,7 +52,7 @@ FORMS = {
 
 
 def times_sent(form: Form) -> NDArray[numpy.int64]:
-    """How often each code symbol is sent in a frame: a row of two for each bit, the tail's bits too."""
+    """Returns how often each code symbol is sent in a frame: a row of two for each bit, including the tail's bits."""
     steps = form.bits + MEMORY
     repeated = numpy.arange(2 * steps * form.repeats)
     if form.rate_set == 2:
@@ -77,10 +78,10 @@ def branches() -> list[tuple[int, NDArray[numpy.int64], NDArray[numpy.int64]]]:
 def words_by_weight(
     sent: NDArray[numpy.int64], free: int, starts: int, most: int
 ) -> NDArray[numpy.float64]:
-    """How many words of each weight 0 to `most` leave the word of zeros once and come back to it once.
+    """Returns the number of words of each weight 0 to `most` that leave the word of zeros once and return to it once.
 
-    `sent` says how often each step's two symbols are sent: a symbol of 1 weighs so much. The first `free` steps have
-    bits, the others zeros; words leave in the first `starts` steps, and come back before the end.
+    `sent` says how often each step's two symbols are sent, which is the weight of a symbol of 1. The first `free` steps
+    have bits, the others zeros. Words leave in the first `starts` steps, and return before the end.
     """
     parts, counts, back = branches(), numpy.zeros((STATES, most + 1)), numpy.zeros(most + 1)
     for step, weights in enumerate(sent):
@@ -101,7 +102,7 @@ def words_by_weight(
 
 
 def code_weights(most: int) -> NDArray[numpy.float64]:
-    """Of the code itself: how many words that leave at one step have each weight up to `most`.
+    """Returns for the code itself the number of words of each weight up to `most` that leave at one step.
 
     Sixteen steps for each unit of weight are more than a word of that weight takes: the code isn't catastrophic, and
     its words gain weight faster.
@@ -112,7 +113,7 @@ def code_weights(most: int) -> NDArray[numpy.float64]:
 
 @functools.cache
 def frame_weights(rate: int) -> NDArray[numpy.float64]:
-    """How many words of a frame of a rate have each weight, 0 to 384, in sent symbols."""
+    """Returns the number of words of each weight, 0 to 384 sent symbols, in a frame of a rate."""
     form = FORMS[rate]
     return words_by_weight(times_sent(form), form.bits, form.bits, SYMBOLS)
 
@@ -124,10 +125,10 @@ def symbol_ratio(rate: int, ratio: float) -> float:
 
 @functools.cache
 def weights_left(rate: int) -> NDArray[numpy.float64]:
-    """How many words of a frame of a rate have 0 to 384 symbols left, in the mean.
+    """Returns the mean number of words of a frame of a rate that have 0 to 384 symbols left.
 
-    Each sent symbol is taken to be lost to a power control bit with the chance of 1 in 12, one by one: so of a word's
-    w symbols k are left with the binomial chance.
+    Each sent symbol is taken to be lost to a power control bit with probability 1 in 12, independently. So k of a
+    word's w symbols are left with the binomial probability.
     """
     from scipy.stats import binom  # takes more than half a second to load, and is wanted here alone
 
@@ -137,19 +138,20 @@ def weights_left(rate: int) -> NDArray[numpy.float64]:
 
 
 def frame_bound(rate: int, ratio: float) -> float:
-    """The union bound on the share of frames that err at an Eb/Nt (a ratio), where the pilot is known; at most 1.
+    """Returns the union bound on the share of frames in error at an Eb/Nt (a ratio) if the pilot is known; at most 1.
 
-    A word with k symbols left is taken with the chance Q(sqrt(2 k Es/Nt)).
+    A word with k symbols left is taken with probability Q(sqrt(2 k Es/Nt)).
     """
     taken = ndtr(-numpy.sqrt(2 * LEFT * symbol_ratio(rate, ratio)))
     return float(min(1.0, weights_left(rate) @ taken))
 
 
 def combined_bound(rate: int, ratio: float) -> float:
-    """The union bound of ideal maximum-ratio combining, where each symbol has a Rayleigh fade of its own; at most 1.
+    """Returns the union bound of ideal maximum-ratio combining if each symbol has a Rayleigh fade of its own; at most
+    1.
 
-    A word with k symbols left is then taken with the chance of an error of k branches of equal mean (J. G. Proakis,
-    Digital Communications, 4th edition, 14.4-15): p^k times the sum over j below k of C(k - 1 + j, j) (1 - p)^j, which
+    A word with k symbols left is then taken with the error probability of k branches of equal mean (J. G. Proakis,
+    Digital Communications, 4th edition, 14.4-15): p^k times the sum over j below k of C(k - 1 + j, j) (1 - p)^j. This
     is the incomplete beta function I_p(k, k), with p = (1 - sqrt(g / (1 + g))) / 2 and g the mean Es/Nt.
     """
     mean = symbol_ratio(rate, ratio)

@@ -37,7 +37,7 @@ class Hands:
                 room -= 1
 
     def step(self, sink: Sink) -> None:
-        """Waits for batches, and takes those that have ended; where one failed, the others are taken first."""
+        """Waits for batches, and takes those that have ended; if one failed, the others are taken first."""
         fault: Refused | None = None
         for future in some_ended(self.client, list(self.under_way)):
             point, batch = self.under_way.pop(future)

@@ -1,8 +1,8 @@
-"""What became of each frame and each message that was sent.
+"""Counts the outcomes of the frames and messages that were sent.
 
-The frames that were sent are the script's: frame k ends at local chip 24,576 (k + 1) + 1,536 FRAME_OFFSET. Which of
-them a receiver could hear, from the mark on, and which messages, the lines tell that the maker of the samples writes of
-them before any noise is added.
+The frames that were sent are the script's: frame k ends at local chip 24,576 (k + 1) + 1,536 FRAME_OFFSET. The lines
+that the maker of the samples writes of them before any noise is added give the frames that a receiver could decode,
+from the mark on, and the messages.
 """
 
 import dataclasses
@@ -29,7 +29,7 @@ MESSAGE = re.compile(r"(sync|paging) at=(\d+) (.+)")
 
 @dataclasses.dataclass(frozen=True)
 class Heard:
-    """A frame as a receiver's line tells it."""
+    """A frame in a receiver's line."""
 
     kind: str
     at: int
@@ -40,7 +40,7 @@ class Heard:
 
 @dataclasses.dataclass
 class Count:
-    """How many were sent, and how many of them came to each bad end. Each is counted under one end at most."""
+    """Number of frames or messages sent, and of those with each kind of error. Each has at most one kind."""
 
     sent: int = 0
     lost: int = 0
@@ -51,7 +51,7 @@ class Count:
     unlocked: int = 0
 
     def errors(self) -> int:
-        """All that weren't heard as sent."""
+        """Returns the number of those not received as sent."""
         return sum(getattr(self, outcome) for outcome in OUTCOMES)
 
     def add(self, other: "Count") -> None:
@@ -68,9 +68,9 @@ Span = tuple[int, int]
 
 @dataclasses.dataclass(frozen=True)
 class Expected:
-    """What is in a file to be heard: the frames by the number of samples at which they end, and the messages.
+    """Expected content of a file: the frames by the number of samples at which they end, and the messages.
 
-    Messages stand by kind and text, with the numbers of samples at which they are known.
+    Messages are keyed by kind and text, with the numbers of samples at which they are known.
     """
 
     frames: Mapping[int, Frame]
@@ -78,7 +78,7 @@ class Expected:
 
 
 def frames_in(lines: Iterable[str], name: str) -> Iterator[Heard]:
-    """The frames that lines tell; Refused at a line that docs/FORMATS.md doesn't have."""
+    """Yields the frames in lines; raises Refused at a line that docs/FORMATS.md doesn't have."""
     for number, line in enumerate(lines, 1):
         try:
             read = read_line(line)
@@ -89,7 +89,7 @@ def frames_in(lines: Iterable[str], name: str) -> Iterator[Heard]:
 
 
 def messages_in(lines: Iterable[str]) -> Messages:
-    """The sync and paging messages that lines tell."""
+    """Returns the sync and paging messages in lines."""
     found: Messages = {}
     for line in lines:
         if match := MESSAGE.fullmatch(line):
@@ -109,7 +109,7 @@ def frames_sent(script: Script, traffic: Traffic) -> dict[int, Frame]:
 
 
 def expected(script: Script, traffic: Traffic, clean: list[str], name: str) -> Expected:
-    """What is to be heard, by the lines that the maker writes of the samples without noise."""
+    """Returns the expected content, by the lines that the maker writes of the samples without noise."""
     begin = min((frame.at for frame in frames_in(clean, name)), default=None)
     if begin is None:
         raise Refused(f"{name} hears no frame of the script's samples without noise")
@@ -120,7 +120,7 @@ def expected(script: Script, traffic: Traffic, clean: list[str], name: str) -> E
 
 
 def outcome_of(sent: Frame, line: Heard) -> str | None:
-    """The bad end of a frame that has a line; None where it was heard as sent."""
+    """Returns the kind of error of a frame that has a line, None if it was received as sent."""
     is_right = (line.kind, line.rate, line.bits) == (sent.kind, sent.rate, sent.bits)
     if not line.is_good:
         return "bad_but_right" if is_right else "marked_bad"
@@ -137,9 +137,9 @@ def meets(first: int, end: int, spans: Iterable[Span]) -> bool:
 def count_frames(
     sent: Mapping[int, Frame], lines: Iterable[Heard], counts: Counts, unheard: Collection[Span] = ()
 ) -> None:
-    """Counts frames by kind and rate as sent: of several lines at one frame the first is the frame's.
+    """Counts frames by kind and rate as sent; the first of several lines at one frame is the frame's.
 
-    Of the frames that meet a span in which the lock heard no pilot, those that err are the lock's.
+    Errors of frames that meet a span in which the lock found no pilot are the lock's.
     """
     ends = sorted(sent)
     taken: dict[int, Heard] = {}
@@ -158,9 +158,9 @@ def count_frames(
 
 
 def count_messages(sent: Messages, found: Messages, counts: Counts, unheard: Collection[Span] = ()) -> None:
-    """Counts messages by kind: one is lost where none of its text is known near its place.
+    """Counts messages by kind: one is lost if none of its text is known near its place.
 
-    Where its last frame meets a span in which the lock heard no pilot, the loss is the lock's.
+    If its last frame meets a span in which the lock found no pilot, the loss is the lock's.
     """
     for (kind, text), places in sent.items():
         left = list(found.get((kind, text), ()))
@@ -177,7 +177,7 @@ def count_messages(sent: Messages, found: Messages, counts: Counts, unheard: Col
 
 
 def counted(wanted: Expected, lines: list[str], name: str, unheard: Collection[Span] = ()) -> Counts:
-    """What became of all that a file has to be heard, by channel: `frame 9600`, `frame2 14400`, `sync`, `paging`."""
+    """Returns the counts of a file by channel: `frame 9600`, `frame2 14400`, `sync`, `paging`."""
     counts: Counts = {}
     count_frames(wanted.frames, frames_in(lines, name), counts, unheard)
     count_messages(wanted.messages, messages_in(lines), counts, unheard)
@@ -185,7 +185,7 @@ def counted(wanted: Expected, lines: list[str], name: str, unheard: Collection[S
 
 
 def all_unlocked(wanted: Expected) -> Counts:
-    """What becomes of a file without a lock: all that was to be heard is the lock's loss."""
+    """Returns the counts of a file without a lock: everything expected is the lock's loss."""
     counts: Counts = {}
     for frame in wanted.frames.values():
         counts.setdefault(f"{frame.kind} {frame.rate}", Count()).sent += 1
@@ -197,6 +197,6 @@ def all_unlocked(wanted: Expected) -> Counts:
 
 
 def moved(wanted: Expected, earlier: int) -> Expected:
-    """What is to be heard, so many samples earlier."""
+    """Returns the expected content `earlier` samples earlier."""
     messages = {key: [place - earlier for place in places] for key, places in wanted.messages.items()}
     return Expected({end - earlier: frame for end, frame in wanted.frames.items()}, messages)

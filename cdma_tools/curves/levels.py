@@ -30,7 +30,7 @@ LEAST_SIGMA, GREATEST_SIGMA = 1e-3, 1e6
 
 
 class AirKind(enum.Enum):
-    """What the paths do: none fades, the one path has Rayleigh fading, or several paths or some of them fade."""
+    """Kind of paths: none fades, the only path has Rayleigh fading, or several paths or some of them fade."""
 
     WHITE = "white"
     RAYLEIGH = "rayleigh"
@@ -39,7 +39,8 @@ class AirKind(enum.Enum):
 
 @dataclasses.dataclass(frozen=True)
 class Channel:
-    """A channel whose Eb/Nt is told: its name in tables, gain, bits a second, and its share that carries these bits."""
+    """A channel with an Eb/Nt: its name in tables, gain, bits per second, and the share of it that carries these bits.
+    """
 
     name: str
     gain: int
@@ -49,9 +50,9 @@ class Channel:
 
 @dataclasses.dataclass(frozen=True)
 class Air:
-    """What a receiver gets beside noise: each path's |h|², the sum of the cell's squared gains, and other cells.
+    """What a receiver gets besides noise: each path's |h|², the sum of the cell's squared gains, and other cells.
 
-    Of a path that fades |h|² is the mean.
+    For a path that fades |h|² is the mean.
     """
 
     paths: tuple[float, ...]
@@ -71,7 +72,7 @@ class Air:
         return 10 * math.log10(self.ratio(channel, sigma))
 
     def sigma(self, channel: Channel, decibels: float) -> float:
-        """The level of noise at which the channel has an Eb/Nt in dB; Refused where none gives it."""
+        """Returns the level of noise at which the channel has an Eb/Nt in dB; raises Refused if there is none."""
         most = self.decibels(channel, LEAST_SIGMA)
         if not self.decibels(channel, GREATEST_SIGMA) < decibels < most:
             raise Refused(f"no level of noise gives {decibels:g} dB: with next to none the channel has {most:.2f} dB")
@@ -83,7 +84,7 @@ class Air:
 
 
 def air_of(script: Script, paths: tuple[complex, ...], others: float) -> Air:
-    """The air of a script's cell: its own path, others by their factors beside it, and the power of other cells."""
+    """Returns the air of a script's cell: its own path, other paths by their factors, and the power of other cells."""
     link = abs(script.link) ** 2
     squares = float(sum(gain * gain for gain in script.gains.values()))
     return Air((link, *(link * abs(factor) ** 2 for factor in paths)), squares, others)

@@ -30,7 +30,7 @@ class Limit:
 
 
 def limit_of(fields: dict[str, str]) -> Limit:
-    """The limit of a line's fields; ValueError where it is none."""
+    """Returns the limit in a line's fields; raises ValueError if they have another form."""
     if None in fields or None in fields.values():
         raise ValueError("another number of fields than the first line")
     try:
@@ -69,7 +69,7 @@ def read_limits(path: str, points: Collection[int]) -> list[Limit]:
 
 
 def check_limit(limit: Limit, before: int, points: Collection[int]) -> None:
-    """Refuses a limit at a point that isn't measured, and more limits than there may be; `before` stand before it."""
+    """Refuses a limit at a point that isn't measured, and too many limits; `before` come before it."""
     if before >= MOST_LIMITS:
         raise ValueError(f"at most {MOST_LIMITS:,} may stand here")
     if limit.point not in points:
@@ -84,7 +84,7 @@ def check_channels(limits: Iterable[Limit], channels: Collection[str], path: str
 
 
 def failure_of(row: Row, limit: Limit) -> str:
-    """How a row fails a limit, in words; empty where it passes."""
+    """Returns how a row fails a limit, in words, empty if it passes."""
     if row.high <= limit.share:
         return ""
     found = f"{row.errors} of {row.sent} in error, from {row.low:g} to {row.high:g}"
@@ -94,7 +94,7 @@ def failure_of(row: Row, limit: Limit) -> str:
 
 
 def result_of(row: Row, limit: Limit | None) -> Result:
-    """What comes of a row; without a limit it has been counted, and no more is asked of it."""
+    """Returns the result of a row; without a limit it passes once it is counted."""
     name = f"{row.receiver}, {row.channel} at {row.point_db:g} dB"
     figures = {key: value for key, value in dataclasses.asdict(row).items() if value is not None}
     if limit is None:
@@ -105,7 +105,7 @@ def result_of(row: Row, limit: Limit | None) -> Result:
 
 
 def results_of(rows: Sequence[Row], limits: Sequence[Limit] | None) -> list[Result]:
-    """The results of rows: one for each limit of each receiver, or for each row where nothing is limited."""
+    """Returns the results of rows: one for each limit of each receiver, or for each row if there is no limit."""
     if limits is None:
         return [result_of(row, None) for row in rows]
     return [result_of(row, limit) for limit in limits for row in rows if limit.is_of(row)]

@@ -1,7 +1,7 @@
 """Seeds, and white Gaussian noise.
 
-A file's noise depends on three whole numbers: the run's seed, the point (its Eb/Nt in thousandths of a decibel) and
-the number of the file among the point's. So it is the same whoever makes it, in whatever order.
+A file's noise depends on three whole numbers: the run's seed, the point (its Eb/Nt in thousandths of a decibel) and the
+number of the file among the point's. So it is the same on every worker, in any order.
 """
 
 import numpy
@@ -17,7 +17,7 @@ MARGIN = 4
 
 
 def sequence(seed: int, point: int, batch: int) -> numpy.random.SeedSequence:
-    """What the noise of a file depends on: the seed's sequence, spawned by point and batch."""
+    """Returns the seed sequence of a file's noise: that of the run's seed, spawned by point and batch."""
     return numpy.random.SeedSequence(entropy=seed, spawn_key=(point % (1 << 32), batch))
 
 

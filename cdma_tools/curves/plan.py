@@ -48,7 +48,7 @@ def totals(batches: Sequence[Sequence[Counts]]) -> list[Counts]:
 
 @dataclasses.dataclass(frozen=True)
 class Rule:
-    """When a point has enough: at so many frames, or where each curve has so many errors of frames."""
+    """When a point is complete: at a number of frames, or when each curve has a number of errors of frames."""
 
     frames: int
     errors: int
@@ -60,7 +60,8 @@ class Rule:
         return min(frames) >= self.frames or min(errors) >= self.errors
 
     def length(self, done: Mapping[int, Sequence[Counts]]) -> int | None:
-        """How many batches of a point are counted; None where those that are done, in order, aren't enough."""
+        """Returns the number of batches of a point that are counted, None if those that are done, in order, aren't
+        enough."""
         sums: list[Counts] = []
         batch = 0
         while batch in done:
@@ -76,7 +77,7 @@ Done = dict[int, dict[int, list[Counts]]]
 
 @dataclasses.dataclass
 class Ledger:
-    """What is done of a run: `done` has each point's batches, `most` how many a point can need."""
+    """Progress of a run: `done` has each point's batches, `most` the greatest number that a point can need."""
 
     points: list[int]
     rule: Rule
@@ -99,7 +100,7 @@ class Ledger:
                 yield from ((point, batch) for batch in range(self.most) if batch not in done)
 
     def left(self) -> int:
-        """How many batches may still be needed."""
+        """Returns the number of batches that may still be needed."""
         is_open = [point for point in self.points if not self.is_closed(point)]
         return sum(self.most - sum(batch < self.most for batch in self.done.get(point, {})) for point in is_open)
 

@@ -21,7 +21,7 @@ NO_SYNC = 1
 
 
 def digest(program: str) -> str:
-    """The checksum of a program's file; Refused where it can't be read or run."""
+    """Returns the checksum of a program's file; raises Refused if it can't be read or run."""
     if not os.path.isfile(program) or not os.access(program, os.X_OK):
         raise Refused(f"no program at {program}: build it first, or name another one")
     try:
@@ -60,7 +60,7 @@ def sample_file(flags: int, parts: NDArray[numpy.int16]) -> bytes:
 
 
 def words_of(given: str, traffic: Traffic) -> str:
-    """A receiver's arguments: those given, and those that name the channel where they aren't among them."""
+    """Returns a receiver's arguments: those given, and those that name the channel if they aren't among them."""
     kind = traffic.frames[0].kind
     try:
         words = shlex.split(given)
@@ -75,7 +75,8 @@ def words_of(given: str, traffic: Traffic) -> str:
 
 
 def heard(program: str, words: str, data: bytes, minutes: float) -> list[str]:
-    """The lines of a receiver; none where it heard no sync message. Refused on other endings, and without lines."""
+    """Returns the lines of a receiver, none if it decoded no sync message; raises Refused on other endings, or without
+    lines."""
     status, wrote, said = run(program, shlex.split(words), data, minutes)
     if status not in (0, NO_SYNC):
         how = f"ended with {status}" if status >= 0 else f"was {ended_text(status)}"

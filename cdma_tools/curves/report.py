@@ -1,4 +1,4 @@
-"""What a run found: a table, a CSV, a picture, and a comparison with a CSV that is kept."""
+"""Results of a run: a table, a CSV, a picture, and a comparison with an older CSV."""
 
 import csv
 import dataclasses
@@ -27,8 +27,8 @@ MOST_BYTES = 16 * MEGABYTE  # of a CSV that is read: some 100,000 rows
 class Row:
     """One channel of one receiver at one point: its Eb/Nt and the point's in dB, the counts, and the interval.
 
-    `bound` is the union bound on the share of errors, for frames alone: where the path fades, that of ideal
-    maximum-ratio combining. `air` says what the paths do, by the values of `AirKind`.
+    `bound` is the union bound on the share of errors, only for frames; if the path fades, it is that of ideal
+    maximum-ratio combining. `air` is the kind of paths, by the values of `AirKind`.
     """
 
     receiver: str
@@ -93,7 +93,7 @@ def row_of(receiver: str, channel: Channel, count: Count, point: int, sigma: flo
 
 
 def print_table(rows: Iterable[Row], out: TextIO, has_lock: bool = False) -> None:
-    """Writes rows as a table; where there is a lock, with its losses."""
+    """Writes rows as a table, with the losses of the lock if there is one."""
     outcomes = OUTCOMES if has_lock else [outcome for outcome in OUTCOMES if outcome != UNLOCKED]
     print(
         f"{'Eb/Nt dB':>8} {'sigma':>8} {'receiver':<28} {'channel':<13} {'sent':>7} {'errors':>6}"
@@ -177,7 +177,7 @@ def lines_drawn(rows: Iterable[Row]) -> Lines:
 
 
 def draw_line(axes: Any, line: Sequence[Row], name: str, color: str, marker: str) -> None:
-    """A receiver's points with their intervals; where no frame erred, an arrow from the interval's upper end."""
+    """Draws a receiver's points with their intervals; without errors, an arrow from the interval's upper end."""
     seen = [row for row in line if row.errors]
     none = [row for row in line if not row.errors]
     axes.errorbar(
@@ -211,7 +211,7 @@ DRAWN: dict[AirKind, list[tuple[str, str, Bound]]] = {
 
 
 def draw_bounds(axes: Any, channels: Mapping[tuple[str, AirKind], str], begin: float, end: float) -> None:
-    """The bounds of each channel, broken lines in its color, where they are below 1."""
+    """Draws the bounds below 1 of each channel, as broken lines in its color."""
     steps = 120
     places = [begin + (end - begin) * step / steps for step in range(steps + 1)]
     for (channel, kind), color in channels.items():
@@ -224,7 +224,8 @@ def draw_bounds(axes: Any, channels: Mapping[tuple[str, AirKind], str], begin: f
 
 
 def bound_colors(lines: Lines) -> dict[tuple[str, AirKind], str]:
-    """The color of the bounds of each channel in each kind of air: that of its curve where there is one, else black."""
+    """Returns the color of the bounds of each channel and kind of air: that of its curve if there is one, otherwise
+    black."""
     colors: dict[tuple[str, AirKind], str] = {}
     for number, ((_, channel), line) in enumerate(lines.items()):
         place = channel, AirKind(line[0].air)

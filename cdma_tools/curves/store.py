@@ -1,12 +1,12 @@
-"""The counts that are kept as they come, in a file of SQLite.
+"""The counts of a run, kept as they come in an SQLite file.
 
-| Table | Has |
+| Table | Content |
 |---|---|
 | `setup` | what the counts depend on, as `name`, `value` |
 | `batches` | a row for each batch that is done: `point` (thousandths of a decibel), `batch` |
-| `counts` | `point`, `batch`, `curve` (its number), `channel`, `sent` and the bad ends |
+| `counts` | `point`, `batch`, `curve` (its number), `channel`, `sent` and the kinds of error |
 
-A batch and its counts are written in one transaction, and a batch's row stands once: so a run that is broken off and
+A batch and its counts are written in one transaction, with one row for the batch. So a run that is interrupted and
 begun again counts none twice.
 """
 
@@ -39,7 +39,7 @@ COLUMNS = ("sent", *OUTCOMES)
 
 
 def identity(setup: Setup) -> dict[str, str]:
-    """What a run's counts depend on, by name; paths of files are no part of it."""
+    """Returns what a run's counts depend on, by name, without the paths of files."""
     scripts = [setup.text, *setup.others]
     return {
         "form": FORM,
@@ -74,7 +74,7 @@ class Store:
             raise Refused(f"{self.path}: {why}") from None
 
     def check(self, wanted: dict[str, str]) -> None:
-        """Writes the setup where there is none; Refused where the file has another one's counts."""
+        """Writes the setup if there is none; raises Refused if the file has the counts of another."""
         kept = dict(self.base.execute("select name, value from setup"))
         if not kept:
             with self.base:
@@ -113,7 +113,7 @@ class Store:
 
 
 def opened(folder: str, setup: Setup) -> Store:
-    """The file of counts of a folder, which is made where it isn't there."""
+    """Returns the file of counts of a folder, which is made if it is missing."""
     try:
         os.makedirs(folder, exist_ok=True)
     except OSError as why:
