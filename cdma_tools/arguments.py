@@ -10,6 +10,7 @@ from typing import Any, NoReturn
 
 from cdma_tools import __version__
 from cdma_tools.errors import printable
+from cdma_tools.overwriting import refuse_overwriting
 from cdma_tools.starting import INSTALLED, INTERRUPTED, called, is_installed
 
 # An argument that begins so after an option is its value, and no option.
@@ -75,6 +76,12 @@ class Parser(PartParser):
     def parse_known_args(self, args: Sequence[str] | None = None, namespace: Any = None) -> tuple[Any, list[str]]:
         """Takes the arguments apart, with negative numbers joined to the options before them."""
         return super().parse_known_args(joined(sys.argv[1:] if args is None else args), namespace)
+
+    def parse_args(self, args: Sequence[str] | None = None, namespace: Any = None) -> Any:
+        """Takes the arguments apart, and refuses an output that is an input (`overwriting`)."""
+        options = super().parse_args(args, namespace)
+        refuse_overwriting(vars(options).values())
+        return options
 
     def print_version(self, tool: str) -> None:
         """Writes the version of a tool."""

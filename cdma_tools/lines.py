@@ -419,6 +419,45 @@ class Tokens:
             for field in part.fields:
                 self.take_field(field, into)
 
+    def take_shape(self, first: str) -> Shape:
+        """The shape of a line of a first word, by the word that tells its kind."""
+        word = self.take()
+        if (first, word) not in BY_WORDS:
+            raise NoLine(f"{word[:30]!r} names no kind of {first}")
+        return BY_WORDS[first, word]
+
+
+class BrokenOff(Exception):
+    """That a line ends within a word that may stand there."""
+
+
+class BrokenTokens(Tokens):
+    """The words of a line whose last word may be a part of one; they raise `BrokenOff` if it may stand where it is."""
+
+    def end_at(self, *beginnings: str) -> None:
+        """Raises `BrokenOff` where the last word begins so, or is a part of such a beginning."""
+        word = self.peek()
+        if self.place == len(self.words) - 1 and any(
+            beginning.startswith(word) or word.startswith(beginning) for beginning in beginnings
+        ):
+            raise BrokenOff
+
+    def take_field(self, field: Field, into: dict[str, Any]) -> None:
+        """Reads a field's value."""
+        self.end_at("" if field is BARE else f"{field.name}=")
+        super().take_field(field, into)
+
+    def take_part(self, part: Field | Group, into: dict[str, Any]) -> None:
+        """Reads a field, or the fields of a group where the first of them is there."""
+        if isinstance(part, Group):
+            self.end_at(f"{part.fields[0].name}=")
+        super().take_part(part, into)
+
+    def take_shape(self, first: str) -> Shape:
+        """The shape of a line of a first word, by the word that tells its kind."""
+        self.end_at(*(word for line, word in BY_WORDS if line == first and word is not None))
+        return super().take_shape(first)
+
 
 def read_line(text: str) -> dict[str, Any]:
     """The object of a line, which has no line feed; `NoLine` where it is no line of the program.
@@ -426,23 +465,39 @@ def read_line(text: str) -> dict[str, Any]:
     The object's keys stand in the order of the line.
     """
     first, *words = text.split(" ")
+    return read_tokens(first, Tokens(words))
+
+
+def read_tokens(first: str, tokens: Tokens) -> dict[str, Any]:
+    """The object of a line, by its first word and the others."""
     if first not in FIRST:
         raise NoLine(f"{first[:30]!r} begins no line")
-    tokens, shape = Tokens(words), FIRST[first]
+    shape = FIRST[first]
     read: dict[str, Any] = {"line": first}
     for field in shape.head:
         tokens.take_field(field, read)
     if shape.word is not None:
-        word = tokens.take()
-        if (first, word) not in BY_WORDS:
-            raise NoLine(f"{word[:30]!r} names no kind of {first}")
-        shape = BY_WORDS[first, word]
-        read[shape.key] = word
+        shape = tokens.take_shape(first)
+        read[shape.key] = shape.word
     for part in shape.body:
         tokens.take_part(part, read)
-    if tokens.place != len(words):
+    if tokens.place != len(tokens.words):
         raise NoLine(f"{tokens.peek()[:30]!r} follows the last field" if tokens.peek() else "a space too many")
     return read
+
+
+def begins_line(text: str) -> bool:
+    """Whether a text is a line, or the beginning of one, as a writer leaves it that is ended amid a line."""
+    first, *words = text.split(" ")
+    if not words:
+        return any(line.startswith(first) for line in FIRST)
+    try:
+        read_tokens(first, BrokenTokens(words))
+    except BrokenOff:
+        return True
+    except NoLine:
+        return False
+    return True
 
 
 def shape_of(given: dict[str, Any]) -> Shape:

@@ -7,7 +7,8 @@ from typing import Any
 
 from cdma_tools.arguments import wrong
 from cdma_tools.errors import Refused
-from cdma_tools.writing import STANDARD, write_out
+from cdma_tools.overwriting import STANDARD, OutputFile
+from cdma_tools.writing import write_out
 
 NEEDED = "install the package python3-matplotlib, and run /usr/bin/python3"
 FORMS = ("png", "svg")
@@ -55,11 +56,11 @@ def form_of(path: str) -> str:
     return "png" if path == STANDARD else os.path.splitext(path)[1][1:].lower()
 
 
-def picture_of(text: str) -> str:
+def picture_of(text: str) -> OutputFile:
     """The name of a picture to write: .png, .svg, or - for standard output."""
     if form_of(text) not in FORMS:
         raise wrong("it ends neither with .png nor with .svg, and isn't -", text)
-    return text
+    return OutputFile(text)
 
 
 def save(figure: Any, path: str, **settings: Any) -> None:

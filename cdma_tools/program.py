@@ -7,6 +7,7 @@ import subprocess
 from typing import IO
 
 from cdma_tools.errors import Refused
+from cdma_tools.overwriting import InputFile
 from cdma_tools.places import BUILT
 
 NAME = "cdma_replay"
@@ -21,7 +22,7 @@ NOT_FOUND = (
 
 def add_program_option(parser: argparse.ArgumentParser, *others: str) -> None:
     """Adds the option --program, and other names of it, to a command line."""
-    parser.add_argument("--program", *others, dest="program", metavar="FILE", help=HELP)
+    parser.add_argument("--program", *others, dest="program", type=InputFile, metavar="FILE", help=HELP)
 
 
 def checked_program(path: str) -> str:

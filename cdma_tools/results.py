@@ -10,7 +10,8 @@ from typing import Any
 from xml.etree import ElementTree
 
 from cdma_tools.errors import WrongArguments, printable
-from cdma_tools.writing import STANDARD, write_out
+from cdma_tools.overwriting import STANDARD, OutputFile
+from cdma_tools.writing import write_out
 
 
 class Verdict(enum.Enum):
@@ -44,7 +45,9 @@ class Result:
 
 def add_result_options(parser: argparse.ArgumentParser) -> None:
     """Adds the options for results that a machine reads."""
-    parser.add_argument("--junit", metavar="FILE", help="also write the results as JUnit XML, when all cases are done")
+    parser.add_argument(
+        "--junit", type=OutputFile, metavar="FILE", help="also write the results as JUnit XML, when all cases are done"
+    )
     forms = parser.add_mutually_exclusive_group()
     forms.add_argument("--tap", action="store_true", help="write results as TAP version 13 instead of text")
     forms.add_argument("--json", action="store_true", help="write results as one JSON object instead of text")

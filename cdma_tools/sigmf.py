@@ -8,11 +8,11 @@ from typing import Any, Protocol
 
 from cdma_tools.arguments import MOST_RATE
 from cdma_tools.errors import Refused
+from cdma_tools.overwriting import DATA as DATA, META as META
 from cdma_tools.reading import MEGABYTE, read_within
 from cdma_tools.recordings import TYPES
 from cdma_tools.writing import write_beside
 
-META, DATA = ".sigmf-meta", ".sigmf-data"
 VERSION = "1.0.0"
 MOST_META = 64 * MEGABYTE  # bytes of a .sigmf-meta that is read
 LONGEST_TOLD = 60  # characters of a value in a fault
@@ -58,12 +58,17 @@ def read_meta(path: str) -> tuple[dict[str, Any], str]:
         raise Refused(f"{path}: the samples stand among other bytes (core:header_bytes, core:trailing_bytes)")
     if fields.get("core:metadata_only"):
         raise Refused(f"{path}: a recording without samples (core:metadata_only)")
+    return fields, samples_of(path, fields)
+
+
+def samples_of(path: str, fields: dict[str, Any]) -> str:
+    """The path of the samples that the global fields of a .sigmf-meta name, or that its own name stands for."""
     named = fields.get("core:dataset")
     if named is None:
-        return fields, path[: -len(META)] + DATA
+        return path[: -len(META)] + DATA
     if not is_name(named):
         raise Refused(f"{path}: core:dataset is no file's name: {brief(named)}")
-    return fields, os.path.join(os.path.dirname(path), named)
+    return os.path.join(os.path.dirname(path), named)
 
 
 def rate_told(path: str, fields: dict[str, Any], given: Fraction | None) -> Fraction:

@@ -1,31 +1,72 @@
 """Writing a whole file, or none; and what is no plain file, as it comes."""
 
 import contextlib
+import errno
 import os
 import shutil
 import stat
 import sys
 import tempfile
+import time
 from collections.abc import Iterator
 from typing import IO
 
-STANDARD = "-"  # the name of standard output
-# Names in these folders stand for devices and for files that are open already.
-OPEN_FILES = ("/dev/", "/proc/")
+from cdma_tools.errors import Refused
+from cdma_tools.overwriting import STANDARD
+
+# Names in these folders stand for devices and for files that are open already, but for those in shared memory.
+OPEN_FILES, SHARED_MEMORY = ("/dev/", "/proc/"), "/dev/shm/"
+# Seconds for which a FIFO is waited for that nobody reads yet, and from one try to the next.
+READER_WAIT, READER_AGAIN = 30.0, 0.05
 
 
 @contextlib.contextmanager
-def write_out(path: str) -> Iterator[IO[bytes]]:
-    """A file for `path`, or for standard output where that is -: what is written there comes at the end, whole."""
-    if path != STANDARD:
+def write_out(path: str, is_sought: bool = False) -> Iterator[IO[bytes]]:
+    """A file for `path`, or for standard output where that is -: what is written there comes at the end, whole.
+
+    `is_sought` says that the writer goes back in the file: then a FIFO or a device gets the whole at the end too.
+    """
+    if path == STANDARD:
+        with whole_at_end(sys.stdout.buffer) as file:
+            yield file
+    elif is_sought and is_written_through(path):
+        with named(path), open_through(path) as through, whole_at_end(through) as file:
+            yield file
+    else:
         with write_beside(path) as file:
             yield file
-        return
+
+
+@contextlib.contextmanager
+def whole_at_end(through: IO[bytes]) -> Iterator[IO[bytes]]:
+    """A temporary file that is passed to an open one at the end."""
     with tempfile.TemporaryFile() as file:
         yield file
         file.seek(0)
-        shutil.copyfileobj(file, sys.stdout.buffer)
-        sys.stdout.buffer.flush()
+        shutil.copyfileobj(file, through)
+        through.flush()
+
+
+def open_through(path: str) -> IO[bytes]:
+    """Opens something that is no plain file; refuses a FIFO that nobody opens for reading in some time.
+
+    It is opened for appending: an open file that /dev/stdout stands for keeps what it has.
+    """
+    if not stat.S_ISFIFO(os.stat(path).st_mode):
+        return os.fdopen(os.open(path, os.O_WRONLY | os.O_APPEND | os.O_CLOEXEC), "wb")
+    until = time.monotonic() + READER_WAIT
+    while True:
+        try:
+            file = os.open(path, os.O_WRONLY | os.O_NONBLOCK | os.O_CLOEXEC)
+        except OSError as why:
+            if why.errno != errno.ENXIO:
+                raise
+            if time.monotonic() > until:
+                raise Refused(f"{path}: nobody has read this FIFO for {READER_WAIT:.0f} s") from None
+            time.sleep(READER_AGAIN)
+        else:
+            os.set_blocking(file, True)
+            return os.fdopen(file, "wb")
 
 
 @contextlib.contextmanager
@@ -34,11 +75,11 @@ def write_beside(path: str) -> Iterator[IO[bytes]]:
 
     A link is written through: the file that it names is replaced. So is what is no plain file, as a FIFO or a device.
     """
-    place = os.path.realpath(path)
-    if is_written_through(place):
-        with named(path), open(path, "wb") as through:
+    if is_written_through(path):
+        with named(path), open_through(path) as through:
             yield through
         return
+    place = os.path.realpath(path)
     beside = ""
     try:
         with named(path, os.path.dirname(place)):
@@ -54,14 +95,14 @@ def write_beside(path: str) -> Iterator[IO[bytes]]:
         raise
 
 
-def is_written_through(place: str) -> bool:
-    """Whether a path stands for something that is there and is no plain file."""
-    if place.startswith(OPEN_FILES):
-        return True
+def is_written_through(path: str) -> bool:
+    """Whether a path stands for something that is there and is no plain file, or for a file that is open already."""
     try:
-        return not stat.S_ISREG(os.stat(place).st_mode)
+        is_plain = stat.S_ISREG(os.stat(path).st_mode)
     except OSError:
         return False
+    places = (os.path.abspath(path), os.path.realpath(path))
+    return not is_plain or any(place.startswith(OPEN_FILES) and not place.startswith(SHARED_MEMORY) for place in places)
 
 
 def mode_of(place: str) -> int:

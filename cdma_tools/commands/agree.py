@@ -26,6 +26,7 @@ from cdma_tools.conformance import cases
 from cdma_tools.conformance.by_model import Draft, answer_of, input_of, items_of
 from cdma_tools.conformance.random_case import random_case
 from cdma_tools.errors import Refused
+from cdma_tools.overwriting import InputFile, OutputFolder
 from cdma_tools.program import add_program_option, find_program
 from cdma_tools.workers import add_jobs_option, mapped
 from cdma_tools.writing import write_beside
@@ -91,13 +92,19 @@ def text_differences(model: bytes, program: bytes) -> list[str]:
 def parser() -> Parser:
     """The command line."""
     words = Parser("agree", __doc__)
-    words.add_argument("compared", nargs="?", metavar="PROGRAM", help="program to compare with the model")
+    words.add_argument(
+        "compared", type=InputFile, nargs="?", metavar="PROGRAM", help="program to compare with the model"
+    )
     add_program_option(words)
     words.add_argument("--seed", type=count_of, required=True, metavar="N", help="seed of the first run")
     words.add_argument("--count", type=whole_within(1, MOST_RUNS), required=True, metavar="K", help="number of runs")
     add_jobs_option(words, "runs")
     words.add_argument(
-        "--keep", default="differences", metavar="FOLDER", help="folder in which cases are kept (default differences/)"
+        "--keep",
+        type=OutputFolder,
+        default="differences",
+        metavar="FOLDER",
+        help="folder in which cases are kept (default differences/)",
     )
     words.add_argument("--print", action="store_true", help="print the cases, and run nothing")
     return words

@@ -30,6 +30,7 @@ from typing import IO
 
 from cdma_tools.arguments import Parser
 from cdma_tools.errors import Refused
+from cdma_tools.overwriting import InputFile
 from cdma_tools.places import EXAMPLES, TOP
 from cdma_tools.program import add_program_option, find_program, written_of
 from cdma_tools.sample_header import header
@@ -324,7 +325,9 @@ def print_libraries(program: str) -> None:
 def main(arguments: list[str] | None = None) -> int:
     """Runs the tool, and returns its exit status."""
     parser = Parser("bench", __doc__)
-    parser.add_argument("timed", metavar="PROGRAM", nargs="?", help="program to time (default that of --program)")
+    parser.add_argument(
+        "timed", type=InputFile, metavar="PROGRAM", nargs="?", help="program to time (default that of --program)"
+    )
     parser.add_argument("--peers", action="store_true", help="time our work next to that of Debian's libraries")
     add_program_option(parser)
     options = parser.parse_args(arguments)

@@ -24,7 +24,7 @@ import hashlib
 import math
 import os
 import sys
-from typing import Iterable
+from collections.abc import Iterable, Iterator
 
 from cdma_tools import sigmf
 from cdma_tools.arguments import (
@@ -40,6 +40,7 @@ from cdma_tools.arguments import (
     wrong,
 )
 from cdma_tools.errors import Refused
+from cdma_tools.overwriting import InputFile, OutputFile, OutputRecording
 from cdma_tools.progress import bar
 from cdma_tools.radio.air import CHIP_RATE, decibels
 from cdma_tools.radio.channel import Cell, Link, Made, Path, Radio, record, write_ideal
@@ -89,6 +90,19 @@ def loss_of(text: str) -> tuple[int, int]:
     return count_of(place), count_of(count)
 
 
+class CellName(InputFile):
+    """A cell, FILE[:DB[:CHIPS]]."""
+
+    @property
+    def path(self) -> str:
+        """The path of its sample file: the whole text if there is such a file, however many colons its name has."""
+        return str(self) if os.path.exists(self) else self.split(":")[0]
+
+    def files(self) -> Iterator[tuple[str, str]]:
+        """The paths of what is read, each with how an output is described that is the same file."""
+        return InputFile(self.path).files()
+
+
 def cell_of(text: str) -> Cell:
     """A cell, FILE[:DB[:CHIPS]]; a file whose name has colons is taken as it is."""
     if os.path.exists(text):
@@ -105,7 +119,12 @@ def parser() -> argparse.ArgumentParser:
     """The command line."""
     words = Parser("channel", __doc__)
     words.add_argument("files", nargs="+", metavar="FILE[:DB[:CHIPS]]", help="cells, the wanted one first")
-    words.add_argument("recording", metavar="RECORDING", help="raw samples, - for standard output, or a .sigmf-meta")
+    words.add_argument(
+        "recording",
+        type=OutputRecording,
+        metavar="RECORDING",
+        help="raw samples, - for standard output, or a .sigmf-meta",
+    )
     words.add_argument(
         "--seconds",
         type=number_above(0, MOST_SECONDS),
@@ -113,15 +132,24 @@ def parser() -> argparse.ArgumentParser:
         help="longest recording (default as long as the first cell)",
     )
     words.add_argument(
-        "--seed", type=count_of, default=1, metavar="N", help="seed of noise, fading and the carrier's phase (default 1)"
+        "--seed",
+        type=count_of,
+        default=1,
+        metavar="N",
+        help="seed of noise, fading and the carrier's phase (default 1)",
     )
-    words.add_argument("--ideal", metavar="FILE", help="also write an ideal receiver's sample file of the link")
+    words.add_argument(
+        "--ideal", type=OutputFile, metavar="FILE", help="also write an ideal receiver's sample file of the link"
+    )
     noise = words.add_argument_group("the noise").add_mutually_exclusive_group()
     noise.add_argument(
         "--ec-io", type=number_within(-100, 0), metavar="DB", help="power of the first cell's pilot over all power"
     )
     noise.add_argument(
-        "--eb-nt", type=eb_nt_of, metavar="DB:ROW:RATE", help="energy of a row's bit over the density of noise and interference"
+        "--eb-nt",
+        type=eb_nt_of,
+        metavar="DB:ROW:RATE",
+        help="energy of a row's bit over the density of noise and interference",
     )
     add_link_options(words)
     return words
@@ -135,7 +163,9 @@ def add_link_options(words: argparse.ArgumentParser) -> None:
         help="DELAY[:DB[:DEGREES[:HZ]]] each: chips, level, phase, and Doppler of a path that fades (default one path)",
     )  # fmt: skip
     link.add_argument("--equaliser", action="store_true", help="with the base station's phase equaliser")
-    link.add_argument("--delay", type=DELAY, default=0.0, metavar="CHIPS", help="delay of the first sample, any fraction")
+    link.add_argument(
+        "--delay", type=DELAY, default=0.0, metavar="CHIPS", help="delay of the first sample, any fraction"
+    )
     radio = words.add_argument_group("the radio")
     radio.add_argument("--type", choices=TYPES, default="ci16_le", help="sample type (default ci16_le)")
     radio.add_argument(

@@ -53,8 +53,9 @@ import io
 import os
 import shlex
 import sys
+from collections.abc import Iterator, Sequence
 from decimal import Decimal
-from typing import NoReturn, Sequence
+from typing import NoReturn
 
 from cdma_tools.arguments import (
     Parser,
@@ -77,8 +78,9 @@ from cdma_tools.curves.limits import check_channels, read_limits, results_of
 from cdma_tools.curves.noise import check_room
 from cdma_tools.curves.plan import Ledger, Rule, points_of
 from cdma_tools.curves.receiver import COMMANDS, digest, words_of
-from cdma_tools.curves.store import Store, opened
+from cdma_tools.curves.store import COUNTS, Store, opened
 from cdma_tools.errors import Refused, said
+from cdma_tools.overwriting import InputFile, OutputFolder, refuse_overwriting
 from cdma_tools.plots import plain, title_of
 from cdma_tools.program import add_program_option, find_program
 from cdma_tools.progress import bar
@@ -89,6 +91,7 @@ from cdma_tools.scripts import chosen_channel, read_script
 from cdma_tools.starting import broken_off, called, pass_over_interrupts
 from cdma_tools.workers import quietly
 
+TABLE, PICTURE = "curve.csv", "curve.png"  # in the folder of the counts
 MINUTES = 5.0
 ERRORS = 100
 SEED = 1995
@@ -99,6 +102,20 @@ MOST_MINUTES = 10_000
 MOST_WORKERS = 1_024
 DECIBELS = Within(Decimal, -MOST_DECIBELS, MOST_DECIBELS)
 FRAMES = whole_within(1, 1_000_000_000)
+
+
+class CountsFolder(OutputFolder):
+    """The folder of the counts, of the table and of the picture."""
+
+    names = (COUNTS, TABLE, PICTURE)
+
+
+class InputFolder(InputFile):
+    """A folder whose table is read."""
+
+    def files(self) -> Iterator[tuple[str, str]]:
+        """The path of the table, with how an output is described that is the same file."""
+        return InputFile(os.path.join(self, TABLE)).files()
 
 
 def path_of(text: str) -> tuple[int, complex]:
@@ -144,7 +161,7 @@ def antenna_of(text: str) -> Antenna:
 def parser() -> argparse.ArgumentParser:
     """The command line."""
     words = Parser("curve", __doc__)
-    words.add_argument("script", metavar="SCRIPT", help="script of a cell with a traffic channel")
+    words.add_argument("script", type=InputFile, metavar="SCRIPT", help="script of a cell with a traffic channel")
     words.add_argument("--from", dest="begin", type=DECIBELS, metavar="DB", required=True, help="first Eb/Nt")
     words.add_argument("--to", dest="end", type=DECIBELS, metavar="DB", required=True, help="last Eb/Nt")
     words.add_argument(
@@ -154,9 +171,19 @@ def parser() -> argparse.ArgumentParser:
         required=True,
         help="step between two Eb/Nt",
     )
-    words.add_argument("--frames", type=FRAMES, metavar="N", required=True, help="number of frames that completes a point")
-    words.add_argument("--errors", type=FRAMES, metavar="N", default=ERRORS, help=f"number of errors that completes a point (default {ERRORS})")
-    words.add_argument("--receiver", metavar="PROGRAM", help="receiver to count besides MAKER (default only MAKER)")
+    words.add_argument(
+        "--frames", type=FRAMES, metavar="N", required=True, help="number of frames that completes a point"
+    )
+    words.add_argument(
+        "--errors",
+        type=FRAMES,
+        metavar="N",
+        default=ERRORS,
+        help=f"number of errors that completes a point (default {ERRORS})",
+    )
+    words.add_argument(
+        "--receiver", type=InputFile, metavar="PROGRAM", help="receiver to count besides MAKER (default only MAKER)"
+    )
     add_program_option(words, "--maker")
     words.add_argument(
         "--words",
@@ -182,7 +209,12 @@ def parser() -> argparse.ArgumentParser:
         help="send the samples over a link of tools/channel, record them with its radio, and lock to the recording",
     )
     words.add_argument(
-        "--other", action="append", default=[], metavar="SCRIPT", help="another cell on the air; may be repeated"
+        "--other",
+        type=InputFile,
+        action="append",
+        default=[],
+        metavar="SCRIPT",
+        help="another cell on the air; may be repeated",
     )
     words.add_argument(
         "--seed",
@@ -197,7 +229,9 @@ def parser() -> argparse.ArgumentParser:
         metavar="N",
         help="number of workers on this machine (default one per processor)",
     )
-    words.add_argument("--scheduler", metavar="ADDRESS", help="scheduler of dask.distributed, for example tcp://host:8786")
+    words.add_argument(
+        "--scheduler", metavar="ADDRESS", help="scheduler of dask.distributed, for example tcp://host:8786"
+    )
     words.add_argument(
         "--minutes",
         type=number_above(0, MOST_MINUTES),
@@ -205,15 +239,30 @@ def parser() -> argparse.ArgumentParser:
         default=MINUTES,
         help=f"longest time of a run, in minutes (default {MINUTES:g})",
     )
-    words.add_argument("--out", metavar="DIR", help="folder of the counts (default SCRIPT's name and .curve)")
     words.add_argument(
-        "--beside", action="append", default=[], metavar="DIR", help="another folder to draw; may be repeated"
+        "--out", type=CountsFolder, metavar="DIR", help="folder of the counts (default SCRIPT's name and .curve)"
+    )
+    words.add_argument(
+        "--beside",
+        type=InputFolder,
+        action="append",
+        default=[],
+        metavar="DIR",
+        help="another folder to draw; may be repeated",
     )
     words.add_argument("--title", type=title_of, metavar="TEXT", help="title of the picture")
     words.add_argument(
-        "--against", metavar="CSV", help="compare the counts with those of an older curve.csv, at most 16 MiB"
+        "--against",
+        type=InputFile,
+        metavar="CSV",
+        help="compare the counts with those of an older curve.csv, at most 16 MiB",
     )
-    words.add_argument("--limits", metavar="FILE", help="compare the shares of frames in error with the limits in this file")
+    words.add_argument(
+        "--limits",
+        type=InputFile,
+        metavar="FILE",
+        help="compare the shares of frames in error with the limits in this file",
+    )
     add_result_options(words)
     return words
 
@@ -289,7 +338,9 @@ def measure(options: argparse.Namespace, setup: Setup, ledger: Ledger, levels: d
     workers = options.workers or os.cpu_count() or 1
     cluster = connected(options.scheduler, workers)
     is_of_processes = options.scheduler is None and workers > 1
-    with quietly(cluster) if is_of_processes else cluster as client, bar(total=left, text="curve", unit="files") as shown:
+    with quietly(cluster) if is_of_processes else cluster as client, bar(
+        total=left, text="curve", unit="files"
+    ) as shown:
 
         def keep(point: int, batch: int, counts: list[Counts]) -> None:
             """Keeps the counts of a batch."""
@@ -335,9 +386,12 @@ def told(options: argparse.Namespace, cases: Sequence[Result], rows: Sequence[re
 
 def run(options: argparse.Namespace) -> int:
     """Measures, writes and draws; the exit status."""
-    folder = options.out or os.path.splitext(os.path.basename(options.script))[0] + ".curve"
+    if options.out is None:
+        options.out = CountsFolder(os.path.splitext(os.path.basename(options.script))[0] + ".curve")
+        refuse_overwriting(vars(options).values())
+    folder = options.out
     setup = setup_of(options)
-    beside = [row for path in options.beside for row in report.read_csv(os.path.join(path, "curve.csv"))]
+    beside = [row for path in options.beside for row in report.read_csv(os.path.join(path, TABLE))]
     kept = report.read_csv(options.against) if options.against else None
     points = points_of(options.begin, options.end, options.step)
     limits = read_limits(options.limits, points) if options.limits else None
@@ -358,9 +412,9 @@ def run(options: argparse.Namespace) -> int:
     finally:
         store.close()
     rows = rows_of(setup, ready, ledger, levels)
-    report.write_csv(os.path.join(folder, "curve.csv"), rows)
+    report.write_csv(os.path.join(folder, TABLE), rows)
     title = options.title or plain(f"{os.path.basename(options.script)}, seed {setup.seed}")
-    report.draw(os.path.join(folder, "curve.png"), [*rows, *beside], title)
+    report.draw(os.path.join(folder, PICTURE), [*rows, *beside], title)
     cases = results_of(rows, limits)
     return told(options, cases if kept is None else [*cases, compared(kept, rows, options.against)], rows)
 

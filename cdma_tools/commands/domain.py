@@ -44,6 +44,7 @@ from cdma_tools.analysis.measuring import Analysis, analysis_of_file, analysis_o
 from cdma_tools.analysis.telling import draw, object_of, text_of
 from cdma_tools.arguments import Parser, count_of, hertz_of, number_above, rate_of
 from cdma_tools.errors import Refused, printable, said
+from cdma_tools.overwriting import STANDARD, InputFile, OutputFile
 from cdma_tools.program import add_program_option, find_program
 from cdma_tools.plots import picture_of, plain, save
 from cdma_tools.progress import bar
@@ -53,7 +54,7 @@ from cdma_tools.radio.locking import Options
 from cdma_tools.radio.plain import TYPE_CHOICES, assumed, recording_told, with_hints
 from cdma_tools.sigmf import META
 from cdma_tools.starting import called
-from cdma_tools.writing import STANDARD, write_out
+from cdma_tools.writing import write_out
 
 MOST_SEARCH = CHIP_RATE / 2
 # Options that go with a recording alone.
@@ -63,11 +64,11 @@ RECORDING_ONLY = ("skip", "shift", "search", "conjugate", "equaliser")
 def parser() -> Parser:
     """The arguments of the command line."""
     words = Parser("domain", __doc__)
-    words.add_argument("recording", metavar="FILE_OR_RECORDING", help="a sample file, a .sigmf-meta, or raw samples")
+    what = "a sample file, a .sigmf-meta, or raw samples"
+    words.add_argument("recording", type=InputFile, metavar="FILE_OR_RECORDING", help=what)
     words.add_argument("--all", action="store_true", help="a line for each of the 64 rows, in use or not")
-    words.add_argument(
-        "--json", metavar="FILE", help="write figures, rows and frames as JSON; - for standard output, without lines"
-    )
+    figures = "write figures, rows and frames as JSON; - for standard output, without lines"
+    words.add_argument("--json", type=OutputFile, metavar="FILE", help=figures)
     words.add_argument(
         "--plot", type=picture_of, metavar="FILE", help="draw the rows over the whole and over the frames: .png or .svg"
     )

@@ -26,6 +26,7 @@ from cdma_tools.correlation import best_phase, codes, energies, energy_at, read_
 from cdma_tools.errors import Refused
 from cdma_tools.heard_run import CHIP_RATE, FOLLOWED, LANES, Run
 from cdma_tools.lines import RATES, NoLine, read_line
+from cdma_tools.overwriting import InputFile
 from cdma_tools.plots import form_of, picture_of, plotting, save, title_of
 from cdma_tools.radio.air import PERIOD
 from cdma_tools.reading import MEGABYTE, all_of, read_within
@@ -200,7 +201,9 @@ def parser() -> argparse.ArgumentParser:
         kind.add_argument(
             "picture", type=picture_of, metavar="PICTURE", help="file to write, .png or .svg, - for standard output"
         )
-        kind.add_argument("input", nargs="?", default="-", metavar=name, help="input to draw, - for standard input")
+        kind.add_argument(
+            "input", type=InputFile, nargs="?", default="-", metavar=name, help="input to draw, - for standard input"
+        )
         kind.add_argument("--title", type=title_of, metavar="TEXT", help="title instead of the tool's own")
     return words
 

@@ -44,8 +44,8 @@ from cdma_tools.explaining.frame_steps import (
     sync_steps,
     traffic_steps,
 )
+from cdma_tools.overwriting import STANDARD, InputFile
 from cdma_tools.plots import NEEDED, picture_of
-from cdma_tools.writing import STANDARD
 from model.bits import text_of_bits
 from model.files import Capture
 from model.handset import Assigned
@@ -179,7 +179,7 @@ def text_of(steps: Steps) -> list[str]:
 def parser() -> argparse.ArgumentParser:
     """The command line."""
     words = Parser("explain", __doc__)
-    words.add_argument("file", metavar="FILE", help="a sample file")
+    words.add_argument("file", type=InputFile, metavar="FILE", help="a sample file")
     channel = words.add_mutually_exclusive_group(required=True)
     channel.add_argument("--sync", action="store_true", help="a frame of the sync channel")
     channel.add_argument("--paging", type=whole_within(1, 7), metavar="C", help="a frame of paging channel C")
@@ -187,17 +187,35 @@ def parser() -> argparse.ArgumentParser:
         "--traffic", nargs=2, metavar=("ESN", "ROW"), help="a frame of the traffic channel on row 1 to 63, not 32"
     )
     words.add_argument(
-        "--offset", type=whole_within(0, 15), default=0, metavar="N", help="FRAME_OFFSET of the traffic channel (default 0)"
-    )
-    words.add_argument("--rate-set", type=int, choices=[1, 2], default=1, help="rate set of the traffic channel (default 1)")
-    words.add_argument(
-        "--frame", type=whole_within(0, 1 << 20), default=0, metavar="K", help="number of the frame, from 0 on (default 0)"
-    )
-    words.add_argument(
-        "--span", type=whole_within(64, 32_768), default=2_048, metavar="N", help="number of samples searched (default 2048)"
+        "--offset",
+        type=whole_within(0, 15),
+        default=0,
+        metavar="N",
+        help="FRAME_OFFSET of the traffic channel (default 0)",
     )
     words.add_argument(
-        "--fingers", type=whole_within(1, 3), default=1, metavar="N", help="number of paths of the base station (default 1)"
+        "--rate-set", type=int, choices=[1, 2], default=1, help="rate set of the traffic channel (default 1)"
+    )
+    words.add_argument(
+        "--frame",
+        type=whole_within(0, 1 << 20),
+        default=0,
+        metavar="K",
+        help="number of the frame, from 0 on (default 0)",
+    )
+    words.add_argument(
+        "--span",
+        type=whole_within(64, 32_768),
+        default=2_048,
+        metavar="N",
+        help="number of samples searched (default 2048)",
+    )
+    words.add_argument(
+        "--fingers",
+        type=whole_within(1, 3),
+        default=1,
+        metavar="N",
+        help="number of paths of the base station (default 1)",
     )
     words.add_argument(
         "--picture", type=picture_of, metavar="PICTURE", help="also draw the steps: PNG or SVG, by the end of the name"

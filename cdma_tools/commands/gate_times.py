@@ -28,6 +28,7 @@ from dataclasses import dataclass, field
 
 from cdma_tools.arguments import Parser
 from cdma_tools.errors import Refused
+from cdma_tools.overwriting import InputFile
 from cdma_tools.places import TOP
 from cdma_tools.repository.crate_list import NoList, longest_chain
 from cdma_tools.repository.plan import Crate, clock_text, crates_of, planned, stands_on
@@ -179,7 +180,7 @@ def report(root: str, lines: Iterable[str]) -> str:
 def parser() -> Parser:
     """The command line."""
     words = Parser("gate_times", __doc__)
-    words.add_argument("log", metavar="LOG", help="log, or - for standard input")
+    words.add_argument("log", type=InputFile, metavar="LOG", help="log, or - for standard input")
     words.add_argument("--root", metavar="FOLDER", default=TOP, help="checkout whose files are read (default this one)")
     return words
 

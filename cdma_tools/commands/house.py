@@ -24,6 +24,7 @@ import os
 
 from cdma_tools.arguments import Parser
 from cdma_tools.errors import Refused
+from cdma_tools.overwriting import OutputFile
 from cdma_tools.places import TOP
 from cdma_tools.repository.crate_list import NoList, crates_below
 from cdma_tools.repository.house import KINDS, Lines, house, lines_of
@@ -33,7 +34,7 @@ from cdma_tools.writing import write_beside
 def parser() -> Parser:
     """The arguments of the command line."""
     words = Parser("house", __doc__)
-    words.add_argument("--write", metavar="FILE", help="write the picture to this file, as SVG")
+    words.add_argument("--write", type=OutputFile, metavar="FILE", help="write the picture to this file, as SVG")
     return words
 
 

@@ -73,6 +73,7 @@ from cdma_tools.arguments import (
 )
 from cdma_tools.checks import FLAGS_BYTES, FLAGS_PLACE, reflag, tried
 from cdma_tools.errors import Refused, said
+from cdma_tools.overwriting import InputFile, OutputFile, UpdatedFile
 from cdma_tools.program import add_program_option, find_program
 from cdma_tools.progress import bar
 from cdma_tools.radio.air import CHIP_RATE
@@ -136,7 +137,8 @@ def add_lock_words(words: argparse.ArgumentParser) -> None:
     which.add_argument(
         "--pn", type=whole_within(0, OFFSETS - 1), metavar="P", help="the cell of PILOT_PN P, as the program hears it"
     )
-    lock.add_argument("--meta", metavar="FILE", help="write the recording's .sigmf-meta with a note of what was found")
+    note = "write the recording's .sigmf-meta with a note of what was found"
+    lock.add_argument("--meta", type=UpdatedFile, metavar="FILE", help=note)
 
 
 def add_check_words(words: argparse.ArgumentParser) -> None:
@@ -157,8 +159,9 @@ def add_check_words(words: argparse.ArgumentParser) -> None:
 def parser(form: type[Parser] = Parser) -> Parser:
     """The command line, as a parser of a form."""
     words = form("import_capture", __doc__, has_version=False)
-    words.add_argument("recording", metavar="RECORDING", help="interleaved samples, or a .sigmf-meta")
-    words.add_argument("file", metavar="FILE", help="the sample file to write, - for standard output")
+    words.add_argument("recording", type=InputFile, metavar="RECORDING", help="interleaved samples, or a .sigmf-meta")
+    what = "the sample file to write, - for standard output"
+    words.add_argument("file", type=OutputFile, metavar="FILE", help=what)
     words.add_argument(
         "--type",
         choices=TYPE_CHOICES,
@@ -201,7 +204,7 @@ def reflag_parser() -> Parser:
     """The command line with --reflag, which takes one sample file."""
     words = Parser("import_capture", __doc__, has_version=False)
     words.add_argument("--reflag", action="store_true", help="set the flags of the checks of a sample file, in place")
-    words.add_argument("file", metavar="FILE", help="the sample file")
+    words.add_argument("file", type=InputFile, metavar="FILE", help="the sample file")
     add_check_words(words)
     return words
 
@@ -274,7 +277,7 @@ def take_reflag(options: argparse.Namespace) -> None:
 def take_plainly(options: argparse.Namespace) -> None:
     """Writes the file of a recording whose carrier and clock are right."""
     parts, scale = plain_chips(options)
-    with write_out(options.file) as file:
+    with write_out(options.file, is_sought=bool(options.checks)) as file:
         file.write(header(options.version, flags_of(options), len(parts)))
         file.write(parts.tobytes())
         lines = try_checks(options, file)
@@ -337,7 +340,7 @@ def take_by_lock(options: argparse.Namespace) -> "Locked":
     if options.meta:
         sigmf.check_note(options.meta, path)
     asked = lock_options(options, kind, rate)
-    with with_hints(hints), write_out(options.file) as file:
+    with with_hints(hints), write_out(options.file, is_sought=bool(options.checks)) as file:
         if options.pn is not None or (options.cell or 1) > 1:
             locked, others = take_cell(options, path, asked, file)
             told += others

@@ -18,7 +18,15 @@ import os
 
 from cdma_tools.arguments import Parser
 from cdma_tools.packaging import tree
+from cdma_tools.overwriting import InputFile, OutputFolder
 from cdma_tools.places import BUILT
+from cdma_tools.program import NAME
+
+
+class Prefix(OutputFolder):
+    """The folder that gets the program."""
+
+    names = (os.path.join("bin", NAME),)
 
 
 def parser() -> Parser:
@@ -26,7 +34,7 @@ def parser() -> Parser:
     arguments = Parser("install", __doc__)
     arguments.add_argument("prefix", metavar="PREFIX", help="folder for bin/ and share/")
     arguments.add_argument(
-        "--program", metavar="FILE", help="built program (default the one built in this checkout)"
+        "--program", type=InputFile, metavar="FILE", help="built program (default the one built in this checkout)"
     )
     arguments.add_argument("--remove", action="store_true", help="remove what was installed")
     return arguments

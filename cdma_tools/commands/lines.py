@@ -25,6 +25,7 @@ from cdma_tools.arguments import Parser
 from cdma_tools.errors import Refused
 from cdma_tools.json_lines import as_json, as_line, lines_of, turned_lines
 from cdma_tools.lines import NoLine, table_rows
+from cdma_tools.overwriting import InputFile
 
 
 def turn(source: Iterable[bytes], turned: Callable[[str], str]) -> None:
@@ -36,7 +37,14 @@ def turn(source: Iterable[bytes], turned: Callable[[str], str]) -> None:
 def parser() -> argparse.ArgumentParser:
     """The command line."""
     words = Parser("lines", __doc__)
-    words.add_argument("lines", nargs="?", default="-", metavar="LINES", help="lines to turn, - for standard input (default)")
+    words.add_argument(
+        "lines",
+        type=InputFile,
+        nargs="?",
+        default="-",
+        metavar="LINES",
+        help="lines to turn, - for standard input (default)",
+    )
     words.add_argument("--back", action="store_true", help="turn JSON into lines")
     words.add_argument("--table", action="store_true", help="write the list of all fields in docs/FORMATS.md, and end")
     return words

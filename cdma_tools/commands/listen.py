@@ -43,11 +43,12 @@ from cdma_tools.errors import Refused
 from cdma_tools.listening.follow_run import Handset
 from cdma_tools.listening.line_writer import LineWriter
 from cdma_tools.listening.listening import Listening
-from cdma_tools.listening.output import GrowingFile, write_to_standard_output
+from cdma_tools.listening.output import open_output
 from cdma_tools.listening.parts import PART, Recording
 from cdma_tools.listening.sharing import hear_recording
 from cdma_tools.listening.sources import SCHEME, Backlog, Server, ServerReader, Skipped, read_pipe, server_of
 from cdma_tools.listening.stream_lock import LockOptions
+from cdma_tools.overwriting import InputFile, OutputFile
 from cdma_tools.program import add_program_option, find_program
 from cdma_tools.radio.acquisition import SPAN, TRIES
 from cdma_tools.radio.air import CHIP_RATE
@@ -93,12 +94,14 @@ def add_handset(words: argparse.ArgumentParser) -> None:
 def parser() -> Parser:
     """The arguments of the command line."""
     words = Parser("listen", __doc__)
-    words.add_argument("source", metavar="SOURCE", help="a file of samples, a .sigmf-meta, -, or rtl_tcp://HOST:PORT")
+    source = "a file of samples, a .sigmf-meta, -, or rtl_tcp://HOST:PORT"
+    words.add_argument("source", type=InputFile, metavar="SOURCE", help=source)
     words.add_argument("--type", choices=TYPES, help="how the samples are kept; not with a .sigmf-meta")
     rates = "samples a second; with a .sigmf-meta only where it tells none"
     words.add_argument("--rate", type=Within(rational, CHIP_RATE, MOST_RATE), metavar="N", help=rates)
     words.add_argument("--json", action="store_true", help="write objects, with their time in UTC")
-    words.add_argument("--out", metavar="FILE", help="add the lines to a file, and go on after those that stand there")
+    out = "add the lines to a file, and go on after those that stand there"
+    words.add_argument("--out", type=OutputFile, metavar="FILE", help=out)
     add_program_option(words)
     tuned = "Hz to which a server is tuned, else left where it is"
     words.add_argument("--frequency", type=whole_within(0, MOST_FREQUENCY), metavar="HZ", help=tuned)
@@ -255,14 +258,12 @@ def listen(options: argparse.Namespace) -> int:
     """Listens, and answers the exit status."""
     source, handset, counts = source_of(options), handset_of(options), counts_of(options)
     is_json = options.json or (options.out or "").endswith(JSON_LINES)
-    with contextlib.ExitStack() as stack:
-        file = stack.enter_context(GrowingFile(options.out)) if options.out is not None else None
-        already = file.already(is_json) if file is not None else None
-        writer = LineWriter(file.write if file else write_to_standard_output, is_json, counts, already)
+    with contextlib.closing(open_output(options.out, is_json)) as output:
+        writer = LineWriter(output.write, is_json, counts, output.already)
         if isinstance(source, Recording):
             is_heard = hear_recording(source, handset, writer, options.part, options.workers, options.scheduler)
         else:
-            if already is not None and already.lines:
+            if output.already.lines:
                 raise Refused(f"{options.out}: it has lines, and a stream can't be gone on with: name another file")
             is_heard = hear_stream(source, lock_options(options, source.kind, source.rate), handset, writer)
     if not is_heard:

@@ -18,7 +18,8 @@ from collections.abc import Iterator, Sequence
 
 from cdma_tools.arguments import Parser, count_of, number_within, whole_within
 from cdma_tools.sample_header import header
-from cdma_tools.writing import STANDARD, write_out
+from cdma_tools.overwriting import STANDARD, OutputFile
+from cdma_tools.writing import write_out
 
 PERIOD = 32_768
 SPAN = 2_048
@@ -73,9 +74,13 @@ def energy(taken: Sequence[Sample], phase: int, i_signs: Sequence[int], q_signs:
 def parser() -> Parser:
     """The command line."""
     arguments = Parser("make_capture", __doc__)
-    arguments.add_argument("file", metavar="FILE", help="sample file to write, - for standard output")
+    arguments.add_argument("file", type=OutputFile, metavar="FILE", help="sample file to write, - for standard output")
     arguments.add_argument(
-        "--count", type=whole_within(1, MOST_SAMPLES), default=4_096, metavar="N", help="number of samples (default 4096)"
+        "--count",
+        type=whole_within(1, MOST_SAMPLES),
+        default=4_096,
+        metavar="N",
+        help="number of samples (default 4096)",
     )
     arguments.add_argument(
         "--phase", type=whole_within(0, PERIOD - 1), default=12_345, metavar="N",

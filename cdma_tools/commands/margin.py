@@ -52,6 +52,7 @@ from cdma_tools.arguments import Parser, Within, whole_within
 from cdma_tools.captures import read_whole
 from cdma_tools.errors import Refused, WrongArguments
 from cdma_tools.margins import Margin, margins, name_of, rows_sent, search_margin
+from cdma_tools.overwriting import InputFile
 from cdma_tools.scripts import SYNC_ROW, Script, read_script
 from cdma_tools.signs import Signs, signs
 from model.handset import Mark
@@ -71,7 +72,9 @@ UNMARKED = "no message sets the cell's mark, so no frame of a paging or traffic 
 def parser() -> argparse.ArgumentParser:
     """Returns the parser of the command line."""
     arguments = Parser("margin", __doc__)
-    arguments.add_argument("script", metavar="SCRIPT", help="the script of a cell, - for standard input")
+    arguments.add_argument(
+        "script", type=InputFile, metavar="SCRIPT", help="the script of a cell, - for standard input"
+    )
     arguments.add_argument(
         "command", nargs=argparse.REMAINDER, metavar="COMMAND ..", help="what hears the cell, as cdma_replay's"
     )
@@ -212,9 +215,7 @@ def rows_of(script: Script, cell: Cell, heard: Heard) -> list[Margin]:
     return [search_margin(script, cell, heard.span), *channels]
 
 
-def signs_in(
-    path: str, cell: Cell, name: str, heard: Heard, names: dict[int, str]
-) -> tuple[Mark | None, list[Signs]]:
+def signs_in(path: str, cell: Cell, name: str, heard: Heard, names: dict[int, str]) -> tuple[Mark | None, list[Signs]]:
     """Returns the cell's mark in a file, and what is covered of the named channels; Refused if the file is foreign.
 
     `name` is that of the cell's script.

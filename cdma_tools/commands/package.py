@@ -12,6 +12,7 @@ Exit status: 0 made, 1 there is no built program that runs here, or the package 
 import os
 
 from cdma_tools.arguments import Parser
+from cdma_tools.overwriting import OutputFolder
 from cdma_tools.packaging import debian, tree
 from cdma_tools.places import BUILT
 
@@ -20,7 +21,12 @@ def parser() -> Parser:
     """The command line."""
     arguments = Parser("package", __doc__)
     arguments.add_argument(
-        "folder", nargs="?", default=".", metavar="FOLDER", help="folder for the package (default this one)"
+        "folder",
+        type=OutputFolder,
+        nargs="?",
+        default=".",
+        metavar="FOLDER",
+        help="folder for the package (default this one)",
     )
     return arguments
 

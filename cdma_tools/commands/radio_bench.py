@@ -34,6 +34,7 @@ import tempfile
 
 from cdma_tools.arguments import Parser
 from cdma_tools.errors import Refused
+from cdma_tools.overwriting import InputFile, OutputFolder
 from cdma_tools.program import add_program_option, find_program
 from cdma_tools.radio.bench import (
     Bench,
@@ -55,6 +56,7 @@ def parser() -> Parser:
     words.add_argument(
         "timed",
         nargs="?",
+        type=InputFile,
         metavar="PROGRAM",
         help="program that makes cells and follows them (default that of --program)",
     )
@@ -67,7 +69,8 @@ def parser() -> Parser:
     words.add_argument(
         "--cells", action="store_true", help="recordings of two and three cells instead of links of one"
     )
-    words.add_argument("--keep", metavar="FOLDER", help="work in this folder, and leave the last files in it")
+    keep = "work in this folder, and leave the last files in it"
+    words.add_argument("--keep", type=OutputFolder, metavar="FOLDER", help=keep)
     return words
 
 

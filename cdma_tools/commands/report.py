@@ -40,6 +40,7 @@ from cdma_tools import sigmf
 from cdma_tools.arguments import Parser, rate_of, whole_within
 from cdma_tools.commands import FAILED, import_capture, listen
 from cdma_tools.errors import Refused, WrongArguments
+from cdma_tools.overwriting import InputFile, OutputFile
 from cdma_tools.program import add_program_option, find_program
 from cdma_tools.radio.air import CHIP_RATE
 from cdma_tools.radio.guessing import type_of
@@ -77,8 +78,10 @@ FOLLOW_WORDS = {
 def parser() -> Parser:
     """The command line."""
     words = Parser("report", __doc__, allow_abbrev=False)
-    words.add_argument("recording", metavar="FILE_OR_RECORDING", help="a sample file, a .sigmf-meta, raw samples, or lines")
-    words.add_argument("--out", required=True, metavar="PAGE", help="the page to write, - for standard output")
+    what = "a sample file, a .sigmf-meta, raw samples, or lines"
+    words.add_argument("recording", type=InputFile, metavar="FILE_OR_RECORDING", help=what)
+    page = "the page to write, - for standard output"
+    words.add_argument("--out", required=True, type=OutputFile, metavar="PAGE", help=page)
     add_program_option(words)
     words.add_argument("--type", metavar="TYPE", help="of raw samples, as import_capture takes it")
     words.add_argument("--rate", metavar="N", help="samples a second of raw samples, as import_capture takes it")

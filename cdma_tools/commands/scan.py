@@ -26,6 +26,7 @@ import sys
 from cdma_tools import sigmf
 from cdma_tools.arguments import MOST_HERTZ, Parser, count_of, number_above, number_within, rate_of, text_of
 from cdma_tools.errors import Refused, said
+from cdma_tools.overwriting import InputFile
 from cdma_tools.progress import bar
 from cdma_tools.radio.acquisition import SPAN, TRIES, bins_within
 from cdma_tools.radio.air import CHIP_RATE
@@ -43,7 +44,7 @@ MOST_CARRIERS = 2_000_000  # that are tried round all centres; each takes some 7
 def parser() -> argparse.ArgumentParser:
     """The command line."""
     words = Parser("scan", __doc__)
-    words.add_argument("recording", metavar="RECORDING", help="interleaved samples, or a .sigmf-meta")
+    words.add_argument("recording", type=InputFile, metavar="RECORDING", help="interleaved samples, or a .sigmf-meta")
     words.add_argument(
         "--type",
         choices=TYPE_CHOICES,

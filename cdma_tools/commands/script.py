@@ -24,6 +24,7 @@ from collections.abc import Callable
 
 from cdma_tools.arguments import PartParser, Parser, Within, number_within, read_by, whole_within
 from cdma_tools.errors import Refused, printable
+from cdma_tools.overwriting import InputFile, OutputFile
 from cdma_tools.reading import all_of
 from cdma_tools.scripting import arguments as program_arguments
 from cdma_tools.scripting import beginning, showing
@@ -55,7 +56,7 @@ def parser() -> argparse.ArgumentParser:
 
 def add_file(part: argparse.ArgumentParser) -> None:
     """Adds the arguments that name a script."""
-    part.add_argument("script", metavar="FILE", help="the script, - for standard input")
+    part.add_argument("script", type=InputFile, metavar="FILE", help="the script, - for standard input")
     part.add_argument(
         "--bits", type=int, choices=(8, 16), default=16, help="bits of a sample, as make has them (default 16)"
     )
@@ -83,7 +84,8 @@ def add_new(part: argparse.ArgumentParser) -> None:
     )
     part.add_argument("--ask", action="store_true", help="ask for each value on the terminal")
     part.add_argument("--quiet", action="store_true", help="leave out the comments, which go to standard error")
-    part.add_argument("--out", default="-", metavar="FILE", help="where the script goes (default: standard output)")
+    out = "where the script goes (default: standard output)"
+    part.add_argument("--out", type=OutputFile, default="-", metavar="FILE", help=out)
 
 
 def long_code_state(text: str) -> int:

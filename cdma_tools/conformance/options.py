@@ -4,6 +4,7 @@ import argparse
 import os
 
 from cdma_tools.arguments import Parser, add_minutes_option
+from cdma_tools.overwriting import InputFile, OutputFolder
 from cdma_tools.program import add_program_option, find_program
 from cdma_tools.workers import add_jobs_option
 
@@ -17,13 +18,13 @@ def names_in(folder: str) -> list[str]:
 
 def add_options(parser: Parser, made: str, kept: str) -> None:
     """Adds what names the receiver, the program that makes something, the cases, and a folder that keeps something."""
-    parser.add_argument(
-        "receiver", nargs="?", metavar="PROGRAM", help="the receiver that is asked, else that of --program"
-    )
+    receiver = "the receiver that is asked, else that of --program"
+    parser.add_argument("receiver", nargs="?", type=InputFile, metavar="PROGRAM", help=receiver)
     add_program_option(parser)
-    parser.add_argument("--maker", metavar="MAKER", help=f"the program that makes the {made}, else PROGRAM")
+    maker = f"the program that makes the {made}, else PROGRAM"
+    parser.add_argument("--maker", type=InputFile, metavar="MAKER", help=maker)
     parser.add_argument("--only", metavar="NAME", action="append", help="this case alone; may be given again")
-    parser.add_argument("--keep", metavar="FOLDER", help=f"keep {kept} in this folder")
+    parser.add_argument("--keep", type=OutputFolder, metavar="FOLDER", help=f"keep {kept} in this folder")
     add_minutes_option(parser)
     add_jobs_option(parser, "cases that are asked", 1)
     parser.add_argument("--list", action="store_true", help="say what each case is for, and run none")

@@ -23,6 +23,7 @@ from cdma_tools.curves.plan import Done
 from cdma_tools.errors import Refused
 
 FORM = "2"
+COUNTS = "counts.sqlite"  # the name of the file in its folder
 TABLES = f"""
 create table if not exists setup (name text primary key, value text not null);
 create table if not exists batches (point integer, batch integer, primary key (point, batch));
@@ -118,4 +119,4 @@ def opened(folder: str, setup: Setup) -> Store:
         os.makedirs(folder, exist_ok=True)
     except OSError as why:
         raise Refused(f"{folder}: {why.strerror}") from None
-    return Store(os.path.join(folder, "counts.sqlite"), setup)
+    return Store(os.path.join(folder, COUNTS), setup)

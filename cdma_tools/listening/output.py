@@ -1,64 +1,153 @@
-"""Where lines go: standard output, or a file that grows by whole lines and is gone on with."""
+"""Where lines go: standard output, a file that grows by whole lines and is gone on with, or a pipe or a device."""
 
 import fcntl
 import json
 import os
 import re
 import sys
+from collections import deque
+from typing import Protocol
 
 from cdma_tools.errors import Refused
-from cdma_tools.lines import NoLine, spell_line
+from cdma_tools.json_lines import as_line
+from cdma_tools.lines import NoLine, begins_line, read_line, spell_line
 from cdma_tools.listening.events import AT, Event
 from cdma_tools.listening.line_writer import TAP_OF, Already
 from cdma_tools.listening.system_time import time_told
+from cdma_tools.writing import is_written_through, open_through
 
 # How the object of a line begins, and where its `at` stands.
 JSON_LINE, JSON_AT = re.compile(r'\{"line":"([a-z]+)"'), re.compile(r'"at":(\d+)')
 # Lines that are read whole where a listening goes on: they tell the time, and the row of the traffic channel.
 READ_WHOLE = ("sync", "sets")
+# Lines at a file's beginning, and at its end, whose every field is looked at; of the others the first word is.
+CHECKED = 1_000
+# Bytes in which the last line feed is looked for at once.
+PIECE = 1 << 16
 
 
-def write_to_standard_output(data: bytes) -> None:
-    """Writes a line to standard output at once."""
-    sys.stdout.buffer.write(data)
-    sys.stdout.buffer.flush()
+class Output(Protocol):
+    """Where lines go."""
+
+    already: Already  # what was there before
+
+    def write(self, data: bytes) -> None:
+        """Adds whole lines."""
+
+    def close(self) -> None:
+        """Adds no more."""
+
+
+class StandardOutput:
+    """Standard output, which gets each line at once."""
+
+    def __init__(self) -> None:
+        """Nothing was written yet."""
+        self.already = Already()
+
+    def write(self, data: bytes) -> None:
+        """Writes whole lines."""
+        sys.stdout.buffer.write(data)
+        sys.stdout.buffer.flush()
+
+    def close(self) -> None:
+        """Leaves it open."""
+
+
+class Passed:
+    """A FIFO, a device or a file that is open already, which gets each line at once."""
+
+    def __init__(self, path: str) -> None:
+        """Opens it; waits for the reader of a FIFO."""
+        self.path, self.already = path, Already()
+        try:
+            self.file = open_through(path)
+        except OSError as why:
+            raise Refused(f"{path}: {why.strerror}") from None
+
+    def write(self, data: bytes) -> None:
+        """Writes whole lines; a reader that has gone away ends the listening as a closed pipe does."""
+        try:
+            os.write(self.file.fileno(), data)
+        except BrokenPipeError:
+            raise
+        except OSError as why:
+            raise Refused(f"{self.path}: {why.strerror}") from None
+
+    def close(self) -> None:
+        """Closes it."""
+        self.file.close()
 
 
 class GrowingFile:
-    """A file to which whole lines are added; a listening alone may add to it."""
+    """A file to which whole lines are added; nobody but one listening may add to it."""
 
-    def __init__(self, path: str) -> None:
-        """Opens it, makes it where it isn't there, and takes away a last line that isn't whole."""
-        self.path = path
+    def __init__(self, path: str, is_json: bool) -> None:
+        """Opens it, makes it where it isn't there, and takes away a last line that was broken off.
+
+        A file that no listening of this kind wrote is refused, and nothing in it is changed.
+        """
+        self.path, self.is_json = path, is_json
         try:
             self.file = os.open(path, os.O_RDWR | os.O_CREAT | os.O_APPEND | os.O_CLOEXEC, 0o666)
         except OSError as why:
             raise Refused(f"{path}: {why.strerror}") from None
         try:
-            fcntl.flock(self.file, fcntl.LOCK_EX | fcntl.LOCK_NB)
-            self.size = self.whole_size()
-            os.ftruncate(self.file, self.size)
-        except OSError as why:
+            self.take_over()
+        except BaseException:
             os.close(self.file)
-            held = "another listening adds to it" if isinstance(why, BlockingIOError) else why.strerror
-            raise Refused(f"{path}: {held}") from None
+            raise
 
-    def whole_size(self) -> int:
+    def take_over(self) -> None:
+        """Looks at what the file has, while no other listening adds to it."""
+        try:
+            fcntl.flock(self.file, fcntl.LOCK_EX | fcntl.LOCK_NB)
+            total = os.fstat(self.file).st_size
+            self.size = self.whole_size(total)
+            self.check_rest(os.pread(self.file, min(total - self.size, PIECE), self.size))
+            self.already = self.look()
+            if total > self.size:
+                os.ftruncate(self.file, self.size)
+        except OSError as why:
+            held = "another listening adds to it" if isinstance(why, BlockingIOError) else why.strerror
+            raise Refused(f"{self.path}: {held}") from None
+
+    def whole_size(self, total: int) -> int:
         """How many bytes there are up to the end of the last whole line."""
-        size = end = os.fstat(self.file).st_size
+        end = total
         while end > 0:
-            begin = max(0, end - (1 << 16))
+            begin = max(0, end - PIECE)
             place = os.pread(self.file, end - begin, begin).rfind(b"\n")
             if place >= 0:
                 return begin + place + 1
             end = begin
-        return min(size, 0)
+        return 0
 
-    def __enter__(self) -> "GrowingFile":
-        return self
+    def check_rest(self, rest: bytes) -> None:
+        """Refuses bytes after the last whole line that don't begin a line of a listening."""
+        if rest and (len(rest) == PIECE or not is_broken_line(rest, self.is_json)):
+            raise Refused(f"{self.path}: its last line is {self.none}")
 
-    def __exit__(self, *_: object) -> None:
-        os.close(self.file)
+    @property
+    def none(self) -> str:
+        """What is said of a line that no listening wrote."""
+        return f"none that a listening wrote as {'JSON' if self.is_json else 'text'}"
+
+    def look(self) -> Already:
+        """What stands there; refuses a line that no listening of this kind wrote."""
+        already, last = Already(), deque[tuple[int, str]](maxlen=CHECKED)
+        with open(self.path, encoding="ascii", errors="replace", newline="\n") as file:
+            for number, line in enumerate(file, 1):
+                if not line.endswith("\n"):
+                    break
+                text = line[:-1]
+                if not take_line(already, text, self.is_json) or number <= CHECKED and not is_line(text, self.is_json):
+                    raise Refused(f"{self.path}: line {number} is {self.none}")
+                last.append((number, text))
+        for number, text in last:
+            if not is_line(text, self.is_json):
+                raise Refused(f"{self.path}: line {number} is {self.none}")
+        return already
 
     def write(self, data: bytes) -> None:
         """Adds whole lines, or none; refuses where they can't be added."""
@@ -71,15 +160,39 @@ class GrowingFile:
             raise Refused(f"{self.path}: {why.strerror}; it has all lines up to there") from None
         self.size += len(data)
 
-    def already(self, is_json: bool) -> Already:
-        """What stands there; refuses a line that no listening of this kind wrote."""
-        already = Already()
-        with open(self.path, encoding="ascii", errors="replace") as file:
-            for number, text in enumerate(file, 1):
-                if not take_line(already, text.rstrip("\n"), is_json):
-                    kind = "JSON" if is_json else "text"
-                    raise Refused(f"{self.path}: line {number} is none that a listening wrote as {kind}")
-        return already
+    def close(self) -> None:
+        """Closes it."""
+        os.close(self.file)
+
+
+def open_output(path: str | None, is_json: bool) -> Output:
+    """The output of a name; standard output where there is none."""
+    if path is None:
+        return StandardOutput()
+    if is_written_through(path):
+        return Passed(path)
+    return GrowingFile(path, is_json)
+
+
+def is_line(text: str, is_json: bool) -> bool:
+    """Whether a text is a line that a listening writes, with all its fields."""
+    try:
+        read_line(as_line(text) if is_json else text)
+    except NoLine:
+        return False
+    return True
+
+
+def is_broken_line(rest: bytes, is_json: bool) -> bool:
+    """Whether some bytes begin a line that a listening writes."""
+    try:
+        text = rest.decode("ascii")
+    except UnicodeDecodeError:
+        return False
+    if not is_json:
+        return begins_line(text) and any(kind.startswith(text.split(" ")[0]) for kind in TAP_OF)
+    heads = [f'{{"line":"{kind}"' for kind in TAP_OF]
+    return any(head.startswith(text) or text.startswith(head) for head in heads)
 
 
 def take_line(already: Already, text: str, is_json: bool) -> bool:
