@@ -2,11 +2,17 @@
 
 A task has no effects, so where a worker dies dask gives its tasks to another one, and where two workers did one task
 the results are the same.
+
+Whoever reaches a scheduler or a worker runs code as its user. All servers of a cluster that is started here listen on
+loopback addresses only.
 """
 
 import asyncio
 import contextlib
+import fcntl
 import logging
+import os
+import shutil
 import tempfile
 from typing import Any, Iterator
 
@@ -21,6 +27,11 @@ FIRST_WORKER = LAST_WORKER = 60
 # What a worker process that is started here gets, besides the settings of dask: the C library keeps freed memory up to
 # so many bytes. By dask's own setting it gives each large array back, and takes as long again to have its pages anew.
 KEEP_FREED = {"distributed.nanny.pre-spawn-environ.MALLOC_TRIM_THRESHOLD_": 1 << 28}
+LOOPBACK = "127.0.0.1"
+# The address of a status page: dask starts one in each process, on all interfaces if it isn't told otherwise.
+STATUS_PAGE = f"{LOOPBACK}:0"
+# The beginning of the name of a folder for workers, and the name of the file in it that its run holds.
+FOLDER, HELD = "cdma-workers-", "held"
 # Tasks under way for each worker: one that it does and one that waits, so that none is idle.
 AHEAD = 2
 
@@ -37,6 +48,53 @@ def quiet() -> Any:
     return distributed
 
 
+# The folders of this process's clusters.
+own_folders: set[str] = set()
+
+
+@contextlib.contextmanager
+def worker_folder() -> Iterator[str]:
+    """A temporary folder for workers. Those that ended runs left there are removed first."""
+    remove_left_folders()
+    folder = tempfile.mkdtemp(prefix=FOLDER)
+    own_folders.add(folder)
+    try:
+        # The file is held before it has its name, so nobody takes a new folder for one that was left.
+        with open(os.path.join(folder, f"{HELD}.new"), "wb") as held:
+            fcntl.flock(held, fcntl.LOCK_EX)
+            os.rename(held.name, os.path.join(folder, HELD))
+            yield folder
+    finally:
+        remove_own_folders()
+
+
+def remove_own_folders() -> None:
+    """Removes the folders of this process's clusters."""
+    while own_folders:
+        shutil.rmtree(own_folders.pop(), ignore_errors=True)
+
+
+def remove_left_folders() -> None:
+    """Removes folders of this user's runs that were killed: nobody holds their files any more."""
+    place = tempfile.gettempdir()
+    for name in os.listdir(place):
+        folder = os.path.join(place, name)
+        if name.startswith(FOLDER) and is_left(folder):
+            shutil.rmtree(folder, ignore_errors=True)
+
+
+def is_left(folder: str) -> bool:
+    """Whether a folder is this user's, and its run has ended."""
+    try:
+        if os.lstat(folder).st_uid != os.getuid():
+            return False
+        with open(os.path.join(folder, HELD), "rb") as held:
+            fcntl.flock(held, fcntl.LOCK_EX | fcntl.LOCK_NB)
+    except OSError:
+        return False
+    return True
+
+
 @contextlib.contextmanager
 def connected(address: str | None, workers: int) -> Iterator[Any]:
     """A client of the scheduler at an address, or of a cluster on this machine: of processes, and of one thread for one
@@ -47,13 +105,15 @@ def connected(address: str | None, workers: int) -> Iterator[Any]:
     with contextlib.ExitStack() as stack:
         try:
             if address is None:
-                folder = stack.enter_context(tempfile.TemporaryDirectory(prefix="cdma-"))
+                folder = stack.enter_context(worker_folder())
                 stack.enter_context(dask.config.set(KEEP_FREED))
                 cluster = distributed.LocalCluster(
                     n_workers=workers,
                     threads_per_worker=1,
                     processes=workers > 1,
-                    dashboard_address="127.0.0.1:0",
+                    host=LOOPBACK if workers > 1 else None,
+                    dashboard_address=STATUS_PAGE,
+                    worker_dashboard_address=STATUS_PAGE,
                     memory_limit=0,
                     local_directory=folder,
                     silence_logs=SILENT,

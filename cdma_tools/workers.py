@@ -13,6 +13,7 @@ from typing import Any, TypeVar
 
 from cdma_tools.arguments import Parser, whole_within
 from cdma_tools.errors import Refused
+from cdma_tools.interrupts import noted_interrupts
 from cdma_tools.starting import INTERRUPTED
 
 Item = TypeVar("Item")
@@ -30,24 +31,6 @@ def hear_interrupts() -> None:
     """Lets Ctrl-C or SIGTERM end this process at once; what it runs gets the signal itself."""
     signal.signal(signal.SIGINT, end)
     signal.signal(signal.SIGTERM, end)
-
-
-@contextlib.contextmanager
-def noted_interrupts(*numbers: signal.Signals) -> Iterator[None]:
-    """Holds back signals that interrupt until this is left; processes that are started in it hear them as ever."""
-    heard: list[bool] = []
-    before = {
-        number: signal.signal(number, lambda *_: heard.append(True))
-        for number in numbers
-        if signal.getsignal(number) is not signal.SIG_IGN
-    }
-    try:
-        yield
-    finally:
-        for number, handler in before.items():
-            signal.signal(number, handler)
-    if heard:
-        raise KeyboardInterrupt
 
 
 @contextlib.contextmanager
@@ -69,13 +52,20 @@ def pass_over_interrupts() -> None:
 
 
 @contextlib.contextmanager
-def quietly(cluster: AbstractContextManager[Any]) -> Iterator[Any]:
+def quietly(cluster: AbstractContextManager[Any], clean: Callable[[], None]) -> Iterator[Any]:
     """The client of a cluster of processes of this machine, which Ctrl-C leaves to this process to end, unsaid.
 
-    SIGTERM ends this process at once: a cluster can't be taken down whose processes have had the signal too.
+    SIGTERM ends this process at once, once `clean` has removed what would stay: a cluster can't be taken down whose
+    processes have had the signal too.
     """
+
+    def end_at_once(number: int, _: object) -> None:
+        clean()
+        signal.signal(number, signal.SIG_DFL)
+        os.kill(os.getpid(), number)
+
     with contextlib.ExitStack() as stack:
-        stack.callback(signal.signal, signal.SIGTERM, signal.signal(signal.SIGTERM, signal.SIG_DFL))
+        stack.callback(signal.signal, signal.SIGTERM, signal.signal(signal.SIGTERM, end_at_once))
         with held_interrupts():
             client = stack.enter_context(cluster)
             client.run(pass_over_interrupts)

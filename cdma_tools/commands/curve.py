@@ -66,7 +66,7 @@ from cdma_tools.arguments import (
     whole_within,
     wrong,
 )
-from cdma_tools.cluster import connected
+from cdma_tools.cluster import connected, remove_own_folders
 from cdma_tools.commands.channel import add_link_options, radio_of
 from cdma_tools.curves import report
 from cdma_tools.curves.antenna import Antenna
@@ -338,9 +338,8 @@ def measure(options: argparse.Namespace, setup: Setup, ledger: Ledger, levels: d
     workers = options.workers or os.cpu_count() or 1
     cluster = connected(options.scheduler, workers)
     is_of_processes = options.scheduler is None and workers > 1
-    with quietly(cluster) if is_of_processes else cluster as client, bar(
-        total=left, text="curve", unit="files"
-    ) as shown:
+    quiet = quietly(cluster, remove_own_folders) if is_of_processes else cluster
+    with quiet as client, bar(total=left, text="curve", unit="files") as shown:
 
         def keep(point: int, batch: int, counts: list[Counts]) -> None:
             """Keeps the counts of a batch."""

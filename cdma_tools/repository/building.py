@@ -20,11 +20,11 @@ from collections import deque
 from collections.abc import Callable
 from dataclasses import dataclass
 
+from cdma_tools.interrupts import noted_interrupts
 from cdma_tools.receiver_run import ended_text
 from cdma_tools.repository.crate_list import all_below
 from cdma_tools.repository.plan import Crate, clock_text, planned, stands_on, work_ahead
 from cdma_tools.starting import pass_over_interrupts
-from cdma_tools.workers import noted_interrupts
 
 OF_JOB = 0.6  # of what a crate is planned with, each job of its run but the first takes so much more
 MOST_JOBS = 8  # of one run: `rt` itself chooses no more
