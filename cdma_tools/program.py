@@ -4,25 +4,36 @@ import argparse
 import os
 import shutil
 import subprocess
+import sys
 from typing import IO
 
 from cdma_tools.errors import Refused
 from cdma_tools.overwriting import InputFile
 from cdma_tools.places import BUILT
+from cdma_tools.starting import is_installed
 
 NAME = "cdma_replay"
 LONGEST_RUN = 600  # seconds that a run over a sample file may take
 VARIABLE = "CDMA_REPLAY"
-HELP = f"cdma_replay (default ${VARIABLE}, or the one built in this checkout, or {NAME} on the path)"
+
+# Where the program is looked for that nobody names, and what is said if it isn't there: in a checkout, and installed.
+IN_CHECKOUT = "the one built in this checkout"
+BESIDE = "the one beside this command"
 NOT_FOUND = (
     f"no {NAME}: --program names none, nor does ${VARIABLE}, none is built in this checkout (rt ci builds it), and none"
     " is on the path"
+)
+NOT_INSTALLED = (
+    f"no {NAME}: --program names none, nor does ${VARIABLE}, none stands beside this command, and none is on the path:"
+    " install the package cdma-replay, which has it"
 )
 
 
 def add_program_option(parser: argparse.ArgumentParser, *others: str) -> None:
     """Adds the option --program, and other names of it, to a command line."""
-    parser.add_argument("--program", *others, dest="program", type=InputFile, metavar="FILE", help=HELP)
+    nearest = BESIDE if is_installed() else IN_CHECKOUT
+    what = f"cdma_replay (default ${VARIABLE}, or {nearest}, or {NAME} on the path)"
+    parser.add_argument("--program", *others, dest="program", type=InputFile, metavar="FILE", help=what)
 
 
 def checked_program(path: str) -> str:
@@ -32,16 +43,25 @@ def checked_program(path: str) -> str:
     return os.path.abspath(path)
 
 
+def nearest_programs() -> list[str]:
+    """Where the program may stand nearest: beside an installed command, by its name or its link, or in a checkout."""
+    if not is_installed():
+        return [BUILT]
+    commands = (os.path.abspath(sys.argv[0]), os.path.realpath(sys.argv[0]))
+    return [os.path.join(os.path.dirname(command), NAME) for command in commands]
+
+
 def find_program(given: str | None) -> str:
-    """The program that is run: the one given, else $CDMA_REPLAY, else the checkout's, else the one on the path."""
+    """The program that is run: the one given, else $CDMA_REPLAY, else the nearest, else the one on the path."""
     named = given or os.environ.get(VARIABLE)
     if named:
         return checked_program(named)
-    if os.access(BUILT, os.X_OK):
-        return BUILT
+    for nearest in nearest_programs():
+        if os.path.isfile(nearest) and os.access(nearest, os.X_OK):
+            return nearest
     found = shutil.which(NAME)
     if found is None:
-        raise Refused(NOT_FOUND)
+        raise Refused(NOT_INSTALLED if is_installed() else NOT_FOUND)
     return os.path.abspath(found)
 
 

@@ -7,6 +7,8 @@ is none, and nothing is written: so what a tool says stays the same in a pipe, i
 import sys
 from typing import Any, Iterable, Iterator
 
+from cdma_tools.interrupts import INTERRUPTS, noted_interrupts
+
 
 class Silent:
     """A bar that shows nothing, with the calls of tqdm that the tools use, where tqdm is missing."""
@@ -41,12 +43,23 @@ def bar(over: Iterable[Any] | None = None, *, total: float | None = None, text: 
         for case in bar(cases, text="cases"):
         with bar(total=count, text="recording", unit="chips") as shown:
             shown.update(1_024)
+
+    An interrupt waits until the bar has begun. It is closed where it is left, and not when Python takes it away: an
+    interrupt there couldn't end the tool.
     """
-    try:
-        from tqdm import tqdm
-    except ImportError:
-        return Silent(over)
-    return tqdm(
-        over, total=total, desc=text or None, unit=unit or "it", unit_scale=bool(unit), leave=False, file=sys.stderr,
-        disable=not sys.stderr.isatty(),
-    )  # fmt: skip
+    with noted_interrupts(*INTERRUPTS):
+        try:
+            from tqdm import tqdm
+        except ImportError:
+            return Silent(over)
+
+        class Bar(tqdm):  # type: ignore[misc]
+            """A bar that is closed by whoever made it."""
+
+            def __del__(self) -> None:
+                """Leaves it as it is."""
+
+        return Bar(
+            over, total=total, desc=text or None, unit=unit or "it", unit_scale=bool(unit), leave=False,
+            file=sys.stderr, disable=not sys.stderr.isatty(),
+        )  # fmt: skip

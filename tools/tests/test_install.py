@@ -1,9 +1,12 @@
 """tools/install: what it puts in place, and where it refuses. A script stands for the program."""
 
+import importlib.util
 import os
 import re
+import subprocess
 import unittest
 
+from cdma_tools.program import NOT_INSTALLED
 from tools.tests.helping import ROOT, run_tool, temporary_folder
 
 STANDS_FOR = b"#!/bin/sh\necho bad words >&2\nexit 2\n"
@@ -61,6 +64,26 @@ class Installs(unittest.TestCase):
                     self.assertTrue(path.startswith(documents) and os.path.isfile(path))
                     links += 1
         self.assertGreater(links, 50)
+
+    def listened(self, command: str) -> str:
+        """What an installed command says of a stream of zeros, by an environment that names no program."""
+        words = [command, "--type", "ci8", "--rate", "1228800", "-"]
+        ran = subprocess.run(words, input=bytes(1_000), capture_output=True, env={"PATH": "/none"}, timeout=300)
+        self.assertEqual((ran.returncode, ran.stdout), (1, b""))
+        return ran.stderr.decode()
+
+    @unittest.skipUnless(importlib.util.find_spec("scipy"), "no scipy: install the package python3-scipy")
+    def test_an_installed_command_finds_the_program_beside_it(self) -> None:
+        self.assertEqual(run_tool("install", "--program", self.program, self.prefix)[0], 0)
+        command = os.path.join(self.prefix, "bin", "cdma-listen")
+        link = os.path.join(os.path.dirname(self.prefix), "cdma-listen")
+        os.symlink(command, link)
+        for way in (command, link):
+            self.assertEqual(self.listened(way), "cdma-listen: no pilot stands out anywhere\n")
+        os.unlink(os.path.join(self.prefix, "bin", "cdma_replay"))
+        said = self.listened(command)
+        self.assertEqual(said, f"cdma-listen: {NOT_INSTALLED}\n")
+        self.assertNotIn("rt ci", said)
 
     def test_a_list_that_leads_elsewhere_takes_nothing_away(self) -> None:
         kept = os.path.join(os.path.dirname(self.prefix), "kept")

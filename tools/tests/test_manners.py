@@ -27,7 +27,7 @@ from cdma_tools.arguments import joined  # noqa: E402
 from cdma_tools.commands import channel  # noqa: E402
 from cdma_tools.errors import Refused  # noqa: E402
 from cdma_tools.hostile_tools import told_fault  # noqa: E402
-from cdma_tools.program import NOT_FOUND, find_program  # noqa: E402
+from cdma_tools.program import NOT_FOUND, NOT_INSTALLED, find_program  # noqa: E402
 from cdma_tools.repository import launchers  # noqa: E402
 from cdma_tools.starting import COMMANDS, IN_CHECKOUT, INSTALLED, called, named_by  # noqa: E402
 from cdma_tools.writing import write_beside  # noqa: E402
@@ -355,6 +355,15 @@ class TheProgram(Folder):
                     find_program(None)
         for word in ("--program", "$CDMA_REPLAY", "built", "path"):
             self.assertIn(word, NOT_FOUND)
+
+    def test_an_installed_command_looks_beside_itself(self) -> None:
+        beside = self.program("cdma_replay", "exit 0\n")
+        environment = unittest.mock.patch.dict(os.environ, {"CDMA_REPLAY": "", "PATH": "/none"})
+        with environment, unittest.mock.patch("sys.argv", [self.at("cdma-listen")]):
+            self.assertEqual(find_program(None), beside)
+            os.unlink(beside)
+            with self.assertRaisesRegex(Refused, re.escape(NOT_INSTALLED)):
+                find_program(None)
 
     def test_each_tool_says_the_same(self) -> None:
         environment = {"PATH": "/none", "CDMA_REPLAY": ""}

@@ -3,7 +3,11 @@
 import contextlib
 import importlib.util
 import io
+import signal
+import sys
 import unittest
+from collections.abc import Iterator
+from typing import Any
 from unittest import mock
 
 from cdma_tools import progress
@@ -40,6 +44,48 @@ class Bars(unittest.TestCase):
         self.assertIn("cases", text)
         self.assertIn("recording", text)
         self.assertNotIn("\n", text)
+
+
+@contextlib.contextmanager
+def interrupted_at(count: int) -> Iterator[list[int]]:
+    """Interrupts this process when so many lines of tqdm have begun; what is held has one thing for each of them."""
+    lines: list[int] = []
+
+    def trace(frame: Any, event: str, _: object) -> Any:
+        if not frame.f_code.co_filename.endswith("tqdm/std.py"):
+            return None
+        if event == "line":
+            lines.append(frame.f_lineno)
+            if len(lines) == count:
+                signal.raise_signal(signal.SIGINT)
+        return trace
+
+    before = signal.signal(signal.SIGINT, signal.default_int_handler)
+    sys.settrace(trace)
+    try:
+        yield lines
+    finally:
+        sys.settrace(None)
+        signal.signal(signal.SIGINT, before)
+
+
+@unittest.skipUnless(importlib.util.find_spec("tqdm"), "no tqdm: install the package python3-tqdm")
+class InterruptedBars(unittest.TestCase):
+    """An interrupt at each line with which tqdm begins a bar."""
+
+    def test_each_line(self) -> None:
+        with interrupted_at(0) as lines, contextlib.redirect_stderr(Terminal()):
+            with progress.bar(total=10) as bar:
+                bar.update(1)
+        self.assertGreater(len(lines), 50)
+        faults: list[Any] = []
+        with mock.patch.object(sys, "unraisablehook", faults.append):
+            for count in range(1, len(lines), 7):
+                with self.subTest(count), contextlib.redirect_stderr(Terminal()):
+                    with self.assertRaises(KeyboardInterrupt), interrupted_at(count):
+                        with progress.bar(total=10) as bar:
+                            bar.update(1)
+        self.assertEqual([str(fault.exc_value) for fault in faults], [])
 
 
 if __name__ == "__main__":
