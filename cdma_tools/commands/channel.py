@@ -118,7 +118,8 @@ def cell_of(text: str) -> Cell:
 def parser() -> argparse.ArgumentParser:
     """The command line."""
     words = Parser("channel", __doc__)
-    words.add_argument("files", nargs="+", metavar="FILE[:DB[:CHIPS]]", help="cells, the wanted one first")
+    cells = "cells, the wanted one first"
+    words.add_argument("files", nargs="+", type=CellName, metavar="FILE[:DB[:CHIPS]]", help=cells)
     words.add_argument(
         "recording",
         type=OutputRecording,

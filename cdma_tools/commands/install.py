@@ -32,7 +32,7 @@ class Prefix(OutputFolder):
 def parser() -> Parser:
     """The command line."""
     arguments = Parser("install", __doc__)
-    arguments.add_argument("prefix", metavar="PREFIX", help="folder for bin/ and share/")
+    arguments.add_argument("prefix", type=Prefix, metavar="PREFIX", help="folder for bin/ and share/")
     arguments.add_argument(
         "--program", type=InputFile, metavar="FILE", help="built program (default the one built in this checkout)"
     )

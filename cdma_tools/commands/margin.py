@@ -78,7 +78,8 @@ def parser() -> argparse.ArgumentParser:
     arguments.add_argument(
         "command", nargs=argparse.REMAINDER, metavar="COMMAND ..", help="what hears the cell, as cdma_replay's"
     )
-    arguments.add_argument("--file", metavar="FILE", help="report which frames of this sample file are covered instead")
+    file = "report which frames of this sample file are covered instead"
+    arguments.add_argument("--file", type=InputFile, metavar="FILE", help=file)
     arguments.add_argument("--json", action="store_true", help="an object for each row, a line each, not the table")
     span = f"samples that the search takes, default {DEFAULT_SPAN:,}"
     arguments.add_argument("--span", type=SPAN, default=DEFAULT_SPAN, metavar="N", help=span)
