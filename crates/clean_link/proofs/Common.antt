@@ -145,14 +145,14 @@ pub use Rattle.viterbi.proofs.Zipped.{zipped_at}
 pub use Rattle.viterbi.specs.Codewords.{Codeword, correlation}
 pub use Rattle.walsh.specs.Walsh.{walsh}
 pub use Rattle.clean_link.specs.BySigns.{AllComesBackBySigns, AreEventsBySigns, AreFramesBySigns, ChannelsComeBackBySigns}
-pub use Rattle.clean_link.specs.BySigns.{FollowedHaveSigns, HearsBySigns, NoEventIsDirectedBySigns, SyncTellsTheMark}
+pub use Rattle.clean_link.specs.BySigns.{HearsBySigns, SyncTellsTheMark}
 pub use Rattle.clean_link.specs.SentSigns.{FrameHasSigns, FromMark, HasSyncSigns, IsCellMark, MarkIsAt, MarksAreAt, PagingFrameHasSigns}
 pub use Rattle.clean_link.specs.SentSigns.{SyncHasSigns, TrafficFrameHasSigns}
-pub use Rattle.clean_link.specs.CleanLaws.{ChannelFramesComeBack, NoisyFramesComeBack, PagingCodewordsAreTheOnlyBest}
-pub use Rattle.clean_link.specs.CleanLaws.{SentCodewordsAreTheOnlyBest, SilentPagingFramesAreZeros, NoisyIsMarkedWhereHeard}
-pub use Rattle.clean_link.specs.CleanLaws.{NoisyPagingFramesComeBack, NoisySendingsComeBack, WholeSendingsComeBack, AreZeroWithoutSync}
+pub use Rattle.clean_link.specs.CleanLaws.{ChannelFramesComeBack, PagingCodewordsAreTheOnlyBest}
+pub use Rattle.clean_link.specs.CleanLaws.{SentCodewordsAreTheOnlyBest, SilentPagingFramesAreZeros}
+pub use Rattle.clean_link.specs.CleanLaws.{WholeSendingsComeBack, AreZeroWithoutSync}
 pub use Rattle.clean_link.specs.CleanLaws.{MarksAreTrue, PagingFramesComeBack, PagingHaveSentSigns, UnmarkedWithoutSync, IsMarkedWhereHeard}
-pub use Rattle.clean_link.specs.CleanLaws.{MarksTellTheRate, NoisyMarksAreTrue, NoisyPagesComeBack, SilentPagingIsZero, FramesAreZeros}
+pub use Rattle.clean_link.specs.CleanLaws.{MarksTellTheRate, SilentPagingIsZero, FramesAreZeros}
 pub use Rattle.clean_link.specs.CleanLaws.{FramesComeBack, HaveSentSigns, HearsSentSync, ShowsSync, ordered_symbols}
 pub use Rattle.clean_link.specs.CleanLink.{IsNoDirection, IsNotDirected, IsOnPath, IsTrueMark, IsTunedToPlan, events_of_channel}
 pub use Rattle.clean_link.specs.CleanLink.{sending_event, tuning_to}
@@ -167,7 +167,7 @@ unfoldable pub use Rattle.clean_link.specs.DistinctFrames.{codewords_giving, sta
 pub use Rattle.clean_link.specs.DistinctPlan.{HasMark, HasSetOne, HasSetTwo, distinct_bits_of, bits_of2, channel_on, distinct_plan}
 pub use Rattle.clean_link.specs.DistinctPlan.{first_channel, frame2_at, frame_at, on_row, second_channel, told_message}
 pub use Rattle.clean_link.specs.HeardEach.{AreEventsOf, AreFramesBehind, AreMessagesBehind, EachChannelComesBack, FollowsOne, IsEventOf}
-pub use Rattle.clean_link.specs.HeardEach.{NoEventIsDirectedByNoise, NoisyEachChannelComesBack, is_frame, is_message, is_page, is_sync}
+pub use Rattle.clean_link.specs.HeardEach.{is_frame, is_message, is_page, is_sync}
 pub use Rattle.clean_frames.specs.SentFrames.{codeword_symbols, signals_received, IsDistinctFrame, SendsSymbols, ShowPowerBits}
 pub use Rattle.clean_frames.specs.SentFrames.{received_frames, sent_power_bits, AreDistinct, IsAssigned, SendsSetOne, SendsSetTwo}
 pub use Rattle.clean_frames.specs.SentFrames.{is_received, replaced_of, signal_sent, ShowFrame, frame_chip, frame_ends, signals_in}
@@ -179,21 +179,24 @@ pub use Rattle.clean_frames.specs.WholePages.{KnownPage, end_chip, message_in, p
 pub use Rattle.clean_frames.specs.WholePages.{round_sent}
 pub use Rattle.clean_link.specs.HeardPages.{PagesComeBack, ReadPage, known_page, pages_within, type_within}
 unfoldable pub use Rattle.clean_frames.specs.WholePages.{pages_sent}
-pub use Rattle.clean_link.specs.ReceivedFrames.{AreReceived, AreReceivedFrom, IsDistinctFrame2, IsReceived, IsReceivedAs, IsSentFrame2}
+pub use Rattle.clean_link.specs.ReceivedFrames.{AreReceivedFrom, IsDistinctFrame2, IsReceived, IsReceivedAs, IsSentFrame2}
 pub use Rattle.clean_link.specs.ReceivedFrames.{codeword_symbols2}
 pub use Rattle.clean_link.specs.ReceivedFrames.{cycled_frame2}
 pub use Rattle.clean_link.specs.ReceivedLaws.{EachFrameIsReceived, FramesBehindMark, FramesShowPowerBits, FramesShowSymbols}
-pub use Rattle.clean_link.specs.ReceivedLaws.{IsReceivedBySigns, IsSentFrame2BySigns, NoisyFramesAreReceived, NoisyFramesBehindMark}
-pub use Rattle.clean_link.specs.ReceivedLaws.{NoisyReceivedAreTheOnlyBest, NoisySetTwoAreTheOnlyBest, NoisySetTwoBehindMark}
-pub use Rattle.clean_link.specs.ReceivedLaws.{NoisySetTwoFramesComeBack, SetOneSends, SetTwoBehindMark, SetTwoFramesComeBack, SetTwoSends}
-pub use Rattle.clean_link.specs.SentEvents.{FollowsSent, NoEventIsDirected, WholeMessagesComeBack, by_places, is_at, known_event}
+pub use Rattle.clean_link.specs.ReceivedLaws.{IsReceivedBySigns, IsSentFrame2BySigns}
+pub use Rattle.clean_link.specs.ReceivedLaws.{SetOneSends, SetTwoBehindMark, SetTwoFramesComeBack, SetTwoSends}
+pub use Rattle.clean_link.specs.SentEvents.{FollowedHaveSigns, FollowsSent, NoEventIsDirected, WholeMessagesComeBack, by_places, is_at}
+pub use Rattle.clean_link.specs.SentEvents.{known_event}
 pub use Rattle.clean_link.specs.SentEvents.{pages_after, pages_behind_mark, told_followed}
 unfoldable pub use Rattle.clean_link.specs.SentEvents.{frame_events_at, message_events_at, paging_events_at, paging_sent, sent_events}
 unfoldable pub use Rattle.clean_link.specs.SentEvents.{sets_events_at, sets_heard, signaling_sent, traffic_sent}
 pub use Rattle.clean_link.specs.TrafficLaws.{ArePowered, EachFrameIsHeard, HavePowerSigns, HeardAreTheOnlyBest, HearsSentTraffic, IsHeardAs}
-pub use Rattle.clean_link.specs.TrafficLaws.{IsUndirected, NoisyEachFrameIsHeard, NoisyFrame, NoisyFramesAreTheOnlyBest}
-pub use Rattle.clean_link.specs.TrafficLaws.{NoisyPowerBitsComeBack, NoisySentFramesComeBack, NoisySentMessagesComeBack}
-pub use Rattle.clean_link.specs.TrafficLaws.{NoisyTrafficFramesComeBack, NoisyTrafficHasSentSigns, NoneIsDirected, NoneIsDirectedByNoise}
-pub use Rattle.clean_link.specs.TrafficLaws.{OnePilotIsHeard, PowerBitsComeBack, ReceivedAreTheOnlyBest, SentFramesComeBack}
-pub use Rattle.clean_link.specs.TrafficLaws.{SentMessagesComeBack, SetTwoAreTheOnlyBest, ShowsTraffic, SixteenPowerBitsAreSent}
+pub use Rattle.clean_link.specs.TrafficLaws.{IsUndirected, NoisyFrame}
+pub use Rattle.clean_link.specs.TrafficLaws.{NoneIsDirected}
+pub use Rattle.clean_link.specs.TrafficLaws.{OnePilotIsHeard, PowerBitsComeBack, SentFramesComeBack}
+pub use Rattle.clean_link.specs.TrafficLaws.{SentMessagesComeBack, ShowsTraffic, SixteenPowerBitsAreSent}
 pub use Rattle.clean_link.specs.TrafficLaws.{TrafficFramesComeBack, TrafficHaveSentSigns}
+pub use Rattle.clean_link.specs.CleanLaws.{NearChannelsHaveSigns, NearSyncHasSigns, CleanSyncHasSigns, SignedPagesComeBack}
+pub use Rattle.clean_link.specs.ReceivedLaws.{ReceivedAreTheOnlyBest, SetTwoAreTheOnlyBest, SignedFramesAreReceived}
+pub use Rattle.clean_link.specs.ReceivedLaws.{SignedSetTwoFramesComeBack}
+pub use Rattle.clean_link.specs.TrafficLaws.{SignedFramesAreDecoded, TrafficShowsSigns}

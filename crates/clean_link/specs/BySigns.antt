@@ -3,15 +3,15 @@
 use Rattle.std.specs.Prelude.{◌≡◌, ℕ, ◌*◌, true, All, List, [], filter}
 use Rattle.std.specs.Prelude.{length, map, None, Option, Some}
 use Rattle.std.specs.List.{Contains}
-use Rattle.clean_frames.specs.SentFrames.{is_received, received_frames, IsAssigned}
+use Rattle.clean_frames.specs.SentFrames.{is_received, received_frames}
 use Rattle.clean_frames.specs.WholeSendings.{told_with_sync}
 use Rattle.clean_link.specs.CleanLink.{sync_sent, IsNotDirected, IsOnPath}
-use Rattle.clean_link.specs.Common.{superframe_chips, CellPlan, PagingPlan, SyncPlan, TrafficPlan}
+use Rattle.clean_link.specs.Common.{superframe_chips, CellPlan, PagingPlan, TrafficPlan}
 use Rattle.clean_link.specs.Common.{Event, IsReceivable, Sample, Traffic, Tuning, Width, events}
 use Rattle.clean_link.specs.Common.{mark}
 use Rattle.clean_link.specs.HeardEach.{is_frame, is_message, is_page, is_sync, AreMessagesBehind}
 use Rattle.clean_link.specs.HeardEach.{FollowsOne, IsEventOf}
-use Rattle.clean_link.specs.SentEvents.{pages_after, sent_events, FollowsSent, signaling_sent}
+use Rattle.clean_link.specs.SentEvents.{pages_after, sent_events}
 use Rattle.clean_link.specs.SentSigns.{FromMark, HasSyncSigns, MarkIsAt, MarksAreAt}
 use Rattle.clean_link.specs.SentSigns.{PagingFrameHasSigns, TrafficFrameHasSigns}
 
@@ -67,21 +67,6 @@ ChannelsComeBackBySigns = (width : Width) (plan : CellPlan) (samples : List Samp
     IsOnPath plan t → MarkIsAt plan (mark t samples plan.link.samples) at →
     All IsNotDirected (events t samples) →
     HearsBySigns width plan samples at t.paging t.traffic (events t samples)
-
--- A handset follows no traffic channel, or one each of whose frames from the mark on has the sent
--- signs.
-abbrev pub FollowedHaveSigns : CellPlan → List Sample → Option Traffic → Type 0
-FollowedHaveSigns plan samples followed = (p : TrafficPlan) (traffic : Traffic) →
-    followed ≡ Some traffic → Contains plan.traffic p → IsAssigned p traffic →
-    FromMark (TrafficFrameHasSigns plan p samples) (told_with_sync plan plan.sync)
-
--- No handoff is directed where each of these frames is distinct too, and no message that the
--- channel is sent directs one.
-abbrev pub NoEventIsDirectedBySigns : Type 0
-NoEventIsDirectedBySigns = (width : Width) (plan : CellPlan) (samples : List Sample) (t : Tuning) →
-    HasSyncSigns width plan samples → IsOnPath plan t → FollowsSent plan t.traffic →
-    FollowedHaveSigns plan samples t.traffic → All IsNotDirected (signaling_sent plan t.traffic) →
-    All IsNotDirected (events t samples)
 
 -- Where no traffic channel is followed, and each frame of the sync channel, and from the mark on of
 -- the paging channel that is followed, has the sent signs, all that is heard is the pilot, the

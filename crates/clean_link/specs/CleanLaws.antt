@@ -1,6 +1,6 @@
--- What a clean link, and a link with bounded noise, gives back of a frame's own bits on any
--- channel, and then of the sync channel and of paging channels, the latter after a true mark with
--- the sync message's PRAT.
+-- What a file of any origin gives back, by the signs of its soft values, of a frame's own bits on
+-- any channel, and then of the sync channel and of paging channels, the latter after the cell's
+-- mark; what the soft values of a clean link are; and that bounded noise keeps their signs.
 use Rattle.std.specs.Prelude.{ℕ, ◌+◌, ◌<◌, ◌≡◌, true, false, nat_lt, length, replicate, pos}
 use Rattle.std.specs.Prelude.{is_some, None, Some, List, ◌*◌, ◌≤◌, ◌≢◌, All, Bool}
 use Rattle.std.specs.List.{flat_map, Contains}
@@ -8,33 +8,32 @@ use Rattle.clean_link.specs.Common.{places, signed, Width, made_samples, sync_fr
 use Rattle.clean_link.specs.Common.{sync_symbols, CellPlan, SyncPlan, mark, frame_own_bits}
 use Rattle.clean_link.specs.Common.{frame_softs, is_in_file, span_first, span_frames}
 use Rattle.clean_link.specs.Common.{sync_events_at, Tuning, sync_stream, Mark, IsReceivable, Sample}
-use Rattle.clean_link.specs.Common.{cycle_frame_bits, sent_paging_rate, cycle_of, IsStatedPaging}
+use Rattle.clean_link.specs.Common.{cycle_frame_bits, cycle_of}
 use Rattle.clean_link.specs.Common.{PagingPlan, paging_stream, Data, data_shape, sent, repeats_of}
 use Rattle.clean_link.specs.Common.{Cycle, IsFreeOf, continued_symbols, Carrier, carriers, Stream}
 use Rattle.rake_finger.specs.declared.form.Form.TheVariants.{Sync}
 use Rattle.clean_signal.specs.Signals.{IsOnlyBest, span_codeword, soft_strength, AreReadBy}
 use Rattle.clean_signal.specs.Signals.{IsHeardBy}
 use Rattle.clean_link.specs.CleanLink.{IsOnPath, IsTrueMark, sync_sent}
+use Rattle.clean_link.specs.SentSigns.{FrameHasSigns, HasSyncSigns, IsCellMark}
+use Rattle.clean_link.specs.SentSigns.{PagingFrameHasSigns}
 use Rattle.clean_frames.specs.WholeSendings.{first_sync_frame}
-use Rattle.clean_signal.specs.BoundedNoise.{Bears, IsNear, HoldsOfStreams}
+use Rattle.clean_signal.specs.BoundedNoise.{Bears, IsNear}
+use Rattle.clean_signal.specs.Common.{Form}
 use Rattle.clean_frames.specs.WholePages.{pages_of_channel}
 use Rattle.clean_link.specs.HeardPages.{pages_within}
 
 -- ---- any channel
 
--- The own bits of a frame of any stream that hears a sent channel are the ones that the channel
--- sends in it.
+-- The own bits of a frame of any stream that hears a channel and reads its bits are the ones that
+-- the channel sends in it, where each of the stream's frames has the sent signs.
 abbrev pub ChannelFramesComeBack : Type 0
-ChannelFramesComeBack = (width : Width) (plan : CellPlan) (c : Carrier) (s : Stream)
-    (bits_of : ℕ → List Bool) (base k : ℕ) →
-    IsReceivable width plan → Contains (carriers plan) c → 0 < c.gain → IsHeardBy plan c s base →
-    AreReadBy c s bits_of base → is_in_file plan.link.samples s k ≡ true →
-    frame_own_bits plan.link.samples (made_samples plan) s k ≡ bits_of (base + k)
-
--- So are those of any stream that hears a channel which bears the noise of a file.
-abbrev pub NoisyFramesComeBack : Type 0
-NoisyFramesComeBack = HoldsOfStreams (λ plan s bits_of base k samples.
-    frame_own_bits plan.link.samples samples s k ≡ bits_of (base + k))
+ChannelFramesComeBack = (plan : CellPlan) (c : Carrier) (s : Stream) (bits_of : ℕ → List Bool)
+    (base k : ℕ) (samples : List Sample) →
+    IsHeardBy plan c s base → AreReadBy c s bits_of base →
+    ((j : ℕ) → FrameHasSigns plan c s.form samples (base + j)) →
+    is_in_file plan.link.samples s k ≡ true →
+    frame_own_bits plan.link.samples samples s k ≡ bits_of (base + k)
 
 -- ---- the sync channel
 
@@ -56,53 +55,62 @@ AreZeroWithoutSync = (width : Width) (plan : CellPlan) (t : Tuning) (k : ℕ) �
     is_in_file t.count (sync_stream t) k ≡ true →
     frame_softs (made_samples plan) (sync_stream t) k ≡ replicate 128 (pos 0)
 
--- so a frame's own bits are the ones that were sent
+-- Where each frame has the sent signs, its own bits are the ones that were sent.
 abbrev pub FramesComeBack : Type 0
-FramesComeBack = (width : Width) (plan : CellPlan) (sync : SyncPlan) (t : Tuning) (k : ℕ) →
-    IsReceivable width plan → plan.sync ≡ Some sync → IsOnPath plan t →
-    is_in_file t.count (sync_stream t) k ≡ true →
-    frame_own_bits t.count (made_samples plan) (sync_stream t) k ≡
+FramesComeBack = (width : Width) (plan : CellPlan) (samples : List Sample) (sync : SyncPlan)
+    (t : Tuning) (k : ℕ) → HasSyncSigns width plan samples → plan.sync ≡ Some sync →
+    IsOnPath plan t → is_in_file t.count (sync_stream t) k ≡ true →
+    frame_own_bits t.count samples (sync_stream t) k ≡
     sync_frame_bits plan.cell sync.message (first_sync_frame plan + k)
 
 -- And the codeword that was sent in the frame's span, with the bits before it, is the only one of
 -- greatest score.
 abbrev pub SentCodewordsAreTheOnlyBest : Type 0
-SentCodewordsAreTheOnlyBest =
-    (width : Width) (plan : CellPlan) (sync : SyncPlan) (t : Tuning) (k : ℕ) →
-    IsReceivable width plan → plan.sync ≡ Some sync → IsOnPath plan t →
-    is_in_file t.count (sync_stream t) k ≡ true →
-    IsOnlyBest t.count (made_samples plan) (sync_stream t) k
+SentCodewordsAreTheOnlyBest = (width : Width) (plan : CellPlan) (samples : List Sample)
+    (sync : SyncPlan) (t : Tuning) (k : ℕ) → HasSyncSigns width plan samples →
+    plan.sync ≡ Some sync → IsOnPath plan t → is_in_file t.count (sync_stream t) k ≡ true →
+    IsOnlyBest t.count samples (sync_stream t) k
     (span_codeword (sync_frame_bits plan.cell sync.message)
     (first_sync_frame plan + span_first t.count (sync_stream t) k)
     (span_frames t.count (sync_stream t) k))
 
 -- without a sync channel a frame's bits are zeros
 abbrev pub FramesAreZeros : Type 0
-FramesAreZeros = (width : Width) (plan : CellPlan) (t : Tuning) (k : ℕ) →
-    IsReceivable width plan → plan.sync ≡ None → IsOnPath plan t →
+FramesAreZeros = (width : Width) (plan : CellPlan) (samples : List Sample) (t : Tuning) (k : ℕ) →
+    HasSyncSigns width plan samples → plan.sync ≡ None → IsOnPath plan t →
     is_in_file t.count (sync_stream t) k ≡ true →
-    frame_own_bits t.count (made_samples plan) (sync_stream t) k ≡ replicate 32 false
+    frame_own_bits t.count samples (sync_stream t) k ≡ replicate 32 false
 
 -- on the sync channel a handset hears the whole transmissions, each with its message, in order, and
 -- nothing else
 abbrev pub WholeSendingsComeBack : Type 0
-WholeSendingsComeBack = (width : Width) (plan : CellPlan) (t : Tuning) →
-    IsReceivable width plan → IsOnPath plan t →
-    flat_map (sync_events_at t (made_samples plan)) (places (plan.link.samples + 1)) ≡
-    sync_sent plan
+WholeSendingsComeBack = (width : Width) (plan : CellPlan) (samples : List Sample) (t : Tuning) →
+    HasSyncSigns width plan samples → IsOnPath plan t →
+    flat_map (sync_events_at t samples) (places (plan.link.samples + 1)) ≡ sync_sent plan
 
 -- the mark, within any of the samples, has the cell's time and long code
 abbrev pub MarksAreTrue : Type 0
-MarksAreTrue = (width : Width) (plan : CellPlan) (t : Tuning) (n : ℕ) (m : Mark) →
-    IsReceivable width plan → IsOnPath plan t → mark t (made_samples plan) n ≡ Some m →
+MarksAreTrue = (width : Width) (plan : CellPlan) (samples : List Sample) (t : Tuning) (n : ℕ)
+    (m : Mark) → HasSyncSigns width plan samples → IsOnPath plan t → mark t samples n ≡ Some m →
     (superframes : ℕ) × IsTrueMark plan m superframes
 
 -- there is one in the file just where a transmission is whole
 abbrev pub IsMarkedWhereHeard : Type 0
-IsMarkedWhereHeard = (width : Width) (plan : CellPlan) (t : Tuning) →
-    IsReceivable width plan → IsOnPath plan t →
-    is_some (mark t (made_samples plan) plan.link.samples) ≡
-    nat_lt 0 (length (sync_sent plan))
+IsMarkedWhereHeard = (width : Width) (plan : CellPlan) (samples : List Sample) (t : Tuning) →
+    HasSyncSigns width plan samples → IsOnPath plan t →
+    is_some (mark t samples plan.link.samples) ≡ nat_lt 0 (length (sync_sent plan))
+
+-- it has the sync message's PRAT
+abbrev pub MarksTellTheRate : Type 0
+MarksTellTheRate = (width : Width) (plan : CellPlan) (samples : List Sample) (sync : SyncPlan)
+    (t : Tuning) (n : ℕ) (m : Mark) → HasSyncSigns width plan samples → plan.sync ≡ Some sync →
+    IsOnPath plan t → mark t samples n ≡ Some m → m.prat ≡ sync.message.prat
+
+-- and without a sync channel there is none
+abbrev pub UnmarkedWithoutSync : Type 0
+UnmarkedWithoutSync = (width : Width) (plan : CellPlan) (samples : List Sample) (t : Tuning)
+    (n : ℕ) → HasSyncSigns width plan samples → plan.sync ≡ None → IsOnPath plan t →
+    mark t samples n ≡ None
 
 -- ---- samples from which sync frames come back
 
@@ -119,7 +127,14 @@ pub record ShowsSync (width : Width) (plan : CellPlan) (samples : List Sample) :
       is_in_file t.count (sync_stream t) k ≡ true →
       frame_own_bits t.count samples (sync_stream t) k ≡ replicate 32 false
 
--- ---- the sync channel through noise
+-- ---- noise keeps the signs
+
+-- Each frame of a channel that bears the noise of a file has the sent signs.
+abbrev pub NearChannelsHaveSigns : Type 0
+NearChannelsHaveSigns = (width : Width) (plan : CellPlan) (c : Carrier) (form : Form) (e : ℕ)
+    (samples : List Sample) (frame : ℕ) → IsReceivable width plan →
+    Contains (carriers plan) c → IsNear e samples (made_samples plan) → Bears plan c.gain e →
+    FrameHasSigns plan c form samples frame
 
 -- A file's samples are near, within e, to those of a cell that can be received and sends a sync
 -- channel, and the sync channel bears noise of that size.
@@ -130,52 +145,16 @@ pub record HearsSentSync (width : Width) (plan : CellPlan) (sync : SyncPlan) (e 
   pub near : IsNear e samples (made_samples plan)
   pub bears : Bears plan sync.gain e
 
--- A handset with one finger on the cell's path hears of the sync channel the whole transmissions,
--- each with its message, in order, and nothing else.
-abbrev pub NoisySendingsComeBack : Type 0
-NoisySendingsComeBack = (width : Width) (plan : CellPlan) (sync : SyncPlan) (e : ℕ)
-    (samples : List Sample) (t : Tuning) → HearsSentSync width plan sync e samples →
-    IsOnPath plan t →
-    flat_map (sync_events_at t samples) (places (plan.link.samples + 1)) ≡ sync_sent plan
+-- So do those of its sync channel,
+abbrev pub NearSyncHasSigns : Type 0
+NearSyncHasSigns = (width : Width) (plan : CellPlan) (sync : SyncPlan) (e : ℕ)
+    (samples : List Sample) → HearsSentSync width plan sync e samples →
+    HasSyncSigns width plan samples
 
--- A mark has the system time and the long code's state that the cell has at its sample, and the
--- sync message's PRAT.
-abbrev pub NoisyMarksAreTrue : Type 0
-NoisyMarksAreTrue = (width : Width) (plan : CellPlan) (sync : SyncPlan) (e : ℕ)
-    (samples : List Sample) (t : Tuning) (n : ℕ) (m : Mark) →
-    HearsSentSync width plan sync e samples → IsOnPath plan t → mark t samples n ≡ Some m →
-    ((superframes : ℕ) × IsTrueMark plan m superframes) × (m.prat ≡ sync.message.prat)
-
--- There is a mark in the file just where a transmission is whole.
-abbrev pub NoisyIsMarkedWhereHeard : Type 0
-NoisyIsMarkedWhereHeard = (width : Width) (plan : CellPlan) (sync : SyncPlan) (e : ℕ)
-    (samples : List Sample) (t : Tuning) → HearsSentSync width plan sync e samples →
-    IsOnPath plan t →
-    is_some (mark t samples plan.link.samples) ≡ nat_lt 0 (length (sync_sent plan))
-
--- ---- a paging channel that bears the noise, after a true mark
-
--- The bits of each frame in the file are the ones that the channel sends in it.
-abbrev pub NoisyPagingFramesComeBack : Type 0
-NoisyPagingFramesComeBack = (width : Width) (plan : CellPlan) (sync : SyncPlan) (p : PagingPlan)
-    (t : Tuning) (m : Mark) (superframes k e : ℕ) (samples : List Sample) →
-    IsReceivable width plan → plan.sync ≡ Some sync → Contains plan.paging p → IsOnPath plan t →
-    IsTrueMark plan m superframes → m.prat ≡ sync.message.prat →
-    is_in_file t.count (paging_stream t p.number m) k ≡ true →
-    IsNear e samples (made_samples plan) → Bears plan p.gain e →
-    frame_own_bits t.count samples (paging_stream t p.number m) k ≡
-    cycle_frame_bits (cycle_of plan p) (4 * superframes + k)
-
--- A handset hears of the channel the whole pages, in order, and nothing else.
-abbrev pub NoisyPagesComeBack : Type 0
-NoisyPagesComeBack = (width : Width) (plan : CellPlan) (sync : SyncPlan) (p : PagingPlan)
-    (t : Tuning) (m : Mark) (superframes e : ℕ) (samples : List Sample) →
-    IsReceivable width plan → Contains plan.paging p →
-    IsStatedPaging (sent_paging_rate plan.sync) p →
-    IsOnPath plan t → plan.sync ≡ Some sync → m.prat ≡ sync.message.prat → m.prat < 2 →
-    IsTrueMark plan m superframes → IsNear e samples (made_samples plan) → Bears plan p.gain e →
-    pages_within t p.number (Some m) samples plan.link.samples ≡
-    pages_of_channel plan p (plan.link.start + m.sample)
+-- and those of a clean link, where the sync channel's row is silent if the cell sends none.
+abbrev pub CleanSyncHasSigns : Type 0
+CleanSyncHasSigns = (width : Width) (plan : CellPlan) → IsReceivable width plan →
+    HasSyncSigns width plan (made_samples plan)
 
 -- ---- channels that are sent
 
@@ -184,39 +163,52 @@ abbrev pub ordered_symbols : Cycle → ℕ → List Bool
 ordered_symbols c frame =
     sent data_shape (repeats_of c.rate) (continued_symbols (cycle_frame_bits c) frame)
 
--- Something holds of frame k after a true mark of a paging channel that is sent, where the frame
--- lies in the file.
-abbrev pub HoldsOfPaging : (CellPlan → PagingPlan → Tuning → Mark → ℕ → ℕ → Type 0) → Type 0
-HoldsOfPaging P = (width : Width) (plan : CellPlan) (sync : SyncPlan) (p : PagingPlan) (t : Tuning)
-    (m : Mark) (superframes k : ℕ) →
+-- Frame k after a true mark is the frame that the channel sends k frames after the mark's
+-- superframe, of which each has four. On a clean link its soft values are one positive number times
+-- the signs of the symbols before scrambling.
+abbrev pub PagingHaveSentSigns : Type 0
+PagingHaveSentSigns = (width : Width) (plan : CellPlan) (sync : SyncPlan) (p : PagingPlan)
+    (t : Tuning) (m : Mark) (superframes k : ℕ) →
     IsReceivable width plan → plan.sync ≡ Some sync → Contains plan.paging p → IsOnPath plan t →
     IsTrueMark plan m superframes → m.prat ≡ sync.message.prat →
-    is_in_file t.count (paging_stream t p.number m) k ≡ true → P plan p t m superframes k
-
--- Frame k after the mark is the frame that the channel sends k frames after the mark's
--- superframe, of which each has four. Its soft values are one positive number times the signs of
--- the symbols before scrambling.
-abbrev pub PagingHaveSentSigns : Type 0
-PagingHaveSentSigns = HoldsOfPaging (λ plan p t m superframes k.
+    is_in_file t.count (paging_stream t p.number m) k ≡ true →
     (0 < soft_strength plan Data p.gain)
     × (frame_softs (made_samples plan) (paging_stream t p.number m) k ≡
     signed (soft_strength plan Data p.gain)
-    (ordered_symbols (cycle_of plan p) (4 * superframes + k))))
+    (ordered_symbols (cycle_of plan p) (4 * superframes + k)))
 
--- so its own bits are the ones that were sent
+-- Something holds of frame k after the cell's mark of a paging channel, where each frame from there
+-- on has the sent signs.
+abbrev pub HoldsOfPaging : (CellPlan → PagingPlan → Tuning → Mark → ℕ → ℕ → List Sample →
+    Type 0) → Type 0
+HoldsOfPaging P = (plan : CellPlan) (p : PagingPlan) (t : Tuning) (m : Mark) (superframes k : ℕ)
+    (samples : List Sample) → IsOnPath plan t → IsCellMark plan m superframes →
+    ((j : ℕ) → PagingFrameHasSigns plan p samples (4 * superframes + j)) →
+    is_in_file t.count (paging_stream t p.number m) k ≡ true → P plan p t m superframes k samples
+
+-- Its own bits are the ones that were sent.
 abbrev pub PagingFramesComeBack : Type 0
-PagingFramesComeBack = HoldsOfPaging (λ plan p t m superframes k.
-    frame_own_bits t.count (made_samples plan) (paging_stream t p.number m) k ≡
+PagingFramesComeBack = HoldsOfPaging (λ plan p t m superframes k samples.
+    frame_own_bits t.count samples (paging_stream t p.number m) k ≡
     cycle_frame_bits (cycle_of plan p) (4 * superframes + k))
 
 -- And the codeword that was sent in the frame's span, with the bits before it, is the only one of
 -- greatest score.
 abbrev pub PagingCodewordsAreTheOnlyBest : Type 0
-PagingCodewordsAreTheOnlyBest = HoldsOfPaging (λ plan p t m superframes k.
-    IsOnlyBest t.count (made_samples plan) (paging_stream t p.number m) k
+PagingCodewordsAreTheOnlyBest = HoldsOfPaging (λ plan p t m superframes k samples.
+    IsOnlyBest t.count samples (paging_stream t p.number m) k
     (span_codeword (cycle_frame_bits (cycle_of plan p))
     (4 * superframes + span_first t.count (paging_stream t p.number m) k)
     (span_frames t.count (paging_stream t p.number m) k)))
+
+-- So a handset hears of the channel the whole pages, in order, and nothing else.
+abbrev pub SignedPagesComeBack : Type 0
+SignedPagesComeBack = (width : Width) (plan : CellPlan) (p : PagingPlan) (t : Tuning) (m : Mark)
+    (superframes : ℕ) (samples : List Sample) → IsReceivable width plan → Contains plan.paging p →
+    IsOnPath plan t → IsCellMark plan m superframes → m.prat < 2 →
+    ((k : ℕ) → PagingFrameHasSigns plan p samples (4 * superframes + k)) →
+    pages_within t p.number (Some m) samples plan.link.samples ≡
+    pages_of_channel plan p (plan.link.start + m.sample)
 
 -- ---- channels that are not
 
@@ -241,18 +233,3 @@ SilentPagingFramesAreZeros = (width : Width) (plan : CellPlan) (t : Tuning) (m :
     IsTrueMark plan m superframes → is_in_file t.count (paging_stream t channel m) k ≡ true →
     frame_own_bits t.count (made_samples plan) (paging_stream t channel m) k ≡
     replicate (paging_stream t channel m).channel.bits false
-
--- ---- the mark
-
--- a mark of the samples has the sync message's PRAT
-abbrev pub MarksTellTheRate : Type 0
-MarksTellTheRate = (width : Width) (plan : CellPlan) (sync : SyncPlan) (t : Tuning) (n : ℕ)
-    (m : Mark) →
-    IsReceivable width plan → plan.sync ≡ Some sync → IsOnPath plan t →
-    mark t (made_samples plan) n ≡ Some m → m.prat ≡ sync.message.prat
-
--- and without a sync channel there is none
-abbrev pub UnmarkedWithoutSync : Type 0
-UnmarkedWithoutSync = (width : Width) (plan : CellPlan) (t : Tuning) (n : ℕ) →
-    IsReceivable width plan → plan.sync ≡ None → IsOnPath plan t →
-    mark t (made_samples plan) n ≡ None

@@ -6,17 +6,16 @@ use Rattle.std.specs.List.{Contains}
 use Rattle.clean_link.specs.Common.{superframe_chips, Width, Decoded, IsFreeOf, made_samples}
 use Rattle.clean_link.specs.Common.{frames_of, cycled_frame, CellPlan, PagingPlan, TrafficPlan}
 use Rattle.clean_link.specs.Common.{SetOneFrame, events, frame_event, Tuning, Event, Frame, Paging}
-use Rattle.clean_link.specs.Common.{Sync, Traffic, IsReceivable, Sample, SyncPlan}
+use Rattle.clean_link.specs.Common.{Sync, Traffic, IsReceivable}
 use Rattle.heard_events.specs.declared.event.Event.TheVariants.{Traffic as OnTraffic}
 use Rattle.clean_link.specs.CleanLink.{IsNotDirected, IsOnPath, sync_sent}
 use Rattle.clean_frames.specs.SentFrames.{frame_ends, is_received, received_frames, replaced_of}
 use Rattle.clean_frames.specs.SentFrames.{sent_power_bits, AreDistinct, IsAssigned, IsDistinctFrame}
 use Rattle.clean_frames.specs.SentFrames.{SendsSetOne}
 use Rattle.clean_link.specs.HeardFrames.{sent_frame_event, messages_of_channel}
-use Rattle.clean_link.specs.SentEvents.{paging_sent, FollowsSent, signaling_sent}
+use Rattle.clean_link.specs.SentEvents.{paging_sent}
 use Rattle.clean_frames.specs.WholeSendings.{told_with_sync}
 use Rattle.clean_signal.specs.BoundedNoise.{Bears}
-use Rattle.clean_link.specs.CleanLaws.{HearsSentSync}
 
 -- ---- events of a kind
 
@@ -128,24 +127,3 @@ pub record HearsBearing (plan : CellPlan) (e paging : ℕ) (followed : Option Tr
       AreFramesBehind plan p (told_with_sync plan plan.sync) (filter is_frame heard)
   pub messages : (p : TrafficPlan) → FollowsOne plan followed p → Bears plan p.gain e →
       AreMessagesBehind plan p (told_with_sync plan plan.sync) (filter is_message heard)
-
--- So it is with a handset that has one finger on the cell's path, where the sync channel bears the
--- noise and no handoff is directed.
-abbrev pub NoisyEachChannelComesBack : Type 0
-NoisyEachChannelComesBack = (width : Width) (plan : CellPlan) (sync : SyncPlan) (e : ℕ)
-    (samples : List Sample) (t : Tuning) → HearsSentSync width plan sync e samples →
-    IsOnPath plan t →
-    All IsNotDirected (events t samples) →
-    HearsBearing plan e t.paging t.traffic (events t samples)
-
--- No handoff is directed where each frame from the mark on of the channel that is followed is
--- distinct, the channel bears the noise, and no message that it is sent directs one. None is
--- directed where no channel is followed.
-abbrev pub NoEventIsDirectedByNoise : Type 0
-NoEventIsDirectedByNoise = (width : Width) (plan : CellPlan) (sync : SyncPlan) (e : ℕ)
-    (samples : List Sample) (t : Tuning) → HearsSentSync width plan sync e samples →
-    IsOnPath plan t →
-    FollowsSent plan t.traffic →
-    ((p : TrafficPlan) (traffic : Traffic) → t.traffic ≡ Some traffic → Contains plan.traffic p →
-    IsAssigned p traffic → Bears plan p.gain e) →
-    All IsNotDirected (signaling_sent plan t.traffic) → All IsNotDirected (events t samples)

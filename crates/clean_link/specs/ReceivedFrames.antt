@@ -10,7 +10,6 @@ use Rattle.cell_plan.specs.TrafficFrames.{frames_in_turn}
 use Rattle.clean_signal.specs.Signals.{soft_strength}
 use Rattle.clean_frames.specs.SentFrames.{frame_ends, is_received, received_frames, replaced_of}
 use Rattle.clean_frames.specs.SentFrames.{sent_bits, ShowFrame}
-use Rattle.clean_frames.specs.WholeSendings.{told_with_sync}
 
 -- ---- any frame
 
@@ -72,7 +71,3 @@ pub record AreReceivedFrom (plan : CellPlan) (p : TrafficPlan) (at : Option ℕ)
   pub each : frames ≡ map soft (received_frames plan p (superframe_chips * superframes))
   pub are : (frame : ℕ) → is_received plan p (superframe_chips * superframes) frame ≡ true →
       Is frame (soft frame)
-
--- of the mark that the first whole transmission tells
-abbrev pub AreReceived : CellPlan → TrafficPlan → (ℕ → SoftFrame → Type 0) → List SoftFrame → Type 0
-AreReceived plan p = AreReceivedFrom plan p (told_with_sync plan plan.sync)

@@ -1,24 +1,26 @@
--- What a clean link gives back of a traffic channel of either rate set, whose frames are received
--- of the reference base station alone.
+-- What a file of any origin gives back of a traffic channel of either rate set, whose frames are
+-- received of the reference base station alone.
 use Rattle.std.specs.Prelude.{ℕ, ◌+◌, ◌-◌, ◌*◌, ◌≡◌, true, Bool, List, [], ◌∷◌, length, map, Some}
-use Rattle.std.specs.Prelude.{ℤ}
+use Rattle.std.specs.Prelude.{ℤ, Option}
 use Rattle.std.specs.List.{Contains}
 use Rattle.clean_link.specs.Common.{IsSetTwoFrame, SetTwoFrame, traffic_channel}
 use Rattle.clean_link.specs.Common.{SetOneFrame, Width, cycled_frame, made_samples}
 use Rattle.clean_link.specs.Common.{IsReceivable, TrafficPlan, good_frame2, soft_frame, soft_frames}
-use Rattle.clean_link.specs.Common.{CellPlan, Decoded2, SoftFrame, SyncPlan, decoded2, frames_of}
-use Rattle.clean_link.specs.Common.{Data, Mark, Sample, Traffic, Tuning, mark, raw_at}
+use Rattle.clean_link.specs.Common.{CellPlan, Decoded2, SoftFrame, decoded2, frames_of}
+use Rattle.clean_link.specs.Common.{Data, Mark, Sample, Traffic, Tuning, raw_at}
 use Rattle.clean_link.specs.CleanLink.{IsOnPath}
 use Rattle.clean_signal.specs.Signals.{soft_strength}
 use Rattle.clean_frames.specs.SentFrames.{is_received, received_frames, codeword_symbols}
 use Rattle.clean_frames.specs.SentFrames.{IsAssigned, replaced_of, SendsSetTwo, SendsSymbols}
 use Rattle.clean_frames.specs.SentFrames.{ShowPowerBits}
 use Rattle.clean_link.specs.ReceivedFrames.{IsDistinctFrame2, codeword_symbols2, cycled_frame2}
-use Rattle.clean_link.specs.ReceivedFrames.{AreReceived, IsReceived, IsReceivedAs, IsSentFrame2}
-use Rattle.clean_link.specs.TrafficLaws.{HavePowerSigns, SetOneIsTheOnlyBest, SetTwoIsTheOnlyBest}
-use Rattle.clean_link.specs.TrafficLaws.{HearsSentTraffic, HoldsOfBearing, NoisyFrame}
-use Rattle.clean_signal.specs.BoundedNoise.{Bears}
-use Rattle.clean_link.specs.CleanLaws.{HearsSentSync}
+use Rattle.clean_link.specs.ReceivedFrames.{AreReceivedFrom, IsReceived, IsReceivedAs, IsSentFrame2}
+use Rattle.clean_link.specs.SentSigns.{MarkIsAt, TrafficFrameHasSigns}
+use Rattle.clean_link.specs.TrafficLaws.{HavePowerSigns, HearsSentTraffic, IsOnlyBestFrame}
+use Rattle.clean_link.specs.TrafficLaws.{IsOnlyBestFrame2, NoisyFrame}
+use Rattle.clean_link.specs.Common.{IsSetOneFrame, frame_codeword}
+use Rattle.clean_frames.specs.SentFrames.{IsDistinctFrame}
+use Rattle.rate_set_two.specs.TrafficFrames.{frame_codeword2}
 
 -- ---- what is sent
 
@@ -73,32 +75,6 @@ SetTwoFramesComeBack = (plan : CellPlan) (p : TrafficPlan) (frame : ℕ) (f : Se
     IsReceivedAs plan p frame (codeword_symbols2 f) f.power_bits soft →
     IsSentFrame2 plan p frame f soft
 
--- ---- in a file
-
--- After the mark of a file's samples just the channel's frames are received that begin there or
--- later and lie in the file, in order, and each shows what it sends.
-abbrev pub FramesBehindMark : Type 0
-FramesBehindMark = (width : Width) (plan : CellPlan) (p : TrafficPlan) (t : Tuning)
-    (traffic : Traffic) (m : Mark) →
-    IsReceivable width plan → IsOnPath plan t → Contains plan.traffic p → IsAssigned p traffic →
-    mark t (made_samples plan) (length (made_samples plan)) ≡ Some m →
-    AreReceived plan p
-    (λ frame soft. (symbols power_bits : List Bool) → SendsSymbols plan p frame symbols power_bits →
-    IsReceivedAs plan p frame symbols power_bits soft)
-    (soft_frames t (traffic_channel traffic) m (made_samples plan))
-
--- Where the channel's frames are of rate set 2, each of them is one that was sent, with its power
--- control bits, and with its rate and its information bits, as a good frame, where it is distinct.
-abbrev pub SetTwoBehindMark : Type 0
-SetTwoBehindMark = (width : Width) (plan : CellPlan) (p : TrafficPlan) (t : Tuning)
-    (traffic : Traffic) (m : Mark) →
-    IsReceivable width plan → IsOnPath plan t → Contains plan.traffic p → IsAssigned p traffic →
-    SendsSetTwo p → mark t (made_samples plan) (length (made_samples plan)) ≡ Some m →
-    AreReceived plan p
-    (λ frame soft. (f : SetTwoFrame) × (cycled_frame2 (frames_of plan p) frame ≡ f ∷ [])
-    × IsSentFrame2 plan p frame f soft)
-    (soft_frames t (traffic_channel traffic) m (made_samples plan))
-
 -- ---- any frame
 
 -- What is received of frame `frame` of a channel, where it sends these symbols and these power
@@ -109,28 +85,42 @@ abbrev pub IsReceivedBySigns : CellPlan → TrafficPlan → ℕ → List Bool �
 IsReceivedBySigns plan p frame symbols power_bits soft = IsReceived plan p frame power_bits
     (NoisyFrame (replaced_of plan p frame) symbols) soft
 
--- Each frame of a channel that bears the noise is received so, from the mark on, whatever it sends.
--- At the places that its power control bits replace, its raw soft values have their signs.
-abbrev pub NoisyFramesAreReceived : Type 0
-NoisyFramesAreReceived = HoldsOfBearing (λ plan p t traffic m superframes samples.
-    (frame : ℕ) (symbols power_bits : List Bool) →
+-- Each frame with the sent signs is received so, from the mark on, whatever it sends and whatever
+-- the other frames are. At the places that its power control bits replace, its raw soft values have
+-- their signs.
+abbrev pub SignedFramesAreReceived : Type 0
+SignedFramesAreReceived = (width : Width) (plan : CellPlan) (p : TrafficPlan) (t : Tuning)
+    (traffic : Traffic) (m : Mark) (superframes frame : ℕ) (samples : List Sample)
+    (symbols power_bits : List Bool) →
+    HearsSentTraffic width plan p t traffic m superframes →
+    TrafficFrameHasSigns plan p samples frame →
     is_received plan p (plan.link.start + m.sample) frame ≡ true →
     SendsSymbols plan p frame symbols power_bits →
     IsReceivedBySigns plan p frame symbols power_bits
     (soft_frame t (traffic_channel traffic) m samples (frame - 4 * superframes))
     × HavePowerSigns (replaced_of plan p frame) power_bits
-    (raw_at t (traffic_channel traffic) m samples (frame - 4 * superframes)))
+    (raw_at t (traffic_channel traffic) m samples (frame - 4 * superframes))
 
--- So of all codewords of every rate the one that a distinct frame of rate set 1 sends alone has the
+-- Of all codewords of every rate the one that a distinct frame of rate set 1 sends alone has the
 -- greatest score,
-abbrev pub NoisyReceivedAreTheOnlyBest : Type 0
-NoisyReceivedAreTheOnlyBest = SetOneIsTheOnlyBest IsReceivedBySigns
+abbrev pub ReceivedAreTheOnlyBest : Type 0
+ReceivedAreTheOnlyBest = (plan : CellPlan) (p : TrafficPlan) (frame : ℕ) (f : SetOneFrame)
+    (soft : SoftFrame) → IsSetOneFrame f →
+    IsReceivedBySigns plan p frame (codeword_symbols f) f.power_bits soft →
+    IsDistinctFrame (replaced_of plan p frame) f →
+    IsOnlyBestFrame (replaced_of plan p frame) soft.descrambled f.rate
+    (frame_codeword f.rate f.information)
 
 -- ---- frames of rate set 2
 
 -- and so has the one that a distinct frame of rate set 2 sends.
-abbrev pub NoisySetTwoAreTheOnlyBest : Type 0
-NoisySetTwoAreTheOnlyBest = SetTwoIsTheOnlyBest IsReceivedBySigns
+abbrev pub SetTwoAreTheOnlyBest : Type 0
+SetTwoAreTheOnlyBest = (plan : CellPlan) (p : TrafficPlan) (frame : ℕ) (f : SetTwoFrame)
+    (soft : SoftFrame) → IsSetTwoFrame f →
+    IsReceivedBySigns plan p frame (codeword_symbols2 f) f.power_bits soft →
+    IsDistinctFrame2 (replaced_of plan p frame) f →
+    IsOnlyBestFrame2 (replaced_of plan p frame) soft.descrambled f.rate
+    (frame_codeword2 f.rate f.information)
 
 -- What is decoded of a frame that comes back: its rate and its information bits, as a good frame,
 -- with any score.
@@ -146,35 +136,38 @@ pub record IsSentFrame2BySigns (plan : CellPlan) (p : TrafficPlan) (frame : ℕ)
       IsDecodedAs2 f (decoded2 (replaced_of plan p frame) soft.descrambled)
 
 -- A frame of rate set 2 that is received by the signs of its symbols comes back.
-abbrev pub NoisySetTwoFramesComeBack : Type 0
-NoisySetTwoFramesComeBack = (plan : CellPlan) (p : TrafficPlan) (frame : ℕ) (f : SetTwoFrame)
+abbrev pub SignedSetTwoFramesComeBack : Type 0
+SignedSetTwoFramesComeBack = (plan : CellPlan) (p : TrafficPlan) (frame : ℕ) (f : SetTwoFrame)
     (soft : SoftFrame) → IsSetTwoFrame f →
     IsReceivedBySigns plan p frame (codeword_symbols2 f) f.power_bits soft →
     IsSentFrame2BySigns plan p frame f soft
 
 -- ---- in a file
 
--- What holds of the frames that are received from the mark on, of near samples, where the sync
--- channel and the traffic channel bear the noise.
-abbrev pub HoldsBehindMark : (CellPlan → TrafficPlan → List SoftFrame → Type 0) → Type 0
-HoldsBehindMark P = (width : Width) (plan : CellPlan) (sync : SyncPlan) (p : TrafficPlan) (e : ℕ)
-    (samples : List Sample) (t : Tuning) (traffic : Traffic) (m : Mark) →
-    HearsSentSync width plan sync e samples → Bears plan p.gain e → IsOnPath plan t →
-    Contains plan.traffic p → IsAssigned p traffic → mark t samples (length samples) ≡ Some m →
-    P plan p (soft_frames t (traffic_channel traffic) m samples)
+-- What holds of the frames that are received from the cell's mark on, in a file as long as the
+-- cell's.
+abbrev pub HoldsBehindMark : (CellPlan → TrafficPlan → Option ℕ → List Sample → List SoftFrame →
+    Type 0) → Type 0
+HoldsBehindMark P = (width : Width) (plan : CellPlan) (p : TrafficPlan) (t : Tuning)
+    (traffic : Traffic) (m : Mark) (at : Option ℕ) (samples : List Sample) →
+    IsReceivable width plan → length samples ≡ plan.link.samples → IsOnPath plan t →
+    Contains plan.traffic p → IsAssigned p traffic → MarkIsAt plan (Some m) at →
+    P plan p at samples (soft_frames t (traffic_channel traffic) m samples)
 
 -- They are just the channel's frames that begin there or later and lie in the file, in order, and
--- each shows what it sends by its signs.
-abbrev pub NoisyFramesBehindMark : Type 0
-NoisyFramesBehindMark = HoldsBehindMark (λ plan p frames.
-    AreReceived plan p
-    (λ frame soft. (symbols power_bits : List Bool) → SendsSymbols plan p frame symbols power_bits →
+-- each with the sent signs shows what it sends.
+abbrev pub FramesBehindMark : Type 0
+FramesBehindMark = HoldsBehindMark (λ plan p at samples frames.
+    AreReceivedFrom plan p at
+    (λ frame soft. TrafficFrameHasSigns plan p samples frame → (symbols power_bits : List Bool) →
+    SendsSymbols plan p frame symbols power_bits →
     IsReceivedBySigns plan p frame symbols power_bits soft) frames)
 
--- Where the channel's frames are of rate set 2, each is one that was sent, with its power control
--- bits, and with its rate and its information bits, as a good frame, where it is distinct.
-abbrev pub NoisySetTwoBehindMark : Type 0
-NoisySetTwoBehindMark = HoldsBehindMark (λ plan p frames. SendsSetTwo p →
-    AreReceived plan p
-    (λ frame soft. (f : SetTwoFrame) × (cycled_frame2 (frames_of plan p) frame ≡ f ∷ [])
+-- Where the channel's frames are of rate set 2, each of those is one that was sent, with its power
+-- control bits, and with its rate and its information bits, as a good frame, where it is distinct.
+abbrev pub SetTwoBehindMark : Type 0
+SetTwoBehindMark = HoldsBehindMark (λ plan p at samples frames. SendsSetTwo p →
+    AreReceivedFrom plan p at
+    (λ frame soft. TrafficFrameHasSigns plan p samples frame → (f : SetTwoFrame)
+    × (cycled_frame2 (frames_of plan p) frame ≡ f ∷ [])
     × IsSentFrame2BySigns plan p frame f soft) frames)

@@ -9,6 +9,7 @@ use Rattle.clean_link.specs.Common.{messages_at, sets_at, page_event, pages_behi
 use Rattle.clean_link.specs.CleanLink.{sync_sent, IsNotDirected, IsOnPath, IsTunedToPlan, tuning_to}
 use Rattle.clean_frames.specs.WholeSendings.{told_with_sync}
 use Rattle.clean_link.specs.HeardFrames.{frames_sent, messages_sent}
+use Rattle.clean_link.specs.SentSigns.{FromMark, HasSyncSigns, TrafficFrameHasSigns}
 use Rattle.clean_frames.specs.SentFrames.{AreDistinct, IsAssigned, SendsSetOne}
 use Rattle.clean_frames.specs.WholePages.{KnownPage, pages_sent}
 
@@ -121,13 +122,20 @@ sent_events plan energy channel followed =
 
 -- ---- the laws
 
+-- A handset follows no traffic channel, or one each of whose frames from the mark on has the sent
+-- signs.
+abbrev pub FollowedHaveSigns : CellPlan → List Sample → Option Traffic → Type 0
+FollowedHaveSigns plan samples followed = (p : TrafficPlan) (traffic : Traffic) →
+    followed ≡ Some traffic → Contains plan.traffic p → IsAssigned p traffic →
+    FromMark (TrafficFrameHasSigns plan p samples) (told_with_sync plan plan.sync)
+
 -- No event directs a handoff where none of the messages does that the followed channel is sent, so
 -- where no channel is followed.
 abbrev pub NoEventIsDirected : Type 0
-NoEventIsDirected = (width : Width) (plan : CellPlan) (t : Tuning) →
-    IsReceivable width plan → IsOnPath plan t → FollowsSent plan t.traffic →
-    All IsNotDirected (signaling_sent plan t.traffic) →
-    All IsNotDirected (events t (made_samples plan))
+NoEventIsDirected = (width : Width) (plan : CellPlan) (samples : List Sample) (t : Tuning) →
+    HasSyncSigns width plan samples → IsOnPath plan t → FollowsSent plan t.traffic →
+    FollowedHaveSigns plan samples t.traffic → All IsNotDirected (signaling_sent plan t.traffic) →
+    All IsNotDirected (events t samples)
 
 -- Where no handoff is directed, a handset hears just these, in this order.
 abbrev pub WholeMessagesComeBack : Type 0

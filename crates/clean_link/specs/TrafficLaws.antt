@@ -1,5 +1,5 @@
--- What a clean link, and a link with bounded noise, gives back of a traffic channel, after a true
--- mark (TIA/EIA-95-B, 7.1.3.5).
+-- What a file of any origin gives back of a traffic channel after a true mark, by the signs of its
+-- soft values, and what those of a clean link are (TIA/EIA-95-B, 7.1.3.5).
 use Rattle.std.specs.Prelude.{ℕ, ◌+◌, ◌-◌, ◌*◌, ◌<◌, ◌≤◌, ◌≡◌, true, List, [], ◌∷◌, length, map}
 use Rattle.std.specs.Prelude.{pos, All, ℤ, ◌<ℤ◌, ◌/◌, Bool, false, get_or}
 use Rattle.std.specs.List.{Contains, flat_map}
@@ -10,16 +10,15 @@ use Rattle.clean_link.specs.Common.{power_bits_at, decoded_at, frame_heard, raw_
 use Rattle.clean_link.specs.Common.{replaced_in, stream_of, Tuning, Leg, Mark, Traffic}
 use Rattle.clean_link.specs.Common.{IsReceivable, Decoded, Rate, Rate2, IsAllowed, Codeword, Zero}
 use Rattle.clean_link.specs.Common.{frame_codeword, unreplaced, FrameFormat, bits_in, format_of}
-use Rattle.clean_link.specs.Common.{score_in, IsSetOneFrame, IsSetTwoFrame, SetTwoFrame}
-use Rattle.clean_link.specs.Common.{SoftFrame, HasSign, KeepSigns, is_replaced}
+use Rattle.clean_link.specs.Common.{score_in}
+use Rattle.clean_link.specs.Common.{HasSign, KeepSigns, is_replaced}
 use Rattle.clean_link.specs.CleanLink.{IsNotDirected, IsOnPath, IsTrueMark}
 use Rattle.clean_signal.specs.Signals.{soft_strength}
 use Rattle.clean_frames.specs.SentFrames.{frame_ends, received_frames, sent_power_bits}
 use Rattle.clean_frames.specs.SentFrames.{codeword_symbols, AreDistinct, IsAssigned}
-use Rattle.clean_frames.specs.SentFrames.{IsDistinctFrame, SendsSetOne, ShowPowerBits, replaced_of}
+use Rattle.clean_frames.specs.SentFrames.{IsDistinctFrame, SendsSetOne, ShowPowerBits}
 use Rattle.clean_link.specs.HeardFrames.{frames_of_channel, IsOnePilot, messages_of_channel}
-use Rattle.clean_link.specs.ReceivedFrames.{codeword_symbols2, IsDistinctFrame2, IsReceivedAs}
-use Rattle.clean_signal.specs.BoundedNoise.{Bears, IsNear}
+use Rattle.clean_link.specs.SentSigns.{TrafficFrameHasSigns}
 use Rattle.rate_set_two.specs.TrafficFrames as second
 
 -- A handset after a true mark, which was assigned a traffic channel that the cell sends.
@@ -76,13 +75,8 @@ TrafficHaveSentSigns = HoldsOfCleanFrames (λ plan p t traffic m legs k f.
 
 -- ---- frames
 
--- So its power control bits are the ones that were sent,
-abbrev pub PowerBitsComeBack : Type 0
-PowerBitsComeBack = HoldsOfCleanFrames (λ plan p t traffic m legs k f.
-    power_bits_at t traffic m legs (made_samples plan) k ≡ sent_power_bits f)
-
--- and where no other codeword shares its symbols, it is decoded with its rate and its information
--- bits, and is good.
+-- Where no other codeword shares its symbols, it is decoded with its rate and its information bits,
+-- and is good.
 abbrev pub TrafficFramesComeBack : Type 0
 TrafficFramesComeBack = HoldsOfCleanFrames (λ plan p t traffic m legs k f.
     IsDistinctFrame (replaced_in traffic m k) f →
@@ -102,48 +96,49 @@ SixteenPowerBitsAreSent =
 
 -- Where no handoff is directed there is one event for each frame of the channel that begins at the
 -- mark or after it and lies in the file, at the frame's own end, in order. It is what any pilots
--- tell of whom the reference's is the only one.
+-- tell of whom the reference's is the only one. So it is in any file as long as the cell's.
 abbrev pub EachFrameIsHeard : Type 0
 EachFrameIsHeard = (width : Width) (plan : CellPlan) (p : TrafficPlan) (t : Tuning)
-    (traffic : Traffic) (m : Mark) (superframes : ℕ) (legs : ℕ → List Leg) →
-    HearsSentTraffic width plan p t traffic m superframes →
-    IsUndirected t traffic m (made_samples plan) plan.link.samples →
+    (traffic : Traffic) (m : Mark) (superframes : ℕ) (legs : ℕ → List Leg)
+    (samples : List Sample) →
+    HearsSentTraffic width plan p t traffic m superframes → length samples ≡ plan.link.samples →
+    IsUndirected t traffic m samples plan.link.samples →
     ((k : ℕ) → IsOnePilot traffic (legs k)) →
-    flat_map (frames_at t traffic m (made_samples plan)) (places (plan.link.samples + 1)) ≡
-    map (λ frame. frame_heard t traffic m legs (made_samples plan) (frame_ends plan p frame)
+    flat_map (frames_at t traffic m samples) (places (plan.link.samples + 1)) ≡
+    map (λ frame. frame_heard t traffic m legs samples (frame_ends plan p frame)
     (frame - 4 * superframes))
     (received_frames plan p (plan.link.start + m.sample))
 
--- what holds of every channel with frames of rate set 1, each of which is distinct, where no
--- handoff is directed
-abbrev pub HoldsOfDistinct : (CellPlan → TrafficPlan → Tuning → Traffic → Mark → Type 0) → Type 0
+-- what holds of every channel with frames of rate set 1, each of which is distinct and has the sent
+-- signs, from the mark on
+abbrev pub HoldsOfDistinct : (CellPlan → TrafficPlan → Tuning → Traffic → Mark → List Sample →
+    Type 0) → Type 0
 HoldsOfDistinct P = (width : Width) (plan : CellPlan) (p : TrafficPlan) (t : Tuning)
-    (traffic : Traffic) (m : Mark) (superframes : ℕ) →
-    HearsSentTraffic width plan p t traffic m superframes → SendsSetOne p →
-    IsUndirected t traffic m (made_samples plan) plan.link.samples →
-    AreDistinct plan p (plan.link.start + m.sample) → P plan p t traffic m
+    (traffic : Traffic) (m : Mark) (superframes : ℕ) (samples : List Sample) →
+    HearsSentTraffic width plan p t traffic m superframes → length samples ≡ plan.link.samples →
+    ((k : ℕ) → TrafficFrameHasSigns plan p samples (4 * superframes + k)) → SendsSetOne p →
+    AreDistinct plan p (plan.link.start + m.sample) → P plan p t traffic m samples
 
--- And where each of them is distinct, they are the frames that were sent, and nothing else.
+-- Where no handoff is directed, they are the frames that were sent, and nothing else.
 abbrev pub SentFramesComeBack : Type 0
-SentFramesComeBack = HoldsOfDistinct (λ plan p t traffic m.
-    flat_map (frames_at t traffic m (made_samples plan)) (places (plan.link.samples + 1)) ≡
+SentFramesComeBack = HoldsOfDistinct (λ plan p t traffic m samples.
+    IsUndirected t traffic m samples plan.link.samples →
+    flat_map (frames_at t traffic m samples) (places (plan.link.samples + 1)) ≡
     frames_of_channel plan p (plan.link.start + m.sample))
 
 -- So are the messages those that the signaling in these frames spells.
 abbrev pub SentMessagesComeBack : Type 0
-SentMessagesComeBack = HoldsOfDistinct (λ plan p t traffic m.
-    flat_map (messages_at t traffic m (made_samples plan)) (places (plan.link.samples + 1)) ≡
+SentMessagesComeBack = HoldsOfDistinct (λ plan p t traffic m samples.
+    IsUndirected t traffic m samples plan.link.samples →
+    flat_map (messages_at t traffic m samples) (places (plan.link.samples + 1)) ≡
     messages_of_channel plan p (plan.link.start + m.sample))
 
--- Nor is a handoff directed, where each of these is distinct, and where no message directs one that
--- the signaling in these frames spells, as they are sent.
+-- Nor is a handoff directed, where no message directs one that the signaling in these frames
+-- spells, as they are sent.
 abbrev pub NoneIsDirected : Type 0
-NoneIsDirected = (width : Width) (plan : CellPlan) (p : TrafficPlan) (t : Tuning)
-    (traffic : Traffic) (m : Mark) (superframes : ℕ) →
-    HearsSentTraffic width plan p t traffic m superframes → SendsSetOne p →
-    AreDistinct plan p (plan.link.start + m.sample) →
+NoneIsDirected = HoldsOfDistinct (λ plan p t traffic m samples.
     All IsNotDirected (messages_of_channel plan p (plan.link.start + m.sample)) →
-    IsUndirected t traffic m (made_samples plan) plan.link.samples
+    IsUndirected t traffic m samples plan.link.samples)
 
 -- ---- samples from which the frames come back
 
@@ -194,44 +189,7 @@ IsOnlyBestFrame = IsOnlyBestIn format_of
 abbrev pub IsOnlyBestFrame2 : List ℕ → List ℤ → Rate2 → Codeword → Type 0
 IsOnlyBestFrame2 = IsOnlyBestIn second.format_of2
 
--- So it is of the codeword of a distinct frame that a handset hears after a true mark,
-abbrev pub HeardAreTheOnlyBest : Type 0
-HeardAreTheOnlyBest = HoldsOfCleanFrames (λ plan p t traffic m legs k f.
-    IsDistinctFrame (replaced_in traffic m k) f →
-    IsOnlyBestFrame (replaced_in traffic m k)
-    (frame_softs (made_samples plan) (stream_of t traffic m legs k) k) f.rate
-    (frame_codeword f.rate f.information))
-
--- A distinct frame of rate set 1 of which something is received by the symbols that it sends.
-abbrev pub SetOneIsTheOnlyBest : (CellPlan → TrafficPlan → ℕ → List Bool → List Bool → SoftFrame →
-    Type 0) → Type 0
-SetOneIsTheOnlyBest Receives = (plan : CellPlan) (p : TrafficPlan) (frame : ℕ) (f : SetOneFrame)
-    (soft : SoftFrame) → IsSetOneFrame f →
-    Receives plan p frame (codeword_symbols f) f.power_bits soft →
-    IsDistinctFrame (replaced_of plan p frame) f →
-    IsOnlyBestFrame (replaced_of plan p frame) soft.descrambled f.rate
-    (frame_codeword f.rate f.information)
-
--- so it is of one that is received of the reference base station alone,
-abbrev pub ReceivedAreTheOnlyBest : Type 0
-ReceivedAreTheOnlyBest = SetOneIsTheOnlyBest IsReceivedAs
-
--- ---- rate set 2
-
-abbrev pub SetTwoIsTheOnlyBest : (CellPlan → TrafficPlan → ℕ → List Bool → List Bool → SoftFrame →
-    Type 0) → Type 0
-SetTwoIsTheOnlyBest Receives = (plan : CellPlan) (p : TrafficPlan) (frame : ℕ) (f : SetTwoFrame)
-    (soft : SoftFrame) → IsSetTwoFrame f →
-    Receives plan p frame (codeword_symbols2 f) f.power_bits soft →
-    IsDistinctFrame2 (replaced_of plan p frame) f →
-    IsOnlyBestFrame2 (replaced_of plan p frame) soft.descrambled f.rate
-    (second.frame_codeword2 f.rate f.information)
-
--- and of a distinct frame of that set
-abbrev pub SetTwoAreTheOnlyBest : Type 0
-SetTwoAreTheOnlyBest = SetTwoIsTheOnlyBest IsReceivedAs
-
--- ---- a channel that bears noise
+-- ---- a frame with the sent signs
 
 -- At each place of a frame that a power control bit replaces, the bit of the place's group of 24
 -- and the soft value stand in a relation.
@@ -252,88 +210,42 @@ pub record NoisyFrame (replaced : List ℕ) (symbols : List Bool) (softs : List 
 
 -- ---- a frame that is heard from the reference's pilot alone
 
--- Something holds of each such frame of a channel that bears the noise, whatever messages are
--- heard.
+-- Something holds of each such frame with the sent signs, whatever the other frames are.
 abbrev pub HoldsOfHeardFrames : (Tuning → Traffic → Mark → (ℕ → List Leg) → ℕ → SetOneFrame →
     List Sample → Type 0) → Type 0
 HoldsOfHeardFrames P = (width : Width) (plan : CellPlan) (p : TrafficPlan) (t : Tuning)
-    (traffic : Traffic) (m : Mark) (legs : ℕ → List Leg) (superframes k e : ℕ) (f : SetOneFrame)
+    (traffic : Traffic) (m : Mark) (legs : ℕ → List Leg) (superframes k : ℕ) (f : SetOneFrame)
     (samples : List Sample) →
     HearsSentTraffic width plan p t traffic m superframes →
-    IsHeardAs plan p t traffic m legs superframes k f → IsNear e samples (made_samples plan) →
-    Bears plan p.gain e → P t traffic m legs k f samples
+    IsHeardAs plan p t traffic m legs superframes k f →
+    TrafficFrameHasSigns plan p samples (4 * superframes + k) → P t traffic m legs k f samples
 
 -- Its 384 soft values, descrambled, have the signs of its symbols before scrambling where no power
 -- control bit replaces them. Raw, they have the signs of its power control bits at the other
 -- places.
-abbrev pub NoisyTrafficHasSentSigns : Type 0
-NoisyTrafficHasSentSigns = HoldsOfHeardFrames (λ t traffic m legs k f samples.
+abbrev pub TrafficShowsSigns : Type 0
+TrafficShowsSigns = HoldsOfHeardFrames (λ t traffic m legs k f samples.
     (length (frame_softs samples (stream_of t traffic m legs k) k) ≡ 384)
     × KeepSigns (replaced_in traffic m k) (codeword_symbols f)
     (frame_softs samples (stream_of t traffic m legs k) k)
     × HavePowerSigns (replaced_in traffic m k) f.power_bits (raw_softs t traffic m legs samples k))
 
 -- Its power control bits are the ones that were sent.
-abbrev pub NoisyPowerBitsComeBack : Type 0
-NoisyPowerBitsComeBack = HoldsOfHeardFrames (λ t traffic m legs k f samples.
+abbrev pub PowerBitsComeBack : Type 0
+PowerBitsComeBack = HoldsOfHeardFrames (λ t traffic m legs k f samples.
     power_bits_at t traffic m legs samples k ≡ sent_power_bits f)
 
 -- Where no other codeword shares its symbols, its codeword alone has the greatest score of all
 -- codewords of every rate.
-abbrev pub NoisyFramesAreTheOnlyBest : Type 0
-NoisyFramesAreTheOnlyBest = HoldsOfHeardFrames (λ t traffic m legs k f samples.
+abbrev pub HeardAreTheOnlyBest : Type 0
+HeardAreTheOnlyBest = HoldsOfHeardFrames (λ t traffic m legs k f samples.
     IsDistinctFrame (replaced_in traffic m k) f →
     IsOnlyBestFrame (replaced_in traffic m k)
     (frame_softs samples (stream_of t traffic m legs k) k) f.rate
     (frame_codeword f.rate f.information))
 
 -- There it is decoded with its rate and its information bits, and is good.
-abbrev pub NoisyTrafficFramesComeBack : Type 0
-NoisyTrafficFramesComeBack = HoldsOfHeardFrames (λ t traffic m legs k f samples.
+abbrev pub SignedFramesAreDecoded : Type 0
+SignedFramesAreDecoded = HoldsOfHeardFrames (λ t traffic m legs k f samples.
     IsDistinctFrame (replaced_in traffic m k) f →
     IsDecodedAs f (decoded_at t traffic m legs samples k))
-
--- ---- a file in which no handoff is directed
-
--- Something holds of each channel that bears the noise, as a handset hears it after a true mark.
-abbrev pub HoldsOfBearing : (CellPlan → TrafficPlan → Tuning → Traffic → Mark → ℕ →
-    List Sample → Type 0) → Type 0
-HoldsOfBearing P = (width : Width) (plan : CellPlan) (p : TrafficPlan) (t : Tuning)
-    (traffic : Traffic) (m : Mark) (superframes e : ℕ) (samples : List Sample) →
-    HearsSentTraffic width plan p t traffic m superframes → IsNear e samples (made_samples plan) →
-    Bears plan p.gain e → P plan p t traffic m superframes samples
-
--- There is one event for each frame that begins at the mark or later and lies in the file. It comes
--- at the frame's own end, and the events are in order.
-abbrev pub NoisyEachFrameIsHeard : Type 0
-NoisyEachFrameIsHeard = HoldsOfBearing (λ plan p t traffic m superframes samples.
-    (legs : ℕ → List Leg) → IsUndirected t traffic m samples plan.link.samples →
-    ((k : ℕ) → IsOnePilot traffic (legs k)) →
-    flat_map (frames_at t traffic m samples) (places (plan.link.samples + 1)) ≡
-    map (λ frame. frame_heard t traffic m legs samples (frame_ends plan p frame)
-    (frame - 4 * superframes))
-    (received_frames plan p (plan.link.start + m.sample)))
-
--- Where each of them is distinct, they are the frames that were sent.
-abbrev pub NoisySentFramesComeBack : Type 0
-NoisySentFramesComeBack = HoldsOfBearing (λ plan p t traffic m superframes samples.
-    SendsSetOne p → IsUndirected t traffic m samples plan.link.samples →
-    AreDistinct plan p (plan.link.start + m.sample) →
-    flat_map (frames_at t traffic m samples) (places (plan.link.samples + 1)) ≡
-    frames_of_channel plan p (plan.link.start + m.sample))
-
--- There the messages are those that the signaling in the sent frames spells.
-abbrev pub NoisySentMessagesComeBack : Type 0
-NoisySentMessagesComeBack = HoldsOfBearing (λ plan p t traffic m superframes samples.
-    SendsSetOne p → IsUndirected t traffic m samples plan.link.samples →
-    AreDistinct plan p (plan.link.start + m.sample) →
-    flat_map (messages_at t traffic m samples) (places (plan.link.samples + 1)) ≡
-    messages_of_channel plan p (plan.link.start + m.sample))
-
--- Where each of the frames from the mark on is distinct and none of these messages directs a
--- handoff, no message that is heard directs one.
-abbrev pub NoneIsDirectedByNoise : Type 0
-NoneIsDirectedByNoise = HoldsOfBearing (λ plan p t traffic m superframes samples.
-    SendsSetOne p → AreDistinct plan p (plan.link.start + m.sample) →
-    All IsNotDirected (messages_of_channel plan p (plan.link.start + m.sample)) →
-    IsUndirected t traffic m samples plan.link.samples)

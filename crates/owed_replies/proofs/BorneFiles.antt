@@ -4,8 +4,8 @@ use Rattle.owed_replies.proofs.Common.{◌≡◌, ℕ, List, length, take, refl,
 use Rattle.owed_replies.proofs.Common.{Sample, Width, Header, CellPlan, PagingPlan, TrafficPlan, SyncPlan, IsReceivable, made_samples, mark}
 use Rattle.owed_replies.proofs.Common.{Tuning, IsOnPath, IsNearFile, IsPlanFile, IsCellFile, lawful_traffic, named_receivable}
 use Rattle.owed_replies.proofs.Common.{clean_end, end_when, settings_for, tuning_for, Traffic, All-contains, Bears, HasSyncSigns, IsNear}
-use Rattle.owed_replies.proofs.Common.{IsPagingPlan, IsSyncPlan, MarkIsAt, clean_signs, marked_in, near_sync, shows_sync, told_with_sync}
-use Rattle.owed_replies.proofs.Common.{near-equal, near-same, none_borne, sent_paging_rate, tells_the_mark}
+use Rattle.owed_replies.proofs.Common.{IsPagingPlan, IsSyncPlan, clean_signs, marked_in, near_sync, shows_sync}
+use Rattle.owed_replies.proofs.Common.{near-equal, near-same, none_borne, sent_paging_rate}
 use Rattle.owed_replies.proofs.TuningLaw.{near_long, on_plans_path}
 
 -- The sync channel bears noise of this size, or the cell sends none and there is no noise.
@@ -94,12 +94,7 @@ module _ {e : ℕ} {width : Width} {plan : CellPlan} {span : ℕ} {header : Head
       by_channel (Some sync) sends bears =
           near_sync samples file.near.receivable sends file.near.near bears
 
-  -- so the mark is the one that it tells, and each whole transmission tells the time
-  pub told_mark : MarkIsAt plan (mark tuning samples (length samples)) (told_with_sync plan plan.sync)
-  told_mark =
-      subst (λ (n : ℕ). MarkIsAt plan (mark tuning samples n) (told_with_sync plan plan.sync)) (sym long)
-      (tells_the_mark width plan samples signs tuning path)
-
+  -- so each whole transmission tells the time
   pub end_is : end_when (is_some (mark tuning samples (length samples))) ≡ clean_end plan
   end_is =
       ap (λ (n : ℕ). end_when (is_some (mark tuning samples n))) long

@@ -40,7 +40,7 @@ pub use Rattle.chip_core.specs.declared.sample.Sample.{Sample}
 pub use Rattle.chip_core.specs.declared.width.Width.{Width}
 pub use Rattle.clean_link.proofs.frames.ChannelFrames.{clean_signs, near_sync, shows_sync}
 pub use Rattle.clean_link.proofs.marks.MarksTrue.{marked_in}
-pub use Rattle.clean_link.proofs.messages.EachChannel.{each_channel, tells_the_mark}
+pub use Rattle.clean_link.proofs.messages.EachChannel.{each_channel}
 pub use Rattle.clean_link.proofs.messages.MessagesBack.{messages_back, tuned_is}
 pub use Rattle.clean_signal.proofs.noise.Near.{none_borne, length-near}
 pub use Rattle.clean_signal.proofs.noise.Rounding.{near-equal, near-same}
@@ -50,8 +50,7 @@ pub use Rattle.clean_signal.specs.BoundedNoise.{Bears, IsNear}
 pub use Rattle.clean_link.specs.CleanLink.{IsNotDirected, IsOnPath, IsTunedToPlan, tuning_to}
 pub use Rattle.clean_link.specs.HeardEach.{HearsEach}
 pub use Rattle.clean_signal.specs.NearFiles.{IsNearFile, IsPlanFile}
-pub use Rattle.clean_link.specs.SentSigns.{HasSyncSigns, MarkIsAt}
-pub use Rattle.clean_link.proofs.Common.{told_with_sync}
+pub use Rattle.clean_link.specs.SentSigns.{HasSyncSigns}
 pub use Rattle.clean_link.specs.SentEvents.{FollowsSent, sent_events}
 pub use Rattle.event_tap.specs.Taps.{KeptTap, kept_by}
 unfoldable pub use Rattle.event_tap.specs.Taps.{run_text}

@@ -51,21 +51,21 @@ pub use Rattle.chip_core.specs.declared.sample.Pair.{Pair}
 pub use Rattle.chip_core.specs.declared.sample.Sample.{Sample}
 pub use Rattle.chip_core.specs.declared.width.Width.{Width}
 pub use Rattle.chip_core.specs.declared.width.Width.TheVariants.{Eight, Sixteen}
-pub use Rattle.clean_link.proofs.frames.ChannelFrames.{near_frame, near_paging}
-pub use Rattle.clean_link.proofs.messages.EachChannel.{channels_by_signs, frames_behind_all, no_event_by_signs, no_event_directed}
+pub use Rattle.clean_link.proofs.frames.ChannelFrames.{clean_signs, near_frame, near_paging}
+pub use Rattle.clean_link.proofs.messages.EachChannel.{channels_by_signs, frames_behind_all, no_event_directed}
 pub use Rattle.clean_link.proofs.messages.EachChannel.{tells_the_mark}
 pub use Rattle.clean_link.proofs.messages.MessagesBack.{all_by_signs}
 pub use Rattle.clean_signal.proofs.signal.Samples.{length-made, made_at}
 pub use Rattle.clean_link.proofs.traffic.Back.{one_near}
-pub use Rattle.clean_link.proofs.traffic.Signs.{power_pairs, lawful_traffic, set_one_sends}
+pub use Rattle.clean_link.proofs.traffic.Signs.{clean_sent, power_pairs, lawful_traffic, set_one_sends}
 pub use Rattle.clean_link.proofs.traffic.Frames.{one_taken, one_there}
-pub use Rattle.clean_link.proofs.traffic.Received.{signed_behind_mark, signed_set_two}
+pub use Rattle.clean_link.proofs.traffic.Received.{frames_behind_mark, set_two_behind_mark}
 pub use Rattle.cell_plan.specs.Signal.{traffic_carrier}
 pub use Rattle.clean_signal.specs.BoundedNoise.{Bears}
 pub use Rattle.clean_link.specs.CleanLink.{IsNotDirected, IsOnPath, tuning_to}
 pub use Rattle.clean_frames.specs.SentFrames.{IsAssigned, SendsSetOne, SendsSetTwo, SendsSymbols, frame_ends, received_frames, replaced_of}
 pub use Rattle.clean_frames.specs.SentFrames.{sent_bits, sent_power_bits, codeword_symbols}
-pub use Rattle.clean_link.specs.ReceivedLaws.{IsReceivedBySigns, IsSentFrame2BySigns}
+pub use Rattle.clean_link.specs.ReceivedLaws.{HoldsBehindMark, IsReceivedBySigns, IsSentFrame2BySigns}
 pub use Rattle.clean_link.specs.ReceivedFrames.{AreReceivedFrom, cycled_frame2}
 pub use Rattle.clean_link.specs.SentSigns.{FromMark, HasSyncSigns, MarkIsAt, MarksAreAt, PagingFrameHasSigns, TrafficFrameHasSigns}
 pub use Rattle.clean_link.specs.SentEvents.{FollowsSent, signaling_sent}

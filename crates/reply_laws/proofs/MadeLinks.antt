@@ -1,5 +1,6 @@
 -- The file that is made of a script can be read, and is a clean link where the search finds the
 -- cell's path.
+use Rattle.reply_laws.proofs.Common.{clean_sent, clean_signs}
 use Rattle.reply_laws.proofs.Common.{◌≡◌, ℕ, ◌+◌, ◌-◌, ◌*◌, ◌%◌, ◌<◌, ◌≤◌, Bool, true, false, List, ◌++◌, get_or, take, All, refl, sym, ap}
 use Rattle.reply_laws.proofs.Common.{◌∙◌, subst, arith, ℤ, ◌*ℤ◌, unsigned_abs, Option, Ok, ◌+ℤ◌, ◌-ℤ◌, flat_map, ints, All-from_get_or}
 use Rattle.reply_laws.proofs.Common.{sign, of_sample, point, times, Pair, Sample, pilot_chip, HasBits, IsLawfulHeader, IsSampleFile}
@@ -150,7 +151,9 @@ pub made_clean_sent : (width : Width) (script : List ℕ) (plan : CellPlan) (spa
     All IsNotDirected (signaling_sent plan traffic) →
     IsCleanLink width script plan span 1 paging traffic (header_of width plan) (made_samples plan)
 made_clean_sent width script plan span paging traffic named found follows none =
+    let receivable = named_receivable width script plan named in
     made_clean width script plan span paging traffic named found
-    (no_event_directed width plan (tuning_to plan (cell_energy span plan) paging traffic)
-    (named_receivable width script plan named)
-    (made_tuned plan (cell_energy span plan) paging traffic) follows none)
+    (no_event_directed width plan (made_samples plan) (tuning_to plan (cell_energy span plan) paging traffic)
+    (clean_signs width plan receivable) (made_tuned plan (cell_energy span plan) paging traffic) follows
+    (λ p channel chosen has assigned superframes k told.
+    clean_sent receivable p has (4 * superframes + k)) none)

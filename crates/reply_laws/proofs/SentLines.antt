@@ -1,22 +1,22 @@
 -- The lines of a traffic channel's frames come back.
-use Rattle.reply_laws.proofs.Common.{◌≡◌, ◌≤◌, ℕ, ◌*◌, ◌%◌, refl, sym, ap, ◌∙◌, subst, arith, List, [], ◌∷◌, length, take, Bool, Option, ℤ}
+use Rattle.reply_laws.proofs.Common.{◌≡◌, ◌≤◌, ℕ, ◌*◌, ◌%◌, refl, sym, ap, ◌∙◌, subst, arith, List, [], ◌∷◌, length, Bool, Option, ℤ}
 use Rattle.reply_laws.proofs.Common.{None, Some, Contains, flat_map, flat_map-map, CheckForm, Sample, Width, traffic_mask, decoded2}
 use Rattle.reply_laws.proofs.Common.{IsTrafficFrame, SetOne, planned, one_in_turn, frames_of, cycled_frame, sent_frame_state, set_one}
 use Rattle.reply_laws.proofs.Common.{Header, IsSetOneFrame, CellPlan, TrafficPlan, SetOneFrame, SetTwoFrame, event_line}
 use Rattle.reply_laws.proofs.Common.{frame2_line, traffic_channel, mark, soft_frames, frame_event, Tuning, Mark, Traffic, SoftFrame}
 use Rattle.reply_laws.proofs.Common.{IsReceivable, frame_ends, received_frames, replaced_of, sent_bits, sent_power_bits, codeword_symbols}
-use Rattle.reply_laws.proofs.Common.{AreReceivedFrom, IsOnPath, MarkIsAt, TrafficFrameHasSigns, near_frame, signed_behind_mark}
-use Rattle.reply_laws.proofs.Common.{signed_set_two, traffic_carrier}
-use Rattle.reply_laws.proofs.Common.{IsAssigned, SendsSetOne, SendsSetTwo, SendsSymbols, cycled_frame2, told_with_sync}
+use Rattle.reply_laws.proofs.Common.{AreReceivedFrom, HoldsBehindMark, MarkIsAt, TrafficFrameHasSigns, frames_behind_mark, near_frame}
+use Rattle.reply_laws.proofs.Common.{set_two_behind_mark, traffic_carrier}
+use Rattle.reply_laws.proofs.Common.{SendsSetOne, SendsSetTwo, SendsSymbols, cycled_frame2}
 use Rattle.clean_signal.proofs.signal.CarriersApart.{traffic_sent}
 use Rattle.rake_finger.specs.declared.form.Form.TheVariants.{Data}
 use Rattle.reply_laws.proofs.Common.{power_pairs, one_taken, one_there, Decoded, lawful_traffic, set_one_sends, listed_texts, rate2_texts}
 use Rattle.reply_laws.proofs.Common.{decoded_line, frames_text, listed_text, rate2_text, text_behind, tuned_text, TunedText, Listed}
-use Rattle.reply_laws.proofs.Common.{RateSetTwo, settings_for, tuning_for, AreSentLines, IsLineOfSetOne, IsLineOfSetTwo, IsSentLine}
-use Rattle.reply_laws.proofs.Common.{IsSentLine2, IsSentText, LinesComeBack, ListedLinesComeBack, SetTwoLinesComeBack, named_receivable}
+use Rattle.reply_laws.proofs.Common.{RateSetTwo, AreSentLines, IsLineOfSetOne, IsLineOfSetTwo, IsSentLine}
+use Rattle.reply_laws.proofs.Common.{IsSentLine2, IsSentText, LinesComeBack, ListedLinesComeBack, SetTwoLinesComeBack}
 use Rattle.reply_laws.proofs.Common.{Bears, Decoded2, IsReceivedBySigns, IsSentFrame2BySigns, signs_frame_listed, good_frame2}
 use Rattle.listed_frame.specs.ListedFrames.{listed}
-use Rattle.owed_replies.proofs.BorneFiles.{IsBorneFile, cell_borne, long, none_on_traffic, path, told_mark}
+use Rattle.owed_replies.proofs.BorneFiles.{IsBorneFile, long}
 
 -- ---- any frames
 
@@ -56,41 +56,21 @@ module _ {plan : CellPlan} {p : TrafficPlan} (t : Tuning) (traffic : Traffic) (s
     unfolding tuned_text
     text_back set = behind_last (mark t samples (length samples)) set
 
--- In a file of any origin a channel has such a text after the cell's mark, and the line of each frame
--- with the sent signs is that of what is sent.
-abbrev pub SignedLinesComeBack : TunedText → (TrafficPlan → Type 0) →
-    (CellPlan → TrafficPlan → ℕ → List ℕ → Type 0) → Type 0
-SignedLinesComeBack form Sends Is = (width : Width) (plan : CellPlan) (p : TrafficPlan) (t : Tuning)
-    (traffic : Traffic) (samples : List Sample) (at : Option ℕ) → IsReceivable width plan →
-    length samples ≡ plan.link.samples → IsOnPath plan t →
-    MarkIsAt plan (mark t samples (length samples)) at → Contains plan.traffic p →
-    IsAssigned p traffic → Sends p →
-    IsSentText plan p (λ frame line. TrafficFrameHasSigns plan p samples frame → Is plan p frame line) at
-    (tuned_text form t (traffic_channel traffic) samples)
-
--- what holds of frames after a mark by their signs
-abbrev HoldsBySigns : (TrafficPlan → Type 0) → (CellPlan → TrafficPlan → ℕ → SoftFrame → Type 0) → Type 0
-HoldsBySigns Sends Says = (width : Width) (plan : CellPlan) (p : TrafficPlan) (t : Tuning)
-    (traffic : Traffic) (samples : List Sample) (at : Option ℕ) (m : Mark) → IsReceivable width plan →
-    IsOnPath plan t → Contains plan.traffic p → IsAssigned p traffic →
-    length samples ≡ plan.link.samples → MarkIsAt plan (Some m) at → Sends p →
-    AreReceivedFrom plan p at
-    (λ frame soft. TrafficFrameHasSigns plan p samples frame → Says plan p frame soft)
-    (soft_frames t (traffic_channel traffic) m samples)
-
 signed_lines : (form : TunedText) (line : SoftFrame → List ℕ) → IsLineByLine form line →
     (Sends : TrafficPlan → Type 0) (Is : CellPlan → TrafficPlan → ℕ → List ℕ → Type 0)
-    (Says : CellPlan → TrafficPlan → ℕ → SoftFrame → Type 0) → HoldsBySigns Sends Says →
+    (Says : CellPlan → TrafficPlan → ℕ → SoftFrame → Type 0) →
+    HoldsBehindMark (λ plan p at samples frames. Sends p → AreReceivedFrom plan p at
+    (λ frame soft. TrafficFrameHasSigns plan p samples frame → Says plan p frame soft) frames) →
     ((width : Width) (plan : CellPlan) (p : TrafficPlan) (frame : ℕ) (soft : SoftFrame) →
     IsReceivable width plan → Contains plan.traffic p → Sends p → Says plan p frame soft →
     Is plan p frame (line soft)) →
-    SignedLinesComeBack form Sends Is
+    LinesComeBack form Sends Is
 signed_lines form line lines Sends Is Says behind back width plan p t traffic samples at is long on set
     has assigned some =
     text_back t traffic samples at form line lines
     (λ frame soft. TrafficFrameHasSigns plan p samples frame → Says plan p frame soft)
     (λ frame line. TrafficFrameHasSigns plan p samples frame → Is plan p frame line)
-    (λ m here. behind width plan p t traffic samples at m is on has assigned long here some)
+    (λ m here. behind width plan p t traffic m at samples is long on has assigned here some)
     (λ frame soft says signs. back width plan p frame soft is has some (says signs)) set
 
 -- all lines are so where all frames have something
@@ -112,20 +92,6 @@ pub borne_signs : {e : ℕ} {width : Width} {plan : CellPlan} {p : TrafficPlan} 
 borne_signs {e} {plan = plan} {p} samples file has bears =
     near_frame (traffic_carrier plan p) Data e samples file.near.receivable (traffic_sent plan p has)
     file.near.near bears
-
--- a file that holds what a script's cell sends has no noise
-of_cell : (form : TunedText) (Sends : TrafficPlan → Type 0)
-    (Is : CellPlan → TrafficPlan → ℕ → List ℕ → Type 0) → SignedLinesComeBack form Sends Is →
-    LinesComeBack form Sends Is
-of_cell form Sends Is signed width script plan p span fingers paging followed traffic header samples file
-    counted has assigned some =
-    let receivable = named_receivable width script plan file.named in
-    let borne = cell_borne file counted in
-    let t = tuning_for (settings_for header fingers paging followed) (take span samples) in
-    all_lines plan p (TrafficFrameHasSigns plan p samples) (Is plan p)
-    (borne_signs samples borne has (none_on_traffic receivable has)) (told_with_sync plan plan.sync) _
-    (signed width plan p t traffic samples _ receivable (long fingers paging followed borne)
-    (path fingers paging followed borne) (told_mark fingers paging followed borne) has assigned some)
 
 -- ---- frames of rate set 1
 
@@ -239,24 +205,16 @@ set_two_line plan p frame soft (f, here, sent) = (f, here, line_back plan p fram
 
 -- ---- the laws
 
-pub listed_signed : (k : ℕ) → 1 ≤ k → SignedLinesComeBack (Listed k) SendsSetOne IsLineOfSetOne
-listed_signed k most =
+pub listed_lines : ListedLinesComeBack
+listed_lines k most =
     signed_lines (Listed k) (listed_of k) (λ check m frames. listed_texts check m [] frames k)
     SendsSetOne IsLineOfSetOne ShowsSent
-    (λ width plan p t traffic samples at m is on has assigned long set some.
-    signed_behind_mark samples is on has assigned long m set)
+    (λ width plan p t traffic m at samples is long on has assigned set some.
+    frames_behind_mark width plan p t traffic m at samples is long on has assigned set)
     (listed_line k most)
 
-pub set_two_signed : SignedLinesComeBack RateSetTwo SendsSetTwo IsLineOfSetTwo
-set_two_signed =
-    signed_lines RateSetTwo rate2_of (λ check m frames. rate2_texts check m [] frames) SendsSetTwo
-    IsLineOfSetTwo IsSent2
-    (λ width plan p t traffic samples at m is on has assigned long set some.
-    signed_set_two samples is on has assigned long m set some)
-    (λ width plan p frame soft is has some sent. set_two_line plan p frame soft sent)
-
-pub listed_lines : ListedLinesComeBack
-listed_lines k most = of_cell (Listed k) SendsSetOne IsLineOfSetOne (listed_signed k most)
-
 pub set_two_lines : SetTwoLinesComeBack
-set_two_lines = of_cell RateSetTwo SendsSetTwo IsLineOfSetTwo set_two_signed
+set_two_lines =
+    signed_lines RateSetTwo rate2_of (λ check m frames. rate2_texts check m [] frames) SendsSetTwo
+    IsLineOfSetTwo IsSent2 set_two_behind_mark
+    (λ width plan p frame soft is has some sent. set_two_line plan p frame soft sent)

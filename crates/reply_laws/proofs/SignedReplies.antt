@@ -2,25 +2,25 @@
 use Rattle.reply_laws.proofs.Common.{◌≤◌, ◌≡◌, ℕ, List, [], ◌∷◌, length, take, map, refl, sym, ap, ◌∙◌, subst, Option, None, Some, Ok, Err}
 use Rattle.reply_laws.proofs.Common.{Contains, Sample, Width, Header, CellPlan, TrafficPlan, Traffic, IsOnPath, Tuning, Mark, mark}
 use Rattle.reply_laws.proofs.Common.{SendsSetOne, SendsSetTwo, TunedText, Listed, RateSetTwo, traffic_channel, Job, IsSampleFile, Status}
-use Rattle.reply_laws.proofs.Common.{IsReply, Reply, IsLineOfSetOne, IsLineOfSetTwo, IsSentReply, OwesTheFrames, told_with_sync, Slots}
-use Rattle.reply_laws.proofs.Common.{FromMark, HasSyncSigns, MarkIsAt, MarksAreAt, TrafficFrameHasSigns, IsFileOnPath, IsReplyFrom}
-use Rattle.reply_laws.proofs.Common.{SignedRepliesComeBack, channels_by_signs, no_event_by_signs, all_by_signs, tells_the_mark, kept_by}
-use Rattle.reply_laws.proofs.Common.{run_text, events, settings_for, tuning_for, end_when, clean_end, slot_texts_back, slots_after, energy}
-use Rattle.reply_laws.proofs.Common.{best_phase, near_deltas, one_near, written_of_slots, Paging, tuned_text}
+use Rattle.reply_laws.proofs.Common.{IsReply, Reply, IsLineOfSetOne, IsLineOfSetTwo, IsSentReply, OwesTheFrames, told_with_sync}
+use Rattle.reply_laws.proofs.Common.{MarkIsAt, MarksAreAt, TrafficFrameHasSigns, IsFileOnPath, IsReplyFrom}
+use Rattle.reply_laws.proofs.Common.{SignedRepliesComeBack, channels_by_signs, no_event_directed, all_by_signs, tells_the_mark, kept_by}
+use Rattle.reply_laws.proofs.Common.{run_text, events, settings_for, tuning_for, end_when, clean_end, slot_texts_back, energy}
+use Rattle.reply_laws.proofs.Common.{best_phase, near_deltas, one_near, written_of_slots}
 use Rattle.reply_laws.proofs.Common.{arith, suc}
 use Rattle.std.specs.Prelude.{is_some, nat_lt}
 use Rattle.std.proofs.lemmas.Bool.{lt-ltb}
-use Rattle.cell_plan.specs.Transmitter.{phase_at}
 use Rattle.cell_plan.specs.declared.plan.SyncPlan.{SyncPlan}
 use Rattle.clean_frames.specs.WholeSendings.{told_by_first, whole_sendings}
 use Rattle.clean_link.specs.CleanLink.{events_of_channel, sending_event, sync_sent}
 use Rattle.clean_link.specs.SentEvents.{sent_events}
-use Rattle.heard_events.specs.declared.event.Event.{Event}
-use Rattle.owed_replies.proofs.BorneFiles.{IsBorneFile}
+use Rattle.reply_laws.proofs.Common.{Bears, FileSlotsComeBack, IsAssigned}
+use Rattle.owed_replies.proofs.BorneFiles.{IsBorneFile, signs}
 use Rattle.owed_replies.proofs.Replies.{one_reply}
 use Rattle.owed_replies.proofs.TuningLaw.{near_long, own_delta}
 use Rattle.reply_laws.proofs.Owed.{follow_owes, idle_owes, list_owes, rate2_owes}
-use Rattle.reply_laws.proofs.SentLines.{SignedLinesComeBack, all_lines, listed_signed, set_two_signed}
+use Rattle.reply_laws.proofs.SentLines.{all_lines, borne_signs, listed_lines, set_two_lines}
+use Rattle.reply_laws.specs.SentLines.{LinesComeBack}
 use Rattle.reply_laws.specs.SignedReplies as laws
 use Rattle.command_line.specs.declared.job.Job.TheVariants as jobs
 
@@ -113,7 +113,7 @@ signed_follow forms limits bytes width plan span workers fingers paging traffic 
 
 pub signed_undirected : laws.NoHandoffIsDirectedBySigns
 signed_undirected bytes width plan span fingers paging followed header samples file is follows signs none =
-    no_event_by_signs width plan samples
+    no_event_directed width plan samples
     (tuning_for (settings_for header fingers paging followed) (take span samples)) is
     (on file paging followed) follows signs none
 
@@ -156,7 +156,7 @@ signed_replies : (job : ℕ → ℕ → ℕ → Traffic → Job) (form : TunedTe
     ((span workers fingers : ℕ) (traffic : Traffic) →
     OwesTheFrames (job span workers fingers traffic) span fingers (traffic_channel traffic) form) →
     (Sends : TrafficPlan → Type 0) (Is : CellPlan → TrafficPlan → ℕ → List ℕ → Type 0) →
-    SignedLinesComeBack form Sends Is → SignedRepliesComeBack job Sends Is
+    LinesComeBack form Sends Is → SignedRepliesComeBack job Sends Is
 signed_replies job form owes Sends Is lines forms bytes width plan p span workers fingers traffic header
     samples reply at file marks has assigned sends owed =
     subst
@@ -174,14 +174,19 @@ signed_rate2 =
     signed_replies rate2_job RateSetTwo
     (λ span workers fingers traffic.
     rate2_owes span workers fingers traffic.offset traffic.esn traffic.row)
-    SendsSetTwo IsLineOfSetTwo set_two_signed
+    SendsSetTwo IsLineOfSetTwo set_two_lines
 
 pub signed_list : laws.SignedListRepliesComeBack
 signed_list k least =
     signed_replies (list_job k) (Listed k)
     (λ span workers fingers traffic.
     list_owes span workers fingers traffic.offset traffic.esn traffic.row k)
-    SendsSetOne IsLineOfSetOne (listed_signed k least)
+    SendsSetOne IsLineOfSetOne (listed_lines k least)
+
+pub file_slots : FileSlotsComeBack
+file_slots width plan p t key cycle at samples is long on has set signs =
+    written_of_slots key cycle t p.number samples (one_near t plan on)
+    ∙ slot_texts_back width plan p t key cycle at samples is long on has set signs
 
 pub signed_idle : laws.SignedIdleRepliesComeBack
 signed_idle forms bytes width plan p span workers fingers key cycle header samples reply at file marks has
@@ -192,21 +197,37 @@ signed_idle forms bytes width plan p span workers fingers key cycle header sampl
     one_reply forms job bytes reply _ owed
     (idle_owes span workers fingers p.number key cycle forms bytes header samples file.file file.enough)
     ∙ same_whole _ _ _ _
-    (written_of_slots key cycle t p.number samples (one_near t plan there)
-    ∙ slot_texts_back width plan p t key cycle at samples file.receivable file.long there has
-    (marks t there) signs)
+    (file_slots width plan p t key cycle at samples file.receivable file.long there has (marks t there)
+    signs)
     (end_at file 1 None at marks)
 
 -- ---- after the mark that the sync channel tells
 
 -- where each of the channel's frames has the sent signs
-pub sent_reply : (plan : CellPlan) (p : TrafficPlan) (Has : ℕ → Type 0) (Is : ℕ → List ℕ → Type 0)
+sent_reply : (plan : CellPlan) (p : TrafficPlan) (Has : ℕ → Type 0) (Is : ℕ → List ℕ → Type 0)
     (reply : Reply) → ((frame : ℕ) → Has frame) →
     IsReplyFrom plan p (told_with_sync plan plan.sync) (λ frame line. Has frame → Is frame line) reply →
     IsSentReply plan p Is reply
 sent_reply plan p Has Is (Ok given) have (text, end) =
     (all_lines plan p Has Is have (told_with_sync plan plan.sync) given.0 text, end ∙ told_end plan)
 sent_reply plan p Has Is (Err fault) have none = none
+
+pub told_replies : (job : ℕ → ℕ → ℕ → Traffic → Job) (Sends : TrafficPlan → Type 0)
+    (Is : CellPlan → TrafficPlan → ℕ → List ℕ → Type 0) → SignedRepliesComeBack job Sends Is →
+    (forms bytes : List ℕ) (e : ℕ) (width : Width) (plan : CellPlan) (p : TrafficPlan)
+    (span workers fingers : ℕ) (traffic : Traffic) (header : Header) (samples : List Sample)
+    (reply : Reply) → IsSampleFile bytes header samples → span ≤ length samples →
+    IsBorneFile e width plan span fingers header samples → Contains plan.traffic p →
+    IsAssigned p traffic → Bears plan p.gain e → Sends p →
+    IsReply forms (job span workers fingers traffic) bytes reply →
+    IsSentReply plan p (Is plan p) reply
+told_replies job Sends Is signed forms bytes e width plan p span workers fingers traffic header samples reply
+    file enough borne has assigned bears sends owed =
+    sent_reply plan p (TrafficFrameHasSigns plan p samples) (Is plan p) reply
+    (borne_signs samples borne has bears)
+    (signed forms bytes width plan p span workers fingers traffic header samples reply _
+    (borne_on_path file enough borne)
+    (tells_the_mark width plan samples (signs fingers 1 None borne)) has assigned sends owed)
 
 pub idle_end : (plan : CellPlan) (text : List ℕ) (reply : Reply) →
     reply ≡ Ok (text, end_when (is_some (told_with_sync plan plan.sync))) →

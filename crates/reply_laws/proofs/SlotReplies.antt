@@ -1,11 +1,11 @@
 -- What `idle` owes of a file whose noise the sync channel and the paging channel bear comes back slot
 -- by slot.
-use Rattle.reply_laws.proofs.Common.{◌≡◌, ◌≤◌, ℕ, ◌+◌, ◌*◌, List, length, take, ◌∙◌, Ok, Contains, Sample, Width, Header, CellPlan}
-use Rattle.reply_laws.proofs.Common.{PagingPlan, one_near, slot_texts_back, written_of_slots, tuned_text, Slots, Paging, clean_end}
-use Rattle.reply_laws.proofs.Common.{settings_for, tuning_for, Option, None, Traffic, IsSampleFile, IsReply, Reply, FileSlotsComeBack}
+use Rattle.reply_laws.proofs.Common.{◌≡◌, ◌≤◌, ℕ, ◌+◌, ◌*◌, List, length, Ok, Contains, Sample, Width, Header, CellPlan}
+use Rattle.reply_laws.proofs.Common.{PagingPlan, clean_end}
+use Rattle.reply_laws.proofs.Common.{Option, None, IsSampleFile, IsReply, Reply}
 use Rattle.reply_laws.proofs.Common.{IdleRepliesComeBack, named_receivable, Bears, slots_sent, near_paging, tells_the_mark, FromMark}
 use Rattle.reply_laws.proofs.Common.{PagingFrameHasSigns}
-use Rattle.owed_replies.proofs.BorneFiles.{IsBorneFile, cell_borne, long, none_on_paging, path, plan_borne, signs}
+use Rattle.owed_replies.proofs.BorneFiles.{IsBorneFile, cell_borne, none_on_paging, signs}
 use Rattle.reply_laws.proofs.SignedReplies.{borne_on_path, idle_end, signed_idle}
 use Rattle.command_line.specs.declared.job.Job.TheVariants as jobs
 
@@ -35,18 +35,6 @@ borne_idle forms bytes e width plan p span workers fingers key cycle header samp
     (borne_paging samples _ borne has bears) owed)
 
 -- ---- without noise
-
-pub file_slots : FileSlotsComeBack
-unfolding slots_sent
-file_slots width plan p span fingers paging traffic header samples key cycle file counted has =
-    let t = tuning_for (settings_for header fingers paging traffic) (take span samples) in
-    let borne = plan_borne file counted in
-    let on = path fingers paging traffic borne in
-    written_of_slots key cycle t p.number samples (one_near t plan on)
-    ∙ slot_texts_back width plan p t key cycle _ samples file.receivable
-    (long fingers paging traffic borne) on has
-    (tells_the_mark width plan samples (signs fingers paging traffic borne) t on)
-    (borne_paging samples _ borne has (none_on_paging file.receivable has))
 
 pub idle_replies : IdleRepliesComeBack
 idle_replies forms script bytes width plan p span workers fingers key cycle header samples reply file

@@ -1,10 +1,9 @@
--- The lines of a traffic channel's frames in a file that holds what a script's cell sends.
-use Rattle.std.specs.Prelude.{◌≡◌, ◌≤◌, ℕ, ◌*◌, true, List, [], ◌∷◌, length, take, Option, None}
+-- The lines of a traffic channel's frames in a file of any origin.
+use Rattle.std.specs.Prelude.{◌≡◌, ◌≤◌, ℕ, ◌*◌, true, List, [], ◌∷◌, length, Option, None}
 use Rattle.std.specs.Prelude.{Some}
 use Rattle.std.specs.List.{Contains, flat_map}
 use Rattle.chip_core.specs.Air.{superframe_chips}
 use Rattle.chip_core.specs.declared.sample.Sample.{Sample}
-use Rattle.cdma_io.specs.declared.header.Header.{Header}
 use Rattle.chip_core.specs.declared.width.Width.{Width}
 use Rattle.frame_decoder.specs.declared.traffic.Decoded.{Decoded}
 use Rattle.rate_set_two.specs.declared.traffic.Decoded2.{Decoded2}
@@ -17,17 +16,19 @@ use Rattle.event_tap.specs.FrameLines.{frame2_line}
 use Rattle.heard_events.specs.FramesAlone.{traffic_channel}
 use Rattle.heard_events.specs.TrafficEvents.{frame_event}
 use Rattle.chip_core.specs.declared.assignment.Traffic.{Traffic}
-use Rattle.owed_replies.specs.CleanFiles.{IsCellFile}
 use Rattle.clean_frames.specs.SentFrames.{frame_ends, is_received, received_frames, replaced_of}
 use Rattle.clean_frames.specs.SentFrames.{sent_bits, sent_power_bits, IsAssigned}
 use Rattle.clean_link.specs.HeardFrames.{sent_frame_event}
 use Rattle.clean_frames.specs.SentFrames.{IsDistinctFrame, SendsSetOne, SendsSetTwo}
 use Rattle.clean_link.specs.ReceivedFrames.{cycled_frame2, sent_decoded2, IsDistinctFrame2}
-use Rattle.clean_frames.specs.WholeSendings.{told_with_sync}
+use Rattle.cell_plan.specs.Stated.{IsReceivable}
+use Rattle.clean_link.specs.CleanLink.{IsOnPath}
+use Rattle.clean_link.specs.SentSigns.{MarkIsAt, TrafficFrameHasSigns}
+use Rattle.heard_events.specs.Marks.{mark}
+use Rattle.heard_events.specs.Tuning.{Tuning}
 use Rattle.event_tap.specs.TunedTexts.{tuned_text}
 use Rattle.event_tap.specs.declared.tuned_text.TunedText.{TunedText}
 use Rattle.event_tap.specs.declared.tuned_text.TunedText.TheVariants.{Listed, RateSetTwo}
-use Rattle.owed_replies.specs.Hearing.{settings_for, tuning_for}
 
 -- ---- any frames
 
@@ -45,19 +46,19 @@ abbrev pub IsSentText : CellPlan → TrafficPlan → (ℕ → List ℕ → Type 
 IsSentText plan p Is None text = text ≡ []
 IsSentText plan p Is (Some superframes) text = AreSentLines plan p Is superframes text
 
--- What is written so of a channel that the cell sends, of which something else is true, is this
--- text, after the mark that the first whole transmission of the sync channel tells.
+-- In a file of any origin, as long as the cell's, what is written so of a channel that the cell
+-- sends, of which something else is true, is this text from the cell's mark on; and the line of
+-- each frame with the sent signs is that of what is sent, whatever the other frames are.
 abbrev pub LinesComeBack : TunedText → (TrafficPlan → Type 0) →
     (CellPlan → TrafficPlan → ℕ → List ℕ → Type 0) → Type 0
-LinesComeBack form Sends Is = (width : Width) (script : List ℕ) (plan : CellPlan)
-    (p : TrafficPlan) (span fingers paging : ℕ) (followed : Option Traffic) (traffic : Traffic)
-    (header : Header) (samples : List Sample) →
-    IsCellFile width script plan span fingers header samples →
-    length samples ≡ header.count → Contains plan.traffic p → IsAssigned p traffic → Sends p →
-    IsSentText plan p (Is plan p) (told_with_sync plan plan.sync)
-    (tuned_text form
-    (tuning_for (settings_for header fingers paging followed) (take span samples))
-    (traffic_channel traffic) samples)
+LinesComeBack form Sends Is = (width : Width) (plan : CellPlan) (p : TrafficPlan) (t : Tuning)
+    (traffic : Traffic) (samples : List Sample) (at : Option ℕ) → IsReceivable width plan →
+    length samples ≡ plan.link.samples → IsOnPath plan t →
+    MarkIsAt plan (mark t samples (length samples)) at → Contains plan.traffic p →
+    IsAssigned p traffic → Sends p →
+    IsSentText plan p
+    (λ frame line. TrafficFrameHasSigns plan p samples frame → Is plan p frame line) at
+    (tuned_text form t (traffic_channel traffic) samples)
 
 -- ---- frames of rate set 1
 

@@ -1,6 +1,6 @@
 -- What is owed of a file of any origin: of each channel whose soft values have the signs that a
 -- cell sends, just what the cell sends.
-use Rattle.std.specs.Prelude.{◌≡◌, ◌≤◌, ℕ, List, length, take, All, Option, None, Some, Ok, Err}
+use Rattle.std.specs.Prelude.{◌≡◌, ◌≤◌, ℕ, List, length, take, All, Option, None, Ok, Err}
 use Rattle.std.specs.Prelude.{is_some}
 use Rattle.std.specs.List.{Contains}
 use Rattle.chip_core.specs.declared.assignment.Traffic.{Traffic}
@@ -18,9 +18,10 @@ use Rattle.heard_events.specs.Events.{events}
 use Rattle.event_tap.specs.Taps.{kept_by, run_text}
 use Rattle.clean_frames.specs.SentFrames.{IsAssigned, SendsSetOne, SendsSetTwo}
 use Rattle.clean_frames.specs.WholeSendings.{told_with_sync}
-use Rattle.clean_link.specs.BySigns.{FollowedHaveSigns, HearsBySigns}
+use Rattle.clean_link.specs.BySigns.{HearsBySigns}
 use Rattle.clean_link.specs.CleanLink.{IsNotDirected}
-use Rattle.clean_link.specs.SentEvents.{sent_events, FollowsSent, signaling_sent}
+use Rattle.clean_link.specs.SentEvents.{sent_events, FollowedHaveSigns, FollowsSent}
+use Rattle.clean_link.specs.SentEvents.{signaling_sent}
 use Rattle.clean_link.specs.SentSigns.{FromMark, HasSyncSigns, MarksAreAt, PagingFrameHasSigns}
 use Rattle.clean_link.specs.SentSigns.{TrafficFrameHasSigns}
 use Rattle.slot_link.specs.Laws.{slots_after}

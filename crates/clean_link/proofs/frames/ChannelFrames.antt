@@ -1,4 +1,5 @@
 -- What comes back of any channel that a stream hears, then of the sync channel and of paging channels.
+use Rattle.clean_link.proofs.Common.{NearChannelsHaveSigns, NearSyncHasSigns}
 use Rattle.clean_link.proofs.Common.{◌≡◌, ℕ, ◌+◌, ◌<◌, true, List, [], ◌∷◌, refl, sym, ap, subst, inl, ◌∙◌, arith, pos, unsigned_abs, Some}
 use Rattle.clean_link.proofs.Common.{◌+ℤ◌, ints, int_rem_euclid_is, sent, sync_shape, SyncFields, IsSyncPlan, made_samples}
 use Rattle.clean_link.proofs.Common.{continued_symbols, sync_frame_bits, sync_symbols, sync_carrier, phase_at, CellPlan, SyncPlan}
@@ -6,14 +7,14 @@ use Rattle.clean_link.proofs.Common.{length-sync_frame_bits, softs, Finger, Sync
 use Rattle.clean_link.proofs.Common.{modulo_code, sync_stream, AreZeroWithoutSync, FramesAreZeros, FramesComeBack, HaveSentSigns}
 use Rattle.clean_link.proofs.Common.{SentCodewordsAreTheOnlyBest, IsOnPath, first_sync_frame, soft_strength, AreReadBy, IsHeardBy}
 use Rattle.clean_link.proofs.Common.{path_finger, reference_finger, IsReceivable, Option, None, Sample, Width, unwrap_or, Bears, IsNear}
-use Rattle.clean_link.proofs.Common.{HearsSentSync, ShowsSync, NoisyPagingFramesComeBack, ◌*◌, ◌/◌, false, Bool, length, inr, ℤ, replicate}
+use Rattle.clean_link.proofs.Common.{ShowsSync, ◌*◌, ◌/◌, false, Bool, length, inr, ℤ, replicate}
 use Rattle.clean_link.proofs.Common.{Contains, length-map, All-contains, places, xor, zip_with, length-places, after, long_chip}
 use Rattle.clean_link.proofs.Common.{paging_mask, scrambling, data_shape, repeats_of, Rate, R9600, Cycle, cycle_frame_bits, cycle_symbols}
 use Rattle.clean_link.proofs.Common.{cycled, frame_scrambling, paging_frame_size, IsLawfulPlan, IsPagingPlan, cycle_of, paging_carrier}
 use Rattle.clean_link.proofs.Common.{PagingPlan, Data, paging_stream, descrambled, unscrambled, Stream, Mark, IsTrueMark}
 use Rattle.clean_link.proofs.Common.{PagingFramesComeBack, PagingHaveSentSigns, PagingCodewordsAreTheOnlyBest, SilentPagingFramesAreZeros}
 use Rattle.clean_link.proofs.Common.{FrameHasSigns, HasSyncSigns, IsCellMark, PagingFrameHasSigns, HasSign, frame_softs, Carrier, carriers}
-use Rattle.clean_link.proofs.Common.{SilentPagingIsZero, ordered_symbols, scrambled_with, ChannelFramesComeBack, NoisyFramesComeBack}
+use Rattle.clean_link.proofs.Common.{SilentPagingIsZero, ordered_symbols, scrambled_with, ChannelFramesComeBack}
 use Rattle.clean_signal.proofs.signal.CarriersApart.{plan_apart, sync_sent, sync_silent, paging_sent, paging_silent}
 use Rattle.clean_signal.proofs.noise.Near.{length-near, none_borne, near-self, signs_turn}
 use Rattle.clean_signal.proofs.signal.Frames.{noisy_relates}
@@ -26,7 +27,7 @@ use Rattle.clean_signal.proofs.frames.Heard.{heard_shown, IsShown, order_of, sho
 use Rattle.clean_link.proofs.frames.OwnBits.{shown_back, silent_back}
 use Rattle.clean_link.proofs.frames.Times.{frames_begin, in_file_to, paging_file_to}
 use Rattle.heard_events.specs.PagingStreams.{paging_rate}
-use Rattle.clean_signal.proofs.frames.ChannelSigns.{strength_some, silent_rows, stream_symbols, noisy_shown}
+use Rattle.clean_signal.proofs.frames.ChannelSigns.{strength_some, silent_rows, stream_symbols}
 use Rattle.frame_decoder.specs.declared.span_format.FrameKind as kinds
 use Rattle.symbol_path.specs.Scrambling as codes
 use Rattle.cell_plan.specs.PageCycles as cycles
@@ -34,14 +35,9 @@ use Rattle.cell_plan.specs.Pages as pages
 
 -- ---- a stream that hears a channel
 
-pub noisy_frames : NoisyFramesComeBack
-noisy_frames width plan c s bits_of base k e samples is has heard read here near bears =
-    shown_back (noisy_shown e samples is has heard read near bears) k here
-
 pub channel_frames : ChannelFramesComeBack
-channel_frames width plan c s bits_of base k is has some heard read here =
-    noisy_frames width plan c s bits_of base k 0 (made_samples plan) is has heard read here
-    (near-self 0 (made_samples plan)) (none_borne width plan c.gain is some)
+channel_frames plan c s bits_of base k samples heard read signs here =
+    shown_back (heard_shown samples signs heard read) k here
 
 -- ---- the stream
 
@@ -187,11 +183,6 @@ clean_signs width plan is = record {
       silent_rows width plan 32 Sync u is (omega arith) (sync_silent width plan is.lawful silent) at;
 }
 
-pub heard_sync : (width : Width) (plan : CellPlan) (sync : SyncPlan) (e : ℕ)
-    (samples : List Sample) → HearsSentSync width plan sync e samples → ShowsSync width plan samples
-heard_sync width plan sync e samples is =
-    shows_sync (near_sync samples is.receivable is.sends is.near is.bears)
-
 pub clean_sync : (width : Width) (plan : CellPlan) → IsReceivable width plan →
     ShowsSync width plan (made_samples plan)
 clean_sync width plan is = shows_sync (clean_signs width plan is)
@@ -201,14 +192,22 @@ zero_without_sync width plan t k at none =
     zero_in width plan (made_samples plan) t k at ((clean_signs width plan at).silent none)
 
 pub frames_zero : FramesAreZeros
-frames_zero width plan t k at = (clean_sync width plan at).none t k
+frames_zero width plan samples t k is = (shows_sync is).none t k
 
 pub frames_back : FramesComeBack
-frames_back width plan sync t k at = (clean_sync width plan at).back sync t k
+frames_back width plan samples sync t k is sends on here = shown_back (sync_shown sync t is sends on) k here
 
 pub codewords_alone : SentCodewordsAreTheOnlyBest
-codewords_alone width plan sync t k at is on here =
-    shown_alone (sync_shown sync t (clean_signs width plan at) is on) k here
+codewords_alone width plan samples sync t k is sends on here =
+    shown_alone (sync_shown sync t is sends on) k here
+
+pub near_channels : NearChannelsHaveSigns
+near_channels width plan c form e samples frame is has near bears =
+    near_frame c form e samples is has near bears frame
+
+pub near_syncs : NearSyncHasSigns
+near_syncs width plan sync e samples is =
+    near_sync samples is.receivable is.sends is.near is.bears
 
 -- ---- scrambling
 
@@ -373,13 +372,6 @@ pub near_paging : {width : Width} {plan : CellPlan} {p : PagingPlan} {e : ℕ} (
 near_paging {plan = plan} {p} {e} samples is has near bears =
     near_frame (paging_carrier plan p) Data e samples is (paging_sent plan p has) near bears
 
-pub noisy_paging_back : NoisyPagingFramesComeBack
-noisy_paging_back width plan sync p t m superframes k e samples is sends has on at told here near bears =
-    shown_back
-    (paging_shown plan p t m superframes samples on
-    (record { marked = at; sync = sync; sends = sends; rate = told })
-    (λ k. near_paging samples is has near bears (4 * superframes + k))) k here
-
 -- a noise of 0 is borne by any paging channel
 pub paging_borne : (width : Width) (plan : CellPlan) (p : PagingPlan) → IsReceivable width plan →
     Contains plan.paging p → Bears plan p.gain 0
@@ -387,17 +379,12 @@ paging_borne width plan p is has =
     none_borne width plan p.gain is (paging_gain width plan p is.lawful has)
 
 pub paging_frames_back : PagingFramesComeBack
-paging_frames_back width plan sync p t m superframes k is sends has on at told here =
-    noisy_paging_back width plan sync p t m superframes k 0 (made_samples plan) is sends has on at told
-    here (near-self 0 (made_samples plan)) (paging_borne width plan p is has)
+paging_frames_back plan p t m superframes k samples on at signs here =
+    shown_back (paging_shown plan p t m superframes samples on at signs) k here
 
 pub paging_codewords_alone : PagingCodewordsAreTheOnlyBest
-paging_codewords_alone width plan sync p t m superframes k is sends has on at told here =
-    shown_alone
-    (paging_shown plan p t m superframes (made_samples plan) on
-    (record { marked = at; sync = sync; sends = sends; rate = told })
-    (λ k. near_paging (made_samples plan) is has (near-self 0 (made_samples plan)) (paging_borne width plan p is has)
-    (4 * superframes + k))) k here
+paging_codewords_alone plan p t m superframes k samples on at signs here =
+    shown_alone (paging_shown plan p t m superframes samples on at signs) k here
 
 -- A frame of a paging channel that isn't sent has soft values of 0. It lies in the file and begins
 -- with a block of 64 chips, so its row is orthogonal to all that the cell sends, and 0 stays 0 when

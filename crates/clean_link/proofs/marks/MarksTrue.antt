@@ -1,14 +1,14 @@
 -- The mark of a clean link has the cell's time and long code.
+use Rattle.clean_link.proofs.frames.ChannelFrames.{shows_sync}
 use Rattle.clean_link.proofs.Common.{◌≡◌, ℕ, suc, ◌+◌, ◌-◌, ◌*◌, ◌/◌, ◌%◌, ◌<◌, ◌==◌, ⊎_elim, Bool, true, false, List, [], ◌∷◌, length}
 use Rattle.clean_link.proofs.Common.{refl, sym, ap, ◌∙◌, arith, subst, nat_le, ◌&&◌, Option, Some, None, and_parts, ne_eqb, cases_Bool}
 use Rattle.clean_link.proofs.Common.{places, Sample, Width, IsState, after, after-after, IsState-after, Piece, from_last_start}
 use Rattle.clean_link.proofs.Common.{superframes_of, sync_capsule, SyncFields, IsLawfulPlan, message_of, superframes_a_sending}
 use Rattle.clean_link.proofs.Common.{told_superframes, CellPlan, SyncPlan, length-sending, first_of, frames_open, mark, marks_at, marks_of}
 use Rattle.clean_link.proofs.Common.{frame_start, heard_at, with_message, Tuning, sync_stream, sync_bound, Mark, MarksAreTrue, IsOnPath}
-use Rattle.clean_link.proofs.Common.{IsTrueMark, first_sync_frame, MarksTellTheRate, UnmarkedWithoutSync, NoisyMarksAreTrue, ShowsSync, map}
+use Rattle.clean_link.proofs.Common.{IsTrueMark, first_sync_frame, MarksTellTheRate, UnmarkedWithoutSync, ShowsSync, map}
 use Rattle.clean_link.proofs.Common.{filter, flat_map, map-append, flat_map-append, nat_lt, is_some, length-map, IsMarkedWhereHeard}
-use Rattle.clean_link.proofs.Common.{events_of, Event, events_of_channel, sending_event, sync_sent, whole_sendings, NoisyIsMarkedWhereHeard}
-use Rattle.clean_link.proofs.frames.ChannelFrames.{clean_sync, heard_sync}
+use Rattle.clean_link.proofs.Common.{events_of, Event, events_of_channel, sending_event, sync_sent, whole_sendings}
 use Rattle.paging_message.proofs.Pieces.{length-run}
 use Rattle.clean_frames.proofs.sendings.Capsules.{IsSentAt, begun, is_at, piece_of, sending_frames}
 use Rattle.clean_link.proofs.frames.Times.{frames_begin, sync_timed}
@@ -235,19 +235,14 @@ module _ {width : Width} {plan : CellPlan} {samples : List Sample} {t : Tuning}
 -- ---- the laws
 
 pub marks_true : MarksAreTrue
-marks_true width plan t n m is tuned set = marks_in (clean_sync width plan is) tuned n m set
+marks_true width plan samples t n m is tuned set = marks_in (shows_sync is) tuned n m set
 
 pub marks_rate : MarksTellTheRate
-marks_rate width plan sync t n m is sends tuned set =
-    rate_in (clean_sync width plan is) tuned sync n m sends set
+marks_rate width plan samples sync t n m is sends tuned set =
+    rate_in (shows_sync is) tuned sync n m sends set
 
 pub unmarked : UnmarkedWithoutSync
-unmarked width plan t n is silent tuned = unmarked_in (clean_sync width plan is) tuned n silent
-
-pub noisy_marks : NoisyMarksAreTrue
-noisy_marks width plan sync e samples t n m is tuned set =
-    let shows = heard_sync width plan sync e samples is in
-    (marks_in shows tuned n m set, rate_in shows tuned sync n m is.sends set)
+unmarked width plan samples t n is silent tuned = unmarked_in (shows_sync is) tuned n silent
 
 -- ---- times
 abbrev mark_time : Mark → ℕ
@@ -398,8 +393,4 @@ module _ {width : Width} {plan : CellPlan} {samples : List Sample} {t : Tuning}
         (sym (mark_of_all t (sync_timed t tuned.alone) samples) ∙ unset)
 
 pub marked_where_heard : IsMarkedWhereHeard
-marked_where_heard width plan t is tuned = marked_in (clean_sync width plan is) tuned
-
-pub noisy_marked : NoisyIsMarkedWhereHeard
-noisy_marked width plan sync e samples t is tuned =
-    marked_in (heard_sync width plan sync e samples is) tuned
+marked_where_heard width plan samples t is tuned = marked_in (shows_sync is) tuned

@@ -5,22 +5,19 @@ use Rattle.clean_link.proofs.Common.{places, Sample, Width, flat_map_ext_places,
 use Rattle.clean_link.proofs.Common.{PagingPlan, TrafficPlan, SetOneFrame, events, events_at, frame_events_at, heard_within}
 use Rattle.clean_link.proofs.Common.{message_events_at, paging_events_at, mark, frames_at, messages_at, is_in_file, sync_events_at}
 use Rattle.clean_link.proofs.Common.{power_bits_at, decoded_at, frame_event, frame_heard, if_followed, Tuning, Event, Pilot, Leg, Mark}
-use Rattle.clean_link.proofs.Common.{Traffic, by_one_mark, sync_sent, IsNotDirected, IsOnPath, is_frame, is_message, is_page, is_sync}
-use Rattle.clean_link.proofs.Common.{AreEventsOf, AreFramesBehind, AreMessagesBehind, EachChannelComesBack, FollowsOne, IsEventOf}
+use Rattle.clean_link.proofs.Common.{Traffic, by_one_mark, IsNotDirected, IsOnPath, is_frame, is_message, is_page, is_sync}
+use Rattle.clean_link.proofs.Common.{AreFramesBehind, AreMessagesBehind, EachChannelComesBack, FollowsOne, IsEventOf}
 use Rattle.clean_link.proofs.Common.{frame_ends, is_received, received_frames, AreDistinct, IsDistinctFrame, SendsSetOne}
 use Rattle.clean_link.proofs.Common.{messages_of_channel, paging_sent, told_with_sync, HearsSentTraffic, IsHeardAs}
-use Rattle.clean_link.proofs.Common.{NoisyEachChannelComesBack, ShowsSync, ShowsTraffic, IsUndirected, NoEventIsDirectedByNoise, ◌++◌}
+use Rattle.clean_link.proofs.Common.{ShowsSync, IsUndirected, ◌++◌}
 use Rattle.clean_link.proofs.Common.{All-weaker, ◌≢◌, All-append, All-cons, All-nil, All-same, sets_events_at, messages_sent, FollowsSent}
 use Rattle.clean_link.proofs.Common.{NoEventIsDirected, signaling_sent}
 use Rattle.clean_link.proofs.traffic.Steady.{frames_from_mark, messages_from_mark, first_legs, first_pilot, events_at_all, gathered_all}
 use Rattle.clean_link.proofs.traffic.Steady.{one_stream}
 use Rattle.clean_link.proofs.Common.{AreEventsBySigns, AreFramesBySigns, ChannelsComeBackBySigns, FromMark, HearsBySigns, MarkIsAt}
-use Rattle.clean_link.proofs.Common.{IsReceivable, NoEventIsDirectedBySigns, SyncTellsTheMark, TrafficFrameHasSigns, pages_after, Data}
-use Rattle.clean_link.proofs.Common.{traffic_carrier}
-use Rattle.clean_link.proofs.frames.ChannelFrames.{clean_signs, near_frame, near_paging, near_sync, shows_sync}
-use Rattle.clean_signal.proofs.noise.Near.{near-self, none_borne}
-use Rattle.clean_signal.proofs.signal.CarriersApart.{traffic_sent}
-use Rattle.clean_link.proofs.traffic.Signs.{lawful_traffic, signed_power_bits}
+use Rattle.clean_link.proofs.Common.{IsReceivable, SyncTellsTheMark, TrafficFrameHasSigns, pages_after}
+use Rattle.clean_link.proofs.frames.ChannelFrames.{clean_signs, shows_sync}
+use Rattle.clean_link.proofs.traffic.Signs.{clean_sent, signed_power_bits}
 use Rattle.clean_link.proofs.messages.Kinds.{frames_of_all, messages_of_all, pages_of_all, sync_of_all, IsKind, frame_kind, paging_kind}
 use Rattle.clean_link.proofs.messages.Kinds.{sets_kind, sync_kind}
 use Rattle.clean_link.proofs.messages.MessagesBack.{PagesShown, clean_pages, pages_shown, signed_pages_shown}
@@ -286,13 +283,9 @@ pub each_channel : EachChannelComesBack
 unfolding paging_sent
 each_channel width plan t is tuned least most not_directed =
     let samples = made_samples plan in
-    let none = near-self 0 samples in
     let signs = clean_signs width plan is in
     let marked = mark_told (shows_sync signs) tuned (mark t samples t.count) refl in
     let hears = hears_by_signs samples is signs.long tuned marked not_directed in
-    let sent = λ (p : TrafficPlan) (has : Contains plan.traffic p). near_frame
-    (traffic_carrier plan p) Data 0 samples is (traffic_sent plan p has) none
-    (none_borne width plan p.gain is (lawful_traffic width plan p is.lawful has).gain) in
     let free = λ (none : IsFreeOf plan.traffic t.paging). pages_back samples is signs.long tuned marked
     (clean_pages width plan t _ is (record {
       path = tuned;
@@ -306,30 +299,10 @@ each_channel width plan t is tuned least most not_directed =
           free (free_where_sent plan.traffic plan.paging t.paging is.lawful.traffic.free sent);
       free = free;
       frames = λ p follows.
-          frames_behind_all plan p samples _ _ (sent p follows.sent) (hears.frames p follows);
+          frames_behind_all plan p samples _ _ (clean_sent is p follows.sent) (hears.frames p follows);
       messages = λ p follows.
-          hears.messages p follows (λ superframes k told. sent p follows.sent (4 * superframes + k));
-    }
-
-pub noisy_each_channel : NoisyEachChannelComesBack
-unfolding paging_sent
-noisy_each_channel width plan sync e samples t is tuned not_directed =
-    let signs = near_sync samples is.receivable is.sends is.near is.bears in
-    let receivable = is.receivable in
-    let marked = mark_told (shows_sync signs) tuned (mark t samples t.count) refl in
-    let hears = hears_by_signs samples receivable signs.long tuned marked not_directed in
-    let sent = λ (p : TrafficPlan) (has : Contains plan.traffic p). near_frame
-    (traffic_carrier plan p) Data e samples receivable (traffic_sent plan p has) is.near in
-    record {
-      sync = hears.sync signs;
-      pages = λ q has numbered bears.
-          hears.pages q has numbered
-          (λ superframes k told. near_paging samples receivable has is.near bears (4 * superframes + k));
-      frames = λ p follows bears.
-          frames_behind_all plan p samples _ _ (sent p follows.sent bears) (hears.frames p follows);
-      messages = λ p follows bears.
           hears.messages p follows
-          (λ superframes k told. sent p follows.sent bears (4 * superframes + k));
+          (λ superframes k told. clean_sent is p follows.sent (4 * superframes + k));
     }
 
 -- ---- channel by channel
@@ -413,28 +386,11 @@ module _ {width : Width} {plan : CellPlan} {t : Tuning} {samples : List Sample}
 
 -- ---- the laws
 
-pub no_event_by_signs : NoEventIsDirectedBySigns
-no_event_by_signs width plan samples t is tuned follows signs none =
+pub no_event_directed : NoEventIsDirected
+no_event_directed width plan samples t is tuned follows signs none =
     undirected_events (shows_sync is) tuned
     (λ p traffic m superframes chosen told hears one distinct quiet.
     signed_none_directed hears one distinct quiet samples
     (signed_traffic hears is.long
     (λ k. signs p traffic chosen hears.sent hears.assigned superframes k told)))
     is.long follows none
-
-pub no_event_directed : NoEventIsDirected
-no_event_directed width plan t is tuned follows none =
-    no_event_by_signs width plan (made_samples plan) t (clean_signs width plan is) tuned follows
-    (λ p traffic chosen has assigned superframes k told.
-    near_frame (traffic_carrier plan p) Data 0 (made_samples plan) is (traffic_sent plan p has)
-    (near-self 0 (made_samples plan))
-    (none_borne width plan p.gain is (lawful_traffic width plan p is.lawful has).gain)
-    (4 * superframes + k)) none
-
-pub noisy_no_event : NoEventIsDirectedByNoise
-noisy_no_event width plan sync e samples t is tuned follows bears none =
-    no_event_by_signs width plan samples t
-    (near_sync samples is.receivable is.sends is.near is.bears) tuned follows
-    (λ p traffic chosen has assigned superframes k told.
-    near_frame (traffic_carrier plan p) Data e samples is.receivable (traffic_sent plan p has) is.near
-    (bears p traffic chosen has assigned) (4 * superframes + k)) none

@@ -1,14 +1,14 @@
 -- A handset hears the whole transmissions, the whole pages, and the frames and messages of a traffic
 -- channel of a clean link's cell, with the events of its pilot sets, in the order in which they are
 -- known, and nothing else.
-use Rattle.clean_link.proofs.Common.{◌≡◌, ℕ, ◌+◌, ◌*◌, Bool, true, false, List, [], ◌∷◌, ◌++◌, length, map, refl, sym, ap, ◌∙◌, arith, inl}
-use Rattle.clean_link.proofs.Common.{inr, nat_lt, Option, None, Some, ℤ, pos, if◌then◌else◌, All, flat_map, cases_Bool, ltb-true}
+use Rattle.clean_link.proofs.Common.{◌≡◌, ℕ, ◌+◌, Bool, true, false, List, [], ◌∷◌, ◌++◌, length, map, refl, sym, ap, ◌∙◌, arith, inl}
+use Rattle.clean_link.proofs.Common.{inr, nat_lt, Option, None, Some, ℤ, pos, if◌then◌else◌, flat_map, cases_Bool, ltb-true}
 use Rattle.clean_link.proofs.Common.{map-append, places, CheckForm, Sample, Width, made_samples, phase_at, CellPlan}
 use Rattle.clean_link.proofs.Common.{SyncPlan, events, events_at, frame_events_at, heard_within, message_events_at, paging_events_at}
 use Rattle.clean_link.proofs.Common.{sets_events_at, mark, page_event, pages_at, pages_behind, sync_events_at, Tuning, Event, Pilot, Mark}
-use Rattle.clean_link.proofs.Common.{AreAt, IsAt, all_at, by_one_mark, pages_from_mark, flat_map_ext_places, IsNotDirected, IsOnPath}
+use Rattle.clean_link.proofs.Common.{AreAt, IsAt, all_at, by_one_mark, pages_from_mark, flat_map_ext_places, IsOnPath}
 use Rattle.clean_link.proofs.Common.{IsTunedToPlan, sync_sent, tuning_to, IsReceivable, ReadPage, known_page, pages_sent}
-use Rattle.clean_link.proofs.Common.{pages_within, FollowsSent, WholeMessagesComeBack, known_event, paging_sent, pages_behind_mark}
+use Rattle.clean_link.proofs.Common.{pages_within, WholeMessagesComeBack, known_event, paging_sent, pages_behind_mark}
 use Rattle.clean_link.proofs.Common.{AllComesBackBySigns, FromMark, IsCellMark, MarkIsAt, PagingFrameHasSigns, pages_after, if_followed}
 use Rattle.clean_link.proofs.Common.{sent_events, by_places, sets_heard, signaling_sent, subst, frames_at, messages_at, sets_at, Traffic}
 use Rattle.clean_link.proofs.Common.{traffic_sent, ◌<◌, Contains, PagingPlan}
@@ -17,7 +17,7 @@ use Rattle.clean_link.proofs.Common.{append-nil, filter-append, at_of, All-head,
 use Rattle.clean_link.proofs.traffic.Steady.{events_at_all, right_all, left_all}
 use Rattle.clean_link.proofs.frames.ChannelFrames.{clean_sync, shows_sync}
 use Rattle.clean_link.proofs.pages.Back.{pages_back, sent_of_number, signed_pages}
-use Rattle.clean_link.proofs.sendings.Heard.{none_known, sendings_back, sendings_in}
+use Rattle.clean_link.proofs.sendings.Heard.{none_known, sendings_in}
 use Rattle.clean_signal.proofs.signal.Samples.{length-made}
 use Rattle.clean_link.proofs.traffic.Back.{frames_all, mark_told, messages_all, one_near}
 
@@ -211,7 +211,7 @@ signed_pages_shown {width} {plan} samples {t} q is tuned has numbered signs m su
     (λ (channel : ℕ). pages_within t channel (Some m) samples plan.link.samples ≡
     pages_sent plan channel (plan.link.start + m.sample))
     numbered
-    (signed_pages samples is has tuned cell low (λ k. signs superframes k told)
+    (signed_pages width plan q t m superframes samples is has tuned cell low (λ k. signs superframes k told)
     ∙ sym (sent_of_number plan q (plan.link.start + m.sample) is.lawful.apart has))
 
 -- ---- the pilot sets
@@ -341,7 +341,7 @@ module _ (plan : CellPlan) (t : Tuning) (samples : List Sample)
 
 pub messages_back : WholeMessagesComeBack
 messages_back width plan t is tuned follows not_directed =
-    all_events plan t (made_samples plan) (sendings_back width plan t is tuned.path)
+    all_events plan t (made_samples plan) (sendings_in (clean_sync width plan is) tuned.path)
     (pages_all width plan t is tuned)
     (frames_all width plan t is tuned.path not_directed follows)
     (messages_all width plan t is tuned.path not_directed follows) (sets_all plan t tuned.path)

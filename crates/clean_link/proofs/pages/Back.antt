@@ -1,4 +1,5 @@
 -- On a clean link a handset hears the whole pages of a paging channel, in order, and nothing else.
+use Rattle.clean_link.proofs.Common.{SignedPagesComeBack}
 use Rattle.clean_link.proofs.Common.{HaveOwnNumbers, eq-eqb, get_or, length, ne_eqb, suc, zero, ◌≡◌, ◌≢◌, ℕ, ◌+◌, ◌-◌, ◌*◌, ◌/◌, ◌<◌, ◌≤◌}
 use Rattle.clean_link.proofs.Common.{◌==◌, ⊎_elim, Bool, true, false, List, [], ◌∷◌, map, filter, replicate, refl, sym, ap, ◌∙◌, arith}
 use Rattle.clean_link.proofs.Common.{subst, Option, Some, All, Contains, flat_map, option_to_list, cases_Bool, eqb-true, eqb-false}
@@ -9,7 +10,7 @@ use Rattle.clean_link.proofs.Common.{SyncPlan, page_in, frame_own_bits, is_in_fi
 use Rattle.clean_link.proofs.Common.{flat_map_ext_places, heard_behind, IsOnPath, IsTrueMark, IsReceivable, end_chip, known_page, KnownPage}
 use Rattle.clean_link.proofs.Common.{message_in, page_told, pages_numbered, pages_of_channel, pages_sent, pages_within, PagesComeBack}
 use Rattle.clean_link.proofs.Common.{placed_pages, ReadPage, round_sent, AreWholePages, capsules_with_frames, cycle_half_frames}
-use Rattle.clean_link.proofs.Common.{is_whole_page, Placed, sending_of, Sample, NoisyPagesComeBack, ◌++◌, nat_le, if◌then◌else◌, mul-div-le}
+use Rattle.clean_link.proofs.Common.{is_whole_page, Placed, sending_of, Sample, ◌++◌, nat_le, if◌then◌else◌, mul-div-le}
 use Rattle.clean_link.proofs.Common.{and_parts, leb-true, le-div, length-capsule, HasMessage, laid_behind, AreHeard, Page, placed, None}
 use Rattle.clean_link.proofs.Common.{paging_capsule, body_reading, is_body, paging_reading, PagingMessage, reads_body, reads_capsule}
 use Rattle.clean_link.proofs.Common.{as_spelled_page, take, range_with_len, lt-ltb, append-nil, map-append, flat_map-map, flat_map-append}
@@ -18,7 +19,6 @@ use Rattle.clean_link.proofs.Common.{paging_bound, paging_stream, known_now, kno
 use Rattle.clean_link.proofs.Common.{flat_map_ext_filter, flat_map_ext_filter_places, frame_capsules}
 use Rattle.clean_frames.proofs.pages.Scans.{zero_frames_end_none}
 use Rattle.clean_frames.proofs.pages.CyclesBack.{stated_pages, whole_pages_back}
-use Rattle.clean_link.proofs.Common.{IsCellMark, PagingFrameHasSigns}
 use Rattle.clean_link.proofs.frames.ChannelFrames.{near_paging, paging_borne, paging_shown, silent_paging_back}
 use Rattle.clean_link.proofs.frames.OwnBits.{shown_back}
 use Rattle.clean_signal.proofs.noise.Near.{near-self}
@@ -555,13 +555,8 @@ found plan channel mark_chip pages (p ∷ paging) each none =
 -- ---- the law
 
 -- where each frame from the mark on has the sent signs
-pub signed_pages : {width : Width} {plan : CellPlan} {p : PagingPlan} {t : Tuning} {m : Mark}
-    {superframes : ℕ} (samples : List Sample) → IsReceivable width plan → Contains plan.paging p →
-    IsOnPath plan t → IsCellMark plan m superframes → m.prat < 2 →
-    ((k : ℕ) → PagingFrameHasSigns plan p samples (4 * superframes + k)) →
-    pages_within t p.number (Some m) samples plan.link.samples
-    ≡ pages_of_channel plan p (plan.link.start + m.sample)
-signed_pages {width} {plan} {p} {t} {m} {superframes} samples receivable has tuned cell low signs =
+pub signed_pages : SignedPagesComeBack
+signed_pages width plan p t m superframes samples receivable has tuned cell low signs =
     let is : HearsPages width plan cell.sync t m superframes = record {
       receivable = receivable;
       tuned = tuned;
@@ -577,14 +572,6 @@ signed_pages {width} {plan} {p} {t} {m} {superframes} samples receivable has tun
     (λ k there. shown_back (paging_shown plan p t m superframes samples tuned cell signs) k there)
     ∙ channel_tells p.number is time p
     (stated_pages rate p (All-contains (IsStatedPaging rate) plan.paging p receivable.pages has))
-
--- so of near samples, where the channel bears the noise
-pub noisy_pages : NoisyPagesComeBack
-noisy_pages width plan sync p t m superframes e samples receivable has stated tuned sends rate low marked near
-    bears =
-    signed_pages samples receivable has tuned
-    (record { marked = marked; sync = sync; sends = sends; rate = rate }) low
-    (λ k. near_paging samples receivable has near bears (4 * superframes + k))
 
 -- of a clean link, on whatever row
 pub pages_back : PagesComeBack
@@ -611,9 +598,10 @@ pages_back width plan sync t channel m superframes receivable stated tuned first
     subst
     (λ (c : ℕ). pages_within t c (Some m) samples plan.link.samples ≡ pages_of_channel plan p mark_chip)
     numbered
-    (noisy_pages width plan sync p t m superframes 0 samples receivable has
-    (All-contains (IsStatedPaging (sent_paging_rate plan.sync)) plan.paging p stated has) tuned sends rate low
-    marked (near-self 0 samples) (paging_borne width plan p receivable has)))
+    (signed_pages width plan p t m superframes samples receivable has tuned
+    (record { marked = marked; sync = sync; sends = sends; rate = rate }) low
+    (λ k. near_paging samples receivable has (near-self 0 samples) (paging_borne width plan p receivable has)
+    (4 * superframes + k))))
     plan.paging (All-contains_itself plan.paging))
     (λ others.
     by_capsules channel is (frames_timed plan t channel m tuned) samples (λ k. replicate bits false)

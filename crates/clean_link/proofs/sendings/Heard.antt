@@ -1,4 +1,5 @@
 -- What a handset hears in each sync frame of a clean link.
+use Rattle.clean_link.proofs.frames.ChannelFrames.{shows_sync}
 use Rattle.clean_link.proofs.Common.{◌≡◌, ℕ, suc, ◌+◌, ◌*◌, ◌^◌, ◌<◌, ◌≤◌, ◌&&◌, Bool, true, false, List, [], length, map, filter}
 use Rattle.clean_link.proofs.Common.{replicate, refl, ap, ◌∙◌, arith, nat_lt, nat_le, Some, None, if◌then◌else◌, mul-le-mul_left, map-map}
 use Rattle.clean_link.proofs.Common.{places, CheckForm, Sample, most_samples, Width, Eight, Sixteen, after, after_lt, Piece, piece}
@@ -10,7 +11,6 @@ use Rattle.clean_link.proofs.Common.{first_sync_frame, ShowsSync, ◌-◌, ◌/�
 use Rattle.clean_link.proofs.Common.{leb-true, ltb-true, superframes_some, is_whole, sending_begins, sending_ends, ◌≢◌, ⊎_elim, cond, ◌∷◌}
 use Rattle.clean_link.proofs.Common.{sym, Option, flat_map, cases_Bool, false_from_ne_true, events_of, sync_events_at, sync_bound, Event}
 use Rattle.clean_link.proofs.Common.{flat_map_ext_filter, WholeSendingsComeBack, events_of_channel, heard_behind, sending_event, sync_sent}
-use Rattle.clean_link.proofs.Common.{NoisySendingsComeBack}
 use Rattle.sync_message.proofs.Readings.{reads_capsule}
 use Rattle.paging_message.proofs.Pieces.{run, run-places, none_starts}
 use Rattle.clean_frames.proofs.sendings.Capsules.{IsSentAt, piece_of, pieces_end, sending_frames}
@@ -19,7 +19,6 @@ use Rattle.chip_core.proofs.Ranges.{filter_all_places}
 use Rattle.clean_link.proofs.sendings.Order.{in_file, blocks, given_where, flat_map-filter, map-filter, moved_up, quiet}
 use Rattle.clean_link.proofs.sendings.Order.{events_by_frames, frame_events, frames_of, known}
 use Rattle.heard_events.specs.declared.event.Event.TheVariants.{Sync}
-use Rattle.clean_link.proofs.frames.ChannelFrames.{clean_sync, heard_sync}
 
 -- ---- the pieces
 
@@ -481,8 +480,4 @@ module _ {width : Width} {plan : CellPlan} {samples : List Sample} {t : Tuning}
       ∙ sendings_by_frames
 
 pub sendings_back : WholeSendingsComeBack
-sendings_back width plan t is tuned = sendings_in (clean_sync width plan is) tuned
-
-pub noisy_sendings : NoisySendingsComeBack
-noisy_sendings width plan sync e samples t is tuned =
-    sendings_in (heard_sync width plan sync e samples is) tuned
+sendings_back width plan samples t is tuned = sendings_in (shows_sync is) tuned

@@ -13,6 +13,7 @@ use Rattle.clean_link.proofs.traffic.Steady.{frames_from_mark, messages_from_mar
 use Rattle.clean_link.proofs.marks.MarksTrue.{first_in, unset_in, marks_in, rate_in, time_of, unmarked_in}
 use Rattle.clean_link.proofs.frames.ChannelFrames.{clean_sync}
 use Rattle.clean_link.proofs.traffic.Frames.{sent_frames_back, sent_messages_back}
+use Rattle.clean_link.proofs.traffic.Signs.{clean_sent}
 use Rattle.clean_signal.proofs.signal.Samples.{length-made}
 use Rattle.clean_link.proofs.sendings.Heard.{none_known}
 
@@ -233,8 +234,9 @@ module _ (width : Width) (plan : CellPlan) (t : Tuning) (is : IsReceivable width
         once = λ n most.
             by_one_mark t (one_near t plan tuned) samples n t.count n _ most (omega arith)
             (frames_from_mark t (one_near t plan tuned) t.traffic samples n);
-        back = λ p traffic m superframes assigned set hears one.
-            sent_frames_back width plan p t traffic m superframes hears one
+        back = λ p traffic m superframes assigned set hears one distinct.
+            sent_frames_back width plan p t traffic m superframes samples hears (length-made plan)
+            (λ k. clean_sent is p hears.sent (4 * superframes + k)) one distinct
             (undirected plan t samples tuned (length-made plan) not_directed traffic m assigned set);
       }) follows
 
@@ -251,7 +253,8 @@ module _ (width : Width) (plan : CellPlan) (t : Tuning) (is : IsReceivable width
         once = λ n most.
             by_one_mark t (one_near t plan tuned) samples n t.count n _ most (omega arith)
             (messages_from_mark t (one_near t plan tuned) t.traffic samples n);
-        back = λ p traffic m superframes assigned set hears one.
-            sent_messages_back width plan p t traffic m superframes hears one
+        back = λ p traffic m superframes assigned set hears one distinct.
+            sent_messages_back width plan p t traffic m superframes samples hears (length-made plan)
+            (λ k. clean_sent is p hears.sent (4 * superframes + k)) one distinct
             (undirected plan t samples tuned (length-made plan) not_directed traffic m assigned set);
       }) follows

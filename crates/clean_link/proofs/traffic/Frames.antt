@@ -1,5 +1,7 @@
 -- The frames of a traffic channel come back: each received one is heard at its own end, as it was
 -- sent where it is distinct.
+use Rattle.clean_link.proofs.Common.{SignedFramesAreDecoded}
+use Rattle.clean_link.proofs.traffic.Signs.{traffic_related, traffic_strong}
 use Rattle.clean_link.proofs.Common.{◌≡◌, ℕ, zero, suc, ◌+◌, ◌-◌, ◌*◌, ◌/◌, ◌%◌, ◌<◌, ◌≤◌, ⊎_elim, Bool, true, false, List, [], ◌∷◌, length}
 use Rattle.clean_link.proofs.Common.{cases_lt, inl, inr, map, filter, take, drop, refl, sym, ap, ◌∙◌, arith, subst, nat_le, cond, All}
 use Rattle.clean_link.proofs.Common.{flat_map, and_from, and_parts, cases_Bool, false_from_ne_true, le-leb, leb-true, All-head, All-tail}
@@ -11,20 +13,19 @@ use Rattle.clean_link.proofs.Common.{replaced_in, stream_of, Tuning, Event, Leg,
 use Rattle.clean_link.proofs.Common.{flat_map_ext_places, soft_strength, frame_chip, frame_ends, frame_told, frames_of_channel, is_received}
 use Rattle.clean_link.proofs.Common.{received_frames, replaced_of, sent_power_bits, sent_frame_event, AreDistinct, IsDistinctFrame}
 use Rattle.clean_link.proofs.Common.{IsOnePilot, SendsSetOne, end_chip, EachFrameIsHeard, HearsSentTraffic, IsHeardAs, IsUndirected}
-use Rattle.clean_link.proofs.Common.{SentFramesComeBack, TrafficFramesComeBack, ℤ, signs_frame, Bears, IsNear, NoisyEachFrameIsHeard}
-use Rattle.clean_link.proofs.Common.{NoisySentFramesComeBack, NoisyTrafficFramesComeBack, ShowsTraffic, Option, option_to_list, append-nil}
+use Rattle.clean_link.proofs.Common.{SentFramesComeBack, TrafficFramesComeBack, ℤ, signs_frame}
+use Rattle.clean_link.proofs.Common.{ShowsTraffic, Option, option_to_list, append-nil}
 use Rattle.clean_link.proofs.Common.{CheckForm, messages_at, capsule_with, signaling_message_at, message_events, message_heard, messages_by}
 use Rattle.clean_link.proofs.Common.{signal_at, signal_in, signal_of, signals_before, has_frame, filter_ext_places, message_told}
 use Rattle.clean_link.proofs.Common.{messages_of_channel, signal_sent, signals_in, signals_received, SentMessagesComeBack}
 use Rattle.clean_link.proofs.Common.{HasSign, TrafficFrameHasSigns}
-use Rattle.clean_link.proofs.Common.{NoisySentMessagesComeBack, IsNotDirected, NoneIsDirected, NoneIsDirectedByNoise}
+use Rattle.clean_link.proofs.Common.{IsNotDirected, NoneIsDirected}
 use Rattle.clean_link.proofs.pages.Back.{given_in_order, IsBound}
 use Rattle.clean_link.proofs.sendings.Order.{flat_map-filter, given_where, moved_up}
 use Rattle.clean_link.specs.TrafficLaws.{IsDecodedAs}
-use Rattle.clean_signal.proofs.noise.Near.{length-near, near-self, signs_turn}
-use Rattle.clean_link.proofs.traffic.Signs.{heard_related, power_pairs, lawful_traffic, near_traffic, noisy_traffic_signs, same_state}
-use Rattle.clean_link.proofs.traffic.Signs.{signed_power_bits, traffic_borne, traffic_signs}
-use Rattle.clean_signal.proofs.signal.Samples.{length-made}
+use Rattle.clean_signal.proofs.noise.Near.{signs_turn}
+use Rattle.clean_link.proofs.traffic.Signs.{heard_related, power_pairs, lawful_traffic, same_state}
+use Rattle.clean_link.proofs.traffic.Signs.{signed_power_bits}
 use Rattle.clean_link.proofs.traffic.Steady.{one_now, one_stream, one_stream_is, traffic_file_from, traffic_file_to, traffic_known_is}
 use Rattle.clean_link.proofs.traffic.Steady.{traffic_timed, one_pilot_heard, first_legs, first_pilot, frames_of_one, each_of_all}
 use Rattle.clean_link.proofs.traffic.Steady.{one_pilot_before, messages_of_one}
@@ -70,12 +71,10 @@ pub frame_back : TrafficFramesComeBack
 unfolding decoded_at
 frame_back width plan p t traffic m legs superframes k f is heard distinct =
     let few = (power_pairs (frame_state traffic m k) (traffic_mask traffic.esn)).long in
-    let signs = traffic_signs width plan p t traffic m legs superframes k f is heard in
-    let long = (noisy_traffic_signs width plan p t traffic m legs superframes k 0 f (made_samples plan) is
-    heard (near-self 0 (made_samples plan)) (traffic_borne is)).0 in
+    let signs = traffic_related is heard in
     sent_frame (soft_strength plan Data p.gain) (replaced_in traffic m k) f.rate f.information
-    (frame_softs (made_samples plan) (stream_of t traffic m legs k) k) signs.0 (omega (arith, few)) long
-    (sized is heard) signs.1 distinct
+    (frame_softs (made_samples plan) (stream_of t traffic m legs k) k) (traffic_strong is)
+    (omega (arith, few)) signs.0 (sized is heard) signs.1 distinct
 
 -- what is heard of it
 pub heard_as : (n : ℕ) (f : SetOneFrame) (score : ℤ) (frame : Decoded) (power_bits : List Bool) →
@@ -342,7 +341,7 @@ module _ {width : Width} {plan : CellPlan} {p : TrafficPlan} {t : Tuning} {traff
             told_is shows k f there frame (distinct_there distinct k f there frame))
             ∙ sym (by_marks_frames (frame_told plan p))
 
--- ---- near samples show the channel's frames
+-- ---- samples whose frames have the sent signs
 
 pub signed_frame_back : {width : Width} {plan : CellPlan} {p : TrafficPlan} {t : Tuning}
     {traffic : Traffic} {m : Mark} {legs : ℕ → List Leg} {superframes k : ℕ} {f : SetOneFrame}
@@ -361,9 +360,9 @@ signed_frame_back {t = t} {traffic} {m} {legs} {k = k} {f} samples is heard has 
           (sized is heard) signs.1 distinct;
     }
 
-pub noisy_frame_back : NoisyTrafficFramesComeBack
-noisy_frame_back width plan p t traffic m legs superframes k e f samples is heard near bears =
-    signed_frame_back samples is heard (near_traffic is e samples near bears (4 * superframes + k))
+pub frames_decoded : SignedFramesAreDecoded
+frames_decoded width plan p t traffic m legs superframes k f samples is heard signs =
+    signed_frame_back samples is heard signs
 
 -- where each frame from the mark on has the sent signs, the samples show the channel
 pub signed_traffic : {width : Width} {plan : CellPlan} {p : TrafficPlan} {t : Tuning}
@@ -377,45 +376,16 @@ signed_traffic {samples = samples} is long signs = record {
   power_bits = λ legs k f heard. signed_power_bits samples is heard (signs k);
 }
 
-pub noisy_traffic : {width : Width} {plan : CellPlan} {p : TrafficPlan} {t : Tuning}
-    {traffic : Traffic} {m : Mark} {superframes : ℕ} →
-    HearsSentTraffic width plan p t traffic m superframes → (e : ℕ) (samples : List Sample) →
-    IsNear e samples (made_samples plan) → Bears plan p.gain e →
-    ShowsTraffic plan p t traffic m superframes samples
-noisy_traffic {plan = plan} {superframes = superframes} is e samples near bears =
-    signed_traffic is (length-near e samples (made_samples plan) near ∙ length-made plan)
-    (λ k. near_traffic is e samples near bears (4 * superframes + k))
-
--- so do those of a clean link
-pub clean_traffic : {width : Width} {plan : CellPlan} {p : TrafficPlan} {t : Tuning}
-    {traffic : Traffic} {m : Mark} {superframes : ℕ} →
-    HearsSentTraffic width plan p t traffic m superframes →
-    ShowsTraffic plan p t traffic m superframes (made_samples plan)
-clean_traffic {plan = plan} is =
-    noisy_traffic is 0 (made_samples plan) (near-self 0 (made_samples plan)) (traffic_borne is)
-
 -- ---- the laws
 
-pub noisy_each_frame : NoisyEachFrameIsHeard
-noisy_each_frame width plan p t traffic m superframes e samples is near bears legs undirected one =
-    each_heard is legs one samples (length-near e samples (made_samples plan) near ∙ length-made plan)
-    undirected
-
-pub noisy_sent_frames : NoisySentFramesComeBack
-noisy_sent_frames width plan p t traffic m superframes e samples is near bears some undirected distinct =
-    let shows = noisy_traffic is e samples near bears in
-    sent_heard is (first_legs traffic m) (first_pilot traffic m) samples shows.long undirected shows some
-    distinct
-
 pub each_frame_heard : EachFrameIsHeard
-each_frame_heard width plan p t traffic m superframes legs is undirected one =
-    noisy_each_frame width plan p t traffic m superframes 0 (made_samples plan) is
-    (near-self 0 (made_samples plan)) (traffic_borne is) legs undirected one
+each_frame_heard width plan p t traffic m superframes legs samples is long undirected one =
+    each_heard is legs one samples long undirected
 
 pub sent_frames_back : SentFramesComeBack
-sent_frames_back width plan p t traffic m superframes is =
-    noisy_sent_frames width plan p t traffic m superframes 0 (made_samples plan) is
-    (near-self 0 (made_samples plan)) (traffic_borne is)
+sent_frames_back width plan p t traffic m superframes samples is long signs some distinct undirected =
+    sent_heard is (first_legs traffic m) (first_pilot traffic m) samples long undirected
+    (signed_traffic is long signs) some distinct
 
 -- ---- messages
 
@@ -539,14 +509,9 @@ module _ {width : Width} {plan : CellPlan} {p : TrafficPlan} {t : Tuning} {traff
 -- ---- the law
 
 pub sent_messages_back : SentMessagesComeBack
-sent_messages_back width plan p t traffic m superframes is some undirected distinct =
-    messages_heard is some distinct
-    (first_legs traffic m) (first_pilot traffic m) (made_samples plan) (clean_traffic is) undirected
-
-pub noisy_messages : NoisySentMessagesComeBack
-noisy_messages width plan p t traffic m superframes e samples is near bears some undirected distinct =
+sent_messages_back width plan p t traffic m superframes samples is long signs some distinct =
     messages_heard is some distinct (first_legs traffic m) (first_pilot traffic m) samples
-    (noisy_traffic is e samples near bears) undirected
+    (signed_traffic is long signs)
 
 module _ {width : Width} {plan : CellPlan} {p : TrafficPlan} {t : Tuning} {traffic : Traffic}
     {m : Mark} {superframes : ℕ} (is : HearsSentTraffic width plan p t traffic m superframes)
@@ -590,9 +555,5 @@ module _ {width : Width} {plan : CellPlan} {p : TrafficPlan} {t : Tuning} {traff
 -- ---- the law
 
 pub none_directed : NoneIsDirected
-none_directed width plan p t traffic m superframes is some distinct none =
-    signed_none_directed is some distinct none (made_samples plan) (clean_traffic is)
-
-pub noisy_none_directed : NoneIsDirectedByNoise
-noisy_none_directed width plan p t traffic m superframes e samples is near bears some distinct none =
-    signed_none_directed is some distinct none samples (noisy_traffic is e samples near bears)
+none_directed width plan p t traffic m superframes samples is long signs some distinct none =
+    signed_none_directed is some distinct none samples (signed_traffic is long signs)

@@ -1,4 +1,6 @@
 -- The frames of a traffic channel, as they are received of the reference base station alone.
+use Rattle.clean_link.proofs.Common.{SignedFramesAreReceived, SignedSetTwoFramesComeBack}
+use Rattle.clean_link.proofs.traffic.Signs.{clean_sent, traffic_shows}
 use Rattle.clean_link.proofs.Common.{◌≡◌, ℕ, ◌+◌, ◌-◌, ◌*◌, ◌%◌, ◌&&◌, Bool, true, List, [], ◌∷◌, length, map, filter, refl, sym, ap, ℤ}
 use Rattle.clean_link.proofs.Common.{frame_ends, ◌∙◌, arith, subst, nat_le, inl, inr, Option, Some, Contains, and_from, cases_Bool, le-leb}
 use Rattle.clean_link.proofs.Common.{places, Sample, filter_ext_places, flat_map_ext_filter_places, Width, traffic_mask, Data, made_samples}
@@ -7,23 +9,17 @@ use Rattle.clean_link.proofs.Common.{frames_of, set_two, IsSetTwoFrame, CellPlan
 use Rattle.clean_link.proofs.Common.{frames_within, soft_frame, soft_frames, raw_at, is_in_file, known_at, known_by, Stream, frames_bound}
 use Rattle.clean_link.proofs.Common.{replaced_in, Tuning, Mark, Traffic, PowerControl, SoftFrame, soft_strength, IsOnPath, IsReceivable}
 use Rattle.clean_link.proofs.Common.{is_received, received_frames, replaced_of, sent_bits, IsAssigned, SendsSetTwo, SendsSymbols, ShowFrame}
-use Rattle.clean_link.proofs.Common.{ShowPowerBits, cycled_frame2, codeword_symbols2, AreReceived, IsReceivedAs, EachFrameIsReceived}
-use Rattle.clean_link.proofs.Common.{FramesBehindMark, FramesShowPowerBits, FramesShowSymbols, SetTwoBehindMark, IsSentFrame2}
-use Rattle.clean_link.proofs.Common.{HearsSentTraffic, SetTwoFramesComeBack, Bears, IsNear, IsReceivedBySigns, IsSentFrame2BySigns}
-use Rattle.clean_link.proofs.Common.{NoisyFramesAreReceived, NoisyFramesBehindMark, NoisySetTwoBehindMark, NoisySetTwoFramesComeBack}
-use Rattle.clean_link.proofs.Common.{AreReceivedFrom, HasSyncSigns, MarkIsAt, TrafficFrameHasSigns, told_with_sync, traffic_carrier}
-use Rattle.clean_link.proofs.Common.{HavePowerSigns, NoisyFrame, IsReceived, ShowsSync, ◌<ℤ◌, correlation, AgreeElsewhere, unreplaced}
+use Rattle.clean_link.proofs.Common.{ShowPowerBits, cycled_frame2, codeword_symbols2, EachFrameIsReceived}
+use Rattle.clean_link.proofs.Common.{FramesBehindMark, FramesShowPowerBits, FramesShowSymbols, SetTwoBehindMark}
+use Rattle.clean_link.proofs.Common.{HearsSentTraffic, SetTwoFramesComeBack, IsReceivedBySigns}
+use Rattle.clean_link.proofs.Common.{AreReceivedFrom, MarkIsAt, TrafficFrameHasSigns}
+use Rattle.clean_link.proofs.Common.{HavePowerSigns, NoisyFrame, IsReceived, ◌<ℤ◌, correlation, AgreeElsewhere, unreplaced}
 use Rattle.clean_link.proofs.Common.{frame_softs, stream_of, HeardAreTheOnlyBest, ReceivedAreTheOnlyBest, SetTwoAreTheOnlyBest, by_lt_z}
-use Rattle.clean_link.proofs.Common.{codeword_symbols, KeepSigns, NoisyReceivedAreTheOnlyBest, NoisySetTwoAreTheOnlyBest}
-use Rattle.clean_link.proofs.Common.{NoisyFramesAreTheOnlyBest, agree_left, shown_keep}
+use Rattle.clean_link.proofs.Common.{KeepSigns}
+use Rattle.clean_link.proofs.Common.{agree_left}
 use Rattle.cell_plan.specs.TrafficFrames.{sent_frame_state}
-use Rattle.clean_link.proofs.frames.ChannelFrames.{clean_signs, near_frame, near_sync, shows_sync}
-use Rattle.clean_signal.proofs.noise.Near.{near-self}
-use Rattle.clean_signal.proofs.signal.Samples.{length-made}
-use Rattle.clean_link.proofs.traffic.Back.{mark_told}
-use Rattle.clean_signal.proofs.signal.CarriersApart.{traffic_sent}
-use Rattle.clean_link.proofs.traffic.Signs.{heard_power_bits, power_pairs, frame_powered, frame_shown, lawful_traffic, near_traffic}
-use Rattle.clean_link.proofs.traffic.Signs.{signed_powered, signed_shown, set_two_sends, noisy_traffic_signs, traffic_borne}
+use Rattle.clean_link.proofs.traffic.Signs.{heard_power_bits, power_pairs, frame_powered, frame_shown, lawful_traffic}
+use Rattle.clean_link.proofs.traffic.Signs.{signed_powered, signed_shown, set_two_sends}
 use Rattle.clean_link.proofs.traffic.Frames.{by_marks_frames, inside_at, known_is, one_each, one_taken, one_there, same_places, sized}
 use Rattle.clean_link.proofs.traffic.Steady.{one_stream, traffic_file_to, traffic_known_is}
 use Rattle.clean_link.specs.TrafficLaws.{IsOnlyBestIn}
@@ -67,56 +63,24 @@ signs_only_best format_of replaced softs rate information size is unshared =
           (λ agree. other (unshared r v allowed agree));
     }
 
--- a frame that is received of a clean link is received by the signs of its symbols
-by_signs : (plan : CellPlan) (p : TrafficPlan) (frame : ℕ) (symbols power_bits : List Bool)
-    (soft : SoftFrame) → IsReceivedAs plan p frame symbols power_bits soft →
-    IsReceivedBySigns plan p frame symbols power_bits soft
-by_signs plan p frame symbols power_bits soft received =
-    let shown = received.shown in
-    record {
-      ends = received.ends;
-      powered = received.powered;
-      shown = record {
-        long = shown.long;
-        keeps = shown_keep (soft_strength plan Data p.gain) (replaced_of plan p frame) symbols
-            soft.descrambled shown.strong shown.shows;
-      };
-    }
-
 -- ---- the laws
 
-pub noisy_only_best : NoisyFramesAreTheOnlyBest
-noisy_only_best width plan p t traffic m legs superframes k e f samples is heard near bears distinct =
-    let signs = noisy_traffic_signs width plan p t traffic m legs superframes k e f samples is heard near
-    bears in
+pub heard_only_best : HeardAreTheOnlyBest
+heard_only_best width plan p t traffic m legs superframes k f samples is heard has distinct =
+    let signs = traffic_shows width plan p t traffic m legs superframes k f samples is heard has in
     signs_only_best format_of (replaced_in traffic m k) (frame_softs samples (stream_of t traffic m legs k) k)
     f.rate f.information (sized is heard) (record { long = signs.0; keeps = signs.1 }) distinct
 
-pub heard_only_best : HeardAreTheOnlyBest
-heard_only_best width plan p t traffic m legs superframes k f is heard distinct =
-    noisy_only_best width plan p t traffic m legs superframes k 0 f (made_samples plan) is heard
-    (near-self 0 (made_samples plan)) (traffic_borne is) distinct
-
 -- of frames that are received by the signs of their symbols
-pub noisy_received_only_best : NoisyReceivedAreTheOnlyBest
-noisy_received_only_best plan p frame f soft size received distinct =
+pub received_only_best : ReceivedAreTheOnlyBest
+received_only_best plan p frame f soft size received distinct =
     signs_only_best format_of (replaced_of plan p frame) soft.descrambled f.rate f.information size received.shown
     distinct
 
-pub noisy_set_two_only_best : NoisySetTwoAreTheOnlyBest
-noisy_set_two_only_best plan p frame f soft size received distinct =
-    signs_only_best second.format_of2 (replaced_of plan p frame) soft.descrambled f.rate f.information size received.shown
-    distinct
-
-pub received_only_best : ReceivedAreTheOnlyBest
-received_only_best plan p frame f soft size received distinct =
-    noisy_received_only_best plan p frame f soft size
-    (by_signs plan p frame (codeword_symbols f) f.power_bits soft received) distinct
-
 pub set_two_only_best : SetTwoAreTheOnlyBest
 set_two_only_best plan p frame f soft size received distinct =
-    noisy_set_two_only_best plan p frame f soft size
-    (by_signs plan p frame (codeword_symbols2 f) f.power_bits soft received) distinct
+    signs_only_best second.format_of2 (replaced_of plan p frame) soft.descrambled f.rate f.information size received.shown
+    distinct
 
 -- ---- after a true mark
 
@@ -239,32 +203,17 @@ each_frame_received width plan p t traffic m superframes samples is long =
     each_received is samples long
 
 -- where it has the sent signs, whatever it sends
-pub signed_received : {width : Width} {plan : CellPlan} {p : TrafficPlan} {t : Tuning}
-    {traffic : Traffic} {m : Mark} {superframes : ℕ} (samples : List Sample) (frame : ℕ)
-    (symbols power_bits : List Bool) → HearsSentTraffic width plan p t traffic m superframes →
-    TrafficFrameHasSigns plan p samples frame →
-    is_received plan p (plan.link.start + m.sample) frame ≡ true →
-    SendsSymbols plan p frame symbols power_bits →
-    IsReceivedBySigns plan p frame symbols power_bits
-    (soft_frame t (traffic_channel traffic) m samples (frame - 4 * superframes))
-    × HavePowerSigns (replaced_of plan p frame) power_bits
-    (raw_at t (traffic_channel traffic) m samples (frame - 4 * superframes))
-signed_received samples frame symbols power_bits is has =
+pub signed_received : SignedFramesAreReceived
+signed_received width plan p t traffic m superframes frame samples symbols power_bits is has =
     received_by is samples (λ replaced. NoisyFrame replaced symbols) frame symbols power_bits has
     (λ k there sent own. signed_shown is k sent there samples own)
-
-pub noisy_frames_received : NoisyFramesAreReceived
-noisy_frames_received width plan p t traffic m superframes e samples is near bears frame symbols
-    power_bits =
-    signed_received samples frame symbols power_bits is (near_traffic is e samples near bears frame)
 
 -- of a clean link, where the soft values are known
 pub frames_show_symbols : FramesShowSymbols
 frames_show_symbols width plan p t traffic m superframes frame symbols power_bits is received sent =
-    let none = near-self 0 (made_samples plan) in
     (received_by is (made_samples plan)
     (λ replaced. ShowFrame replaced (soft_strength plan Data p.gain) symbols) frame symbols power_bits
-    (near_traffic is 0 (made_samples plan) none (traffic_borne is) frame)
+    (clean_sent is.receivable p is.sent frame)
     (λ k there sends own. frame_shown is k sends there) received sent).0
 
 pub frames_show_power_bits : FramesShowPowerBits
@@ -290,8 +239,8 @@ set_two_back plan p frame f soft sized received =
     }
 
 -- by the signs of their symbols alone
-pub noisy_set_two_back : NoisySetTwoFramesComeBack
-noisy_set_two_back plan p frame f soft sized received =
+pub signed_set_two_back : SignedSetTwoFramesComeBack
+signed_set_two_back plan p frame f soft sized received =
     let few = (power_pairs (sent_frame_state (frames_of plan p) frame) (traffic_mask p.esn)).long in
     let shown = received.shown in
     record {
@@ -347,20 +296,8 @@ module _ {width : Width} {plan : CellPlan} {p : TrafficPlan} {t : Tuning} {traff
       (soft_frames t (traffic_channel traffic) m samples)
   signed_behind_mark =
       behind_mark _ (λ superframes hears frame received has symbols power_bits sends.
-      (signed_received samples frame symbols power_bits hears has received sends).0)
-
--- of all frames, where all have something
-pub given_all : {plan : CellPlan} {p : TrafficPlan} {at : Option ℕ} {frames : List SoftFrame}
-    (Has : ℕ → Type 0) (Is : ℕ → SoftFrame → Type 0) → ((frame : ℕ) → Has frame) →
-    AreReceivedFrom plan p at (λ frame soft. Has frame → Is frame soft) frames →
-    AreReceivedFrom plan p at Is frames
-given_all Has Is have all = record {
-  superframes = all.superframes;
-  told = all.told;
-  soft = all.soft;
-  each = all.each;
-  are = λ frame received. all.are frame received (have frame);
-}
+      (signed_received width plan p t traffic m superframes frame samples symbols power_bits hears has
+      received sends).0)
 
 -- one of the frames of rate set 2 is sent at each number
 frame2_there : (width : Width) (plan : CellPlan) (p : TrafficPlan) → IsReceivable width plan →
@@ -375,91 +312,27 @@ frame2_there width plan p is sent some frame =
           (lawful_traffic width plan p is.lawful sent).sized (two_in_turn p.frames frame f here),
     )
 
--- and comes back, where what is received of it by what it sends is that of a frame that does
-set_two_of : (plan : CellPlan) (p : TrafficPlan) {at : Option ℕ} (Has : ℕ → Type 0)
-    (Receives : ℕ → List Bool → List Bool → SoftFrame → Type 0)
-    (Back : ℕ → SetTwoFrame → SoftFrame → Type 0) (frames : List SoftFrame) →
-    ((frame : ℕ) → (f : SetTwoFrame) × (cycled_frame2 (frames_of plan p) frame ≡ f ∷ [])
-    × IsSetTwoFrame f) → ((frame : ℕ) (f : SetTwoFrame) (soft : SoftFrame) → IsSetTwoFrame f →
-    Receives frame (codeword_symbols2 f) f.power_bits soft → Back frame f soft) →
-    AreReceivedFrom plan p at (λ frame soft. Has frame → (symbols power_bits : List Bool) →
-    SendsSymbols plan p frame symbols power_bits → Receives frame symbols power_bits soft) frames →
-    AreReceivedFrom plan p at (λ frame soft. Has frame → (f : SetTwoFrame)
-    × (cycled_frame2 (frames_of plan p) frame ≡ f ∷ []) × Back frame f soft) frames
-set_two_of plan p Has Receives Back frames there back all = record {
-  superframes = all.superframes;
-  told = all.told;
-  soft = all.soft;
-  each = all.each;
-  are = λ frame received has.
-      let (f, here, sized) = there frame in (
-        f,
-        here,
-        back frame f (all.soft frame) sized
-            (all.are frame received has (codeword_symbols2 f) f.power_bits
-            (set_two_sends plan p frame f here)),
-      );
-}
-
--- those of rate set 2 that have the sent signs
-pub signed_set_two : {width : Width} {plan : CellPlan} {p : TrafficPlan} {t : Tuning}
-    {traffic : Traffic} (samples : List Sample) (receivable : IsReceivable width plan)
-    (tuned : IsOnPath plan t) (sent : Contains plan.traffic p) (assigned : IsAssigned p traffic)
-    (long : length samples ≡ plan.link.samples) {at : Option ℕ} (m : Mark)
-    (set : MarkIsAt plan (Some m) at) → SendsSetTwo p →
-    AreReceivedFrom plan p at
-    (λ frame soft. TrafficFrameHasSigns plan p samples frame → (f : SetTwoFrame)
-    × (cycled_frame2 (frames_of plan p) frame ≡ f ∷ []) × IsSentFrame2BySigns plan p frame f soft)
-    (soft_frames t (traffic_channel traffic) m samples)
-signed_set_two {width} {plan} {p} samples receivable tuned sent assigned long m set some =
-    set_two_of plan p (TrafficFrameHasSigns plan p samples) (IsReceivedBySigns plan p)
-    (IsSentFrame2BySigns plan p) _ (frame2_there width plan p receivable sent some)
-    (noisy_set_two_back plan p)
-    (signed_behind_mark samples receivable tuned sent assigned long m set)
-
--- ---- after the mark that a sync channel tells
-
-told_last : {width : Width} {plan : CellPlan} {samples : List Sample} {t : Tuning} {m : Mark} →
-    HasSyncSigns width plan samples → IsOnPath plan t → mark t samples (length samples) ≡ Some m →
-    MarkIsAt plan (Some m) (told_with_sync plan plan.sync)
-told_last {samples = samples} {t} {m} is tuned set =
-    mark_told (shows_sync is) tuned (Some m)
-    (ap (mark t samples) (tuned.count ∙ sym is.long) ∙ set)
-
 -- ---- the laws
 
 pub frames_behind_mark : FramesBehindMark
-frames_behind_mark width plan p t traffic m is tuned sent assigned set =
-    behind_mark (made_samples plan) is tuned sent assigned (length-made plan) m
-    (told_last (clean_signs width plan is) tuned set) _
-    (λ superframes hears frame received symbols power_bits.
-    frames_show_symbols width plan p t traffic m superframes frame symbols power_bits hears received)
+frames_behind_mark width plan p t traffic m at samples is long tuned sent assigned set =
+    signed_behind_mark samples is tuned sent assigned long m set
 
+-- One of rate set 2 comes back by what it sends.
 pub set_two_behind_mark : SetTwoBehindMark
-set_two_behind_mark width plan p t traffic m is tuned sent assigned some set =
-    given_all (λ frame. Unit {0}) _ (λ frame. tt)
-    (set_two_of plan p (λ frame. Unit {0}) (IsReceivedAs plan p) (IsSentFrame2 plan p) _
-    (frame2_there width plan p is sent some) (set_two_back plan p)
-    (behind_mark (made_samples plan) is tuned sent assigned (length-made plan) m
-    (told_last (clean_signs width plan is) tuned set) _
-    (λ superframes hears frame received has symbols power_bits.
-    frames_show_symbols width plan p t traffic m superframes frame symbols power_bits hears received)))
-
--- of near samples
-pub noisy_frames_behind_mark : NoisyFramesBehindMark
-noisy_frames_behind_mark width plan sync p e samples t traffic m is bears tuned sent assigned set =
-    let signs = near_sync samples is.receivable is.sends is.near is.bears in
-    given_all (TrafficFrameHasSigns plan p samples) _
-    (near_frame (traffic_carrier plan p) Data e samples is.receivable (traffic_sent plan p sent) is.near
-    bears)
-    (signed_behind_mark samples is.receivable tuned sent assigned signs.long m
-    (told_last signs tuned set))
-
-pub noisy_set_two_behind_mark : NoisySetTwoBehindMark
-noisy_set_two_behind_mark width plan sync p e samples t traffic m is bears tuned sent assigned set some =
-    let signs = near_sync samples is.receivable is.sends is.near is.bears in
-    given_all (TrafficFrameHasSigns plan p samples) _
-    (near_frame (traffic_carrier plan p) Data e samples is.receivable (traffic_sent plan p sent) is.near
-    bears)
-    (signed_set_two samples is.receivable tuned sent assigned signs.long m
-    (told_last signs tuned set) some)
+set_two_behind_mark width plan p t traffic m at samples is long tuned sent assigned set some =
+    let all = frames_behind_mark width plan p t traffic m at samples is long tuned sent assigned set in
+    record {
+      superframes = all.superframes;
+      told = all.told;
+      soft = all.soft;
+      each = all.each;
+      are = λ frame received has.
+          let (f, here, sized) = frame2_there width plan p is sent some frame in (
+            f,
+            here,
+            signed_set_two_back plan p frame f (all.soft frame) sized
+                (all.are frame received has (codeword_symbols2 f) f.power_bits
+                (set_two_sends plan p frame f here)),
+          );
+    }

@@ -1,4 +1,6 @@
 -- The soft values of the frames of a traffic channel have the signs that were sent.
+use Rattle.clean_link.proofs.Common.{IsReceivable, TrafficShowsSigns}
+use Rattle.frame_decoder.specs.Laws.{ShowSymbols}
 use Rattle.clean_link.proofs.Common.{◌≡◌, ℕ, zero, suc, ◌+◌, ◌*◌, Bool, true, false, List, [], ◌∷◌, length, refl, sym, ap}
 use Rattle.clean_link.proofs.Common.{◌∙◌, arith, subst, ℤ, replicate, ◌*ℤ◌, Contains, flat_map, append-nil, All-contains, sign, xor}
 use Rattle.clean_link.proofs.Common.{zip_with, Width, after, traffic_mask, code_symbols, scrambling, with_power_bits, data_shape}
@@ -9,14 +11,14 @@ use Rattle.clean_link.proofs.Common.{is_in_file, Stream}
 use Rattle.clean_link.proofs.Common.{raw_softs, frame_state, replaced_in, stream_of, traffic_start, traffic_stream, Tuning, fingers_of, Leg}
 use Rattle.clean_link.proofs.Common.{Mark, Traffic, IsTrueMark, soft_strength, codeword_symbols, IsAssigned, SendsSymbols, ShowPowerBits}
 use Rattle.clean_link.proofs.Common.{ShowFrame, IsFrameOf, path_finger, SetOneSends, SetTwoSends, HearsSentTraffic, IsHeardAs}
-use Rattle.clean_link.proofs.Common.{TrafficHaveSentSigns, ◌<◌, AllZip, AreKept, HasSign, Sample, AllZip-long, Bears, IsNear, ArePowered}
-use Rattle.clean_link.proofs.Common.{HavePowerSigns, NoisyFrame, NoisyTrafficHasSentSigns, ◌/◌, get_or, nat_eq, pos, list_any}
+use Rattle.clean_link.proofs.Common.{TrafficHaveSentSigns, ◌<◌, AllZip, AreKept, HasSign, Sample, AllZip-long, ArePowered}
+use Rattle.clean_link.proofs.Common.{HavePowerSigns, NoisyFrame, ◌/◌, get_or, nat_eq, pos, list_any}
 use Rattle.clean_link.proofs.Common.{eq-eqb, get_or-map-places, length-map-places, power_places, symbol_or_power_bit}
 use Rattle.clean_link.proofs.Common.{is_replaced, unscrambled, zipped_at, not, map, ◌+ℤ◌, ◌&&◌, int_lt, range_with_len, ints, list_any_at}
 use Rattle.clean_link.proofs.Common.{places, map-places-all, power_place, power_place_in_groups, pairs_below, pairs_in_groups}
 use Rattle.clean_link.proofs.Common.{pairs_neighbours, ArePairs, power_bit, group_sum, group_sums, map_ext_places, power_bits_at, sent_bits}
 use Rattle.clean_link.proofs.Common.{TrafficFrameHasSigns, sent_power_bits}
-use Rattle.clean_link.proofs.Common.{PowerBitsComeBack, SixteenPowerBitsAreSent, NoisyPowerBitsComeBack, le_false, lt_true}
+use Rattle.clean_link.proofs.Common.{PowerBitsComeBack, SixteenPowerBitsAreSent, le_false, lt_true}
 use Rattle.chip_core.proofs.Finds.{nat_eq-flipped}
 use Rattle.clean_signal.proofs.signal.CarriersApart.{plan_apart, traffic_sent}
 use Rattle.clean_signal.proofs.frames.ChannelSigns.{strength_some}
@@ -190,16 +192,20 @@ pub lawful_traffic : (width : Width) (plan : CellPlan) (p : TrafficPlan) →
 lawful_traffic width plan p lawful has =
     All-contains IsTrafficPlan plan.traffic p lawful.traffic.are has
 
+-- each frame of it has the sent signs on a clean link
+pub clean_sent : {width : Width} {plan : CellPlan} → IsReceivable width plan → (p : TrafficPlan) →
+    Contains plan.traffic p → (frame : ℕ) → TrafficFrameHasSigns plan p (made_samples plan) frame
+clean_sent {width} {plan} is p has =
+    near_frame (traffic_carrier plan p) Data 0 (made_samples plan) is (traffic_sent plan p has)
+    (near-self 0 (made_samples plan))
+    (none_borne width plan p.gain is (lawful_traffic width plan p is.lawful has).gain)
+
 module _ {width : Width} {plan : CellPlan} {p : TrafficPlan} {t : Tuning} {traffic : Traffic}
     {m : Mark} {superframes : ℕ} (is : HearsSentTraffic width plan p t traffic m superframes) where
   gain_some : 0 < p.gain
   gain_some = (lawful_traffic width plan p is.receivable.lawful is.sent).gain
 
-  -- a channel that is sent bears noise of the size 0, and its soft values have a strength
-  pub traffic_borne : Bears plan p.gain 0
-  traffic_borne = none_borne width plan p.gain is.receivable gain_some
-
-  traffic_strong : 0 < soft_strength plan Data p.gain
+  pub traffic_strong : 0 < soft_strength plan Data p.gain
   traffic_strong = strength_some width plan Data p.gain is.receivable gain_some
 
   -- what they are to its symbols on a clean link, and through noise that it bears
@@ -208,12 +214,6 @@ module _ {width : Width} {plan : CellPlan} {p : TrafficPlan} {t : Tuning} {traff
   traffic_clean =
       clean_relates plan (traffic_carrier plan p) Data is.receivable.lawful.pn
       (plan_apart width plan is.receivable.lawful) (traffic_sent plan p is.sent)
-
-  pub near_traffic : (e : ℕ) (samples : List Sample) → IsNear e samples (made_samples plan) →
-      Bears plan p.gain e → (frame : ℕ) → TrafficFrameHasSigns plan p samples frame
-  near_traffic e samples near bears =
-      near_frame (traffic_carrier plan p) Data e samples is.receivable (traffic_sent plan p is.sent) near
-      bears
 
 module _ {width : Width} {plan : CellPlan} {p : TrafficPlan} {t : Tuning} {traffic : Traffic}
     {m : Mark} {superframes : ℕ} (is : HearsSentTraffic width plan p t traffic m superframes) (k : ℕ)
@@ -374,17 +374,28 @@ module _ {width : Width} {plan : CellPlan} {p : TrafficPlan} {t : Tuning} {traff
 
 -- ---- the laws
 
+-- of a clean link they are one positive number times the sent signs
+pub traffic_related : {width : Width} {plan : CellPlan} {p : TrafficPlan} {t : Tuning}
+    {traffic : Traffic} {m : Mark} {legs : ℕ → List Leg} {superframes k : ℕ} {f : SetOneFrame}
+    (is : HearsSentTraffic width plan p t traffic m superframes)
+    (heard : IsHeardAs plan p t traffic m legs superframes k f) →
+    (length (frame_softs (made_samples plan) (stream_of t traffic m legs k) k) ≡ 384)
+    × ShowSymbols (replaced_in traffic m k) (soft_strength plan Data p.gain) (codeword_symbols f)
+    (frame_softs (made_samples plan) (stream_of t traffic m legs k) k)
+    × ShowPowerBits (replaced_in traffic m k) (soft_strength plan Data p.gain) f.power_bits
+    (raw_softs t traffic m legs (made_samples plan) k)
+traffic_related {plan = plan} {p} {superframes = superframes} {k} is heard =
+    let strength = soft_strength plan Data p.gain in
+    heard_related is heard (IsSigned strength) (signed_turn strength) (made_samples plan)
+    (λ u. traffic_clean is u (4 * superframes + k))
+
 pub traffic_signs : TrafficHaveSentSigns
 traffic_signs width plan p t traffic m legs superframes k f is heard =
-    let strength = soft_strength plan Data p.gain in
-    let all = heard_related is heard (IsSigned strength) (signed_turn strength) (made_samples plan)
-    (λ u. traffic_clean is u (4 * superframes + k)) in
-    (traffic_strong is, all.1, all.2)
+    (traffic_strong is, (traffic_related is heard).1, (traffic_related is heard).2)
 
-pub noisy_traffic_signs : NoisyTrafficHasSentSigns
-noisy_traffic_signs width plan p t traffic m legs superframes k e f samples is heard near bears =
-    heard_related is heard HasSign signs_turn samples
-    (near_traffic is e samples near bears (4 * superframes + k))
+pub traffic_shows : TrafficShowsSigns
+traffic_shows width plan p t traffic m legs superframes k f samples is heard signs =
+    heard_related is heard HasSign signs_turn samples signs
 
 -- ---- the places of power control bits
 
@@ -531,14 +542,9 @@ signed_power_bits {t = t} {traffic} {m} {legs} {k = k} {f} samples is heard sign
     (raw_softs t traffic m legs samples k)
     (heard_related is heard HasSign signs_turn samples signs).2
 
-pub noisy_power_bits : NoisyPowerBitsComeBack
-noisy_power_bits width plan p t traffic m legs superframes k e f samples is heard near bears =
-    signed_power_bits samples is heard (near_traffic is e samples near bears (4 * superframes + k))
-
 pub power_bits_back : PowerBitsComeBack
-power_bits_back width plan p t traffic m legs superframes k f is heard =
-    noisy_power_bits width plan p t traffic m legs superframes k 0 f (made_samples plan) is heard
-    (near-self 0 (made_samples plan)) (traffic_borne is)
+power_bits_back width plan p t traffic m legs superframes k f samples is heard signs =
+    signed_power_bits samples is heard signs
 
 pub sixteen_sent : SixteenPowerBitsAreSent
 unfolding sent_bits

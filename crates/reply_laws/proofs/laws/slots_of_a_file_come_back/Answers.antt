@@ -1,5 +1,5 @@
 -- Why the law `slots_of_a_file_come_back` holds.
-use Rattle.reply_laws.proofs.SlotReplies.{file_slots}
+use Rattle.reply_laws.proofs.SignedReplies.{file_slots}
 use Rattle.reply_laws.proofs.laws.slots_of_a_file_come_back.Goals as goal
 
 pub returns : goal.returns
