@@ -104,10 +104,10 @@ pub fn the_search_bears_noise()
 /// a number of at least 0 times the link and the code's chip. So no phase has more energy than the
 /// path's own, in any number of samples, and the search finds the path if that is phase 0. If the
 /// pilot is louder than all of them, the search finds the path at any phase, from sixteen samples
-/// on: no other phase of the pilot's codes has the same sixteen chips, turned or not. Through noise
-/// it still finds it, by a span of whole sixteens, if the noise is less than a 64th of the
-/// amplitude that the pilot has to spare over the link: twice its gain less the sum of all gains,
-/// times the absolute value of the link's factor.
+/// on: no other phase of the pilot's codes has the same sixteen chips, turned or not. It still
+/// finds the path through noise of less than about a 64th of the amplitude that the pilot has to
+/// spare over the link: twice its gain less the sum of all gains, times the absolute value of the
+/// link's factor.
 pub fn loud_pilots_are_found()
     ensures greatest { LoudPilotsAreGreatest }
     ensures first { LoudPilotsAreFoundFirst }

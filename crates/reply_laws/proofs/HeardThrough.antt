@@ -1,13 +1,12 @@
 -- What is owed of a near file of a cell that is heard through the noise.
-use Rattle.reply_laws.proofs.Common.{ℕ, List, take, ap, ◌∙◌, Ok, Sample, Width, Header, CellPlan, events, event_line, energy}
-use Rattle.reply_laws.proofs.Common.{settings_for, tuning_for, Traffic, TrafficPlan, SendsSetOne, SendsSetTwo, IsNoisyFile}
-use Rattle.reply_laws.proofs.Common.{NoisyRepliesComeBack}
+use Rattle.reply_laws.proofs.Common.{ℕ, List, take, ap, ◌∙◌, Ok, Sample, Width, Header, CellPlan, events, event_line, energy, settings_for}
+use Rattle.reply_laws.proofs.Common.{tuning_for, Traffic, TrafficPlan, SendsSetOne, SendsSetTwo, IsNoisyFile, NoisyRepliesComeBack}
 use Rattle.reply_laws.proofs.Common.{IsLineOfSetOne, IsLineOfSetTwo, IsSentReply, Job}
 use Rattle.command_line.specs.declared.job.Job.TheVariants as jobs
 use Rattle.heard_events.specs.declared.event.Event.TheVariants.{Pilot}
 use Rattle.owed_replies.proofs.Replies.{one_reply}
 use Rattle.owed_replies.specs.declared.status.Status.TheVariants.{Done}
-use Rattle.reply_laws.proofs.NoisyReplies.{near_noisy, noisy_follow, noisy_idle, noisy_list, noisy_rate2, noisy_undirected}
+use Rattle.reply_laws.proofs.NoisyReplies.{near_noisy, noisy_follow, noisy_idle, noisy_list, noisy_rate2, noisy_undirected, noisy_whole}
 use Rattle.reply_laws.proofs.Owed.{find_owes}
 use Rattle.reply_laws.proofs.SentReplies.{list_job, rate2_job}
 use Rattle.reply_laws.specs.HeardThrough.{FollowsBearing, HoldsOfNearReplies, IsFileNear}
@@ -49,6 +48,9 @@ comes_back e width plan span through = record {
       let both = noisy_follow forms limits bytes e width plan span workers 1 paging traffic header
       samples reply is undirected owed in
       (events t samples, both.0, both.1);
+  whole = λ workers limits q has bears forms bytes header samples reply file owed.
+      noisy_whole forms limits bytes e width plan q span workers 1 header samples reply
+      (noisy through bytes header samples file) has bears owed;
   rate2 = of_noisy through rate2_job SendsSetTwo IsLineOfSetTwo noisy_rate2;
   list = λ k workers p traffic least.
       of_noisy through (list_job k) SendsSetOne IsLineOfSetOne (noisy_list k least) workers p traffic;

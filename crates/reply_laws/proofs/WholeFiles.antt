@@ -1,48 +1,43 @@
 -- Whole files meet every premise of the laws.
-use Rattle.reply_laws.proofs.Common.{◌≡◌, ◌≤◌, ℕ, List, [], ◌∷◌, ◌-◌, ◌≢◌, length, map, take, refl, sym, ap, ◌∙◌, subst, arith}
-use Rattle.reply_laws.proofs.Common.{Some, None, Ok}
-use Rattle.reply_laws.proofs.Common.{All, All-nil, IsReceivable, Sample, Sixteen, IsSampleFile, IsNotDirected, IsNoisyFile, Status}
-use Rattle.reply_laws.proofs.Common.{TrafficPlan}
-use Rattle.reply_laws.proofs.Common.{clean_end, end_when, is_some, mark, events, kept_by, run_text, settings_for, tuning_for, header_of}
-use Rattle.reply_laws.proofs.Common.{length-made, made_samples}
-use Rattle.reply_laws.proofs.Common.{named_receivable, plan_named}
+use Rattle.reply_laws.proofs.Common.{◌≡◌, ◌≤◌, ℕ, List, [], ◌∷◌, ◌-◌, ◌≢◌, length, map, take, refl, sym, ap, ◌∙◌, subst, arith, Some, None}
+use Rattle.reply_laws.proofs.Common.{Ok, All, All-nil, IsReceivable, Sample, Sixteen, IsSampleFile, IsNotDirected, IsNoisyFile, Status}
+use Rattle.reply_laws.proofs.Common.{TrafficPlan, clean_end, end_when, is_some, mark, events, kept_by, run_text, settings_for, tuning_for}
+use Rattle.reply_laws.proofs.Common.{header_of, length-made, made_samples, named_receivable, plan_named}
 use Rattle.chip_core.specs.Decimals.{digits_from}
 use Rattle.hex.specs.Hex.{decode_pairs}
 use Rattle.cell_script.proofs.Common.{admits, binary, bits_in_text, bits_left, cell_in, draft_after, fill, freq_in, hex_bits, hex_from}
-use Rattle.cell_script.proofs.Common.{is_body}
-use Rattle.cell_script.proofs.Common.{is_line, length_before, lines, link_in, number_up_to, numbers_in, page_stage, paging_in, past}
-use Rattle.cell_script.proofs.Common.{past_freq}
-use Rattle.cell_script.proofs.Common.{past_numbers, pilot_in, script_field, signed_in, state_in, stated, stated_page_in, stated_plan}
-use Rattle.cell_script.proofs.Common.{statement_in, sync_behind, sync_in, with_line, with_next}
+use Rattle.cell_script.proofs.Common.{is_body, is_line, length_before, lines, link_in, number_up_to, numbers_in, page_stage, paging_in}
+use Rattle.cell_script.proofs.Common.{past, past_freq, past_numbers, pilot_in, script_field, signed_in, state_in, stated, stated_page_in}
+use Rattle.cell_script.proofs.Common.{stated_plan, statement_in, sync_behind, sync_in, with_line, with_next}
 use Rattle.cell_plan.specs.Plan.{IsFreeOf}
 use Rattle.clean_frames.specs.WholeSendings.{heard_behind, sending_ends, whole_sendings}
 use Rattle.clean_link.proofs.noise.FileAtMargin.{pages_told, sync_told}
 use Rattle.clean_link.proofs.noise.MarginFile.{meets_premises}
 use Rattle.clean_link.specs.CleanLink.{sending_event, sync_sent}
 use Rattle.clean_link.specs.Common.{capsule, check_bits, places, some_message, some_sync, spelling, sync_body, sync_capsule}
-use Rattle.clean_link.specs.SentEvents.{signaling_sent}
+use Rattle.cell_plan.specs.Transmitter.{phase_at}
+use Rattle.clean_link.specs.SentEvents.{sent_events, signaling_sent}
+use Rattle.pilot_search.specs.Search.{energy}
 use Rattle.clean_link.specs.NoisyFile.{cell, cell_beside, file, noisy_paging_plan, sync_with}
 use Rattle.clean_signal.proofs.noise.Near.{less_borne}
-use Rattle.clean_signal.proofs.signal.FoundPhase.{plan_files}
+use Rattle.clean_signal.proofs.signal.FoundPhase.{pilots_bear, plan_files}
 use Rattle.command_line.specs.declared.job.Job.{Job}
 use Rattle.command_line.specs.declared.job.Job.TheVariants as jobs
 use Rattle.owed_replies.specs.Replies.{IsReply, Reply}
 use Rattle.owed_replies.specs.declared.status.Status.TheVariants.{Done}
 use Rattle.reply_laws.proofs.LouderPilots.{clean, enough, louder_follow, readable}
 use Rattle.reply_laws.proofs.MadeLinks.{lawful_readable}
-use Rattle.reply_laws.proofs.NoisyReplies.{noisy_follow, noisy_undirected}
+use Rattle.reply_laws.proofs.NoisyReplies.{noisy_whole}
 use Rattle.reply_laws.proofs.Owed.{follow_owes}
 use Rattle.reply_laws.specs.LouderPilots.{HasLouderPilot}
-use Rattle.clean_signal.proofs.signal.PhasesApart.{pilots_bear}
 use Rattle.clean_signal.specs.BoundedNoise.{Bears, IsMargin}
 use Rattle.reply_laws.proofs.HeardThrough.{comes_back}
 use Rattle.reply_laws.specs.NoisyReplies.{IsHeardThrough}
 use Rattle.std.proofs.lemmas.List.Elements.{All-cons, All-head, All-tail}
 use Rattle.std.specs.Prelude.{codes}
 use Rattle.reply_laws.specs.WholeFiles.{ComesBackThroughAnyNoise, loud_cell, script_with_pilot, second_messages, second_paging, second_with}
-use Rattle.reply_laws.specs.WholeFiles.{MeetsEachPremise, MeetsEachNoisePremise, margin_bytes, second_cell}
-use Rattle.reply_laws.specs.WholeFiles.{second_file}
-use Rattle.reply_laws.specs.WholeFiles.{second_header, second_script, second_text}
+use Rattle.reply_laws.specs.WholeFiles.{MeetsEachPremise, MeetsEachNoisePremise, margin_bytes, second_cell, second_file, second_header}
+use Rattle.reply_laws.specs.WholeFiles.{second_script, second_text}
 
 -- ---- without noise
 
@@ -144,8 +139,8 @@ meets_each = record {
   through = record {
     receivable = receivable;
     enough = louder.enough;
-    found = pilots_bear 0 10 3 128 Sixteen second_cell receivable refl (omega arith) (omega arith)
-        (omega arith) (omega arith);
+    found = pilots_bear 0 10 3 Sixteen second_cell 2048 receivable refl (omega arith) (omega arith)
+        louder.enough;
     sync = some_sync 0;
     sends = refl;
     bears = omega arith;
@@ -185,25 +180,19 @@ margin_told : clean_end cell ≡ Done
 margin_told = rw (sync_told) refl
 
 pub meets_noise : MeetsEachNoisePremise
-unfolding signaling_sent
 meets_noise = record {
   noisy = noisy_file;
+  sync = sync_told;
+  pages = pages_told;
   owed = λ forms limits workers span reply least long owed.
-      let noisy = noisy_file span least long in
-      let header = header_of Sixteen cell in
-      let t = tuning_for (settings_for header 1 1 None) (take span file) in
-      let undirected = noisy_undirected margin_bytes 89 Sixteen cell span 1 1 None header file noisy tt
-      (λ p traffic chosen. absurd (cc)) (All-nil IsNotDirected) in
-      let both = noisy_follow forms limits margin_bytes 89 Sixteen cell span workers 1 1 None header file
-      reply noisy undirected owed in (
-        events t file,
-        both.0 ∙ ap (λ (end : Status). Ok (run_text (kept_by limits forms) (events t file), end))
-            margin_told,
-        both.1.sync ∙ sync_told,
-        both.1.pages noisy_paging_plan (0, omega arith, refl) refl
-            (less_borne cell 90 180 89 89 meets_premises.hears.bears (omega arith) (omega arith))
-            ∙ pages_told,
-      );
+      noisy_whole forms limits margin_bytes 89 Sixteen cell noisy_paging_plan span workers 1
+      (header_of Sixteen cell) file reply (noisy_file span least long) (0, omega arith, refl)
+      (less_borne cell 90 180 89 89 meets_premises.hears.bears (omega arith) (omega arith)) owed
+      ∙ ap (λ (end : Status). Ok (
+        run_text (kept_by limits forms)
+            (sent_events cell (energy (take span file) (phase_at cell 0)) 1 None),
+        end,
+      )) margin_told;
 }
 
 -- ---- with any noise up to 89
@@ -223,8 +212,8 @@ loud_through : IsHeardThrough 89 Sixteen loud_cell 2048
 loud_through = record {
   receivable = loud_receivable;
   enough = omega arith;
-  found = pilots_bear 89 1910 3 128 Sixteen loud_cell loud_receivable refl (omega arith) (omega arith)
-      (omega arith) (omega arith);
+  found = pilots_bear 89 1910 3 Sixteen loud_cell 2048 loud_receivable refl (omega arith) (omega arith)
+      (omega arith);
   sync = some_sync 0;
   sends = refl;
   bears = omega arith;
@@ -236,16 +225,13 @@ loud_comes_back = record {
   margin = loud_margin;
   through = loud_through;
   back = comes_back 89 Sixteen loud_cell 2048 loud_through;
-  follow = λ workers limits forms bytes header samples reply file owed.
-      let all = comes_back 89 Sixteen loud_cell 2048 loud_through in
-      let (heard, is, hears) = all.follow workers 1 None limits (record {
-        follows = tt;
-        bears = λ p traffic chosen. absurd (cc);
-        undirected = none_directed 2000;
-      }) forms bytes header samples reply file owed in (
-        heard,
-        is ∙ ap (λ (end : Status). Ok (run_text (kept_by limits forms) heard, end)) (told 2000),
-        hears.sync ∙ second_sync 2000,
-        hears.pages second_paging (0, omega arith, refl) refl (omega arith),
-      );
+  sync = second_sync 2000;
+  whole = λ workers limits forms bytes header samples reply file owed.
+      (comes_back 89 Sixteen loud_cell 2048 loud_through).whole workers limits second_paging
+      (0, omega arith, refl) (omega arith) forms bytes header samples reply file owed
+      ∙ ap (λ (end : Status). Ok (
+        run_text (kept_by limits forms)
+            (sent_events loud_cell (energy (take 2048 samples) (phase_at loud_cell 0)) 1 None),
+        end,
+      )) (told 2000);
 }

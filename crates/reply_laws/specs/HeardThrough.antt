@@ -1,6 +1,6 @@
 -- What each command owes of a file with noise, if the script alone shows that its cell is heard
 -- through noise of that size. The only premise on the file is that it is near.
-use Rattle.std.specs.Prelude.{◌≡◌, ◌≤◌, ℕ, List, take, All, Option, Some, Ok}
+use Rattle.std.specs.Prelude.{◌≡◌, ◌≤◌, ℕ, List, take, All, Option, None, Some, Ok}
 use Rattle.std.specs.List.{Contains}
 use Rattle.chip_core.specs.declared.assignment.Traffic.{Traffic}
 use Rattle.chip_core.specs.declared.sample.Sample.{Sample}
@@ -30,6 +30,7 @@ use Rattle.pilot_search.specs.Search.{energy}
 use Rattle.reply_laws.specs.NoisyReplies.{IsBearingTraffic, IsHeardThrough}
 use Rattle.reply_laws.specs.SentLines.{IsLineOfSetOne, IsLineOfSetTwo}
 use Rattle.reply_laws.specs.SentReplies.{IsSentReply}
+use Rattle.reply_laws.specs.SignedReplies.{IsWholeReply}
 use Rattle.slot_link.specs.Laws.{slots_sent}
 
 -- ---- the file and the channel
@@ -75,6 +76,12 @@ pub record ComesBackThrough (e : ℕ) (plan : CellPlan) (span : ℕ) : Type 0 wh
       (λ forms samples reply. (heard : List Event)
       × (reply ≡ Ok (run_text (kept_by limits forms) heard, clean_end plan))
       × HearsBearing plan e paging traffic heard)
+  -- If it follows no traffic channel, and a paging channel that bears the noise, that is the whole
+  -- text of what the cell sends.
+  pub whole : (workers : ℕ) (limits : List ℕ) (q : PagingPlan) → Contains plan.paging q →
+      Bears plan q.gain e →
+      HoldsOfNearReplies e plan (jobs.Follow span workers 1 q.number None limits)
+      (λ forms samples reply. IsWholeReply forms limits plan span q.number samples reply)
   -- `rate2` and `list` report the frames of a traffic channel that bears the noise.
   pub rate2 : (workers : ℕ) (p : TrafficPlan) (traffic : Traffic) →
       IsBearingTraffic e plan p traffic → SendsSetTwo p →

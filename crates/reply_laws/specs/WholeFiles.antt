@@ -1,13 +1,12 @@
 -- Files that meet every premise of the laws: the file of a script without noise, one with noise of
 -- the size of its margin, and all files of a cell with noise up to its margin.
 use Rattle.std.specs.Prelude.{◌≡◌, ◌≤◌, ◌↔◌, ◌⊎◌, ◌++◌, ◌/◌, ℕ, List, [], ◌∷◌, codes, false}
-use Rattle.std.specs.Prelude.{filter, replicate}
-use Rattle.std.specs.Prelude.{None, Option, Some, Ok}
+use Rattle.std.specs.Prelude.{replicate, take, None, Option, Some, Ok}
 use Rattle.cdma_io.specs.SampleFile.{IsSampleFile}
 use Rattle.cdma_io.specs.declared.header.Header.{Header}
 use Rattle.cell_plan.specs.Plan.{IsFreeOf}
 use Rattle.cell_plan.specs.Sampled.{made_samples}
-use Rattle.cell_plan.specs.Transmitter.{header_of}
+use Rattle.cell_plan.specs.Transmitter.{header_of, phase_at}
 use Rattle.cell_plan.specs.declared.plan.CellPlan.{CellPlan}
 use Rattle.cell_plan.specs.declared.plan.PagingPlan.{PagingPlan}
 use Rattle.cell_script.specs.Script.{plan_named}
@@ -15,10 +14,8 @@ use Rattle.chip_core.specs.Bits.{binary}
 use Rattle.clean_link.specs.CleanLink.{sync_sent}
 use Rattle.clean_link.specs.Common.{Plain, Sixteen, Sync, message_of, some_message, some_sync}
 use Rattle.clean_link.specs.Common.{sync_capsule}
-use Rattle.clean_link.specs.HeardEach.{is_page, is_sync}
-use Rattle.clean_link.specs.NoisyFile.{cell, cell_beside, file, last_page, sync_event}
-use Rattle.clean_link.specs.NoisyFile.{sync_with}
-use Rattle.clean_link.specs.SentEvents.{FollowsSent, paging_sent}
+use Rattle.clean_link.specs.NoisyFile.{cell, cell_beside, file, last_page, sync_event, sync_with}
+use Rattle.clean_link.specs.SentEvents.{FollowsSent, paging_sent, sent_events}
 use Rattle.clean_signal.specs.BoundedNoise.{IsMargin}
 use Rattle.clean_signal.specs.WorkedCells.{cell_with}
 use Rattle.command_line.specs.declared.job.Job.TheVariants as jobs
@@ -30,6 +27,7 @@ use Rattle.owed_replies.specs.Make.{made_file}
 use Rattle.owed_replies.specs.Replies.{AnswersBehind, IsReply, Reply}
 use Rattle.owed_replies.specs.declared.status.Status.{Status}
 use Rattle.owed_replies.specs.declared.status.Status.TheVariants.{Done, NoMemory}
+use Rattle.pilot_search.specs.Search.{energy}
 use Rattle.reply_laws.specs.HeardThrough.{ComesBackThrough, HoldsOfNearReplies}
 use Rattle.reply_laws.specs.LouderPilots.{HasLouderPilot}
 use Rattle.reply_laws.specs.NoisyReplies.{IsHeardThrough, IsNoisyFile}
@@ -132,15 +130,16 @@ pub record MeetsEachNoisePremise : Type 0 where
   -- finger and any span from sixteen samples on.
   pub noisy : (span : ℕ) → 16 ≤ span → span ≤ 737280 →
       IsNoisyFile 89 margin_bytes Sixteen cell span 1 (header_of Sixteen cell) file
-  -- `follow` owes the text of a list of events: of the sync channel just the two whole
-  -- transmissions, and of paging channel 1 just the pages of the four half-frames after the mark.
+  -- `follow` owes exactly the text of the pilot, with the energy that the file has at the cell's
+  -- phase, of the two whole transmissions, and of the pages of the four half-frames after the mark.
+  -- The run ends well.
+  pub sync : sync_sent cell ≡ sync_event 294848 0 ∷ sync_event 589760 1 ∷ []
+  pub pages : paging_sent cell 1 ≡ replicate 4 last_page
   pub owed : (forms limits : List ℕ) (workers span : ℕ) (reply : Reply) → 16 ≤ span →
       span ≤ 737280 →
       IsReply forms (jobs.Follow span workers 1 1 None limits) margin_bytes reply →
-      (heard : List Event)
-      × (reply ≡ Ok (run_text (kept_by limits forms) heard, Done))
-      × (filter is_sync heard ≡ sync_event 294848 0 ∷ sync_event 589760 1 ∷ [])
-      × (filter is_page heard ≡ replicate 4 last_page)
+      let own = energy (take span file) (phase_at cell 0) in
+      reply ≡ Ok (run_text (kept_by limits forms) (sent_events cell own 1 None), Done)
 
 -- ---- with any noise up to 89
 
@@ -156,10 +155,11 @@ pub record ComesBackThroughAnyNoise : Type 0 where
   pub margin : IsMargin loud_cell (60 ∷ 30 ∷ []) 89
   pub through : IsHeardThrough 89 Sixteen loud_cell 2048
   pub back : ComesBackThrough 89 loud_cell 2048
-  -- `follow` reports just the four whole transmissions, and just the whole pages of channel 1.
-  pub follow : (workers : ℕ) (limits : List ℕ) →
+  -- `follow` owes exactly the text of the pilot, with the energy that the file has at the cell's
+  -- phase, of the four whole transmissions, and of all whole pages of channel 1. The run ends well.
+  pub sync : sync_sent loud_cell ≡ second_messages
+  pub whole : (workers : ℕ) (limits : List ℕ) →
       HoldsOfNearReplies 89 loud_cell (jobs.Follow 2048 workers 1 1 None limits)
-      (λ forms samples reply. (heard : List Event)
-      × (reply ≡ Ok (run_text (kept_by limits forms) heard, Done))
-      × (filter is_sync heard ≡ second_messages)
-      × (filter is_page heard ≡ paging_sent loud_cell 1))
+      (λ forms samples reply.
+      let own = energy (take 2048 samples) (phase_at loud_cell 0) in
+      reply ≡ Ok (run_text (kept_by limits forms) (sent_events loud_cell own 1 None), Done))

@@ -1,15 +1,13 @@
 -- A cell's samples without one of its channels: how near they are, and that the channel is gone.
 use Rattle.clean_signal.proofs.Common.{◌≡◌, ◌≢◌, ℕ, zero, suc, ◌+◌, ◌-◌, ◌*◌, ◌/◌, ◌%◌, ◌<◌, ◌≤◌, Bool, true, false, List, [], ◌∷◌, length}
-use Rattle.clean_signal.proofs.Common.{refl, sym}
-use Rattle.clean_signal.proofs.Common.{ap, ◌∙◌, arith, ints, ⊎_elim, ℤ, pos, unsigned_abs, ◌+ℤ◌, ◌-ℤ◌, ◌*ℤ◌, ◌<ℤ◌, All, All-cons, All-nil}
-use Rattle.clean_signal.proofs.Common.{All-contains, Contains, get_or, of_sample, map, replicate, sign, times, point, Pair, Sample}
-use Rattle.clean_signal.proofs.Common.{sum_below, sum_same, distrib_right}
-use Rattle.clean_signal.proofs.Common.{unsigned_abs-mul, mul-le-mul_right, cases_lt, subst, no_sample, sample_with, pilot_chip, scaled}
-use Rattle.clean_signal.proofs.Common.{places}
-use Rattle.clean_signal.proofs.Common.{CellPlan, Carrier, amplitude, amplitudes, carriers, sample_of, samples_of, made_samples}
-use Rattle.clean_signal.proofs.Common.{signal_of_carriers, walsh, Form, Sync, Data, soft, soft_is, symbol_chips, window_chips, symbols}
-use Rattle.clean_signal.proofs.Common.{pilot_sum, turned_part, turned_part-is, get_or-map-places, length-map-places, IsNear, IsCloseSample}
-use Rattle.clean_signal.proofs.Common.{HaveSigns, IsFrameOf, IsAligned, level_at, path_finger, CarriersAreApart}
+use Rattle.clean_signal.proofs.Common.{refl, sym, ap, ◌∙◌, arith, ints, ⊎_elim, ℤ, pos, unsigned_abs, ◌+ℤ◌, ◌-ℤ◌, ◌*ℤ◌, ◌<ℤ◌, All, All-cons}
+use Rattle.clean_signal.proofs.Common.{All-nil, All-contains, Contains, get_or, of_sample, map, replicate, sign, times, point, Pair, Sample}
+use Rattle.clean_signal.proofs.Common.{sum_below, sum_same, distrib_right, unsigned_abs-mul, mul-le-mul_right, cases_lt, subst, no_sample}
+use Rattle.clean_signal.proofs.Common.{sample_with, pilot_chip, scaled, places, CellPlan, Carrier, amplitude, amplitudes, carriers}
+use Rattle.clean_signal.proofs.Common.{sample_of, samples_of, made_samples, signal_of_carriers, walsh, Form, Sync, Data, soft, soft_is}
+use Rattle.clean_signal.proofs.Common.{symbol_chips, window_chips, symbols, pilot_sum, turned_part, turned_part-is, get_or-map-places}
+use Rattle.clean_signal.proofs.Common.{length-map-places, IsNear, IsCloseSample, HaveSigns, IsFrameOf, IsAligned, level_at, path_finger}
+use Rattle.clean_signal.proofs.Common.{CarriersAreApart}
 use Rattle.cell_plan.proofs.Amplitudes.{amplitude_most}
 use Rattle.rake_finger.proofs.Sooner.{symbol_inside}
 use Rattle.clean_signal.proofs.frames.ChannelSigns.{noisy_signs}

@@ -1,23 +1,55 @@
--- By how much less energy each other phase of noiseless samples has, if the pilot is louder than all
--- other channels together: in each sixteen samples some turn differs from the first.
-use Rattle.clean_signal.proofs.Common.{◌≡◌, ◌≢◌, ℕ, zero, suc, ◌+◌, ◌*◌, ◌-◌, ◌<◌, ◌≤◌, ◌%◌, Bool, true, false, List, [], ◌∷◌, length, take}
-use Rattle.clean_signal.proofs.Common.{refl, sym, ap, subst, ◌∙◌, arith, ints, ℤ, pos, unsigned_abs, ◌+ℤ◌, ◌*ℤ◌, norm, Pair, Sample}
-use Rattle.clean_signal.proofs.Common.{times, scaled, pilot_chip, energy, made_samples, mul-le-mul_left, mul-le-mul_right}
-use Rattle.clean_signal.proofs.Common.{mul-lt-mul_of_pos_left, distrib_right, length-take-le, ⊎_elim, ◌⊎◌, inl, inr, cases_lt, sum_below}
-use Rattle.clean_signal.proofs.Common.{sum_append, sum_same, phase_correlation, phase_at}
+-- By how much less another phase of noiseless samples sums up to, if the pilot is louder than all other
+-- channels together: in each sixteen samples some turn differs from the first.
+use Rattle.clean_signal.proofs.Common.{◌≡◌, ◌≢◌, ℕ, zero, suc, ◌+◌, ◌*◌, ◌<◌, ◌≤◌, ◌%◌, Bool, true, false, List, [], ◌∷◌, length, refl, sym}
+use Rattle.clean_signal.proofs.Common.{ap, subst, ◌∙◌, arith, ints, ℤ, pos, negsuc, unsigned_abs, ◌+ℤ◌, ◌*ℤ◌, Pair, Sample, times, plus}
+use Rattle.clean_signal.proofs.Common.{conjugate, of_sample, scaled, sum_of, despread, code_point, pilot_chip, distrib_right, same_parts}
+use Rattle.clean_signal.proofs.Common.{⊎_elim, ◌⊎◌, inl, inr, cases_lt, sum_below, sum_append, sum_same}
 use Rattle.chip_core.proofs.IndexSums.{sum_front}
 use Rattle.chip_core.proofs.Magnitudes.{abs_sum}
-use Rattle.short_code.proofs.CodeWindows.{odd_of, odd_step, one_phase, way_of, way_step}
-use Rattle.clean_signal.proofs.signal.FoundPhase.{decide, size_least, turn_of, turned_is, turned_small, turned_sum, unit, unit_size}
-use Rattle.clean_signal.proofs.signal.OwnPhase.{amount, norm_scaled, norm_times, own_phase, plan_spread, scaled_size}
-use Rattle.clean_signal.proofs.signal.OwnPhase.{size_at}
-use Rattle.clean_signal.proofs.signal.Samples.{length-made}
-use Rattle.clean_signal.specs.NoisySearch.{IsFoundThrough}
-use Rattle.clean_signal.specs.NoisySearch as laws
+use Rattle.short_code.proofs.CodeWindows.{odd_of, odd_step, one_phase, true_false, way_of, way_step}
+use Rattle.clean_signal.proofs.signal.OwnPhase.{AreSpread, amount, scaled_size, spread_first, spread_rest, times_plus, turn, turned_point}
+
+-- ---- the turn of a chip by another
+
+pub unit : Bool → Bool → Pair
+unit false false = record { i = pos 2; q = pos 0 }
+unit false true = record { i = negsuc 1; q = pos 0 }
+unit true false = record { i = pos 0; q = pos 2 }
+unit true true = record { i = pos 0; q = negsuc 1 }
+
+turn_unit : (a c b d : Bool) → turn (a, c) (b, d) ≡ unit (odd_step a c b d) (way_step a c b d)
+unfolding unit odd_step way_step
+turn_unit false false false false = refl
+turn_unit false false false true = refl
+turn_unit false false true false = refl
+turn_unit false false true true = refl
+turn_unit false true false false = refl
+turn_unit false true false true = refl
+turn_unit false true true false = refl
+turn_unit false true true true = refl
+turn_unit true false false false = refl
+turn_unit true false false true = refl
+turn_unit true false true false = refl
+turn_unit true false true true = refl
+turn_unit true true false false = refl
+turn_unit true true false true = refl
+turn_unit true true true false = refl
+turn_unit true true true true = refl
+
+unit_size : (o w : Bool) → unsigned_abs (unit o w).i + unsigned_abs (unit o w).q ≡ 2
+unfolding unit
+unit_size false false = refl
+unit_size false true = refl
+unit_size true false = refl
+unit_size true true = refl
+
+-- the turn of one phase's chip by another's
+abbrev pub turn_of : ℕ → ℕ → Pair
+turn_of m n = unit (odd_of m n) (way_of m n)
 
 -- ---- sums by index
 
-amount_to : (ℕ → ℕ) → ℕ → ℕ
+unfoldable pub amount_to : (ℕ → ℕ) → ℕ → ℕ
 amount_to a zero = 0
 amount_to a (suc n) = amount_to a n + a n
 
@@ -36,7 +68,7 @@ amount_append a n (suc m) =
     let rest = amount_append a n m in
     rw e (omega (arith, rest))
 
-amount_is : (a : ℕ → ℕ) (xs : List Sample) → amount a xs ≡ amount_to a (length xs)
+pub amount_is : (a : ℕ → ℕ) (xs : List Sample) → amount a xs ≡ amount_to a (length xs)
 unfolding amount_to
 amount_is a [] = refl
 amount_is a (x ∷ xs) =
@@ -44,7 +76,7 @@ amount_is a (x ∷ xs) =
     let front = amount_front a (length xs) in
     omega (arith, rest, front)
 
-amount_least : (a : ℕ → ℕ) (least n : ℕ) → ((t : ℕ) → least ≤ a t) → least * n ≤ amount_to a n
+pub amount_least : (a : ℕ → ℕ) (least n : ℕ) → ((t : ℕ) → least ≤ a t) → least * n ≤ amount_to a n
 unfolding amount_to
 amount_least a least zero each = omega arith
 amount_least a least (suc n) each =
@@ -54,16 +86,16 @@ amount_least a least (suc n) each =
     omega (arith, rest, here, more)
 
 -- a part of the turn by which a sample adds to the sum
-abbrev part_at : (Pair → ℤ) → (ℕ → ℕ) → ℕ → ℕ → ℕ → ℤ
+abbrev pub part_at : (Pair → ℤ) → (ℕ → ℕ) → ℕ → ℕ → ℕ → ℤ
 part_at part a phase f t = pos (a t) *ℤ part (turn_of (phase + t) (f + t))
 
-abbrev part_to : (Pair → ℤ) → (ℕ → ℕ) → ℕ → ℕ → ℕ → ℤ
+abbrev pub part_to : (Pair → ℤ) → (ℕ → ℕ) → ℕ → ℕ → ℕ → ℤ
 part_to part a phase f n = sum_below n (part_at part a phase f)
 
-abbrev in_i : Pair → ℤ
+abbrev pub in_i : Pair → ℤ
 in_i z = z.i
 
-abbrev in_q : Pair → ℤ
+abbrev pub in_q : Pair → ℤ
 in_q z = z.q
 
 at_first : (part : Pair → ℤ) (a : ℕ → ℕ) (phase f : ℕ) →
@@ -90,25 +122,36 @@ front part a phase f n =
     ∙ ap (λ (z : ℤ). (pos (a 0) *ℤ part (turn_of phase f)) +ℤ z)
     (sum_same n _ _ (λ t lt. at_next part a phase f t))
 
-sum_i_is : (f phase : ℕ) (a : ℕ → ℕ) (xs : List Sample) →
-    (turned_sum f phase a xs).i ≡ part_to in_i a phase f (length xs)
-unfolding sum_below
-sum_i_is f phase a [] = refl
-sum_i_is f phase a (x ∷ xs) =
-    ap (λ (z : ℤ). (pos (a 0) *ℤ (turn_of phase f).i) +ℤ z)
-    (sum_i_is (f + 1) (phase + 1) (λ t. a (suc t)) xs)
-    ∙ sym (front in_i a phase f (length xs))
+-- what so many samples add up to at phase f, over the link
+abbrev pub turned_to : (ℕ → ℕ) → ℕ → ℕ → ℕ → Pair
+turned_to a phase f n = record { i = part_to in_i a phase f n; q = part_to in_q a phase f n }
 
-sum_q_is : (f phase : ℕ) (a : ℕ → ℕ) (xs : List Sample) →
-    (turned_sum f phase a xs).q ≡ part_to in_q a phase f (length xs)
+pub turned_is : (h : Pair) (f phase : ℕ) (a : ℕ → ℕ) (xs : List Sample) → AreSpread h phase a xs →
+    sum_of (despread f xs) ≡ times h (turned_to a phase f (length xs))
 unfolding sum_below
-sum_q_is f phase a [] = refl
-sum_q_is f phase a (x ∷ xs) =
-    ap (λ (z : ℤ). (pos (a 0) *ℤ (turn_of phase f).q) +ℤ z)
-    (sum_q_is (f + 1) (phase + 1) (λ t. a (suc t)) xs)
-    ∙ sym (front in_q a phase f (length xs))
+turned_is h f phase a [] are = same_parts _ _ _ _ (omega (arith, ints)) (omega (arith, ints))
+turned_is h f phase a (x ∷ xs) are =
+    let rest = turned_is h (f + 1) (phase + 1) (λ t. a (suc t)) xs (spread_rest h phase a x xs are) in
+    let c = pilot_chip (phase % 32768) in
+    let d = pilot_chip (f % 32768) in
+    let first = scaled (pos (a 0)) (turn_of phase f) in
+    let later = turned_to (λ t. a (suc t)) (phase + 1) (f + 1) (length xs) in
+    let here : times (of_sample x) (conjugate (code_point f)) ≡ times h first =
+    ap (λ (z : Pair). times z (conjugate (code_point f))) (spread_first h phase a x xs are)
+    ∙ turned_point (pos (a 0)) h c d
+    ∙ ap (λ (z : Pair). times h (scaled (pos (a 0)) z)) (turn_unit c.0 c.1 d.0 d.1) in
+    let all : plus first later ≡ turned_to a phase f (suc (length xs)) =
+    same_parts _ _ _ _ (sym (front in_i a phase f (length xs))) (sym (front in_q a phase f (length xs))) in
+    ap (λ (z : Pair). plus z (sum_of (despread (f + 1) xs))) here ∙ ap (plus (times h first)) rest
+    ∙ times_plus h first later ∙ ap (times h) all
 
 -- ---- two turns that differ
+
+decide : (x y : Bool) → (x ≡ y) ⊎ (x ≡ y → ⊥)
+decide false false = inl refl
+decide false true = inr (λ e. true_false (sym e))
+decide true false = inr true_false
+decide true true = inl refl
 
 -- Of a sum of two turns that differ both parts are less than the amounts, by twice the lesser amount.
 apart : (o w p v : Bool) (a b m : ℕ) → m ≤ a → m ≤ b → (o ≡ p → w ≡ v → ⊥) →
@@ -169,12 +212,24 @@ module _ (a : ℕ → ℕ) (phase f least : ℕ) (each : (t : ℕ) → least ≤
       × (way_of (phase + j) (f + j) ≡ way_of phase f)) same (odd, way))
       (cases_lt t n)
 
-  turn_small : (n : ℕ) → (unsigned_abs (part_at in_i a phase f n) ≤ 2 * a n)
-      × (unsigned_abs (part_at in_q a phase f n) ≤ 2 * a n)
+  turn_small : (n : ℕ) →
+      unsigned_abs (part_at in_i a phase f n) + unsigned_abs (part_at in_q a phase f n) ≤ 2 * a n
   turn_small n =
       let size = scaled_size (a n) (turn_of (phase + n) (f + n))
       (unit_size (odd_of (phase + n) (f + n)) (way_of (phase + n) (f + n))) in
-      (omega (arith, size), omega (arith, size))
+      omega (arith, size)
+
+  pub turned_small : (n : ℕ) →
+      unsigned_abs (part_to in_i a phase f n) + unsigned_abs (part_to in_q a phase f n) ≤
+      2 * amount_to a n
+  unfolding sum_below amount_to
+  turned_small zero = omega arith
+  turned_small (suc n) =
+      let rest = turned_small n in
+      let here = turn_small n in
+      let i = abs_sum (part_to in_i a phase f n) (part_at in_i a phase f n) in
+      let q = abs_sum (part_to in_q a phase f n) (part_at in_q a phase f n) in
+      omega (arith, rest, here, i, q)
 
   -- the first turn that differs
   first_apart : (n : ℕ) → IsOneTurnTo n →
@@ -221,9 +276,9 @@ module _ (a : ℕ → ℕ) (phase f least : ℕ) (each : (t : ℕ) → least ≤
       (λ (less : IsLessTo n).
       let small = turn_small n in inr (
         more_less (amount_to a n) (a n) (2 * least) (part_to in_i a phase f n) (part_at in_i a phase f n)
-            less.0 small.0,
+            less.0 (omega (arith, small)),
         more_less (amount_to a n) (a n) (2 * least) (part_to in_q a phase f n) (part_at in_q a phase f n)
-            less.1 small.1,
+            less.1 (omega (arith, small)),
       ))
       (either_to n)
 
@@ -295,84 +350,22 @@ module _ (a : ℕ → ℕ) (phase f least : ℕ) (each : (t : ℕ) → least ≤
             rest.1 here.1 long,
       )
 
--- ---- energies
-
-low_square : (i q m lost : ℕ) → i ≤ m → q ≤ m → i + q ≤ m + 2 * lost →
-    i * i + q * q ≤ (m + lost) * (m + lost)
-low_square i q m lost low_i low_q both =
-    let ii : i * i ≤ m * i = mul-le-mul_right i low_i in
-    let qq : q * q ≤ m * q = mul-le-mul_right q low_q in
-    let all : m * (i + q) ≤ m * (m + 2 * lost) = mul-le-mul_left m both in
-    omega (arith, ii, qq, all)
-
-low_norm : (z : Pair) (all lost : ℕ) → unsigned_abs z.i + 2 * lost ≤ 2 * all →
-    unsigned_abs z.q + 2 * lost ≤ 2 * all → unsigned_abs z.i + unsigned_abs z.q ≤ 2 * all →
-    norm z ≤ (2 * all - lost) * (2 * all - lost)
-low_norm z all lost i q both =
-    let m = 2 * all - 2 * lost in
-    let whole : m + lost ≡ 2 * all - lost = omega (arith, i) in
-    let square = low_square (unsigned_abs z.i) (unsigned_abs z.q) m lost (omega (arith, i))
-    (omega (arith, q)) (omega (arith, i, both)) in
-    subst (λ (n : ℕ). norm z ≤ n * n) whole square
-
-over_link : (h z : Pair) (size n : ℕ) → norm h ≡ size * size → norm z ≤ n * n →
-    norm (times h z) ≤ size * n * (size * n)
-over_link h z size n is small =
-    let part : size * size * norm z ≤ size * size * (n * n) = mul-le-mul_left (size * size) small in
-    rw (norm_times h z, is) (omega (arith, part))
-
-own_energy : (h : Pair) (size n : ℕ) → norm h ≡ size * size →
-    size * n * (size * n) ≤ norm (scaled (pos n) h)
-own_energy h size n is = rw (norm_scaled n h, is) (omega arith)
-
--- the roots stay apart through the noise
-roots_apart : (e size least k all n : ℕ) → n ≡ 16 * k → 64 * e < size * least → 1 ≤ k →
-    2 * (least * k) ≤ 2 * all → size * (2 * all - least * k) + 4 * (e * n) < size * (2 * all)
-roots_apart e size least k all n long small some few =
-    let d = 2 * all - least * k in
-    let whole : d + least * k ≡ 2 * all = omega (arith, few) in
-    let products : size * (d + least * k) ≡ size * (2 * all) = ap (λ (m : ℕ). size * m) whole in
-    let noise : k * (64 * e) < k * (size * least) = mul-lt-mul_of_pos_left small (omega (arith, some)) in
-    let e_n : e * n ≡ e * (16 * k) = ap (λ (m : ℕ). e * m) long in
-    omega (arith, products, noise, e_n)
-
-pub pilots_bear : laws.LouderPilotsBearNoise
-unfolding energy phase_correlation
-pilots_bear e spare size windows width plan is square loud small some long =
-    let xs = take (16 * windows) (made_samples plan) in
-    let phase = phase_at plan plan.link.start in
-    let h = plan.link.factor in
-    let a = size_at plan in
-    let count : length xs ≡ 16 * windows =
-    length-take-le (16 * windows) (made_samples plan) (omega (arith, long, length-made plan)) in
-    let spread = plan_spread plan (16 * windows) is.lawful.pn (omega (arith, loud)) long in
-    let amounts : amount a xs ≡ amount_to a (16 * windows) = amount_is a xs ∙ ap (amount_to a) count in
-    let each = λ (t : ℕ). size_least plan t spare loud in
-    let less = λ (f : ℕ) (lt : f < 32768) (differ : f ≢ phase).
-    windows_less a phase f spare each (omega arith) lt (λ same. differ (sym same)) windows in
-    let own = own_phase h phase a xs spread in
-    record {
-      most = size * (2 * amount a xs);
-      less = size * (2 * amount a xs - spare * windows);
-      below = omega arith;
-      own = rw own (own_energy h size (2 * amount a xs) square);
-      others = λ f lt differ.
-          let z = turned_sum f phase a xs in
-          let i : z.i ≡ part_to in_i a phase f (16 * windows) =
-          sum_i_is f phase a xs ∙ ap (part_to in_i a phase f) count in
-          let q : z.q ≡ part_to in_q a phase f (16 * windows) =
-          sum_q_is f phase a xs ∙ ap (part_to in_q a phase f) count in
-          let low = less f lt differ in
-          rw (turned_is h f phase a xs spread)
-          (over_link h z size (2 * amount a xs - spare * windows) square
-          (low_norm z (amount a xs) (spare * windows) (rw (i, amounts) low.0) (rw (q, amounts) low.1)
-          (turned_small f phase a xs)));
-      apart = roots_apart e size spare windows (amount a xs) (length xs) count small some
-          (room windows (amount a xs) (amount_to a (16 * windows)) amounts
-          (amount_least a spare (16 * windows) each));
-    }
-  where
-    room : (k m n : ℕ) → m ≡ n → spare * (16 * k) ≤ n → 2 * (spare * k) ≤ 2 * m
-    room k m n same least =
-        let all : spare * (16 * k) ≡ 16 * (spare * k) = omega arith in
-        omega (arith, same, least, all)
+  -- and whatever follows
+  pub turns_less : (k r : ℕ) →
+      (unsigned_abs (part_to in_i a phase f (16 * k + r)) + 2 * (least * k) ≤
+      2 * amount_to a (16 * k + r))
+      × (unsigned_abs (part_to in_q a phase f (16 * k + r)) + 2 * (least * k) ≤
+      2 * amount_to a (16 * k + r))
+  unfolding sum_below amount_to
+  turns_less k zero = let none : 16 * k + 0 ≡ 16 * k = omega arith in rw none (windows_less k)
+  turns_less k (suc r) =
+      let n = 16 * k + r in
+      let next : 16 * k + suc r ≡ suc (16 * k + r) = omega arith in
+      let rest = turns_less k r in
+      let small = turn_small a phase f least each n in
+      rw next (
+        more_less (amount_to a n) (a n) (2 * (least * k)) (part_to in_i a phase f n)
+            (part_at in_i a phase f n) rest.0 (omega (arith, small)),
+        more_less (amount_to a n) (a n) (2 * (least * k)) (part_to in_q a phase f n)
+            (part_at in_q a phase f n) rest.1 (omega (arith, small)),
+      )
