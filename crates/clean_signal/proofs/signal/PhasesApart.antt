@@ -7,7 +7,8 @@ use Rattle.clean_signal.proofs.Common.{⊎_elim, ◌⊎◌, inl, inr, cases_lt, 
 use Rattle.chip_core.proofs.IndexSums.{sum_front}
 use Rattle.chip_core.proofs.Magnitudes.{abs_sum}
 use Rattle.short_code.proofs.CodeWindows.{odd_of, odd_step, one_phase, true_false, way_of, way_step}
-use Rattle.clean_signal.proofs.signal.OwnPhase.{AreSpread, amount, scaled_size, spread_first, spread_rest, times_plus, turn, turned_point}
+use Rattle.clean_signal.proofs.signal.OwnPhase.{AreSpread, amount_to, scaled_size, spread_first, spread_rest, times_plus, turn}
+use Rattle.clean_signal.proofs.signal.OwnPhase.{turned_point}
 
 -- ---- the turn of a chip by another
 
@@ -49,16 +50,6 @@ turn_of m n = unit (odd_of m n) (way_of m n)
 
 -- ---- sums by index
 
-unfoldable pub amount_to : (ℕ → ℕ) → ℕ → ℕ
-amount_to a zero = 0
-amount_to a (suc n) = amount_to a n + a n
-
-amount_front : (a : ℕ → ℕ) (n : ℕ) →
-    amount_to a (suc n) ≡ a 0 + amount_to (λ t. a (suc t)) n
-unfolding amount_to
-amount_front a zero = omega arith
-amount_front a (suc n) = let rest = amount_front a n in omega (arith, rest)
-
 amount_append : (a : ℕ → ℕ) (n m : ℕ) →
     amount_to a (n + m) ≡ amount_to a n + amount_to (λ t. a (n + t)) m
 unfolding amount_to
@@ -67,14 +58,6 @@ amount_append a n (suc m) =
     let e : n + suc m ≡ suc (n + m) = omega arith in
     let rest = amount_append a n m in
     rw e (omega (arith, rest))
-
-pub amount_is : (a : ℕ → ℕ) (xs : List Sample) → amount a xs ≡ amount_to a (length xs)
-unfolding amount_to
-amount_is a [] = refl
-amount_is a (x ∷ xs) =
-    let rest = amount_is (λ t. a (suc t)) xs in
-    let front = amount_front a (length xs) in
-    omega (arith, rest, front)
 
 pub amount_least : (a : ℕ → ℕ) (least n : ℕ) → ((t : ℕ) → least ≤ a t) → least * n ≤ amount_to a n
 unfolding amount_to
