@@ -21,7 +21,7 @@ CHUNK = 64
 BLOCK = 1_024
 NOISE = re.compile(r"static NOISE: [^=]* = \[(.*?)\];", re.DOTALL)
 ROW = re.compile(r"\((\d+), (\d+), (\d+)\)")
-LAST_CODE = re.compile(r"gate\.second\.load\(Ordering::SeqCst\), (\d+)\)")
+QUARTERS = re.compile(r"\[\(0, 8192\), \(1, 8192\), \(2, 8192\), \(3, (\d+)\)\]")
 
 
 def noise(seed: int, count: int) -> NDArray[Any]:
@@ -76,12 +76,13 @@ class LeftPhases(unittest.TestCase):
             with self.subTest(seed=seed, count=count):
                 self.assertEqual(left_by_one(noise(seed, count)), left)
 
-    def test_second_of_two_workers(self) -> None:
-        """The code at the last phase: the second worker comes to it last, and the first leaves all of its phases."""
+    def test_last_of_four_workers(self) -> None:
+        """The code at the last phase: the fourth worker comes to it last, and the others leave all of their phases."""
         samples = 100 * points(PERIOD - 1, MOST)
         least, energies = bounds_and_energies(samples)
-        self.assertLess(least[: PERIOD // 2].max(), energies[-1])
-        self.assertEqual([str(left_by_one(samples, PERIOD // 2))], LAST_CODE.findall(self.text))
+        first = 3 * PERIOD // 4
+        self.assertLess(least[:first].max(), energies[-1])
+        self.assertEqual([str(left_by_one(samples, first))], QUARTERS.findall(self.text))
 
 
 if __name__ == "__main__":

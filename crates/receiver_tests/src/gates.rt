@@ -12,10 +12,10 @@ fn flag_of(worker: u8) -> u64 {
     1 << (worker % 64)
 }
 
-/// Waits until a word is 1, or so many turns are spent.
-fn wait_for(word: &AtomicU64) {
+/// Waits until a word has a value, or so many turns are spent.
+fn wait_for(word: &AtomicU64, value: u64) {
     for _ in 0..10_000_000_000u64 {
-        if word.load(Ordering::SeqCst) == 1 {
+        if word.load(Ordering::SeqCst) == value {
             break;
         }
     }
@@ -79,6 +79,11 @@ impl Meeting {
         Meeting::of(0b1_1111)
     }
 
+    /// The gate of 64 workers, before any.
+    pub fn of_all() -> Meeting {
+        Meeting::of(u64::MAX)
+    }
+
     fn of(all: u64) -> Meeting {
         Meeting {
             all,
@@ -112,43 +117,35 @@ impl Gate for Meeting {
     }
 }
 
-/// Where worker 0 waits until worker 1 has left, or so many turns are spent. It keeps the number
-/// that each tells.
+/// Where each of four workers waits until those after it have left, or so many turns are spent. It
+/// keeps the number of phases that each reports.
 #[derive(Drop)]
 pub struct Queue {
-    /// Whether worker 1 has left, 1 where it has.
+    /// How many workers have left.
     gone: AtomicU64,
-    /// How many phases worker 0 left unfinished,
-    pub first: AtomicU64,
-    /// and worker 1.
-    pub second: AtomicU64,
+    /// How many phases each left unfinished, in 16 bits of its own, the lowest for worker 0.
+    pub unfinished: AtomicU64,
 }
 
 impl Queue {
-    /// The gate before either worker.
+    /// The gate before any worker.
     pub fn new() -> Queue {
         Queue {
             gone: AtomicU64::new(0),
-            first: AtomicU64::new(0),
-            second: AtomicU64::new(0),
+            unfinished: AtomicU64::new(0),
         }
     }
 }
 
 impl Gate for Queue {
     fn arrive(&self, worker: u8) {
-        if worker == 0 {
-            wait_for(&self.gone);
-        }
+        wait_for(&self.gone, u64::from(3 - worker % 4));
     }
 
     fn leave(&self, worker: u8, unfinished: u16) {
-        if worker == 0 {
-            self.first.store(u64::from(unfinished), Ordering::SeqCst);
-            return;
-        }
-        self.second.store(u64::from(unfinished), Ordering::SeqCst);
-        self.gone.store(1, Ordering::SeqCst);
+        let own = u64::from(unfinished) << (16 * (worker % 4));
+        self.unfinished.fetch_add(own, Ordering::SeqCst);
+        self.gone.fetch_add(1, Ordering::SeqCst);
     }
 }
 
@@ -181,7 +178,7 @@ impl Watch {
 impl Gate for Watch {
     fn arrive(&self, worker: u8) {
         if worker == 0 {
-            wait_for(&self.there);
+            wait_for(&self.there, 1);
             self.begun.store(1, Ordering::SeqCst);
             return;
         }

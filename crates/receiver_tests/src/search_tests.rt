@@ -29,7 +29,11 @@ fn search_by<R: AllocGlobal + Threads + Sync, G: Gate + Sync>(
 
 #[test]
 fn workers_meet(rt: HostRuntime) -> Result<(), Fail> {
-    for (workers, gate) in [(2, Meeting::of_two()), (5, Meeting::of_five())] {
+    for (workers, gate) in [
+        (2, Meeting::of_two()),
+        (5, Meeting::of_five()),
+        (64, Meeting::of_all()),
+    ] {
         search_by(&rt, &NOTHING, workers, &gate)?;
         assert!(rt; gate.is_over(), "{workers}");
     }
@@ -158,15 +162,18 @@ fn tells_how_many_phases_of_noise_it_leaves(rt: HostRuntime) -> Result<(), Fail>
     Ok(())
 }
 
-/// The best phase is the last of the second worker's, and the first begins when that one has left:
-/// so it leaves each phase of its half, and either tells its own number.
+/// The best phase is the last of the fourth worker's, and each other worker begins when the one
+/// after it has left: so it leaves each phase of its quarter, and each reports its own number.
 #[test]
 fn works_between_arriving_and_leaving(rt: HostRuntime) -> Result<(), Fail> {
     let codes = Codes::new(rt.alloc())?;
     let gate = Queue::new();
     let samples = code_from(&codes, 32767);
-    search_by(&rt, &samples, 2, &gate)?;
-    assert_eq!(rt; gate.first.load(Ordering::SeqCst), 16384);
-    assert_eq!(rt; gate.second.load(Ordering::SeqCst), 10968);
+    search_by(&rt, &samples, 4, &gate)?;
+    let mut reported = gate.unfinished.load(Ordering::SeqCst);
+    for (worker, left) in [(0, 8192), (1, 8192), (2, 8192), (3, 4018)] {
+        assert_eq!(rt; reported % 65_536, left, "worker {worker}");
+        reported /= 65_536;
+    }
     Ok(())
 }

@@ -32,7 +32,11 @@ fn survey_by<R: AllocGlobal + Threads + Sync, G: Gate + Sync>(
 
 #[test]
 fn workers_meet(rt: HostRuntime) -> Result<(), Fail> {
-    for (workers, gate) in [(2, Meeting::of_two()), (5, Meeting::of_five())] {
+    for (workers, gate) in [
+        (2, Meeting::of_two()),
+        (5, Meeting::of_five()),
+        (64, Meeting::of_all()),
+    ] {
         survey_by(&rt, &NOTHING, 10, workers, &gate)?;
         assert!(rt; gate.is_over(), "{workers}");
     }
