@@ -3,11 +3,15 @@
 //! be done. What runs write otherwise, the cases of `conformance/` show.
 
 use crate::Status;
+use crate::program::Output;
 use crate::test_runs::{
     Ran, STEADY, TRIAL_LINE, UNBROKEN, ZERO_LINE, ZERO_RANK, run, run_tapped, zeros,
 };
+use cdma_io::{Failed, WriterSink};
 use event_tap::{MessageTap, PilotTap, Tap};
 use pilot_search::Open;
+use std::io;
+use std::io::{ErrorKind, Write};
 use std::test::Fail;
 use std::thread::Threads;
 
@@ -131,6 +135,30 @@ fn ends_where_a_call_fails_while_a_cell_is_followed(rt: HostRuntime) -> Result<(
         expect(&rt, line, &ran, end, text, count)?;
     }
     Ok(())
+}
+
+/// A writer that takes every byte, and fails to pass them on.
+#[derive(Drop)]
+struct Stuck;
+
+impl Write for Stuck {
+    fn write(&mut self, buf: &[u8]) -> io::Result<usize> {
+        Ok(buf.len())
+    }
+
+    fn flush(&mut self) -> io::Result<()> {
+        Err(io::Error::from(ErrorKind::Other))
+    }
+}
+
+/// Flushes an output as the process does after a run.
+fn flush<K: Output>(output: &mut K) -> Result<(), Failed> {
+    output.flush()
+}
+
+#[test]
+fn a_flush_of_the_output_reaches_its_writer(rt: HostRuntime) {
+    assert_eq!(rt; flush(&mut WriterSink::new(Stuck)), Err(Failed));
 }
 
 #[test]

@@ -1,4 +1,5 @@
-//! Runs of each command by two workers and by five: that they are so many, and run at once.
+//! Runs of each command by two, five and 64 workers: that they are so many, each with its own
+//! number, and run at once.
 
 use crate::Status;
 use crate::test_runs::{TRIAL_LINE, UNBROKEN, ZERO_LINE, ZERO_RANK, each_tap, run_tapped, zeros};
@@ -71,11 +72,11 @@ static ROWS: [(&'static str, &'static [u8], Status); 7] = [
 ];
 
 #[test]
-fn two_workers_and_five_meet(rt: HostRuntime) -> Result<(), Fail> {
+fn workers_meet(rt: HostRuntime) -> Result<(), Fail> {
     let alloc = rt.alloc();
     let file = zeros(alloc, 2048)?;
     for (command, text, end) in &ROWS {
-        for (workers, flags) in [(2, 0b11), (5, 0b1_1111)] {
+        for (workers, flags) in [(2, 0b11), (5, 0b1_1111), (64, u64::MAX)] {
             let line = format!(in alloc; "{command} --workers {workers}")?;
             let (gate, taps) = (Meeting::of(flags), each_tap(alloc)?);
             let (line, input) = (line.as_str(), file.as_slice());
