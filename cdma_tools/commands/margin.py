@@ -23,7 +23,8 @@ With --file FILE, the tool reports which frames of a sample file come back in an
 of any size, other cells, other paths, a radio. It must have as many samples as the script's cell sends, the script's
 flags, and the cell's phase as the best one of the search. A frame is covered if each of its soft values, as one finger
 reads it, has the sign that was sent. Whatever the other channels do, a channel is heard as it was sent if all of its
-frames are covered, and a frame of a traffic channel if it is covered. That is proved too.
+frames are covered. A covered frame of a traffic channel is heard as it was sent if no other codeword has the same
+symbols, and as long as no handoff is directed. That is proved too.
 
     channel      sync, or the kind of the channel and its Walsh row
     first        the sample at which the first of the frames begins
