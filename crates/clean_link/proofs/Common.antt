@@ -144,16 +144,16 @@ pub use Rattle.sync_message.specs.SyncMessage.{IsSyncMessage}
 pub use Rattle.viterbi.proofs.Zipped.{zipped_at}
 pub use Rattle.viterbi.specs.Codewords.{Codeword, correlation}
 pub use Rattle.walsh.specs.Walsh.{walsh}
-pub use Rattle.clean_link.specs.BySigns.{AllComesBackBySigns, AreEventsBySigns, AreFramesBySigns, ChannelsComeBackBySigns}
-pub use Rattle.clean_link.specs.BySigns.{HearsBySigns, SyncTellsTheMark}
+pub use Rattle.clean_link.specs.BySigns.{AllComesBackBySigns, AreEventsBySigns, AreFramesBySigns, ChannelsComeBackBySigns, HearsBySigns}
+pub use Rattle.clean_link.specs.BySigns.{SyncTellsTheMark}
 pub use Rattle.clean_link.specs.SentSigns.{FrameHasSigns, FromMark, HasSyncSigns, IsCellMark, MarkIsAt, MarksAreAt, PagingFrameHasSigns}
 pub use Rattle.clean_link.specs.SentSigns.{SyncHasSigns, TrafficFrameHasSigns}
-pub use Rattle.clean_link.specs.CleanLaws.{ChannelFramesComeBack, PagingCodewordsAreTheOnlyBest}
-pub use Rattle.clean_link.specs.CleanLaws.{SentCodewordsAreTheOnlyBest, SilentPagingFramesAreZeros}
-pub use Rattle.clean_link.specs.CleanLaws.{WholeSendingsComeBack, AreZeroWithoutSync}
-pub use Rattle.clean_link.specs.CleanLaws.{MarksAreTrue, PagingFramesComeBack, PagingHaveSentSigns, UnmarkedWithoutSync, IsMarkedWhereHeard}
-pub use Rattle.clean_link.specs.CleanLaws.{MarksTellTheRate, SilentPagingIsZero, FramesAreZeros}
-pub use Rattle.clean_link.specs.CleanLaws.{FramesComeBack, HaveSentSigns, HearsSentSync, ShowsSync, ordered_symbols}
+pub use Rattle.clean_link.specs.CleanLaws.{ChannelFramesComeBack, PagingCodewordsAreTheOnlyBest, SentCodewordsAreTheOnlyBest}
+pub use Rattle.clean_link.specs.CleanLaws.{SilentPagingFramesAreZeros, WholeSendingsComeBack, AreZeroWithoutSync, MarksAreTrue}
+pub use Rattle.clean_link.specs.CleanLaws.{PagingFramesComeBack, PagingHaveSentSigns, UnmarkedWithoutSync, IsMarkedWhereHeard}
+pub use Rattle.clean_link.specs.CleanLaws.{MarksTellTheRate, SilentPagingIsZero, FramesAreZeros, FramesComeBack, HaveSentSigns}
+pub use Rattle.clean_link.specs.CleanLaws.{HearsSentSync, ShowsSync, ordered_symbols, NearChannelsHaveSigns, NearSyncHasSigns}
+pub use Rattle.clean_link.specs.CleanLaws.{CleanSyncHasSigns, SignedPagesComeBack}
 pub use Rattle.clean_link.specs.CleanLink.{IsNoDirection, IsNotDirected, IsOnPath, IsTrueMark, IsTunedToPlan, events_of_channel}
 pub use Rattle.clean_link.specs.CleanLink.{sending_event, tuning_to}
 pub use Rattle.clean_frames.specs.WholeSendings.{first_sync_frame, heard_behind, is_whole, sending_begins, sending_ends, whole_sendings}
@@ -180,23 +180,16 @@ pub use Rattle.clean_frames.specs.WholePages.{round_sent}
 pub use Rattle.clean_link.specs.HeardPages.{PagesComeBack, ReadPage, known_page, pages_within, type_within}
 unfoldable pub use Rattle.clean_frames.specs.WholePages.{pages_sent}
 pub use Rattle.clean_link.specs.ReceivedFrames.{AreReceivedFrom, IsDistinctFrame2, IsReceived, IsReceivedAs, IsSentFrame2}
-pub use Rattle.clean_link.specs.ReceivedFrames.{codeword_symbols2}
-pub use Rattle.clean_link.specs.ReceivedFrames.{cycled_frame2}
+pub use Rattle.clean_link.specs.ReceivedFrames.{codeword_symbols2, cycled_frame2}
 pub use Rattle.clean_link.specs.ReceivedLaws.{EachFrameIsReceived, FramesBehindMark, FramesShowPowerBits, FramesShowSymbols}
-pub use Rattle.clean_link.specs.ReceivedLaws.{IsReceivedBySigns, IsSentFrame2BySigns}
-pub use Rattle.clean_link.specs.ReceivedLaws.{SetOneSends, SetTwoBehindMark, SetTwoFramesComeBack, SetTwoSends}
+pub use Rattle.clean_link.specs.ReceivedLaws.{IsReceivedBySigns, IsSentFrame2BySigns, SetOneSends, SetTwoBehindMark, SetTwoFramesComeBack}
+pub use Rattle.clean_link.specs.ReceivedLaws.{SetTwoSends, ReceivedAreTheOnlyBest, SetTwoAreTheOnlyBest, SignedFramesAreReceived}
+pub use Rattle.clean_link.specs.ReceivedLaws.{SignedSetTwoFramesComeBack}
 pub use Rattle.clean_link.specs.SentEvents.{FollowedHaveSigns, FollowsSent, NoEventIsDirected, WholeMessagesComeBack, by_places, is_at}
-pub use Rattle.clean_link.specs.SentEvents.{known_event}
-pub use Rattle.clean_link.specs.SentEvents.{pages_after, pages_behind_mark, told_followed}
+pub use Rattle.clean_link.specs.SentEvents.{known_event, pages_after, pages_behind_mark, told_followed}
 unfoldable pub use Rattle.clean_link.specs.SentEvents.{frame_events_at, message_events_at, paging_events_at, paging_sent, sent_events}
 unfoldable pub use Rattle.clean_link.specs.SentEvents.{sets_events_at, sets_heard, signaling_sent, traffic_sent}
 pub use Rattle.clean_link.specs.TrafficLaws.{ArePowered, EachFrameIsHeard, HavePowerSigns, HeardAreTheOnlyBest, HearsSentTraffic, IsHeardAs}
-pub use Rattle.clean_link.specs.TrafficLaws.{IsUndirected, NoisyFrame}
-pub use Rattle.clean_link.specs.TrafficLaws.{NoneIsDirected}
-pub use Rattle.clean_link.specs.TrafficLaws.{OnePilotIsHeard, PowerBitsComeBack, SentFramesComeBack}
-pub use Rattle.clean_link.specs.TrafficLaws.{SentMessagesComeBack, ShowsTraffic, SixteenPowerBitsAreSent}
-pub use Rattle.clean_link.specs.TrafficLaws.{TrafficFramesComeBack, TrafficHaveSentSigns}
-pub use Rattle.clean_link.specs.CleanLaws.{NearChannelsHaveSigns, NearSyncHasSigns, CleanSyncHasSigns, SignedPagesComeBack}
-pub use Rattle.clean_link.specs.ReceivedLaws.{ReceivedAreTheOnlyBest, SetTwoAreTheOnlyBest, SignedFramesAreReceived}
-pub use Rattle.clean_link.specs.ReceivedLaws.{SignedSetTwoFramesComeBack}
-pub use Rattle.clean_link.specs.TrafficLaws.{SignedFramesAreDecoded, TrafficShowsSigns}
+pub use Rattle.clean_link.specs.TrafficLaws.{IsUndirected, NoisyFrame, NoneIsDirected, OnePilotIsHeard, PowerBitsComeBack}
+pub use Rattle.clean_link.specs.TrafficLaws.{SentFramesComeBack, SentMessagesComeBack, ShowsTraffic, SixteenPowerBitsAreSent}
+pub use Rattle.clean_link.specs.TrafficLaws.{TrafficFramesComeBack, TrafficHaveSentSigns, SignedFramesAreDecoded, TrafficShowsSigns}

@@ -1,14 +1,13 @@
 -- What comes back of a file of any origin, channel by channel and frame by frame: of each channel
 -- whose soft values have the signs that a cell sends, just what the cell sends.
-use Rattle.std.specs.Prelude.{◌≡◌, ℕ, ◌*◌, true, All, List, [], filter}
-use Rattle.std.specs.Prelude.{length, map, None, Option, Some}
+use Rattle.std.specs.Prelude.{◌≡◌, ℕ, ◌*◌, true, All, List, [], filter, length, map, None, Option}
+use Rattle.std.specs.Prelude.{Some}
 use Rattle.std.specs.List.{Contains}
 use Rattle.clean_frames.specs.SentFrames.{is_received, received_frames}
 use Rattle.clean_frames.specs.WholeSendings.{told_with_sync}
 use Rattle.clean_link.specs.CleanLink.{sync_sent, IsNotDirected, IsOnPath}
-use Rattle.clean_link.specs.Common.{superframe_chips, CellPlan, PagingPlan, TrafficPlan}
-use Rattle.clean_link.specs.Common.{Event, IsReceivable, Sample, Traffic, Tuning, Width, events}
-use Rattle.clean_link.specs.Common.{mark}
+use Rattle.clean_link.specs.Common.{superframe_chips, CellPlan, PagingPlan, TrafficPlan, Event}
+use Rattle.clean_link.specs.Common.{IsReceivable, Sample, Traffic, Tuning, Width, events, mark}
 use Rattle.clean_link.specs.HeardEach.{is_frame, is_message, is_page, is_sync, AreMessagesBehind}
 use Rattle.clean_link.specs.HeardEach.{FollowsOne, IsEventOf}
 use Rattle.clean_link.specs.SentEvents.{pages_after, sent_events}
@@ -18,8 +17,8 @@ use Rattle.clean_link.specs.SentSigns.{PagingFrameHasSigns, TrafficFrameHasSigns
 -- ---- what is heard
 
 -- One event for each frame of a traffic channel that begins at the mark or later and lies in the
--- file, in order; and that of a frame with the sent signs is the event of what is sent, whatever
--- the other frames are.
+-- file, in order. If a frame has the sent signs, its event is that of what is sent, whatever the
+-- other frames are.
 pub record AreEventsBySigns (plan : CellPlan) (p : TrafficPlan) (samples : List Sample)
     (superframes : ℕ) (frames : List Event) : Type 0 where
   pub event : ℕ → Event
@@ -27,18 +26,19 @@ pub record AreEventsBySigns (plan : CellPlan) (p : TrafficPlan) (samples : List 
   pub are : (frame : ℕ) → is_received plan p (superframe_chips * superframes) frame ≡ true →
       TrafficFrameHasSigns plan p samples frame → IsEventOf plan p frame (event frame)
 
--- and none where no mark is set
+-- and none if no mark is set
 abbrev pub AreFramesBySigns : CellPlan → TrafficPlan → List Sample → Option ℕ → List Event → Type 0
 AreFramesBySigns plan p samples None frames = frames ≡ []
 AreFramesBySigns plan p samples (Some superframes) frames =
     AreEventsBySigns plan p samples superframes frames
 
--- What a handset hears after a mark that is the cell's. Of the sync channel it is just the whole
--- transmissions, where each frame of it has the sent signs. Of the paging channel that it follows
--- it is just the whole pages from the mark on, where the cell sends the channel and each of its
--- frames from there on has them. Of the traffic channel that it follows, where the cell sends it
--- with frames of rate set 1, it is one event for each frame; and where each frame from the mark on
--- has them, just the messages that the signaling in these frames spells, if each is distinct.
+-- What a handset hears after a mark that is the cell's:
+-- - on the sync channel only the whole transmissions, if each of its frames has the sent signs;
+-- - on the followed paging channel only the whole pages from the mark on, if the cell sends the
+--   channel and each of its frames from the mark on has the sent signs;
+-- - on the followed traffic channel, if the cell sends it with frames of rate set 1, one event for
+--   each frame, and if each frame from the mark on has the sent signs and is distinct, only the
+--   messages that the signaling in these frames spells.
 pub record HearsBySigns (width : Width) (plan : CellPlan) (samples : List Sample) (at : Option ℕ)
     (paging : ℕ) (followed : Option Traffic) (heard : List Event) : Type 0 where
   pub sync : HasSyncSigns width plan samples → filter is_sync heard ≡ sync_sent plan
@@ -53,14 +53,14 @@ pub record HearsBySigns (width : Width) (plan : CellPlan) (samples : List Sample
 
 -- ---- the laws
 
--- The sync channel tells the mark: where each of its frames has the sent signs, the mark is the
--- cell's, and it is the one that the first whole transmission tells.
+-- If each frame of the sync channel has the sent signs, the mark is the cell's, and it is the one
+-- that the first whole transmission tells.
 abbrev pub SyncTellsTheMark : Type 0
 SyncTellsTheMark = (width : Width) (plan : CellPlan) (samples : List Sample) →
     HasSyncSigns width plan samples → MarksAreAt plan samples (told_with_sync plan plan.sync)
 
--- A handset with one finger on the cell's path hears each channel so, where its mark is the cell's
--- and no handoff is directed.
+-- A handset with one finger on the cell's path hears each channel so, if its mark is the cell's and
+-- no handoff is directed.
 abbrev pub ChannelsComeBackBySigns : Type 0
 ChannelsComeBackBySigns = (width : Width) (plan : CellPlan) (samples : List Sample) (t : Tuning)
     (at : Option ℕ) → IsReceivable width plan → length samples ≡ plan.link.samples →
@@ -68,9 +68,9 @@ ChannelsComeBackBySigns = (width : Width) (plan : CellPlan) (samples : List Samp
     All IsNotDirected (events t samples) →
     HearsBySigns width plan samples at t.paging t.traffic (events t samples)
 
--- Where no traffic channel is followed, and each frame of the sync channel, and from the mark on of
--- the paging channel that is followed, has the sent signs, all that is heard is the pilot, the
--- whole transmissions and the whole pages, in the order in which they are known.
+-- If no traffic channel is followed, and each frame of the sync channel, and from the mark on of
+-- the followed paging channel, has the sent signs, all that is heard is the pilot, the whole
+-- transmissions and the whole pages, in the order in which they are known.
 abbrev pub AllComesBackBySigns : Type 0
 AllComesBackBySigns = (width : Width) (plan : CellPlan) (samples : List Sample) (t : Tuning)
     (q : PagingPlan) → HasSyncSigns width plan samples → IsOnPath plan t → t.traffic ≡ None →

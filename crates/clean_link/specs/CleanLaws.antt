@@ -8,15 +8,14 @@ use Rattle.clean_link.specs.Common.{places, signed, Width, made_samples, sync_fr
 use Rattle.clean_link.specs.Common.{sync_symbols, CellPlan, SyncPlan, mark, frame_own_bits}
 use Rattle.clean_link.specs.Common.{frame_softs, is_in_file, span_first, span_frames}
 use Rattle.clean_link.specs.Common.{sync_events_at, Tuning, sync_stream, Mark, IsReceivable, Sample}
-use Rattle.clean_link.specs.Common.{cycle_frame_bits, cycle_of}
-use Rattle.clean_link.specs.Common.{PagingPlan, paging_stream, Data, data_shape, sent, repeats_of}
-use Rattle.clean_link.specs.Common.{Cycle, IsFreeOf, continued_symbols, Carrier, carriers, Stream}
+use Rattle.clean_link.specs.Common.{cycle_frame_bits, cycle_of, PagingPlan, paging_stream, Data}
+use Rattle.clean_link.specs.Common.{data_shape, sent, repeats_of, Cycle, IsFreeOf}
+use Rattle.clean_link.specs.Common.{continued_symbols, Carrier, carriers, Stream}
 use Rattle.rake_finger.specs.declared.form.Form.TheVariants.{Sync}
 use Rattle.clean_signal.specs.Signals.{IsOnlyBest, span_codeword, soft_strength, AreReadBy}
 use Rattle.clean_signal.specs.Signals.{IsHeardBy}
 use Rattle.clean_link.specs.CleanLink.{IsOnPath, IsTrueMark, sync_sent}
-use Rattle.clean_link.specs.SentSigns.{FrameHasSigns, HasSyncSigns, IsCellMark}
-use Rattle.clean_link.specs.SentSigns.{PagingFrameHasSigns}
+use Rattle.clean_link.specs.SentSigns.{FrameHasSigns, HasSyncSigns, IsCellMark, PagingFrameHasSigns}
 use Rattle.clean_frames.specs.WholeSendings.{first_sync_frame}
 use Rattle.clean_signal.specs.BoundedNoise.{Bears, IsNear}
 use Rattle.clean_signal.specs.Common.{Form}
@@ -25,8 +24,8 @@ use Rattle.clean_link.specs.HeardPages.{pages_within}
 
 -- ---- any channel
 
--- The own bits of a frame of any stream that hears a channel and reads its bits are the ones that
--- the channel sends in it, where each of the stream's frames has the sent signs.
+-- If each frame of a stream that hears a channel and reads its bits has the sent signs, the own
+-- bits of each are the ones that the channel sends in it.
 abbrev pub ChannelFramesComeBack : Type 0
 ChannelFramesComeBack = (plan : CellPlan) (c : Carrier) (s : Stream) (bits_of : ℕ → List Bool)
     (base k : ℕ) (samples : List Sample) →
@@ -55,7 +54,7 @@ AreZeroWithoutSync = (width : Width) (plan : CellPlan) (t : Tuning) (k : ℕ) �
     is_in_file t.count (sync_stream t) k ≡ true →
     frame_softs (made_samples plan) (sync_stream t) k ≡ replicate 128 (pos 0)
 
--- Where each frame has the sent signs, its own bits are the ones that were sent.
+-- If each frame has the sent signs, its own bits are the ones that were sent.
 abbrev pub FramesComeBack : Type 0
 FramesComeBack = (width : Width) (plan : CellPlan) (samples : List Sample) (sync : SyncPlan)
     (t : Tuning) (k : ℕ) → HasSyncSigns width plan samples → plan.sync ≡ Some sync →
@@ -145,13 +144,13 @@ pub record HearsSentSync (width : Width) (plan : CellPlan) (sync : SyncPlan) (e 
   pub near : IsNear e samples (made_samples plan)
   pub bears : Bears plan sync.gain e
 
--- So do those of its sync channel,
+-- So does each frame of the sync channel,
 abbrev pub NearSyncHasSigns : Type 0
 NearSyncHasSigns = (width : Width) (plan : CellPlan) (sync : SyncPlan) (e : ℕ)
     (samples : List Sample) → HearsSentSync width plan sync e samples →
     HasSyncSigns width plan samples
 
--- and those of a clean link, where the sync channel's row is silent if the cell sends none.
+-- and each of a clean link, in which the sync channel's row is silent if the cell sends none.
 abbrev pub CleanSyncHasSigns : Type 0
 CleanSyncHasSigns = (width : Width) (plan : CellPlan) → IsReceivable width plan →
     HasSyncSigns width plan (made_samples plan)
@@ -177,7 +176,7 @@ PagingHaveSentSigns = (width : Width) (plan : CellPlan) (sync : SyncPlan) (p : P
     signed (soft_strength plan Data p.gain)
     (ordered_symbols (cycle_of plan p) (4 * superframes + k)))
 
--- Something holds of frame k after the cell's mark of a paging channel, where each frame from there
+-- Something holds of frame k of a paging channel after the cell's mark, if each frame from the mark
 -- on has the sent signs.
 abbrev pub HoldsOfPaging : (CellPlan → PagingPlan → Tuning → Mark → ℕ → ℕ → List Sample →
     Type 0) → Type 0

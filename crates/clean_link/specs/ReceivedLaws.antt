@@ -3,23 +3,21 @@
 use Rattle.std.specs.Prelude.{ℕ, ◌+◌, ◌-◌, ◌*◌, ◌≡◌, true, Bool, List, [], ◌∷◌, length, map, Some}
 use Rattle.std.specs.Prelude.{ℤ, Option}
 use Rattle.std.specs.List.{Contains}
-use Rattle.clean_link.specs.Common.{IsSetTwoFrame, SetTwoFrame, traffic_channel}
-use Rattle.clean_link.specs.Common.{SetOneFrame, Width, cycled_frame, made_samples}
-use Rattle.clean_link.specs.Common.{IsReceivable, TrafficPlan, good_frame2, soft_frame, soft_frames}
-use Rattle.clean_link.specs.Common.{CellPlan, Decoded2, SoftFrame, decoded2, frames_of}
-use Rattle.clean_link.specs.Common.{Data, Mark, Sample, Traffic, Tuning, raw_at}
+use Rattle.clean_link.specs.Common.{IsSetTwoFrame, SetTwoFrame, traffic_channel, SetOneFrame, Width}
+use Rattle.clean_link.specs.Common.{cycled_frame, made_samples, IsReceivable, TrafficPlan}
+use Rattle.clean_link.specs.Common.{good_frame2, soft_frame, soft_frames, CellPlan, Decoded2}
+use Rattle.clean_link.specs.Common.{SoftFrame, decoded2, frames_of, Data, Mark, Sample, Traffic}
+use Rattle.clean_link.specs.Common.{Tuning, raw_at, IsSetOneFrame, frame_codeword}
 use Rattle.clean_link.specs.CleanLink.{IsOnPath}
 use Rattle.clean_signal.specs.Signals.{soft_strength}
 use Rattle.clean_frames.specs.SentFrames.{is_received, received_frames, codeword_symbols}
 use Rattle.clean_frames.specs.SentFrames.{IsAssigned, replaced_of, SendsSetTwo, SendsSymbols}
-use Rattle.clean_frames.specs.SentFrames.{ShowPowerBits}
+use Rattle.clean_frames.specs.SentFrames.{ShowPowerBits, IsDistinctFrame}
 use Rattle.clean_link.specs.ReceivedFrames.{IsDistinctFrame2, codeword_symbols2, cycled_frame2}
 use Rattle.clean_link.specs.ReceivedFrames.{AreReceivedFrom, IsReceived, IsReceivedAs, IsSentFrame2}
 use Rattle.clean_link.specs.SentSigns.{MarkIsAt, TrafficFrameHasSigns}
 use Rattle.clean_link.specs.TrafficLaws.{HavePowerSigns, HearsSentTraffic, IsOnlyBestFrame}
 use Rattle.clean_link.specs.TrafficLaws.{IsOnlyBestFrame2, NoisyFrame}
-use Rattle.clean_link.specs.Common.{IsSetOneFrame, frame_codeword}
-use Rattle.clean_frames.specs.SentFrames.{IsDistinctFrame}
 use Rattle.rate_set_two.specs.TrafficFrames.{frame_codeword2}
 
 -- ---- what is sent
@@ -85,9 +83,8 @@ abbrev pub IsReceivedBySigns : CellPlan → TrafficPlan → ℕ → List Bool �
 IsReceivedBySigns plan p frame symbols power_bits soft = IsReceived plan p frame power_bits
     (NoisyFrame (replaced_of plan p frame) symbols) soft
 
--- Each frame with the sent signs is received so, from the mark on, whatever it sends and whatever
--- the other frames are. At the places that its power control bits replace, its raw soft values have
--- their signs.
+-- A frame with the sent signs is received so, whatever it sends and whatever the other frames are.
+-- At the places that its power control bits replace, its raw soft values have their signs.
 abbrev pub SignedFramesAreReceived : Type 0
 SignedFramesAreReceived = (width : Width) (plan : CellPlan) (p : TrafficPlan) (t : Tuning)
     (traffic : Traffic) (m : Mark) (superframes frame : ℕ) (samples : List Sample)
@@ -154,7 +151,7 @@ HoldsBehindMark P = (width : Width) (plan : CellPlan) (p : TrafficPlan) (t : Tun
     Contains plan.traffic p → IsAssigned p traffic → MarkIsAt plan (Some m) at →
     P plan p at samples (soft_frames t (traffic_channel traffic) m samples)
 
--- They are just the channel's frames that begin there or later and lie in the file, in order, and
+-- They are only the channel's frames that begin there or later and lie in the file, in order, and
 -- each with the sent signs shows what it sends.
 abbrev pub FramesBehindMark : Type 0
 FramesBehindMark = HoldsBehindMark (λ plan p at samples frames.
@@ -163,8 +160,9 @@ FramesBehindMark = HoldsBehindMark (λ plan p at samples frames.
     SendsSymbols plan p frame symbols power_bits →
     IsReceivedBySigns plan p frame symbols power_bits soft) frames)
 
--- Where the channel's frames are of rate set 2, each of those is one that was sent, with its power
--- control bits, and with its rate and its information bits, as a good frame, where it is distinct.
+-- If the channel's frames are of rate set 2, each with the sent signs is one that was sent, with
+-- its power control bits, and if it is distinct, with its rate and its information bits, as a good
+-- frame.
 abbrev pub SetTwoBehindMark : Type 0
 SetTwoBehindMark = HoldsBehindMark (λ plan p at samples frames. SendsSetTwo p →
     AreReceivedFrom plan p at

@@ -129,8 +129,8 @@ FollowedHaveSigns plan samples followed = (p : TrafficPlan) (traffic : Traffic) 
     followed ≡ Some traffic → Contains plan.traffic p → IsAssigned p traffic →
     FromMark (TrafficFrameHasSigns plan p samples) (told_with_sync plan plan.sync)
 
--- No event directs a handoff where none of the messages does that the followed channel is sent, so
--- where no channel is followed.
+-- No event directs a handoff if no message that the followed channel is sent directs one, or no
+-- channel is followed.
 abbrev pub NoEventIsDirected : Type 0
 NoEventIsDirected = (width : Width) (plan : CellPlan) (samples : List Sample) (t : Tuning) →
     HasSyncSigns width plan samples → IsOnPath plan t → FollowsSent plan t.traffic →

@@ -12,11 +12,11 @@ use Rattle.rake_finger.specs.declared.form.Form.TheVariants.{Sync}
 
 -- ---- soft values with the sent signs
 
--- The soft values of frame `frame` of a channel have the signs of the symbols that the channel
--- sends in it, and none is 0: those that one finger on the cell's path finds on the channel's row,
--- not descrambled, where the frame lies in the file. A traffic frame's symbols are those that are
--- sent, power control bits among them. Nothing else is asked of the samples, so it doesn't matter
--- what noise, other channels, cells and paths they hold.
+-- If frame `frame` of a channel lies in the file, its soft values have the signs of the symbols
+-- that the channel sends in it, and none is 0. They are the values that one finger on the cell's
+-- path finds on the channel's row, not descrambled. A traffic frame's symbols are those that are
+-- sent, power control bits among them. Nothing else is asked of the samples, so they may contain
+-- any noise and any other channels, cells and paths.
 abbrev pub FrameHasSigns : CellPlan → Carrier → Form → List Sample → ℕ → Type 0
 FrameHasSigns plan c form samples frame = (u : ℕ) → IsFrameOf plan c form u frame →
     length (c.symbols frame) ≡ symbols form →
@@ -35,16 +35,16 @@ PagingFrameHasSigns plan p samples = FrameHasSigns plan (paging_carrier plan p) 
 abbrev pub TrafficFrameHasSigns : CellPlan → TrafficPlan → List Sample → ℕ → Type 0
 TrafficFrameHasSigns plan p samples = FrameHasSigns plan (traffic_carrier plan p) Data samples
 
--- Each frame is so from a mark on, which is so many superframes after local chip 0, where one is
--- set.
+-- Something holds of each frame from a mark on, if one is set. Its place is counted in superframes
+-- after local chip 0, of which each has four frames.
 abbrev pub FromMark : (ℕ → Type 0) → Option ℕ → Type 0
 FromMark Is at = (superframes k : ℕ) → at ≡ Some superframes → Is (4 * superframes + k)
 
 -- ---- a file, whatever its origin
 
--- The samples are as many as those of a cell that can be received. Each frame of its sync channel
--- has the sent signs, and where the cell sends none, the soft values of the sync channel's row are
--- 0.
+-- There are as many samples as a cell's link has, and the cell can be received. Each frame of its
+-- sync channel has the sent signs. If the cell sends none, the soft values of the sync channel's
+-- row are 0.
 pub record HasSyncSigns (width : Width) (plan : CellPlan) (samples : List Sample) : Type 0 where
   pub receivable : IsReceivable width plan
   pub long : length samples ≡ plan.link.samples
@@ -60,13 +60,13 @@ pub record IsCellMark (plan : CellPlan) (m : Mark) (superframes : ℕ) : Type 0 
   pub sends : plan.sync ≡ Some sync
   pub rate : m.prat ≡ sync.message.prat
 
--- a mark that may be set is the cell's, after this many superframes
+-- A mark that may be set is the cell's, this many superframes after local chip 0.
 abbrev pub MarkIsAt : CellPlan → Option Mark → Option ℕ → Type 0
 MarkIsAt plan None at = at ≡ None
 MarkIsAt plan (Some m) at =
     (superframes : ℕ) × (at ≡ Some superframes) × IsCellMark plan m superframes
 
--- so is the mark that these samples set for each handset on the cell's path
+-- The mark that these samples set for each handset on the cell's path is the cell's.
 abbrev pub MarksAreAt : CellPlan → List Sample → Option ℕ → Type 0
 MarksAreAt plan samples at =
     (t : Tuning) → IsOnPath plan t → MarkIsAt plan (mark t samples plan.link.samples) at

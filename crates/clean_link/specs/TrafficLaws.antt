@@ -10,8 +10,7 @@ use Rattle.clean_link.specs.Common.{power_bits_at, decoded_at, frame_heard, raw_
 use Rattle.clean_link.specs.Common.{replaced_in, stream_of, Tuning, Leg, Mark, Traffic}
 use Rattle.clean_link.specs.Common.{IsReceivable, Decoded, Rate, Rate2, IsAllowed, Codeword, Zero}
 use Rattle.clean_link.specs.Common.{frame_codeword, unreplaced, FrameFormat, bits_in, format_of}
-use Rattle.clean_link.specs.Common.{score_in}
-use Rattle.clean_link.specs.Common.{HasSign, KeepSigns, is_replaced}
+use Rattle.clean_link.specs.Common.{score_in, HasSign, KeepSigns, is_replaced}
 use Rattle.clean_link.specs.CleanLink.{IsNotDirected, IsOnPath, IsTrueMark}
 use Rattle.clean_signal.specs.Signals.{soft_strength}
 use Rattle.clean_frames.specs.SentFrames.{frame_ends, received_frames, sent_power_bits}
@@ -109,8 +108,8 @@ EachFrameIsHeard = (width : Width) (plan : CellPlan) (p : TrafficPlan) (t : Tuni
     (frame - 4 * superframes))
     (received_frames plan p (plan.link.start + m.sample))
 
--- what holds of every channel with frames of rate set 1, each of which is distinct and has the sent
--- signs, from the mark on
+-- What holds of every channel with frames of rate set 1, if each frame from the mark on is distinct
+-- and has the sent signs.
 abbrev pub HoldsOfDistinct : (CellPlan → TrafficPlan → Tuning → Traffic → Mark → List Sample →
     Type 0) → Type 0
 HoldsOfDistinct P = (width : Width) (plan : CellPlan) (p : TrafficPlan) (t : Tuning)
@@ -119,7 +118,7 @@ HoldsOfDistinct P = (width : Width) (plan : CellPlan) (p : TrafficPlan) (t : Tun
     ((k : ℕ) → TrafficFrameHasSigns plan p samples (4 * superframes + k)) → SendsSetOne p →
     AreDistinct plan p (plan.link.start + m.sample) → P plan p t traffic m samples
 
--- Where no handoff is directed, they are the frames that were sent, and nothing else.
+-- If no handoff is directed, they are the frames that were sent, and nothing else.
 abbrev pub SentFramesComeBack : Type 0
 SentFramesComeBack = HoldsOfDistinct (λ plan p t traffic m samples.
     IsUndirected t traffic m samples plan.link.samples →
@@ -133,8 +132,8 @@ SentMessagesComeBack = HoldsOfDistinct (λ plan p t traffic m samples.
     flat_map (messages_at t traffic m samples) (places (plan.link.samples + 1)) ≡
     messages_of_channel plan p (plan.link.start + m.sample))
 
--- Nor is a handoff directed, where no message directs one that the signaling in these frames
--- spells, as they are sent.
+-- No handoff is directed, if none of the messages that the signaling in these frames spells, as
+-- they are sent, directs one.
 abbrev pub NoneIsDirected : Type 0
 NoneIsDirected = HoldsOfDistinct (λ plan p t traffic m samples.
     All IsNotDirected (messages_of_channel plan p (plan.link.start + m.sample)) →

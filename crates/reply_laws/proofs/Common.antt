@@ -26,7 +26,7 @@ pub use Rattle.cell_plan.proofs.Pieces.{no_sample}
 pub use Rattle.cell_plan.proofs.TrafficFrames.{one_in_turn}
 pub use Rattle.cell_plan.specs.Plan.{IsLawfulPlan, loudness, most_part}
 unfoldable pub use Rattle.cell_plan.specs.Sampled.{made_samples}
-pub use Rattle.cell_plan.specs.Signal.{amplitudes, carriers, frames_of, scaled}
+pub use Rattle.cell_plan.specs.Signal.{amplitudes, carriers, frames_of, scaled, traffic_carrier}
 pub use Rattle.cell_plan.specs.Stated.{IsReceivable}
 pub use Rattle.cell_plan.specs.TrafficFrames.{IsSetOneFrame, cycled_frame, sent_frame_state, set_one, IsTrafficFrame, SetOneFrame}
 pub use Rattle.cell_plan.specs.TrafficFrames.{SetTwoFrame, planned}
@@ -52,15 +52,13 @@ pub use Rattle.chip_core.specs.declared.sample.Sample.{Sample}
 pub use Rattle.chip_core.specs.declared.width.Width.{Width}
 pub use Rattle.chip_core.specs.declared.width.Width.TheVariants.{Eight, Sixteen}
 pub use Rattle.clean_link.proofs.frames.ChannelFrames.{clean_signs, near_frame, near_paging}
-pub use Rattle.clean_link.proofs.messages.EachChannel.{channels_by_signs, frames_behind_all, no_event_directed}
-pub use Rattle.clean_link.proofs.messages.EachChannel.{tells_the_mark}
+pub use Rattle.clean_link.proofs.messages.EachChannel.{channels_by_signs, frames_behind_all, no_event_directed, tells_the_mark}
 pub use Rattle.clean_link.proofs.messages.MessagesBack.{all_by_signs}
 pub use Rattle.clean_signal.proofs.signal.Samples.{length-made, made_at}
 pub use Rattle.clean_link.proofs.traffic.Back.{one_near}
 pub use Rattle.clean_link.proofs.traffic.Signs.{clean_sent, power_pairs, lawful_traffic, set_one_sends}
 pub use Rattle.clean_link.proofs.traffic.Frames.{one_taken, one_there}
 pub use Rattle.clean_link.proofs.traffic.Received.{frames_behind_mark, set_two_behind_mark}
-pub use Rattle.cell_plan.specs.Signal.{traffic_carrier}
 pub use Rattle.clean_signal.specs.BoundedNoise.{Bears}
 pub use Rattle.clean_link.specs.CleanLink.{IsNotDirected, IsOnPath, tuning_to}
 pub use Rattle.clean_frames.specs.SentFrames.{IsAssigned, SendsSetOne, SendsSetTwo, SendsSymbols, frame_ends, received_frames, replaced_of}

@@ -1,14 +1,13 @@
 -- The file that is made of a script can be read, and is a clean link where the search finds the
 -- cell's path.
-use Rattle.reply_laws.proofs.Common.{clean_sent, clean_signs}
-use Rattle.reply_laws.proofs.Common.{◌≡◌, ℕ, ◌+◌, ◌-◌, ◌*◌, ◌%◌, ◌<◌, ◌≤◌, Bool, true, false, List, ◌++◌, get_or, take, All, refl, sym, ap}
-use Rattle.reply_laws.proofs.Common.{◌∙◌, subst, arith, ℤ, ◌*ℤ◌, unsigned_abs, Option, Ok, ◌+ℤ◌, ◌-ℤ◌, flat_map, ints, All-from_get_or}
-use Rattle.reply_laws.proofs.Common.{sign, of_sample, point, times, Pair, Sample, pilot_chip, HasBits, IsLawfulHeader, IsSampleFile}
-use Rattle.reply_laws.proofs.Common.{header_spelling, most_samples, sample_spelling, width_of, Width, Sixteen, Eight, best_phase, CellPlan}
-use Rattle.reply_laws.proofs.Common.{IsLawfulPlan, loudness, most_part, plan_named, amplitudes, carriers, scaled, header_of, phase_at}
-use Rattle.reply_laws.proofs.Common.{version_of, chip_fits, signal_of_carriers, named_plan, no_sample, events, Traffic, IsNotDirected}
-use Rattle.reply_laws.proofs.Common.{IsOnPath, tuning_to, IsCleanLink, cell_energy, FollowsSent, signaling_sent, no_event_directed}
-use Rattle.reply_laws.proofs.Common.{made_samples, made_file, named_receivable, length-made, made_at}
+use Rattle.reply_laws.proofs.Common.{clean_sent, clean_signs, ◌≡◌, ℕ, ◌+◌, ◌-◌, ◌*◌, ◌%◌, ◌<◌, ◌≤◌, Bool, true, false, List, ◌++◌, get_or}
+use Rattle.reply_laws.proofs.Common.{take, All, refl, sym, ap, ◌∙◌, subst, arith, ℤ, ◌*ℤ◌, unsigned_abs, Option, Ok, ◌+ℤ◌, ◌-ℤ◌, flat_map}
+use Rattle.reply_laws.proofs.Common.{ints, All-from_get_or, sign, of_sample, point, times, Pair, Sample, pilot_chip, HasBits}
+use Rattle.reply_laws.proofs.Common.{IsLawfulHeader, IsSampleFile, header_spelling, most_samples, sample_spelling, width_of, Width, Sixteen}
+use Rattle.reply_laws.proofs.Common.{Eight, best_phase, CellPlan, IsLawfulPlan, loudness, most_part, plan_named, amplitudes, carriers}
+use Rattle.reply_laws.proofs.Common.{scaled, header_of, phase_at, version_of, chip_fits, signal_of_carriers, named_plan, no_sample, events}
+use Rattle.reply_laws.proofs.Common.{Traffic, IsNotDirected, IsOnPath, tuning_to, IsCleanLink, cell_energy, FollowsSent, signaling_sent}
+use Rattle.reply_laws.proofs.Common.{no_event_directed, made_samples, made_file, named_receivable, length-made, made_at}
 
 -- ---- the header
 

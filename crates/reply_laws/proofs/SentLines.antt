@@ -1,20 +1,19 @@
 -- The lines of a traffic channel's frames come back.
-use Rattle.reply_laws.proofs.Common.{◌≡◌, ◌≤◌, ℕ, ◌*◌, ◌%◌, refl, sym, ap, ◌∙◌, subst, arith, List, [], ◌∷◌, length, Bool, Option, ℤ}
-use Rattle.reply_laws.proofs.Common.{None, Some, Contains, flat_map, flat_map-map, CheckForm, Sample, Width, traffic_mask, decoded2}
+use Rattle.reply_laws.proofs.Common.{◌≡◌, ◌≤◌, ℕ, ◌*◌, ◌%◌, refl, sym, ap, ◌∙◌, subst, arith, List, [], ◌∷◌, length, Bool, Option, ℤ, None}
+use Rattle.reply_laws.proofs.Common.{Some, Contains, flat_map, flat_map-map, CheckForm, Sample, Width, traffic_mask, decoded2}
 use Rattle.reply_laws.proofs.Common.{IsTrafficFrame, SetOne, planned, one_in_turn, frames_of, cycled_frame, sent_frame_state, set_one}
-use Rattle.reply_laws.proofs.Common.{Header, IsSetOneFrame, CellPlan, TrafficPlan, SetOneFrame, SetTwoFrame, event_line}
-use Rattle.reply_laws.proofs.Common.{frame2_line, traffic_channel, mark, soft_frames, frame_event, Tuning, Mark, Traffic, SoftFrame}
-use Rattle.reply_laws.proofs.Common.{IsReceivable, frame_ends, received_frames, replaced_of, sent_bits, sent_power_bits, codeword_symbols}
+use Rattle.reply_laws.proofs.Common.{Header, IsSetOneFrame, CellPlan, TrafficPlan, SetOneFrame, SetTwoFrame, event_line, frame2_line}
+use Rattle.reply_laws.proofs.Common.{traffic_channel, mark, soft_frames, frame_event, Tuning, Mark, Traffic, SoftFrame, IsReceivable}
+use Rattle.reply_laws.proofs.Common.{frame_ends, received_frames, replaced_of, sent_bits, sent_power_bits, codeword_symbols}
 use Rattle.reply_laws.proofs.Common.{AreReceivedFrom, HoldsBehindMark, MarkIsAt, TrafficFrameHasSigns, frames_behind_mark, near_frame}
-use Rattle.reply_laws.proofs.Common.{set_two_behind_mark, traffic_carrier}
-use Rattle.reply_laws.proofs.Common.{SendsSetOne, SendsSetTwo, SendsSymbols, cycled_frame2}
-use Rattle.clean_signal.proofs.signal.CarriersApart.{traffic_sent}
-use Rattle.rake_finger.specs.declared.form.Form.TheVariants.{Data}
+use Rattle.reply_laws.proofs.Common.{set_two_behind_mark, traffic_carrier, SendsSetOne, SendsSetTwo, SendsSymbols, cycled_frame2}
 use Rattle.reply_laws.proofs.Common.{power_pairs, one_taken, one_there, Decoded, lawful_traffic, set_one_sends, listed_texts, rate2_texts}
 use Rattle.reply_laws.proofs.Common.{decoded_line, frames_text, listed_text, rate2_text, text_behind, tuned_text, TunedText, Listed}
-use Rattle.reply_laws.proofs.Common.{RateSetTwo, AreSentLines, IsLineOfSetOne, IsLineOfSetTwo, IsSentLine}
-use Rattle.reply_laws.proofs.Common.{IsSentLine2, IsSentText, LinesComeBack, ListedLinesComeBack, SetTwoLinesComeBack}
-use Rattle.reply_laws.proofs.Common.{Bears, Decoded2, IsReceivedBySigns, IsSentFrame2BySigns, signs_frame_listed, good_frame2}
+use Rattle.reply_laws.proofs.Common.{RateSetTwo, AreSentLines, IsLineOfSetOne, IsLineOfSetTwo, IsSentLine, IsSentLine2, IsSentText}
+use Rattle.reply_laws.proofs.Common.{LinesComeBack, ListedLinesComeBack, SetTwoLinesComeBack, Bears, Decoded2, IsReceivedBySigns}
+use Rattle.reply_laws.proofs.Common.{IsSentFrame2BySigns, signs_frame_listed, good_frame2}
+use Rattle.clean_signal.proofs.signal.CarriersApart.{traffic_sent}
+use Rattle.rake_finger.specs.declared.form.Form.TheVariants.{Data}
 use Rattle.listed_frame.specs.ListedFrames.{listed}
 use Rattle.owed_replies.proofs.BorneFiles.{IsBorneFile, long}
 

@@ -1,7 +1,6 @@
 -- What `rate2` and `list` owe of a file that holds what a script's cell sends comes back frame by frame.
-use Rattle.reply_laws.proofs.Common.{ℕ, CellPlan, TrafficPlan, Traffic, List, SendsSetOne, SendsSetTwo, Job, IsLineOfSetOne}
-use Rattle.reply_laws.proofs.Common.{IsLineOfSetTwo, ListRepliesComeBack, Rate2RepliesComeBack, RepliesComeBack, named_receivable}
-use Rattle.reply_laws.proofs.Common.{SignedRepliesComeBack}
+use Rattle.reply_laws.proofs.Common.{ℕ, CellPlan, TrafficPlan, Traffic, List, SendsSetOne, SendsSetTwo, Job, IsLineOfSetOne, IsLineOfSetTwo}
+use Rattle.reply_laws.proofs.Common.{ListRepliesComeBack, Rate2RepliesComeBack, RepliesComeBack, named_receivable, SignedRepliesComeBack}
 use Rattle.owed_replies.proofs.BorneFiles.{cell_borne, none_on_traffic}
 pub use Rattle.reply_laws.proofs.SignedReplies.{list_job, rate2_job}
 use Rattle.reply_laws.proofs.SignedReplies.{signed_list, signed_rate2, told_replies}

@@ -2,19 +2,17 @@
 use Rattle.reply_laws.proofs.Common.{◌≤◌, ◌≡◌, ℕ, List, [], ◌∷◌, length, take, map, refl, sym, ap, ◌∙◌, subst, Option, None, Some, Ok, Err}
 use Rattle.reply_laws.proofs.Common.{Contains, Sample, Width, Header, CellPlan, TrafficPlan, Traffic, IsOnPath, Tuning, Mark, mark}
 use Rattle.reply_laws.proofs.Common.{SendsSetOne, SendsSetTwo, TunedText, Listed, RateSetTwo, traffic_channel, Job, IsSampleFile, Status}
-use Rattle.reply_laws.proofs.Common.{IsReply, Reply, IsLineOfSetOne, IsLineOfSetTwo, IsSentReply, OwesTheFrames, told_with_sync}
-use Rattle.reply_laws.proofs.Common.{MarkIsAt, MarksAreAt, TrafficFrameHasSigns, IsFileOnPath, IsReplyFrom}
-use Rattle.reply_laws.proofs.Common.{SignedRepliesComeBack, channels_by_signs, no_event_directed, all_by_signs, tells_the_mark, kept_by}
-use Rattle.reply_laws.proofs.Common.{run_text, events, settings_for, tuning_for, end_when, clean_end, slot_texts_back, energy}
-use Rattle.reply_laws.proofs.Common.{best_phase, near_deltas, one_near, written_of_slots}
-use Rattle.reply_laws.proofs.Common.{arith, suc}
+use Rattle.reply_laws.proofs.Common.{IsReply, Reply, IsLineOfSetOne, IsLineOfSetTwo, IsSentReply, OwesTheFrames, told_with_sync, MarkIsAt}
+use Rattle.reply_laws.proofs.Common.{MarksAreAt, TrafficFrameHasSigns, IsFileOnPath, IsReplyFrom, SignedRepliesComeBack, channels_by_signs}
+use Rattle.reply_laws.proofs.Common.{no_event_directed, all_by_signs, tells_the_mark, kept_by, run_text, events, settings_for, tuning_for}
+use Rattle.reply_laws.proofs.Common.{end_when, clean_end, slot_texts_back, energy, best_phase, near_deltas, one_near, written_of_slots}
+use Rattle.reply_laws.proofs.Common.{arith, suc, Bears, FileSlotsComeBack, IsAssigned}
 use Rattle.std.specs.Prelude.{is_some, nat_lt}
 use Rattle.std.proofs.lemmas.Bool.{lt-ltb}
 use Rattle.cell_plan.specs.declared.plan.SyncPlan.{SyncPlan}
 use Rattle.clean_frames.specs.WholeSendings.{told_by_first, whole_sendings}
 use Rattle.clean_link.specs.CleanLink.{events_of_channel, sending_event, sync_sent}
 use Rattle.clean_link.specs.SentEvents.{sent_events}
-use Rattle.reply_laws.proofs.Common.{Bears, FileSlotsComeBack, IsAssigned}
 use Rattle.owed_replies.proofs.BorneFiles.{IsBorneFile, signs}
 use Rattle.owed_replies.proofs.Replies.{one_reply}
 use Rattle.owed_replies.proofs.TuningLaw.{near_long, own_delta}

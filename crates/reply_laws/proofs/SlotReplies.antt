@@ -1,10 +1,8 @@
 -- What `idle` owes of a file whose noise the sync channel and the paging channel bear comes back slot
 -- by slot.
-use Rattle.reply_laws.proofs.Common.{◌≡◌, ◌≤◌, ℕ, ◌+◌, ◌*◌, List, length, Ok, Contains, Sample, Width, Header, CellPlan}
-use Rattle.reply_laws.proofs.Common.{PagingPlan, clean_end}
-use Rattle.reply_laws.proofs.Common.{Option, None, IsSampleFile, IsReply, Reply}
-use Rattle.reply_laws.proofs.Common.{IdleRepliesComeBack, named_receivable, Bears, slots_sent, near_paging, tells_the_mark, FromMark}
-use Rattle.reply_laws.proofs.Common.{PagingFrameHasSigns}
+use Rattle.reply_laws.proofs.Common.{◌≡◌, ◌≤◌, ℕ, ◌+◌, ◌*◌, List, length, Ok, Contains, Sample, Width, Header, CellPlan, PagingPlan}
+use Rattle.reply_laws.proofs.Common.{clean_end, Option, None, IsSampleFile, IsReply, Reply, IdleRepliesComeBack, named_receivable, Bears}
+use Rattle.reply_laws.proofs.Common.{slots_sent, near_paging, tells_the_mark, FromMark, PagingFrameHasSigns}
 use Rattle.owed_replies.proofs.BorneFiles.{IsBorneFile, cell_borne, none_on_paging, signs}
 use Rattle.reply_laws.proofs.SignedReplies.{borne_on_path, idle_end, signed_idle}
 use Rattle.command_line.specs.declared.job.Job.TheVariants as jobs

@@ -1,6 +1,5 @@
 -- The lines of a traffic channel's frames in a file of any origin.
-use Rattle.std.specs.Prelude.{◌≡◌, ◌≤◌, ℕ, ◌*◌, true, List, [], ◌∷◌, length, Option, None}
-use Rattle.std.specs.Prelude.{Some}
+use Rattle.std.specs.Prelude.{◌≡◌, ◌≤◌, ℕ, ◌*◌, true, List, [], ◌∷◌, length, Option, None, Some}
 use Rattle.std.specs.List.{Contains, flat_map}
 use Rattle.chip_core.specs.Air.{superframe_chips}
 use Rattle.chip_core.specs.declared.sample.Sample.{Sample}
@@ -17,9 +16,9 @@ use Rattle.heard_events.specs.FramesAlone.{traffic_channel}
 use Rattle.heard_events.specs.TrafficEvents.{frame_event}
 use Rattle.chip_core.specs.declared.assignment.Traffic.{Traffic}
 use Rattle.clean_frames.specs.SentFrames.{frame_ends, is_received, received_frames, replaced_of}
-use Rattle.clean_frames.specs.SentFrames.{sent_bits, sent_power_bits, IsAssigned}
+use Rattle.clean_frames.specs.SentFrames.{sent_bits, sent_power_bits, IsAssigned, IsDistinctFrame}
+use Rattle.clean_frames.specs.SentFrames.{SendsSetOne, SendsSetTwo}
 use Rattle.clean_link.specs.HeardFrames.{sent_frame_event}
-use Rattle.clean_frames.specs.SentFrames.{IsDistinctFrame, SendsSetOne, SendsSetTwo}
 use Rattle.clean_link.specs.ReceivedFrames.{cycled_frame2, sent_decoded2, IsDistinctFrame2}
 use Rattle.cell_plan.specs.Stated.{IsReceivable}
 use Rattle.clean_link.specs.CleanLink.{IsOnPath}
@@ -47,8 +46,8 @@ IsSentText plan p Is None text = text ≡ []
 IsSentText plan p Is (Some superframes) text = AreSentLines plan p Is superframes text
 
 -- In a file of any origin, as long as the cell's, what is written so of a channel that the cell
--- sends, of which something else is true, is this text from the cell's mark on; and the line of
--- each frame with the sent signs is that of what is sent, whatever the other frames are.
+-- sends, of which something else is true, is this text from the cell's mark on. If a frame has the
+-- sent signs, its line is that of what is sent, whatever the other frames are.
 abbrev pub LinesComeBack : TunedText → (TrafficPlan → Type 0) →
     (CellPlan → TrafficPlan → ℕ → List ℕ → Type 0) → Type 0
 LinesComeBack form Sends Is = (width : Width) (plan : CellPlan) (p : TrafficPlan) (t : Tuning)

@@ -1,7 +1,6 @@
--- What is owed of a file of any origin: of each channel whose soft values have the signs that a
--- cell sends, just what the cell sends.
-use Rattle.std.specs.Prelude.{◌≡◌, ◌≤◌, ℕ, List, length, take, All, Option, None, Ok, Err}
-use Rattle.std.specs.Prelude.{is_some}
+-- What each command reports of a file of any origin: for each channel whose soft values have the
+-- signs that a cell sends, exactly what the cell sends.
+use Rattle.std.specs.Prelude.{◌≡◌, ◌≤◌, ℕ, List, length, take, All, Option, None, Ok, Err, is_some}
 use Rattle.std.specs.List.{Contains}
 use Rattle.chip_core.specs.declared.assignment.Traffic.{Traffic}
 use Rattle.chip_core.specs.declared.sample.Sample.{Sample}
@@ -20,8 +19,7 @@ use Rattle.clean_frames.specs.SentFrames.{IsAssigned, SendsSetOne, SendsSetTwo}
 use Rattle.clean_frames.specs.WholeSendings.{told_with_sync}
 use Rattle.clean_link.specs.BySigns.{HearsBySigns}
 use Rattle.clean_link.specs.CleanLink.{IsNotDirected}
-use Rattle.clean_link.specs.SentEvents.{sent_events, FollowedHaveSigns, FollowsSent}
-use Rattle.clean_link.specs.SentEvents.{signaling_sent}
+use Rattle.clean_link.specs.SentEvents.{sent_events, FollowedHaveSigns, FollowsSent, signaling_sent}
 use Rattle.clean_link.specs.SentSigns.{FromMark, HasSyncSigns, MarksAreAt, PagingFrameHasSigns}
 use Rattle.clean_link.specs.SentSigns.{TrafficFrameHasSigns}
 use Rattle.slot_link.specs.Laws.{slots_after}
@@ -31,9 +29,9 @@ use Rattle.owed_replies.specs.Hearing.{clean_end, end_when, settings_for, tuning
 use Rattle.owed_replies.specs.Replies.{IsReply, Reply}
 use Rattle.reply_laws.specs.SentLines.{IsLineOfSetOne, IsLineOfSetTwo, IsSentText}
 
--- A sample file of as many samples as the span is or more, whatever they are, in which a handset
--- with one finger lies on a cell's path: the cell can be received, there are as many samples as its
--- link has, the flags are the cell's, the search finds its path, and there is one finger.
+-- A sample file with at least `span` samples, whatever they are, in which a handset with one finger
+-- lies on a cell's path: the cell can be received, there are as many samples as its link has, the
+-- flags are the cell's, the search finds its path, and there is one finger.
 pub record IsFileOnPath (bytes : List ℕ) (width : Width) (plan : CellPlan) (span fingers : ℕ)
     (header : Header) (samples : List Sample) : Type 0 where
   pub file : IsSampleFile bytes header samples
@@ -47,9 +45,9 @@ pub record IsFileOnPath (bytes : List ℕ) (width : Width) (plan : CellPlan) (sp
 
 -- ---- all channels
 
--- Where the mark is the cell's and no handoff is directed, `follow` owes of such a file what the
--- taps make of its handset's events, in which each channel comes back by its own signs. The run
--- ends well where a mark is set.
+-- If the mark is the cell's and no handoff is directed, `follow` reports what the taps make of its
+-- handset's events. In these each channel comes back by its own signs. The run ends well if a mark
+-- is set.
 abbrev pub SignedFollowRepliesComeBack : Type 0
 SignedFollowRepliesComeBack =
     (forms limits bytes : List ℕ) (width : Width) (plan : CellPlan)
@@ -62,9 +60,9 @@ SignedFollowRepliesComeBack =
     (reply ≡ Ok (run_text (kept_by limits forms) (events t samples), end_when (is_some at)))
     × HearsBySigns width plan samples at paging traffic (events t samples)
 
--- No handoff is directed where the sync channel has the sent signs, and the handset follows no
--- traffic channel, or one that has them, each of whose frames from the mark on is distinct, and no
--- message that is sent on it directs one.
+-- No handoff is directed if each frame of the sync channel has the sent signs, and the handset
+-- follows no traffic channel, or one whose frames from the mark on all have the sent signs and are
+-- distinct, and on which no message that is sent directs one.
 abbrev pub NoHandoffIsDirectedBySigns : Type 0
 NoHandoffIsDirectedBySigns =
     (bytes : List ℕ) (width : Width) (plan : CellPlan) (span fingers paging : ℕ)
@@ -75,15 +73,14 @@ NoHandoffIsDirectedBySigns =
     All IsNotDirected
     (events (tuning_for (settings_for header fingers paging followed) (take span samples)) samples)
 
--- What `follow` owes where no traffic channel is followed: the whole text of the pilot at the
--- cell's phase, of all whole transmissions, and of all whole pages of the paging channel that is
--- followed.
+-- The whole text of `follow` if no traffic channel is followed: the pilot at the cell's phase, all
+-- whole transmissions, and all whole pages of the followed paging channel.
 abbrev pub IsWholeReply : List ℕ → List ℕ → CellPlan → ℕ → ℕ → List Sample → Reply → Type 0
 IsWholeReply forms limits plan span paging samples reply =
     let own = energy (take span samples) (phase_at plan plan.link.start) in
     reply ≡ Ok (run_text (kept_by limits forms) (sent_events plan own paging None), clean_end plan)
 
--- It owes that of such a file where the sync channel and that paging channel have the sent signs.
+-- `follow` reports that if the sync channel and that paging channel have the sent signs.
 abbrev pub SignedWholeRepliesComeBack : Type 0
 SignedWholeRepliesComeBack =
     (forms limits bytes : List ℕ) (width : Width) (plan : CellPlan) (q : PagingPlan)
@@ -96,15 +93,15 @@ SignedWholeRepliesComeBack =
 
 -- ---- one channel
 
--- a whole text that has one line for each frame after a mark, where one is set, and the end that it
--- tells
+-- A whole text that has one line for each frame after a mark, if one is set, and the end that the
+-- mark tells.
 abbrev pub IsReplyFrom : CellPlan → TrafficPlan → Option ℕ → (ℕ → List ℕ → Type 0) → Reply → Type 0
 IsReplyFrom plan p at Is (Ok whole) =
     IsSentText plan p Is at whole.0 × (whole.1 ≡ end_when (is_some at))
 IsReplyFrom plan p at Is (Err end) = ⊥
 
--- Of a traffic channel that the cell sends a job owes one line for each frame after the cell's
--- mark, and the line of each frame with the sent signs is that of what is sent, whatever the others
+-- For a traffic channel that the cell sends, a job reports one line for each frame after the cell's
+-- mark. If a frame has the sent signs, its line is that of what is sent, whatever the other frames
 -- are.
 abbrev pub SignedRepliesComeBack : (ℕ → ℕ → ℕ → Traffic → Job) → (TrafficPlan → Type 0) →
     (CellPlan → TrafficPlan → ℕ → List ℕ → Type 0) → Type 0
@@ -117,22 +114,22 @@ SignedRepliesComeBack job Sends Is = (forms bytes : List ℕ) (width : Width)
     IsReplyFrom plan p at
     (λ frame line. TrafficFrameHasSigns plan p samples frame → Is plan p frame line) reply
 
--- So does `rate2` of a channel of rate set 2,
+-- So does `rate2` for a channel of rate set 2.
 abbrev pub SignedRate2RepliesComeBack : Type 0
 SignedRate2RepliesComeBack = SignedRepliesComeBack
     (λ span workers fingers traffic.
     jobs.Rate2 span workers fingers traffic.offset traffic.esn traffic.row) SendsSetTwo
     IsLineOfSetTwo
 
--- and `list` of a channel of rate set 1, with any number of codewords of a rate from 1 on.
+-- So does `list` for a channel of rate set 1, with any number of codewords of a rate from 1 on.
 abbrev pub SignedListRepliesComeBack : Type 0
 SignedListRepliesComeBack = (k : ℕ) → 1 ≤ k → SignedRepliesComeBack
     (λ span workers fingers traffic.
     jobs.List span workers fingers traffic.offset traffic.esn traffic.row k) SendsSetOne
     IsLineOfSetOne
 
--- `idle` owes of a paging channel that the cell sends just the lines of its slots after the cell's
--- mark, where each of its frames from there on has the sent signs.
+-- For a paging channel that the cell sends, `idle` reports only the lines of its slots after the
+-- cell's mark, if each of the channel's frames from the mark on has the sent signs.
 abbrev pub SignedIdleRepliesComeBack : Type 0
 SignedIdleRepliesComeBack =
     (forms bytes : List ℕ) (width : Width) (plan : CellPlan) (p : PagingPlan)

@@ -22,10 +22,10 @@ use Rattle.owed_replies.specs.CleanFiles.{IsCellFile}
 use Rattle.owed_replies.specs.Hearing.{clean_end}
 use Rattle.owed_replies.specs.Replies.{IsReply, Reply}
 
--- In a file of any origin, as long as the cell's, what is written of a paging channel that the cell
--- sends, for a handset that sleeps through all slots but those of a key and a cycle, is slot by
--- slot, from the cell's mark on, the slot's line and the lines of its pages, where each of the
--- channel's frames from there on has the sent signs.
+-- In a file of any origin, as long as the cell's, if each frame of a paging channel from the cell's
+-- mark on has the sent signs, what is written of the channel from the mark on, for a handset that
+-- sleeps through all slots but those of a key and a cycle, is slot by slot the slot's line and the
+-- lines of its pages.
 abbrev pub FileSlotsComeBack : Type 0
 FileSlotsComeBack =
     (width : Width) (plan : CellPlan) (p : PagingPlan) (t : Tuning) (key cycle : ℕ)

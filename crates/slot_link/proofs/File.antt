@@ -25,21 +25,20 @@ use Rattle.event_tap.specs.SlotLines.{frame_of_slot, frame_of_slot_end, is_heard
 use Rattle.event_tap.specs.SlotLines.{lines_of_slot, lines_of_slots, slot_bound, slot_lines, slot_softs, slot_pages}
 use Rattle.clean_link.specs.CleanLink.{IsOnPath, IsTrueMark}
 use Rattle.clean_link.specs.SentSigns.{FromMark, MarkIsAt, PagingFrameHasSigns}
-use Rattle.cell_plan.specs.Stated.{IsReceivable}
+use Rattle.cell_plan.specs.Stated.{IsReceivable, IsStatedPaging}
 use Rattle.clean_link.proofs.frames.Times.{paging_alone, paging_file_from, paging_file_to, known_at_once}
 use Rattle.clean_signal.proofs.frames.Times.{IsAlone}
 use Rattle.clean_link.proofs.frames.ChannelFrames.{paging_frame_shown, read_after}
 use Rattle.clean_signal.proofs.noise.Near.{zipped_frames}
-use Rattle.slot_link.specs.Laws.{HearsSlots, SlotTextsComeBack, AreSlotPages, SlotsComeBack, SlotBitsComeBackBySigns}
-use Rattle.slot_link.specs.Laws.{SpansComeBackBySigns, SlotPagesComeBack, monitored_slots, sent_slot, slots_behind_mark, slots_after}
-use Rattle.slot_link.specs.Laws.{slots_to_end, sent_in_span, pages_in_slot, bits_in_slot, placed_message, round_in_slot}
+use Rattle.slot_link.specs.Laws.{HearsSlots, SlotTextsComeBack, AreSlotPages, SlotsComeBack, SlotBitsComeBackBySigns, SpansComeBackBySigns}
+use Rattle.slot_link.specs.Laws.{SlotPagesComeBack, monitored_slots, sent_slot, slots_behind_mark, slots_after, slots_to_end, sent_in_span}
+use Rattle.slot_link.specs.Laws.{pages_in_slot, bits_in_slot, placed_message, round_in_slot}
 use Rattle.std.proofs.lemmas.List.Elements.{All-contains}
 use Rattle.chip_core.specs.declared.check_form.CheckForm.{CheckForm}
 use Rattle.quality_bits.specs.declared.rate.Rate.{Rate}
 use Rattle.viterbi.specs.Signs.{HasSign, HaveSigns}
 use Rattle.slot_mode.specs.Frames.{slot_bits, slot_frame_bits}
 use Rattle.cell_plan.specs.PageCycles.{cycle_frame_bits, cycled, paging_frame_size}
-use Rattle.cell_plan.specs.Stated.{IsStatedPaging}
 use Rattle.cell_plan.specs.Signal.{cycle_of}
 use Rattle.heard_events.specs.PagingStreams as streams
 use Rattle.clean_signal.proofs.frames.Heard.{order_of}

@@ -156,8 +156,8 @@ AreSlotPages plan p t m superframes i samples =
     (slot_softs samples (channel_stream t (channels.Paging p.number) m) i))
     ≡ pages_in_slot (sent_paging_rate plan.sync) plan.cell.check30 p.pages (4 * (superframes + i))
 
--- So it is of each slot from the mark on that ends in a file of any origin, where the soft values
--- of its four frames have the signs that are sent.
+-- So it is for each slot from the mark on that ends in a file of any origin, if the soft values of
+-- its four frames have the signs that are sent.
 abbrev pub SlotsComeBack : Type 0
 SlotsComeBack =
     (width : Width) (plan : CellPlan) (p : PagingPlan) (t : Tuning) (m : Mark)
@@ -166,9 +166,9 @@ SlotsComeBack =
     ((k : ℕ) → k < 4 → PagingFrameHasSigns plan p samples (4 * (superframes + i) + k)) →
     AreSlotPages plan p t m superframes i samples
 
--- Where each of the channel's frames from a mark on has them, the lines of the slots, for a handset
--- that sleeps through all but those of a key and a cycle, are what the cell sends: slot by slot the
--- slot's line, and the lines of its pages.
+-- If each of the channel's frames from a mark on has them, the lines of the slots, for a handset
+-- that sleeps through all slots but those of a key and a cycle, are what the cell sends: slot by
+-- slot the slot's line, and the lines of its pages.
 abbrev pub SlotTextsComeBack : Type 0
 SlotTextsComeBack =
     (width : Width) (plan : CellPlan) (p : PagingPlan) (t : Tuning) (key cycle : ℕ)

@@ -5,17 +5,15 @@ use Rattle.clean_link.proofs.Common.{places, Sample, Width, flat_map_ext_places,
 use Rattle.clean_link.proofs.Common.{PagingPlan, TrafficPlan, SetOneFrame, events, events_at, frame_events_at, heard_within}
 use Rattle.clean_link.proofs.Common.{message_events_at, paging_events_at, mark, frames_at, messages_at, is_in_file, sync_events_at}
 use Rattle.clean_link.proofs.Common.{power_bits_at, decoded_at, frame_event, frame_heard, if_followed, Tuning, Event, Pilot, Leg, Mark}
-use Rattle.clean_link.proofs.Common.{Traffic, by_one_mark, IsNotDirected, IsOnPath, is_frame, is_message, is_page, is_sync}
-use Rattle.clean_link.proofs.Common.{AreFramesBehind, AreMessagesBehind, EachChannelComesBack, FollowsOne, IsEventOf}
-use Rattle.clean_link.proofs.Common.{frame_ends, is_received, received_frames, AreDistinct, IsDistinctFrame, SendsSetOne}
-use Rattle.clean_link.proofs.Common.{messages_of_channel, paging_sent, told_with_sync, HearsSentTraffic, IsHeardAs}
-use Rattle.clean_link.proofs.Common.{ShowsSync, IsUndirected, ◌++◌}
-use Rattle.clean_link.proofs.Common.{All-weaker, ◌≢◌, All-append, All-cons, All-nil, All-same, sets_events_at, messages_sent, FollowsSent}
-use Rattle.clean_link.proofs.Common.{NoEventIsDirected, signaling_sent}
+use Rattle.clean_link.proofs.Common.{Traffic, by_one_mark, IsNotDirected, IsOnPath, is_frame, is_message, is_page, is_sync, AreFramesBehind}
+use Rattle.clean_link.proofs.Common.{AreMessagesBehind, EachChannelComesBack, FollowsOne, IsEventOf, frame_ends, is_received}
+use Rattle.clean_link.proofs.Common.{received_frames, AreDistinct, IsDistinctFrame, SendsSetOne, messages_of_channel, paging_sent}
+use Rattle.clean_link.proofs.Common.{told_with_sync, HearsSentTraffic, IsHeardAs, ShowsSync, IsUndirected, ◌++◌, All-weaker, ◌≢◌}
+use Rattle.clean_link.proofs.Common.{All-append, All-cons, All-nil, All-same, sets_events_at, messages_sent, FollowsSent, NoEventIsDirected}
+use Rattle.clean_link.proofs.Common.{signaling_sent, AreEventsBySigns, AreFramesBySigns, ChannelsComeBackBySigns, FromMark, HearsBySigns}
+use Rattle.clean_link.proofs.Common.{MarkIsAt, IsReceivable, SyncTellsTheMark, TrafficFrameHasSigns, pages_after}
 use Rattle.clean_link.proofs.traffic.Steady.{frames_from_mark, messages_from_mark, first_legs, first_pilot, events_at_all, gathered_all}
 use Rattle.clean_link.proofs.traffic.Steady.{one_stream}
-use Rattle.clean_link.proofs.Common.{AreEventsBySigns, AreFramesBySigns, ChannelsComeBackBySigns, FromMark, HearsBySigns, MarkIsAt}
-use Rattle.clean_link.proofs.Common.{IsReceivable, SyncTellsTheMark, TrafficFrameHasSigns, pages_after}
 use Rattle.clean_link.proofs.frames.ChannelFrames.{clean_signs, shows_sync}
 use Rattle.clean_link.proofs.traffic.Signs.{clean_sent, signed_power_bits}
 use Rattle.clean_link.proofs.messages.Kinds.{frames_of_all, messages_of_all, pages_of_all, sync_of_all, IsKind, frame_kind, paging_kind}

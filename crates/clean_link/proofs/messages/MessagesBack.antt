@@ -1,19 +1,18 @@
 -- A handset hears the whole transmissions, the whole pages, and the frames and messages of a traffic
 -- channel of a clean link's cell, with the events of its pilot sets, in the order in which they are
 -- known, and nothing else.
-use Rattle.clean_link.proofs.Common.{◌≡◌, ℕ, ◌+◌, Bool, true, false, List, [], ◌∷◌, ◌++◌, length, map, refl, sym, ap, ◌∙◌, arith, inl}
-use Rattle.clean_link.proofs.Common.{inr, nat_lt, Option, None, Some, ℤ, pos, if◌then◌else◌, flat_map, cases_Bool, ltb-true}
-use Rattle.clean_link.proofs.Common.{map-append, places, CheckForm, Sample, Width, made_samples, phase_at, CellPlan}
-use Rattle.clean_link.proofs.Common.{SyncPlan, events, events_at, frame_events_at, heard_within, message_events_at, paging_events_at}
-use Rattle.clean_link.proofs.Common.{sets_events_at, mark, page_event, pages_at, pages_behind, sync_events_at, Tuning, Event, Pilot, Mark}
-use Rattle.clean_link.proofs.Common.{AreAt, IsAt, all_at, by_one_mark, pages_from_mark, flat_map_ext_places, IsOnPath}
-use Rattle.clean_link.proofs.Common.{IsTunedToPlan, sync_sent, tuning_to, IsReceivable, ReadPage, known_page, pages_sent}
-use Rattle.clean_link.proofs.Common.{pages_within, WholeMessagesComeBack, known_event, paging_sent, pages_behind_mark}
-use Rattle.clean_link.proofs.Common.{AllComesBackBySigns, FromMark, IsCellMark, MarkIsAt, PagingFrameHasSigns, pages_after, if_followed}
-use Rattle.clean_link.proofs.Common.{sent_events, by_places, sets_heard, signaling_sent, subst, frames_at, messages_at, sets_at, Traffic}
-use Rattle.clean_link.proofs.Common.{traffic_sent, ◌<◌, Contains, PagingPlan}
-use Rattle.clean_link.proofs.Common.{zero, suc, ◌≤◌, filter, range_with_len, cases_order, eq-eqb, ne_eqb}
-use Rattle.clean_link.proofs.Common.{append-nil, filter-append, at_of, All-head, All-tail, is_at}
+use Rattle.clean_link.proofs.Common.{◌≡◌, ℕ, ◌+◌, Bool, true, false, List, [], ◌∷◌, ◌++◌, length, map, refl, sym, ap, ◌∙◌, arith, inl, inr}
+use Rattle.clean_link.proofs.Common.{nat_lt, Option, None, Some, ℤ, pos, if◌then◌else◌, flat_map, cases_Bool, ltb-true, map-append, places}
+use Rattle.clean_link.proofs.Common.{CheckForm, Sample, Width, made_samples, phase_at, CellPlan, SyncPlan, events, events_at}
+use Rattle.clean_link.proofs.Common.{frame_events_at, heard_within, message_events_at, paging_events_at, sets_events_at, mark, page_event}
+use Rattle.clean_link.proofs.Common.{pages_at, pages_behind, sync_events_at, Tuning, Event, Pilot, Mark, AreAt, IsAt, all_at, by_one_mark}
+use Rattle.clean_link.proofs.Common.{pages_from_mark, flat_map_ext_places, IsOnPath, IsTunedToPlan, sync_sent, tuning_to, IsReceivable}
+use Rattle.clean_link.proofs.Common.{ReadPage, known_page, pages_sent, pages_within, WholeMessagesComeBack, known_event, paging_sent}
+use Rattle.clean_link.proofs.Common.{pages_behind_mark, AllComesBackBySigns, FromMark, IsCellMark, MarkIsAt, PagingFrameHasSigns}
+use Rattle.clean_link.proofs.Common.{pages_after, if_followed, sent_events, by_places, sets_heard, signaling_sent, subst, frames_at}
+use Rattle.clean_link.proofs.Common.{messages_at, sets_at, Traffic, traffic_sent, ◌<◌, Contains, PagingPlan, zero, suc, ◌≤◌, filter}
+use Rattle.clean_link.proofs.Common.{range_with_len, cases_order, eq-eqb, ne_eqb, append-nil, filter-append, at_of, All-head, All-tail}
+use Rattle.clean_link.proofs.Common.{is_at}
 use Rattle.clean_link.proofs.traffic.Steady.{events_at_all, right_all, left_all}
 use Rattle.clean_link.proofs.frames.ChannelFrames.{clean_sync, shows_sync}
 use Rattle.clean_link.proofs.pages.Back.{pages_back, sent_of_number, signed_pages}

@@ -1,6 +1,5 @@
 -- The worked file with noise meets the premises of the laws of bounded noise.
-use Rattle.clean_link.proofs.Common.{arith, inl, refl, Sixteen, length-sent, sync_shape, sync_carrier, carriers}
-use Rattle.clean_link.proofs.Common.{sync_symbols, Sync}
+use Rattle.clean_link.proofs.Common.{arith, inl, refl, Sixteen, length-sent, sync_shape, sync_carrier, carriers, sync_symbols, Sync}
 use Rattle.clean_link.proofs.noise.FileAtMargin.{comes_back, file_is, hears, lawful_with}
 use Rattle.clean_link.specs.MarginFile.{MeetsNoisePremises}
 use Rattle.clean_link.specs.NoisyFile.{cell, sync_with}

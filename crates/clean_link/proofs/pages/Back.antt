@@ -1,17 +1,16 @@
 -- On a clean link a handset hears the whole pages of a paging channel, in order, and nothing else.
-use Rattle.clean_link.proofs.Common.{SignedPagesComeBack}
-use Rattle.clean_link.proofs.Common.{HaveOwnNumbers, eq-eqb, get_or, length, ne_eqb, suc, zero, ◌≡◌, ◌≢◌, ℕ, ◌+◌, ◌-◌, ◌*◌, ◌/◌, ◌<◌, ◌≤◌}
-use Rattle.clean_link.proofs.Common.{◌==◌, ⊎_elim, Bool, true, false, List, [], ◌∷◌, map, filter, replicate, refl, sym, ap, ◌∙◌, arith}
-use Rattle.clean_link.proofs.Common.{subst, Option, Some, All, Contains, flat_map, option_to_list, cases_Bool, eqb-true, eqb-false}
-use Rattle.clean_link.proofs.Common.{false_from_ne_true, All-cons, All-contains, All-contains_itself, All-head, All-nil, All-tail}
-use Rattle.clean_link.proofs.Common.{All-weaker, places, CheckForm, Width, capsule, M30, Rate, half_frame_body, rate_large}
+use Rattle.clean_link.proofs.Common.{SignedPagesComeBack, HaveOwnNumbers, eq-eqb, get_or, length, ne_eqb, suc, zero, ◌≡◌, ◌≢◌, ℕ, ◌+◌, ◌-◌}
+use Rattle.clean_link.proofs.Common.{◌*◌, ◌/◌, ◌<◌, ◌≤◌, ◌==◌, ⊎_elim, Bool, true, false, List, [], ◌∷◌, map, filter, replicate, refl, sym}
+use Rattle.clean_link.proofs.Common.{ap, ◌∙◌, arith, subst, Option, Some, All, Contains, flat_map, option_to_list, cases_Bool, eqb-true}
+use Rattle.clean_link.proofs.Common.{eqb-false, false_from_ne_true, All-cons, All-contains, All-contains_itself, All-head, All-nil}
+use Rattle.clean_link.proofs.Common.{All-tail, All-weaker, places, CheckForm, Width, capsule, M30, Rate, half_frame_body, rate_large}
 use Rattle.clean_link.proofs.Common.{cycle_frame_bits, sent_paging_rate, made_samples, IsStatedPaging, cycle_of, CellPlan, PagingPlan}
 use Rattle.clean_link.proofs.Common.{SyncPlan, page_in, frame_own_bits, is_in_file, known_at, Stream, IsTimed, Tuning, Mark}
 use Rattle.clean_link.proofs.Common.{flat_map_ext_places, heard_behind, IsOnPath, IsTrueMark, IsReceivable, end_chip, known_page, KnownPage}
 use Rattle.clean_link.proofs.Common.{message_in, page_told, pages_numbered, pages_of_channel, pages_sent, pages_within, PagesComeBack}
 use Rattle.clean_link.proofs.Common.{placed_pages, ReadPage, round_sent, AreWholePages, capsules_with_frames, cycle_half_frames}
-use Rattle.clean_link.proofs.Common.{is_whole_page, Placed, sending_of, Sample, ◌++◌, nat_le, if◌then◌else◌, mul-div-le}
-use Rattle.clean_link.proofs.Common.{and_parts, leb-true, le-div, length-capsule, HasMessage, laid_behind, AreHeard, Page, placed, None}
+use Rattle.clean_link.proofs.Common.{is_whole_page, Placed, sending_of, Sample, ◌++◌, nat_le, if◌then◌else◌, mul-div-le, and_parts}
+use Rattle.clean_link.proofs.Common.{leb-true, le-div, length-capsule, HasMessage, laid_behind, AreHeard, Page, placed, None}
 use Rattle.clean_link.proofs.Common.{paging_capsule, body_reading, is_body, paging_reading, PagingMessage, reads_body, reads_capsule}
 use Rattle.clean_link.proofs.Common.{as_spelled_page, take, range_with_len, lt-ltb, append-nil, map-append, flat_map-map, flat_map-append}
 use Rattle.clean_link.proofs.Common.{frame_chips, half_frame_capsule_ending, bits_up_to, page_at, pages_at, pages_behind, pages_from}

@@ -7,8 +7,7 @@ use Rattle.clean_link.proofs.Common.{frame_events_at, message_events_at, mark, A
 use Rattle.clean_link.proofs.Common.{sync_stream, Event, Mark, Traffic, by_one_mark, flat_map_ext_places, IsNotDirected, IsOnPath}
 use Rattle.clean_link.proofs.Common.{IsReceivable, frames_of_channel, frames_sent, told_on_row, AreDistinct, SendsSetOne}
 use Rattle.clean_link.proofs.Common.{messages_of_channel, messages_sent, signaling_sent, told_by_first, told_followed, told_with_sync}
-use Rattle.clean_link.proofs.Common.{MarkIsAt}
-use Rattle.clean_link.proofs.Common.{traffic_sent, FollowsSent, HearsSentTraffic, IsUndirected, IsAssigned, Sample, ShowsSync}
+use Rattle.clean_link.proofs.Common.{MarkIsAt, traffic_sent, FollowsSent, HearsSentTraffic, IsUndirected, IsAssigned, Sample, ShowsSync}
 use Rattle.clean_link.proofs.traffic.Steady.{frames_from_mark, messages_from_mark, undirected_behind}
 use Rattle.clean_link.proofs.marks.MarksTrue.{first_in, unset_in, marks_in, rate_in, time_of, unmarked_in}
 use Rattle.clean_link.proofs.frames.ChannelFrames.{clean_sync}

@@ -1,24 +1,21 @@
 -- The soft values of the frames of a traffic channel have the signs that were sent.
-use Rattle.clean_link.proofs.Common.{IsReceivable, TrafficShowsSigns}
-use Rattle.frame_decoder.specs.Laws.{ShowSymbols}
-use Rattle.clean_link.proofs.Common.{◌≡◌, ℕ, zero, suc, ◌+◌, ◌*◌, Bool, true, false, List, [], ◌∷◌, length, refl, sym, ap}
-use Rattle.clean_link.proofs.Common.{◌∙◌, arith, subst, ℤ, replicate, ◌*ℤ◌, Contains, flat_map, append-nil, All-contains, sign, xor}
-use Rattle.clean_link.proofs.Common.{zip_with, Width, after, traffic_mask, code_symbols, scrambling, with_power_bits, data_shape}
+use Rattle.clean_link.proofs.Common.{IsReceivable, TrafficShowsSigns, ◌≡◌, ℕ, zero, suc, ◌+◌, ◌*◌, Bool, true, false, List, [], ◌∷◌, length}
+use Rattle.clean_link.proofs.Common.{refl, sym, ap, ◌∙◌, arith, subst, ℤ, replicate, ◌*ℤ◌, Contains, flat_map, append-nil, All-contains}
+use Rattle.clean_link.proofs.Common.{sign, xor, zip_with, Width, after, traffic_mask, code_symbols, scrambling, with_power_bits, data_shape}
 use Rattle.clean_link.proofs.Common.{repeats_of, traffic_codeword, length-sent, softs, Finger, Data, length-sent2, IsLawfulPlan}
 use Rattle.clean_link.proofs.Common.{IsTrafficPlan, made_samples, frames_of, traffic_carrier, CellPlan, TrafficPlan, TrafficFrame, SetOne}
 use Rattle.clean_link.proofs.Common.{SetTwo, SetOneFrame, planned, one_in_turn, two_in_turn, descrambled, frame_softs, frame_start}
-use Rattle.clean_link.proofs.Common.{is_in_file, Stream}
-use Rattle.clean_link.proofs.Common.{raw_softs, frame_state, replaced_in, stream_of, traffic_start, traffic_stream, Tuning, fingers_of, Leg}
-use Rattle.clean_link.proofs.Common.{Mark, Traffic, IsTrueMark, soft_strength, codeword_symbols, IsAssigned, SendsSymbols, ShowPowerBits}
-use Rattle.clean_link.proofs.Common.{ShowFrame, IsFrameOf, path_finger, SetOneSends, SetTwoSends, HearsSentTraffic, IsHeardAs}
-use Rattle.clean_link.proofs.Common.{TrafficHaveSentSigns, ◌<◌, AllZip, AreKept, HasSign, Sample, AllZip-long, ArePowered}
-use Rattle.clean_link.proofs.Common.{HavePowerSigns, NoisyFrame, ◌/◌, get_or, nat_eq, pos, list_any}
-use Rattle.clean_link.proofs.Common.{eq-eqb, get_or-map-places, length-map-places, power_places, symbol_or_power_bit}
-use Rattle.clean_link.proofs.Common.{is_replaced, unscrambled, zipped_at, not, map, ◌+ℤ◌, ◌&&◌, int_lt, range_with_len, ints, list_any_at}
-use Rattle.clean_link.proofs.Common.{places, map-places-all, power_place, power_place_in_groups, pairs_below, pairs_in_groups}
-use Rattle.clean_link.proofs.Common.{pairs_neighbours, ArePairs, power_bit, group_sum, group_sums, map_ext_places, power_bits_at, sent_bits}
-use Rattle.clean_link.proofs.Common.{TrafficFrameHasSigns, sent_power_bits}
+use Rattle.clean_link.proofs.Common.{is_in_file, Stream, raw_softs, frame_state, replaced_in, stream_of, traffic_start, traffic_stream}
+use Rattle.clean_link.proofs.Common.{Tuning, fingers_of, Leg, Mark, Traffic, IsTrueMark, soft_strength, codeword_symbols, IsAssigned}
+use Rattle.clean_link.proofs.Common.{SendsSymbols, ShowPowerBits, ShowFrame, IsFrameOf, path_finger, SetOneSends, SetTwoSends}
+use Rattle.clean_link.proofs.Common.{HearsSentTraffic, IsHeardAs, TrafficHaveSentSigns, ◌<◌, AllZip, AreKept, HasSign, Sample, AllZip-long}
+use Rattle.clean_link.proofs.Common.{ArePowered, HavePowerSigns, NoisyFrame, ◌/◌, get_or, nat_eq, pos, list_any, eq-eqb, get_or-map-places}
+use Rattle.clean_link.proofs.Common.{length-map-places, power_places, symbol_or_power_bit, is_replaced, unscrambled, zipped_at, not, map}
+use Rattle.clean_link.proofs.Common.{◌+ℤ◌, ◌&&◌, int_lt, range_with_len, ints, list_any_at, places, map-places-all, power_place}
+use Rattle.clean_link.proofs.Common.{power_place_in_groups, pairs_below, pairs_in_groups, pairs_neighbours, ArePairs, power_bit, group_sum}
+use Rattle.clean_link.proofs.Common.{group_sums, map_ext_places, power_bits_at, sent_bits, TrafficFrameHasSigns, sent_power_bits}
 use Rattle.clean_link.proofs.Common.{PowerBitsComeBack, SixteenPowerBitsAreSent, le_false, lt_true}
+use Rattle.frame_decoder.specs.Laws.{ShowSymbols}
 use Rattle.chip_core.proofs.Finds.{nat_eq-flipped}
 use Rattle.clean_signal.proofs.signal.CarriersApart.{plan_apart, traffic_sent}
 use Rattle.clean_signal.proofs.frames.ChannelSigns.{strength_some}
