@@ -8,7 +8,7 @@ from cdma_tools.starting import start
 
 
 def main() -> int:
-    """Runs the command that the first argument names, and answers its exit status."""
+    """Runs the command that the first argument names, and returns its exit status."""
     folder = os.path.join(os.path.dirname(os.path.abspath(__file__)), "commands")
     names = [module.name for module in pkgutil.iter_modules([folder])]
     if len(sys.argv) < 2 or sys.argv[1] not in names:

@@ -1,4 +1,5 @@
-"""How a recording's checks are sent: a sample file's flags, tried by following it, or set anew in one that is there."""
+"""The form of a recording's message checks: a sample file's flags, tried by following the file, or set in an existing
+one."""
 
 import os
 import tempfile
@@ -17,18 +18,18 @@ PIECE = 1 << 20
 
 
 class Heard(NamedTuple):
-    """The messages that a handset hears of a file whose 30-bit checks are plain, and of one whose are complemented."""
+    """Numbers of messages that a handset decodes from a file with plain 30-bit checks, and with complemented ones."""
 
     plain: int
     complemented: int
 
     @property
     def flag(self) -> int:
-        """The flag of the way that more messages pass; plain where none tells."""
+        """Returns the flag of the way that more messages pass, plain if none does."""
         return COMPLEMENT_30 if self.complemented > self.plain else 0
 
     def told(self) -> str:
-        """A line that says what was taken, and why."""
+        """Returns a line with the choice and the reason for it."""
         if not self.plain and not self.complemented:
             return "no message passes its check, plain or complemented; 30-bit checks are taken to be plain"
         way = "complemented" if self.flag else "plain"
@@ -38,7 +39,7 @@ class Heard(NamedTuple):
 
 
 def messages(program: str, path: str, flags: int) -> int:
-    """How many sync and paging messages a handset hears of a sample file with flags in place of its own."""
+    """Returns the number of sync and paging messages that a handset decodes from a sample file with other flags."""
     file = SampleFile(path)
     file.close()
     with tempfile.TemporaryFile() as given:
@@ -53,12 +54,12 @@ def messages(program: str, path: str, flags: int) -> int:
 
 
 def tried(program: str, path: str) -> Heard:
-    """What is heard of a sample file both ways."""
+    """Returns what is decoded from a sample file both ways."""
     return Heard(messages(program, path, 0), messages(program, path, COMPLEMENT_30))
 
 
 def reflag(path: str, flags: int) -> int:
-    """Sets a sample file's flags, in place, and answers those that it had; all other bytes stay."""
+    """Sets a sample file's flags, in place, and returns the old ones; all other bytes stay."""
     file = SampleFile(path)
     file.close()
     try:

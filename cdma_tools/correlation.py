@@ -42,7 +42,7 @@ def energy_at(samples: Parts, signs: Parts, phase: int) -> int:
 
 
 def energies(samples: Parts, signs: Parts) -> NDArray[numpy.float64]:
-    """The energies at all phases, as near as floating point has them."""
+    """Returns the energies at all phases, in the precision of floating point."""
     i, q = samples
     padded = numpy.zeros(PERIOD, dtype=complex)
     padded[: len(i)] = i + 1j * q

@@ -1,4 +1,4 @@
-"""What the tools refuse, in words, and how they say it."""
+"""What the tools refuse, in words, and how they report it."""
 
 import errno
 import sys
@@ -11,16 +11,16 @@ class Refused(Exception):
 
 
 class WrongArguments(Exception):
-    """That arguments of a command don't go together, in words; its status is that of wrong arguments."""
+    """Reason why arguments of a command don't go together; the status is that of wrong arguments."""
 
 
 def printable(text: str) -> str:
-    """A text as one line: what can't be printed stands as its escape."""
+    """Returns a text as one line, with escapes for what can't be printed."""
     return "".join(letter if letter.isprintable() else ascii(letter)[1:-1] for letter in text)
 
 
 def said(name: str, text: str) -> None:
-    """Says a line of a command on standard error; where nobody takes it, it is lost."""
+    """Writes a line of a command to standard error; it is lost if nobody reads it."""
     try:
         print(f"{name}: {printable(text)}", file=sys.stderr, flush=True)
     except OSError:
@@ -28,7 +28,7 @@ def said(name: str, text: str) -> None:
 
 
 def text_of(why: OSError, path: str = "") -> str:
-    """A fault of the system in words, with the file that is at fault: its own, or else the one that is given."""
+    """Returns a fault of the system in words, with the file at fault: its own, otherwise the given one."""
     name = why.filename if isinstance(why.filename, str) else path
     if not name and why.errno in NO_ROOM:
         name = "standard output"

@@ -1,4 +1,4 @@
-"""What a handset heard in a run, as lines of `follow` tell it: messages by their kind, frames, and pilot sets."""
+"""What a handset received in a run, by lines of `follow`: messages by their kind, frames, and pilot sets."""
 
 from typing import Any, Iterable, NamedTuple
 
@@ -24,7 +24,7 @@ class Message(NamedTuple):
 
 
 class Frame(NamedTuple):
-    """A frame of the traffic channel: its line's number, and what the line says."""
+    """A frame of the traffic channel: its line's number, and the content of the line."""
 
     number: int
     at: int
@@ -85,13 +85,14 @@ class Run:
         return places, levels
 
     def ends(self) -> int:
-        """The last sample at which an event was known; 0 where there is none."""
+        """Returns the last sample at which an event was known, 0 if there is none."""
         places = [message.at for lane in self.lanes.values() for message in lane]
         places += [frame.at for frame in self.frames] + [moment.at for moment in self.sets]
         return max(places, default=0)
 
     def spans(self, part: str) -> dict[int, list[tuple[int, int]]]:
-        """Of each pilot in the `active` or the `candidate` set: the stretches of samples in which it was there."""
+        """Returns for each pilot in the `active` or the `candidate` set the stretches of samples in which it was there.
+        """
         spans: dict[int, list[tuple[int, int]]] = {}
         open_since: dict[int, int] = {}
         for moment in self.sets:

@@ -23,7 +23,7 @@ def only_once(pairs: list[tuple[str, Any]]) -> dict[str, Any]:
 
 
 def object_of(text: str) -> dict[str, Any]:
-    """The object that a line of JSON tells."""
+    """Returns the object in a line of JSON."""
     try:
         given = json.loads(text, object_pairs_hook=only_once)
     except NoLine:
@@ -36,12 +36,12 @@ def object_of(text: str) -> dict[str, Any]:
 
 
 def as_line(text: str) -> str:
-    """The line of an object that JSON tells."""
+    """Returns the line of an object in JSON."""
     return spell_line(object_of(text))
 
 
 def turned_lines(source: Iterable[bytes], turned: Callable[[str], str]) -> Iterable[str]:
-    """What each line becomes."""
+    """Yields each line turned."""
     for number, line in enumerate(source, 1):
         try:
             if not line.endswith(b"\n"):

@@ -1,18 +1,17 @@
-"""The lines that the program writes: their fields in one table, and how a line is read and spelled by it.
+"""The lines that the program writes: their fields in one table, by which a line is read and written.
 
 `SHAPES` has a row for each kind of line. `read_line` makes a dictionary of a line, and `spell_line` the line again:
 
     read_line("pilot phase=64 energy=1509949440000")
     {"line": "pilot", "phase": 64, "energy": 1509949440000}
 
-Under "line" stands the line's first word; under "message" the word that tells a paging or traffic message's kind, and
-under "channel" the one that tells where a raw message came from. The fields follow by their names in the line. A number
-is a number; so is LC_STATE, which a line has in hex digits. Bits are the text that the line has, N:HEX. A list of
-numbers is a list, one of records a list of lists, and sixteen power control bits are a list of sixteen numbers: a text
-of digits alone would be taken for a number by whoever reads JSON into a table. A field that may be left out isn't
-there.
+"line" is the line's first word, "message" the word for the kind of a paging or traffic message, and "channel" the
+channel of a raw message. The fields follow by their names in the line. A number is a number, and so is LC_STATE, which
+is in hex digits in a line. Bits are the text N:HEX of the line. A list of numbers is a list, one of records a list of
+lists, and sixteen power control bits are a list of sixteen numbers: a text of only digits would be taken for a number
+by a program that reads JSON into a table. A field that may be left out is absent.
 
-What `read_line` takes is just what `spell_line` gives back, byte by byte; any other text is refused.
+`read_line` accepts exactly what `spell_line` writes, byte by byte, and refuses any other text.
 """
 
 import re
@@ -30,11 +29,11 @@ BITS = re.compile(r"(0|[1-9][0-9]{0,3}):((?:[0-9a-f]{2})*)")
 
 
 class NoLine(ValueError):
-    """Why a text is no line of the program, or an object none of its lines', in words."""
+    """Reason why a text is not a line of the program, or an object not that of a line."""
 
 
 class Form(NamedTuple):
-    """How a field's value stands in a line, and what it is in JSON."""
+    """How a field's value is written in a line, and what it is in JSON."""
 
     read: Callable[[str], Any]
     spell: Callable[[Any], str]
@@ -42,7 +41,7 @@ class Form(NamedTuple):
 
 
 class Field(NamedTuple):
-    """A field: its name in the line, its form, and its name in TIA/EIA-95-B or, where it has none, what it is."""
+    """A field: its name in the line, its form, and its name in TIA/EIA-95-B or, if it has none, its meaning."""
 
     name: str
     form: Form
@@ -50,13 +49,13 @@ class Field(NamedTuple):
 
 
 class Group(NamedTuple):
-    """Fields that stand in a line all or not at all."""
+    """Fields that a line has all or not at all."""
 
     fields: tuple[Field, ...]
 
 
 class Shape(NamedTuple):
-    """A kind of line: its first word, the fields after that, and the word that says more, with the fields after it."""
+    """A kind of line: its first word, the fields after that, and the second word, with the fields after it."""
 
     line: str
     head: tuple[Field, ...]
@@ -65,7 +64,7 @@ class Shape(NamedTuple):
 
     @property
     def key(self) -> str:
-        """Under which name the second word stands in JSON."""
+        """Returns the name of the second word in JSON."""
         return "channel" if self.line == "raw" else "message"
 
     def fields(self) -> Iterator[Field]:
@@ -75,9 +74,9 @@ class Shape(NamedTuple):
 
 
 def whole(value: Any) -> int:
-    """A whole number of JSON, where 7.0 is one: tables with empty cells have no others.
+    """Returns a whole number of JSON, including 7.0: tables with empty cells have no others.
 
-    From 2^53 on such a number may be a rounded one, so it is none.
+    From 2^53 on such a number may be a rounded one, so it is refused.
     """
     if isinstance(value, float) and value.is_integer() and abs(value) < MOST_EXACT:
         value = int(value)
@@ -87,7 +86,7 @@ def whole(value: Any) -> int:
 
 
 def within(value: int, least: int, most: int) -> int:
-    """The number, where it is in its bounds."""
+    """Returns the number, if it is within its bounds."""
     if not least <= value <= most:
         raise NoLine(f"{value} isn't {least} to {most}")
     return value
@@ -110,7 +109,7 @@ def number(most: int, least: int = 0, text: str = "") -> Form:
 
 
 def field_of(width: int) -> Form:
-    """A number of so many bits."""
+    """Returns the form of a number of `width` bits."""
     return number(2**width - 1, text=f"{width} bits" if width > 1 else "1 bit")
 
 
@@ -127,7 +126,7 @@ def one_of(numbers: tuple[int, ...]) -> Form:
 
 
 def hexadecimal(digits: int, width: int) -> Form:
-    """A number of so many bits, in the line as so many lower-case hex digits."""
+    """Returns the form of a number of `width` bits, in the line as `digits` lower-case hex digits."""
     shape = re.compile(f"[0-9a-f]{{{digits}}}")
 
     def read(given: str) -> int:
@@ -186,7 +185,8 @@ def numbers(form: Form) -> Form:
 
 
 def records(*forms: Form) -> Form:
-    """A list of records, which may be empty; each has so many numbers, separated by / in the line."""
+    """Returns the form of a list of records, which may be empty; each has a number per form, separated by / in the
+    line."""
 
     def read_record(given: str) -> list[int]:
         parts = given.split("/")
@@ -388,7 +388,7 @@ class Tokens:
         self.words, self.place = words, 0
 
     def peek(self) -> str:
-        """The next word, empty where there is none."""
+        """Returns the next word, empty if there is none."""
         return self.words[self.place] if self.place < len(self.words) else ""
 
     def take(self) -> str:
@@ -412,7 +412,7 @@ class Tokens:
             raise NoLine(f"{field.name}: {why}") from None
 
     def take_part(self, part: Field | Group, into: dict[str, Any]) -> None:
-        """Reads a field, or the fields of a group where the first of them is there."""
+        """Reads a field, or the fields of a group if the first of them is there."""
         if isinstance(part, Field):
             self.take_field(part, into)
         elif self.peek().startswith(part.fields[0].name + "="):
@@ -460,9 +460,9 @@ class BrokenTokens(Tokens):
 
 
 def read_line(text: str) -> dict[str, Any]:
-    """The object of a line, which has no line feed; `NoLine` where it is no line of the program.
+    """Returns the object of a line, which has no line feed; raises `NoLine` if it is not a line of the program.
 
-    The object's keys stand in the order of the line.
+    The object's keys are in the order of the line.
     """
     first, *words = text.split(" ")
     return read_tokens(first, Tokens(words))
@@ -515,7 +515,7 @@ def shape_of(given: dict[str, Any]) -> Shape:
 
 
 def spell_field(field: Field, given: dict[str, Any]) -> str:
-    """A field as it stands in the line, with a space before it."""
+    """Returns a field as it is written in the line, with a space before it."""
     if field.name not in given:
         raise NoLine(f"no {field.name}")
     try:
@@ -526,7 +526,7 @@ def spell_field(field: Field, given: dict[str, Any]) -> str:
 
 
 def spell_part(part: Field | Group, given: dict[str, Any]) -> str:
-    """A field, or the fields of a group where one of them is there."""
+    """Returns a field, or the fields of a group if one of them is there."""
     if isinstance(part, Field):
         return spell_field(part, given)
     if not any(field.name in given for field in part.fields):
@@ -535,10 +535,10 @@ def spell_part(part: Field | Group, given: dict[str, Any]) -> str:
 
 
 def spell_line(given: dict[str, Any]) -> str:
-    """The line of an object, without a line feed; `NoLine` where it is the object of none.
+    """Returns the line of an object, without a line feed; raises `NoLine` if it is the object of none.
 
-    Its keys may stand in any order. One whose value is None counts as left out, as tables write it; so does the time
-    that a listening adds.
+    Its keys may be in any order. One whose value is None counts as absent, as tables write it; so does the time that a
+    listening adds.
     """
     given = {name: value for name, value in given.items() if value is not None and name != TIME_NAME}
     shape = shape_of(given)

@@ -1,7 +1,8 @@
-"""Where things stand that the tools take besides the package.
+"""Places of data that the tools use besides the package.
 
-That is at the top of a checkout, beside an installed package, or in the folder `share/cdma-replay` of the prefix that
-the package is installed below."""
+They are at the top of a checkout, next to an installed package, or in the folder `share/cdma-replay` of the prefix
+below which the package is installed.
+"""
 
 import os
 from collections.abc import Iterator
@@ -13,7 +14,7 @@ SHARED = os.path.join("share", "cdma-replay")
 
 
 def tops(package: str) -> Iterator[str]:
-    """The folders in which data may stand, the nearest first: the package's, and the shared one of each prefix."""
+    """Yields the folders in which data may be, the nearest first: the package's, and the shared one of each prefix."""
     top = os.path.dirname(package)
     yield top
     while (above := os.path.dirname(top)) != top:
@@ -22,7 +23,8 @@ def tops(package: str) -> Iterator[str]:
 
 
 def data_folder(name: str, package: str = PACKAGE) -> str:
-    """A folder of data, beside the package or below its prefix; where it is nowhere, where it would be looked for."""
+    """Returns a folder of data, next to the package or below its prefix; if it is missing, the place where it should
+    be."""
     found = (os.path.join(top, name) for top in tops(package))
     return next((path for path in found if os.path.isdir(path)), os.path.join(os.path.dirname(package), name))
 

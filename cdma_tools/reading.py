@@ -8,7 +8,7 @@ MEGABYTE = 1 << 20
 
 
 def all_of(file: IO[bytes], name: str, most: int) -> bytes:
-    """The bytes that a file has from here on; refuses more than so many, after reading no more than that."""
+    """Returns the bytes that a file has from here on; refuses more than `most`, after reading no more than that."""
     data = file.read(most + 1)
     if len(data) > most:
         raise Refused(f"{name}: more than {most:,} bytes")
@@ -16,7 +16,7 @@ def all_of(file: IO[bytes], name: str, most: int) -> bytes:
 
 
 def read_within(path: str, most: int) -> bytes:
-    """The bytes of a file; refuses one that has more than so many, or can't be read."""
+    """Returns the bytes of a file; refuses one that has more than `most`, or can't be read."""
     try:
         with open(path, "rb") as file:
             return all_of(file, path, most)

@@ -1,4 +1,4 @@
-"""A run of a receiver that may hang, die, or write without end: it ends in its time, and is told by what it did."""
+"""A run of a receiver that may hang, die, or write without end: it is ended in time, and described by what it did."""
 
 import contextlib
 import dataclasses
@@ -22,7 +22,7 @@ READ_BYTES = 1 << 16
 
 @dataclasses.dataclass(frozen=True)
 class Ran:
-    """How a run ended: its status, what it wrote and told, and why it was ended; empty where it ended itself."""
+    """The end of a run: its status, its outputs, and why it was ended, empty if it ended itself."""
 
     status: int
     wrote: bytes
@@ -35,14 +35,14 @@ class Stopped(Exception):
 
 
 def time_text(seconds: float) -> str:
-    """A time in words, by whole minutes where it has them."""
+    """Returns a time in words, in whole minutes if it has them."""
     if seconds % 60:
         return f"{seconds:g} seconds"
     return f"{seconds / 60:g} minute" + ("" if seconds == 60 else "s")
 
 
 def ended_text(status: int) -> str:
-    """How a run ended, in words: its status, or the signal that ended it."""
+    """Returns how a run ended, in words: its status, or the signal that ended it."""
     if status >= 0:
         return f"status {status}"
     with contextlib.suppress(ValueError):
@@ -60,7 +60,7 @@ def as_file(data: bytes) -> Iterator[IO[bytes]]:
 
 
 def feed(end: int, data: bytes) -> None:
-    """Writes bytes into a pipe and closes it; what nobody reads is lost."""
+    """Writes bytes into a pipe and closes it; what is not read is lost."""
     with contextlib.suppress(BrokenPipeError), open(end, "wb") as pipe:
         pipe.write(data)
 
@@ -107,7 +107,7 @@ def run_receiver(
 
 
 def stop(child: subprocess.Popen[bytes], is_group: bool) -> None:
-    """Ends a run, with its group: the group is there as long as its first process wasn't waited for."""
+    """Ends a run, with its group: the group exists until its first process is waited for."""
     with contextlib.suppress(ProcessLookupError, PermissionError):
         if is_group:
             os.killpg(child.pid, signal.SIGKILL)
@@ -115,7 +115,7 @@ def stop(child: subprocess.Popen[bytes], is_group: bool) -> None:
 
 
 def follow(child: subprocess.Popen[bytes], wrote: bytearray, told: bytearray, seconds: float, most: int) -> None:
-    """Takes what a run writes and tells, until it and both outputs have ended; raises `Stopped` at a bound."""
+    """Reads the outputs of a run until it and both outputs have ended; raises `Stopped` at a bound."""
     until = time.monotonic() + seconds
     outputs = [
         (stream, kept, bound, name)
@@ -141,7 +141,7 @@ def follow(child: subprocess.Popen[bytes], wrote: bytearray, told: bytearray, se
 
 
 def took(descriptor: int, kept: bytearray, most: int, name: str) -> bool:
-    """Takes a piece of an output; False at its end. Raises `Stopped` where the output has more than it may."""
+    """Reads a piece of an output; returns False at its end. Raises `Stopped` if the output is longer than allowed."""
     piece = os.read(descriptor, READ_BYTES)
     kept += piece
     if len(kept) > most:

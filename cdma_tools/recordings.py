@@ -12,7 +12,7 @@ from cdma_tools.errors import Refused
 
 
 class Kind(NamedTuple):
-    """How a type keeps one part of a sample."""
+    """How a sample type stores one part of a sample."""
 
     form: str  # numpy's name for it
     zero: int  # the whole number that stands for 0
@@ -35,7 +35,7 @@ TYPES = {
 
 
 def sample_count(path: str, kind: str) -> int:
-    """How many whole samples a file holds; refuses a file that ends within one, or isn't there."""
+    """Returns the number of complete samples in a file; refuses a file that ends within one, or is missing."""
     size = TYPES[kind].size
     try:
         total = os.stat(path).st_size
@@ -49,7 +49,8 @@ def sample_count(path: str, kind: str) -> int:
 def with_zeros(
     first: int, count: int, held: int, inside: Callable[[int, int], NDArray[numpy.complex64]]
 ) -> NDArray[numpy.complex64]:
-    """Samples first to first + count - 1, zeros where there are none of so many held: `inside` gives those low to high - 1."""
+    """Returns samples first to first + count - 1, with zeros outside the `held` ones: `inside` gives low to high - 1 of
+    those."""
     out = numpy.zeros(count, dtype=numpy.complex64)
     low, high = max(first, 0), min(first + count, held)
     if low < high:
@@ -58,13 +59,13 @@ def with_zeros(
 
 
 class Samples(Protocol):
-    """Raw samples that a front reads: a recording, or what stands in its place."""
+    """Raw samples that a front reads: a recording, or what replaces it."""
 
     rate: float
     count: int
 
     def read(self, first: int, count: int) -> NDArray[numpy.complex64]:
-        """Samples first to first + count - 1, zeros where there are none."""
+        """Returns samples first to first + count - 1, with zeros for missing ones."""
 
     def conjugate(self) -> "Samples":
         """The conjugate of the same samples."""
@@ -74,9 +75,9 @@ class Samples(Protocol):
 
 
 class Recording:
-    """The samples of a recording as complex numbers of single precision, read where they are wanted.
+    """The samples of a recording as complex numbers of single precision, read on demand.
 
-    They are read from the file and not mapped, so that the memory that is used doesn't grow with the file.
+    They are read from the file and not mapped, so that the memory in use doesn't grow with the file.
     """
 
     def __init__(self, path: str, kind: str, rate: float, skip: int = 0, is_conjugate: bool = False) -> None:
@@ -109,7 +110,7 @@ class Recording:
         return other
 
     def read(self, first: int, count: int) -> NDArray[numpy.complex64]:
-        """Samples first to first + count - 1, zeros where the recording has none."""
+        """Returns samples first to first + count - 1, with zeros outside the recording."""
         return with_zeros(first, count, self.count, self.inside)
 
     def inside(self, low: int, high: int) -> NDArray[numpy.complex64]:

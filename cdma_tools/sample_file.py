@@ -13,7 +13,7 @@ __all__ = ["FORM", "GREATEST", "HEADER", "MOST_CHIPS", "SampleFile", "header"]
 
 
 class SampleFile:
-    """The samples of a sample file, read where they are wanted."""
+    """The samples of a sample file, read on demand."""
 
     def __init__(self, path: str) -> None:
         """Opens a file; refuses one that isn't a whole sample file."""
@@ -41,7 +41,7 @@ class SampleFile:
         self.file.close()
 
     def read(self, first: int, count: int) -> NDArray[numpy.complex64]:
-        """Samples first to first + count - 1, zeros where the file has none."""
+        """Returns samples first to first + count - 1, with zeros outside the file."""
         return with_zeros(first, count, self.count, self.inside)
 
     def inside(self, low: int, high: int) -> NDArray[numpy.complex64]:

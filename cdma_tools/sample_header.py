@@ -17,7 +17,7 @@ MOST_CHIPS = {1: 33_554_432, 2: 67_108_864}
 
 @dataclass(frozen=True)
 class Header:
-    """What a header tells: the version, the flags, and the count of samples."""
+    """The content of a header: the version, the flags, and the number of samples."""
 
     version: int
     flags: int
@@ -35,7 +35,7 @@ def header(version: int, flags: int, count: int) -> bytes:
 
 
 def read_header(data: bytes, name: str) -> Header:
-    """The header at the beginning of a file's bytes; refuses what is none, by the file's name."""
+    """Returns the header at the beginning of a file's bytes; refuses other bytes, with the file's name."""
     if len(data) < HEADER.size or data[: len(MAGIC)] != MAGIC:
         raise Refused(f"{name}: no sample file")
     told = Header(*HEADER.unpack(data[: HEADER.size])[1:])

@@ -1,6 +1,6 @@
-"""What is read of a script: the link, the gains, and the traffic channels with their frames.
+"""Reading of a script: the link, the gains, and the traffic channels with their frames.
 
-Whether the script names a cell is judged by `make` alone (docs/FORMATS.md). What is read here is the form of its lines.
+Only `make` judges whether the script names a cell (docs/FORMATS.md). This module reads the form of its lines.
 """
 
 import dataclasses
@@ -35,9 +35,9 @@ class Traffic:
 
 @dataclasses.dataclass(frozen=True)
 class Script:
-    """A cell: the link's factor, the local chip of sample 0, the count of samples, PRAT, gains by row, the channels.
+    """A cell: the link's factor, the local chip of sample 0, the number of samples, PRAT, gains by row, the channels.
 
-    `paging` has the rows of the paging channels. `prat` is None where no sync channel is sent.
+    `paging` has the rows of the paging channels. `prat` is None if no sync channel is sent.
     """
 
     link: complex
@@ -49,7 +49,7 @@ class Script:
     traffic: tuple[Traffic, ...]
 
     def power(self) -> float:
-        """What the cell sends a chip over its link, on the average: both branches, all channels."""
+        """Returns the mean power of a chip that the cell sends over its link: both branches, all channels."""
         return 2 * abs(self.link) ** 2 * sum(gain * gain for gain in self.gains.values())
 
 
@@ -69,7 +69,7 @@ class Reader:
         self.traffic: list[tuple[dict[str, str], list[Frame]]] = []
 
     def take(self, line: str) -> None:
-        """Takes a line; KeyError, ValueError or IndexError where it hasn't the form of its first word."""
+        """Takes a line; raises KeyError, ValueError or IndexError if it hasn't the form of its first word."""
         name, *words = line.split(" ")
         fields = fields_of(words)
         if name == "link":
@@ -105,7 +105,7 @@ class Reader:
 
 
 def read_script(text: str, name: str) -> Script:
-    """The script of a text; `name` says whose, where it can't be read."""
+    """Returns the script of a text; `name` names it if it can't be read."""
     reader = Reader()
     for number, line in enumerate(text.splitlines(), 1):
         try:
@@ -124,7 +124,7 @@ def read_script(text: str, name: str) -> Script:
 
 
 def chosen_channel(script: Script, row: int | None, name: str) -> Traffic:
-    """The traffic channel on a row, or the first one; Refused where there is none, or none with frames."""
+    """Returns the traffic channel on a row, or the first one; raises Refused if there is none, or none with frames."""
     if not script.traffic:
         raise Refused(f"{name}: no traffic channel")
     found = [channel for channel in script.traffic if row is None or channel.row == row]

@@ -28,7 +28,7 @@ FRAMES_OF_SUPERFRAME = SLOT // FRAME
 
 @dataclasses.dataclass(frozen=True)
 class Signs:
-    """The frames of a channel that the law asks about: how many lie in the file, and how many of them are covered.
+    """The frames of a channel that the law requires: the number in the file, and the number covered.
 
     `first` is the sample at which the first of them begins, and `least` the least soft value times its sent sign; both
     are None if no such frame lies in the file.
