@@ -21,12 +21,12 @@ STATUS = "Exit status:"  # with which the last paragraph of each help begins
 
 
 def shown(text: str) -> str:
-    """A help text with the status that all tools share, and the names that they have here.
+    """Returns a help text with the status that all tools share, and the names that they have here.
 
     `tools/scan` is `cdma-scan` where it is installed.
     """
     if STATUS in text:
-        text = text.rstrip().removesuffix(".") + f";\n{INTERRUPTED} where Ctrl-C ended it.\n"
+        text = text.rstrip().removesuffix(".") + f";\n{INTERRUPTED} if Ctrl-C ended it.\n"
     if not is_installed():
         return text
     text = text.replace("conformance/run ", f"{INSTALLED['conformance']} ")
@@ -54,7 +54,7 @@ class PartParser(argparse.ArgumentParser):
         super().__init__(**more)
 
     def print_help(self, file: Any = None) -> None:
-        """Writes the help; that nobody takes it isn't passed over, as argparse does."""
+        """Writes the help; unlike argparse it doesn't ignore that nobody reads it."""
         (file or sys.stdout).write(self.format_help())
 
     def error(self, message: str) -> NoReturn:
@@ -65,7 +65,7 @@ class PartParser(argparse.ArgumentParser):
 class Parser(PartParser):
     """A tool's command line, in which a negative number after an option is its value.
 
-    Each has --version, which tells the project's, but one that has its own.
+    Each has --version, which prints the project's version.
     """
 
     def __init__(self, tool: str, description: str | None, has_version: bool = True, **more: Any) -> None:
@@ -89,7 +89,7 @@ class Parser(PartParser):
 
 
 def version_of(tool: str) -> str:
-    """What a tool says of its version."""
+    """Returns a tool's text for --version."""
     return f"{called(tool)} {__version__}"
 
 
@@ -107,12 +107,12 @@ def joined(words: Sequence[str]) -> list[str]:
 
 
 def wrong(why: str, text: str) -> argparse.ArgumentTypeError:
-    """The fault of a value, which names it, cut short where it is long."""
+    """Returns the fault of a value, with the value, cut short if it is long."""
     return argparse.ArgumentTypeError(f"{why}: {text[:LONGEST]!r}")
 
 
 def read_by(form: Callable[[str], Any], text: str, fault: str) -> Any:
-    """A value of a form, as int or Decimal; where the text is none, the fault is said of it."""
+    """Returns a value of a form, such as int or Decimal; raises the fault if the text has another form."""
     try:
         if len(text) > LONGEST:
             raise ValueError
@@ -127,7 +127,7 @@ def bound_text(bound: float) -> str:
 
 
 class Within:
-    """Reads numbers from a least to a greatest one, and tells these bounds."""
+    """Reads numbers from a least to a greatest one, and describes these bounds."""
 
     def __init__(self, form: Callable[[str], Any], least: float, most: float, is_above: bool = False) -> None:
         """With is_above the least one itself isn't taken."""
@@ -140,7 +140,7 @@ class Within:
         return f"{bound_text(self.least)} to {bound_text(self.most)}"
 
     def __call__(self, text: str) -> Any:
-        """The number of a text; a fault that argparse tells where it is none, or out of bounds."""
+        """Returns the number of a text; raises a fault for argparse if it is no number, or out of bounds."""
         number = read_by(self.form, text, "no whole number" if self.form is int else "no number")
         if number != number or not self.least <= number <= self.most or self.is_above and number == self.least:
             raise wrong(f"not {self.told()}", text)

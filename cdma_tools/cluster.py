@@ -1,10 +1,10 @@
-"""Handing tasks to workers by dask.distributed (Debian's package python3-distributed).
+"""Distribution of tasks to workers by dask.distributed (Debian's package python3-distributed).
 
-A task has no effects, so where a worker dies dask gives its tasks to another one, and where two workers did one task
-the results are the same.
+A task has no effects. If a worker dies, dask gives its tasks to another one, and if two workers did one task, the
+results are the same.
 
-Whoever reaches a scheduler or a worker runs code as its user. All servers of a cluster that is started here listen on
-loopback addresses only.
+Anyone who reaches a scheduler or a worker can run code as its user. All servers of a cluster that is started here listen
+only on loopback addresses.
 """
 
 import asyncio
@@ -37,7 +37,7 @@ AHEAD = 2
 
 
 def quiet() -> Any:
-    """dask.distributed, which says nothing of its own from here on."""
+    """Returns dask.distributed, which writes nothing of its own from here on."""
     try:
         import distributed
     except ImportError as missing:
@@ -133,12 +133,12 @@ def connected(address: str | None, workers: int) -> Iterator[Any]:
 
 
 def workers_of(client: Any) -> int:
-    """How many workers a client's scheduler has now."""
+    """Returns the current number of workers of a client's scheduler."""
     return len(client.scheduler_info()["workers"])
 
 
 def some_ended(client: Any, futures: list[Any]) -> list[Any]:
-    """The futures that have ended, one or more; Refused where no worker is left that could end one."""
+    """Returns the futures that have ended, at least one; raises Refused if no worker is left that could end one."""
     while True:
         try:
             return list(quiet().wait(futures, timeout=LAST_WORKER, return_when="FIRST_COMPLETED").done)
@@ -148,7 +148,7 @@ def some_ended(client: Any, futures: list[Any]) -> list[Any]:
 
 
 def result_of(future: Any, task: str) -> Any:
-    """The result of a task, which is called so; Refused in words where it failed, or where the scheduler lost it."""
+    """Returns the result of the task with this name; raises Refused if it failed, or if the scheduler lost it."""
     if future.status == "finished":
         return future.result()
     if future.status != "error":

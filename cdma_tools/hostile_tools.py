@@ -1,7 +1,7 @@
-"""Random runs of the tools: arguments, metadata and bytes that nobody means, and whether each run ends as it should.
+"""Random runs of the tools, with arguments, metadata and bytes that make no sense, and checks of how each run ends.
 
 A run takes place within this process, as `commands.status_of` makes it: what a shell would see as a traceback is an
-exception here. Each is drawn from a seed and a number, so a fault that was told can be seen again.
+exception here. Each is drawn from a seed and a number, so a reported fault can be repeated.
 """
 
 import contextlib
@@ -186,7 +186,7 @@ FAILED = {"report": (2, 9)}  # the statuses of a run that writes nothing, where 
 
 
 class Ran(NamedTuple):
-    """How a run ended: its command, its status, and what is wrong about that, empty where nothing is."""
+    """The end of a run: its command, its status, and its fault, empty if there is none."""
 
     command: str
     status: int
@@ -194,7 +194,7 @@ class Ran(NamedTuple):
 
 
 class TooSlow(BaseException):
-    """That a run didn't end in time."""
+    """A run didn't end in time."""
 
 
 def metadata(draw: random.Random, data: str) -> bytes:
@@ -254,7 +254,7 @@ class Room:
             file.write(data)
 
     def named(self, name: str) -> list[str]:
-        """What stands for an argument without a name."""
+        """Returns the values for an argument without a name."""
         draw = self.draw
         choices: dict[str, Callable[[], list[str]]] = {
             "input": lambda: [self.at(draw.choice(INPUTS))],
@@ -277,7 +277,7 @@ class Room:
         return choices[name]()
 
     def fault(self, tool: str, status: int) -> str:
-        """What is wrong with what a run of a tool left behind."""
+        """Returns the fault of what a run of a tool left behind."""
         if any(name.startswith(".part-") for name in os.listdir(self.folder)):
             return "a file is left half written"
         with open(self.at("output"), "rb") as file:
@@ -311,7 +311,7 @@ def end_slow(*_: object) -> None:
 
 @contextlib.contextmanager
 def within_time() -> Iterator[None]:
-    """Lets what is done in it take so much time of a processor, and so much in all, and no longer."""
+    """Limits the processor time and the whole time of what is done in this context."""
     before = {number: signal.signal(number, end_slow) for number in (signal.SIGPROF, signal.SIGALRM)}
     signal.setitimer(signal.ITIMER_PROF, SECONDS)
     signal.alarm(MOST_WAIT)
@@ -330,7 +330,7 @@ def text_stream(data: bytes = b"") -> io.TextIOWrapper:
 
 
 def told_fault(tool: str, status: int, said: str) -> str:
-    """What is wrong with how a run ended, and what it said on standard error."""
+    """Returns the fault of a run's end and of its standard error."""
     if status not in STATUSES.get(tool, range(3)):
         return "no status of the tool"
     if re.search("Traceback|Warning", said):
@@ -344,7 +344,7 @@ def told_fault(tool: str, status: int, said: str) -> str:
 
 
 def run(tool: str, words: list[str], data: bytes) -> tuple[int, str]:
-    """The status of a run, and what is wrong about that or about what it said."""
+    """Returns the status of a run, and the fault of that or of its standard error."""
     out, said = text_stream(), text_stream()
     streams = mock.patch.multiple(sys, stdin=text_stream(data), stdout=out, stderr=said)
     bounds = mock.patch.object(scan, "MOST_CARRIERS", MOST_CARRIERS)

@@ -10,7 +10,7 @@ INTERRUPTS = (signal.SIGINT, signal.SIGTERM)
 
 @contextlib.contextmanager
 def noted_interrupts(*numbers: signal.Signals) -> Iterator[None]:
-    """Holds back signals that interrupt until this is left; processes that are started in it hear them as ever.
+    """Holds interrupting signals back until this context is left; processes started in it get them as usual.
 
     Python handles signals in its main thread; in another thread nothing is held back.
     """

@@ -137,7 +137,7 @@ def refuse_overwriting(values: Iterable[Any]) -> None:
 
 
 def inputs_of(names: Iterable[InputFile]) -> dict[Identity | str, str]:
-    """How an output is described that is one of the inputs, by its identity."""
+    """Returns by identity how to describe an output that is one of the inputs."""
     found: dict[Identity | str, str] = {}
     for name in names:
         for path, relation in name.files():

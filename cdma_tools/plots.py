@@ -29,7 +29,7 @@ def plotting(**settings: Any) -> Any:
 
 
 def title_of(text: str) -> str:
-    """A title that matplotlib can draw, as its own: what stands between dollar signs is mathematics."""
+    """Returns a title as matplotlib can draw it: the text between dollar signs is mathematics."""
     if len(text) > LONGEST_TITLE or not all(letter.isprintable() for letter in text):
         raise argparse.ArgumentTypeError(f"no line of at most {LONGEST_TITLE} characters: {text[:LONGEST_TITLE]!r}")
     if "$" in text:
@@ -64,7 +64,7 @@ def picture_of(text: str) -> OutputFile:
 
 
 def save(figure: Any, path: str, **settings: Any) -> None:
-    """Writes a figure to a file, whole or not at all, with the same bytes each time."""
+    """Writes a figure to a file, completely or not at all, with the same bytes each time."""
     form = form_of(path)
     metadata = {"Software": None} if form == "png" else {"Date": None}
     with write_out(path) as file, warnings.catch_warnings():

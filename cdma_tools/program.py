@@ -44,7 +44,8 @@ def checked_program(path: str) -> str:
 
 
 def nearest_programs() -> list[str]:
-    """Where the program may stand nearest: beside an installed command, by its name or its link, or in a checkout."""
+    """Returns the places where the program may be nearest: next to an installed command, by its name or its link, or in
+    a checkout."""
     if not is_installed():
         return [BUILT]
     commands = (os.path.abspath(sys.argv[0]), os.path.realpath(sys.argv[0]))
@@ -52,7 +53,7 @@ def nearest_programs() -> list[str]:
 
 
 def find_program(given: str | None) -> str:
-    """The program that is run: the one given, else $CDMA_REPLAY, else the nearest, else the one on the path."""
+    """Returns the program to run: the given one, otherwise $CDMA_REPLAY, the nearest, or the one on the path."""
     named = given or os.environ.get(VARIABLE)
     if named:
         return checked_program(named)
@@ -66,7 +67,8 @@ def find_program(given: str | None) -> str:
 
 
 def written_of(program: str, words: list[str], file: IO[bytes]) -> bytes:
-    """What a run of the program writes of a sample file; refuses a program that can't be run, or doesn't end."""
+    """Returns the output of a run of the program for a sample file; refuses a program that can't be run, or doesn't
+    end."""
     try:
         ran = subprocess.run([program, *words], stdin=file, capture_output=True, timeout=LONGEST_RUN, check=False)
     except OSError as why:

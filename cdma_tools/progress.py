@@ -1,7 +1,7 @@
-"""How far a tool has come: one bar on standard error, where that is a terminal.
+"""Progress of a tool: one bar on standard error, if that is a terminal.
 
-The bar is that of tqdm (Debian's package python3-tqdm). Where standard error is no terminal, or tqdm is missing, there
-is none, and nothing is written: so what a tool says stays the same in a pipe, in a file and in a test.
+The bar is that of tqdm (Debian's package python3-tqdm). If standard error is no terminal, or tqdm is missing, there is
+none, and nothing is written. So the output of a tool is the same in a pipe, in a file and in a test.
 """
 
 import sys
@@ -11,7 +11,7 @@ from cdma_tools.interrupts import INTERRUPTS, noted_interrupts
 
 
 class Silent:
-    """A bar that shows nothing, with the calls of tqdm that the tools use, where tqdm is missing."""
+    """A bar that shows nothing, with the calls of tqdm that the tools use, for when tqdm is missing."""
 
     def __init__(self, over: Iterable[Any] | None = None) -> None:
         self.over = () if over is None else over
@@ -26,7 +26,7 @@ class Silent:
         pass
 
     def update(self, count: float = 1) -> None:
-        """Takes note of so many steps."""
+        """Ignores `count` steps."""
 
     def set_description(self, text: str) -> None:
         """Takes another text before the bar."""
@@ -36,15 +36,15 @@ class Silent:
 
 
 def bar(over: Iterable[Any] | None = None, *, total: float | None = None, text: str = "", unit: str = "") -> Any:
-    """A bar over the things of `over`, which it hands on, or over `total` steps that `update(count)` tells of.
+    """Returns a bar over the items of `over`, which it yields, or over `total` steps that `update(count)` counts.
 
-    It serves as a context too, and is taken away at its end. `text` stands before it; `unit` names a step.
+    It is also a context manager, at whose end the bar is removed. `text` comes before it; `unit` names a step.
 
         for case in bar(cases, text="cases"):
         with bar(total=count, text="recording", unit="chips") as shown:
             shown.update(1_024)
 
-    An interrupt waits until the bar has begun. It is closed where it is left, and not when Python takes it away: an
+    An interrupt waits until the bar has begun. The bar is closed where it is left, and not when Python removes it: an
     interrupt there couldn't end the tool.
     """
     with noted_interrupts(*INTERRUPTS):

@@ -15,7 +15,7 @@ from cdma_tools.writing import write_out
 
 
 class Verdict(enum.Enum):
-    """What came of a case."""
+    """The verdict on a case."""
 
     PASSED = "passed"
     FAILED = "failed"
@@ -24,9 +24,9 @@ class Verdict(enum.Enum):
 
 @dataclasses.dataclass(frozen=True)
 class Result:
-    """What came of a case: its name, what it is for, the seconds that it took, and what differs, in lines.
+    """The result of a case: its name, its purpose, its seconds, and the differences in lines.
 
-    `left_out` says why it wasn't tried; `figures` are numbers of the case's own.
+    `left_out` is the reason why it wasn't tried; `figures` are numbers of the case's own.
     """
 
     name: str
@@ -37,7 +37,7 @@ class Result:
     figures: Mapping[str, Any] = dataclasses.field(default_factory=dict)
 
     def verdict(self) -> Verdict:
-        """Passed where nothing differs."""
+        """Returns the verdict: passed if nothing differs."""
         if self.left_out:
             return Verdict.LEFT_OUT
         return Verdict.FAILED if self.said else Verdict.PASSED
@@ -54,10 +54,10 @@ def add_result_options(parser: argparse.ArgumentParser) -> None:
 
 
 class Results:
-    """Results as they come: told on standard output in the form that is asked for, and kept for the file of JUnit."""
+    """Results as they come: written to standard output in the requested form, and kept for the JUnit file."""
 
     def __init__(self, suite: str, options: argparse.Namespace, count: int) -> None:
-        """The results of a suite of so many cases."""
+        """The results of a suite of `count` cases."""
         check_place(options)
         self.suite, self.options = suite, options
         self.results: list[Result] = []
@@ -66,11 +66,11 @@ class Results:
             print(f"TAP version 13\n1..{count}", flush=True)
 
     def count(self, verdict: Verdict) -> int:
-        """How many cases have come to this."""
+        """Returns the number of cases with this verdict."""
         return sum(result.verdict() is verdict for result in self.results)
 
     def take(self, result: Result, text: str = "") -> None:
-        """Takes a result; the text is what a reader is told of it."""
+        """Takes a result; `text` is its report for a reader."""
         self.results.append(result)
         if self.options.tap:
             print(tap_of(len(self.results), result), end="", flush=True)
@@ -78,7 +78,7 @@ class Results:
             print(text, end="", flush=True)
 
     def end(self, text: str) -> int:
-        """Writes what is left, and answers how many cases have failed; the text ends what a reader is told."""
+        """Writes what is left, and returns the number of cases that failed; `text` ends the report for a reader."""
         if self.options.json:
             print(json.dumps(self.as_json(), indent=1))
         elif self.is_text:
@@ -95,7 +95,8 @@ class Results:
 
 
 def check_place(options: argparse.Namespace) -> None:
-    """Refuses a file of JUnit that would stand within other lines, or has no folder, before any case is tried."""
+    """Refuses a JUnit file that would be mixed with other lines, or whose folder is missing, before any case is tried.
+    """
     if options.junit == STANDARD:
         raise WrongArguments("--junit needs a file: standard output has the other lines")
     if options.junit and not os.path.isdir(os.path.dirname(os.path.realpath(options.junit))):

@@ -1,4 +1,4 @@
-"""What a SigMF recording tells of itself, and notes that are added to it (SigMF 1.0)."""
+"""The description of a SigMF recording, and notes that are added to it (SigMF 1.0)."""
 
 import hashlib
 import json
@@ -35,7 +35,7 @@ def read_json(path: str) -> dict[str, Any]:
 
 
 def brief(value: Any) -> str:
-    """A value of a .sigmf-meta as a fault tells it."""
+    """Returns a value of a .sigmf-meta as a fault shows it."""
     try:
         text = repr(value)
     except RecursionError:
@@ -72,7 +72,7 @@ def samples_of(path: str, fields: dict[str, Any]) -> str:
 
 
 def rate_told(path: str, fields: dict[str, Any], given: Fraction | None) -> Fraction:
-    """The rate in samples a second that the fields tell, or the one given where they tell none."""
+    """Returns the rate in samples per second in the fields, or the given one if they have none."""
     told = fields.get("core:sample_rate")
     if told is None:
         if given is None:
@@ -86,7 +86,7 @@ def rate_told(path: str, fields: dict[str, Any], given: Fraction | None) -> Frac
 
 
 def check_sum(path: str, fields: dict[str, Any], samples: str) -> None:
-    """Refuses samples whose checksum isn't the one that the fields tell, where they tell one."""
+    """Refuses samples whose checksum isn't the one in the fields, if they have one."""
     told = fields.get("core:sha512")
     if told is None:
         return
@@ -102,7 +102,8 @@ def check_sum(path: str, fields: dict[str, Any], samples: str) -> None:
 
 
 def recording_of(path: str, given: Fraction | None) -> tuple[str, Fraction, str]:
-    """The type, the rate and the path of the samples of a SigMF recording; `given` is the rate where it tells none."""
+    """Returns the type, the rate and the path of the samples of a SigMF recording; `given` is the rate if it has none.
+    """
     fields, samples = read_meta(path)
     kind = fields.get("core:datatype")
     if not isinstance(kind, str) or kind not in TYPES:
@@ -152,30 +153,30 @@ def write_meta(path: str, meta: dict[str, Any]) -> None:
 
 
 class Described(Protocol):
-    """What a lock found, as a note needs it."""
+    """The result of a lock, as a note needs it."""
 
     @property
     def begin(self) -> float:
-        """The second from which the pilot is heard."""
+        """Returns the second from which the pilot is received."""
 
     @property
     def end(self) -> float:
-        """The second up to which it is heard."""
+        """Returns the second up to which it is received."""
 
     def line(self) -> str:
         """The figures as name=value."""
 
 
 def check_note(path: str, samples: str) -> None:
-    """Refuses a .sigmf-meta that doesn't stand beside the samples."""
+    """Refuses a .sigmf-meta that isn't next to the samples."""
     if os.path.abspath(os.path.dirname(path)) != os.path.abspath(os.path.dirname(samples)):
         raise Refused(f"{path}: it must stand in the folder of the samples, {os.path.dirname(samples) or '.'}")
 
 
 def note_lock(path: str, recording: str, kind: str, rate: Fraction, samples: str, skip: int, found: Described) -> None:
-    """Writes a .sigmf-meta at `path` that names the samples, with a note of what a lock found.
+    """Writes a .sigmf-meta at `path` that names the samples, with a note on the result of a lock.
 
-    It keeps what is there already, or what the recording's own .sigmf-meta tells.
+    It keeps what is there already, or what the recording's own .sigmf-meta has.
     """
     if os.path.exists(path):
         meta = read_json(path)

@@ -1,9 +1,9 @@
 """The one way into every command: an interrupt, Ctrl-C or SIGTERM, ends it with one line from its first moment on.
 
-The packages that a command imports take a while to load, and an interrupt that Python raises amid an import ends up as
-a traceback, or as the fault of a package that has none. So nothing is imported here but what each Python has loaded
-before it reads a script. Until the command is imported an interrupt ends the process at once, as nothing is begun yet
-that would have to be taken back; then it is KeyboardInterrupt, and the command takes back what it has begun.
+The packages that a command imports take a while to load, and an interrupt that Python raises during an import would end
+as a traceback, or as the fault of a package that has none. So this module imports only what each Python has loaded
+before it reads a script. Until the command is imported an interrupt ends the process at once, since nothing is begun
+yet that would have to be undone. After that it is KeyboardInterrupt, and the command undoes what it has begun.
 """
 
 import os
@@ -51,7 +51,7 @@ def is_installed() -> bool:
 
 
 def called(tool: str) -> str:
-    """What a tool is called: `scan` in a checkout, `cdma-scan` where it is installed."""
+    """Returns the name of a tool: `scan` in a checkout, `cdma-scan` if it is installed."""
     return INSTALLED.get(tool, tool) if is_installed() else IN_CHECKOUT.get(tool, tool)
 
 
@@ -69,7 +69,7 @@ def named_by(path: str) -> str:
 
 
 def start(name: str) -> int:
-    """Runs a command with the arguments of this process, and answers its exit status."""
+    """Runs a command with the arguments of this process, and returns its exit status."""
     try:
         hear_interrupts(name, is_running=False)
         find_packages()
@@ -84,9 +84,9 @@ def start(name: str) -> int:
 
 
 def hear_interrupts(name: str, is_running: bool) -> None:
-    """Lets an interrupt break off a command that is running, and else end this process at once.
+    """Lets an interrupt break off a command that is running, and otherwise end this process at once.
 
-    A signal that is passed over, as Ctrl-C is in the background of a shell, stays so.
+    A signal that is ignored, as Ctrl-C is in the background of a shell, stays so.
     """
     import signal
 
@@ -101,7 +101,7 @@ def hear_interrupts(name: str, is_running: bool) -> None:
 
 
 def pass_over_interrupts() -> None:
-    """Lets a process that is about to end do so in peace."""
+    """Ignores interrupts in a process that is about to end."""
     import signal
 
     signal.signal(signal.SIGINT, signal.SIG_IGN)
@@ -109,7 +109,7 @@ def pass_over_interrupts() -> None:
 
 
 def find_packages() -> None:
-    """Lets a Python find the packages of its machine that was started without `site`, which takes its time."""
+    """Lets a Python that was started without `site`, which takes its time, find the packages of its machine."""
     if sys.flags.no_site:
         import site
 
@@ -117,7 +117,7 @@ def find_packages() -> None:
 
 
 def broken_off(name: str, more: str = "") -> int:
-    """Says in one line on standard error that a command was broken off, and answers its status."""
+    """Writes to standard error in one line that a command was broken off, and returns its status."""
     try:
         os.write(2, f"{called(name)}: broken off{more}\n".encode())
     except OSError:

@@ -35,7 +35,7 @@ def hear_interrupts() -> None:
 
 @contextlib.contextmanager
 def held_interrupts() -> Iterator[None]:
-    """Holds back Ctrl-C until this is left: processes that are started in it aren't told of it at all."""
+    """Holds Ctrl-C back until this context is left; processes started in it don't get it at all."""
     resource_tracker.ensure_running()  # which would let the thread that first starts a process hear Ctrl-C again
     with noted_interrupts(signal.SIGINT):
         signal.pthread_sigmask(signal.SIG_BLOCK, {signal.SIGINT})
@@ -46,7 +46,7 @@ def held_interrupts() -> Iterator[None]:
 
 
 def pass_over_interrupts() -> None:
-    """Lets this process go on at Ctrl-C, though what it runs is ended by it."""
+    """Ignores Ctrl-C in this process, though it ends what the process runs."""
     signal.signal(signal.SIGINT, lambda *_: None)
     signal.pthread_sigmask(signal.SIG_UNBLOCK, {signal.SIGINT})
 
@@ -73,7 +73,8 @@ def quietly(cluster: AbstractContextManager[Any], clean: Callable[[], None]) -> 
 
 
 def mapped(function: Callable[[Item], Made], items: Iterable[Item], jobs: int, chunk: int = 1) -> Iterator[Made]:
-    """What a function makes of each item, in their order, by so many processes, which take a chunk of them at once."""
+    """Yields the result of a function for each item, in order, by `jobs` processes, each of which takes a chunk at
+    once."""
     executor = ProcessPoolExecutor(jobs, initializer=hear_interrupts)
     try:
         yield from executor.map(function, items, chunksize=chunk)
@@ -84,7 +85,7 @@ def mapped(function: Callable[[Item], Made], items: Iterable[Item], jobs: int, c
 
 
 def taking_back(function: Callable[[Item], Made], item: Item) -> Made:
-    """What a function makes of an item, which takes back what it has begun where it is interrupted."""
+    """Returns the result of a function for an item; the function undoes what it has begun if it is interrupted."""
     try:
         for number in (signal.SIGINT, signal.SIGTERM):
             signal.signal(number, signal.default_int_handler)
@@ -94,15 +95,16 @@ def taking_back(function: Callable[[Item], Made], item: Item) -> Made:
 
 
 def mapped_in_turn(function: Callable[[Item], Made], items: Iterable[Item], jobs: int) -> Iterator[Made]:
-    """What a function makes of each item, in their order: in this process, or by so many, if more than one, which end
-    what they have begun where they are interrupted."""
+    """Returns the results of a function for each item, in order: in this process, or by `jobs` processes if more than
+    one, which undo what they have begun if they are interrupted."""
     if jobs == 1:
         return map(function, items)
     return mapped(functools.partial(taking_back, function), items, jobs)
 
 
 def add_jobs_option(parser: Parser, what: str, jobs: int = 0) -> None:
-    """Adds the option --jobs, how many things of a kind are done at once: so many, or one a processor, by itself."""
+    """Adds the option --jobs, the number of things done at once, by default `jobs`, or one per processor if that is 0.
+    """
     processors = min(os.cpu_count() or 1, MOST_JOBS)
     parser.add_argument(
         "--jobs",

@@ -22,9 +22,10 @@ READER_WAIT, READER_AGAIN = 30.0, 0.05
 
 @contextlib.contextmanager
 def write_out(path: str, is_sought: bool = False) -> Iterator[IO[bytes]]:
-    """A file for `path`, or for standard output where that is -: what is written there comes at the end, whole.
+    """Yields a file for `path`, or for standard output if that is -; everything written there arrives at the end,
+    complete.
 
-    `is_sought` says that the writer goes back in the file: then a FIFO or a device gets the whole at the end too.
+    `is_sought` says that the writer goes back in the file: then a FIFO or a device gets everything at the end too.
     """
     if path == STANDARD:
         with whole_at_end(sys.stdout.buffer) as file:
@@ -48,9 +49,9 @@ def whole_at_end(through: IO[bytes]) -> Iterator[IO[bytes]]:
 
 
 def open_through(path: str) -> IO[bytes]:
-    """Opens something that is no plain file; refuses a FIFO that nobody opens for reading in some time.
+    """Opens something that is not a regular file; refuses a FIFO that nobody opens for reading in some time.
 
-    It is opened for appending: an open file that /dev/stdout stands for keeps what it has.
+    It is opened for appending, so an open file that /dev/stdout stands for keeps what it has.
     """
     if not stat.S_ISFIFO(os.stat(path).st_mode):
         return os.fdopen(os.open(path, os.O_WRONLY | os.O_APPEND | os.O_CLOEXEC), "wb")
@@ -71,9 +72,11 @@ def open_through(path: str) -> IO[bytes]:
 
 @contextlib.contextmanager
 def write_beside(path: str) -> Iterator[IO[bytes]]:
-    """A file beside `path` that takes its place at the end; where anything fails it goes, and `path` is as it was.
+    """Yields a file next to `path` that replaces it at the end; if anything fails it is removed, and `path` is as it
+    was.
 
-    A link is written through: the file that it names is replaced. So is what is no plain file, as a FIFO or a device.
+    A link is written through: the file that it names is replaced. So is anything but a regular file, such as a FIFO or
+    a device.
     """
     if is_written_through(path):
         with named(path), open_through(path) as through:
@@ -96,7 +99,7 @@ def write_beside(path: str) -> Iterator[IO[bytes]]:
 
 
 def is_written_through(path: str) -> bool:
-    """Whether a path stands for something that is there and is no plain file, or for a file that is open already."""
+    """Whether `path` exists and is not a regular file, or is a file that is open already."""
     try:
         is_plain = stat.S_ISREG(os.stat(path).st_mode)
     except OSError:
@@ -106,7 +109,7 @@ def is_written_through(path: str) -> bool:
 
 
 def mode_of(place: str) -> int:
-    """The mode of a new file at a path: that of the file it replaces, or else what the process gives to new files."""
+    """Returns the mode of a new file at a path: that of the file it replaces, otherwise the process's for new files."""
     with contextlib.suppress(OSError):
         return stat.S_IMODE(os.stat(place).st_mode)
     mask = os.umask(0)
@@ -116,7 +119,7 @@ def mode_of(place: str) -> int:
 
 @contextlib.contextmanager
 def named(path: str, folder: str = "") -> Iterator[None]:
-    """Lets faults of the system that name no file, or one that stands in for it in a folder, name this path."""
+    """Names this path in faults of the system that name no file, or one that stands in for it in a folder."""
     try:
         yield
     except BrokenPipeError:

@@ -13,7 +13,7 @@ in crates/NAME/out/build.log. All runs but one at a time work in copies of the c
 which is removed at the end.
 
 A crate is planned with 1 GB, 1 MB for each line of its .rt files, 0.2 MB for each line of .antt, and 0.08 MB for each
-line of .rt of the crates below it; each job but the first takes 0.6 of that more. A crate that is planned with more
+line of .rt of the crates below it. Each job but the first takes 0.6 of that more. A crate that is planned with more
 than there is is built with no other.
 
 Exit status: 0 all is built, 1 a crate isn't, and those under way are ended, 2 if the arguments are wrong, no rt is on

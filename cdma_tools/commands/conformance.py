@@ -24,9 +24,9 @@ comes before and after.
 
     conformance/run --standard --maker cdma_replay ./receiver
 
-A receiver may write the steps of a frame, in lines before those of the frame or of the message that ends in it
-(docs/FORMATS.md, "Steps of a frame"): the symbols as received, the scrambling bits, soft values, the codeword, the
-quality indicator. --explain accepts such lines. If something differs, it names the step of the first different frame
+A receiver may write the steps of a frame, in lines before those of the frame or of the message that ends in it. They
+are the symbols as received, the scrambling bits, soft values, the codeword and the quality indicator (docs/FORMATS.md,
+"Steps of a frame"). --explain accepts such lines. If something differs, it names the step of the first different frame
 that isn't that of tools/explain. Soft values are compared by their signs, if these are sure.
 
     conformance/run --explain --only traffic_9600 --maker cdma_replay ./receiver

@@ -18,16 +18,16 @@ def names_in(folder: str) -> list[str]:
 
 def add_options(parser: Parser, made: str, kept: str) -> None:
     """Adds what names the receiver, the program that makes something, the cases, and a folder that keeps something."""
-    receiver = "the receiver that is asked, else that of --program"
+    receiver = "receiver to ask (default that of --program)"
     parser.add_argument("receiver", nargs="?", type=InputFile, metavar="PROGRAM", help=receiver)
     add_program_option(parser)
-    maker = f"the program that makes the {made}, else PROGRAM"
+    maker = f"program that makes the {made} (default PROGRAM)"
     parser.add_argument("--maker", type=InputFile, metavar="MAKER", help=maker)
-    parser.add_argument("--only", metavar="NAME", action="append", help="this case alone; may be given again")
+    parser.add_argument("--only", metavar="NAME", action="append", help="only this case; may be repeated")
     parser.add_argument("--keep", type=OutputFolder, metavar="FOLDER", help=f"keep {kept} in this folder")
     add_minutes_option(parser)
     add_jobs_option(parser, "cases that are asked", 1)
-    parser.add_argument("--list", action="store_true", help="say what each case is for, and run none")
+    parser.add_argument("--list", action="store_true", help="print the purpose of each case, and run none")
 
 
 def checked(parser: Parser, arguments: list[str] | None, names: list[str]) -> tuple[argparse.Namespace, list[str]]:

@@ -27,8 +27,11 @@ PAGES = (
 # Words before "else" with which it does not stand for "otherwise" or for a default.
 BEFORE_ELSE = (
     "or", "anything", "everything", "nothing", "something", "anyone", "everyone", "nobody", "somebody", "what", "who",
+    "anywhere", "everywhere", "nowhere", "somewhere",
 )  # fmt: skip
 CODE = "`x`"  # stands for code in a sentence
+SENTENCE_ENDS = re.compile(r"(?<=[.!?])(?<!e\.g\.)(?<!i\.e\.)[\"')]*\s+(?=[\"'(`A-Z0-9]|--)")
+STATUS_ENDS = re.compile(r"(?<=[,;]) (?=\d+ )")  # a list of statuses is no sentence
 
 
 @dataclass(frozen=True)
@@ -84,7 +87,8 @@ def sentences_of_block(place: str, line: int, text: str) -> Iterator[Sentence]:
     """The sentences of one paragraph, item or cell, all of which are placed at its first line."""
     text = re.sub(r"`[^`]+`", CODE, " ".join(text.split()))
     text = re.sub(r"\[([^\]]*)\]\([^)]*\)", r"\1", text).replace("**", "")
-    for part in re.split(r"(?<=[.!?])(?<!e\.g\.)(?<!i\.e\.)[\"')]*\s+(?=[\"'(`A-Z0-9])", text):
+    ends = STATUS_ENDS if text.startswith("Exit status:") else SENTENCE_ENDS
+    for part in ends.split(text):
         if part.strip():
             yield Sentence(place, line, part.strip())
 

@@ -1,8 +1,16 @@
 """The English of pages, help texts and docstrings: no patterns of translated prose, and no sentence too long."""
 
+import argparse
+import importlib
+import os
+import pkgutil
+import re
 import unittest
-from collections.abc import Iterable
+from collections.abc import Iterable, Iterator
+from unittest import mock
 
+import cdma_tools.commands
+from tools.tests.helping import ROOT, needs
 from tools.tests.prose import (
     MOST_WORDS,
     PAGES,
@@ -10,13 +18,79 @@ from tools.tests.prose import (
     Sentence,
     docstring_sentences,
     faults,
+    help_sentences,
     manual_sentences,
     page_sentences,
     sentences_in,
 )
 
+needs("numpy", "scipy", "matplotlib", "plotly", "tqdm", "distributed", "markupsafe")
+
+# Folders whose docstrings are held.
+FOLDERS = (
+    "cdma_tools/adapting",
+    "cdma_tools/conformance",
+    "cdma_tools/curves",
+    "cdma_tools/explaining",
+    "cdma_tools/packaging",
+    "cdma_tools/peers",
+    "cdma_tools/repository",
+    "model",
+)
 # Where a pattern is right. Each exception is needed, or a test fails.
 ALLOWED: tuple[Allowed, ...] = ()
+# Sentences that read as if translated word by word, as pages and docstrings had them; none may come back.
+GONE = (
+    "Of a script whose reading failed nothing was",
+    "Whether the checks of messages are sent complemented, a sample file tells",
+    "Where it isn't good, the line has 14,400",
+    "which is else 2,048",
+    "needs the recording's type and rate alone",
+    "just the text or the file",
+    "what a run owes",
+    "answers its exit status",
+    "Nobody hears a file of which",
+    "a page after so many body bits",
+    "a kind of statement more is a variant more",
+    "What a read of so many samples says",
+    "Whether a path stands for something that is there and is no plain file",
+    "Its frame holds the receivers once more",
+    "What makes an input none",
+    "That a handset sleeps, and hears",
+    "70 to 80 times as fast as the air sends",
+    "what all of these channels send comes back",
+    "Any rule would do; a rule there must be",
+    "A claim is no wider than what was seen",
+    "Where no call of the operating system fails",
+    "Who has no such machine has to ask",
+    "Only tested: that two workers meet",
+    "as a rake does, smoothed over 0.8 to 22 ms, whichever tells them best",
+    "The first proves, builds and runs the program, the second",
+    "a later run proves what changed alone",
+    "as values that a pupil can compute",
+    "Of a cell's file over one path",
+    "aren't heard, and of rate set 2 the frames alone",
+    "each where it says so",
+    "are for who carries on",
+    "begins a run anew that heard noise",
+    "proves no law of theirs again",
+    "which is all that there is between the bytes of a file and one line",
+    'gives up with "read fault" isn\'t proved',
+    "Want of memory is an ordinary answer",
+    "A handset may find no memory after the search",
+    "stands in the three sets no oftener than once",
+    "Such a file by other commands",
+    "over ones that tell nothing the rest of each holds",
+    "That no flush at all follows one that failed no clause says",
+    "A machine isn't the same from hour to hour",
+    "Fault where not",
+    "They are as many as the span says",
+    "What no noise of a size can spoil",
+    "are put into one another a little otherwise",
+    "and however they get on",
+    "Where each channel has the level that it had",
+    "The first row of which something is so",
+)
 PAGE = """\
 # A title
 
@@ -112,15 +186,66 @@ class Parts(unittest.TestCase):
         self.assertEqual(used, {allowed})
 
 
+class Captured(Exception):
+    """The parser that a command was about to use."""
+
+
+def capture(parser: argparse.ArgumentParser, *_: object) -> None:
+    """Raises `Captured` with a parser, in place of reading arguments with it."""
+    raise Captured(parser)
+
+
+def parser_of(name: str) -> argparse.ArgumentParser:
+    """Returns the parser of a command."""
+    command = importlib.import_module(f"cdma_tools.commands.{name}")
+    with mock.patch.object(argparse.ArgumentParser, "parse_args", capture):
+        try:
+            command.main([])
+        except Captured as found:
+            parser: argparse.ArgumentParser = found.args[0]
+            return parser
+    raise AssertionError(f"{name} reads no arguments")
+
+
+def modules_below(folder: str) -> Iterator[str]:
+    """Yields the modules of a folder, as places of the checkout."""
+    for path, _, names in os.walk(os.path.join(ROOT, folder)):
+        for name in sorted(names):
+            if name.endswith(".py"):
+                yield os.path.relpath(os.path.join(path, name), ROOT)
+
+
 class Style(unittest.TestCase):
     """Every text that is held."""
+
+    seconds = 40
 
     def test_sentences(self) -> None:
         used = set[Allowed]()
         for place in PAGES:
             with self.subTest(place):
                 self.assertEqual(list(faults(sentences_in(place), ALLOWED, used)), [])
+        for folder in FOLDERS:
+            for place in modules_below(folder):
+                with self.subTest(place):
+                    self.assertEqual(list(faults(sentences_in(place), ALLOWED, used)), [])
+        for command in pkgutil.iter_modules(cdma_tools.commands.__path__):
+            with self.subTest(command.name):
+                found = help_sentences(command.name, parser_of(command.name))
+                self.assertEqual(list(faults(found, ALLOWED, used)), [])
         self.assertEqual(set(ALLOWED) - used, set())
+
+    def test_old_sentences_are_gone(self) -> None:
+        """From pages, and from everything in modules but this one."""
+        places = [*PAGES, *modules_below("cdma_tools"), *modules_below("model"), *modules_below("tools")]
+        for place in places:
+            if place == os.path.relpath(__file__, ROOT):
+                continue
+            with open(os.path.join(ROOT, place), encoding="utf-8") as file:
+                text = re.sub(r"[\s#]+", " ", file.read().replace("`", "")).casefold()
+            for sentence in GONE:
+                with self.subTest(place, sentence=sentence):
+                    self.assertNotIn(sentence.casefold(), text)
 
 
 if __name__ == "__main__":
