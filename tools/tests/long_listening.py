@@ -210,7 +210,7 @@ def told(ran: Ran, lines: list[str], seconds: int) -> int:
 
 
 def main(arguments: list[str] | None = None) -> int:
-    """Runs it, and answers its exit status."""
+    """Runs it, and returns its exit status."""
     words = parser()
     options = words.parse_args(arguments)
     if not PROGRAM:

@@ -17,11 +17,22 @@ from tools.tests.helping import ROOT
 MOST_WORDS = 45
 SHOWN = 10
 PAGES = (
+    "README.md",
+    "CONTRIBUTING.md",
+    "CHANGELOG.md",
     "conformance/README.md",
     "docs/ARCHITECTURE.md",
+    "docs/CURVES.md",
+    "docs/DECISIONS.md",
     "docs/FORMATS.md",
     "docs/GLOSSARY.md",
+    "docs/GUIDE.md",
+    "docs/LESSON.md",
     "docs/LINK.md",
+    "docs/PERFORMANCE.md",
+    "docs/PROOFS.md",
+    "docs/PROVING.md",
+    "docs/RADIO.md",
     "docs/cdma_replay.1",
 )
 # Words before "else" with which it does not stand for "otherwise" or for a default.
