@@ -1,17 +1,17 @@
 -- A handset hears what a clean link's cell sends, channel by channel and frame by frame.
-use Rattle.clean_link.proofs.Common.{◌≡◌, ℕ, ◌+◌, ◌-◌, ◌*◌, ◌≤◌, true, false, Bool, List, [], ◌∷◌, length, map, refl, sym, ap, ◌∙◌, arith}
-use Rattle.clean_link.proofs.Common.{subst, Option, None, Some, filter, if◌then◌else◌, All, Contains, flat_map, All-contains, All-map}
-use Rattle.clean_link.proofs.Common.{places, Sample, Width, flat_map_ext_places, IsFreeOf, made_samples, frames_of, cycled_frame, CellPlan}
-use Rattle.clean_link.proofs.Common.{PagingPlan, TrafficPlan, SetOneFrame, events, events_at, frame_events_at, heard_within}
-use Rattle.clean_link.proofs.Common.{message_events_at, paging_events_at, mark, frames_at, messages_at, is_in_file, sync_events_at}
-use Rattle.clean_link.proofs.Common.{power_bits_at, decoded_at, frame_event, frame_heard, if_followed, Tuning, Event, Pilot, Leg, Mark}
-use Rattle.clean_link.proofs.Common.{Traffic, by_one_mark, IsNotDirected, IsOnPath, is_frame, is_message, is_page, is_sync, AreFramesBehind}
-use Rattle.clean_link.proofs.Common.{AreMessagesBehind, EachChannelComesBack, FollowsOne, IsEventOf, frame_ends, is_received}
-use Rattle.clean_link.proofs.Common.{received_frames, AreDistinct, IsDistinctFrame, SendsSetOne, messages_of_channel, paging_sent}
-use Rattle.clean_link.proofs.Common.{told_with_sync, HearsSentTraffic, IsHeardAs, ShowsSync, IsUndirected, ◌++◌, All-weaker, ◌≢◌}
-use Rattle.clean_link.proofs.Common.{All-append, All-cons, All-nil, All-same, sets_events_at, messages_sent, FollowsSent, NoEventIsDirected}
-use Rattle.clean_link.proofs.Common.{signaling_sent, AreEventsBySigns, AreFramesBySigns, ChannelsComeBackBySigns, FromMark, HearsBySigns}
-use Rattle.clean_link.proofs.Common.{MarkIsAt, IsReceivable, SyncTellsTheMark, TrafficFrameHasSigns, pages_after}
+use Rattle.clean_link.proofs.Common.{FollowedHaveSigns, HasSyncSigns, ◌≡◌, ℕ, ◌+◌, ◌-◌, ◌*◌, ◌≤◌, true, false, Bool, List, [], ◌∷◌, length}
+use Rattle.clean_link.proofs.Common.{map, refl, sym, ap, ◌∙◌, arith, subst, Option, None, Some, filter, if◌then◌else◌, All, Contains}
+use Rattle.clean_link.proofs.Common.{flat_map, All-contains, All-map, places, Sample, Width, flat_map_ext_places, IsFreeOf, made_samples}
+use Rattle.clean_link.proofs.Common.{frames_of, cycled_frame, CellPlan, PagingPlan, TrafficPlan, SetOneFrame, events, events_at}
+use Rattle.clean_link.proofs.Common.{frame_events_at, heard_within, message_events_at, paging_events_at, mark, frames_at, messages_at}
+use Rattle.clean_link.proofs.Common.{is_in_file, sync_events_at, power_bits_at, decoded_at, frame_event, frame_heard, if_followed, Tuning}
+use Rattle.clean_link.proofs.Common.{Event, Pilot, Leg, Mark, Traffic, by_one_mark, IsNotDirected, IsOnPath, is_frame, is_message, is_page}
+use Rattle.clean_link.proofs.Common.{is_sync, AreFramesBehind, AreMessagesBehind, EachChannelComesBack, FollowsOne, IsEventOf, frame_ends}
+use Rattle.clean_link.proofs.Common.{is_received, received_frames, AreDistinct, IsDistinctFrame, SendsSetOne, messages_of_channel}
+use Rattle.clean_link.proofs.Common.{paging_sent, told_with_sync, HearsSentTraffic, IsHeardAs, ◌++◌, All-weaker, ◌≢◌, All-append, All-cons}
+use Rattle.clean_link.proofs.Common.{All-nil, All-same, sets_events_at, messages_sent, FollowsSent, NoEventIsDirected, signaling_sent}
+use Rattle.clean_link.proofs.Common.{AreEventsBySigns, AreFramesBySigns, ChannelsComeBackBySigns, FromMark, HearsBySigns, MarkIsAt}
+use Rattle.clean_link.proofs.Common.{IsReceivable, SyncTellsTheMark, TrafficFrameHasSigns, pages_after}
 use Rattle.clean_link.proofs.traffic.Steady.{frames_from_mark, messages_from_mark, first_legs, first_pilot, events_at_all, gathered_all}
 use Rattle.clean_link.proofs.traffic.Steady.{one_stream}
 use Rattle.clean_link.proofs.frames.ChannelFrames.{clean_signs, shows_sync}
@@ -317,18 +317,9 @@ none_of_kind kind es other are =
 
 -- ---- all of them
 
--- no message directs a handoff of a channel that is followed after a true mark, where none is sent
-abbrev UndirectedWhereSent : Width → CellPlan → Tuning → List Sample → Type 0
-UndirectedWhereSent width plan t samples = (p : TrafficPlan) (traffic : Traffic) (m : Mark)
-    (superframes : ℕ) → t.traffic ≡ Some traffic → told_with_sync plan plan.sync ≡ Some superframes →
-    HearsSentTraffic width plan p t traffic m superframes → SendsSetOne p →
-    AreDistinct plan p (plan.link.start + m.sample) →
-    All IsNotDirected (messages_of_channel plan p (plan.link.start + m.sample)) →
-    IsUndirected t traffic m samples plan.link.samples
-
-module _ {width : Width} {plan : CellPlan} {t : Tuning} {samples : List Sample}
-    (is : ShowsSync width plan samples) (tuned : IsOnPath plan t)
-    (undirected : UndirectedWhereSent width plan t samples) where
+module _ {width : Width} {plan : CellPlan} {t : Tuning} (samples : List Sample)
+    (is : HasSyncSigns width plan samples) (tuned : IsOnPath plan t)
+    (signs : FollowedHaveSigns plan samples t.traffic) where
   -- the messages after the mark of all samples
   behind_last : (followed : Option Traffic) (last : Option Mark) → t.traffic ≡ followed → mark t samples t.count ≡ last →
       FollowsSent plan followed → All IsNotDirected (signaling_sent plan followed) → (n : ℕ) →
@@ -336,10 +327,12 @@ module _ {width : Width} {plan : CellPlan} {t : Tuning} {samples : List Sample}
       All IsNotDirected (if_followed (λ traffic m. messages_at t traffic m samples n) followed last)
   unfolding signaling_sent messages_sent
   behind_last (Some traffic) (Some m) chosen set follows none n most =
-      let b = heard_behind_mark is tuned traffic m set follows in
-      undirected b.p traffic m b.behind.superframes chosen b.behind.told b.behind.hears b.one b.distinct
+      let b = heard_behind_mark (shows_sync is) tuned traffic m set follows in
+      signed_none_directed b.hears b.one b.distinct
       (All-same IsNotDirected (messages_of_channel plan b.p (plan.link.start + m.sample)) _
-      (told_there is tuned traffic m (messages_of_channel plan) b) none) n most
+      (told_there (shows_sync is) tuned traffic m (messages_of_channel plan) b) none) samples
+      (signed_traffic b.hears is.long
+      (λ k. signs b.p traffic chosen b.hears.sent b.hears.assigned b.superframes k b.told)) n most
   behind_last followed last chosen set follows none n most = All-nil IsNotDirected
 
   module _ (follows : FollowsSent plan t.traffic)
@@ -373,22 +366,12 @@ module _ {width : Width} {plan : CellPlan} {t : Tuning} {samples : List Sample}
         (All-append IsNotDirected messages sets (messages_undirected n most)
         (none_of_kind 5 sets (omega arith) (sets_kind t samples n))))))
 
-  -- so no event does
-  undirected_events : length samples ≡ plan.link.samples → FollowsSent plan t.traffic →
-      All IsNotDirected (signaling_sent plan t.traffic) → All IsNotDirected (events t samples)
-  unfolding heard_within places
-  undirected_events long follows none =
-      All-cons IsNotDirected (Pilot t.phase t.energy) (heard_within t samples (length samples)) tt
-      (gathered_all IsNotDirected (events_at t samples) 0 (length samples + 1)
-      (λ n low below. all_undirected follows none n (omega (arith, below, long))))
-
--- ---- the laws
-
+-- so no event does
 pub no_event_directed : NoEventIsDirected
+unfolding heard_within places
 no_event_directed width plan samples t is tuned follows signs none =
-    undirected_events (shows_sync is) tuned
-    (λ p traffic m superframes chosen told hears one distinct quiet.
-    signed_none_directed hears one distinct quiet samples
-    (signed_traffic hears is.long
-    (λ k. signs p traffic chosen hears.sent hears.assigned superframes k told)))
-    is.long follows none
+    let long = is.long in
+    All-cons IsNotDirected (Pilot t.phase t.energy) (heard_within t samples (length samples)) tt
+    (gathered_all IsNotDirected (events_at t samples) 0 (length samples + 1)
+    (λ n low below.
+    all_undirected samples is tuned signs follows none n (omega (arith, below, long))))

@@ -7,7 +7,7 @@ use Rattle.clean_link.proofs.Common.{frame_events_at, message_events_at, mark, A
 use Rattle.clean_link.proofs.Common.{sync_stream, Event, Mark, Traffic, by_one_mark, flat_map_ext_places, IsNotDirected, IsOnPath}
 use Rattle.clean_link.proofs.Common.{IsReceivable, frames_of_channel, frames_sent, told_on_row, AreDistinct, SendsSetOne}
 use Rattle.clean_link.proofs.Common.{messages_of_channel, messages_sent, signaling_sent, told_by_first, told_followed, told_with_sync}
-use Rattle.clean_link.proofs.Common.{MarkIsAt, traffic_sent, FollowsSent, HearsSentTraffic, IsUndirected, IsAssigned, Sample, ShowsSync}
+use Rattle.clean_link.proofs.Common.{MarkIsAt, traffic_sent, FollowsSent, HearsSentTraffic, IsUndirected, Sample, ShowsSync}
 use Rattle.clean_link.proofs.traffic.Steady.{frames_from_mark, messages_from_mark, undirected_behind}
 use Rattle.clean_link.proofs.marks.MarksTrue.{first_in, unset_in, marks_in, rate_in, time_of, unmarked_in}
 use Rattle.clean_link.proofs.frames.ChannelFrames.{clean_sync}
@@ -45,33 +45,14 @@ on_row width plan p row told is has on =
 
 -- ---- after the mark
 
--- What is heard of a traffic channel at each number of samples comes back: the mark of all samples
--- tells it, and after it, where it is true, it is what a channel tells that is sent, each of whose
--- received frames is distinct.
-record ComesBack (width : Width) (plan : CellPlan) (t : Tuning) (samples : List Sample)
-    (heard : ℕ → Traffic → Mark → List Event) (told : TrafficPlan → ℕ → List Event) : Type 0 where
-  pub once : (n : ℕ) → n ≤ t.count →
-      if_followed (heard n) t.traffic (mark t samples n)
-      ≡ if_followed (heard n) t.traffic (mark t samples t.count)
-  pub back : (p : TrafficPlan) (traffic : Traffic) (m : Mark) (superframes : ℕ) →
-      t.traffic ≡ Some traffic → mark t samples t.count ≡ Some m →
-      HearsSentTraffic width plan p t traffic m superframes → SendsSetOne p →
-      AreDistinct plan p (plan.link.start + m.sample) →
-      flat_map (λ n. heard n traffic m) (places (plan.link.samples + 1))
-      ≡ told p (plan.link.start + m.sample)
-
--- a handset hears a channel after a true mark, whose superframes the first whole transmission tells
-pub record HearsBehind (width : Width) (plan : CellPlan) (p : TrafficPlan) (t : Tuning)
-    (traffic : Traffic) (m : Mark) : Type 0 where
-  pub superframes : ℕ
-  pub hears : HearsSentTraffic width plan p t traffic m superframes
-  pub told : told_with_sync plan plan.sync ≡ Some superframes
-
--- and it follows the channel, each of whose frames from there on is distinct
+-- a handset follows a channel after the mark that the first whole transmission tells, and each of the
+-- channel's frames from there on is distinct
 pub record IsHeardBehind (width : Width) (plan : CellPlan) (t : Tuning) (traffic : Traffic)
     (m : Mark) : Type 0 where
   pub p : TrafficPlan
-  pub behind : HearsBehind width plan p t traffic m
+  pub superframes : ℕ
+  pub hears : HearsSentTraffic width plan p t traffic m superframes
+  pub told : told_with_sync plan plan.sync ≡ Some superframes
   pub one : SendsSetOne p
   pub distinct : AreDistinct plan p (plan.link.start + m.sample)
 
@@ -91,15 +72,6 @@ module _ {width : Width} {plan : CellPlan} {t : Tuning} {samples : List Sample}
       let told : told_superframes plan.cell sync.message first.sending ≡ superframes =
       omega (arith, time, first.time, time_of plan sync.message first.sending) in
       ap (told_by_first plan sync.message) first.first ∙ ap (λ (n : ℕ). Some n) told
-
-  -- and there is a sync channel that sends it
-  pub told_behind_mark_in : (channel : Option SyncPlan) (m : Mark) → plan.sync ≡ channel →
-      mark t samples t.count ≡ Some m → (superframes : ℕ) →
-      m.time ≡ plan.cell.time + superframes → told_with_sync plan channel ≡ Some superframes
-  told_behind_mark_in None m silent set superframes time =
-      let unset = unmarked_in is tuned t.count silent in absurd (cc)
-  told_behind_mark_in (Some sync) m sends set superframes time =
-      told_so sync m sends set superframes time
 
   -- where no mark is set none is told
   pub untold_in : (channel : Option SyncPlan) → plan.sync ≡ channel →
@@ -121,7 +93,7 @@ module _ {width : Width} {plan : CellPlan} {t : Tuning} {samples : List Sample}
       by_channel (Some sync) sends =
           let (superframes, marked) = marks_in is tuned t.count m set in (
             superframes,
-            told_behind_mark_in plan.sync m refl set superframes marked.time,
+            ap (told_with_sync plan) sends ∙ told_so sync m sends set superframes marked.time,
             record {
               marked = marked;
               sync = sync;
@@ -130,36 +102,26 @@ module _ {width : Width} {plan : CellPlan} {t : Tuning} {samples : List Sample}
             },
           )
 
-  -- a channel that is sent, after the mark that is set
-  pub hears_behind : (p : TrafficPlan) (traffic : Traffic) (m : Mark) → Contains plan.traffic p →
-      IsAssigned p traffic → mark t samples t.count ≡ Some m → HearsBehind width plan p t traffic m
-  hears_behind p traffic m sent assigned set =
-      let (superframes, true_mark) = marks_in is tuned t.count m set in
-      record {
-        superframes = superframes;
-        hears = record {
-          receivable = is.receivable;
-          sent = sent;
-          assigned = assigned;
-          tuned = tuned;
-          marked = true_mark;
-        };
-        told = told_behind_mark_in plan.sync m refl set superframes true_mark.time;
-      }
-
-  -- and the one that is followed
+  -- so a channel that is followed is heard after the mark that is set
   pub heard_behind_mark : (traffic : Traffic) (m : Mark) →
       mark t samples t.count ≡ Some m → FollowsSent plan (Some traffic) →
       IsHeardBehind width plan t traffic m
   heard_behind_mark traffic m set follows =
+      let (superframes, told, cell) = mark_told (Some m) set in
       let (p, followed) = follows in
-      let behind = hears_behind p traffic m followed.sent followed.assigned set in
       record {
         p = p;
-        behind = behind;
+        superframes = superframes;
+        hears = record {
+          receivable = is.receivable;
+          sent = followed.sent;
+          assigned = followed.assigned;
+          tuned = tuned;
+          marked = cell.marked;
+        };
+        told = told;
         one = followed.one;
-        distinct = subst (AreDistinct plan p) (sym behind.hears.marked.place)
-            (followed.distinct behind.superframes behind.told);
+        distinct = subst (AreDistinct plan p) (sym cell.marked.place) (followed.distinct superframes told);
       }
 
   -- what is told of it is told of the channel on its row
@@ -168,17 +130,22 @@ module _ {width : Width} {plan : CellPlan} {t : Tuning} {samples : List Sample}
       told b.p (plan.link.start + m.sample)
       ≡ told_followed (told_behind plan told) (Some traffic) (told_with_sync plan plan.sync)
   told_there traffic m told b =
-      let hears = b.behind.hears in
-      ap (told b.p) hears.marked.place
+      ap (told b.p) b.hears.marked.place
       ∙ sym
-      (on_row width plan b.p traffic.row
-      (λ (q : TrafficPlan). told q (98304 * b.behind.superframes)) is.receivable hears.sent
-      hears.assigned.row)
-      ∙ sym (ap (told_followed (told_behind plan told) (Some traffic)) b.behind.told)
+      (on_row width plan b.p traffic.row (λ (q : TrafficPlan). told q (98304 * b.superframes))
+      is.receivable b.hears.sent b.hears.assigned.row)
+      ∙ sym (ap (told_followed (told_behind plan told) (Some traffic)) b.told)
 
+  -- What is heard of it at each number of samples is what it is sent, where the mark of all samples
+  -- tells it, and what is heard after that mark is.
   module _ (heard : ℕ → Traffic → Mark → List Event) (told : TrafficPlan → ℕ → List Event)
-      (comes : ComesBack width plan t samples heard told) where
-    -- what is heard by the mark of all samples, where it is set and a channel is followed, and else
+      (once : (n : ℕ) → n ≤ t.count →
+      if_followed (heard n) t.traffic (mark t samples n)
+      ≡ if_followed (heard n) t.traffic (mark t samples t.count))
+      (back : (traffic : Traffic) (m : Mark) → t.traffic ≡ Some traffic →
+      mark t samples t.count ≡ Some m → (b : IsHeardBehind width plan t traffic m) →
+      flat_map (λ n. heard n traffic m) (places (plan.link.samples + 1))
+      ≡ told b.p (plan.link.start + m.sample)) where
     behind_last : (followed : Option Traffic) (last : Option Mark) → t.traffic ≡ followed →
         mark t samples t.count ≡ last → FollowsSent plan followed →
         flat_map (λ n. if_followed (heard n) followed last) (places (plan.link.samples + 1))
@@ -190,10 +157,8 @@ module _ {width : Width} {plan : CellPlan} {t : Tuning} {samples : List Sample}
         (ap (told_followed (told_behind plan told) (Some traffic)) (untold_in plan.sync refl unset))
     behind_last (Some traffic) (Some m) assigned set follows =
         let b = heard_behind_mark traffic m set follows in
-        comes.back b.p traffic m b.behind.superframes assigned set b.behind.hears b.one b.distinct
-        ∙ told_there traffic m told b
+        back traffic m assigned set b ∙ told_there traffic m told b
 
-    -- by the mark that each number of samples has
     all_heard : FollowsSent plan t.traffic →
         flat_map (λ n. if_followed (heard n) t.traffic (mark t samples n))
         (places (plan.link.samples + 1))
@@ -203,7 +168,7 @@ module _ {width : Width} {plan : CellPlan} {t : Tuning} {samples : List Sample}
         let count = tuned.count in
         flat_map_ext_places (λ n. if_followed (heard n) t.traffic (mark t samples n))
         (λ n. if_followed (heard n) t.traffic last) (plan.link.samples + 1)
-        (λ n below. comes.once n (omega (arith, below, count)))
+        (λ n below. once n (omega (arith, below, count)))
         ∙ behind_last t.traffic last refl refl follows
 
 -- no handoff is directed after the mark of all samples
@@ -229,15 +194,14 @@ module _ (width : Width) (plan : CellPlan) (t : Tuning) (is : IsReceivable width
       let samples = made_samples plan in
       all_heard (clean_sync width plan is) tuned (λ n traffic m. frames_at t traffic m samples n)
       (frames_of_channel plan)
-      (record {
-        once = λ n most.
-            by_one_mark t (one_near t plan tuned) samples n t.count n _ most (omega arith)
-            (frames_from_mark t (one_near t plan tuned) t.traffic samples n);
-        back = λ p traffic m superframes assigned set hears one distinct.
-            sent_frames_back width plan p t traffic m superframes samples hears (length-made plan)
-            (λ k. clean_sent is p hears.sent (4 * superframes + k)) one distinct
-            (undirected plan t samples tuned (length-made plan) not_directed traffic m assigned set);
-      }) follows
+      (λ n most.
+      by_one_mark t (one_near t plan tuned) samples n t.count n _ most (omega arith)
+      (frames_from_mark t (one_near t plan tuned) t.traffic samples n))
+      (λ traffic m assigned set b.
+      sent_frames_back width plan b.p t traffic m b.superframes samples b.hears (length-made plan)
+      (λ k. clean_sent is b.p b.hears.sent (4 * b.superframes + k)) b.one b.distinct
+      (undirected plan t samples tuned (length-made plan) not_directed traffic m assigned set))
+      follows
 
   -- and the messages that their signaling spells
   pub messages_all : FollowsSent plan t.traffic →
@@ -248,12 +212,11 @@ module _ (width : Width) (plan : CellPlan) (t : Tuning) (is : IsReceivable width
       let samples = made_samples plan in
       all_heard (clean_sync width plan is) tuned (λ n traffic m. messages_at t traffic m samples n)
       (messages_of_channel plan)
-      (record {
-        once = λ n most.
-            by_one_mark t (one_near t plan tuned) samples n t.count n _ most (omega arith)
-            (messages_from_mark t (one_near t plan tuned) t.traffic samples n);
-        back = λ p traffic m superframes assigned set hears one distinct.
-            sent_messages_back width plan p t traffic m superframes samples hears (length-made plan)
-            (λ k. clean_sent is p hears.sent (4 * superframes + k)) one distinct
-            (undirected plan t samples tuned (length-made plan) not_directed traffic m assigned set);
-      }) follows
+      (λ n most.
+      by_one_mark t (one_near t plan tuned) samples n t.count n _ most (omega arith)
+      (messages_from_mark t (one_near t plan tuned) t.traffic samples n))
+      (λ traffic m assigned set b.
+      sent_messages_back width plan b.p t traffic m b.superframes samples b.hears (length-made plan)
+      (λ k. clean_sent is b.p b.hears.sent (4 * b.superframes + k)) b.one b.distinct
+      (undirected plan t samples tuned (length-made plan) not_directed traffic m assigned set))
+      follows
