@@ -62,16 +62,29 @@ class PartParser(argparse.ArgumentParser):
         self.exit(WRONG, f"{self.prog}: {printable(message)} (--help has all arguments)\n")
 
 
+class VersionAction(argparse.Action):
+    """The option --version: prints the version of a tool, and ends."""
+
+    def __init__(self, option_strings: Sequence[str], dest: str = "", **more: Any) -> None:
+        """Keeps no value."""
+        super().__init__(option_strings, argparse.SUPPRESS, nargs=0, default=argparse.SUPPRESS, **more)
+
+    def __call__(self, parser: Any, options: argparse.Namespace, value: Any, name: str | None = None) -> None:
+        """Prints the version, and ends the process."""
+        parser.print_version()
+        parser.exit()
+
+
 class Parser(PartParser):
     """A tool's command line, in which a negative number after an option is its value.
 
     Each has --version, which prints the project's version.
     """
 
-    def __init__(self, tool: str, description: str | None, has_version: bool = True, **more: Any) -> None:
+    def __init__(self, tool: str, description: str | None, **more: Any) -> None:
         super().__init__(prog=called(tool), description=shown(description or ""), **more)
-        if has_version:
-            self.add_argument("--version", action="version", version=version_of(tool), help="print the version, and end")
+        self.tool = tool
+        self.add_argument("--version", action=VersionAction, help="print the version, and end")
 
     def parse_known_args(self, args: Sequence[str] | None = None, namespace: Any = None) -> tuple[Any, list[str]]:
         """Takes the arguments apart, with negative numbers joined to the options before them."""
@@ -83,9 +96,9 @@ class Parser(PartParser):
         refuse_overwriting(vars(options).values())
         return options
 
-    def print_version(self, tool: str) -> None:
-        """Writes the version of a tool."""
-        sys.stdout.write(version_of(tool) + "\n")
+    def print_version(self) -> None:
+        """Prints the version of the tool."""
+        sys.stdout.write(version_of(self.tool) + "\n")
 
 
 def version_of(tool: str) -> str:

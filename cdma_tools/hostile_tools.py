@@ -131,7 +131,7 @@ LINES = [
 # Of each tool: the options that take a number, a text and nothing, and what stands without a name.
 OPTIONS: dict[str, tuple[str, str, str, tuple[str, ...]]] = {
     "import_capture": (
-        "--rate --offset --shift --scale --skip --count --version --fingers --search --cell --pn",
+        "--rate --offset --shift --scale --skip --count --format --version --fingers --search --cell --pn",
         "--type --conjugate --equaliser --meta --checks",
         "--sum --lock --complement-30 --reflag",
         ("input", "output"),

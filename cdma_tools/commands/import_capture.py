@@ -53,8 +53,10 @@ Exit status: 0 written, 1 the recording can't be taken, has no pilot, or the fil
 import argparse
 import contextlib
 import os
+import re
 import sys
 import tempfile
+from collections.abc import Sequence
 from fractions import Fraction
 from typing import IO, TYPE_CHECKING, Any, Iterable
 
@@ -94,20 +96,21 @@ LOCK_OPTIONS = ("fingers", "conjugate", "equaliser", "search")
 MOST_RANK = 12
 
 
-class VersionOrForm(argparse.Action):
-    """The option --version: with 1 or 2 the form of the sample file, and alone the version of this tool."""
+class CaptureParser(Parser):
+    """The command line of this tool, in which --version with a number still means --format."""
 
-    def __init__(self, **told: Any) -> None:
-        super().__init__(nargs="?", default=1, metavar="FORM", **told)
+    def parse_known_args(self, args: Sequence[str] | None = None, namespace: Any = None) -> tuple[Any, list[str]]:
+        """Parses the arguments, with the old name of --format replaced."""
+        return super().parse_known_args(with_format(sys.argv[1:] if args is None else args), namespace)
 
-    def __call__(self, parser: Any, options: argparse.Namespace, value: Any, name: str | None = None) -> None:
-        """Takes the form, or ends the process with the version."""
-        if value is None:
-            parser.print_version("import_capture")
-            parser.exit()
-        if value not in ("1", "2"):
-            parser.error(f"argument {name}: neither 1 nor 2: {value!r}")
-        setattr(options, self.dest, int(value))
+
+def with_format(arguments: Sequence[str]) -> list[str]:
+    """Returns arguments with --format for --version and a number, which is what earlier versions called it."""
+    found = [re.sub(r"\A--version=", "--format=", word) for word in arguments]
+    for place, word in enumerate(found[:-1]):
+        if word == "--version" and re.fullmatch("[0-9]+", found[place + 1]):
+            found[place] = "--format"
+    return found
 
 
 def add_lock_words(words: argparse.ArgumentParser) -> None:
@@ -156,9 +159,9 @@ def add_check_words(words: argparse.ArgumentParser) -> None:
     add_program_option(words)
 
 
-def parser(form: type[Parser] = Parser) -> Parser:
+def parser(form: type[CaptureParser] = CaptureParser) -> CaptureParser:
     """The command line, as a parser of a form."""
-    words = form("import_capture", __doc__, has_version=False)
+    words = form("import_capture", __doc__)
     words.add_argument("recording", type=InputFile, metavar="RECORDING", help="interleaved samples, or a .sigmf-meta")
     what = "the sample file to write, - for standard output"
     words.add_argument("file", type=OutputFile, metavar="FILE", help=what)
@@ -188,9 +191,12 @@ def parser(form: type[Parser] = Parser) -> Parser:
     )
     words.add_argument("--count", type=whole_within(1, MOST_COUNT), metavar="N", help="write at most N chips")
     words.add_argument(
-        "--version",
-        action=VersionOrForm,
-        help="1: 16 bits a part (the default), 2: 8 bits; alone: say this tool's version, and end",
+        "--format",
+        dest="version",
+        type=int,
+        choices=(1, 2),
+        default=1,
+        help="version of the sample file: 1 for 16 bits per part, 2 for 8 bits (default 1)",
     )
     add_check_words(words)
     words.add_argument(
@@ -202,7 +208,7 @@ def parser(form: type[Parser] = Parser) -> Parser:
 
 def reflag_parser() -> Parser:
     """The command line with --reflag, which takes one sample file."""
-    words = Parser("import_capture", __doc__, has_version=False)
+    words = Parser("import_capture", __doc__)
     words.add_argument("--reflag", action="store_true", help="set the flags of the checks of a sample file, in place")
     words.add_argument("file", type=InputFile, metavar="FILE", help="the sample file")
     add_check_words(words)

@@ -130,7 +130,7 @@ def import_words(options: argparse.Namespace) -> list[str]:
     return [f"--{name}={value}" for name, value in told if value is not None] + shlex.split(options.more)
 
 
-class ImportParser(Parser):
+class ImportParser(import_capture.CaptureParser):
     """The command line of the import, whose faults are faults of this tool's arguments."""
 
     def error(self, message: str) -> NoReturn:
@@ -141,9 +141,9 @@ class ImportParser(Parser):
         """Refuses to help: a page is asked for."""
         self.error("--help makes no page")
 
-    def print_version(self, tool: str) -> NoReturn:
-        """Refuses to tell the version: a page is asked for."""
-        self.error("--version without a number makes no page")
+    def print_version(self) -> NoReturn:
+        """Refuses to print the version: a page is wanted."""
+        self.error("--version makes no page")
 
 
 def run_import(recording: str, file: str, words: list[str]) -> gathering.Imported:

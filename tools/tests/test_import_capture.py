@@ -7,12 +7,14 @@ import struct
 import unittest
 from collections.abc import Iterable, Sequence
 
+from cdma_tools import __version__
 from tools.tests.helping import (
     NO_PROGRAM,
     PROGRAM,
     example,
     needs,
     read_file,
+    run_inside,
     run_program,
     run_tool,
     sample_file,
@@ -91,14 +93,24 @@ class WholeSamples(Imports):
         self.taken(bytes([0xD2, 0x04, 0x1F, 0xEF]), "ci16_le")
         with open(self.out, "rb") as file:
             self.assertEqual(file.read(), b"IS95" + bytes([0, 1, 0, 0, 0, 0, 0, 0, 0, 0, 0, 1, 0x04, 0xD2, 0xEF, 0x1F]))
-        self.taken(bytes([5, 0xFB]), "ci8", "--version", 2, "--complement-30")
+        self.taken(bytes([5, 0xFB]), "ci8", "--format", 2, "--complement-30")
         with open(self.out, "rb") as file:
             self.assertEqual(file.read(), b"IS95" + bytes([0, 2, 0, 1, 0, 0, 0, 0, 0, 0, 0, 1, 5, 0xFB]))
 
     def test_eight_bits_in_both_versions(self) -> None:
         for kind in ("ci8", "cu8"):
             for version in (1, 2):
-                self.assertEqual(self.taken(recorded(EIGHT, kind), kind, "--version", version), (version, 0, EIGHT))
+                self.assertEqual(self.taken(recorded(EIGHT, kind), kind, "--format", version), (version, 0, EIGHT))
+
+    def test_the_old_word_for_the_format(self) -> None:
+        """Earlier versions called it --version, which alone is the version of the tool."""
+        for words in (("--version", 2), ("--version=2",)):
+            with self.subTest(words):
+                self.assertEqual(self.taken(recorded(EIGHT, "ci8"), "ci8", *words), (2, 0, EIGHT))
+        self.assertEqual(run_inside("import_capture", "--version"), (0, f"import_capture {__version__}\n".encode(), ""))
+        _, text, _ = run_inside("import_capture", "--help")
+        self.assertIn(b"--format {1,2}", text)
+        self.assertNotIn(b"--version N", text)
 
     def test_unsigned_zero_is_128(self) -> None:
         self.assertEqual(self.taken(bytes([128, 127, 0, 255]), "cu8")[2], [(0, -1), (-128, 127)])
@@ -114,7 +126,7 @@ class WholeSamples(Imports):
         self.assertEqual(taken[2], [(0, 2), (0, -2), (2, 1)])
 
     def test_fit(self) -> None:
-        taken = self.taken(recorded([(1_000, -500), (0, 250)], "ci16_le"), "ci16_le", "--scale", "fit", "--version", 2)
+        taken = self.taken(recorded([(1_000, -500), (0, 250)], "ci16_le"), "ci16_le", "--scale", "fit", "--format", 2)
         self.assertEqual(taken[2], [(127, -64), (0, 32)])
         taken = self.taken(recorded([(-10, 5)], "ci8"), "ci8", "--scale", "fit")
         self.assertEqual(taken[2], [(-32_767, 16_384)])
@@ -169,7 +181,7 @@ class FloatingPoint(Imports):
     def test_default_scale(self) -> None:
         data = struct.pack("<6f", 0.5, -0.25, 0.125, 0.0, -0.5, 0.25)
         self.assertEqual(self.taken(data, "cf32_le")[2], [(32_767, -16_384), (8_192, 0), (-32_767, 16_384)])
-        self.assertEqual(self.taken(data, "cf32_le", "--version", 2)[2], [(127, -64), (32, 0), (-127, 64)])
+        self.assertEqual(self.taken(data, "cf32_le", "--format", 2)[2], [(127, -64), (32, 0), (-127, 64)])
 
     def test_scale(self) -> None:
         data = struct.pack("<4f", 1.0, -2.0, 0.24, 0.26)
@@ -306,7 +318,7 @@ class Refusals(Imports):
             ("too few samples for a chip", ["--type", "ci16_le", "--rate", 8 * CHIP_RATE, "--sum", path]),
             ("No such file", [*chip_rate, self.at("none.raw")]),
             ("Is a directory|no whole number of samples", [*chip_rate, self.folder]),
-            (r"chip 1 would be \(-1, 255\), and version 2 holds -128 to 127", [*chip_rate, "--version", 2, path]),
+            (r"chip 1 would be \(-1, 255\), and version 2 holds -128 to 127", [*chip_rate, "--format", 2, path]),
         ):
             with self.subTest(why):
                 self.refused(why, *words, self.out)
@@ -331,7 +343,8 @@ class Refusals(Imports):
             ("--scale: no number: 'big'", ["--type", "ci8", "--rate", CHIP_RATE, "--scale", "big", path]),
             ("--skip: not 0 to 1,000,000,000,000,000", ["--type", "ci8", "--rate", CHIP_RATE, "--skip=-1", path]),
             ("--count: not 1 to", ["--type", "ci8", "--rate", CHIP_RATE, "--count", "0", path]),
-            ("--version: neither 1 nor 2", ["--type", "ci8", "--rate", CHIP_RATE, "--version", "3", path]),
+            ("--format: invalid choice: 3", ["--type", "ci8", "--rate", CHIP_RATE, "--format", "3", path]),
+            ("--format: invalid choice: 3", ["--type", "ci8", "--rate", CHIP_RATE, "--version", "3", path]),
         )
         for why, words in wrong:
             with self.subTest(why):
@@ -377,7 +390,7 @@ class OfTheExample(Imports):
     def test_the_pilot_of_each_type_is_found(self) -> None:
         samples = taken_apart(example("pilot_in_noise.is95"))[2]
         for kind in ("ci16_le", "ci16_be", "ci8", "cu8", "cf32_le"):
-            for words in ("", "--version 2 --scale fit"):
+            for words in ("", "--format 2 --scale fit"):
                 self.taken(turned_into(samples, kind), kind, *words.split())
                 with open(self.out, "rb") as file:
                     status, wrote = run_program("find", data=file.read())

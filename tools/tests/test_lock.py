@@ -135,7 +135,7 @@ class Written(Recordings):
     def test_versions_scales_counts_and_flags(self) -> None:
         path = self.recorded("--ec-io", -9)
         for version, level in ((1, 2_500), (2, 20)):
-            found = self.locked(path, "--version", version, "--complement-30")
+            found = self.locked(path, "--format", version, "--complement-30")
             taken = read_file(self.at("out.is95"))
             self.assertEqual((taken[0], taken[1]), (version, 1))
             root = numpy.sqrt(numpy.mean(numpy.array(taken[2], dtype=float) ** 2) * 2)
