@@ -13,6 +13,7 @@ import subprocess
 import unittest
 from dataclasses import dataclass, field
 
+from tools.tests import prose
 from tools.tests.helping import NO_PROGRAM, PROGRAM, PYTHON, ROOT, needs, temporary_folder
 
 needs("numpy", "scipy", "matplotlib", "plotly", "tqdm", "distributed", "markupsafe")
@@ -181,7 +182,7 @@ class Readme(unittest.TestCase):
             self.assertLessEqual(len(file.readlines()), 120)
 
     def test_links_name_files_and_headings_that_are_there(self) -> None:
-        for page in (*PAGES, "CONTRIBUTING.md", "docs/ARCHITECTURE.md", "docs/PROOFS.md"):
+        for page in (name for name in prose.PAGES if name.endswith(".md")):
             with open(os.path.join(ROOT, page), encoding="utf-8") as file:
                 found = re.findall(r"\]\((?!http)([^)#]*)(?:#([^)]*))?\)", file.read())
             for name, heading in found:
