@@ -1,4 +1,4 @@
-"""Turns the program's lines into JSON, one object per line, and back into exactly the same lines.
+"""Turns the program's lines into JSON, one object per line, and back into exactly the same lines, or into a CSV table.
 
 LINES is a file of lines that the program wrote, or - for standard input (default). The names of an object are those of
 the line's fields, in its order; docs/FORMATS.md lists them. "line" is the line's first word, "message" the kind of a
@@ -10,8 +10,16 @@ text as in the line, N:HEX. Lists are lists, and the power control bits of a fra
     tools/lines --back heard.json > heard.txt
 
 In Python, pandas.read_json("heard.json", lines=True) makes a table of it, and the output of to_json(orient="records",
-lines=True) goes back too. Each line is read and written by itself, as it comes. A text that the program can't have
-written is an error: its line number is reported, and what was written before it remains.
+lines=True) goes back too.
+
+--csv KIND writes only the lines of one kind, as a table of RFC 4180: a row with the names of the fields, then a row for
+each line. Lists are written as JSON and all other values as in the line, so LC_STATE and bits stay text. An absent
+field is an empty cell. docs/FORMATS.md says how pandas and a spreadsheet read such a table.
+
+    cdma_replay follow < second.is95 | tools/lines --csv paging-system > system.csv
+
+Each line is read and written by itself, as it comes. A text that the program can't have written is an error: its line
+number is reported, and what was written before it remains.
 
 Exit status: 0 all lines were turned, 1 a line is wrong or can't be read or written, 2 wrong arguments.
 """
@@ -19,9 +27,11 @@ Exit status: 0 all lines were turned, 1 a line is wrong or can't be read or writ
 import argparse
 import io
 import sys
+from functools import partial
 from typing import Callable, Iterable
 
 from cdma_tools.arguments import Parser
+from cdma_tools.csv_lines import KINDS, csv_row, header_row
 from cdma_tools.errors import Refused
 from cdma_tools.json_lines import as_json, as_line, lines_of, turned_lines
 from cdma_tools.lines import NoLine, table_rows
@@ -31,7 +41,15 @@ from cdma_tools.overwriting import InputFile
 def turn(source: Iterable[bytes], turned: Callable[[str], str]) -> None:
     """Writes what each line becomes."""
     for text in turned_lines(source, turned):
-        sys.stdout.write(text + "\n")
+        sys.stdout.write(text)
+
+
+def turning(options: argparse.Namespace) -> Callable[[str], str]:
+    """Returns the function that makes the output of a line, with its end."""
+    if options.csv:
+        return partial(csv_row, options.csv)
+    turned = as_line if options.back else as_json
+    return lambda text: turned(text) + "\n"
 
 
 def parser() -> argparse.ArgumentParser:
@@ -45,7 +63,11 @@ def parser() -> argparse.ArgumentParser:
         metavar="LINES",
         help="lines to turn, - for standard input (default)",
     )
-    words.add_argument("--back", action="store_true", help="turn JSON into lines")
+    form = words.add_mutually_exclusive_group()
+    form.add_argument("--back", action="store_true", help="turn JSON into lines")
+    form.add_argument(
+        "--csv", choices=KINDS, metavar="KIND", help=f"write a table of the lines of one kind: {', '.join(KINDS)}"
+    )
     words.add_argument("--table", action="store_true", help="write the list of all fields in docs/FORMATS.md, and end")
     return words
 
@@ -56,10 +78,12 @@ def main(arguments: list[str] | None = None) -> int:
     if options.table:
         print("\n".join(table_rows()))
         return 0
-    turned = as_line if options.back else as_json
+    turned = turning(options)
     if isinstance(sys.stdout, io.TextIOWrapper):
         sys.stdout.reconfigure(line_buffering=True)
     try:
+        if options.csv:
+            sys.stdout.write(header_row(options.csv))
         if options.lines == "-":
             turn(lines_of(sys.stdin.buffer), turned)
         else:
