@@ -1,9 +1,9 @@
-"""Interrupts, Ctrl-C and SIGTERM, that wait until something that can't be left half done is done."""
+"""Signals: interrupts, Ctrl-C and SIGTERM, that wait or that end something in order, and hang-ups."""
 
 import contextlib
 import signal
 import threading
-from collections.abc import Iterator
+from collections.abc import Callable, Iterator
 
 INTERRUPTS = (signal.SIGINT, signal.SIGTERM)
 
@@ -30,3 +30,38 @@ def noted_interrupts(*numbers: signal.Signals) -> Iterator[None]:
             signal.signal(number, handler)
     if heard:
         raise KeyboardInterrupt
+
+
+@contextlib.contextmanager
+def first_interrupt(call: Callable[[], None]) -> Iterator[None]:
+    """Calls something at the first interrupt; a second one interrupts as ever.
+
+    What is called may interrupt any statement, so it may only set a value.
+    """
+    before = {number: signal.getsignal(number) for number in INTERRUPTS}
+
+    def take(*_: object) -> None:
+        for number, handler in before.items():
+            signal.signal(number, handler)
+        call()
+
+    for number, handler in before.items():
+        if handler is not signal.SIG_IGN:
+            signal.signal(number, take)
+    try:
+        yield
+    finally:
+        for number, handler in before.items():
+            signal.signal(number, handler)
+
+
+@contextlib.contextmanager
+def each_hang_up(call: Callable[[], None]) -> Iterator[None]:
+    """Calls something at each SIGHUP, unless that is passed over, as below nohup; it may only set a value."""
+    before = signal.getsignal(signal.SIGHUP)
+    if before is not signal.SIG_IGN:
+        signal.signal(signal.SIGHUP, lambda *_: call())
+    try:
+        yield
+    finally:
+        signal.signal(signal.SIGHUP, before)

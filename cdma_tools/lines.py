@@ -15,6 +15,7 @@ by a program that reads JSON into a table. A field that may be left out is absen
 """
 
 import re
+from datetime import datetime
 from typing import Any, Callable, Iterator, NamedTuple
 
 TIME_NAME = "time_utc"  # under which the objects of a listening have the time of their `at`, besides the line's fields
@@ -25,6 +26,7 @@ RATES = (9_600, 4_800, 2_400, 1_200)  # of rate set 1, in bits a second (7.1.3.5
 RATES2 = (14_400, 7_200, 3_600, 1_800)  # of rate set 2
 GROUPS = 16  # power control groups of a frame (7.1.3.1.7)
 NUMBER = re.compile(r"0|-?[1-9][0-9]*")
+UTC_TEXT = re.compile(r"\d{4}-\d\d-\d\dT\d\d:\d\d:\d\d\.\d{6}Z", re.ASCII)
 BITS = re.compile(r"(0|[1-9][0-9]{0,3}):((?:[0-9a-f]{2})*)")
 
 
@@ -152,6 +154,16 @@ def check_bits(given: Any) -> str:
     return given
 
 
+def check_utc(given: Any) -> str:
+    """A time in UTC to a microsecond, in the form of ISO 8601."""
+    try:
+        if isinstance(given, str) and UTC_TEXT.fullmatch(given) and datetime.fromisoformat(given):
+            return given
+    except ValueError:
+        pass
+    raise NoLine(f"{str(given)[:30]!r} is no time in UTC, as 2026-11-30T21:30:00.000000Z")
+
+
 def commands() -> Form:
     """Power control bits, one digit each."""
 
@@ -208,6 +220,7 @@ def records(*forms: Form) -> Form:
 
 COUNT = number(MOST_COUNT, text="whole number")
 OFFSET, ROW = field_of(9), field_of(8)
+UTC = Form(check_utc, check_utc, "time in UTC to a microsecond, ISO 8601")
 BIT_TEXT = Form(check_bits, check_bits, "text N:HEX")
 AT = Field("at", COUNT, "sample count when it was known")
 REST = Field("rest", BIT_TEXT, "bits after the fields")
@@ -377,8 +390,11 @@ SHAPES = (
         + counts(("frames", "traffic channel frames"), ("good", "good ones of these frames")),
     ),
 )
-BY_WORDS = {(shape.line, shape.word): shape for shape in SHAPES}
-FIRST = {shape.line: shape for shape in reversed(SHAPES)}
+# A line that no run of the program writes, but a listening that adds to a file of another one: `at` counts anew after it.
+ORIGIN = "origin"
+ORIGIN_SHAPE = Shape(ORIGIN, (Field("utc", UTC, "the time in UTC from which the lines after it count"),))
+BY_WORDS = {(shape.line, shape.word): shape for shape in (*SHAPES, ORIGIN_SHAPE)}
+FIRST = {shape.line: shape for shape in reversed((*SHAPES, ORIGIN_SHAPE))}
 
 
 class Tokens:

@@ -12,7 +12,12 @@ lost, or the pilot fades, zeros stand for the chips; a pilot that is away for mo
 What of that happened is said on standard error, with the second of the recording.
 
 With --out the lines are added to a file, whole lines alone, as JSON where its name ends with .jsonl. A listening to a
-file of samples that was broken off goes on after the last line there, if it is begun again with the same arguments.
+file of samples that was broken off goes on after the last line there, if it is begun again with the same arguments. A
+stream can't be gone on with: with --append its lines are added after those of another one, and a line "origin" tells
+the time from which they count. At SIGHUP the file is opened anew by its name, as logrotate needs it.
+
+Ctrl-C or SIGTERM ends a listening to a stream in order: what has come is heard out, a summary is said, and the status
+tells whether a pilot was heard; a second one breaks it off.
 
 A file of samples is listened to in parts of --part seconds, by --workers processes of this machine, or by the workers
 of a --scheduler of dask.distributed, which need the same file and program at the same paths. What is written is the
@@ -31,22 +36,18 @@ import os
 import re
 import stat
 import sys
-import threading
-from collections.abc import Iterator
-from dataclasses import dataclass
 from fractions import Fraction
-from typing import BinaryIO
 
 from cdma_tools import sigmf
 from cdma_tools.arguments import Parser, Within, number_above, number_within, rational, whole_within, wrong
-from cdma_tools.errors import Refused
+from cdma_tools.errors import Refused, WrongArguments
 from cdma_tools.listening.follow_run import Handset
 from cdma_tools.listening.line_writer import LineWriter
-from cdma_tools.listening.listening import Listening
-from cdma_tools.listening.output import open_output
+from cdma_tools.listening.live import Stream, hear_stream
+from cdma_tools.listening.output import Output, open_output
 from cdma_tools.listening.parts import PART, Recording
 from cdma_tools.listening.sharing import hear_recording
-from cdma_tools.listening.sources import SCHEME, Backlog, Server, ServerReader, Skipped, read_pipe, server_of
+from cdma_tools.listening.sources import SCHEME, server_of
 from cdma_tools.listening.stream_lock import LockOptions
 from cdma_tools.overwriting import InputFile, OutputFile
 from cdma_tools.program import add_program_option, find_program
@@ -102,6 +103,8 @@ def parser() -> Parser:
     words.add_argument("--json", action="store_true", help="write objects, with their time in UTC")
     out = "add the lines to a file, and go on after those that stand there"
     words.add_argument("--out", type=OutputFile, metavar="FILE", help=out)
+    append = "with a stream: add to a file that has lines of another one, after a line that tells the new origin"
+    words.add_argument("--append", action="store_true", help=append)
     add_program_option(words)
     tuned = "Hz to which a server is tuned, else left where it is"
     words.add_argument("--frequency", type=whole_within(0, MOST_FREQUENCY), metavar="HZ", help=tuned)
@@ -158,6 +161,8 @@ def check(words: argparse.ArgumentParser, options: argparse.Namespace) -> None:
         words.error("--offset needs --esn and --row")
     if options.row in (SYNC_ROW, options.paging):
         words.error(f"--row {options.row} is the row of the sync channel or of the paging channel")
+    if options.append and options.out is None:
+        words.error("--append needs --out")
     if options.out is not None and os.path.isdir(options.out):
         words.error(f"{options.out} is a folder")
 
@@ -192,30 +197,6 @@ def counts_of(options: argparse.Namespace) -> dict[str, int]:
     return {"raw": options.raw or 0, **{name: value for name, value in given.items() if value is not None}}
 
 
-@dataclass(frozen=True)
-class Stream:
-    """A source that comes as the air does."""
-
-    kind: str
-    rate: Fraction
-    file: BinaryIO | None = None
-    server: Server | None = None
-
-    @contextlib.contextmanager
-    def opened(self) -> Iterator[Backlog]:
-        """Its backlog, which a thread fills."""
-        backlog = Backlog()
-        if self.server is not None:
-            reader = threading.Thread(target=ServerReader(self.server, backlog).run, daemon=True)
-        else:
-            reader = threading.Thread(target=read_pipe, args=(self.file, backlog), daemon=True)
-        reader.start()
-        try:
-            yield backlog
-        finally:
-            backlog.stop()
-
-
 def source_of(options: argparse.Namespace) -> Stream | Recording:
     """The stream or the recording that is listened to; refuses one that isn't there."""
     if is_server(options):
@@ -235,23 +216,14 @@ def source_of(options: argparse.Namespace) -> Stream | Recording:
     return Recording(os.path.abspath(path), sample_count(path, kind), lock_options(options, kind, rate))
 
 
-def hear_stream(stream: Stream, lock: LockOptions, handset: Handset, writer: LineWriter) -> bool:
-    """Listens to a stream up to its end; answers whether a pilot was heard."""
-    listening = Listening(lock, handset, writer)
-    try:
-        with stream.opened() as backlog:
-            for item in backlog:
-                if isinstance(item, bytes):
-                    listening.feed(item)
-                elif isinstance(item, Skipped):
-                    listening.say(listening.lock.seconds, f"{item.samples} samples are missing: {item.why}")
-                    listening.skip(item.samples)
-                else:
-                    listening.say(listening.lock.seconds, item.text)
-        listening.finish()
-    finally:
-        listening.kill()
-    return listening.is_heard
+def check_output(options: argparse.Namespace, is_recording: bool, output: Output) -> None:
+    """Refuses an output with lines that can't be gone on with."""
+    if is_recording and options.append:
+        raise WrongArguments("--append goes with a stream; a listening to a file of samples goes on by itself")
+    if is_recording and output.already.has_origin:
+        raise Refused(f"{options.out}: it has lines of streams, and those of a file of samples can't follow them")
+    if not is_recording and output.already.lines and not options.append:
+        raise Refused(f"{options.out}: it has lines: give --append to add those of another stream, or name another file")
 
 
 def listen(options: argparse.Namespace) -> int:
@@ -259,13 +231,14 @@ def listen(options: argparse.Namespace) -> int:
     source, handset, counts = source_of(options), handset_of(options), counts_of(options)
     is_json = options.json or (options.out or "").endswith(JSON_LINES)
     with contextlib.closing(open_output(options.out, is_json)) as output:
-        writer = LineWriter(output.write, is_json, counts, output.already)
+        check_output(options, isinstance(source, Recording), output)
         if isinstance(source, Recording):
+            writer = LineWriter(output.write, is_json, counts, output.already)
             is_heard = hear_recording(source, handset, writer, options.part, options.workers, options.scheduler)
         else:
-            if output.already.lines:
-                raise Refused(f"{options.out}: it has lines, and a stream can't be gone on with: name another file")
-            is_heard = hear_stream(source, lock_options(options, source.kind, source.rate), handset, writer)
+            lock = lock_options(options, source.kind, source.rate)
+            writer = LineWriter(output.write, is_json, counts)
+            is_heard = hear_stream(source, lock, handset, writer, output, output.already.lines > 0)
     if not is_heard:
         raise Refused("no pilot stands out anywhere")
     return 0

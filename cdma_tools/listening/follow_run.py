@@ -3,15 +3,18 @@
 import contextlib
 import queue
 import re
+import signal
 import subprocess
 import tempfile
 import threading
 from dataclasses import dataclass, replace
 
 from cdma_tools.errors import Refused
+from cdma_tools.interrupts import INTERRUPTS
 from cdma_tools.lines import NoLine, read_line
 from cdma_tools.listening.events import AT, Event
 from cdma_tools.listening.pieces import Chips
+from cdma_tools.receiver_run import ended_text
 from cdma_tools.sample_header import MOST_CHIPS, header
 
 VERSION = 1
@@ -21,6 +24,8 @@ MOST = MOST_CHIPS[VERSION]
 # samples came than the header tells, which is so of every stream.
 READ_ALL = (0, 1, 3)
 LARGEST_COUNT = 4_294_967_295
+# Signals that a run doesn't hear: whoever feeds it decides when it ends, also where a whole group gets them.
+UNHEARD = {*INTERRUPTS, signal.SIGHUP}
 # The line that tells the phase of the code at a run's first chip, by the pilot that it heard.
 PILOT = re.compile(r"pilot phase=(\d+) ")
 
@@ -59,6 +64,25 @@ class Sets:
     candidates: tuple[int, ...] = ()
 
 
+class RunEnded(Refused):
+    """That a run ended too soon, in words."""
+
+    def __init__(self, text: str, status: int) -> None:
+        """With its exit status, below 0 for a signal."""
+        super().__init__(text)
+        self.status = status
+
+    @property
+    def is_killed(self) -> bool:
+        """Whether a signal ended it: another run can take its place."""
+        return self.status < 0
+
+    @property
+    def how(self) -> str:
+        """How it ended, in words."""
+        return ended_text(self.status)
+
+
 class FollowRun:
     """A process that follows a handset through chips from number `begin` on."""
 
@@ -70,6 +94,7 @@ class FollowRun:
         self.last: int | None = None  # the chip of the last line that came
         self.phase: int | None = None  # of the code at its first chip, as it told it; None once that was looked at
         self.said = tempfile.TemporaryFile()
+        blocked = signal.pthread_sigmask(signal.SIG_BLOCK, UNHEARD)  # which the process takes over
         try:
             self.process = subprocess.Popen(
                 handset.command(), stdin=subprocess.PIPE, stdout=subprocess.PIPE, stderr=self.said
@@ -77,6 +102,8 @@ class FollowRun:
         except OSError as why:
             self.said.close()
             raise Refused(f"{handset.program}: {why.strerror}") from None
+        finally:
+            signal.pthread_sigmask(signal.SIG_SETMASK, blocked)
         self.lines: queue.SimpleQueue[bytes | None] = queue.SimpleQueue()
         self.reader = threading.Thread(target=self.read, daemon=True)
         self.reader.start()
@@ -101,14 +128,15 @@ class FollowRun:
             self.process.stdin.write(data)
             self.process.stdin.flush()
         except BrokenPipeError:
-            raise Refused(self.why()) from None
+            raise self.ended() from None
 
-    def why(self) -> str:
-        """Why the process has ended, in words."""
+    def ended(self) -> RunEnded:
+        """The fault of a process that has ended, in words."""
         status = self.process.wait()
         self.said.seek(0)
         said = self.said.read(1_000).decode(errors="replace").strip()
-        return f"{self.handset.program} follow ended with status {status}: {said or 'it said nothing'}"
+        how = f"ended with {ended_text(status)}" if status >= 0 else f"was {ended_text(status)}"
+        return RunEnded(f"{self.handset.program} follow {how}: {said or 'it said nothing'}", status)
 
     def feed(self, chips: Chips) -> None:
         """Gives it chips; those that it has already, and those that its file can't hold any more, are left out."""
@@ -164,8 +192,13 @@ class FollowRun:
         while self.take(self.lines.get()):
             pass
         if self.process.wait() not in READ_ALL:
-            raise Refused(self.why())
+            raise self.ended()
         self.release()
+
+    def take_rest(self) -> None:
+        """Takes all lines that a process that has ended has left."""
+        while self.take(self.lines.get()):
+            pass
 
     def kill(self) -> None:
         """Ends it without hearing more of it."""

@@ -7,7 +7,7 @@ from collections.abc import Callable
 from dataclasses import dataclass, field
 
 from cdma_tools.errors import Refused, said
-from cdma_tools.lines import TIME_NAME, NoLine, read_line
+from cdma_tools.lines import ORIGIN, TIME_NAME, NoLine, read_line
 from cdma_tools.listening.events import AT, Event, Remark
 from cdma_tools.listening.system_time import SystemTime, time_told
 from cdma_tools.starting import called
@@ -35,6 +35,7 @@ class Already:
     times: dict[int, int] = field(default_factory=dict)  # of sync messages: `at` by SYS_TIME
     offset: int | None = None  # PILOT_PN as the last of them told it
     sets: list[Event] = field(default_factory=list)  # lines that tell pilot sets, by `at`
+    has_origin: bool = False  # whether a line tells another origin: then they are lines of streams
 
     @property
     def lines(self) -> int:
@@ -64,11 +65,16 @@ class LineWriter:
         self.already = already or Already()
         self.counts = Counter(self.already.counts)
         self.origin = 0
+        self.began = ""  # the time from which lines count, if a line is to tell it
+        self.written = 0  # lines
         self.time: SystemTime | None = None
 
     def begin(self, origin: int) -> None:
         """Takes the number of the chip from which lines count."""
         self.origin = origin
+        if self.began:
+            self.put(f"{ORIGIN} utc={self.began}")
+            self.began = ""
 
     def event(self, event: Event) -> None:
         """Writes a line, where its option hears so many and it doesn't stand there already."""
@@ -81,15 +87,20 @@ class LineWriter:
             return
         self.counts[tap] += 1
         text = event.counted_from(self.origin)
-        self.write(((self.as_json(event, text) if self.is_json else text) + "\n").encode("ascii"))
+        self.put(text, event)
 
-    def as_json(self, event: Event, text: str) -> str:
+    def put(self, text: str, event: Event | None = None) -> None:
+        """Writes a line, that of an event or one of the listening's own."""
+        self.write(((self.as_json(event, text) if self.is_json else text) + "\n").encode("ascii"))
+        self.written += 1
+
+    def as_json(self, event: Event | None, text: str) -> str:
         """The object of a line, with its time in UTC where it is known."""
         try:
             read = read_line(text)
         except NoLine as why:
             raise Refused(f"a line of the program is none: {why}: {text[:60]!r}") from None
-        if self.time is not None and "at" in read:
+        if self.time is not None and event is not None and "at" in read:
             read[TIME_NAME] = self.time.utc(event.chip)
         return json.dumps(read, separators=(",", ":"))
 

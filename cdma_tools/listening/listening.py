@@ -60,13 +60,14 @@ class Listening:
         since: float = 0.0,
         overlap: int = OVERLAP,
         seams: Sequence[int] = (),
+        keeps_anchors: bool = False,
     ) -> None:
         """Nothing has come yet. Runs begin `since` seconds after the stream's start, and seams are wanted at chips
-        counted from there."""
+        counted from there. With `keeps_anchors` an anchor is kept for each second, as a part of a recording needs."""
         self.lock, self.handset, self.listener = StreamLock(options), handset, listener
         self.since, self.overlap, self.seams = since, overlap, seams
         self.relay: Relay | None = None
-        self.anchors: list[Anchor] = []
+        self.keeps_anchors, self.anchors = keeps_anchors, list[Anchor]()
         self.silence = Silence()
         self.is_heard = False  # whether a pilot was
 
@@ -137,9 +138,10 @@ class Listening:
 
     def take_chips(self, chips: Chips) -> None:
         """Gives chips to the runs, and keeps an anchor of them now and then."""
-        time, chip = self.lock.instant()
-        if not self.anchors or time - self.anchors[-1].time >= ANCHORS * CHIP_RATE:
-            self.anchors.append(Anchor(time, chip))
+        if self.keeps_anchors:
+            time, chip = self.lock.instant()
+            if not self.anchors or time - self.anchors[-1].time >= ANCHORS * CHIP_RATE:
+                self.anchors.append(Anchor(time, chip))
         if self.relay is None:
             if chips.first - self.origin < self.since * CHIP_RATE:
                 return

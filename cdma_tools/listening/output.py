@@ -10,7 +10,7 @@ from typing import Protocol
 
 from cdma_tools.errors import Refused
 from cdma_tools.json_lines import as_line
-from cdma_tools.lines import NoLine, begins_line, read_line, spell_line
+from cdma_tools.lines import ORIGIN, NoLine, begins_line, read_line, spell_line
 from cdma_tools.listening.events import AT, Event
 from cdma_tools.listening.line_writer import TAP_OF, Already
 from cdma_tools.listening.system_time import time_told
@@ -34,6 +34,9 @@ class Output(Protocol):
     def write(self, data: bytes) -> None:
         """Adds whole lines."""
 
+    def reopen(self) -> None:
+        """Opens it anew by its name before the next lines, if it is a file; it may be called by a signal."""
+
     def close(self) -> None:
         """Adds no more."""
 
@@ -49,6 +52,9 @@ class StandardOutput:
         """Writes whole lines."""
         sys.stdout.buffer.write(data)
         sys.stdout.buffer.flush()
+
+    def reopen(self) -> None:
+        """Leaves it as it is."""
 
     def close(self) -> None:
         """Leaves it open."""
@@ -74,6 +80,9 @@ class Passed:
         except OSError as why:
             raise Refused(f"{self.path}: {why.strerror}") from None
 
+    def reopen(self) -> None:
+        """Leaves it as it is: a pipe has no other file of its name."""
+
     def close(self) -> None:
         """Closes it."""
         self.file.close()
@@ -82,16 +91,25 @@ class Passed:
 class GrowingFile:
     """A file to which whole lines are added; nobody but one listening may add to it."""
 
+    file: int
+    size: int
+    already: Already
+
     def __init__(self, path: str, is_json: bool) -> None:
         """Opens it, makes it where it isn't there, and takes away a last line that was broken off.
 
         A file that no listening of this kind wrote is refused, and nothing in it is changed.
         """
         self.path, self.is_json = path, is_json
+        self.is_old = False  # whether another file may have its name by now
+        self.open()
+
+    def open(self) -> None:
+        """Opens the file that has the name now."""
         try:
-            self.file = os.open(path, os.O_RDWR | os.O_CREAT | os.O_APPEND | os.O_CLOEXEC, 0o666)
+            self.file = os.open(self.path, os.O_RDWR | os.O_CREAT | os.O_APPEND | os.O_CLOEXEC, 0o666)
         except OSError as why:
-            raise Refused(f"{path}: {why.strerror}") from None
+            raise Refused(f"{self.path}: {why.strerror}") from None
         try:
             self.take_over()
         except BaseException:
@@ -151,6 +169,10 @@ class GrowingFile:
 
     def write(self, data: bytes) -> None:
         """Adds whole lines, or none; refuses where they can't be added."""
+        if self.is_old:
+            self.is_old = False
+            os.close(self.file)
+            self.open()
         written = 0
         try:
             while written < len(data):
@@ -159,6 +181,10 @@ class GrowingFile:
             os.ftruncate(self.file, self.size)
             raise Refused(f"{self.path}: {why.strerror}; it has all lines up to there") from None
         self.size += len(data)
+
+    def reopen(self) -> None:
+        """Opens the file anew by its name before the next lines, as it has been moved away."""
+        self.is_old = True
 
     def close(self) -> None:
         """Closes it."""
@@ -190,8 +216,8 @@ def is_broken_line(rest: bytes, is_json: bool) -> bool:
     except UnicodeDecodeError:
         return False
     if not is_json:
-        return begins_line(text) and any(kind.startswith(text.split(" ")[0]) for kind in TAP_OF)
-    heads = [f'{{"line":"{kind}"' for kind in TAP_OF]
+        return begins_line(text) and any(kind.startswith(text.split(" ")[0]) for kind in (*TAP_OF, ORIGIN))
+    heads = [f'{{"line":"{kind}"' for kind in (*TAP_OF, ORIGIN)]
     return any(head.startswith(text) or text.startswith(head) for head in heads)
 
 
@@ -199,6 +225,9 @@ def take_line(already: Already, text: str, is_json: bool) -> bool:
     """Takes note of a line that stands there; False where it is none."""
     found = JSON_LINE.match(text) if is_json else None
     kind = found[1] if found else "" if is_json else text.split(" ", 1)[0]
+    if kind == ORIGIN:
+        already.at, already.unplaced, already.has_origin = None, 0, True
+        return True
     if kind not in TAP_OF:
         return False
     tap = TAP_OF[kind]

@@ -100,7 +100,8 @@ def hear_part(recording: Recording, handset: Handset, part: Part) -> PartHeard:
     lock, size = recording.lock, TYPES[recording.lock.kind].size
     first, last = round(part.locked_from * lock.rate), round(part.locked_to * lock.rate)
     heard = Collected()
-    listening = Listening(lock, handset, heard, since=part.heard_from - first / lock.rate if part.number else 0.0)
+    since = part.heard_from - first / lock.rate if part.number else 0.0
+    listening = Listening(lock, handset, heard, since, keeps_anchors=True)
     block = size * int(BLOCK_SECONDS * lock.rate)
     try:
         for data in blocks_of_file(recording.path, size * first, size * (last - first), block):

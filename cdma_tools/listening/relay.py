@@ -10,10 +10,11 @@ from collections.abc import Iterable
 
 from cdma_tools.listening.beginning import START, Beginning, is_there
 from cdma_tools.listening.events import Event, Listener, Remark
-from cdma_tools.listening.follow_run import FollowRun, Handset, Sets
+from cdma_tools.listening.follow_run import FollowRun, Handset, RunEnded, Sets
 from cdma_tools.listening.pieces import Chips
 from cdma_tools.listening.seams import AFTER, FRAME, GRID, LEAST_OVERLAP, OVERLAP, KeptChips, end_of, off_grid
 from cdma_tools.listening.system_time import SystemTime, time_told
+from cdma_tools.program import NAME
 from cdma_tools.radio.air import CHIP_RATE, PERIOD
 
 # Chips that are kept besides the overlap, so that a run can still be started anew when its seam has passed.
@@ -29,6 +30,10 @@ ZEROS = 1 << 16
 ASTRAY = 32
 # Seconds without a line after which a run is taken to have heard nothing yet.
 PATIENCE = 5.0
+# Runs that may be killed one after the other before one tells a line.
+MOST_KILLED = 3
+# Seams that are remembered.
+SEAMS_KEPT = 64
 
 
 class Relay:
@@ -50,7 +55,9 @@ class Relay:
         self.time: SystemTime | None = None
         self.has_moved = False  # whether the time has moved against the chips
         self.row = handset.row  # that of the traffic channel, as it was told last
-        self.seams: list[int] = []
+        self.seams: deque[int] = deque(maxlen=SEAMS_KEPT)
+        self.told: int | None = None  # the chip of the last line that was told
+        self.killed = 0  # runs that were killed since a line was told
 
     # What comes in
 
@@ -60,9 +67,7 @@ class Relay:
             self.beginning = Beginning(chips.first)
         self.end = chips.end
         self.kept.add(chips)
-        for run in (self.current, self.next):
-            if run is not None:
-                run.feed(chips)
+        self.give(chips)
         if self.current is None:
             self.current = self.begun(self.row)
             if self.current is None:
@@ -74,6 +79,19 @@ class Relay:
         self.poll()
         if self.current is not None and self.end >= self.seam + AFTER:
             self.change(self.current, self.next)
+
+    def give(self, chips: Chips) -> None:
+        """Gives chips to the runs; another one takes the place of one that was killed."""
+        if self.next is not None:
+            try:
+                self.next.feed(chips)
+            except RunEnded as ended:
+                self.drop_next(self.next, ended)
+        if self.current is not None:
+            try:
+                self.current.feed(chips)
+            except RunEnded as ended:
+                self.replace(self.current, ended)
 
     def feed_zeros(self, count: int) -> None:
         """Takes note that so many chips were lost."""
@@ -97,7 +115,7 @@ class Relay:
         """What is under way ends here, and what comes has nothing to do with it."""
         self.finish()
         self.kept.clear()
-        self.beginning, self.taken = None, None
+        self.beginning, self.taken, self.told = None, None, None
         self.time, self.has_moved = None, False
 
     def finish(self) -> None:
@@ -105,15 +123,19 @@ class Relay:
         if self.next is not None:
             self.next.kill()
             self.next = None
-        if self.current is None:
-            return
-        run, end = self.current, self.end
-        run.feed(Chips(run.end, bytes(4 * TAIL)))
-        run.close()
-        self.seam = end + TAIL
-        run.told = [event for event in run.told if event.chip - LATE.get(event.kind, 0) <= end]
-        self.tell(run)
-        self.current = None
+        while self.current is not None:
+            run, end = self.current, self.end
+            try:
+                run.feed(Chips(run.end, bytes(4 * TAIL)))
+                run.close()
+            except RunEnded as ended:
+                self.replace(run, ended)
+                self.current = self.begun(self.row)
+                continue
+            self.seam = end + TAIL
+            run.told = [event for event in run.told if event.chip - LATE.get(event.kind, 0) <= end]
+            self.tell(run)
+            self.current = None
 
     def kill(self) -> None:
         """Ends all that is running, without hearing more of it."""
@@ -122,6 +144,44 @@ class Relay:
                 run.kill()
         self.current = self.next = None
 
+    # Runs that are killed
+
+    def drop_next(self, run: FollowRun, ended: RunEnded) -> None:
+        """The run that is to take over was killed: another one begins as soon as it can."""
+        run.kill()
+        self.next, self.beginning = None, None
+        self.check_killed(ended)
+
+    def replace(self, run: FollowRun, ended: RunEnded) -> None:
+        """The current run was killed: what it told is told, and another one goes on from there.
+
+        That is the run that is to take over, if it has heard enough for that, or one that begins with the oldest chips
+        that are kept: it hears the sync channel's message, and what comes after it, while they are given to it.
+        """
+        run.take_rest()
+        self.tell(run)
+        self.row = self.row_at(run, self.end)
+        run.kill()
+        self.taken = self.taken if self.told is None else self.told
+        after, self.next = self.next, None
+        if after is not None and self.end - after.begin < LEAST_OVERLAP:
+            after.kill()
+            after = None
+        self.current = after
+        self.check_killed(ended)
+        if self.current is None:
+            self.beginning = Beginning(self.kept.first)
+        else:
+            self.plan()
+            self.tell(self.current)
+
+    def check_killed(self, ended: RunEnded) -> None:
+        """Says that a run was killed; refuses one that ended otherwise, and more of them than seems an accident."""
+        self.killed += 1
+        if not ended.is_killed or self.killed > MOST_KILLED:
+            raise ended
+        self.say(f"a run of {NAME} follow was {ended.how}: another one takes its place")
+
     # Runs
 
     def begun(self, row: int | None) -> FollowRun | None:
@@ -129,7 +189,11 @@ class Relay:
         beginning = self.beginning
         assert beginning is not None
         while (begin := beginning.next(self.kept, self.end)) is not None:
-            run = self.start(begin, row)
+            try:
+                run = self.start(begin, row)
+            except RunEnded as ended:
+                self.check_killed(ended)
+                continue
             run.wait_pilot(PATIENCE)
             if self.hears_pilot(run):
                 if begin - beginning.wanted >= START and not self.is_astray(run):
@@ -146,8 +210,12 @@ class Relay:
     def start(self, begin: int, row: int | None) -> FollowRun:
         """A run from a chip on, fed with the chips that are there."""
         run = FollowRun(self.handset.on_row(row), begin)
-        for chips in self.kept.pieces:
-            run.feed(chips)
+        try:
+            for chips in self.kept.pieces:
+                run.feed(chips)
+        except RunEnded:
+            run.kill()
+            raise
         return run
 
     def hears_pilot(self, run: FollowRun) -> bool:
@@ -171,7 +239,11 @@ class Relay:
 
     def change(self, before: FollowRun, after: FollowRun | None) -> None:
         """At the seam: the run before ends, and the one after it is told from there on."""
-        before.close()
+        try:
+            before.close()
+        except RunEnded as ended:
+            self.replace(before, ended)
+            return
         self.tell(before)
         self.row = self.row_at(before, self.seam)
         if after is None:
@@ -225,6 +297,7 @@ class Relay:
             self.learn(event)
             if event.chip <= self.seam:
                 self.listener.event(event)
+                self.told, self.killed = event.chip, 0
             else:
                 run.told.append(event)
 

@@ -21,6 +21,8 @@ from cdma_tools.errors import Refused
 BLOCK_SECONDS = 0.05
 # Bytes that are taken of a pipe or of a server at once, and those of a backlog.
 PIECE_BYTES, BACKLOG_BYTES = 1 << 16, 1 << 25
+# Seconds after which it is looked again whether a backlog is to end.
+LOOK_AGAIN = 0.2
 # The protocol of rtl_tcp: a header of its word, the tuner's type and the number of its gains; and commands of a byte
 # and a number, of which these set the middle of the band and the rate.
 SERVER_HEADER, SERVER_WORD = struct.Struct(">4sII"), b"RTL0"
@@ -103,6 +105,7 @@ class Backlog:
         self.bytes = 0
         self.changed = threading.Condition()
         self.is_stopped = threading.Event()
+        self.is_ending = False  # whether only what has come so far is wanted
 
     def has_room(self, size: int) -> bool:
         """Whether there is room for so many bytes more; things that are said need none."""
@@ -112,20 +115,24 @@ class Backlog:
         """Adds an item, None as the end; waits for room or, where it may not, answers False where there is none."""
         size = len(item) if isinstance(item, bytes) else 0
         with self.changed:
+            if self.is_ending:
+                return True
             while not self.has_room(size) and not self.is_stopped.is_set():
                 if not may_wait:
                     return False
-                self.changed.wait(timeout=1.0)
+                self.changed.wait(timeout=LOOK_AGAIN)
             self.items.append(item)
             self.bytes += size
             self.changed.notify_all()
         return True
 
     def get(self) -> Item | Refused | None:
-        """The next item, as soon as there is one."""
+        """The next item, as soon as there is one; None at the end."""
         with self.changed:
             while not self.items:
-                self.changed.wait(timeout=1.0)
+                if self.is_ending:
+                    return None
+                self.changed.wait(timeout=LOOK_AGAIN)
             item = self.items.popleft()
             if isinstance(item, bytes):
                 self.bytes -= len(item)
@@ -138,6 +145,10 @@ class Backlog:
             if isinstance(item, Refused):
                 raise item
             yield item
+
+    def end(self) -> None:
+        """Nothing more is wanted than what has come so far; it may be called by a signal."""
+        self.is_ending = True
 
     def stop(self) -> None:
         """The items aren't wanted any more."""

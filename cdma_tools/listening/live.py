@@ -1,0 +1,100 @@
+"""Listening to a stream that comes as the air does: to its end, or until an interrupt ends it in order."""
+
+import contextlib
+import threading
+from collections.abc import Iterator
+from dataclasses import dataclass
+from datetime import datetime, timezone
+from fractions import Fraction
+from typing import BinaryIO
+
+from cdma_tools.errors import said
+from cdma_tools.interrupts import each_hang_up, first_interrupt
+from cdma_tools.listening.follow_run import Handset
+from cdma_tools.listening.line_writer import LineWriter
+from cdma_tools.listening.listening import Listening
+from cdma_tools.listening.output import Output
+from cdma_tools.listening.sources import Backlog, Item, Server, ServerReader, Skipped, read_pipe
+from cdma_tools.listening.stream_lock import LockOptions
+from cdma_tools.starting import called
+
+
+@dataclass(frozen=True)
+class Stream:
+    """A source that comes as the air does."""
+
+    kind: str
+    rate: Fraction
+    file: BinaryIO | None = None
+    server: Server | None = None
+
+    @contextlib.contextmanager
+    def opened(self) -> Iterator[Backlog]:
+        """Its backlog, which a thread fills."""
+        backlog = Backlog()
+        if self.server is not None:
+            reader = threading.Thread(target=ServerReader(self.server, backlog).run, daemon=True)
+        else:
+            reader = threading.Thread(target=read_pipe, args=(self.file, backlog), daemon=True)
+        reader.start()
+        try:
+            yield backlog
+        finally:
+            backlog.stop()
+
+
+class LiveListening:
+    """A listening to a stream, and what came and was lost of it."""
+
+    def __init__(self, lock: LockOptions, handset: Handset, writer: LineWriter, is_appended: bool) -> None:
+        """Nothing has come yet; `is_appended` says that lines of another stream stand before those of this one."""
+        self.listening, self.writer, self.is_appended = Listening(lock, handset, writer), writer, is_appended
+        self.lost = 0  # samples
+        self.is_stopped = False  # by an interrupt
+
+    def hear(self, stream: Stream, output: Output) -> None:
+        """Listens up to the stream's end. An interrupt ends it after what has come; a second one breaks it off."""
+        try:
+            with stream.opened() as backlog, each_hang_up(output.reopen):
+
+                def stop() -> None:
+                    self.is_stopped = True
+                    backlog.end()
+
+                with first_interrupt(stop):
+                    for item in backlog:
+                        self.take(item)
+                    self.listening.finish()
+        finally:
+            self.listening.kill()
+
+    def take(self, item: Item) -> None:
+        """Takes what comes."""
+        listening = self.listening
+        if isinstance(item, bytes):
+            if self.is_appended:
+                self.writer.began = datetime.now(timezone.utc).strftime("%Y-%m-%dT%H:%M:%S.%fZ")
+                self.is_appended = False
+            listening.feed(item)
+        elif isinstance(item, Skipped):
+            self.lost += item.samples
+            listening.say(listening.lock.seconds, f"{item.samples} samples are missing: {item.why}")
+            listening.skip(item.samples)
+        else:
+            listening.say(listening.lock.seconds, item.text)
+
+    def summary(self) -> str:
+        """What came of it, in words."""
+        seconds, lines = self.listening.lock.seconds, self.writer.written
+        return f"stopped after {seconds:,.1f} s: {lines:,} lines were written, {self.lost:,} samples were lost"
+
+
+def hear_stream(
+    stream: Stream, lock: LockOptions, handset: Handset, writer: LineWriter, output: Output, is_appended: bool = False
+) -> bool:
+    """Listens to a stream up to its end, or to an interrupt; answers whether a pilot was heard."""
+    live = LiveListening(lock, handset, writer, is_appended)
+    live.hear(stream, output)
+    if live.is_stopped or live.lost:
+        said(called("listen"), live.summary())
+    return live.listening.is_heard
