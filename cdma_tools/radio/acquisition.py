@@ -1,10 +1,12 @@
 """Acquisition: the code phase and the carrier at which a pilot stands out.
 
-A stretch of 2,048 chips is correlated with the whole code at once, by transforms of 32,768, at two samples a chip and
-in steps of 300 Hz. Energies of one stretch after the other are added, until a cell of phase and carrier stands out.
+A stretch of 2,048 chips is correlated with the whole code at once, by transforms of 32,768, at one sample a chip and in
+steps of 300 Hz. Between two samples the sums are interpolated, since what a front lets through is hardly wider than the
+chip rate. Energies of one stretch after the other are added, until a cell of phase and carrier stands out.
 """
 
 import functools
+import os
 from typing import Callable, Iterator, NamedTuple
 
 import numpy
@@ -40,6 +42,12 @@ WIDE_PLACES = PLACES[::2]
 TRIES = {"yes": (True,), "no": (False,), "try": (False, True)}
 # Bins of a batch of transforms, 4 MB of numbers, and those whose energies are kept at once, 64 MB.
 BATCH, MOST_BINS = 16, 256
+# Processors that share the transforms of a batch.
+WORKERS = min(4, len(os.sched_getaffinity(0)))
+# Sums at the two nearest phases count as sinc(1/2) in a sum between them, and those beyond as sinc(3/2): the latter over
+# the former, and the energy by which noise has as much power there.
+FAR_TAP = numpy.float32(-1 / 3)
+NEAR_ENERGY = numpy.float32(1 / (2 + 2 * FAR_TAP**2))
 # The finer carrier: chips of a sum, and bins of its transform; the span is one step of the search and a half more.
 FINE_CHIPS, FINE_BINS, FINE_SPAN = 64, 4_096, 1.5 * STEP * BIN
 
@@ -84,26 +92,52 @@ def code_spectrum() -> NDArray[numpy.complex64]:
     return fft.fft(short_code())
 
 
+class Between:
+    """Energies of samples half a chip late, by the sums at the two phases to each side, with room that is used again.
+
+    Noise has the same power in them. A pilot half a chip late loses 0.45 dB, less than one a quarter of a chip late.
+    """
+
+    def __init__(self) -> None:
+        """Makes the room."""
+        self.near, self.far = numpy.empty((2, PERIOD), dtype=numpy.complex64)
+
+    def energies(self, sums: NDArray[numpy.complex64]) -> NDArray[numpy.float32]:
+        """The energies between sums and those a phase before them."""
+        near, far = self.near, self.far
+        numpy.add(sums[1:], sums[:-1], out=near[1:])
+        near[0] = sums[0] + sums[-1]
+        numpy.add(sums[3:], sums[:-3], out=far[2:-1])
+        far[[0, 1, -1]] = sums[[1, 2, 0]] + sums[[-2, -1, -3]]
+        far *= FAR_TAP
+        near += far
+        found = near.real**2 + near.imag**2
+        found *= NEAR_ENERGY
+        return found
+
+
 def add_energies(
-    energies: NDArray[numpy.float32], halves: NDArray[numpy.complex64], place: int, bins: NDArray[numpy.int64]
+    energies: NDArray[numpy.float32], chips: NDArray[numpy.complex64], place: int, bins: NDArray[numpy.int64]
 ) -> None:
     """Adds the energies of a stretch to those of shape (bins, 2, 32,768); its first chip is chip `place` of the search.
 
-    halves has the stretch's 2 * STRETCH samples, two a chip.
+    The second of the two is that of samples half a chip later.
     """
-    code = code_spectrum()
-    for half in (0, 1):
-        chips = numpy.zeros(PERIOD, dtype=numpy.complex64)
-        # The stretch stands at its own place, so that the phase found is that of the search's first chip.
-        chips[place : place + STRETCH] = halves[half::2]
-        turned = fft.fft(chips).conj()
-        # Row b of the windows is the spectrum rolled by b bins to the left.
-        windows = numpy.lib.stride_tricks.sliding_window_view(numpy.concatenate([turned, turned[:-1]]), PERIOD)
-        for begin in range(0, len(bins), BATCH):
-            rows = windows[bins[begin : begin + BATCH] % PERIOD]
-            rows *= code
-            got = fft.ifft(rows, axis=1, overwrite_x=True)
-            energies[begin : begin + BATCH, half] += got.real**2 + got.imag**2
+    code, between = code_spectrum(), Between()
+    whole = numpy.zeros(PERIOD, dtype=numpy.complex64)
+    # The stretch stands at its own place, so that the phase found is that of the search's first chip.
+    whole[place : place + STRETCH] = chips
+    spectrum = fft.fft(whole).conj()
+    twice = numpy.concatenate([spectrum, spectrum])
+    rows = numpy.empty((BATCH, PERIOD), dtype=numpy.complex64)
+    for begin in range(0, len(bins), BATCH):
+        firsts = bins[begin : begin + BATCH] % PERIOD
+        for row, first in zip(rows, firsts):
+            numpy.multiply(twice[first : first + PERIOD], code, out=row)  # the spectrum rolled to the left
+        got = fft.ifft(rows[: len(firsts)], axis=1, overwrite_x=True, workers=WORKERS)
+        for of_bin, sums in zip(energies[begin : begin + BATCH], got):
+            of_bin[0] += sums.real**2 + sums.imag**2
+            of_bin[1] += between.energies(sums)
 
 
 def strongest(stretch: Callable[[int], NDArray[numpy.complex64]], bins: NDArray[numpy.int64], tries: int) -> Best:
@@ -114,7 +148,7 @@ def strongest(stretch: Callable[[int], NDArray[numpy.complex64]], bins: NDArray[
     energies = numpy.zeros((len(bins), 2, PERIOD), dtype=numpy.float32)
     best = Best(0, 0.0, 0, 0.0)
     for count in range(1, MOST_STRETCHES + 1):
-        add_energies(energies, stretch(count - 1), (count - 1) * STRETCH, bins)
+        add_energies(energies, stretch(count - 1)[::2], (count - 1) * STRETCH, bins)
         if count not in LOOKS:
             continue
         row, half, phase = numpy.unravel_index(int(energies.argmax()), energies.shape)
