@@ -1,7 +1,6 @@
 """Processes that share work: no server of theirs is reached from the network, and nothing of them stays."""
 
 import contextlib
-import importlib.util
 import os
 import signal
 import subprocess
