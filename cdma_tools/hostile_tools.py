@@ -277,7 +277,7 @@ class Room:
         return choices[name]()
 
     def fault(self, tool: str, status: int) -> str:
-        """Returns the fault of what a run of a tool left behind."""
+        """Returns the fault of what a run of a tool left."""
         if any(name.startswith(".part-") for name in os.listdir(self.folder)):
             return "a file is left half written"
         with open(self.at("output"), "rb") as file:

@@ -1,7 +1,7 @@
-"""The two branches of a radio: their offset, and by how much they are unlike, from the raw samples.
+"""The two branches of a radio: their offset and their imbalance, from the raw samples.
 
-Signals and noise have both branches alike and without a mean, so what the samples show of an offset, of unlike powers
-and of a correlation is the radio's own.
+Signals and noise have both branches alike and without a mean. So an offset, unequal powers and a correlation in the
+samples are the radio's own.
 """
 
 from dataclasses import dataclass
@@ -25,7 +25,7 @@ class Branches:
 
 
 def branches_of(recording: Samples) -> Branches:
-    """What the samples of a recording show of the radio."""
+    """Returns what the samples of a recording show of the radio."""
     sums, products, peak = numpy.zeros(2), numpy.zeros((2, 2)), 0.0
     for first in range(0, recording.count, PIECE):
         samples = recording.read(first, min(PIECE, recording.count - first))

@@ -1,8 +1,9 @@
-"""Every cell of a recording: the strongest is locked to, heard, sent again and taken off; then the next is looked for.
+"""Every cell of a recording: the strongest is locked to, decoded, sent again and subtracted; then the next is looked
+for.
 
-The next cell's chips lie elsewhere, so it is locked to anew on what is left. Then each cell is heard again with all
-others off, in two rounds. An echo that lies further off than paths are looked for is found as a cell too; it sends the
-same symbols at the same chips as the cell of which it is one, and isn't told.
+The next cell's chips lie elsewhere, so it is locked to again on what is left. Then each cell is decoded again with all
+others subtracted, in two rounds. An echo further off than paths are looked for is found as a cell too. It sends the
+same symbols at the same chips as its cell, and isn't reported.
 """
 
 import math
@@ -39,7 +40,7 @@ MOST_CELLS = 12
 
 @dataclass
 class Cell:
-    """A cell that is locked to, what it sends as far as it was heard, and its part of the recording."""
+    """A locked cell, what it sends as far as it was received, and its part of the recording."""
 
     held: Held
     part: KeptSamples
@@ -70,7 +71,7 @@ class Cell:
                 self.waves.append(Waves(self.held.front, piece.fit, symbols, self.ways))
 
     def take_off(self, left: KeptSamples) -> None:
-        """Takes its waves off what is left; where it is on the air and isn't known, zeros are left."""
+        """Subtracts its waves from what is left; zeros are left where it is on the air and isn't known."""
         behind = 0
         for waves in self.waves:
             span = waves.span
@@ -103,14 +104,15 @@ class Cell:
 
 
 def later(cell: Cell, other: Cell) -> float:
-    """By how many chips a cell's code comes later than another's, half way, within half a period."""
+    """Returns the chips by which a cell's code is later than another's, half way, within half a period."""
     fit, others = cell.held.pieces[0].fit, other.held.pieces[0].fit
     time = float(fit.times((fit.chip[0] + fit.chip[-1]) / 2))
     return float((others.chip_at(time) - fit.chip_at(time) + PERIOD / 2) % PERIOD - PERIOD / 2)
 
 
 def common_symbols(cell: Cell, other: Cell) -> float:
-    """By how many standard deviations the symbols of two cells are the same, where their codes meet the same chips."""
+    """Returns the standard deviations by which the symbols of two cells are the same, where their codes meet the same
+    chips."""
     one, two = cell.symbols[0], other.symbols[0]
     # Chips are numbered from each lock's own period on; the times of both tell how many periods lie between.
     fit, others = cell.held.pieces[0].fit, other.held.pieces[0].fit
@@ -130,7 +132,7 @@ def common_symbols(cell: Cell, other: Cell) -> float:
 
 
 def echo_among(cell: Cell, cells: list[Cell]) -> int | None:
-    """The number of the cell of which one is an echo; none where it is a cell of its own."""
+    """Returns the number of the cell of which one is an echo; None if it is a cell of its own."""
     for number, other in enumerate(cells):
         if other.echo_of is None and cell.symbols and other.symbols and abs(later(cell, other)) < OFFSET:
             if common_symbols(cell, other) > LEAST_ECHO:
@@ -168,7 +170,7 @@ class Search:
         return [cell for cell in self.cells if cell.echo_of is None]
 
     def lock(self) -> Held:
-        """The lock to the strongest pilot in what is left; refuses where there is none."""
+        """Returns the lock to the strongest pilot in what is left; raises Refused if there is none."""
         if self.left is None:
             return hold(self.path, self.options)
         first = self.cells[0].held
@@ -180,7 +182,7 @@ class Search:
         return hold(self.left.path, options)
 
     def next_cell(self) -> Cell | None:
-        """The next cell, heard with all others off; none where no further pilot is in what is left."""
+        """Returns the next cell, decoded with all others subtracted; None if no further pilot is in what is left."""
         while len(self.cells) < MOST_CELLS:
             number = len(self.cells)
             self.tell(f"cell {len(self.told) + 1}")
@@ -196,7 +198,7 @@ class Search:
         return None
 
     def added(self, held: Held) -> Cell:
-        """Takes a lock as a further cell, and hears all cells again."""
+        """Takes a lock as a further cell, and decodes all cells again."""
         recording, number = held.front.recording, len(self.cells)
         if self.left is None:
             self.left = KeptSamples(os.path.join(self.folder, "left"), recording.rate, recording.count)

@@ -60,7 +60,7 @@ class Chips(NamedTuple):
 
 @dataclass(frozen=True)
 class Row:
-    """What one Walsh row shows; its phase and its time are against the pilot's."""
+    """What one Walsh row shows; its phase and its time are relative to the pilot's."""
 
     row: int
     db: float  # of all power
@@ -91,7 +91,7 @@ class CodeDomain:
 
 
 class Sums(NamedTuple):
-    """What a piece adds up, by groups of 24 blocks: (groups, 64) each, and the pilot's smoothed gain (groups,).
+    """Sums of a piece, by groups of 24 blocks: (groups, 64) each, and the pilot's smoothed gain (groups,).
 
     `squares` are of (y / u)^2, `powers` of |y|^2, and `lates` of y' / u times y / u, real parts; `total` is |x|^2, and
     `four` the sync row's squares over symbols of four blocks.
@@ -124,7 +124,8 @@ def by_groups(values: NDArray[Any]) -> NDArray[Any]:
 
 
 def sums_of(chips: NDArray[numpy.complex64], slopes: NDArray[numpy.complex64] | None, phase: int) -> Sums:
-    """What whole groups of chips add up, of which the first begins a block; slopes are of the same chips, if wanted."""
+    """Returns the sums of whole groups of chips, the first of which begins a block; slopes are of the same chips, if
+    wanted."""
     rows = despread(chips, phase)
     pilot = rows[PILOT_ROW]
     gain, groups = smoothed_gain(pilot)
@@ -148,10 +149,10 @@ def sums_of(chips: NDArray[numpy.complex64], slopes: NDArray[numpy.complex64] | 
 
 
 class Meter:
-    """Takes a cell's chips in runs of any length, and answers its code domain."""
+    """Takes a cell's chips in runs of any length, and returns its code domain."""
 
     def __init__(self, has_times: bool = True, is_pulsed: bool = True, kept: float = 1.0) -> None:
-        """`has_times` also measures the rows' times; `is_pulsed` where chips come through the pulse and its filter.
+        """`has_times` also measures the rows' times; `is_pulsed` is set if chips come through the pulse and its filter.
 
         `kept` is the part of a pulse's power that the front left of it.
         """
@@ -161,7 +162,7 @@ class Meter:
         self.phase: int | None = None  # of the first chip that is kept
 
     def add(self, run: Chips) -> None:
-        """Takes chips; where they don't go on from the last ones, what doesn't fill a group is left out."""
+        """Takes chips; if they don't follow the last ones, what doesn't fill a group is left out."""
         if self.phase is None or (self.phase + len(self.kept)) % PERIOD != run.phase % PERIOD:
             self.finish_run()
             skip = to_whole_symbols(run.phase + SLOPES_REACH)
@@ -186,7 +187,7 @@ class Meter:
         self.kept, self.phase = self.kept[count:], (self.phase + count) % PERIOD
 
     def domain(self) -> CodeDomain | None:
-        """What all chips show; none where they don't fill a group."""
+        """Returns what all chips show; None if they don't fill a group."""
         self.finish_run()
         self.phase, self.kept = None, self.kept[:0]
         return domain_of(self.sums, self.has_times, self.is_pulsed, self.kept_power) if self.sums else None
@@ -261,9 +262,9 @@ def carrier_of(sums: list[Sums]) -> float:
 
 
 def is_pulsed(run: Chips) -> bool:
-    """Whether chips come through the pulse and its filter: the pilot then stands 4 chips to each side too, by a 13th.
+    """Whether chips come through the pulse and its filter: the pilot is then also 4 chips to each side, with a 13th.
 
-    A file that `make` wrote has one chip alone at each instant; one of a lock has the pulse's sides.
+    A file that `make` wrote has exactly one chip at each instant; one of a lock has the pulse's sides.
     """
     side, count = WIDEST_SIDE, (len(run.chips) - 2 * WIDEST_SIDE) // GROUP_CHIPS * GROUP_CHIPS
     code = short_code()[(run.phase + side + numpy.arange(count)) % PERIOD].conj()
@@ -278,7 +279,7 @@ def is_pulsed(run: Chips) -> bool:
 def measured(
     runs: Iterable[Chips], has_times: bool = True, is_pulsed: bool = True, kept: float = 1.0
 ) -> CodeDomain | None:
-    """The code domain of runs of a cell's chips; none where they are too few."""
+    """Returns the code domain of runs of a cell's chips; None if they are too few."""
     meter = Meter(has_times, is_pulsed, kept)
     for run in runs:
         meter.add(run)

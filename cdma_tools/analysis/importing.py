@@ -12,7 +12,7 @@ from cdma_tools.radio.locking import Locked, Options, write_held
 
 
 class Wanted(NamedTuple):
-    """The cell that is wanted: its rank by strength from 1 on, or its PILOT_PN, with the program that hears it."""
+    """The wanted cell: its rank by strength from 1 on, or its PILOT_PN, with the program that decodes it."""
 
     rank: int | None = None
     pn: int | None = None
@@ -20,14 +20,14 @@ class Wanted(NamedTuple):
 
 
 class Taken(NamedTuple):
-    """What was written of a cell, and what is to be said of the others, a line each."""
+    """What was written of a cell, and the remarks on the others, a line each."""
 
     locked: Locked
     said: list[str]
 
 
 def pn_of(program: str, path: str) -> int | None:
-    """PILOT_PN as the sync messages of a sample file tell it; none where no message is heard."""
+    """Returns PILOT_PN in the sync messages of a sample file; None if no message decodes."""
     with open(path, "rb") as file:
         text = written_of(program, ["follow", "--messages", "1"], file)
     for line in text.decode("ascii", "replace").splitlines():
@@ -64,7 +64,7 @@ def told(number: int, cell: Cell, pn: int | None) -> str:
 
 
 def find(search: Search, wanted: Wanted) -> tuple[Cell, list[str]]:
-    """The cell that is wanted, and a line on each that was heard; refuses where it isn't there."""
+    """Returns the wanted cell, and a line on each that was found; raises Refused if it isn't there."""
     lines: list[str] = []
     names: list[str] = []
     while cell := search.next_cell():

@@ -14,7 +14,7 @@ class KeptSamples(Recording):
     """A recording in a file of its own, which can be written too."""
 
     def __init__(self, path: str, rate: float, count: int) -> None:
-        """Makes a file of so many zeros."""
+        """Makes a file of `count` zeros."""
         with open(path, "wb") as file:
             file.truncate(SAMPLE_BYTES * count)
         super().__init__(path, KIND, rate)
@@ -32,7 +32,7 @@ class KeptSamples(Recording):
         self.changed.flush()
 
     def clear(self, first: int, behind: int) -> None:
-        """Writes zeros over samples first to behind - 1."""
+        """Writes zeros over samples from `first` to before `behind`."""
         for begin in range(max(first, 0), min(behind, self.count), PIECE):
             self.write(begin, numpy.zeros(min(PIECE, behind - begin, self.count - begin), dtype=numpy.complex64))
 
@@ -50,7 +50,7 @@ class Together:
         self.rate, self.count = one.rate, one.count
 
     def read(self, first: int, count: int) -> NDArray[numpy.complex64]:
-        """Samples first to first + count - 1, zeros where there are none."""
+        """Returns samples first to first + count - 1, with zeros for missing ones."""
         return self.one.read(first, count) + self.other.read(first, count)
 
     def conjugate(self) -> "Together":

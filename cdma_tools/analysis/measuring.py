@@ -42,7 +42,7 @@ class Timing:
 
 @dataclass(frozen=True)
 class Analysis:
-    """What is told of a cell."""
+    """The results for a cell."""
 
     domain: CodeDomain
     kinds: dict[int, str] = field(default_factory=dict)  # what rows in use are
@@ -62,12 +62,12 @@ class Analysis:
 
     @property
     def seconds(self) -> float:
-        """How long the chips that were measured last."""
+        """Returns the length of the measured chips."""
         return self.domain.chips / CHIP_RATE
 
 
 def phase_of(file: SampleFile) -> int:
-    """The code phase of a sample file's first chip; refuses a file in which no pilot stands out."""
+    """Returns the code phase of a sample file's first chip; refuses a file in which no pilot stands out."""
     if file.count < 4 * STRETCH:
         raise Refused(f"{file.path}: {file.count} chips are too few: a pilot is looked for in {4 * STRETCH}")
     bins = numpy.zeros(1, numpy.int64)
@@ -104,7 +104,7 @@ def domain_of_file(
 
 
 def kinds_of(rows: list[Row], program: str | None, path: str) -> dict[int, str]:
-    """What rows in use are: pilot, sync, paging where the program hears it so, else other."""
+    """Returns the kinds of rows in use: pilot, sync, paging if the program decodes it so, otherwise other."""
     kinds = {row.row: "other" for row in rows} | {PILOT_ROW: "pilot"}
     if SYNC_ROW in kinds:
         kinds[SYNC_ROW] = "sync"
@@ -114,13 +114,13 @@ def kinds_of(rows: list[Row], program: str | None, path: str) -> dict[int, str]:
 
 
 def hears_paging(program: str, path: str, row: int) -> bool:
-    """Whether a handset hears a message on a paging channel."""
+    """Whether a handset decodes a message on a paging channel."""
     with open(path, "rb") as file:
         return b"\npaging " in written_of(program, ["follow", "--paging", str(row)], file)
 
 
 def timing_of(held: Held, domain: CodeDomain, lost: int) -> Timing:
-    """Carrier, clock and time half way, as the fit tells them and the code domain corrects them."""
+    """Returns carrier, clock and time half way, by the fit and corrected by the code domain."""
     first, behind = held.pieces[0].first, held.pieces[-1].behind
     fit = held.stretches.fits[len(held.stretches.fits) // 2]
     middle = PERIOD * round((first + behind) / 2 / PERIOD)
@@ -138,7 +138,7 @@ def timing_of(held: Held, domain: CodeDomain, lost: int) -> Timing:
 def analysis_of_recording(
     path: str, options: Options, program: str | None, folder: str, tell: Callable[[float, str], None]
 ) -> Analysis:
-    """The analysis of a recording's strongest cell; `folder` is for files, and `tell` is told of the work done."""
+    """Returns the analysis of a recording's strongest cell; `folder` is for files, and `tell` gets the work done."""
     chips = os.path.join(folder, "cell.is95")
     held = hold(path, options, lambda part, text: tell(STEPS[0] * part, text))
     with contextlib.closing(held.front.recording) as recording:

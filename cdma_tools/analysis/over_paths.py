@@ -1,21 +1,21 @@
-"""The part of all power that a cell has over all its paths, by moments of its pilot.
+"""The share of all power that a cell has over all its paths, by moments of its pilot.
 
 The pilot's amplitude h(t) at delays t, in sums of 512 chips, is the response of all paths through the pulse and its
-matched filter. Two sums that follow each other have nothing of their noise in common, so the mean of h h^H between them
-holds the paths alone. Two powers of the pilot come of it:
+matched filter. Two consecutive sums have independent noise, so the mean of h h^H between them contains only the paths.
+It gives two powers of the pilot:
 
 - In the chips it is the sum of 2 h(k) conj h(k') rho(k - k') over whole delays k and k', with the sides of the pulse
-  and of all paths; rho(m) is what a row's chips have in common with those m chips later (`row_correlation`).
+  and of all paths; rho(m) is the correlation of a row's chips with those m chips later (`row_correlation`).
 - As it arrives it is 2 h^H K h, where K is the inverse of the matrix R(t - t') of the matched pulse: the power of those
   copies of the pulse, half a chip apart, that together have the response h. Paths that lie close to each other raise or
-  lower it, as their phases are, and it needs no delays of paths.
+  lower it by their phases, and it needs no delays of paths.
 
 A cell's rows come over the same paths, so its power is the pilot's times the sum of all rows' powers over the pilot's,
-which the code domain tells (`code_domain`). Symbols aren't decided, so none follow the noise.
+which the code domain gives (`code_domain`). Symbols aren't decided, so none follow the noise.
 
-What a row shows at a delay holds what its chips have in common with themselves at the other paths' delays too: it is
-A h, A being the matrix of the row's own conj rho(t - t'). So A of the pilot is taken off its sums, and each row's power
-is divided by what A makes of it at delay 0. In the chips, the terms with k or k' of 0 are what the rows show
+What a row shows at a delay also contains what its chips have in common with themselves at the other paths' delays: it
+is A h, A being the matrix of the row's own conj rho(t - t'). So A of the pilot is removed from its sums, and each row's
+power is divided by what A makes of it at delay 0. In the chips, the terms with k or k' of 0 are what the rows show
 there as they are measured, with what symbols have in common by chance; the others are computed.
 """
 
@@ -112,7 +112,7 @@ def middles_of(held: Held) -> list[tuple[Fit, float]]:
 
 
 def pilot_response(held: Held) -> PilotResponse | None:
-    """The pilot's response over all paths of a lock; none where it holds no whole segment."""
+    """Returns the pilot's response over all paths of a lock; None if it has no whole segment."""
     delays = delays_of(held.ways)
     products = numpy.zeros((len(delays), len(delays)), dtype=complex)
     total, pairs = 0.0, 0
@@ -132,7 +132,7 @@ def pilot_response(held: Held) -> PilotResponse | None:
 
 
 def without_own(products: NDArray[numpy.complex128], delays: NDArray[numpy.int64]) -> NDArray[numpy.complex128]:
-    """The mean of h h^H, where products are that of (A h) (A h)^H."""
+    """Returns the mean of h h^H, where products are that of (A h) (A h)^H."""
     inverse = numpy.linalg.inv(between(row_correlations(2 * WIDTH)[PILOT_ROW], delays).conj())
     cleared: NDArray[numpy.complex128] = inverse @ products @ inverse.conj().T
     return cleared
@@ -146,7 +146,8 @@ def emptied(front: Front) -> float:
 
 
 def part_over_paths(domain: CodeDomain, pilot: PilotResponse) -> float:
-    """The cell's part of all power: 1 - left / all, where all is what is left in the chips with what arrives of it."""
+    """Returns the cell's share of all power: 1 - left / all, where all is what is left in the chips and what arrives of
+    it."""
     used = domain.used  # the pilot's row first
     correlations = row_correlations(2 * WIDTH)[[row.row for row in used]]
     powers = numpy.array([ratio_of(row.db) for row in used]) / pilot.gains(correlations)

@@ -1,7 +1,8 @@
-"""The pulse after its matched filter, at whole chips: how much of its neighbours a chip holds, and how fast it changes.
+"""The pulse after its matched filter, at whole chips: how much of its neighbors a chip contains, and how fast it
+changes.
 
 The standard's pulse (7.1.3.1.10) isn't free of interference between chips: after the matched filter R(k) isn't 0 at
-whole chips k. The squares of these sides are 2.27 % of a chip's power, which are the transmitter's own, and no error
+whole chips k. The squares of these sides are 2.27 % of a chip's power. They belong to the transmitter, and are no error
 of it.
 """
 
@@ -32,7 +33,8 @@ class MatchedPulse(NamedTuple):
 
     @property
     def steepness(self) -> float:
-        """The sum of R'(k)^2: what the slopes' filter makes of a chip that comes late by 1, turned round."""
+        """Returns the sum of R'(k)^2: the output of the slopes' filter, with opposite sign, for a chip that is late by
+        1."""
         return float(numpy.sum(self.slopes**2))
 
 
@@ -59,7 +61,8 @@ def matched_at_halves(count: int) -> NDArray[numpy.float64]:
 
 
 def slopes_of(chips: NDArray[numpy.complex64]) -> NDArray[numpy.complex64]:
-    """sum_k x(n + k) R'(k) for each chip that has SLOPES_REACH neighbours to each side: so many fewer at both ends."""
+    """Returns sum_k x(n + k) R'(k) for each chip that has SLOPES_REACH neighbors to each side: fewer by that at both
+    ends."""
     taps = matched_pulse().slopes.astype(numpy.float32)
     count = len(chips) - 2 * SLOPES_REACH
     out = numpy.zeros(count, dtype=numpy.complex64)

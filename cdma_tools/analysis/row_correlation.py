@@ -1,9 +1,9 @@
-"""What a cell's chips have in common with those some chips later, which come over another path at the same instant.
+"""The correlation of a cell's chips with later ones, which come over another path at the same instant.
 
 Chips of a code of a finite period aren't independent: over a period the products c(n) conj c(n + m) W_r(n) W_r(n + m)
 of a row's chips within one symbol, where its sign is in both, add up to 2 N rho_r(m). These are 0.004 of what one chip
 has for the pilot, and up to 0.013 for other rows. They are the same in every period, so a longer recording doesn't
-lessen them. Chips of two symbols, and of two rows, have signs of their own, and nothing in common on the average.
+lessen them. Chips of two symbols, and of two rows, have independent signs, and nothing in common on average.
 """
 
 import functools
@@ -40,7 +40,7 @@ def row_correlations(most: int) -> NDArray[numpy.complex128]:
 
 
 def between(correlation: NDArray[numpy.complex128], delays: NDArray[numpy.int64]) -> NDArray[numpy.complex128]:
-    """The matrix rho((t - t') / 2) of delays t and t' in half chips, 0 where they aren't whole chips apart."""
+    """Returns the matrix rho((t - t') / 2) of delays t and t' in half chips, 0 if they aren't whole chips apart."""
     apart = delays[:, None] - delays
     ahead = correlation[numpy.abs(apart) // 2]
     matrix: NDArray[numpy.complex128] = numpy.where(apart < 0, ahead.conj(), ahead)

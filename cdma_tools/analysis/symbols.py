@@ -1,9 +1,9 @@
-"""What a cell sends, row by row and symbol by symbol, as far as it was heard.
+"""What a cell sends, row by row and symbol by symbol, as far as it was received.
 
-A cell's chips are despread over all its paths, which are added by the pilot's gains as a rake does: y is then a row's
-amplitude against the pilot's times its symbol, and noise of N = E|n|^2 in a block. A row's amplitude a is that of its
-power control group, since rows change their power from frame to frame, and frames begin at any group. The level that is
-sent is a tanh(2 a y / N): the mean of a s over both symbols, as sure as each is.
+A cell's chips are despread over all its paths, which are combined by the pilot's gains as in a rake. Then y is a row's
+amplitude relative to the pilot's times its symbol, with noise of N = E|n|^2 in a block. A row's amplitude a is that of
+its power control group, since rows change their power from frame to frame, and frames begin at any group. The level
+that is sent is a tanh(2 a y / N): the mean of a s over both symbols, weighted by their probabilities.
 """
 
 from dataclasses import dataclass
@@ -41,7 +41,8 @@ LEVEL_BYTES = 4
 
 
 def best_window(pilot: NDArray[numpy.complex64]) -> int:
-    """The blocks over which the pilot's gain is best averaged: those round a block tell it best without itself."""
+    """Returns the number of blocks over which the pilot's gain is best averaged: those around a block predict it best.
+    """
     errors = []
     windows = [width for width in WINDOWS if 3 * width < len(pilot)] or [WINDOWS[0]]
     for width in windows:
@@ -70,7 +71,7 @@ class Symbols:
         return self.base + self.blocks * ROWS
 
     def levels(self, block: int, count: int) -> NDArray[numpy.float32]:
-        """The levels (64, count) of blocks from one on, zeros where there are none."""
+        """Returns the levels (64, count) of blocks from one on, with zeros for missing ones."""
         out = numpy.zeros((count, ROWS), dtype=numpy.float32)
         low, high = max(block, 0), min(block + count, self.blocks)
         if low < high:
@@ -87,7 +88,8 @@ class Symbols:
             raise Refused(f"no room for {self.blocks * ROWS * LEVEL_BYTES:,} bytes in the temporary folder")
 
     def chips(self, first: int, count: int) -> NDArray[numpy.complex64]:
-        """Chips `first` to first + count - 1 as each path has them, (paths, count), zeros where there are none."""
+        """Returns chips `first` to first + count - 1 as each path has them, (paths, count), with zeros for missing
+        ones."""
         low = (first - self.base) // ROWS
         size = -(-(first + count - self.base) // ROWS) - low
         step = GROUPS_AT_ONCE * GROUP_BLOCKS
@@ -134,7 +136,8 @@ class Powers:
     four: NDArray[numpy.float64]
 
     def means(self) -> tuple[NDArray[numpy.float64], NDArray[numpy.float64]]:
-        """Each row's mean power, groups weighted as sure as they are, and by how many deviations it stands out."""
+        """Returns each row's mean power, with groups weighted by their certainty, and the deviations by which it stands
+        out."""
         weight = GROUP_BLOCKS / numpy.maximum(self.noise, 1e-12) ** 2
         total = weight @ self.rows / weight.sum()
         total[SYNC_ROW] = weight @ self.four / weight.sum()
@@ -143,7 +146,8 @@ class Powers:
         return total, sigma
 
     def amplitudes(self, rows: list[int]) -> NDArray[numpy.float64]:
-        """The amplitudes of rows in groups, (groups, rows): the mean, and changes as far as they stand out of noise."""
+        """Returns the amplitudes of rows in groups, (groups, rows): the mean, and changes as far as they stand out of
+        noise."""
         total, _ = self.means()
         noise = numpy.maximum(self.noise, 1e-12)[:, None]
         weight = GROUP_BLOCKS / noise**2
@@ -168,7 +172,7 @@ def combined(fingers: list[NDArray[numpy.complex64]], gains: NDArray[numpy.compl
 
 
 def heard(front: Front, piece: Piece, ways: list[Way], file: IO[bytes]) -> Symbols | None:
-    """Hears a piece of a cell's chips over its paths; none where it has no whole group. The levels go to a file."""
+    """Receives a piece of a cell's chips over its paths; None if it has no whole group. The levels go to a file."""
     gains = gains_of(front, piece, ways)
     if not gains.shape[1]:
         return None
@@ -192,7 +196,7 @@ def heard(front: Front, piece: Piece, ways: list[Way], file: IO[bytes]) -> Symbo
 
 
 def decide(symbols: Symbols, powers: Powers) -> None:
-    """Writes the levels that are sent over what was heard."""
+    """Replaces what was received by the levels that are sent."""
     _, sigma = powers.means()
     symbols.used = [PILOT_ROW] + [row for row in range(1, ROWS) if sigma[row] > LEAST_SIGMA]
     rows = symbols.used[1:]

@@ -1,9 +1,10 @@
-"""A cell's waveform in a recording, made of the symbols that were heard of it, and taken off the raw samples.
+"""A cell's waveform in a recording, made from the symbols that were received of it, and subtracted from the raw
+samples.
 
-It is the front's way back: a block of chips is transformed, repeated to the width of the raw samples, multiplied by
-the pulse's response and a linear phase, and transformed to raw samples. Each path has three copies, half a chip apart,
-which make up for what its delay is off; the gains of all copies are those of least squares in windows of 6,144 chips,
-and are drawn straight from one window's middle to the next one's.
+It is the front's way back: a block of chips is transformed, repeated to the width of the raw samples, multiplied by the
+pulse's response and a linear phase, and transformed to raw samples. Each path has three copies, half a chip apart,
+which compensate the error of its delay. The gains of all copies are those of least squares in windows of 6,144 chips,
+and are linear from one window's middle to the next one's.
 """
 
 import math
@@ -34,7 +35,7 @@ GAIN_STEP = 64
 
 
 class Span(NamedTuple):
-    """Raw samples first to behind - 1."""
+    """Raw samples from `first` to before `behind`."""
 
     first: int
     behind: int
@@ -48,7 +49,7 @@ class Copy(NamedTuple):
 
 
 class Waves:
-    """What a piece of a cell's chips is in raw samples."""
+    """A piece of a cell's chips in raw samples."""
 
     def __init__(self, front: Front, fit: Fit, symbols: Symbols, ways: list[Way]) -> None:
         self.front, self.fit, self.symbols = front, fit, symbols
@@ -128,7 +129,7 @@ class Fitted(NamedTuple):
 
 
 def least_squares(rows: NDArray[numpy.complex64], samples: NDArray[numpy.complex64], middle: float) -> Fitted | None:
-    """The gains with which rows come nearest to the samples; none where there is nothing in them."""
+    """Returns the gains with which rows come nearest to the samples; None if there is nothing in them."""
     gram = rows.conj() @ rows.T
     level = float(numpy.trace(gram).real) / len(gram)
     if level < 1e-3 * rows.shape[1]:
@@ -158,7 +159,7 @@ class Wave(NamedTuple):
 
 
 def waveform(waves: Waves, recording: KeptSamples, part: KeptSamples) -> Iterator[Wave]:
-    """What of a recording, with the part that was taken off it before, a cell's waves are: some of it at a time.
+    """Yields a cell's waves in a recording, from which its part was subtracted before, some of it at a time.
 
     What is yielded may be written over the samples at once: the next windows' have been read by then, or come later.
     """

@@ -33,7 +33,7 @@ def walsh_transform(columns: NDArray[numpy.float32]) -> NDArray[numpy.float32]:
 
 
 def moving(values: NDArray[Any], width: int) -> NDArray[Any]:
-    """The mean of so many neighbours along the first axis, of fewer at the ends, in double precision."""
+    """Returns the mean of `width` neighbors along the first axis, of fewer at the ends, in double precision."""
     kind = numpy.result_type(values, float)
     sums = numpy.concatenate([numpy.zeros_like(values[:1], dtype=kind), numpy.cumsum(values, axis=0, dtype=kind)])
     at = numpy.arange(len(values))

@@ -1,17 +1,17 @@
-"""Runs the built program on damaged inputs that it makes itself, and fails where a run doesn't end as it has to.
+"""Runs the built program on damaged inputs that it makes itself, and fails if a run doesn't end as it must.
 
-Sample files and scripts are cut off, have bits turned, bytes added, bytes taken out or lines exchanged. Of each run:
-the exit status is one that the command has, standard error holds just that status's line, nothing is written of a
-script or a header with a fault, and of a file that is cut off at any byte just a beginning of what the whole file
-gives; with bytes after its samples, all of it. Build the program first, as by `(cd crates/cdma_replay && rt run --
-find < ../../examples/pilot_in_noise.is95)`.
+Sample files and scripts are cut off, or have bits inverted, bytes added or removed, or lines exchanged. Each run must
+end with a status that the command has, and write exactly that status's line on standard error. Nothing may be written
+for a script or a header with a fault. For a file that is cut off at any byte, the output must be the beginning of the
+complete file's, and for one with bytes after its samples all of it. Build the program first, for example with `(cd
+crates/cdma_replay && rt run -- find < ../../examples/pilot_in_noise.is95)`.
 
     tools/hostile --count 1000
     tools/hostile --tools --count 10000
 
---tools tries the tools in place of the program: each run is a tool with random arguments, metadata and bytes, and has
-to end within 60 seconds of a processor with a status that the tool's --help names, without a traceback, with one line
-that says why where it isn't 0, and with nothing half written. `tools/starve` lets each allocation fail.
+--tools tries the tools instead of the program. Each run is a tool with random arguments, metadata and bytes. It must
+end within 60 processor seconds with a status that the tool's --help names, without a traceback, with one line that
+gives the reason if the status isn't 0, and with nothing half written. `tools/starve` makes each allocation fail.
 
 Exit status: 0 no fault, 1 some, 2 wrong arguments.
 """
@@ -52,7 +52,7 @@ FRAMES = (
 
 
 def cell(samples: int) -> str:
-    """The first lines of a script of so many samples."""
+    """Returns the first lines of a script of `samples` samples."""
     return f"cell pn=511 time=1000 lc=20000000000 checks=0\nlink re=0 im=-3 start=0 samples={samples}\npilot gain=100\n"
 
 
@@ -95,14 +95,14 @@ class Hostile:
         return header(1, 0, count) + bytes(draw.randrange(256) for _ in range(4 * count))
 
     def whole(self, words: list[str], data: bytes) -> bytes:
-        """What a run over a whole file writes."""
+        """Returns the output of a run over a complete file."""
         status, text, said = run(self.program, words, data)
         if status not in (0, 1):
             raise AssertionError(f"{' '.join(words)}: status {status}, {said!r}")
         return text
 
     def ends(self, case: str, words: list[str], data: bytes, statuses: set[int]) -> tuple[int, bytes, str]:
-        """What a run wrote that ends with one of these statuses, and says so."""
+        """Returns the output of a run that must end with one of these statuses and its line."""
         status, text, said = run(self.program, words, data)
         self.statuses[words[0], status] += 1
         if status not in statuses or not re.fullmatch(LINES[status], said):
@@ -165,7 +165,7 @@ class Hostile:
             raise AssertionError(f"{case}: {len(made)} bytes")
 
     def case(self, number: int) -> str | None:
-        """The fault of a case, None where there is none."""
+        """Returns the fault of a case, or None."""
         draw = random.Random(f"{self.seed}/{number}")
         name = f"case {number} of seed {self.seed}"
         try:
@@ -204,7 +204,7 @@ def faults_of(case: Callable[[int], str | None], count: int) -> list[str]:
 
 
 def runs_of_tools(count: int, seed: int) -> tuple[list[str], Counter[tuple[str, int]]]:
-    """The faults of so many runs of tools, and how they ended."""
+    """Returns the faults of `count` runs of tools, and how they ended."""
     statuses: Counter[tuple[str, int]] = Counter()
     faults = []
     with open(os.path.join(EXAMPLES, "frames_9600.script"), "rb") as file:
@@ -217,7 +217,7 @@ def runs_of_tools(count: int, seed: int) -> tuple[list[str], Counter[tuple[str, 
 
 
 def main(arguments: list[str] | None = None) -> int:
-    """Runs the tool, and answers its exit status."""
+    """Runs the tool, and returns its exit status."""
     options = parser().parse_args(arguments)
     if options.tools:
         count, kind = options.count or 1_000, "runs of tools"

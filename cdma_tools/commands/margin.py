@@ -89,8 +89,8 @@ def parser() -> argparse.ArgumentParser:
 
 @dataclasses.dataclass(frozen=True)
 class Heard:
-    """What a command of the program hears, and how: the span of its search, the Walsh rows of its channels but the
-    pilot's, and the number of its fingers.
+    """Reception of a command of the program: the span of its search, the Walsh rows of its channels but the pilot's,
+    and the number of its fingers.
 
     `rows` is None if no command is given: all channels are meant.
     """
@@ -121,10 +121,10 @@ def read_option(name: str, kind: Within, value: str) -> int:
 
 
 def heard_by(command: list[str], span: int, script: Script) -> Heard:
-    """Returns what a command hears of a script's cell.
+    """Returns what a command receives from a script's cell.
 
-    Options that name neither a channel nor a span are passed over with their values. Without --paging, the first paging
-    channel is meant if it is sent. Refused if the command hears no cell.
+    Options that name neither a channel nor a span are ignored with their values. Without --paging, the first paging
+    channel is meant if it is sent. Raises Refused if the command receives no cell.
     """
     if not command:
         return Heard(span)
@@ -195,7 +195,8 @@ def cell_of(text: str, name: str) -> Cell:
 
 
 def report(path: str, command: list[str], options: argparse.Namespace, is_json: bool) -> str:
-    """Returns the report on a script and what a command hears of it; Refused if there is nothing to report."""
+    """Returns the report on a script and what a command receives from it; raises Refused if there is nothing to report.
+    """
     name = "standard input" if path == "-" else path
     text = script_text(path, name)
     script, cell = read_script(text, name), cell_of(text, name)
@@ -212,7 +213,7 @@ def report(path: str, command: list[str], options: argparse.Namespace, is_json: 
 
 
 def rows_of(script: Script, cell: Cell, heard: Heard) -> list[Margin]:
-    """Returns the margins of the channels that are heard, after that of the search; Refused if one bears no noise."""
+    """Returns the margins of the received channels, after that of the search; raises Refused if one bears no noise."""
     channels = margins(script, heard.rows)
     return [search_margin(script, cell, heard.span), *channels]
 

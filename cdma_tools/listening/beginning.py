@@ -1,7 +1,7 @@
-"""Where a run of `follow` may begin: where the pilot is strong enough for the program to find it.
+"""Chips at which a run of `follow` may begin: those at which the pilot is strong enough for the program to find it.
 
-The program searches the pilot in a run's first 2,048 chips, and sets its fingers there. Within a fade it would find
-noise, and hear nothing in all of its run.
+The program searches the pilot in a run's first 2,048 chips, and sets its fingers there. In a fade it would find noise,
+and decode nothing in all of its run.
 """
 
 import numpy
@@ -41,7 +41,8 @@ def correlations(
 
 
 def strong_stretch(chips: NDArray[numpy.complex64], first: int) -> int | None:
-    """How many chips after `first` a stretch begins in which the pilot isn't faded; None where it is in all of them."""
+    """Returns the chips after `first` at which a stretch begins in which the pilot isn't faded; None if it is in all of
+    them."""
     sums, noise = correlations(chips, first)
     energy = (numpy.abs(sums) ** 2).min(axis=1)
     is_strong = energy > STRONG * energy.mean()
@@ -65,7 +66,7 @@ class Beginning:
         self.is_again = False  # whether a run found noise
 
     def next(self, kept: KeptChips, end: int) -> int | None:
-        """The next chip at which a run may begin, by the chips up to `end`; None where more have to come first."""
+        """Returns the next chip at which a run may begin, by the chips up to `end`; None if more must come first."""
         self.place = max(self.place, kept.first)
         while self.place + START <= end:
             stretch = strong_stretch(kept.samples(self.place, START), self.place)

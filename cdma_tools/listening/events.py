@@ -1,4 +1,4 @@
-"""What is heard: lines of the program with the chip at which each was known, and remarks about the recording."""
+"""Events: lines of the program with the chip at which each was known, and remarks about the recording."""
 
 import re
 from dataclasses import dataclass
@@ -9,9 +9,9 @@ AT = re.compile(r" at=(\d+)")
 
 @dataclass(frozen=True)
 class Event:
-    """A line that a run told, and the number of the chip at which it was known.
+    """A line that a run wrote, and the number of the chip at which it was known.
 
-    A line that has no `at`, as that of the pilot, was known at the first chip of its run.
+    A line without `at`, such as that of the pilot, was known at the first chip of its run.
     """
 
     chip: int
@@ -29,14 +29,14 @@ class Event:
 
 @dataclass(frozen=True)
 class Remark:
-    """What else a user should know, and the second of the recording at which it was so."""
+    """A remark for the user, and the second of the recording to which it applies."""
 
     seconds: float
     text: str
 
 
 class Listener(Protocol):
-    """Who is told what is heard."""
+    """A consumer of events and remarks."""
 
     def begin(self, origin: int) -> None:
         """Takes the number of the chip at the stream's start, before any line."""
@@ -49,10 +49,10 @@ class Listener(Protocol):
 
 
 class Collected:
-    """A listener that keeps what it is told."""
+    """A listener that keeps what it gets."""
 
     def __init__(self) -> None:
-        """Nothing was told."""
+        """An empty listener."""
         self.events: list[Event] = []
         self.remarks: list[Remark] = []
 

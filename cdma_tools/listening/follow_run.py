@@ -58,7 +58,7 @@ class Handset:
 
 @dataclass(frozen=True)
 class Sets:
-    """The pilot sets as a run's last line told them: offset and row of each active pilot, and the candidates."""
+    """The pilot sets in a run's last line: offset and row of each active pilot, and the candidates."""
 
     active: tuple[tuple[int, int], ...] = ()
     candidates: tuple[int, ...] = ()
@@ -87,7 +87,7 @@ class FollowRun:
     """A process that follows a handset through chips from number `begin` on."""
 
     def __init__(self, handset: Handset, begin: int) -> None:
-        """Starts it, with a header for as many samples as a file may have; refuses where that can't be."""
+        """Starts it, with a header for as many samples as a file may have; raises Refused if it can't be started."""
         self.handset, self.begin, self.end = handset, begin, begin
         self.told: list[Event] = []  # lines that came and weren't taken yet
         self.sets: list[tuple[int, Sets]] = []
@@ -122,7 +122,7 @@ class FollowRun:
         self.lines.put(None)
 
     def write(self, data: bytes) -> None:
-        """Gives bytes to the process; refuses where it has ended."""
+        """Gives bytes to the process; raises RunEnded if it has ended."""
         assert self.process.stdin is not None
         try:
             self.process.stdin.write(data)
@@ -146,20 +146,20 @@ class FollowRun:
             self.end = chips.first + high
 
     def poll(self) -> None:
-        """Takes the lines that are there."""
+        """Takes the lines that have come."""
         with contextlib.suppress(queue.Empty):
             while self.take(self.lines.get_nowait()):
                 pass
 
     def wait_past(self, chip: int, seconds: float) -> None:
-        """Takes lines until one that was known after a chip has come, or none has come for so many seconds."""
+        """Takes lines until one that was known after a chip has come, or none has come for `seconds`."""
         with contextlib.suppress(queue.Empty):
             while self.last is None or self.last <= chip:
                 if not self.take(self.lines.get(timeout=seconds)):
                     return
 
     def wait_pilot(self, seconds: float) -> None:
-        """Takes lines until the one of the pilot has come, or none has come for so many seconds."""
+        """Takes lines until the one of the pilot has come, or none has come for `seconds`."""
         with contextlib.suppress(queue.Empty):
             while self.phase is None and self.take(self.lines.get(timeout=seconds)):
                 pass
@@ -181,11 +181,11 @@ class FollowRun:
         return True
 
     def sets_at(self, chip: int) -> Sets | None:
-        """The pilot sets as they were at a chip, where a line has told them."""
+        """Returns the pilot sets at a chip, if a line has them."""
         return next((sets for at, sets in reversed(self.sets) if at <= chip), None)
 
     def close(self) -> None:
-        """Gives it no more chips, and takes all that is left to say; refuses where it didn't end well."""
+        """Gives it no more chips, and takes all lines that are left; raises RunEnded if it failed."""
         assert self.process.stdin is not None
         with contextlib.suppress(BrokenPipeError):
             self.process.stdin.close()
@@ -219,7 +219,7 @@ class FollowRun:
 
 
 def sets_of(text: str) -> Sets:
-    """The pilot sets of a line that tells them."""
+    """Returns the pilot sets in a line."""
     try:
         read = read_line(text)
     except NoLine as why:

@@ -1,8 +1,8 @@
-"""Where between chips a stream's instants lie: by the pilot's mean energies over delays, of all that was heard so far.
+"""The instants of a stream between chips: by the pilot's mean energies over delays, of all that was received so far.
 
 The lock of a file chooses one constant by the mean energies of the whole recording. A stream can't, and over paths that
-fade close to each other the first second tells it badly: so it chooses in the same way, by what was heard so far, and
-moves its instants there so slowly that no chip jumps and a receiver's fingers hold what they were set to.
+fade close to each other the first second is a bad guide. So it chooses in the same way, by what was received so far,
+and moves its instants there so slowly that no chip jumps and a receiver's fingers keep their settings.
 """
 
 import numpy
@@ -22,7 +22,7 @@ class Instants:
     """The mean energies over delays from the path that is followed, and the delay that they choose."""
 
     def __init__(self, fit: Fit, has_equaliser: bool, fingers: int) -> None:
-        """By the first points, for a receiver of so many fingers."""
+        """Begins with the first points, for a receiver of `fingers` fingers."""
         self.has_equaliser, self.fingers = has_equaliser, fingers
         self.energies, self.count = fit.profile, len(fit.chip)
         self.last = float(fit.chip[-1])  # the chip of the last point that counts

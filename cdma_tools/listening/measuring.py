@@ -1,4 +1,4 @@
-"""What the lock that streams takes, and what it gives: run as a process of its own, so that its memory is its own.
+"""Measures what the lock that streams takes and gives, in a process of its own, so that its memory is its own.
 
     python3 -m cdma_tools.listening.measuring KIND RATE RECORDING FILE FINGERS
 

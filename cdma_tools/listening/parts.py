@@ -1,12 +1,12 @@
-"""A recording in parts, which are listened to by themselves, and their lines as those of one recording.
+"""A recording in parts, which are processed by themselves, and their lines as those of one recording.
 
 Part k owns the lines from its beginning to the next part's. It is locked from up to a minute before, and a little
 longer than it lasts. Its chips have numbers of their own, which differ from those of the part before by a multiple of
-the code's period: the time that both parts give to a chip tells by which. So the parts, and what is heard in them, are
-the same whether one process does them or many.
+the code's period; the time that both parts give to a chip determines it. So the parts, and what is received in them,
+are the same whether one process does them or many.
 
-A part's traffic channel begins on the row that the part before tells. Parts begin before that is known, on the row that
-is given; where it turns out to be another one at the part's beginning, the part is listened to again.
+A part's traffic channel begins on the row in which the part before ends. Parts begin before that is known, on the given
+row; if it turns out to be another one at the part's beginning, the part is processed again.
 """
 
 import math
@@ -42,7 +42,7 @@ class Recording:
 
     @property
     def seconds(self) -> float:
-        """How long it lasts."""
+        """Returns its length in seconds."""
         return self.count / self.lock.rate
 
 
@@ -65,7 +65,7 @@ class Part:
 
 @dataclass(frozen=True)
 class PartHeard:
-    """What was heard in a part, by the part's own numbers of chips; `origin` is the one at the recording's start."""
+    """What was received in a part, by the part's own numbers of chips; `origin` is the one at the recording's start."""
 
     events: list[Event]
     remarks: list[Remark]
@@ -76,7 +76,7 @@ class PartHeard:
 
 
 def parts_of(recording: Recording, seconds: float = PART, lead: float = LEAD) -> list[Part]:
-    """The parts of a recording, each so many seconds long but for the last one, which isn't shorter."""
+    """Returns the parts of a recording, each of `seconds` but for the last one, which isn't shorter."""
     count = max(1, int(recording.seconds // seconds))
     parts = []
     for number in range(count):
@@ -90,7 +90,7 @@ def parts_of(recording: Recording, seconds: float = PART, lead: float = LEAD) ->
 
 
 def part_at(parts: list[Part], at: int) -> int:
-    """The number of a part that has begun where `at` chips have come, however wrong the radio's clock is."""
+    """Returns the number of a part that has begun when `at` chips have come, however wrong the radio's clock is."""
     seconds = at / CHIP_RATE * (1 - CLOCK_MARGIN) - 1
     return max([0, *(part.number for part in parts if part.begin <= seconds)])
 
@@ -117,7 +117,7 @@ def hear_part(recording: Recording, handset: Handset, part: Part) -> PartHeard:
 
 
 def chip_at(anchors: list[Anchor], time: float) -> float:
-    """The number of the chip at a nominal time of the recording, by the anchors round it."""
+    """Returns the number of the chip at a nominal time of the recording, by the anchors around it."""
     if len(anchors) == 1:
         return anchors[0].chip + time - anchors[0].time
     number = min(max(bisect_right([anchor.time for anchor in anchors], time) - 1, 0), len(anchors) - 2)
@@ -126,20 +126,20 @@ def chip_at(anchors: list[Anchor], time: float) -> float:
 
 
 def times_of(events: list[Event]) -> Iterator[tuple[Event, SystemTime]]:
-    """The sync messages, each with the time that it tells."""
+    """Yields the sync messages, each with its time."""
     for event in events:
         if time := time_told(event):
             yield event, time
 
 
 def offset_at(events: list[Event], chip: int) -> int | None:
-    """PILOT_PN as the last sync message up to a chip told it; None where there was none."""
+    """Returns PILOT_PN of the last sync message up to a chip; None if there was none."""
     before = [event for event in reversed(events) if event.chip <= chip]
     return next((time.offset for _, time in times_of(before)), None)
 
 
 def row_at(events: list[Event], chip: int, offset: int | None) -> int | None:
-    """The row on which the pilot of an offset sends the traffic channel at a chip; None where no line told it."""
+    """Returns the row on which the pilot of an offset sends the traffic channel at a chip; None if no line has it."""
     for event in reversed(events):
         if event.kind == "sets" and event.chip <= chip:
             rows = [row for pn, row in sets_of(event.line).active if pn == offset]
@@ -159,9 +159,9 @@ class Joined:
 
 
 class Joiner:
-    """Joins what was heard in parts, one after the other.
+    """Joins what was received in parts, one after the other.
 
-    Chips have the numbers of the first part in which a pilot was heard; `origin` is the one at the recording's start.
+    Chips have the numbers of the first part in which a pilot was found; `origin` is the one at the recording's start.
     """
 
     def __init__(self, row: int | None) -> None:
@@ -176,7 +176,7 @@ class Joiner:
         self.told: dict[int, int] = {}  # of sync messages that stand already: `at` by SYS_TIME
 
     def resume(self, part: Part, times: dict[int, int], sets: list[Event], offset: int) -> None:
-        """Goes on with a part, where lines that stand already tell times and the pilot sets, by `at`."""
+        """Continues with a part, if existing lines have times and the pilot sets, by `at`."""
         self.told, self.events, self.offset = times, sets, offset
         heard_from, begin = (round(seconds * CHIP_RATE) for seconds in (part.heard_from, part.begin))
         self.first_row = row_at(sets, heard_from, offset) or self.row
@@ -184,7 +184,7 @@ class Joiner:
         self.seam = begin
 
     def can_resume(self, heard: PartHeard) -> bool:
-        """Whether a part tells one of those times too, and so the chip at the recording's start; takes note of it."""
+        """Whether a part has one of those times too, and so the chip at the recording's start; notes it."""
         own = [event.chip - self.told[time.told] for event, time in times_of(heard.events) if time.told in self.told]
         if not own or self.seam is None:
             return False
@@ -194,7 +194,7 @@ class Joiner:
         return True
 
     def numbered(self, heard: PartHeard) -> PartHeard:
-        """What was heard, with the recording's numbers of chips."""
+        """Returns what was received, with the recording's numbers of chips."""
         if not heard.anchors:
             return heard
         first = heard.anchors[0]
@@ -211,7 +211,7 @@ class Joiner:
         )
 
     def row_before(self, part: Part) -> int | None:
-        """The row on which a part has to begin, as the parts before tell it."""
+        """Returns the row on which a part must begin, by the parts before."""
         if part.is_first or not self.anchors:
             return self.first_row
         begin = round(chip_at(self.anchors, part.heard_from * CHIP_RATE))
@@ -219,7 +219,7 @@ class Joiner:
         return self.first_row if told is None else told
 
     def is_on_row(self, heard: PartHeard) -> bool:
-        """Whether a part is on the row at its seam that the parts before tell."""
+        """Whether a part is at its seam on the row of the parts before."""
         if self.seam is None or not heard.events:
             return True
         own = self.numbered(heard)

@@ -1,4 +1,4 @@
-"""What a lock that streams gives, piece by piece."""
+"""The pieces that a lock that streams gives."""
 
 from dataclasses import dataclass
 
@@ -18,7 +18,7 @@ class Chips:
 
 @dataclass(frozen=True)
 class Lost:
-    """Chips that were lost, from number `first` on, at so many seconds of the stream."""
+    """Chips that were lost, from number `first` on, at a second of the stream."""
 
     first: int
     chips: int
@@ -35,7 +35,7 @@ class Break:
 
 @dataclass(frozen=True)
 class Unheard:
-    """No pilot stands out from one second of the stream up to another."""
+    """A time from one second of the stream to another in which no pilot stands out."""
 
     begin: float
     end: float

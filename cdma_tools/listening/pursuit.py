@@ -25,10 +25,10 @@ CODE_TWICE = numpy.concatenate([short_code(), short_code()]).conj()
 
 
 class Pursuit(Tracker):
-    """What is followed from one place found on: the points, and the timing that is fitted to them."""
+    """The points from one place found on, and the timing fitted to them."""
 
     def __init__(self, front: StreamingFront, found: Found, clock: float) -> None:
-        """From the place found on, where the delay has the slope `clock`."""
+        """Begins at the place found, where the delay has the slope `clock`."""
         super().__init__(front, found, 1, clock, lambda _: None)
         self.streaming = front
         self.next = found.phase  # the first chip of the next segment
@@ -38,7 +38,7 @@ class Pursuit(Tracker):
 
     @property
     def unheard(self) -> float:
-        """Chips for which the pilot hasn't been heard."""
+        """Returns the number of chips for which the pilot hasn't been received."""
         return self.next - self.heard
 
     @property
@@ -91,7 +91,7 @@ class Pursuit(Tracker):
         return sums
 
     def heard_points(self, chip: float) -> list[Point]:
-        """The heard points that count at a chip; the last heard one where there is none."""
+        """Returns the received points that count at a chip, the last received one if there is none."""
         heard = [point for point in self.points if point.snr]
         return [point for point in heard if point.chip > chip - KEPT] or heard[-1:]
 
@@ -106,11 +106,11 @@ class Pursuit(Tracker):
             self.points.pop(0)
 
     def fit(self, has_equaliser: bool, fingers: int) -> Fit:
-        """A fit of all points, as the lock of a whole file makes it; its instants are chosen for so many fingers."""
+        """Returns a fit of all points, as the lock of a whole file makes it, with instants for `fingers` fingers."""
         return Fit(self.front.carrier, self.points, has_equaliser, fingers)
 
     def fit_at_loss(self, has_equaliser: bool, fingers: int) -> Fit:
-        """A fit of the last points that were heard."""
+        """Returns a fit of the last points that were received."""
         heard = [point for point in self.points if point.snr][-POINTS_A_LOSS:]
         return Fit(self.front.carrier, heard, has_equaliser, fingers)
 

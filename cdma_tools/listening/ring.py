@@ -16,12 +16,12 @@ class Ring:
     """Samples as they came, numbered from the stream's start; those before `keep` may be forgotten.
 
     They stay in their own type in one array, whose needed part is moved to its front when it is full. The middle of an
-    unsigned converter isn't taken away, since a front empties each block's bin of direct current. Numbers that aren't
-    finite count as 0, and `damaged` tells how many there were.
+    unsigned converter isn't subtracted, since a front empties each block's bin of direct current. Numbers that aren't
+    finite count as 0, and `damaged` counts them.
     """
 
     def __init__(self, kind: str, rate: float) -> None:
-        """An empty ring for samples of a type, so many a second."""
+        """An empty ring for samples of a type, at `rate` samples per second."""
         self.kind, self.rate = TYPES[kind], float(rate)
         self.data: NDArray[Any] = numpy.empty(2 * int(ROOM_SECONDS * rate), dtype=self.kind.form)
         self.base = self.count = self.keep = self.damaged = 0
@@ -43,7 +43,8 @@ class Ring:
         self.count += len(block) // 2
 
     def make_room(self, parts: int) -> int:
-        """Makes room for so many parts, by forgetting what isn't needed or by growing; tells the place of the first."""
+        """Makes space for `parts` parts, by forgetting what isn't needed or by growing; returns the place of the first.
+        """
         used = 2 * (self.count - self.base)
         if used + parts <= len(self.data):
             return used
@@ -56,13 +57,13 @@ class Ring:
         return len(kept)
 
     def skip(self, count: int) -> None:
-        """Forgets all samples, and leaves out so many of the stream from here on."""
+        """Forgets all samples, and leaves out `count` samples of the stream from here on."""
         self.count += count
         self.base = self.keep = self.count
         self.rest = b""
 
     def read(self, first: int, count: int) -> NDArray[numpy.complex64]:
-        """Samples first to first + count - 1; the middle of the range where there are none."""
+        """Returns samples first to first + count - 1, with the middle of the range for missing ones."""
         parts = numpy.full(2 * count, self.kind.middle, dtype=numpy.float32)
         low, high = max(first, self.base), min(first + count, self.count)
         if low < high:
@@ -77,7 +78,7 @@ class Ring:
         return self.complex_of(windows[2 * (firsts - self.base)].astype(numpy.float32))
 
     def complex_of(self, parts: NDArray[numpy.float32]) -> NDArray[numpy.complex64]:
-        """Complex numbers of parts, conjugate where the spectrum is inverted."""
+        """Returns complex numbers of parts, conjugate if the spectrum is inverted."""
         samples = parts.view(numpy.complex64)
         return numpy.conj(samples, out=samples) if self.is_conjugate else samples
 
@@ -87,7 +88,7 @@ class Ring:
 
 
 class Window:
-    """So many samples of a ring as a recording of their own, as acquisition looks at the whole of one."""
+    """A stretch of a ring as a recording of its own, since acquisition looks at the whole of one."""
 
     def __init__(self, ring: Ring, first: int, count: int) -> None:
         """Samples first to first + count - 1 of the ring."""

@@ -1,4 +1,4 @@
-"""Where one run of `follow` gives over to the next, and where that one begins.
+"""Chips at which one run of `follow` hands over to the next, and at which that one begins.
 
 Counted from a handset's mark, paging messages, frames and moments of the pilot sets end at multiples of 512 chips; so
 do frames of the sync channel, counted from the pilot's own code. A finger adds up to 32 chips, and another active pilot
@@ -42,7 +42,7 @@ class KeptChips:
     """The last chips of a stream, from which a run may begin."""
 
     def __init__(self, count: int) -> None:
-        """Keeps so many chips at least."""
+        """Keeps at least `count` chips."""
         self.count, self.pieces = count, deque[Chips]()
 
     @property

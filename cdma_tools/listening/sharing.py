@@ -18,7 +18,7 @@ class Workers(Protocol):
     """Who listens to parts."""
 
     def heard(self, number: int, row: int | None) -> PartHeard:
-        """What is heard in a part whose traffic channel begins on a row, as it seems those of later parts do."""
+        """Returns what is received in a part whose traffic channel begins on a row, as those of later parts seem to."""
 
 
 class Alone:
@@ -30,7 +30,7 @@ class Alone:
         self.last: tuple[tuple[int, int | None], PartHeard] | None = None
 
     def heard(self, number: int, row: int | None) -> PartHeard:
-        """What is heard in a part."""
+        """Returns what is received in a part."""
         if self.last is None or self.last[0] != (number, row):
             self.last = (number, row), hear_part(self.recording, self.handset.on_row(row), self.parts[number])
         return self.last[1]
@@ -45,7 +45,7 @@ class Handed:
         self.under_way: dict[tuple[int, int | None], Any] = {}
 
     def heard(self, number: int, row: int | None) -> PartHeard:
-        """What is heard in a part; those after it are handed out meanwhile."""
+        """Returns what is received in a part; those after it are handed out meanwhile."""
         ahead = AHEAD * max(1, workers_of(self.client))
         for other in range(number, min(number + ahead, len(self.parts))):
             if (other, row) not in self.under_way:
@@ -64,13 +64,13 @@ class Handed:
         return heard
 
     def cancel(self) -> None:
-        """What is under way isn't wanted any more."""
+        """Cancels what is under way."""
         with contextlib.suppress(Exception):
             self.client.cancel(list(self.under_way.values()), force=True)
 
 
 def joined_parts(workers: Workers, parts: list[Part], joiner: Joiner, first: int) -> Iterator[Joined]:
-    """What each part adds, from one of them on."""
+    """Yields what each part adds, from one of them on."""
     for part in parts[first:]:
         heard = workers.heard(part.number, joiner.row_before(part))
         if not joiner.is_on_row(heard):
@@ -79,7 +79,8 @@ def joined_parts(workers: Workers, parts: list[Part], joiner: Joiner, first: int
 
 
 def start_of(parts: list[Part], already: Already, workers: Workers, row: int | None) -> tuple[Joiner, int]:
-    """Where a listening begins, or goes on: at the part in which the last line lies, if that tells the time too."""
+    """Returns the beginning of a listening: the part in which the last existing line lies, if that part has the time
+    too."""
     if already.at is not None and already.offset is not None:
         number = part_at(parts, already.at)
         joiner = Joiner(row)
@@ -93,7 +94,7 @@ def start_of(parts: list[Part], already: Already, workers: Workers, row: int | N
 def workers_for(
     recording: Recording, handset: Handset, parts: list[Part], count: int, scheduler: str | None
 ) -> Iterator[Workers]:
-    """So many workers of this machine, this process where it is one, or those of a scheduler."""
+    """Yields `count` workers of this machine, this process if it is 1, or those of a scheduler."""
     if scheduler is None and count == 1:
         yield Alone(recording, handset, parts)
         return
@@ -108,7 +109,7 @@ def workers_for(
 def hear_recording(
     recording: Recording, handset: Handset, writer: LineWriter, seconds: float, count: int, scheduler: str | None
 ) -> bool:
-    """Listens to a recording, in parts of so many seconds; answers whether a pilot was heard."""
+    """Listens to a recording, in parts of `seconds`; returns whether a pilot was found."""
     parts, is_heard = parts_of(recording, seconds), False
     with workers_for(recording, handset, parts, count, scheduler) as workers:
         joiner, first = start_of(parts, writer.already, workers, handset.row)

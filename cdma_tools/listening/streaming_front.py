@@ -1,7 +1,7 @@
-"""A front for speed: the same filter and the same blocks as `radio.front`, several rows at once.
+"""A fast front: the same filter and the same blocks as `radio.front`, several rows at once.
 
-Phases are products of two short ramps, and no derivative is taken: where the clock is 25 millionths off, a block of
-1,024 chips is off by 0.013 chips at its ends, an error that lies 37 dB below the signal.
+Phases are products of two short ramps, and no derivative is taken. If the clock is 25 millionths off, a block of 1,024
+chips is off by 0.013 chips at its ends, an error 37 dB below the signal.
 """
 
 from typing import cast
@@ -44,7 +44,7 @@ class StreamingFront(Front):
         return spectrum
 
     def kept_bins(self, whole: NDArray[numpy.complex64], top: int) -> NDArray[numpy.complex64]:
-        """The kept bins of whole spectra, round the coarse carrier; one slice unless they wrap round."""
+        """Returns the kept bins of whole spectra, around the coarse carrier; one slice unless they wrap around."""
         begin, count = (self.coarse - top) % self.samples, 2 * top + 1
         if begin + count <= self.samples:
             return whole[:, begin : begin + count]

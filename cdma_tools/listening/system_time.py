@@ -20,7 +20,7 @@ EPOCH = datetime(1980, 1, 6, tzinfo=timezone.utc)
 
 
 def fields_of(event: Event) -> dict[str, Any] | None:
-    """The fields of a line, None where it is none."""
+    """Returns the fields of a line, None if it is not a line."""
     try:
         return read_line(event.line)
     except NoLine:
@@ -29,7 +29,7 @@ def fields_of(event: Event) -> dict[str, Any] | None:
 
 @dataclass(frozen=True)
 class SystemTime:
-    """How chips count in system time: the chip at which it was 0, and the leap seconds by which UTC is behind."""
+    """Chips in system time: the chip at which it was 0, and the leap seconds by which UTC lags."""
 
     base: int
     leap_seconds: int
@@ -44,7 +44,7 @@ class SystemTime:
 
 
 def time_told(event: Event) -> SystemTime | None:
-    """The system time that a line of the sync channel tells; None for any other line."""
+    """Returns the system time in a line of the sync channel, None for any other line."""
     if event.kind != "sync" or (fields := fields_of(event)) is None:
         return None
     reserved = int(fields["rest"].split(":")[0])

@@ -1,6 +1,6 @@
-"""The timing and the carrier of a stream as nodes one after the other, between which both go straight.
+"""The timing and the carrier of a stream as successive nodes, between which both are linear.
 
-A node is fitted to the points round its chip when those are there, and never changes afterwards: so chips can be taken
+A node is fitted to the points around its chip when those have come, and never changes afterwards. So chips can be taken
 at once, and nothing jumps. Times are in nominal chips of the stream, as those of `radio.front`.
 """
 
@@ -33,7 +33,7 @@ class Node(NamedTuple):
 
 
 class Instants(NamedTuple):
-    """Of chips: their nominal times, the carrier there in turns a nominal chip, and its phase in turns."""
+    """Instants of chips: their nominal times, the carrier there in turns per nominal chip, and its phase in turns."""
 
     times: NDArray[numpy.float64]
     rates: NDArray[numpy.float64]
@@ -76,7 +76,7 @@ class Timeline:
         return self.nodes[-1]
 
     def add(self, chip: float, points: list[Point]) -> None:
-        """Adds a node at a chip, by heard points round it; the carrier's phase goes on from the node before."""
+        """Adds a node at a chip, by received points around it; the carrier's phase continues from the node before."""
         x = numpy.array([point.chip for point in points])
         weights = numpy.array([point.snr for point in points])
         offsets = numpy.array([point.time + point.late - point.chip for point in points])
@@ -122,7 +122,7 @@ class Timeline:
         return float(self.at(numpy.array([chip], dtype=float)).times[0])
 
     def slope_at_end(self) -> float:
-        """By how much longer than a nominal chip one lasts, between the last two nodes."""
+        """Returns the excess of a chip's length over a nominal one, between the last two nodes."""
         if len(self.nodes) < 2:
             return self.slope
         before, last = self.nodes[-2:]

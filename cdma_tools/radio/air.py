@@ -30,10 +30,10 @@ EQUALISER_HERTZ = 315_000.0
 
 
 def pulse_spectrum(frequency: ArrayLike) -> NDArray[numpy.float64]:
-    """The baseband filter's response at frequencies in cycles a chip, of the same shape.
+    """Returns the baseband filter's response at frequencies in cycles per chip, of the same shape.
 
-    It is real, since the 48 taps are symmetric and their middle is time 0, and so scaled that a pulse has energy 1
-    at one sample a chip. From 0.8 cycles a chip on it is taken as 0, where the filter has long stopped.
+    It is real, since the 48 taps are symmetric and their middle is time 0, and scaled so that a pulse has energy 1 at
+    one sample per chip. From 0.8 cycles per chip on it is taken as 0, in the filter's stop band.
     """
     taps = numpy.array(HALF_PULSE + HALF_PULSE[::-1])
     cycles = numpy.asarray(frequency, dtype=float)

@@ -1,4 +1,4 @@
-"""Measures what a lock to a recording loses: the cells, their recordings, what is heard of them, and the tables."""
+"""Measures what a lock to a recording loses: the cells, their recordings, what is decoded of them, and the tables."""
 
 import collections
 import json
@@ -43,7 +43,7 @@ TELL_MEMORY = (
 
 
 class Lock(NamedTuple):
-    """A run of the lock: its status, its figures, what it said, and the processor's seconds and MB it took."""
+    """A run of the lock: its status, its figures, its messages, its processor seconds and its memory in MB."""
 
     status: int
     figures: dict[str, str]
@@ -65,7 +65,7 @@ class Bench:
         return os.path.join(self.folder, name)
 
     def run(self, words: list[str], text: bytes = b"", path: str | None = None) -> bytes:
-        """What a command writes, of a text or of a file on standard input."""
+        """Returns the output of a command for a text, or for a file on standard input."""
         with open(path or os.devnull, "rb") as file:
             given: dict[str, Any] = {"stdin": file} if path else {"input": text}
             ran = subprocess.run(words, capture_output=True, timeout=60 * MINUTES, env=self.environment, **given)
@@ -84,7 +84,7 @@ class Bench:
         return path
 
     def heard(self, path: str, words: list[str]) -> collections.Counter[str]:
-        """The messages and frames that a handset hears, each without its place, by their number."""
+        """Counts the messages and frames that a handset decodes, each without its place."""
         lines = self.run([self.program, "follow", *words], path=path).decode("ascii").splitlines()
         told = [line.split(" ", 2) for line in lines if line.startswith(("sync ", "paging ", "frame "))]
         return collections.Counter(f"{kind} {rest}" for kind, _, rest in told if " good=0 " not in f" {rest} ")
@@ -100,10 +100,10 @@ class Bench:
         return path
 
     def lock(self, recording: str, words: list[str], name: str = "lock.is95") -> Lock:
-        """A run of the lock, with what it took.
+        """Runs the lock, and measures what it takes.
 
-        Its memory is told by the process itself at its end: what the system counts for a child begins with what its
-        parent had.
+        The process itself reports its memory at its end, because the system's figure for a child begins with its
+        parent's.
         """
         *python, script = process_arguments("import_capture")
         measured = f"{TELL_MEMORY.format(path=self.at('memory'))}; {script}"
@@ -126,7 +126,7 @@ class Bench:
 
 
 def counts(sent: collections.Counter[str], heard: collections.Counter[str]) -> str:
-    """How many of what was sent was heard: sync messages, paging messages, frames."""
+    """Returns the counts of what was sent and decoded: sync messages, paging messages, frames."""
     both = sent & heard
     return "/".join(
         str(sum(number for line, number in both.items() if line.startswith(kind)))
@@ -135,7 +135,8 @@ def counts(sent: collections.Counter[str], heard: collections.Counter[str]) -> s
 
 
 def signal_to_noise(path: str, cell: str, first: int) -> float:
-    """How well a file's chips are a cell's from its chip `first` on, times a gain that each window fits: dB."""
+    """Returns the ratio in dB of a cell's signal, from its chip `first` on and with a gain for each window, to the rest
+    of a file's chips."""
     got, sent = SampleFile(path), SampleFile(cell)
     count = min(got.count - max(0, -first), sent.count - max(0, first)) // WINDOW
     signal = noise = 0.0
@@ -162,7 +163,7 @@ def phase_of(path: str) -> int:
 
 
 def loss_of(bench: Bench, case: Case, cell: str, found: dict[str, str]) -> str:
-    """By how many dB the locked chips lie below the ideal ones, where the link has one steady path."""
+    """Returns the amount in dB by which the locked chips lie below the ideal ones, if the link has one steady path."""
     if "--paths" in case.link:
         return ""
     first = (int(found["phase"]) - phase_of(cell)) % PERIOD
@@ -172,7 +173,7 @@ def loss_of(bench: Bench, case: Case, cell: str, found: dict[str, str]) -> str:
 
 
 def true_values(case: Case, seconds: float) -> tuple[float, float]:
-    """The carrier and the clock in the middle of a recording of so many seconds."""
+    """Returns the carrier and the clock in the middle of a recording of `seconds`."""
     words = shlex.split(case.link)
     told = {
         words[k]: float(words[k + 1])
@@ -255,7 +256,7 @@ def without_pilot(number: int, count: int) -> NDArray[numpy.complex128]:
 
 
 def print_false_locks(bench: Bench) -> None:
-    """Twenty recordings without a pilot: how many are locked to, and by what the others are refused."""
+    """Prints for twenty recordings without a pilot the number of false locks, and why the others are refused."""
     parts, locks, unheard = [], 0, 0
     for number in bar(range(20), text="without a pilot"):
         samples = without_pilot(number, RATE // 2)
@@ -314,7 +315,7 @@ def print_second_cell(bench: Bench) -> None:
 
 
 def print_times(bench: Bench) -> None:
-    """How long 2 seconds and 27 take."""
+    """Prints the times for 2 and for 27 seconds."""
     cell = CELLS["loud"]
     for seconds, chips in ((2.0, 2 * CHIP_RATE), (27.3, 33_554_432)):
         path = bench.cell(f"loud {seconds}", script_of(cell, samples=chips))
@@ -337,7 +338,7 @@ STREAM_SECONDS, LAST_SECONDS, MINUTE = 12, 4, 60
 
 
 def streamed(bench: Bench, case: Case, recording: str) -> Figures:
-    """The figures of the lock that streams, in a process of its own; its chips stand in stream.is95."""
+    """Returns the figures of the lock that streams, in a process of its own; its chips are in stream.is95."""
     command = [sys.executable, "-B", "-m", "cdma_tools.listening.measuring"]
     words = [case.kind, f"{case.rate:.0f}", recording, bench.at("stream.is95"), str(case.fingers)]
     environment = dict(bench.environment, PYTHONPATH=TOP)
@@ -378,7 +379,7 @@ def stream_row(bench: Bench, case: Case) -> str:
 
 
 def print_minute(bench: Bench) -> None:
-    """What tools/listen takes for a minute, lines and all."""
+    """Prints what tools/listen takes for a minute, including the lines."""
     cell, sent = CELLS["quiet"], bench.at("minute.is95")
     third = MINUTE // 3 * CHIP_RATE  # a file has 27 seconds at most
     scripts = [script_of(cell, third, start=start).encode("ascii") for start in (0, third, 2 * third)]
@@ -421,7 +422,7 @@ def power_of(path: str, level: float) -> Power:
 
 
 def ideal_of(bench: Bench, case: CellsCase, path: str, power: Power, noise: float) -> collections.Counter[str]:
-    """What an ideal receiver hears of one cell alone in the same noise, and paths."""
+    """Counts what an ideal receiver decodes of only one cell, in the same noise and over the same paths."""
     share = decibels(power.pilot / (power.all + noise))
     words = [*CELLS_LINK, *shlex.split(case.link), "--ec-io", f"{share:.4f}", "--ideal", bench.at("ideal.is95")]
     bench.record([path], words, "alone.raw")
@@ -429,7 +430,8 @@ def ideal_of(bench: Bench, case: CellsCase, path: str, power: Power, noise: floa
 
 
 def cells_row(bench: Bench, case: CellsCase) -> str:
-    """The row of a recording of several cells: of each, what was sent, what an ideal receiver hears, and the lock."""
+    """Returns the row of a recording of several cells: for each, what was sent, what an ideal receiver decodes, and the
+    lock."""
     paths = [bench.cell(f"busy {number}", busy_script(number)) for number in range(len(case.levels))]
     powers = [power_of(path, level.db) for path, level in zip(paths, case.levels)]
     noise = powers[0].all / ratio_of(case.noise)

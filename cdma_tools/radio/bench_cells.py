@@ -25,7 +25,7 @@ class Level(NamedTuple):
 
 @dataclass(frozen=True)
 class CellsCase:
-    """A recording of cells in noise so many dB below the first, and the arguments of tools/channel for its link."""
+    """A recording of cells in noise some dB below the first, and the arguments of tools/channel for its link."""
 
     name: str
     levels: tuple[Level, ...]

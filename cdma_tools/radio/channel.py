@@ -37,7 +37,7 @@ SLACK = 50e-6
 
 
 class Path(NamedTuple):
-    """A path: chips of delay, dB and degrees of gain, and the Doppler spread in Hz, 0 where it doesn't fade."""
+    """A path: chips of delay, dB and degrees of gain, and the Doppler spread in Hz, 0 if it doesn't fade."""
 
     delay: float = 0.0
     level: float = 0.0
@@ -51,7 +51,7 @@ class Path(NamedTuple):
 
 
 class Radio(NamedTuple):
-    """What a radio does with what comes to its antenna."""
+    """What a radio does with the signal at its antenna."""
 
     rate: Fraction  # samples a second
     kind: str
@@ -149,7 +149,7 @@ class Cell:
         return self.gain**2 * 2 * float(numpy.mean(sums.real**2 + sums.imag**2, dtype=float))
 
     def at(self, chips: NDArray[numpy.float64], table: NDArray[numpy.float32]) -> NDArray[numpy.complex64]:
-        """What it sends at rising places in chips."""
+        """Returns what the cell sends at rising places in chips."""
         places = chips - self.delay
         first = int(numpy.floor(places[0])) - REACH
         sent = self.file.read(first, int(places[-1]) + REACH + 2 - first) * numpy.float32(self.gain)
@@ -234,7 +234,8 @@ def full_scale(kind: str) -> float:
 
 
 def as_parts(samples: NDArray[numpy.complex64], radio: Radio, root: float) -> tuple[bytes, int]:
-    """Samples as their type keeps them, of unit power before, and how many parts were cut; root is their level."""
+    """Returns samples of unit power as their type stores them at the level `root`, and the number of parts that were
+    cut."""
     i, q = samples.real * root, samples.imag * root
     lean, gain = numpy.radians(radio.skew), ratio_of(radio.imbalance) ** 0.5
     parts = numpy.stack([i, gain * (q * numpy.cos(lean) + i * numpy.sin(lean))], axis=1) + radio.direct * root
@@ -257,14 +258,14 @@ def sample_numbers(begin: int, end: int, losses: tuple[tuple[int, int], ...]) ->
 
 
 def slack_of(radio: Radio, chips: int) -> float:
-    """By how much chips come faster at most in a recording of so many."""
+    """Returns the greatest number of chips by which chips come faster in a recording of `chips`."""
     return max(SLACK, 1e-6 * (radio.clock + max(0.0, radio.clock_drift) * chips / CHIP_RATE / 2))
 
 
 def record(
     link: Link, radio: Radio, chips: int, file: IO[bytes], tell: Callable[[int], None] = lambda count: None
 ) -> Made:
-    """Writes the recording of a link over so many chips; `tell` is told of samples as they are written."""
+    """Writes the recording of a link over `chips` chips; `tell` gets the samples as they are written."""
     per_sample = CHIP_RATE / float(radio.rate)
     lost = sum(count for _, count in radio.losses)
     count = int((chips - 2 * REACH) / per_sample / (1 + slack_of(radio, chips))) - lost
@@ -292,9 +293,9 @@ def record(
 
 
 def write_ideal(link: Link, chips: int, file: IO[bytes], tell: Callable[[int], None] = lambda count: None) -> int:
-    """Writes the same link's chips as an ideal receiver has them, and answers their number.
+    """Writes the same link's chips as an ideal receiver has them, and returns their number.
 
-    Timing and carrier are the true ones; noise is added at one sample a chip; the first path lies at whole chips.
+    Timing and carrier are the true ones; noise is added at one sample per chip; the first path lies at whole chips.
     """
     draws = numpy.random.default_rng([link.seed, 7])  # another noise than the recording's
     table = pulse_table(False, is_matched=True)

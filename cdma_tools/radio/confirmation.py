@@ -1,9 +1,9 @@
-"""Confirmation: whether a pilot that stands out is one, and by how much its clock is off.
+"""Confirmation: whether a pilot that stands out is one, and its clock error.
 
-Acquisition's threshold is made for white noise, and pulses, sweeps and other codes pass it now and then. Here chips are
-looked at that acquisition hasn't used: sums of 512 chips at all delays that a clock may bring there. Their energies are
-added along straight lines of all slopes. A pilot's line stands out, and its slope is the clock's error; what passed the
-threshold by chance is noise there.
+Acquisition's threshold is made for white noise, and pulses, sweeps and other codes pass it now and then. Confirmation
+uses chips that acquisition hasn't used: sums of 512 chips at all delays that a clock error may bring there. Their
+energies are added along straight lines of all slopes. A pilot's line stands out, and its slope is the clock error; what
+passed the threshold by chance is noise there.
 """
 
 from typing import Iterator, NamedTuple
@@ -33,7 +33,7 @@ LEAST = 12.0
 
 
 class Part(NamedTuple):
-    """A run of chips beside the place found: by how many chips it begins after it, and how many sums of 512 it has."""
+    """A run of chips near the place found: its distance in chips after it, and its number of sums of 512."""
 
     shift: int
     sums: int
@@ -47,7 +47,7 @@ class Line(NamedTuple):
 
 
 class Energies(NamedTuple):
-    """Of sums of 512 chips: the chips from the place found to their middles, and their energies over noise, less 1.
+    """Sums of 512 chips: the chips from the place found to their middles, and their energies over noise, less 1.
 
     The energies have a row for each sum, with a column for each delay in half chips.
     """
@@ -57,7 +57,7 @@ class Energies(NamedTuple):
 
 
 class Confirmation(NamedTuple):
-    """What the chips beside a place show."""
+    """What the chips near a place show."""
 
     slope: float = 0.0  # of the pilot's delay, in chips a chip
     late: float = 0.0  # chips at the place found
@@ -70,7 +70,7 @@ class Confirmation(NamedTuple):
 
     @property
     def clock_ppm(self) -> float:
-        """By how many millionths the recording's clock is slow."""
+        """Returns the slowness of the recording's clock in millionths."""
         return -1e6 * self.slope
 
     @property
@@ -80,9 +80,9 @@ class Confirmation(NamedTuple):
 
 
 class Pilot(NamedTuple):
-    """A place at which a pilot was looked for: it is one where the confirmation says so.
+    """A place at which a pilot was looked for; the confirmation says whether it is one.
 
-    The front is that of the recording, or of its conjugate, with the carrier taken away.
+    The front is that of the recording, or of its conjugate, with the carrier removed.
     """
 
     front: Front
@@ -91,7 +91,8 @@ class Pilot(NamedTuple):
 
 
 def parts_beside(front: Front, found: Found, segments: int) -> list[Part]:
-    """The nearest chips beside those searched, in runs of one segment: after them, and before them where those end."""
+    """Returns the nearest chips to those searched, in runs of one segment: after them, and before them where those end.
+    """
     margin = GUARD + MOST_SLOPE * (SEARCHED + SUM * SUMS * segments)
     after = max(0, int((front.length - margin - found.time - SEARCHED) // SUM))
     after = min(after, SUMS * segments)
@@ -127,7 +128,7 @@ def best_line(energies: Energies, slopes: NDArray[numpy.float64], starts: NDArra
 
 
 def confirm(front: Front, found: Found) -> Confirmation:
-    """What the chips beside a place found show, in a wide look and in a long one."""
+    """Returns what the chips near a place found show, in a wide look and in a long one."""
     parts = parts_beside(front, found, SHORT)
     if not parts:
         return Confirmation()
@@ -146,7 +147,7 @@ def confirm(front: Front, found: Found) -> Confirmation:
 
 
 def examined(front: Front, found: Found) -> Pilot:
-    """A place that passed acquisition's threshold, with its finer carrier and what the chips beside it show."""
+    """Returns a place that passed acquisition's threshold, with its finer carrier and what the chips near it show."""
     own = Front(front.recording.conjugate() if found.is_conjugate else front.recording)
     own.set_carrier(found.hertz)
     fine = finer(own, found)
@@ -161,9 +162,9 @@ def first_pilot(
     parts: tuple[float, ...] = PLACES,
     beyond: float = 0.0,
 ) -> Pilot:
-    """The first place at which a pilot is confirmed; where none is, the one that comes nearest to it.
+    """Returns the first place at which a pilot is confirmed, otherwise the one that comes nearest to it.
 
-    The carrier lies within span Hz of the front's, and more than `beyond` Hz from it where that is given.
+    The carrier lies within span Hz of the front's, and more than `beyond` Hz from it if that is given.
     """
     best: Pilot | None = None
     for pilot in seen(front, span, is_conjugate, parts, beyond):
@@ -178,6 +179,6 @@ def first_pilot(
 def seen(
     front: Front, span: float, is_conjugate: tuple[bool, ...], parts: tuple[float, ...], beyond: float
 ) -> Iterator[Pilot]:
-    """Each place that acquisition looks at, examined where it passes the threshold."""
+    """Yields each place of acquisition, examined if it passes the threshold."""
     for found in looks(front, span, is_conjugate, parts, beyond):
         yield examined(front, found) if found.excess > 1 else Pilot(front, found, Confirmation())

@@ -1,6 +1,6 @@
 """Fitting: the clock and the carrier of a stretch of a recording, as smooth curves through its points.
 
-A base station's clock and a radio's are rigid, and paths that fade aren't to be followed: a receiver's fingers are set
+A base station's clock and a radio's are rigid, and paths that fade shouldn't be followed: a receiver's fingers are set
 once and stay. So the delays get a stiff curve, and the carrier a less stiff one, whose integral is the phase.
 """
 
@@ -99,7 +99,7 @@ def profiles(sums: NDArray[numpy.complex64], powers: NDArray[numpy.float64]) -> 
 
 
 def equaliser_gain(points: list[Point]) -> float:
-    """What the inverse of the phase equaliser gains: the ratio of the squared energies over the delays.
+    """Returns the gain of the inverse of the phase equaliser: the ratio of the squared energies over the delays.
 
     The energy of a path that isn't dispersed is gathered at one delay, so its square is greatest with the right filter.
     """
@@ -136,7 +136,7 @@ class Fit:
     """The timing and the phase of a stretch of a recording; chips have the numbers of its points."""
 
     def __init__(self, coarse: float, points: list[Point], has_equaliser: bool, fingers: int) -> None:
-        """Of points that were tracked after a front that takes `coarse` Hz away, for a receiver of so many fingers."""
+        """Fits points that were tracked after a front that removes `coarse` Hz, for a receiver of `fingers` fingers."""
         self.coarse = coarse
         self.chip = numpy.array([point.chip for point in points])
         self.time = numpy.array([point.time for point in points])
@@ -170,8 +170,8 @@ class Fit:
     def align(self, fingers: int) -> None:
         """Sets the constant part of the timing, and with it the mean energies over delays, `profile` at `delays`.
 
-        With one finger it is the greatest peak; with several the instants at which so many taps, whole chips apart,
-        hold most energy together.
+        With one finger it is the greatest peak. With several it is the instants at which `fingers` taps, whole chips
+        apart, have the most energy together.
         """
         self.against = self.time - self.times(self.chip)
         self.profile = numpy.mean(fine_energies(profiles(self.sums, self.powers), self.against), axis=0)

@@ -1,9 +1,9 @@
 """Raw samples to chips: filter, coarse carrier and resampling in one transform.
 
-A block of K chips is N raw samples. Its transform of N bins is emptied at DC, rolled by the carrier, multiplied by the
-pulse's response (the matched filter) and by a linear phase, which puts the result at any fraction of a chip, folded
-into K bins or 2 K, and transformed back: K chips, at one or two samples each. Some chips at both ends of a block are
-spoilt by the filter's length and are never used.
+A block of K chips is N raw samples. Its transform of N bins is emptied at DC and rolled by the carrier. It is multiplied
+by the pulse's response (the matched filter) and by a linear phase, which puts the result at any fraction of a chip. Then
+it is folded into K bins or 2 K, and transformed back: K chips, at one or two samples each. Some chips at both ends of a
+block are spoilt by the filter's length and are never used.
 
 Times are in nominal chips of the recording: raw sample n lies at n 1,228,800 / rate.
 """
@@ -50,7 +50,7 @@ def turn(turns: ArrayLike) -> NDArray[numpy.complex64]:
 
 
 def block_size(ratio: float) -> Block:
-    """The block for a ratio of samples to chips: exact where that can be, of small factors, near 1,024 chips."""
+    """Returns the block for a ratio of samples to chips: exact if possible, of small factors, near 1,024 chips."""
     best: tuple[tuple[int, bool, int], Block] | None = None
     for chips in range(SHORTEST, LONGEST + 1, 2):
         samples = round(chips * ratio)
@@ -78,7 +78,7 @@ class Front:
 
     @property
     def length(self) -> float:
-        """How long the recording is, in chips."""
+        """Returns the length of the recording in chips."""
         return self.recording.count / self.ratio
 
     @property
@@ -106,9 +106,10 @@ class Front:
         return self.coarse * CHIP_RATE / (self.chips * self.stretch)
 
     def blocks(self, starts: ArrayLike, over: int, slopes: ArrayLike = 0.0) -> NDArray[numpy.complex64]:
-        """Blocks as rows of `over` samples a chip, row b from time starts[b] on, GUARD spoilt chips at each end.
+        """Returns blocks as rows of `over` samples per chip, row b from time starts[b] on, with GUARD spoilt chips at
+        each end.
 
-        Row b runs 1 + slopes[b] times as fast, round its middle. The shape is (rows, over * chips).
+        Row b runs 1 + slopes[b] times as fast, around its middle. The shape is (rows, over * chips).
         """
         begins = numpy.asarray(starts, dtype=float) - self.chips / 2 * (self.stretch - 1)
         spectrum = self.spectra(begins, over)

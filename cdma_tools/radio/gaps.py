@@ -1,6 +1,6 @@
-"""Lost samples: where a pilot that was lost is heard again, and at which chip the one timing ends and the next begins.
+"""Lost samples: where a lost pilot is received again, and the chips at which the one timing ends and the next begins.
 
-The code's phase tells how many chips were lost, but for whole periods of 32,768.
+The code's phase gives the number of lost chips, but for whole periods of 32,768.
 """
 
 from typing import NamedTuple
@@ -25,16 +25,16 @@ AT_ONCE = 256
 
 
 class Gap(NamedTuple):
-    """Where samples were lost: seconds from the beginning of the recording, and chips, but for whole periods."""
+    """A loss of samples: seconds from the beginning of the recording, and chips, but for whole periods."""
 
     seconds: float
     chips: int
 
 
 def find_again(front: Front, fit: Fit, begin: float) -> Found | None:
-    """Where the pilot is heard again from time `begin` on; none where the recording ends before.
+    """Returns the place at which the pilot is received again from time `begin` on; None if the recording ends before.
 
-    The phase is the number of the chip, as the fit counts them, with the fewest chips lost that the code allows.
+    The phase is the number of the chip, as the fit counts them, with the fewest lost chips that the code allows.
     """
     needed, step = MOST_STRETCHES * STRETCH, PERIOD
     rest = float(fit.hertz(fit.chip[-1])) - front.carrier
@@ -66,10 +66,10 @@ def energies(front: Front, fit: Fit, first: int, count: int) -> list[float]:
 
 
 def part_ways(front: Front, before: Fit, after: Fit) -> tuple[int, int]:
-    """The chip after the last one by the fit before, and the first one by the fit after a loss.
+    """Returns the chip after the last one by the fit before, and the first one by the fit after a loss.
 
-    From the last segment heard, in which it may lie, to the first one heard again, sums of 512 chips by the one timing
-    and by the other tell where it lies: where the energies of the one before and of the other after are greatest.
+    The loss lies between the last segment received and the first one received again. Sums of 512 chips by both timings
+    give its place: where the energies of the one before and of the other after are greatest.
     """
     begin, end = float(before.times(before.chip[-1] - SEGMENT / 2)), float(after.times(after.chip[0]))
     count = max(0, int(end - begin) // SUM)

@@ -1,8 +1,8 @@
-"""The type of a recording's samples, as its bytes tell it.
+"""The type of a recording's samples, guessed from its bytes.
 
-Samples of a radio are Gaussian or nearly so, and far from the ends of their range most of the time. Of floating point
-all numbers then have nearly one exponent; of 16 bits the low bytes are as good as uniform, and the high ones stand near
-0; of 8 bits the bytes of both branches are alike, and stand near the middle: of unsigned ones 127.5, of signed ones 0.
+Samples of a radio are Gaussian or nearly so, and most of the time far from the ends of their range. Numbers of floating
+point then nearly all have one exponent. In 16 bits the low bytes are nearly uniform, and the high ones near 0. In 8
+bits the bytes of both branches are alike, and near the middle: 127.5 if unsigned, 0 if signed.
 """
 
 import os
@@ -24,7 +24,7 @@ LEAST_RATIO = 1.25
 
 
 def bytes_of(path: str, skip: int) -> NDArray[numpy.uint8]:
-    """Bytes of some pieces of a file, after so many bytes; refuses one that has few."""
+    """Returns bytes of some pieces of a file, after the first `skip`; refuses one that has few."""
     try:
         size = os.stat(path).st_size - skip
         if size < LEAST_BYTES:
@@ -53,7 +53,7 @@ def is_floating(data: NDArray[numpy.uint8]) -> bool:
 
 
 def shares(data: NDArray[numpy.uint8]) -> NDArray[numpy.float64]:
-    """How often each of the 256 bytes stands there."""
+    """Returns the share of each of the 256 bytes."""
     return numpy.bincount(data, minlength=256) / len(data)
 
 
@@ -64,7 +64,7 @@ def entropy(parts: NDArray[numpy.float64]) -> float:
 
 
 def type_of(path: str, skip: int = 0) -> str:
-    """The type of the samples of a file after so many bytes; refuses one whose bytes tell none."""
+    """Returns the type of the samples of a file after the first `skip` bytes; refuses one whose bytes show none."""
     data = bytes_of(path, skip)
     if shares(data).max() > 0.99:
         raise Refused(f"{path}: the bytes tell no type, nearly all are the same: give --type")

@@ -29,7 +29,7 @@ STEPS = (0.05, 0.4, 1.0)
 
 
 class Options(NamedTuple):
-    """What a lock is asked for."""
+    """Options of a lock."""
 
     kind: str
     rate: Fraction  # samples a second
@@ -46,7 +46,7 @@ class Options(NamedTuple):
 
 
 class Locked(NamedTuple):
-    """What was found: the figures of the line that is written, and what more is worth a line."""
+    """Result of a lock: the figures of the line that is written, and further remarks."""
 
     carrier_hz: float
     drift: float  # Hz a second
@@ -78,7 +78,7 @@ class Locked(NamedTuple):
         )
 
     def remarks(self) -> list[str]:
-        """What else a user should know, a line each."""
+        """Returns what else a user should know, a line each."""
         said = [*self.said]
         said += [
             f"samples were lost at {gap.seconds:.4f} s: zeros stand for {gap.chips} chips; a loss of {PERIOD} more, or of"
@@ -95,7 +95,7 @@ class Locked(NamedTuple):
 
 
 def find(path: str, options: Options) -> Pilot:
-    """The pilot that stands out of a recording, or of its conjugate; refuses a recording without one."""
+    """Returns the pilot that stands out of a recording, or of its conjugate; refuses a recording without one."""
     recording = Recording(path, options.kind, float(options.rate), options.skip)
     if recording.rate < CHIP_RATE:
         raise Refused(f"{recording.rate:.0f} samples a second are fewer than the chip rate, {CHIP_RATE}")
@@ -130,7 +130,7 @@ def check_pilot(pilot: Pilot, span: float) -> None:
 
 
 def check_length(front: Front, options: Options) -> None:
-    """Refuses a recording of more chips than a sample file holds, where no count is given."""
+    """Refuses a recording of more chips than a sample file can have, if no count is given."""
     most = MOST_CHIPS[options.version]
     if options.count is None and front.length - 2 * EDGE > most:
         raise Refused(
@@ -140,7 +140,7 @@ def check_length(front: Front, options: Options) -> None:
 
 
 def follow(pilot: Pilot, tell: Callable[[float], None]) -> Track:
-    """The whole first pass round a pilot that was found."""
+    """Returns the complete first pass around a pilot that was found."""
     front, found = pilot.front, pilot.found
     clock, late = clock_error(front, found, pilot.confirmation.slope)
     tracked = track(front, found._replace(time=found.time + late), clock, tell)
@@ -160,7 +160,7 @@ class Stretches(NamedTuple):
 
 
 def fit_all(front: Front, tracked: Track, options: Options, tell: Callable[[float], None]) -> Stretches:
-    """The fit of what was tracked, and of what is heard again after losses."""
+    """Returns the fit of what was tracked, and of what is received again after losses."""
     has_equaliser = options.equaliser == "yes"
     if options.equaliser == "try":
         has_equaliser = equaliser_gain(tracked.points) > EQUALISED
@@ -182,7 +182,7 @@ def fit_all(front: Front, tracked: Track, options: Options, tell: Callable[[floa
 
 
 def first_chip(front: Front, stretches: Stretches) -> int:
-    """The first chip to write: near the beginning, and where no path is faded."""
+    """Returns the first chip to write: near the beginning, and where no path is faded."""
     fit = stretches.fits[0]
     start = fit.strong_start(min(START_SECONDS, START_PART * front.length / CHIP_RATE))
     is_first = start <= fit.chip[0] - SEGMENT / 2
@@ -190,7 +190,7 @@ def first_chip(front: Front, stretches: Stretches) -> int:
 
 
 def pieces_of(front: Front, stretches: Stretches) -> tuple[list[Piece], list[Gap]]:
-    """What is written by which fit, and the losses between."""
+    """Returns the pieces to write, each by its fit, and the losses between."""
     fits, pieces, gaps = stretches.fits, [], []
     first = first_chip(front, stretches)
     for fit, after in zip(fits, fits[1:]):
@@ -253,7 +253,7 @@ def lock(
 def write_held(
     held: Held, options: Options, file: IO[bytes], tell: Callable[[float], None] = lambda part: None
 ) -> Locked:
-    """Writes a sample file of a pilot that is held, as the options have it, and answers what was found."""
+    """Writes a sample file of a pilot that is held, by the options, and returns the result."""
     first, behind = held.pieces[0].first, held.pieces[-1].behind
     count = min(behind - first, options.count or behind - first, MOST_CHIPS[options.version])
     scale = options.scale or ROOT_MEAN_SQUARE[options.version] / math.sqrt(held.power)
@@ -263,7 +263,7 @@ def write_held(
 
 
 def summary(held: Held, count: int, scale: float, written: Written) -> Locked:
-    """What was found, in figures."""
+    """Returns the result in figures."""
     front, stretches, pieces = held.front, held.stretches, held.pieces
     fit, last = stretches.fits[0], stretches.fits[-1]
     low, high = fit.chip[0], fit.chip[-1]

@@ -29,7 +29,8 @@ class Way(NamedTuple):
 
 
 def watched(front: Front, fit: Fit, middle: float) -> tuple[NDArray[numpy.complex64], float]:
-    """The pilot's sums in a segment round a chip, at delays of -WIDTH to WIDTH chips in halves, and a chip's power.
+    """Returns the pilot's sums in a segment around a chip, at delays of -WIDTH to WIDTH chips in halves, and a chip's
+    power.
 
     Timing and carrier are the fitted ones.
     """
@@ -50,7 +51,7 @@ def mean_energies(front: Front, fit: Fit) -> NDArray[numpy.float64]:
 
 
 def peaks(energies: NDArray[numpy.float64]) -> list[Way]:
-    """The peaks within 10 dB of the greatest among energies at delays of half chips, round 0."""
+    """Returns the peaks within 10 dB of the greatest among energies at delays of half chips, around 0."""
     from scipy.signal import find_peaks  # takes half a second to load, and is wanted here alone
 
     reach = len(energies) // 2

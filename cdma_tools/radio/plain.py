@@ -1,4 +1,4 @@
-"""The plain ways from a recording to chips, with a carrier and a clock that are known: as is, one in so many, resampled."""
+"""The plain ways from a recording to chips, with a known carrier and clock: as is, every n-th sample, resampled."""
 
 import argparse
 import contextlib
@@ -32,7 +32,7 @@ def recording_told(options: argparse.Namespace) -> tuple[str, Fraction, str]:
 
 
 def assumed(options: argparse.Namespace, kind: str, path: str) -> list[str]:
-    """What is to be said of the samples' type: that it was taken from the bytes, or that these look like another."""
+    """Returns the remarks on the samples' type: that it was taken from the bytes, or that these look like another."""
     if options.type == AUTO:
         return [f"the samples are taken to be {kind}, as their bytes look"]
     try:
@@ -48,7 +48,7 @@ def assumed(options: argparse.Namespace, kind: str, path: str) -> list[str]:
 
 @contextlib.contextmanager
 def with_hints(lines: list[str]) -> Iterator[None]:
-    """What is to be said of the samples' type goes with why a recording is refused."""
+    """Adds the remarks on the samples' type to the reason why a recording is refused."""
     try:
         yield
     except Refused as why:
@@ -89,7 +89,7 @@ class Plan:
             raise Refused(f"{text_of(rate)} to {CHIP_RATE} is {self.down} to {self.up}: no ratio of small numbers")
 
     def samples_for(self, chips: int) -> int:
-        """How many samples of a recording are enough for so many chips."""
+        """Returns the number of samples of a recording that suffice for `chips` chips."""
         if self.is_whole:
             return self.multiple * (chips + 1)
         return chips * self.down // self.up + 64 * (self.down // self.up + 2)
@@ -130,7 +130,7 @@ def read_samples(path: str, kind: str, skip: int, most: int | None) -> NDArray[A
 
 
 def turned(parts: NDArray[Any], hertz: float, rate: Fraction) -> NDArray[numpy.float64]:
-    """The samples with a carrier of so many hertz brought to 0."""
+    """Returns the samples with a carrier of `hertz` moved to 0."""
     angle = -2 * numpy.pi * (hertz / float(rate) * numpy.arange(len(parts)) % 1.0)
     i, q = parts.T
     samples = (i + 1j * q) * numpy.exp(1j * angle)

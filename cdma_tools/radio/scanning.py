@@ -22,7 +22,7 @@ OVERLAP, SAME = 0.9, 1_000.0
 
 
 class Seen(NamedTuple):
-    """What a centre frequency shows; it is a pilot where is_pilot says so."""
+    """What a centre frequency shows; is_pilot says whether it is a pilot."""
 
     centre: float  # Hz above the middle
     carrier: float  # Hz above the middle
@@ -37,13 +37,15 @@ class Seen(NamedTuple):
 
 
 def raster(rate: float, step: float = RASTER) -> list[float]:
-    """The centres of a raster round the middle whose whole channel lies in a recording; the middle is always tried."""
+    """Returns the centres of a raster around the middle whose whole channel lies in a recording; the middle is always
+    one."""
     most = max(0, int((rate / 2 - WHOLE) / step))
     return [step * number for number in range(-most, most + 1)]
 
 
 def everywhere(rate: float, search: float) -> list[float]:
-    """Centres so near to each other that searches of so many Hz to each side meet every carrier in the width."""
+    """Returns centres so near to each other that searches of `search` Hz to each side meet every carrier in the width.
+    """
     return raster(rate + 2 * (WHOLE - HALF), 2 * search * OVERLAP)
 
 

@@ -1,8 +1,8 @@
 """Tracking: the pilot's delay and carrier, segment by segment of a recording.
 
-A segment of 16,384 chips is correlated with the pilot in 32 sums of 512 chips, at delays a half chip apart round the
-place where it is expected. Energies give the delay, products of neighbouring sums the carrier. Lines through the last
-points tell where the next segment is expected.
+A segment of 16,384 chips is correlated with the pilot in 32 sums of 512 chips, at delays a half chip apart around its
+expected place. Energies give the delay, and products of neighboring sums the carrier. Lines through the last points
+give the expected place of the next segment.
 """
 
 from typing import Callable, NamedTuple
@@ -62,7 +62,7 @@ class Track(NamedTuple):
 
 
 class Line:
-    """A weighted line through the last points, that tells the next one."""
+    """A weighted line through the last points, which predicts the next one."""
 
     def __init__(self, memory: int, stiffness: float) -> None:
         self.memory, self.stiffness = memory, stiffness
@@ -109,10 +109,10 @@ def pilot_sums(
 
 
 def clock_error(front: Front, found: Found, known: float = 0.0) -> tuple[float, float]:
-    """The slope of the pilot's delay, in chips a chip, and by how many chips it is late at the place found.
+    """Returns the slope of the pilot's delay, in chips per chip, and its lateness in chips at the place found.
 
     `known` is the slope to some millionths. The energies of the third of a second after the place, or before it, are
-    added along straight lines of all slopes: so neither paths that fade in turn nor one long fade lead astray, as a
+    added along straight lines of all slopes. So neither paths that fade in turn nor one long fade lead astray, as a
     line from point to point would.
     """
     coarse = COARSE_CLOCK * round(known / COARSE_CLOCK)
@@ -152,7 +152,7 @@ class Tracker:
     """Goes through segments one after the other from a place on, or one before the other."""
 
     def __init__(self, front: Front, found: Found, direction: int, clock: float, tell: Callable[[float], None]) -> None:
-        """`clock` is the slope of the delay at the place found; `tell` is told the times that are reached."""
+        """`clock` is the slope of the delay at the place found; `tell` gets the times that are reached."""
         self.front, self.found, self.direction = front, found, direction
         self.clock, self.tell = clock, tell
         self.lates = Line(DELAY_MEMORY, DELAY_STIFFNESS)
@@ -163,11 +163,11 @@ class Tracker:
 
     @property
     def is_lost(self) -> bool:
-        """Whether the pilot hasn't been heard for a quarter of a second."""
+        """Whether the pilot hasn't been received for a quarter of a second."""
         return self.quiet * SEGMENT * EVERY > PATIENCE
 
     def run(self) -> list[Point]:
-        """All points, the first one taken first; those at the end in which nothing was heard are left out."""
+        """Returns all points, the first one taken first, without those at the end in which nothing was received."""
         chip = self.found.phase - (SEGMENT if self.direction < 0 else 0)
         while not self.is_lost:
             time, late, slope, hertz = self.expected(chip + SEGMENT / 2)
@@ -193,10 +193,10 @@ class Tracker:
         return time, late, slope + self.clock, hertz
 
     def peak(self, energies: NDArray[numpy.float32]) -> tuple[int, float]:
-        """The row of the chosen path, and its delay in chips against the expected one.
+        """Returns the row of the chosen path, and its delay in chips relative to the expected one.
 
-        Energies of the last tenths of a second choose the path, so that paths which fade in turn are seen together;
-        the segment's own energies, by a parabola, tell its delay, since smoothed ones would lag.
+        Energies of the last tenths of a second choose the path, so that paths which fade in turn are seen together. The
+        segment's own energies, by a parabola, give its delay, since smoothed ones would lag.
         """
         if self.smooth is None:
             self.smooth = energies

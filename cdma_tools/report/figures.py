@@ -1,7 +1,7 @@
 """The plots of a report, as figures of Plotly.
 
-What a point's text is when the pointer rests on it is told by `lines` in its trace's meta: the command whose lines they
-are; the point's customdata has the line's place. The page's script fills in the lines' text, so that it is held once.
+`lines` in a trace's meta gives the text that a point shows under the pointer: the command that wrote the lines. The
+point's customdata has the line's place. The page's script fills in the lines' text, so the page contains it once.
 """
 
 from typing import Any, NamedTuple
@@ -67,7 +67,7 @@ def threshold(figure: graph_objects.Figure, ratio: float, note: str) -> None:
 
 
 def correlation_plot(measured: Measured, phase: int) -> Plot | None:
-    """The strengths round the best phase."""
+    """Returns the strengths around the best phase."""
     found = measured.correlation
     if found is None:
         return None
@@ -208,7 +208,7 @@ def power_line(run: Run) -> list[graph_objects.Scatter]:
 
 
 def stepped(places: list[int], levels: list[int]) -> list[graph_objects.Scatter]:
-    """A line of steps from one place to the next; none where there are no places."""
+    """Returns a line of steps from one place to the next, empty without places."""
     if not places:
         return []
     made = graph_objects.Scatter(
@@ -224,7 +224,8 @@ def stepped(places: list[int], levels: list[int]) -> list[graph_objects.Scatter]
 
 
 def set_bars(run: Run) -> list[graph_objects.Scatter]:
-    """A bar for each stretch in which a pilot was active or a candidate, and a mark for each line that tells the sets."""
+    """Returns a bar for each stretch in which a pilot was active or a candidate, and a mark for each line with the
+    sets."""
     bars = []
     for part, width, color in (("active", 12, BLUE), ("candidate", 5, ORANGE)):
         x: list[float | None] = []

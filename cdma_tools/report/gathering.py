@@ -1,4 +1,4 @@
-"""What a report is made of: the import of a recording, and one run each of `find`, `survey` and `follow`."""
+"""The runs of which a report is made: the import of a recording, and one run each of `find`, `survey` and `follow`."""
 
 import contextlib
 import os
@@ -22,14 +22,14 @@ STEP = 64  # chips between the codes of neighboring offsets (7.1.3.1.9)
 
 
 class Line(NamedTuple):
-    """A line as it was written, its bytes beyond printable ASCII as escapes, and its object, None where it has none."""
+    """A line as it was written, with escapes for bytes beyond printable ASCII, and its object, None if it has none."""
 
     text: str
     read: dict[str, Any] | None
 
 
 class Ran(NamedTuple):
-    """A run of a command: its arguments, its status, its lines, and what it said on standard error."""
+    """A run of a command: its arguments, its status, its lines, and its standard error."""
 
     words: list[str]
     status: int
@@ -42,7 +42,7 @@ class Ran(NamedTuple):
 
 
 class Imported(NamedTuple):
-    """An import: its arguments, its status, what it found by name, and what it said besides."""
+    """An import: its arguments, its status, its figures by name, and its remarks."""
 
     words: list[str]
     status: int
@@ -71,7 +71,7 @@ def escaped(line: bytes) -> str:
 
 
 def line_of(line: bytes, kinds: tuple[str, ...]) -> Line:
-    """A line with its object, where it is one of a command's."""
+    """Returns a line with its object, if it is one of a command's."""
     text = escaped(line)
     try:
         read = read_line(text)
@@ -87,7 +87,7 @@ def lines_of(text: bytes, kinds: tuple[str, ...]) -> list[Line]:
 
 
 def sample_bytes(path: str) -> int:
-    """The bytes of a sample, by the file's version; 4 where it has none. Refuses what can't be read several times."""
+    """Returns the bytes of a sample, by the file's version, by default 4; refuses what can't be read several times."""
     if os.path.exists(path) and not os.path.isfile(path):
         raise Refused(f"{path}: no plain file")
     with open(path, "rb") as file:
@@ -96,7 +96,7 @@ def sample_bytes(path: str) -> int:
 
 
 def feed(file: IO[bytes], into: IO[bytes], size: int, shown: Any, text: str) -> None:
-    """Gives a file to a program, and shows how many samples it took and how long they last."""
+    """Gives a file to a program, and shows the number of samples it took and how long they last."""
     given = 0
     try:
         while piece := file.read(PIECE):
@@ -112,7 +112,7 @@ def feed(file: IO[bytes], into: IO[bytes], size: int, shown: Any, text: str) -> 
 
 @contextlib.contextmanager
 def started(program: str, words: list[str], out: IO[bytes], said: IO[bytes]) -> Iterator[subprocess.Popen[bytes]]:
-    """A run of the program that has ended when this is left, and is ended where this is left by a fault."""
+    """Yields a run of the program that has ended when this context is left, and is ended if a fault leaves it."""
     try:
         child = subprocess.Popen([program, *words], stdin=subprocess.PIPE, stdout=out, stderr=said)
     except OSError as why:
@@ -127,7 +127,7 @@ def started(program: str, words: list[str], out: IO[bytes], said: IO[bytes]) -> 
 
 
 def run_program(program: str, words: list[str], path: str, kinds: tuple[str, ...], shown: Any) -> Ran:
-    """A run of the program over a sample file; `shown` is told of the samples that it took."""
+    """Runs the program over a sample file; `shown` gets the samples that it took."""
     with open(path, "rb") as file, tempfile.TemporaryFile() as out, tempfile.TemporaryFile() as said:
         with started(program, words, out, said) as child:
             assert child.stdin
@@ -138,9 +138,10 @@ def run_program(program: str, words: list[str], path: str, kinds: tuple[str, ...
 
 
 def base_of(find: Ran, follow: Ran) -> int:
-    """The phase of the pilot of offset 0: that of the best pilot, and 64 chips more for each step of its offset.
+    """Returns the phase of the pilot of offset 0: that of the best pilot, and 64 chips more for each step of its
+    offset.
 
-    Where no message tells the offset it is taken as 0, and the best pilot stands in the survey as number 0.
+    If no message has the offset it is taken as 0, and the best pilot is number 0 in the survey.
     """
     phases = [read["phase"] for _, read in find.reads("pilot")]
     offsets = [read["pn"] for _, read in follow.reads("sync")]

@@ -1,8 +1,7 @@
-"""What was heard in a recording of any length, by the lines of a listening: as few of them as a page can hold.
+"""What was received in a recording of any length, by the lines of a listening: as few of them as a page can hold.
 
-All lines are counted. Of frames, of messages that repeat and of those whose fields changed every second one, every
-fourth, and so on are kept, as many as there is room for, each kind by itself; and so are the points of the power
-control's steps.
+All lines are counted. Of frames, of repeated messages and of changed ones every second, every fourth, and so on is
+kept, as many as there is space for, each kind by itself; and so are the points of the power control's steps.
 """
 
 import itertools
@@ -28,7 +27,7 @@ Kept = TypeVar("Kept")
 
 
 class Thinned(Generic[Kept]):
-    """Every n-th of some things, with n a power of two so great that there are no more than so many."""
+    """Every n-th of a list of things, with n the least power of two for which there are no more than `most`."""
 
     def __init__(self, most: int) -> None:
         """None yet."""
@@ -47,7 +46,7 @@ class Thinned(Generic[Kept]):
 
 @dataclass
 class Count:
-    """How many lines of a kind there are, and the samples at which the first and the last were known."""
+    """Number of lines of a kind, and the samples at which the first and the last were known."""
 
     number: int = 0
     first: int = 0
@@ -96,7 +95,7 @@ class HeardLines:
         self.steps.add((read["at"], self.level))
 
     def is_change(self, name: str, read: dict[str, Any]) -> bool:
-        """Whether a line tells what the one of its kind before didn't; times and numbers of messages don't count."""
+        """Whether a line differs from the one of its kind before; times and numbers of messages don't count."""
         if name in ("paging other", "traffic other") or read["line"] == "raw":
             return False
         told = {key: value for key, value in read.items() if key not in ("at", "lc", "time", "ack", "seq")}
@@ -111,7 +110,7 @@ class HeardLines:
         return [Line(text, read_line(text)) for _, text in kept]
 
     def rows(self) -> list[tuple[str, str, str]]:
-        """Each kind, with how many lines of it there are, and from which second to which."""
+        """Returns each kind, with the number of its lines, and its first and last second."""
         rows = []
         for name in (*LANES, *(f"frames {rate}" for rate in RATES), "pilot sets"):
             if count := self.counts.get(name):
@@ -120,7 +119,7 @@ class HeardLines:
         return rows
 
     def left_out(self) -> str:
-        """Which lines a page hasn't, in words; empty where it has all."""
+        """Returns in words which lines the page leaves out, empty if it has all."""
         kinds = (("frames", self.frames), ("messages that repeat", self.messages), ("those that changed", self.changes))
         parts = [f"1 of {thinned.step} {name}" for name, thinned in kinds if thinned.step > 1]
         return f"Of {self.number:,} lines the page has {', '.join(parts)}." if parts else ""

@@ -21,20 +21,20 @@ def gathered_of(name: str, heard: HeardLines) -> Gathered:
 
 
 def lines_card(name: str, heard: HeardLines) -> Markup:
-    """What the lines are."""
+    """Returns the card on the lines."""
     rows: list[tuple[str, ...]] = [("File", name), ("Kind", "lines of a listening"), ("Lines", f"{heard.number:,}")]
     rows.append(("Length", f"{heard.end / CHIP_RATE:,.3f} s up to the last line"))
     return section("Recording", table_of(Table((), rows)), level="h3")
 
 
 def counts_card(heard: HeardLines) -> Markup:
-    """How many messages and frames were heard, all of them."""
+    """Returns the card on the numbers of all messages and frames."""
     rows: list[tuple[str, ...]] = [*heard.rows()] or [("nothing", "0", "")]
     return section("Heard", table_of(Table(("Event", "#Count", "#Seconds"), rows)), level="h3")
 
 
 def head_of(name: str, gathered: Gathered, heard: HeardLines) -> Markup:
-    """The page's head: the name, how long and when it was, and which lines the page hasn't."""
+    """Returns the page's head: the name, the length and the time, and which lines the page leaves out."""
     under = f"{heard.end / CHIP_RATE:,.2f} seconds of the IS-95 forward link{document.heard_at(gathered)}"
     left_out = heard.left_out()
     state = element("div", left_out or "The page has all lines.", class_="state")

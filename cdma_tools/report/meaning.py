@@ -1,7 +1,7 @@
 """What the fields of messages mean, in words and units, by their names in TIA/EIA-95-B.
 
-A value is explained by itself or, as local time, with other fields of its message. Where a value is reserved, or the
-standard leaves it to the system's owner, it is said or left without words.
+A value is explained by itself or, as local time, with other fields of its message. A reserved value is called so, and
+one that the standard leaves to the system's owner has no words.
 """
 
 import datetime
@@ -48,12 +48,12 @@ class Row(NamedTuple):
 
 
 def signed(value: int, width: int) -> int:
-    """The number that so many bits spell in two's complement."""
+    """Returns the number that `width` bits spell in two's complement."""
     return value - (1 << width) if value >> (width - 1) else value
 
 
 def system_time(ticks: int) -> datetime.datetime:
-    """The system time of so many units of 80 ms: it has no leap seconds (1.2)."""
+    """Returns the system time of `ticks` units of 80 ms: it has no leap seconds (1.2)."""
     return EPOCH + datetime.timedelta(milliseconds=80 * ticks)
 
 
@@ -63,7 +63,7 @@ def dated(moment: datetime.datetime) -> str:
 
 
 def utc_of(ticks: int, leaps: int) -> datetime.datetime:
-    """UTC at a system time that is so many leap seconds ahead of it (7.7.1.3)."""
+    """Returns UTC at a system time that is `leaps` leap seconds ahead of it (7.7.1.3)."""
     return system_time(ticks) - datetime.timedelta(seconds=leaps)
 
 
@@ -74,7 +74,7 @@ def hours_of(offset: datetime.timedelta) -> str:
 
 
 def times_of(fields: dict[str, Any]) -> tuple[str, str, str]:
-    """The time that a sync message tells: in UTC, local, and how far local time is from UTC (7.7.1.3)."""
+    """Returns the time in a sync message: in UTC, local, and the difference of local time from UTC (7.7.1.3)."""
     utc, offset = utc_of(fields["time"], fields["lp"]), HALF_HOUR * signed(fields["ltm"], 6)
     return dated(utc), dated(utc + offset), hours_of(offset)
 
@@ -115,7 +115,7 @@ def seconds_told(seconds: float) -> str:
 
 
 def registration_period(value: int) -> str:
-    """REG_PRD: 2^(REG_PRD / 4) times 80 ms, where it isn't 0 (7.7.2.3.2.1)."""
+    """Returns REG_PRD in seconds: 2^(REG_PRD / 4) times 80 ms, if it isn't 0 (7.7.2.3.2.1)."""
     return f"at least every {seconds_told(TICK * 2 ** (value / 4))}" if value else "not by a timer"
 
 

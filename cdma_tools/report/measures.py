@@ -1,8 +1,7 @@
-"""What a sample file says by itself: level, pilot, carrier and clock that are left, correlation, constellation.
+"""What a sample file shows by itself: level, pilot, carrier and clock that are left, correlation, constellation.
 
-Strengths are ratios of a pilot's energy to what it would be if the pilot were all that the samples hold: of N samples
-whose squares add up to W that is 2 N W, since a point of the code has two parts of 1 (docs/LINK.md). In noise alone an
-energy is 2 W on average, and above x times that with the chance exp(-x).
+Strengths are ratios of a pilot's energy to what it would be if the samples contained only the pilot: for N samples
+whose squares add up to W that is 2 N W, since a point of the code has two parts of 1 (docs/LINK.md). In pure noise an energy is 2 W on average, and above x times that with probability exp(-x).
 """
 
 import dataclasses
@@ -29,14 +28,14 @@ MOST_FRAMES = 16  # sync frames whose symbols are shown: 2,048 points
 
 
 class Level(NamedTuple):
-    """How strong the samples are: the mean of their squared absolute value, and their greatest part."""
+    """Strength of the samples: the mean of their squared absolute value, and their greatest part."""
 
     power: float
     top: int
 
 
 class Correlation(NamedTuple):
-    """Strengths round the best phase: chips from it, and the ratio at each."""
+    """Strengths around the best phase: chips from it, and the ratio at each."""
 
     deltas: NDArray[numpy.int64]
     ratios: NDArray[numpy.float64]
@@ -51,9 +50,10 @@ class Symbols(NamedTuple):
 
 @dataclasses.dataclass(frozen=True)
 class Measured:
-    """What was measured of a sample file; None where it is too short, or no pilot stands out.
+    """What was measured of a sample file; None if it is too short, or no pilot stands out.
 
-    `version` is 0 where it is no sample file; `told` samples are those of its header, and `count` it has.
+    `version` is 0 if it is no sample file; `told` is the number of samples in its header, and `count` the number it
+    has.
     """
 
     version: int
@@ -69,7 +69,7 @@ class Measured:
 
     @property
     def seconds(self) -> float:
-        """How long the samples last."""
+        """Returns the length of the samples."""
         return self.count / CHIP_RATE
 
     @property
@@ -87,7 +87,7 @@ class ReadablePart:
     """A sample file, or as much as there is of it."""
 
     def __init__(self, path: str) -> None:
-        """Reads the header; only whole samples count, and a file that is none has version 0 and no samples."""
+        """Reads the header; only complete samples count, and a file of another kind has version 0 and no samples."""
         self.path, self.version, self.told, self.count = path, 0, 0, 0
         with open(path, "rb") as file:
             head = file.read(HEADER.size).ljust(HEADER.size, b"\0")
@@ -114,7 +114,7 @@ def level_of(file: ReadablePart) -> Level:
 
 
 def code_at(points: NDArray[numpy.complex128], phase: int, count: int) -> NDArray[numpy.complex128]:
-    """The points that so many samples meet, the first of them at a phase."""
+    """Returns the points that `count` samples meet, the first of them at a phase."""
     return points[(phase + numpy.arange(count)) % PERIOD]
 
 
@@ -140,9 +140,9 @@ def frames_shown(file: ReadablePart, phase: int) -> NDArray[numpy.int64]:
 def turned(
     file: ReadablePart, points: NDArray[numpy.complex128], start: int
 ) -> tuple[NDArray[numpy.complex128], NDArray[numpy.complex128]]:
-    """The sync symbols of a frame, 128 of them turned by the pilot, and the frame's 32 sums of the pilot.
+    """Returns the sync symbols of a frame, 128 of them turned by the pilot, and the frame's 32 sums of the pilot.
 
-    A symbol that is sent as the pilot is, is 1 where the two have one amplitude.
+    A symbol that is sent like the pilot is 1 if both have the same amplitude.
     """
     chips = file.read(start, SYNC_FRAME) * points.conj()
     pilot = chips.reshape(-1, PILOT_SUM).sum(axis=1) / PILOT_SUM
@@ -168,7 +168,8 @@ def symbols_of(
 
 
 def drift_of(file: ReadablePart, points: NDArray[numpy.complex128], phase: int, span: int) -> int | None:
-    """How many chips earlier the pilot comes at the file's end than at its begin; None where it doesn't stand out."""
+    """Returns the chips by which the pilot is earlier at the file's end than at its begin; None if it doesn't stand
+    out."""
     first = file.count - span
     ratios = ratios_at(file.read(first, span), points, phase + first)
     best = int(ratios.argmax())
@@ -176,7 +177,8 @@ def drift_of(file: ReadablePart, points: NDArray[numpy.complex128], phase: int, 
 
 
 def measured(path: str, phase: int | None, span: int) -> Measured:
-    """What a sample file says by itself, at the phase that the program found in its first samples, if it did."""
+    """Returns what a sample file shows by itself, at the phase that the program found in its first samples, if it did.
+    """
     file = ReadablePart(path)
     plain = Measured(file.version, file.told, file.count, span)
     if not file.count:

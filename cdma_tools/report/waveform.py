@@ -23,7 +23,7 @@ HALF_CHANNEL = 614_400.0
 
 
 class Raw(NamedTuple):
-    """A recording's samples, and the frequency in Hz of its middle where it tells one."""
+    """A recording's samples, and the frequency in Hz of its middle if it has one."""
 
     path: str
     kind: str
@@ -43,12 +43,12 @@ class Waveform(NamedTuple):
 
     @property
     def channel(self) -> Channel | None:
-        """The channel on which the carrier lies, where the recording tells its frequency."""
+        """Returns the channel on which the carrier lies, if the recording has its frequency."""
         return None if self.middle is None or self.carrier is None else channel_at(self.middle + self.carrier)
 
 
 def paging_row(gathered: Gathered) -> int | None:
-    """The row of the paging channel that was followed, where a page was heard on it."""
+    """Returns the row of the followed paging channel, if a page was decoded on it."""
     told = [word.removeprefix("--paging=") for word in gathered.follow.words if word.startswith("--paging=")]
     row = int(told[0]) if told and told[0].isdigit() else 1
     return row if row in PAGING_ROWS and gathered.follow.reads("paging") else None
@@ -114,7 +114,7 @@ def domain_plot(made: Waveform) -> Plot | None:
 
 
 def frames_map(domain: CodeDomain) -> graph_objects.Heatmap:
-    """The rows' levels over the frames, of which some are averaged where there are many."""
+    """Returns the rows' levels over the frames, some of which are averaged if there are many."""
     step = max(1, -(-len(domain.frames) // MOST_ROWS))
     groups = max(1, len(domain.frames) // step)
     means = (
@@ -211,7 +211,7 @@ def plots_of(made: Waveform) -> list[Plot]:
 
 
 def rows_of(made: Waveform) -> list[tuple[str, str]]:
-    """What the card on the waveform says: names and figures."""
+    """Returns the names and figures of the card on the waveform."""
     told: list[tuple[str, str]] = []
     if made.domain is not None:
         domain = made.domain
