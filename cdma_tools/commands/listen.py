@@ -167,12 +167,12 @@ def check(words: argparse.ArgumentParser, options: argparse.Namespace) -> None:
         words.error(f"{options.out} is a folder")
 
 
-def lock_options(options: argparse.Namespace, kind: str, rate: Fraction) -> LockOptions:
+def lock_options(options: argparse.Namespace, kind: str, rate: Fraction, is_live: bool = False) -> LockOptions:
     """What the lock is asked for."""
     if rate < CHIP_RATE:
         raise Refused(f"{float(rate):.0f} samples a second are fewer than the chip rate, {CHIP_RATE}")
     return LockOptions(
-        kind, float(rate), options.fingers, options.shift, options.search, options.conjugate, options.equaliser
+        kind, float(rate), options.fingers, options.shift, options.search, options.conjugate, options.equaliser, is_live
     )
 
 
@@ -236,7 +236,7 @@ def listen(options: argparse.Namespace) -> int:
             writer = LineWriter(output.write, is_json, counts, output.already)
             is_heard = hear_recording(source, handset, writer, options.part, options.workers, options.scheduler)
         else:
-            lock = lock_options(options, source.kind, source.rate)
+            lock = lock_options(options, source.kind, source.rate, is_live=True)
             writer = LineWriter(output.write, is_json, counts)
             is_heard = hear_stream(source, lock, handset, writer, output, output.already.lines > 0)
     if not is_heard:

@@ -25,11 +25,17 @@ class Anchor:
     chip: float
 
 
+# What is searched while no pilot stands out, in words.
+SEARCHED = "of each 2.4 s half are searched, and half left out"
+SEARCHED_LIVE = "carriers are searched in turn, and what comes during a search is left out"
+
+
 class Silence:
     """Seconds without a pilot, told once a minute."""
 
-    def __init__(self) -> None:
+    def __init__(self, is_live: bool = False) -> None:
         """A pilot is heard."""
+        self.searched = SEARCHED_LIVE if is_live else SEARCHED
         self.begin: float | None = None
         self.told = self.end = 0.0
 
@@ -38,7 +44,7 @@ class Silence:
         self.end = end
         if self.begin is None:
             self.begin = self.told = begin
-            return Remark(begin, "no pilot stands out from here on; of each 2.4 s half are searched, and half left out")
+            return Remark(begin, f"no pilot stands out from here on; {self.searched}")
         if end - self.told < SILENCE:
             return None
         self.told = end
@@ -68,7 +74,7 @@ class Listening:
         self.since, self.overlap, self.seams = since, overlap, seams
         self.relay: Relay | None = None
         self.keeps_anchors, self.anchors = keeps_anchors, list[Anchor]()
-        self.silence = Silence()
+        self.silence = Silence(options.is_live)
         self.is_heard = False  # whether a pilot was
 
     @property

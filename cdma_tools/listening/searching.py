@@ -1,13 +1,29 @@
 """Where a pilot stands out in a stream: the first one, or one that was lost."""
 
+import itertools
+import time as clock
 from dataclasses import dataclass
 
 import numpy
+from numpy.typing import NDArray
 
 from cdma_tools.listening.pursuit import STRIDE, Pursuit
 from cdma_tools.listening.ring import Ring, Window
 from cdma_tools.listening.streaming_front import StreamingFront
-from cdma_tools.radio.acquisition import BIN, MOST_STRETCHES, STEP, STRETCH, Found, finer, looks, strongest
+from cdma_tools.radio.acquisition import (
+    BIN,
+    MOST_STRETCHES,
+    STEP,
+    STRETCH,
+    Best,
+    Found,
+    bins_within,
+    finer,
+    limited,
+    looks,
+    places_of,
+    strongest,
+)
 from cdma_tools.radio.air import CHIP_RATE, PERIOD
 from cdma_tools.radio.confirmation import confirm
 from cdma_tools.radio.front import GUARD, turn
@@ -22,6 +38,10 @@ PARTS = (0.0, 0.45)
 PAUSE = 2 * WINDOW
 # Rounds in which the carrier is made finer.
 ROUNDS = 2
+# A live stream: bins of a slice, which a processor searches in some 0.1 s, and seconds after which no further slice is
+# begun, so that the search is never as far behind the air as samples are kept for it.
+SLICE_BINS, MOST_SEARCH = 16, 1.5
+NEIGHBORS = STEP * numpy.arange(-4, 5)
 
 
 @dataclass(frozen=True)
@@ -48,8 +68,11 @@ def first_pilot(
     window = StreamingFront(Window(ring, first, count))
     window.set_carrier(centre)
     found = next((seen for seen in looks(window, search, conjugates, PARTS) if seen.excess > 1), None)
-    if found is None:
-        return None
+    return None if found is None else confirmed(ring, window, first, found)
+
+
+def confirmed(ring: Ring, window: StreamingFront, first: int, found: Found) -> Start | None:
+    """The start of a pilot that seems to stand out in a window; None if it isn't heard beside that place."""
     ring.is_conjugate ^= found.is_conjugate
     for _ in range(ROUNDS):
         window.set_carrier(found.hertz)
@@ -62,6 +85,80 @@ def first_pilot(
     clock, late = clock_error(window, found, confirmation.slope)
     time = first / window.ratio + found.time + late
     return Start(found._replace(time=time), clock)
+
+
+@dataclass(frozen=True)
+class Slice:
+    """Bins and a spectrum that are searched together."""
+
+    bins: NDArray[numpy.int64]
+    is_conjugate: bool
+
+
+class LiveSearch:
+    """The search in a live stream, which keeps up with the air: slices of the carriers, the nearest first, in turn.
+
+    A search ends after a round of all slices, or when it has taken `MOST_SEARCH` seconds; the next one goes on with the
+    next slice. What comes in the meantime is left out.
+    """
+
+    def __init__(self, search: float, conjugates: tuple[bool, ...]) -> None:
+        """Nothing was searched yet."""
+        bins = bins_within(search)
+        bins = bins[numpy.argsort(numpy.abs(bins), kind="stable")]
+        bands = numpy.array_split(bins, -(-len(bins) // SLICE_BINS))
+        self.slices = [Slice(band, turned) for band in bands for turned in conjugates]
+        self.turns = itertools.cycle(self.slices)
+        self.seconds = 0.0  # that the last search took
+
+    def first_pilot(self, ring: Ring, first: int, count: int, centre: float) -> Start | None:
+        """Where a pilot stands out in samples first to first + count - 1; see the function of this name."""
+        began = clock.monotonic()
+        try:
+            window = StreamingFront(Window(ring, first, count))
+            window.set_carrier(centre)
+            halves = Halves(window)
+            for part in itertools.islice(self.turns, len(self.slices)):
+                found = halves.look(part, len(PARTS) * len(self.slices))
+                if found is not None:
+                    return confirmed(ring, window, first, found)
+                if clock.monotonic() - began > MOST_SEARCH:
+                    return None
+            return None
+        finally:
+            self.seconds = clock.monotonic() - began
+
+
+class Halves:
+    """The stretches of a window in which slices are looked for, two samples a chip, each made once."""
+
+    def __init__(self, window: StreamingFront) -> None:
+        """None is made yet."""
+        self.window, self.places = window, places_of(window, PARTS)
+        self.kept: dict[tuple[float, int], NDArray[numpy.complex64]] = {}
+
+    def stretch(self, place: float, number: int, is_conjugate: bool) -> NDArray[numpy.complex64]:
+        """A stretch after a place."""
+        if (place, number) not in self.kept:
+            made = limited(self.window.steady(place + number * STRETCH, 2 * STRETCH, 2))
+            self.kept[place, number] = made
+        made = self.kept[place, number]
+        return made.conj() if is_conjugate else made
+
+    def strongest(self, place: float, part: Slice, tries: int) -> Best:
+        """The strongest cell of a slice at a place."""
+        return strongest(lambda number: self.stretch(place, number, part.is_conjugate), part.bins, tries)
+
+    def look(self, part: Slice, tries: int) -> Found | None:
+        """Looks for a slice at each place."""
+        for place in self.places:
+            best = self.strongest(place, part, tries)
+            if best.excess > 1:
+                # A strong pilot stands out in its neighbors too, which may belong to another slice.
+                best = self.strongest(place, Slice(best.bin + NEIGHBORS, part.is_conjugate), tries)
+                shift = -self.window.carrier if part.is_conjugate else self.window.carrier
+                return Found(place + best.late, best.phase, shift + best.bin * BIN, best.excess, part.is_conjugate)
+        return None
 
 
 class SearchNear:

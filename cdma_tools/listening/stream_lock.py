@@ -25,7 +25,7 @@ from cdma_tools.listening.instants import Instants
 from cdma_tools.listening.pieces import Break, Chips, Lost, Piece, Unheard
 from cdma_tools.listening.pursuit import STRIDE, TOGETHER, Pursuit
 from cdma_tools.listening.ring import Ring
-from cdma_tools.listening.searching import PAUSE, WINDOW, SearchNear, code_steps, first_pilot
+from cdma_tools.listening.searching import PAUSE, WINDOW, LiveSearch, SearchNear, code_steps, first_pilot
 from cdma_tools.listening.streaming_front import AT_ONCE, StreamingFront
 from cdma_tools.listening.timeline import Timeline
 from cdma_tools.radio.acquisition import SPAN, TRIES
@@ -62,6 +62,7 @@ class LockOptions:
     search: float = SPAN  # Hz to each side
     conjugate: str = "try"  # whether the spectrum is inverted: yes, no, try
     equaliser: str = "try"  # whether the base station sends through its phase equaliser
+    is_live: bool = False  # whether samples come as the air does, and a search has to keep up
 
 
 class State(Enum):
@@ -85,6 +86,7 @@ class StreamLock:
         self.front, self.chip_front = StreamingFront(self.ring), StreamingFront(self.ring)
         self.state = State.SEARCHING
         self.centre, self.conjugates = options.shift, TRIES[options.conjugate]
+        self.live = LiveSearch(options.search, self.conjugates) if options.is_live else None
         self.place = 0  # the sample from which a search looks
         self.has_equaliser: bool | None = {"yes": True, "no": False}.get(options.equaliser)
         self.scale = 0.0
@@ -170,20 +172,31 @@ class StreamLock:
         if there < count:
             self.ring.drop(min(self.place, self.ring.count) - BLOCKS_BEFORE * self.front.samples)
             return False
-        start = first_pilot(self.ring, self.place, count, self.centre, self.options.search, self.conjugates)
+        if self.live is not None:
+            start = self.live.first_pilot(self.ring, self.place, count, self.centre)
+        else:
+            start = first_pilot(self.ring, self.place, count, self.centre, self.options.search, self.conjugates)
         if start is None:
             yield from self.pause(count)
             return True
         for front in (self.front, self.chip_front):
             front.set_carrier(start.found.hertz)
         self.conjugates, self.centre = (False,), start.found.hertz
+        if self.live is not None:
+            self.live = LiveSearch(self.options.search, self.conjugates)
         self.pursuit, self.state = Pursuit(self.front, start.found, start.clock), State.SETTLING
         return True
 
     def pause(self, count: int) -> Iterator[Piece]:
-        """Says that no pilot stands out in so many samples from the place of the search on, and moves that on."""
+        """Says that no pilot stands out in so many samples from the place of the search on, and moves that on.
+
+        In a live stream it moves on by what came while it was searched, and in a file always by as much.
+        """
         begin = self.place
-        self.place += int(PAUSE * self.front.ratio)
+        if self.live is None:
+            self.place += int(PAUSE * self.front.ratio)
+        else:
+            self.place += max(count, int(self.live.seconds * self.ring.rate))
         self.ring.drop(begin + count)
         yield Unheard(begin / self.ring.rate, self.place / self.ring.rate)
 

@@ -21,6 +21,8 @@ import unittest.mock
 from dataclasses import dataclass
 from typing import Any
 
+import numpy
+
 from tools.tests import test_listen, test_listening_runs
 from tools.tests.helping import EXAMPLES, NO_PROGRAM, PROGRAM, needs, run_inside, temporary_folder
 from tools.tests.listening_cell import CHIP_RATE, HANDSET, PN, made_cell
@@ -37,11 +39,13 @@ from cdma_tools.listening.output import GrowingFile
 from cdma_tools.listening.pieces import Chips
 from cdma_tools.listening.relay import MOST_KILLED, Relay
 from cdma_tools.listening.seams import LEAST_OVERLAP
-from cdma_tools.listening.stream_lock import LockOptions
+from cdma_tools.listening.searching import SLICE_BINS, LiveSearch
+from cdma_tools.listening.stream_lock import LockOptions, StreamLock
+from cdma_tools.radio.acquisition import bins_within
 
 KILLS = int(os.environ.get("CDMA_LISTEN_KILLS", "4"))
 HOURS, PIECE_SECONDS = 24, 4
-PERIOD = 32_768
+PERIOD, RATE = 32_768, 1_228_800.0
 SECONDS = 120.0  # that anything takes at most
 STREAM, TOOL, ENVIRONMENT = test_listen.STREAM, test_listen.TOOL, test_listen.ENVIRONMENT
 ORIGIN = rb"origin utc=20\d\d-\d\d-\d\dT\d\d:\d\d:\d\d\.\d{6}Z\n"
@@ -403,6 +407,104 @@ class DayTest(unittest.TestCase):
         """The anchors that a part of a recording keeps are seen to grow."""
         found = self.memory(True, 4)
         self.assertGreater(found[-1] - found[1], 100_000, found)
+
+
+class Air:
+    """Samples that come as time goes on, by a clock that only what a search takes moves on."""
+
+    def __init__(self, costs: float | None = None) -> None:
+        """A slice takes so many seconds, or else what this process takes."""
+        self.idle, self.costs, self.count = 0.0, costs, 0
+        self.begun = time.process_time()
+
+    def now(self) -> float:
+        """The time."""
+        taken = time.process_time() - self.begun if self.costs is None else self.costs * self.count
+        return self.idle + taken
+
+    def look(self, *_: Any) -> None:
+        """Finds nothing, after some time."""
+        self.count += 1
+
+    def lag(self, lock: StreamLock, seconds: float) -> float:
+        """By how many seconds a lock is behind the air at most, in so many seconds."""
+        noise, most = random.Random(1).randbytes(2 * int(0.05 * RATE)), 0.0
+        while lock.seconds < seconds:
+            behind = self.now() - lock.seconds
+            most = max(most, behind)
+            self.idle += max(0.0, 0.05 - behind)
+            list(lock.feed(noise))
+        return most
+
+
+class NoiseTest(unittest.TestCase):
+    """A live stream in which no pilot stands out: the search keeps up with it, however long it takes."""
+
+    seconds = 6
+
+    def live(self, search: float) -> StreamLock:
+        """The lock of a live stream, whose carrier is searched so many Hz to each side."""
+        return StreamLock(LockOptions("ci8", RATE, search=search, is_live=True))
+
+    def test_whatever_the_search_takes(self) -> None:
+        for search in (500.0, 21_000.0, 88_000.0, 600_000.0):
+            for costs in (0.001, 0.05, 0.2, 0.5, 1.2):
+                air = Air(costs)
+                with (
+                    self.subTest(search=search, costs=costs),
+                    unittest.mock.patch("cdma_tools.listening.searching.Halves.look", air.look),
+                    unittest.mock.patch("cdma_tools.listening.searching.clock.monotonic", air.now),
+                ):
+                    self.assertLess(air.lag(self.live(search), 25.0), 3.0)
+                    self.assertGreater(air.count, 5)
+
+    def test_what_it_takes_a_processor(self) -> None:
+        """Time goes on as this process uses a processor, so that other processes don't count."""
+        with unittest.mock.patch("cdma_tools.radio.acquisition.WORKERS", 1):
+            for search in (21_000.0, 88_000.0):
+                air = Air()
+                with unittest.mock.patch("cdma_tools.listening.searching.clock.monotonic", air.now):
+                    self.assertLess(air.lag(self.live(search), 7.0), 3.0, search)
+
+    def test_all_slices_are_searched_in_turn(self) -> None:
+        search = LiveSearch(88_000.0, (False, True))
+        bins = sorted((int(one), part.is_conjugate) for part in search.slices for one in part.bins)
+        self.assertEqual(bins, sorted((int(one), turned) for one in bins_within(88_000.0) for turned in (False, True)))
+        nearest = [abs(int(part.bins[0])) for part in search.slices]
+        self.assertEqual(nearest, sorted(nearest))
+        self.assertLessEqual(max(len(part.bins) for part in search.slices), SLICE_BINS)
+        looked: list[int] = []
+        with (
+            unittest.mock.patch("cdma_tools.listening.searching.Halves.look", lambda _, part, __: looked.append(id(part))),
+            unittest.mock.patch("cdma_tools.listening.searching.clock.monotonic", lambda: 0.4 * len(looked)),
+        ):
+            lock = self.live(88_000.0)
+            assert lock.live is not None
+            lock.live = search
+            while len(looked) < 2 * len(search.slices):
+                list(lock.feed(bytes(200_000)))
+        wanted = [id(part) for part in search.slices]
+        self.assertEqual(looked[: 2 * len(wanted)], 2 * wanted)
+
+    @unittest.skipUnless(PROGRAM, NO_PROGRAM)
+    def test_a_pilot_is_found_where_a_file_finds_it(self) -> None:
+        """The first search of a stream finds a pilot as far off as that of a file does, in either spectrum."""
+        chips = made_cell(PROGRAM or "", 2.5).reshape(-1, 2).astype(numpy.float32)
+        samples = (chips[:, 0] + 1j * chips[:, 1]).repeat(2)
+        turned = samples * numpy.exp(2j * numpy.pi * 12_345 / (2 * CHIP_RATE) * numpy.arange(len(samples)))
+        for given in (turned, turned.conj()):
+            data = given.astype(numpy.complex64).tobytes()
+            found = []
+            for is_live in (False, True):
+                unlimited = unittest.mock.patch("cdma_tools.listening.searching.MOST_SEARCH", 1_000.0)
+                unlimited.start()
+                self.addCleanup(unlimited.stop)
+                lock = StreamLock(LockOptions("cf32_le", 2.0 * CHIP_RATE, is_live=is_live))
+                pieces = [*lock.feed(data), *lock.finish()]
+                sent = b"".join(piece.parts for piece in pieces if isinstance(piece, Chips))
+                found.append((lock.ring.is_conjugate, round(lock.centre, -1), sent))
+            self.assertEqual(found[0][:2], found[1][:2])
+            self.assertTrue(found[0][2] == found[1][2] and len(found[0][2]) > 4 * CHIP_RATE)
 
 
 class UnitTest(unittest.TestCase):
