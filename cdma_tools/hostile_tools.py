@@ -20,6 +20,7 @@ from collections.abc import Callable, Iterator
 from typing import Any, NamedTuple
 from unittest import mock
 
+from cdma_tools import hostile_ends
 from cdma_tools.commands import scan, status_of
 from cdma_tools.sample_header import HEADER, header
 
@@ -27,6 +28,7 @@ from cdma_tools.sample_header import HEADER, header
 INPUTS = ["input", "input", "cell.is95", "cell.is95", "input.sigmf-meta", "survey.txt", "it.script", "none", ""]
 SECONDS, MOST_WAIT = 60, 600  # of a processor, and in all, in which each run has to end
 MOST_CARRIERS = 1_000  # that a scan may ask for here, where it may try more elsewhere: that takes half a minute
+ENDS_ONE_IN = 3  # runs of which one is a process whose end is looked at
 MORE_ARGUMENTS = (0, 0, 1, 1, 2, 6)  # than those that a run needs
 NUMBERS = [
     "0",
@@ -373,6 +375,9 @@ def case(folder: str, script: bytes, seed: int, number: int) -> Ran:
     try:
         os.chdir(place)
         room = Room(place, draw, script)
+        if draw.randrange(ENDS_ONE_IN) == 0:
+            kind, line, fault = hostile_ends.case(place, draw)
+            return Ran(f"end {kind}", 0, f"run {number} of seed {seed}: {line}: {fault}" if fault else "")
         words = drawn_arguments(tool, room)
         status, fault = run(tool, words, some_bytes(draw))
         fault = fault or room.fault(tool, status)

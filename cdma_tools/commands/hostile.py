@@ -8,10 +8,13 @@ crates/cdma_replay && rt run -- find < ../../examples/pilot_in_noise.is95)`.
 
     tools/hostile --count 1000
     tools/hostile --tools --count 10000
+    tools/hostile --tools --seconds 60 --seed "$RANDOM"
 
 --tools tries the tools instead of the program. Each run is a tool with random arguments, metadata and bytes. It must
 end within 60 processor seconds with a status that the tool's --help names, without a traceback, with one line that
-gives the reason if the status isn't 0, and with nothing half written. `tools/starve` makes each allocation fail.
+gives the reason if the status isn't 0, and with nothing half written. Every third run is a process: its output is its
+input, a file that no listening wrote, a FIFO or a device; or it is interrupted at a random moment; or it shares its
+work, and may listen on loopback addresses only. `tools/starve` makes each allocation fail.
 
 Exit status: 0 no fault, 1 some, 2 wrong arguments.
 """
@@ -21,8 +24,9 @@ import random
 import re
 import subprocess
 import tempfile
+import time
 from collections import Counter
-from collections.abc import Callable
+from collections.abc import Callable, Iterator
 from concurrent.futures import ThreadPoolExecutor
 from functools import partial
 
@@ -34,7 +38,7 @@ from cdma_tools.program import add_program_option, find_program
 from cdma_tools.sample_header import HEADER, header
 from cdma_tools.workers import mapped
 
-MOST_SHOWN = 20
+MOST_SHOWN, MOST_SECONDS = 20, 1_000_000
 LINES = {
     0: r"",
     1: r"no sync message\n",
@@ -190,6 +194,8 @@ def parser() -> Parser:
         "--seed", type=count_of, default=1995, metavar="N", help="the seed that they are drawn from, else 1995"
     )
     arguments.add_argument("--tools", action="store_true", help="try the tools, and not the program")
+    seconds = "with --tools: begin no run after so many seconds, in place of --count"
+    arguments.add_argument("--seconds", type=whole_within(1, MOST_SECONDS), metavar="S", help=seconds)
     add_program_option(arguments)
     return arguments
 
@@ -203,25 +209,40 @@ def faults_of(case: Callable[[int], str | None], count: int) -> list[str]:
         pool.shutdown(cancel_futures=True)
 
 
-def runs_of_tools(count: int, seed: int) -> tuple[list[str], Counter[tuple[str, int]]]:
-    """Returns the faults of `count` runs of tools, and how they ended."""
+def rounds_of(count: int, seconds: int | None, jobs: int) -> Iterator[range]:
+    """Yields the numbers of runs: all at once, or `jobs` at a time as long as there is time."""
+    if seconds is None:
+        yield range(count)
+        return
+    until, first = time.monotonic() + seconds, 0
+    while time.monotonic() < until:
+        yield range(first, first + jobs)
+        first += jobs
+
+
+def runs_of_tools(count: int, seconds: int | None, seed: int) -> tuple[list[str], Counter[tuple[str, int]]]:
+    """Returns the faults of `count` runs of tools, or of as many as some seconds allow, and how they ended."""
     statuses: Counter[tuple[str, int]] = Counter()
-    faults = []
+    faults, jobs = [], os.cpu_count() or 1
     with open(os.path.join(EXAMPLES, "frames_9600.script"), "rb") as file:
         script = file.read()
     with tempfile.TemporaryDirectory(prefix="hostile-") as folder:
-        for ran in mapped(partial(hostile_tools.case, folder, script, seed), range(count), os.cpu_count() or 1):
-            statuses[ran.command, ran.status] += 1
-            faults += [ran.fault] if ran.fault else []
+        for numbers in rounds_of(count, seconds, 4 * jobs):
+            for ran in mapped(partial(hostile_tools.case, folder, script, seed), numbers, jobs):
+                statuses[ran.command, ran.status] += 1
+                faults += [ran.fault] if ran.fault else []
     return faults, statuses
 
 
 def main(arguments: list[str] | None = None) -> int:
     """Runs the tool, and returns its exit status."""
-    options = parser().parse_args(arguments)
+    words = parser()
+    options = words.parse_args(arguments)
+    if options.seconds and (options.count or not options.tools):
+        words.error("--seconds goes with --tools, in place of --count")
     if options.tools:
-        count, kind = options.count or 1_000, "runs of tools"
-        faults, statuses = runs_of_tools(count, options.seed)
+        faults, statuses = runs_of_tools(options.count or 1_000, options.seconds, options.seed)
+        count, kind = statuses.total(), f"runs of tools, seed {options.seed}"
     else:
         count, kind = options.count or 100_000, "damaged inputs"
         hostile = Hostile(find_program(options.program), options.seed)

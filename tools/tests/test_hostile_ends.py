@@ -1,0 +1,70 @@
+"""Ends of tools that `tools/hostile --tools` draws: each kind passes, and a tool that ends wrongly is seen."""
+
+import random
+import unittest
+import unittest.mock
+from collections.abc import Callable
+
+from tools.tests.helping import needs, run_tool, temporary_folder
+
+needs("numpy", "scipy", "matplotlib", "distributed")
+
+from cdma_tools import hostile_ends
+from cdma_tools.hostile_ends import KINDS, growing_file, interrupted, pipes_and_devices, same_file, sockets
+from cdma_tools.hostile_tools import Room
+
+Kind = Callable[[str, random.Random], tuple[str, str]]
+
+
+class Ends(unittest.TestCase):
+    """Runs in rooms of their own."""
+
+    seconds = 20
+
+    def fault(self, kind: Kind, seed: int, instead: str = "") -> str:
+        """The fault of a run that is drawn from a seed, or of a line of the shell in place of the tool."""
+        folder = temporary_folder(self.addCleanup)
+        draw = random.Random(seed)
+        Room(folder, draw, b"cell pn=0\n")
+        if not instead:
+            return kind(folder, draw)[1]
+        words = ["/bin/sh", "-c", instead]
+        with unittest.mock.patch.object(hostile_ends, "process_arguments", lambda _: words):
+            return kind(folder, draw)[1]
+
+    def test_each_kind_passes(self) -> None:
+        self.assertEqual({kind.__name__ for kind in KINDS} | {"sockets"}, {
+            "same_file", "growing_file", "pipes_and_devices", "interrupted", "sockets",
+        })  # fmt: skip
+        for kind in (same_file, growing_file, pipes_and_devices, interrupted):
+            for seed in range(3):
+                with self.subTest(kind.__name__, seed=seed):
+                    self.assertEqual(self.fault(kind, seed), "")
+
+    def test_sockets(self) -> None:
+        self.assertEqual(self.fault(sockets, 1), "")
+        server = "exec /usr/bin/python3 -c 'import socket, time; s = socket.create_server((chr(48), 0)); time.sleep(60)'"
+        self.assertEqual(self.fault(sockets, 1, server), "it listens at 0.0.0.0")
+
+    def test_wrong_ends_are_seen(self) -> None:
+        said = "echo Traceback >&2; exit 1"
+        for kind in (same_file, growing_file, pipes_and_devices, interrupted):
+            self.assertIn("a traceback or a warning", self.fault(kind, 1, said), kind.__name__)
+            self.assertIn("status 77", self.fault(kind, 1, "exit 77"), kind.__name__)
+        lost = "echo lost > same.png; echo same.png >&2; exit 1"
+        self.assertRegex(self.fault(same_file, 1, lost), "an input was changed|not refused")
+        self.assertIn("not refused", self.fault(same_file, 1, "exit 0"))
+        self.assertIn("was changed", self.fault(growing_file, 5, "echo x >> lines.txt"))
+        left = "trap 'exit 130' INT TERM; echo x > .part-1; echo 'x: broken off' >&2; while :; do sleep 0.01; done"
+        self.assertNotEqual(self.fault(interrupted, 3, left), "")
+
+    def test_a_time_in_place_of_a_count(self) -> None:
+        status, wrote, said = run_tool("hostile", "--tools", "--seconds", 1, "--seed", 5)
+        self.assertEqual((status, said), (0, ""), wrote)
+        self.assertRegex(wrote.decode(), r"\n\d+ runs of tools, seed 5, 0 faults\n$")
+        for words in (["--seconds", "1"], ["--tools", "--seconds", "1", "--count", "1"]):
+            self.assertEqual(run_tool("hostile", *words)[0], 2)
+
+
+if __name__ == "__main__":
+    unittest.main()
