@@ -116,6 +116,13 @@ def recording_of(path: str, given: Fraction | None) -> tuple[str, Fraction, str]
     return kind, rate, samples
 
 
+def frequency_of(path: str) -> float | None:
+    """The frequency in Hz of the middle of a SigMF recording, as its first capture tells it; None if it tells none."""
+    captures = read_json(path).get("captures", [])
+    told = captures[0].get("core:frequency") if captures else None
+    return float(told) if isinstance(told, (int, float)) and not isinstance(told, bool) else None
+
+
 def new_meta(kind: str, rate: Fraction, text: str) -> dict[str, Any]:
     """The object of a .sigmf-meta for samples of a type and a rate, with a text that describes them."""
     told = int(rate) if rate.denominator == 1 else float(rate)

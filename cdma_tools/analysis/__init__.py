@@ -8,6 +8,7 @@
 | `row_correlation` | what a row's chips have in common with those some chips later |
 | `over_paths` | the part of all power that a cell has over all its paths |
 | `branches` | the offset and the imbalance of a radio's two branches |
+| `limits` | the standard's limits of a transmission |
 | `measuring`, `telling` | an analysis of a file or a recording; the same as lines, as JSON and as a picture |
 | `symbols` | what a cell sends, symbol by symbol, as far as it was heard |
 | `taking_off` | a cell's waveform in the raw samples |

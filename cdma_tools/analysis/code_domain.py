@@ -9,8 +9,13 @@ smoothed over some milliseconds, and a mean is taken over the blocks.
 - The share of a row is P_r / (k I - q S), where I is the mean of |x|^2, S the sum of P_r over the rows in use, and q
   the power of the pulse's sides (`pulse`), which the transmitter doesn't send as an error. k is the part of a pulse's
   power that the front leaves, which empties the bin of direct current: I is k times what it would be, P_r k^2 times.
-  rho is the sum of the shares of the rows in use, and rho of the pilot its share alone. The error vector is
-  sqrt((1 - rho) / rho).
+  rho is the sum of the shares of the rows in use, at most 1. Its spread is that of the means of parts of the chips. The
+  error vector is sqrt((1 - rho) / rho).
+- The total of a row is the standard's code domain power, with the noise that falls into it:
+  (2 mean(|y_r|^2) - q S / 64) / (k I - q S), without the pulse's sides, which spread evenly. The 64 totals add up to 1.
+  The floor is the mean of the totals of the rows that aren't in use.
+- Where only the pilot is sent its waveform quality is the standard's rho, coherent over a power control group:
+  2 mean(|g|^2) / (k I - q S), with the mean g of each group.
 - The phase of a row is half the angle of the sum of (y_r / u)^2.
 - The time of a row is -mean(Re(y'_r / u y_r / u)) / (P_r / 2 sum R'(k)^2), where y' are the rows of
   sum_k x(n + k) R'(k).
@@ -33,7 +38,7 @@ from cdma_tools.analysis.walsh import (
     moving,
     to_whole_symbols,
 )
-from cdma_tools.radio.air import CHIP_RATE, PERIOD, ROWS, decibels, short_code
+from cdma_tools.radio.air import CHIP_RATE, PERIOD, ROWS, decibels, ratio_of, short_code
 
 # Chips that are taken at once: 80 ms, three periods of the code and 64 power control groups. All that is done with them
 # stays in a processor's cache.
@@ -45,6 +50,8 @@ SMOOTHED = 3
 # Standard deviations of noise from which a row counts as in use, and the least share in dB: 64 rows of noise pass six
 # of them once in ten million times, and the pulse's sides make rows of -45 dB.
 LEAST_SIGMA, LEAST_SHARE = 6.0, -33.0
+# Parts of the chips whose own rho tell its spread.
+PARTS = 16
 # The least spread of noise that is reckoned with, as a part of all power: made files have none.
 LEAST_SPREAD = 1e-7
 # Chips to each side at which the pulse after its filter is widest.
@@ -63,7 +70,8 @@ class Row:
     """What one Walsh row shows; its phase and its time are relative to the pilot's."""
 
     row: int
-    db: float  # of all power
+    db: float  # of all power, without the noise in it; -99 where that leaves nothing
+    total_db: float  # of all power, with the noise in it: the standard's code domain power
     sigma: float  # standard deviations of noise by which its power stands out
     is_used: bool
     degrees: float
@@ -76,8 +84,10 @@ class CodeDomain:
 
     rows: tuple[Row, ...]
     frames: NDArray[numpy.float32]  # (frames, 64), parts of all power of that frame
-    rho: float
-    rho_pilot: float
+    rho: float  # at most 1
+    rho_spread: float  # the standard deviation of rho
+    pilot_share: float  # the pilot's part of all power
+    pilot_only_rho: float | None  # the standard's waveform quality where only the pilot is sent
     chips: int  # that were measured
     time_left: float  # chips by which the pilot comes later than the chips were taken
     carrier_left: float  # Hz
@@ -88,6 +98,16 @@ class CodeDomain:
     def used(self) -> list[Row]:
         """The rows in use."""
         return [row for row in self.rows if row.is_used]
+
+    @property
+    def unused(self) -> list[Row]:
+        """The other rows, the one with the greatest total first."""
+        return sorted((row for row in self.rows if not row.is_used), key=lambda row: -row.total_db)
+
+    @property
+    def floor_db(self) -> float:
+        """The mean of the totals of the rows that aren't in use, in dB of all power."""
+        return decibels(float(numpy.mean([ratio_of(row.total_db) for row in self.unused]))) if self.unused else -99.0
 
 
 class Sums(NamedTuple):
@@ -193,37 +213,96 @@ class Meter:
         return domain_of(self.sums, self.has_times, self.is_pulsed, self.kept_power) if self.sums else None
 
 
+class Levels(NamedTuple):
+    """Powers of the 64 rows with and without noise, and of all chips, over some groups."""
+
+    signal: NDArray[numpy.float64]
+    total: NDArray[numpy.float64]
+    mean: float
+    blocks: int
+
+
+def levels_of(sums: list[Sums], squares: NDArray[numpy.complex64], powers: NDArray[numpy.float32]) -> Levels:
+    """The powers over all groups of pieces, whose squares and powers are given joined."""
+    blocks = len(squares) * GROUP_BLOCKS
+    mean = sum(float(piece.total.sum()) for piece in sums) / (blocks * ROWS) or 1e-30
+    signal = 2 * squares.real.sum(axis=0, dtype=float) / blocks
+    signal[PILOT_ROW] = 2 * sum(float(piece.neighbours.sum()) for piece in sums) / (blocks - len(sums))
+    signal[SYNC_ROW] = 2 * sum(float(piece.four.sum()) for piece in sums) / (blocks / SYNC_BLOCKS)
+    return Levels(signal, 2 * powers.sum(axis=0, dtype=float) / blocks, mean, blocks)
+
+
+class Quality(NamedTuple):
+    """The rows in use, and all rows' shares and totals."""
+
+    sigma: NDArray[numpy.float64]
+    used: NDArray[numpy.bool_]
+    shares: NDArray[numpy.float64]
+    totals: NDArray[numpy.float64]
+    clean: float  # all power without the pulse's sides
+
+
+def quality_of(levels: Levels, noise: float, is_pulsed: bool, kept: float) -> Quality:
+    """What the powers of rows show, in noise of so much power in a row's real part."""
+    signal, total, mean, blocks = levels
+    spread = numpy.full(ROWS, 2 * noise / numpy.sqrt(blocks))
+    spread[SYNC_ROW] /= numpy.sqrt(SYNC_BLOCKS)
+    sigma = signal / numpy.maximum(spread, LEAST_SPREAD * mean)
+    used = (sigma > LEAST_SIGMA) & (signal / mean > 10 ** (LEAST_SHARE / 10))
+    used[PILOT_ROW] = True
+    own = (matched_pulse().sides if is_pulsed else 0.0) * float(signal[used].sum())
+    clean = kept * mean - own
+    return Quality(sigma, used, signal / clean, numpy.maximum(total - own / ROWS, 0.0) / clean, clean)
+
+
+def spread_of(sums: list[Sums], used: NDArray[numpy.bool_], ratio: float) -> float:
+    """The standard deviation of rho, by the means of parts; `ratio` is rho over the rows' part of all chips."""
+    signal = numpy.concatenate([piece.squares.real[:, used].sum(axis=1, dtype=float) for piece in sums])
+    pilot = numpy.concatenate([piece.squares.real[:, PILOT_ROW] for piece in sums])
+    neighbours = numpy.concatenate([piece.neighbours for piece in sums])
+    total = numpy.concatenate([piece.total for piece in sums])
+    parts = min(PARTS, len(total))
+    if parts < 2:
+        return 0.0
+    held = signal - pilot + neighbours  # the pilot's power is that between neighbouring blocks, as in the whole
+    shares = [
+        2 * ROWS * float(one.sum()) / max(float(other.sum()), 1e-30)
+        for one, other in zip(numpy.array_split(held, parts), numpy.array_split(total, parts))
+    ]
+    return ratio * float(numpy.std(shares, ddof=1)) / float(numpy.sqrt(parts))
+
+
 def domain_of(sums: list[Sums], has_times: bool, is_pulsed: bool, kept: float) -> CodeDomain:
     """The code domain of what pieces add up."""
     squares, powers, lates = (numpy.concatenate([piece[k] for piece in sums]) for k in (0, 1, 2))
     total = numpy.concatenate([piece.total for piece in sums])
-    groups = len(squares)
-    blocks = groups * GROUP_BLOCKS
-    mean = float(total.sum()) / (blocks * ROWS) or 1e-30
-    level = 2 * squares.real.sum(axis=0, dtype=float) / blocks
-    level[PILOT_ROW] = 2 * sum(float(piece.neighbours.sum()) for piece in sums) / (blocks - len(sums))
-    level[SYNC_ROW] = 2 * sum(float(piece.four.sum()) for piece in sums) / (blocks / SYNC_BLOCKS)
+    levels = levels_of(sums, squares, powers)
     noise = float((powers - squares.real)[:, 1:].mean(dtype=float)) / GROUP_BLOCKS
-    spread = numpy.full(ROWS, 2 * noise / numpy.sqrt(blocks))
-    spread[SYNC_ROW] /= numpy.sqrt(SYNC_BLOCKS)
-    sigma = level / numpy.maximum(spread, LEAST_SPREAD * mean)
-    used = (sigma > LEAST_SIGMA) & (level / mean > 10 ** (LEAST_SHARE / 10))
-    used[PILOT_ROW] = True
-    sides = matched_pulse().sides if is_pulsed else 0.0
-    clean = kept * mean - sides * float(level[used].sum())
-    shares = level / clean
-    degrees, times = phases_and_times(squares, lates, level, blocks, has_times)
+    sigma, used, shares, totals, clean = quality_of(levels, noise, is_pulsed, kept)
+    degrees, times = phases_and_times(squares, lates, levels.signal, levels.blocks, has_times)
     rows = tuple(
         Row(
-            row, decibels(float(shares[row])), float(sigma[row]), bool(used[row]),
+            row, decibels(float(shares[row])), decibels(float(totals[row])), float(sigma[row]), bool(used[row]),
             degrees[row] - degrees[PILOT_ROW], times[row] - times[PILOT_ROW],
         )
         for row in range(ROWS)  # fmt: skip
     )
+    in_rows = float(levels.signal[used].sum()) / (kept * levels.mean)
+    gains = numpy.concatenate([piece.gains for piece in sums])
+    pilot_only = 2 * float(numpy.mean(numpy.abs(gains) ** 2)) / clean if used.sum() == 1 else None
     return CodeDomain(
-        rows, by_frames(squares, total), float(shares[used].sum()), float(shares[PILOT_ROW]), blocks * ROWS, times[0],
-        carrier_of(sums), decibels(max(piece.peak for piece in sums) / mean), float(level[used].sum()) / (kept * mean),
-    )  # fmt: skip
+        rows=rows,
+        frames=by_frames(squares, total),
+        rho=min(float(shares[used].sum()), 1.0),
+        rho_spread=spread_of(sums, used, kept * levels.mean / clean),
+        pilot_share=float(shares[PILOT_ROW]),
+        pilot_only_rho=None if pilot_only is None else min(pilot_only, 1.0),
+        chips=levels.blocks * ROWS,
+        time_left=times[0],
+        carrier_left=carrier_of(sums),
+        peak_db=decibels(max(piece.peak for piece in sums) / levels.mean),
+        in_rows=in_rows,
+    )
 
 
 def phases_and_times(

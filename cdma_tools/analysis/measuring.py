@@ -8,8 +8,10 @@ from typing import Callable, Iterator
 import numpy
 
 from cdma_tools.analysis.branches import Branches, branches_of
+from cdma_tools.analysis.cells import Search
 from cdma_tools.analysis.code_domain import PIECE, Chips, CodeDomain, Row, is_pulsed, measured
-from cdma_tools.analysis.over_paths import emptied, part_over_paths, pilot_response
+from cdma_tools.analysis.importing import Wanted, find
+from cdma_tools.analysis.over_paths import PilotResponse, part_over_paths, pilot_response
 from cdma_tools.analysis.walsh import PILOT_ROW, SYNC_ROW
 from cdma_tools.errors import Refused
 from cdma_tools.program import written_of
@@ -17,6 +19,8 @@ from cdma_tools.radio.acquisition import STRETCH, strongest
 from cdma_tools.radio.air import CHIP_RATE, PERIOD
 from cdma_tools.radio.locking import Held, Options, hold, write_held
 from cdma_tools.radio.paths import Way
+from cdma_tools.radio.strength import emptied
+from cdma_tools.recordings import Recording, Samples
 from cdma_tools.sample_file import SampleFile
 
 # Rows of paging channels (7.1.3.1.8).
@@ -135,24 +139,64 @@ def timing_of(held: Held, domain: CodeDomain, lost: int) -> Timing:
     )
 
 
+@dataclass(frozen=True)
+class SeenLock:
+    """What an analysis needs of a lock beside the chips that it wrote."""
+
+    held: Held
+    lost: int
+    branches: Branches
+    pilot: PilotResponse | None
+
+
+def seen_lock(held: Held, lost: int, recorded: Samples | None = None) -> SeenLock:
+    """What an analysis needs of a lock whose samples are open; `recorded` are the radio's, if other ones were locked."""
+    samples = held.front.recording if recorded is None else recorded
+    branches = branches_of(samples.conjugate() if held.is_conjugate else samples)
+    return SeenLock(held, lost, branches, pilot_response(held))
+
+
+def analysis_of_chips(
+    chips: str, seen: SeenLock, program: str | None, tell: Callable[[float], None] = lambda part: None
+) -> Analysis:
+    """The analysis of a cell of a recording, by the sample file that its lock wrote."""
+    held, pilot = seen.held, seen.pilot
+    phase, kept = held.pieces[0].first % PERIOD, 1 - emptied(held.front)
+    domain = domain_of_file(chips, phase, tell, kept)
+    has_paths = pilot is not None and (len(held.ways) > 1 or pilot.is_spread(domain))
+    over_paths = part_over_paths(domain, pilot) if pilot is not None and has_paths else None
+    timing = timing_of(held, domain, seen.lost)
+    return Analysis(domain, kinds_of(domain.used, program, chips), timing, seen.branches, over_paths)
+
+
 def analysis_of_recording(
     path: str, options: Options, program: str | None, folder: str, tell: Callable[[float, str], None]
 ) -> Analysis:
     """Returns the analysis of a recording's strongest cell; `folder` is for files, and `tell` gets the work done."""
     chips = os.path.join(folder, "cell.is95")
     held = hold(path, options, lambda part, text: tell(STEPS[0] * part, text))
-    with contextlib.closing(held.front.recording) as recording:
+    with contextlib.closing(held.front.recording):
         with open(chips, "wb") as file:
             reached = STEPS[1] - STEPS[0]
             lost = write_held(held, options, file, lambda part: tell(STEPS[0] + reached * part, "chips")).lost
-        recorded = recording.conjugate() if held.is_conjugate else recording
-        branches = branches_of(recorded)
-        pilot = pilot_response(held)
-    phase, kept = held.pieces[0].first % PERIOD, 1 - emptied(held.front)
-    domain = domain_of_file(chips, phase, lambda part: tell(STEPS[1] + (1 - STEPS[1]) * part, "rows"), kept)
-    has_paths = pilot is not None and (len(held.ways) > 1 or pilot.is_spread(domain))
-    over_paths = part_over_paths(domain, pilot) if pilot is not None and has_paths else None
-    return Analysis(domain, kinds_of(domain.used, program, chips), timing_of(held, domain, lost), branches, over_paths)
+        seen = seen_lock(held, lost)
+    return analysis_of_chips(chips, seen, program, lambda part: tell(STEPS[1] + (1 - STEPS[1]) * part, "rows"))
+
+
+def analysis_of_cell(
+    path: str, options: Options, wanted: Wanted, program: str | None, folder: str, tell: Callable[[str], None]
+) -> Analysis:
+    """The analysis of one cell of several, the stronger ones taken off; `folder` is for files of the samples' size."""
+    chips = os.path.join(folder, "cell.is95")
+    with Search(path, options, folder, tell) as search:
+        cell, _ = find(search, wanted)
+        assert search.left is not None
+        held = cell.alone(search.left)
+        with open(chips, "wb") as file:
+            lost = write_held(held, options, file).lost
+        with Recording(path, options.kind, float(options.rate), options.skip) as recorded:
+            seen = seen_lock(held, lost, recorded)
+    return analysis_of_chips(chips, seen, program)
 
 
 def analysis_of_file(path: str, program: str | None, tell: Callable[[float, str], None]) -> Analysis:

@@ -32,9 +32,9 @@ from cdma_tools.analysis.row_correlation import between, row_correlations
 from cdma_tools.analysis.walsh import PILOT_ROW
 from cdma_tools.radio.air import ratio_of
 from cdma_tools.radio.fitting import Fit
-from cdma_tools.radio.front import Front
 from cdma_tools.radio.locking import Held
 from cdma_tools.radio.paths import WIDTH, Way, watched
+from cdma_tools.radio.strength import emptied
 from cdma_tools.radio.tracking import SEGMENT, SUM
 
 # Chips before the first path and after the last one at which the response is taken: what lies further off of a pulse
@@ -79,7 +79,7 @@ class PilotResponse(NamedTuple):
 
     def is_spread(self, domain: CodeDomain) -> bool:
         """Whether more of the pilot arrives than the part of all power that its row shows."""
-        alone = domain.in_rows * domain.rho_pilot / domain.rho
+        alone = domain.in_rows * domain.pilot_share / domain.rho
         return self.arriving > (1 + LEAST_MORE) * alone + LEAST_SIGMA * self.spread
 
 
@@ -138,13 +138,6 @@ def without_own(products: NDArray[numpy.complex128], delays: NDArray[numpy.int64
     return cleared
 
 
-def emptied(front: Front) -> float:
-    """The part of the power of a matched pulse that lies in the bin of direct current, which the front empties."""
-    at = numpy.flatnonzero((front.bins + front.coarse) % front.samples == 0)
-    power = numpy.abs(front.response) ** 2
-    return float(power[at].sum() / power.sum())
-
-
 def part_over_paths(domain: CodeDomain, pilot: PilotResponse) -> float:
     """Returns the cell's share of all power: 1 - left / all, where all is what is left in the chips and what arrives of
     it."""
@@ -154,4 +147,4 @@ def part_over_paths(domain: CodeDomain, pilot: PilotResponse) -> float:
     powers /= powers[0]
     left = 1 - domain.in_rows - pilot.beside(powers @ correlations)
     arriving = float(powers.sum()) * pilot.arriving
-    return arriving / (arriving + left)
+    return min(arriving / (arriving + left), 1.0)

@@ -1,4 +1,4 @@
-"""The spectrum of a recording, on average and over its time, and the channels of the standard."""
+"""The spectrum of a recording, on average and over its time."""
 
 from typing import NamedTuple
 
@@ -10,15 +10,6 @@ from cdma_tools.recordings import Recording
 
 # Bins of a transform, rows of time, and transforms that are averaged for a row: they lie evenly in the row's time.
 BINS, ROWS, AVERAGED = 256, 160, 24
-# Bands (7.1.1.1): the least channel, the greatest one, the frequency of channel 0 in Hz, and the step.
-BANDS = (
-    (1, 799, 870_000_000, 30_000),
-    (991, 1_023, 870_000_000 - 1_023 * 30_000, 30_000),
-    (0, 1_199, 1_930_000_000, 50_000),
-)
-# Hz by which a carrier may lie beside a channel's middle: 5 millionths at 1.9 GHz.
-NEAR = 10_000.0
-
 
 class Spectrum(NamedTuple):
     """Levels in dB of full scale: hertz above the middle (bins,), means (bins,), seconds (rows,), (rows, bins)."""
@@ -27,22 +18,6 @@ class Spectrum(NamedTuple):
     mean: NDArray[numpy.float64]
     seconds: NDArray[numpy.float64]
     rows: NDArray[numpy.float64]
-
-
-class Channel(NamedTuple):
-    """A channel of the standard: its number, and the frequency of its middle in Hz."""
-
-    number: int
-    hertz: float
-
-
-def channel_at(hertz: float) -> Channel | None:
-    """The channel on whose middle a base station's carrier lies; none where there is none."""
-    for least, greatest, zero, step in BANDS:
-        number = round((hertz - zero) / step)
-        if least <= number <= greatest and abs(zero + step * number - hertz) <= NEAR:
-            return Channel(number, float(zero + step * number))
-    return None
 
 
 def full_scale(recording: Recording) -> float:

@@ -4,15 +4,19 @@ from typing import Any
 
 import numpy
 
-from cdma_tools.analysis.code_domain import LEAST_SHARE, Row
+from cdma_tools.analysis.code_domain import Row
 from cdma_tools.analysis.measuring import Analysis
 from cdma_tools.plots import plotting
 
 # Decimals of the figures of the first line; those of times are a thousandth of a chip, 0.8 nanoseconds.
 DECIMALS = {
     "rho": 4,
-    "rho_pilot": 4,
+    "rho_spread": 5,
+    "pilot_share": 4,
+    "pilot_only_rho": 4,
     "error_vector": 4,
+    "floor_db": 2,
+    "unused_db": 2,
     "peak_db": 2,
     "seconds": 4,
     "carrier_left": 2,
@@ -36,13 +40,19 @@ def figures_of(analysis: Analysis) -> dict[str, Any]:
     domain, timing, branches = analysis.domain, analysis.timing, analysis.branches
     told: dict[str, Any] = {
         "rho": analysis.rho,
+        "rho_spread": domain.rho_spread,
         "rho_by": "moments" if analysis.over_paths is None else "paths",
-        "rho_pilot": domain.rho_pilot,
+        "pilot_share": domain.pilot_share,
         "error_vector": analysis.error_vector,
+        "floor_db": domain.floor_db,
         "peak_db": domain.peak_db,
         "chips": domain.chips,
         "seconds": analysis.seconds,
     }
+    if domain.pilot_only_rho is not None:
+        told["pilot_only_rho"] = domain.pilot_only_rho
+    if domain.unused:
+        told |= {"unused_db": domain.unused[0].total_db, "unused_row": domain.unused[0].row}
     if timing is None:
         told |= {"carrier_left": domain.carrier_left, "time_left": domain.time_left}
     else:
@@ -73,7 +83,7 @@ def number_text(name: str, value: Any) -> str:
 
 def row_text(row: Row, kind: str) -> str:
     """The line of a row."""
-    level = f"db={row.db:.2f} sigma={row.sigma:.1f}"
+    level = f"db={row.db:.2f} total_db={row.total_db:.2f} sigma={row.sigma:.1f}"
     return f"row={row.row} kind={kind} {level} degrees={row.degrees:.2f} chips={row.chips:.4f}"
 
 
@@ -97,6 +107,7 @@ def object_of(analysis: Analysis, name: str) -> dict[str, Any]:
             "row": row.row,
             "kind": analysis.kinds.get(row.row, "none"),
             "db": round(row.db, 3),
+            "total_db": round(row.total_db, 3),
             "sigma": round(row.sigma, 2),
             "used": row.is_used,
             "degrees": round(row.degrees, 3),
@@ -115,7 +126,7 @@ def draw(analysis: Analysis, title: str) -> Any:
     kinds = [analysis.kinds.get(row.row, "none") for row in analysis.domain.rows]
     for kind, colour in {**COLOURS, "none": "#c9ccd1"}.items():
         rows = [row for row, own in zip(analysis.domain.rows, kinds) if own == kind]
-        heights = [max(row.db, LOWEST) - LOWEST for row in rows]
+        heights = [max(row.total_db, LOWEST) - LOWEST for row in rows]
         if rows:
             bars.bar(
                 [row.row for row in rows],
@@ -124,7 +135,7 @@ def draw(analysis: Analysis, title: str) -> Any:
                 color=colour,
                 label="not in use" if kind == "none" else kind,
             )
-    bars.axhline(LEAST_SHARE, color="#9a9a9a", linewidth=0.6, linestyle=":")
+    bars.axhline(analysis.domain.floor_db, color="#9a9a9a", linewidth=0.6, linestyle=":")
     bars.set(xlim=(-0.8, 63.8), ylim=(LOWEST, 0), ylabel="dB of all power", title=title)
     bars.legend(ncols=5, fontsize=7, loc="upper right")
     bars.grid(axis="y", alpha=0.3)

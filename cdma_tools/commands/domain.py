@@ -4,11 +4,15 @@ FILE_OR_RECORDING is a sample file, or a recording of a radio: a .sigmf-meta, or
 --rate are given. Of a recording the strongest pilot is locked to first, as tools/import_capture --lock does. The first
 line has figures of the whole:
 
-    rho              the part of all power that the rows in use have, without the interference of the pulse's own sides;
-                     over several paths, the part that would go without the cell: 1 - left / all
+    rho              the part of all power that the rows in use have, without the interference of the pulse's own sides,
+                     at most 1; over several paths, the part that would go without the cell: 1 - left / all
+    rho_spread       the standard deviation of rho, from parts of the chips
     rho_by           moments of the chips, or paths: of the pilot over several paths too, also where they have one peak
-    rho_pilot        the pilot's part alone, on the strongest path
+    pilot_share      the pilot's part of all power, on the strongest path
+    pilot_only_rho   if only a pilot is sent: the standard's waveform quality of it
     error_vector     the root mean square of the error over that of what is sent: sqrt((1 - rho) / rho)
+    floor_db         the mean power of a row that isn't in use, in dB of all power: the noise floor
+    unused_db, _row  the greatest power of a row that isn't in use, and which row that is
     peak_db          the greatest power of a chip over the mean, in dB
     chips, seconds   how much was measured
     carrier_hz       of a recording: the carrier above the middle, half way, in Hz
@@ -24,14 +28,22 @@ line has figures of the whole:
     samples_peak_db  of a recording: the greatest power of a sample over the mean, in dB
 
 Then each Walsh row in use gets a line: what it is (pilot, sync, paging where the program hears a message on it, other),
-its level in dB of all power, by how many standard deviations of noise it stands out (6 or more, and -33 dB), its phase
-and its time against the pilot's. The formulas stand in docs/RADIO.md.
+its level in dB of all power without the noise in it (db) and with it (total_db, the standard's code domain power), by
+how many standard deviations of noise it stands out (6 or more, and -33 dB), its phase and its time against the pilot's.
+The formulas stand in docs/RADIO.md.
+
+With --cell K or --pn P a weaker cell of a recording is measured, without the stronger ones. --limits compares the cell
+with the standard's limits (C.S0010): rho of at least 0.912, unused rows 27 dB below all power, rows within 50 ns and
+0.05 rad of the pilot, and the carrier within 0.05 millionths of its channel, by the radio's oscillator. Each limit gets
+a line, and a case in the files of --junit and --tap; one that is not met ends the tool with status 1.
 
     tools/domain radio.sigmf-meta
+    tools/domain radio.sigmf-meta --cell 2
+    tools/domain radio.sigmf-meta --limits --junit limits.xml
     tools/domain --type cu8 --rate 2400000 radio.cu8 --plot rows.png --json rows.json
     tools/domain second.is95 --all
 
-Exit status: 0 measured, 1 no pilot, or a file that can't be read or written, 2 wrong arguments.
+Exit status: 0 measured, 1 no pilot, a limit that isn't met, or a file that can't be read or written, 2 wrong arguments.
 """
 
 import argparse
@@ -40,25 +52,29 @@ import os
 import sys
 import tempfile
 
-from cdma_tools.analysis.measuring import Analysis, analysis_of_file, analysis_of_recording
+from cdma_tools.analysis.importing import Wanted
+from cdma_tools.analysis.limits import Limit, limits_of
+from cdma_tools.analysis.measuring import Analysis, analysis_of_cell, analysis_of_file, analysis_of_recording
 from cdma_tools.analysis.telling import draw, object_of, text_of
-from cdma_tools.arguments import Parser, count_of, hertz_of, number_above, rate_of
+from cdma_tools.arguments import Parser, count_of, hertz_of, rate_of
+from cdma_tools.cell_options import CELL_OPTIONS, add_cell_options
 from cdma_tools.errors import Refused, printable, said
+from cdma_tools.frequencies import FREQUENCY_OPTIONS, add_frequency_options, frequency_fault, frequency_given
 from cdma_tools.overwriting import STANDARD, InputFile, OutputFile
 from cdma_tools.program import add_program_option, find_program
 from cdma_tools.plots import picture_of, plain, save
 from cdma_tools.progress import bar
-from cdma_tools.radio.acquisition import TRIES
-from cdma_tools.radio.air import CHIP_RATE
 from cdma_tools.radio.locking import Options
 from cdma_tools.radio.plain import TYPE_CHOICES, assumed, recording_told, with_hints
-from cdma_tools.sigmf import META
+from cdma_tools.radio.search_policy import TRIES, add_search_options
+from cdma_tools.results import check_place, json_of, junit_of, tap_of
+from cdma_tools.sigmf import META, frequency_of
 from cdma_tools.starting import called
 from cdma_tools.writing import write_out
 
-MOST_SEARCH = CHIP_RATE / 2
 # Options that go with a recording alone.
-RECORDING_ONLY = ("skip", "shift", "search", "conjugate", "equaliser")
+LOCK_OPTIONS = ("skip", "shift", "search", "conjugate", "equaliser")
+RECORDING_ONLY = (*LOCK_OPTIONS, *CELL_OPTIONS, *FREQUENCY_OPTIONS)
 
 
 def parser() -> Parser:
@@ -73,6 +89,10 @@ def parser() -> Parser:
         "--plot", type=picture_of, metavar="FILE", help="draw the rows over the whole and over the frames: .png or .svg"
     )
     add_program_option(words)
+    limits = words.add_argument_group("the standard's limits")
+    limits.add_argument("--limits", action="store_true", help="compare the cell with the standard's limits")
+    limits.add_argument("--tap", action="store_true", help="with --limits: write only these, as TAP, version 13")
+    limits.add_argument("--junit", type=OutputFile, metavar="FILE", help="with --limits: write these as JUnit's XML too")
     recording = words.add_argument_group("of a recording")
     recording.add_argument(
         "--type",
@@ -84,12 +104,11 @@ def parser() -> Parser:
     )
     recording.add_argument("--skip", type=count_of, metavar="N", help="leave out the first N samples, else 0")
     recording.add_argument("--shift", type=hertz_of, metavar="HZ", help="search round this carrier, else 0")
-    recording.add_argument(
-        "--search", type=number_above(0, MOST_SEARCH), metavar="HZ",
-        help="search so many Hz to each side, else 21,000, and 88,000 where no pilot is there",
-    )  # fmt: skip
-    for name, what in (("conjugate", "an inverted spectrum"), ("equaliser", "the base station's phase equaliser")):
-        recording.add_argument(f"--{name}", choices=TRIES, help=f"{what}: whether it is there, else try")
+    add_search_options(recording)
+    add_cell_options(recording)
+    add_frequency_options(recording, "the recording's middle, if no .sigmf-meta tells it")
+    sent = "the base station's phase equaliser: whether it is there, else try"
+    recording.add_argument("--equaliser", choices=TRIES, help=sent)
     return words
 
 
@@ -107,8 +126,21 @@ def check_arguments(words: Parser, options: argparse.Namespace) -> None:
         words.error("--type and --rate needed, unless it is a .sigmf-meta or a sample file")
     if not is_recording(options) and (given := [name for name in RECORDING_ONLY if getattr(options, name) is not None]):
         words.error(f"--{given[0]} goes with a recording: a .sigmf-meta, or --type and --rate")
-    if options.plot == options.json == STANDARD:
-        words.error("--plot and --json can't both go to standard output")
+    if fault := frequency_fault(options):
+        words.error(fault)
+    if given := [f"--{name}" for name in ("tap", "junit") if getattr(options, name) and not options.limits]:
+        words.error(f"{given[0]} needs --limits")
+    check_outputs(words, options)
+
+
+def check_outputs(words: Parser, options: argparse.Namespace) -> None:
+    """Ends with status 2 where two things would go to standard output, or a file of JUnit has no folder."""
+    given = [name for name, is_there in (
+        ("--plot", options.plot == STANDARD), ("--json", options.json == STANDARD), ("--tap", options.tap)
+    ) if is_there]  # fmt: skip
+    if len(given) > 1:
+        words.error(f"{given[0]} and {given[1]} can't both go to standard output")
+    check_place(options)
 
 
 def program_of(options: argparse.Namespace, lines: list[str]) -> str | None:
@@ -120,6 +152,11 @@ def program_of(options: argparse.Namespace, lines: list[str]) -> str | None:
             raise
         lines.append(f"{why}; no row is told as a paging channel")
         return None
+
+
+def wanted_of(options: argparse.Namespace) -> Wanted:
+    """The cell that is asked for; PILOT_PN is told by the program, which has to be there then."""
+    return Wanted(options.cell, options.pn, None if options.pn is None else find_program(options.program))
 
 
 def analysed(options: argparse.Namespace, lines: list[str]) -> Analysis:
@@ -140,9 +177,18 @@ def analysed(options: argparse.Namespace, lines: list[str]) -> Analysis:
         kind, rate, path = recording_told(options)
         hints = assumed(options, kind, path)
         lines += hints
-        given = {name: value for name in RECORDING_ONLY if (value := getattr(options, name)) is not None}
+        given = {name: value for name in LOCK_OPTIONS if (value := getattr(options, name)) is not None}
+        asked = Options(kind, rate, **given)
         with with_hints(hints):
-            return analysis_of_recording(path, Options(kind, rate, **given), program, folder, tell)
+            if options.pn is not None or (options.cell or 1) > 1:
+                return analysis_of_cell(path, asked, wanted_of(options), program, folder, shown.set_description)
+            return analysis_of_recording(path, asked, program, folder, tell)
+
+
+def middle_of(options: argparse.Namespace) -> float | None:
+    """The frequency in Hz of a recording's middle: as the options name it, otherwise as its .sigmf-meta tells it."""
+    given = frequency_given(options)
+    return frequency_of(options.recording) if given is None and options.recording.endswith(META) else given
 
 
 def shown_name(path: str) -> str:
@@ -150,18 +196,25 @@ def shown_name(path: str) -> str:
     return printable(os.fsencode(os.path.basename(path)).decode("utf-8", "backslashreplace"))
 
 
-def write_all(options: argparse.Namespace, analysis: Analysis) -> None:
+def write_all(options: argparse.Namespace, analysis: Analysis, limits: list[Limit]) -> None:
     """Writes what is asked for: files, and on standard output the lines, or the one thing that is to go there."""
-    name = shown_name(options.recording)
+    name, results = shown_name(options.recording), [limit.result for limit in limits]
     if options.plot is not None:
         title = f"{plain(name)}: rho {analysis.rho:.4f}, {len(analysis.domain.used)} rows in use"
         save(draw(analysis, title), options.plot, dpi=120)
     if options.json is not None:
         with write_out(options.json) as file:
-            file.write((json.dumps(object_of(analysis, name)) + "\n").encode())
-    if STANDARD not in (options.plot, options.json):
-        sys.stdout.write(text_of(analysis, options.all))
-        sys.stdout.flush()
+            told = object_of(analysis, name) | ({"limits": [json_of(result) for result in results]} if limits else {})
+            file.write((json.dumps(told) + "\n").encode())
+    if options.junit is not None:
+        with write_out(options.junit) as file:
+            file.write(junit_of(called("domain"), results))
+    if options.tap:
+        tests = "".join(tap_of(number, result) for number, result in enumerate(results, 1))
+        sys.stdout.write(f"TAP version 13\n1..{len(results)}\n{tests}")
+    elif STANDARD not in (options.plot, options.json):
+        sys.stdout.write(text_of(analysis, options.all) + "".join(limit.line for limit in limits))
+    sys.stdout.flush()
 
 
 def main(arguments: list[str] | None = None) -> int:
@@ -170,7 +223,9 @@ def main(arguments: list[str] | None = None) -> int:
     options = words.parse_args(arguments)
     check_arguments(words, options)
     lines: list[str] = []
-    write_all(options, analysed(options, lines))
+    analysis = analysed(options, lines)
+    limits = limits_of(analysis, middle_of(options)) if options.limits else []
+    write_all(options, analysis, limits)
     for line in lines:
         said(called("domain"), line)
-    return 0
+    return 0 if all(limit.is_met for limit in limits) else 1

@@ -68,18 +68,18 @@ from cdma_tools.arguments import (
     Parser,
     count_of,
     hertz_of,
-    number_above,
     rate_of,
     scale_of,
     whole_within,
 )
+from cdma_tools.cell_options import CELL_OPTIONS, add_cell_options
 from cdma_tools.checks import FLAGS_BYTES, FLAGS_PLACE, reflag, tried
 from cdma_tools.errors import Refused, said
 from cdma_tools.overwriting import InputFile, OutputFile, UpdatedFile
 from cdma_tools.program import add_program_option, find_program
 from cdma_tools.progress import bar
-from cdma_tools.radio.air import CHIP_RATE
 from cdma_tools.radio.plain import TYPE_CHOICES, assumed, plain_chips, recording_told, with_hints
+from cdma_tools.radio.search_policy import TRIES, add_search_options
 from cdma_tools.sample_file import GREATEST, header
 from cdma_tools.starting import called
 from cdma_tools.writing import write_out
@@ -88,12 +88,9 @@ if TYPE_CHECKING:
     from cdma_tools.analysis.importing import Taken
     from cdma_tools.radio.locking import Locked, Options
 
-MOST_SEARCH = CHIP_RATE / 2
-OFFSETS = 512  # pilot offsets (7.1.3.1.9)
-LOCK_ONLY = ("fingers", "conjugate", "equaliser", "search", "meta", "cell", "pn")
+LOCK_ONLY = ("fingers", "conjugate", "equaliser", "search", "meta", *CELL_OPTIONS)
 # Those of the first that a lock takes as they are.
 LOCK_OPTIONS = ("fingers", "conjugate", "equaliser", "search")
-MOST_RANK = 12
 
 
 class CaptureParser(Parser):
@@ -121,25 +118,11 @@ def add_lock_words(words: argparse.ArgumentParser) -> None:
         "--fingers", type=int, choices=(1, 2, 3), help="how many paths the receiver will follow, else 1: the chips are taken"
         " where so many fingers, whole chips apart, hold most energy"
     )  # fmt: skip
+    add_search_options(lock)
     lock.add_argument(
-        "--search",
-        type=number_above(0, MOST_SEARCH),
-        metavar="HZ",
-        help="search so many Hz to each side, else 21,000, and 88,000 where no pilot is there: the most takes a processor"
-        " some minutes",
+        "--equaliser", choices=TRIES, help="the base station's phase equaliser: whether it is there, else try"
     )
-    for name, what in (("conjugate", "an inverted spectrum"), ("equaliser", "the base station's phase equaliser")):
-        lock.add_argument(f"--{name}", choices=("yes", "no", "try"), help=f"{what}: whether it is there, else try")
-    which = lock.add_mutually_exclusive_group()
-    which.add_argument(
-        "--cell",
-        type=whole_within(1, MOST_RANK),
-        metavar="K",
-        help="the K-th strongest cell, else 1: stronger ones are taken off first",
-    )
-    which.add_argument(
-        "--pn", type=whole_within(0, OFFSETS - 1), metavar="P", help="the cell of PILOT_PN P, as the program hears it"
-    )
+    add_cell_options(lock)
     note = "write the recording's .sigmf-meta with a note of what was found"
     lock.add_argument("--meta", type=UpdatedFile, metavar="FILE", help=note)
 

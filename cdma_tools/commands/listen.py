@@ -39,7 +39,7 @@ import sys
 from fractions import Fraction
 
 from cdma_tools import sigmf
-from cdma_tools.arguments import Parser, Within, number_above, number_within, rational, whole_within, wrong
+from cdma_tools.arguments import Parser, Within, number_within, rational, whole_within, wrong
 from cdma_tools.errors import Refused, WrongArguments
 from cdma_tools.listening.follow_run import Handset
 from cdma_tools.listening.line_writer import LineWriter
@@ -51,11 +51,11 @@ from cdma_tools.listening.sources import SCHEME, server_of
 from cdma_tools.listening.stream_lock import LockOptions
 from cdma_tools.overwriting import InputFile, OutputFile
 from cdma_tools.program import add_program_option, find_program
-from cdma_tools.radio.acquisition import SPAN, TRIES
 from cdma_tools.radio.air import CHIP_RATE
+from cdma_tools.radio.search_policy import TRIES, add_search_options, policy_of
 from cdma_tools.recordings import TYPES, sample_count
 
-MOST_RATE, MOST_SHIFT, MOST_SEARCH, MOST_WORKERS = 100_000_000, 50_000_000, CHIP_RATE / 2, 64
+MOST_RATE, MOST_SHIFT, MOST_WORKERS = 100_000_000, 50_000_000, 64
 LEAST_PART, MOST_PART = 10, 1_000_000
 JSON_LINES = ".jsonl"
 SERIAL = re.compile(r"[0-9a-f]{8}")
@@ -112,10 +112,9 @@ def parser() -> Parser:
     lock = words.add_argument_group("the lock")
     middle = "search the first carrier round one that lies HZ above the middle, else 0"
     lock.add_argument("--shift", type=number_within(-MOST_SHIFT, MOST_SHIFT), default=0.0, metavar="HZ", help=middle)
-    span = f"so many Hz to each side, else {SPAN:,.0f}"
-    lock.add_argument("--search", type=number_above(0, MOST_SEARCH), default=SPAN, metavar="HZ", help=span)
-    for name, what in (("conjugate", "an inverted spectrum"), ("equaliser", "the base station's phase equaliser")):
-        lock.add_argument(f"--{name}", choices=TRIES, default="try", help=f"{what}: whether it is there, else try")
+    add_search_options(lock)
+    sent = "the base station's phase equaliser: whether it is there, else try"
+    lock.add_argument("--equaliser", choices=TRIES, default="try", help=sent)
     shared = words.add_argument_group("files of samples")
     lasts = f"seconds of a part, else {PART:.0f}"
     shared.add_argument("--part", type=number_within(LEAST_PART, MOST_PART), default=PART, metavar="S", help=lasts)
@@ -172,8 +171,9 @@ def lock_options(options: argparse.Namespace, kind: str, rate: Fraction, is_live
     if rate < CHIP_RATE:
         raise Refused(f"{float(rate):.0f} samples a second are fewer than the chip rate, {CHIP_RATE}")
     return LockOptions(
-        kind, float(rate), options.fingers, options.shift, options.search, options.conjugate, options.equaliser, is_live
-    )
+        kind, float(rate), options.fingers, options.shift, options.search, policy_of(options).conjugate,
+        options.equaliser, is_live,
+    )  # fmt: skip
 
 
 def handset_of(options: argparse.Namespace) -> Handset:
@@ -240,7 +240,8 @@ def listen(options: argparse.Namespace) -> int:
             writer = LineWriter(output.write, is_json, counts)
             is_heard = hear_stream(source, lock, handset, writer, output, output.already.lines > 0)
     if not is_heard:
-        raise Refused("no pilot stands out anywhere")
+        policy = policy_of(options)
+        raise Refused(f"no pilot stands out anywhere {policy.searched(options.shift)}{policy.advice}")
     return 0
 
 

@@ -45,6 +45,7 @@ from cdma_tools.program import add_program_option, find_program
 from cdma_tools.radio.air import CHIP_RATE
 from cdma_tools.radio.guessing import type_of
 from cdma_tools.radio.plain import AUTO
+from cdma_tools.radio.search_policy import SEARCH_OPTIONS, add_search_options
 from cdma_tools.recordings import sample_count
 from cdma_tools.report import cells, document, gathering, measures, waveform
 from cdma_tools.report.heard_lines import heard_lines, is_lines
@@ -96,6 +97,7 @@ def parser() -> Parser:
         metavar="N",
         help="of a recording: a section for each of up to N cells, else 1",
     )
+    add_search_options(words.add_argument_group("of a recording"))
     follow = words.add_argument_group("arguments of follow")
     for name, told in FOLLOW_WORDS.items():
         follow.add_argument(f"--{name}", metavar="H" if name == "esn" else "N", help=told)
@@ -126,7 +128,7 @@ def is_recording(options: argparse.Namespace) -> bool:
 
 def import_words(options: argparse.Namespace) -> list[str]:
     """The arguments for the import: it takes as many paths as follow does."""
-    told = [("type", options.type), ("rate", options.rate), ("fingers", options.fingers)]
+    told = [(name, getattr(options, name)) for name in ("type", "rate", "fingers", *SEARCH_OPTIONS)]
     return [f"--{name}={value}" for name, value in told if value is not None] + shlex.split(options.more)
 
 
@@ -240,6 +242,7 @@ def seconds_of(options: argparse.Namespace) -> float:
 def listening_words(options: argparse.Namespace, program: str, out: str) -> list[str]:
     """The arguments of a listening to a recording."""
     given = {"type": options.type, "rate": options.rate, "program": program, "out": out}
+    given |= {name: getattr(options, name) for name in SEARCH_OPTIONS}
     given |= {name: getattr(options, name) for name in FOLLOW_WORDS if name not in ("span", "workers")}
     return [options.recording, *(f"--{name}={value}" for name, value in given.items() if value is not None)]
 
@@ -269,8 +272,10 @@ def check_words(words: Parser, options: argparse.Namespace) -> None:
     """Ends with status 2 where options don't go together."""
     if options.cells > 1 and not is_recording(options):
         words.error("--cells goes with a recording: a .sigmf-meta, or --type and --rate")
-    if options.more and not is_recording(options):
-        words.error("--import goes with a recording: a .sigmf-meta, or --type and --rate")
+    given = [name for name in ("more", *SEARCH_OPTIONS) if getattr(options, name)]
+    if given and not is_recording(options):
+        name = given[0].replace("more", "import")
+        words.error(f"--{name} goes with a recording: a .sigmf-meta, or --type and --rate")
     try:
         shlex.split(options.more)
     except ValueError as why:

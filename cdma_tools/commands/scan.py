@@ -6,14 +6,15 @@ recording's middle, in steps of 1.25 MHz or of --step, as far as a whole channel
 in the width. What stands out is tracked for a third of a second, and told where a pilot is heard there too. Each pilot
 gets a line:
 
-    carrier_hz=1249851.2 ec_io_db=-9.1 excess=14.20 phase=5021 at_s=0.0300 conjugate=no sigma=412.0 clock_ppm=4.0
+    carrier_hz=1249851.2 ec_io_db=-9.12 excess=14.20 phase=5021 at_s=0.0300 conjugate=no sigma=412.0 clock_ppm=4.0
 
 carrier_hz is the carrier above the middle, excess its energy over the threshold, which noise alone reaches in one
 recording of a million, and phase the code phase at the time at_s. sigma is by how many standard deviations of noise it
 stands out where it was tracked, 12 or more, and clock_ppm by how many millionths the recording's clock is slow, to one.
-A clock that is up to 110 millionths off goes with a carrier that is up to 88 kHz off at 800 MHz: --search 88000 finds
-that. At most 100,000 centre frequencies and 2,000,000 carriers, in steps of 300 Hz round each, are tried, which takes a
-processor some hours; what asks for more is refused. To lock to a pilot:
+Round each centre frequency the carrier is searched 21 kHz to each side, in the spectrum as it is and then inverted. If
+no centre has a pilot there, 88 kHz to each side are searched, which meets a clock that is 110 millionths off at 800
+MHz. --search and --conjugate replace that. At most 100,000 centre frequencies and 2,000,000 carriers, in steps of 300 Hz
+round each, are tried, which takes a processor some hours; what asks for more is refused. To lock to a pilot:
 
     tools/import_capture --lock --shift 1249851 RECORDING FILE
 
@@ -22,18 +23,20 @@ Exit status: 0 a pilot was found, 1 none, or the recording can't be taken, 2 wro
 
 import argparse
 import sys
+from dataclasses import replace
 
 from cdma_tools import sigmf
-from cdma_tools.arguments import MOST_HERTZ, Parser, count_of, number_above, number_within, rate_of, text_of
+from cdma_tools.arguments import MOST_HERTZ, Parser, count_of, number_within, rate_of, text_of
 from cdma_tools.errors import Refused, said
 from cdma_tools.overwriting import InputFile
 from cdma_tools.progress import bar
-from cdma_tools.radio.acquisition import SPAN, TRIES, bins_within
+from cdma_tools.radio.acquisition import bins_within
 from cdma_tools.radio.air import CHIP_RATE
 from cdma_tools.radio.confirmation import LEAST
 from cdma_tools.radio.front import Front
 from cdma_tools.radio.plain import TYPE_CHOICES, assumed, recording_told, with_hints
 from cdma_tools.radio.scanning import RASTER, Seen, everywhere, raster, scan
+from cdma_tools.radio.search_policy import SPAN, SearchPolicy, add_search_options, policy_of
 from cdma_tools.recordings import Recording
 from cdma_tools.starting import called
 
@@ -61,14 +64,7 @@ def parser() -> argparse.ArgumentParser:
         "--step", type=number_within(1_000, MOST_HERTZ), metavar="HZ", help="between centre frequencies, else 1,250,000"
     )
     where.add_argument("--all", action="store_true", help="every frequency in the width")
-    words.add_argument(
-        "--search",
-        type=number_above(0, CHIP_RATE / 2),
-        metavar="HZ",
-        default=SPAN,
-        help="round each, so many Hz to each side, else 21,000",
-    )
-    words.add_argument("--conjugate", choices=TRIES, default="no", help="whether the spectrum is inverted, else no")
+    add_search_options(words)
     words.add_argument("--verbose", action="store_true", help="a line for the centres without a pilot too")
     return words
 
@@ -76,7 +72,7 @@ def parser() -> argparse.ArgumentParser:
 def text(seen: Seen, is_verbose: bool) -> str:
     """The line of a centre; none where it has no pilot and none is asked for."""
     if seen.is_pilot:
-        level = f"ec_io_db={seen.ec_io:.1f} " if seen.ec_io > -99 else ""
+        level = f"ec_io_db={seen.ec_io:.2f} " if seen.ec_io > -99 else ""
         return (
             f"carrier_hz={seen.carrier:.1f} {level}excess={seen.excess:.2f} phase={seen.phase} at_s={seen.seconds:.4f}"
             f" conjugate={'yes' if seen.is_conjugate else 'no'} sigma={seen.sigma:.1f} clock_ppm={seen.clock:.1f}\n"
@@ -85,17 +81,17 @@ def text(seen: Seen, is_verbose: bool) -> str:
     return f"no pilot round {seen.centre:.0f} Hz, excess={seen.excess:.2f}{tracked}\n" if is_verbose else ""
 
 
-def fault_of(found: list[Seen]) -> str:
+def fault_of(found: list[Seen], policy: SearchPolicy) -> str:
     """Why no centre has a pilot; nothing where one has."""
     if any(seen.is_pilot for seen in found):
         return ""
-    best = max(seen.excess for seen in found)
+    best, where = max(seen.excess for seen in found), f"at {len(found):,} centres, {policy.searched_round('each')}"
     if best <= 1:
-        return f"no pilot stands out at {len(found)} centres: the best energy is {best:.2f} of the threshold"
+        return f"no pilot stands out {where}: the best energy is {best:.2f} of the threshold{policy.advice}"
     sigma = max(seen.sigma for seen in found)
     return (
-        f"no pilot at {len(found)} centres: what stood out wasn't heard beside it, with {sigma:.1f} standard deviations"
-        f" of noise at most, and a pilot has {LEAST:.0f}"
+        f"no pilot {where}: what stood out wasn't heard beside it, with {sigma:.1f} standard deviations of noise at"
+        f" most, and a pilot has {LEAST:.0f}{policy.advice}"
     )
 
 
@@ -108,15 +104,24 @@ def check_words(words: argparse.ArgumentParser, options: argparse.Namespace) -> 
         words.error("--type and --rate needed, unless RECORDING is a .sigmf-meta")
 
 
-def centres_of(options: argparse.Namespace, rate: float) -> list[float]:
+def policy_round(options: argparse.Namespace) -> SearchPolicy:
+    """The search round each centre: only the near step if the centres' own searches meet each other."""
+    policy = policy_of(options)
+    if options.search is None and (options.all or (options.step or RASTER) <= 2 * SPAN):
+        return replace(policy, search=SPAN)
+    return policy
+
+
+def centres_of(options: argparse.Namespace, rate: float, policy: SearchPolicy) -> list[float]:
     """The centre frequencies that are tried; refuses more than would ever be done."""
-    step = options.search if options.all else options.step or RASTER
+    step = policy.span if options.all else options.step or RASTER
     if rate / step > MOST_CENTRES:
         raise Refused(
             f"more than {MOST_CENTRES} centre frequencies: give a greater {'--search' if options.all else '--step'}"
         )
-    centres = everywhere(rate, options.search) if options.all else raster(rate, step)
-    if len(bins_within(options.search)) * len(TRIES[options.conjugate]) * len(centres) > MOST_CARRIERS:
+    centres = everywhere(rate, policy.span) if options.all else raster(rate, step)
+    carriers = max(len(bins_within(step.span, step.beyond)) * len(step.spectra) for step in policy.steps_apart())
+    if carriers * len(centres) > MOST_CARRIERS:
         advice = "--step in place of --all" if options.all else "a lesser --search, or a greater --step"
         raise Refused(f"more than {MOST_CARRIERS:,} carriers round {len(centres):,} centre frequencies: give {advice}")
     return centres
@@ -131,14 +136,15 @@ def main(arguments: list[str] | None = None) -> int:
     lines = assumed(options, kind, path)
     if rate < CHIP_RATE:
         raise Refused(f"{text_of(rate)} samples a second are fewer than the chip rate, {CHIP_RATE}")
-    centres = centres_of(options, float(rate))
+    policy = policy_round(options)
+    centres, steps = centres_of(options, float(rate), policy), policy.steps_apart()
     with with_hints(lines):
         with Recording(path, kind, float(rate), options.skip) as recording, bar(
-            total=len(centres), text="scan"
+            total=len(centres) * len(steps), text="scan"
         ) as shown:
-            found = scan(Front(recording), centres, options.search, TRIES[options.conjugate], shown.update)
+            found = scan(Front(recording), centres, steps, shown.update)
         sys.stdout.write("".join(text(seen, options.verbose) for seen in found))
-        if fault := fault_of(found):
+        if fault := fault_of(found, policy):
             raise Refused(fault)
     for line in lines:
         said(called("scan"), line)

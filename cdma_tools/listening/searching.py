@@ -28,6 +28,7 @@ from cdma_tools.radio.air import CHIP_RATE, PERIOD
 from cdma_tools.radio.confirmation import confirm
 from cdma_tools.radio.front import GUARD, turn
 from cdma_tools.radio.gaps import ASTRAY, LONGEST_STEP, TRIES
+from cdma_tools.radio.search_policy import SearchPolicy, Step
 from cdma_tools.radio.tracking import clock_error
 
 # Chips that a search for a pilot looks at, and the parts of them at which it looks in turn.
@@ -58,16 +59,14 @@ def code_steps(phase: int, chip: int) -> int:
     return lost - PERIOD if lost > PERIOD - ASTRAY else lost
 
 
-def first_pilot(
-    ring: Ring, first: int, count: int, centre: float, search: float, conjugates: tuple[bool, ...]
-) -> Start | None:
+def first_pilot(ring: Ring, first: int, count: int, centre: float, step: Step) -> Start | None:
     """Where a pilot stands out in samples first to first + count - 1; turns the ring round where its conjugate has it.
 
-    The carrier is searched `search` Hz to each side of `centre`; conjugates says whether the conjugate is tried too.
+    The step says how far from `centre` the carrier is searched, and in which spectra.
     """
     window = StreamingFront(Window(ring, first, count))
     window.set_carrier(centre)
-    found = next((seen for seen in looks(window, search, conjugates, PARTS) if seen.excess > 1), None)
+    found = next((seen for seen in looks(window, step.span, step.spectra, PARTS, step.beyond) if seen.excess > 1), None)
     return None if found is None else confirmed(ring, window, first, found)
 
 
@@ -159,6 +158,29 @@ class Halves:
                 shift = -self.window.carrier if part.is_conjugate else self.window.carrier
                 return Found(place + best.late, best.phase, shift + best.bin * BIN, best.excess, part.is_conjugate)
         return None
+
+
+class SearchTurns:
+    """Which steps of the policy each search of a file takes: the first one all, later ones fewer.
+
+    They take the near step, and every second one of them a band of the further carriers too.
+    """
+
+    def __init__(self, policy: SearchPolicy) -> None:
+        """No search was made yet."""
+        near, *bands = policy.steps_in_bands()
+        self.near, self.first = near, policy.steps()
+        turns = [turn for band in bands for turn in ([near], [near, band])]
+        self.turns = itertools.cycle(turns or [[near]])
+
+    def next(self) -> list[Step]:
+        """The steps of the next search, in their order."""
+        steps, self.first = self.first or next(self.turns), []
+        return steps
+
+    def heard(self) -> None:
+        """A pilot was found: its spectrum and its carrier are known, and later searches take only the near step."""
+        self.turns, self.first = itertools.cycle([[self.near._replace(spectra=(False,))]]), []
 
 
 class SearchNear:

@@ -25,14 +25,14 @@ from cdma_tools.listening.instants import Instants
 from cdma_tools.listening.pieces import Break, Chips, Lost, Piece, Unheard
 from cdma_tools.listening.pursuit import STRIDE, TOGETHER, Pursuit
 from cdma_tools.listening.ring import Ring
-from cdma_tools.listening.searching import PAUSE, WINDOW, LiveSearch, SearchNear, code_steps, first_pilot
+from cdma_tools.listening.searching import PAUSE, WINDOW, LiveSearch, SearchNear, SearchTurns, code_steps, first_pilot
 from cdma_tools.listening.streaming_front import AT_ONCE, StreamingFront
 from cdma_tools.listening.timeline import Timeline
-from cdma_tools.radio.acquisition import SPAN, TRIES
 from cdma_tools.radio.air import CHIP_RATE, PERIOD
 from cdma_tools.radio.fitting import EQUALISED, equaliser_gain
 from cdma_tools.radio.front import GUARD
 from cdma_tools.radio.gaps import part_ways
+from cdma_tools.radio.search_policy import SearchPolicy
 from cdma_tools.radio.second_pass import ROOT_MEAN_SQUARE, ramps, whole_parts
 from cdma_tools.radio.tracking import CLOSE
 
@@ -59,10 +59,15 @@ class LockOptions:
     rate: float  # samples a second
     fingers: int = 1  # of the receiver, for which the instants are chosen
     shift: float = 0.0  # Hz round which the first carrier is searched
-    search: float = SPAN  # Hz to each side
+    search: float | None = None  # Hz to each side; None for those of the policy
     conjugate: str = "try"  # whether the spectrum is inverted: yes, no, try
     equaliser: str = "try"  # whether the base station sends through its phase equaliser
     is_live: bool = False  # whether samples come as the air does, and a search has to keep up
+
+    @property
+    def policy(self) -> SearchPolicy:
+        """Where the pilot is searched."""
+        return SearchPolicy(self.search, self.conjugate)
 
 
 class State(Enum):
@@ -85,8 +90,8 @@ class StreamLock:
         # Points are taken without the inverse of the phase equaliser, whose delay would look like the clock's.
         self.front, self.chip_front = StreamingFront(self.ring), StreamingFront(self.ring)
         self.state = State.SEARCHING
-        self.centre, self.conjugates = options.shift, TRIES[options.conjugate]
-        self.live = LiveSearch(options.search, self.conjugates) if options.is_live else None
+        self.centre, self.turns = options.shift, SearchTurns(options.policy)
+        self.live = LiveSearch(options.policy.span, options.policy.spectra) if options.is_live else None
         self.place = 0  # the sample from which a search looks
         self.has_equaliser: bool | None = {"yes": True, "no": False}.get(options.equaliser)
         self.scale = 0.0
@@ -175,15 +180,17 @@ class StreamLock:
         if self.live is not None:
             start = self.live.first_pilot(self.ring, self.place, count, self.centre)
         else:
-            start = first_pilot(self.ring, self.place, count, self.centre, self.options.search, self.conjugates)
+            tried = (first_pilot(self.ring, self.place, count, self.centre, step) for step in self.turns.next())
+            start = next((found for found in tried if found is not None), None)
         if start is None:
             yield from self.pause(count)
             return True
         for front in (self.front, self.chip_front):
             front.set_carrier(start.found.hertz)
-        self.conjugates, self.centre = (False,), start.found.hertz
+        self.turns.heard()
+        self.centre = start.found.hertz
         if self.live is not None:
-            self.live = LiveSearch(self.options.search, self.conjugates)
+            self.live = LiveSearch(self.turns.near.span, (False,))
         self.pursuit, self.state = Pursuit(self.front, start.found, start.clock), State.SETTLING
         return True
 

@@ -12,6 +12,8 @@
 | `paths` | the delays at which the pilot comes |
 | `gaps` | where samples were lost |
 | `locking` | all of that one after the other, and what was found |
+| `search_policy` | how far from the middle, and in which spectra, every tool searches |
+| `strength` | Ec/Io on the air, from the chips of a lock |
 | `scanning` | many centre frequencies, one after the other |
 | `channel` | a recording as a radio would make it, from sample files |
 | `bench` | what a lock to a recording loses, for `tools/radio_bench` |

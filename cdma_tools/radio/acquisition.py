@@ -31,15 +31,6 @@ ONE_IN = 1e6
 # Times the median magnitude to which a chip is cut: noise exceeds it once in 500 chips, so a pilot loses nothing, and
 # a strong pulse of some chips, which many stretches of the code are like, can't stand out.
 PULSE = 3.0
-# Hz to each side in which the carrier is searched: some 25 millionths at 850 MHz, and 11 at 1,900 MHz; and where no
-# pilot is found there, 100 millionths at 880 MHz.
-SPAN, WIDE_SPAN = 21_000.0, 88_000.0
-# Parts of the recording at which it is looked for a pilot in turn: any one may lie in a fade, or before a switch-on.
-PLACES = (0.0, 0.05, 0.13, 0.29, 0.41, 0.57, 0.71, 0.87)
-# Those of them at which the further carriers are tried, which takes longer.
-WIDE_PLACES = PLACES[::2]
-# What each of an option's three choices lets be tried: the recording, its conjugate, or both in turn.
-TRIES = {"yes": (True,), "no": (False,), "try": (False, True)}
 # Bins of a batch of transforms, 4 MB of numbers, and those whose energies are kept at once, 64 MB.
 BATCH, MOST_BINS = 16, 256
 # Processors that share the transforms of a batch.

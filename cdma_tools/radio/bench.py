@@ -22,7 +22,7 @@ from cdma_tools.radio.air import CHIP_RATE, PERIOD, decibels, ratio_of, short_co
 from cdma_tools.radio.bench_cases import CASES, CELLS, Case, Cell, script_of
 from cdma_tools.radio.bench_cells import CELLS_CASES, OFFSETS, CellsCase, busy_script
 from cdma_tools.radio.channel import Cell as ChannelCell
-from cdma_tools.radio.second_pass import PilotMeter
+from cdma_tools.radio.strength import PilotMeter
 from cdma_tools.sample_file import SampleFile
 from cdma_tools.sample_header import HEADER, header
 

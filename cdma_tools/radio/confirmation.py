@@ -11,8 +11,9 @@ from typing import Iterator, NamedTuple
 import numpy
 from numpy.typing import NDArray
 
-from cdma_tools.radio.acquisition import MOST_STRETCHES, PLACES, STRETCH, Found, finer, looks
+from cdma_tools.radio.acquisition import MOST_STRETCHES, STRETCH, Found, finer, looks
 from cdma_tools.radio.front import GUARD, Front
+from cdma_tools.radio.search_policy import PLACES
 from cdma_tools.radio.tracking import SUM, SUMS, pilot_sums
 
 # The clock's errors that a lock follows, and those among which the line is looked for: a line at the edge of what is
@@ -26,6 +27,8 @@ SHORT, LONG = 8, 24
 FIRST_STARTS, NEXT_STARTS = numpy.arange(-4, 5) / 4, numpy.arange(-6, 7) / 8
 # Half chips to each side of the line that the second look has; the outer two of each side tell the noise's spread.
 NEAR = 6
+# Groups of sums whose peaks make the line exact to some hundredths of a chip, and by how many chips they may move it.
+GROUPS, MOST_MOVED = 6, 0.5
 # Chips that acquisition has used.
 SEARCHED = MOST_STRETCHES * STRETCH
 # Standard deviations of noise from which a line counts. Signals without a pilot reached 3.9, pilots at -20 dB 106.
@@ -127,6 +130,27 @@ def best_line(energies: Energies, slopes: NDArray[numpy.float64], starts: NDArra
     return Line(float(slopes[slope]), float(starts[start])), float(sums[slope, start])
 
 
+def refined(energies: Energies, line: Line) -> Line:
+    """The line to some hundredths of a chip: a straight line through the peaks of groups of sums."""
+    reach, points = energies.rows.shape[1] // 2, []
+    for group in numpy.array_split(numpy.argsort(energies.middles), GROUPS):
+        if not len(group):
+            continue
+        middle = float(energies.middles[group].mean())
+        at = line.start + line.slope * middle
+        top = min(max(round(2 * at) + reach, 1), 2 * reach - 1)
+        before, here, after = energies.rows[group, top - 1 : top + 2].mean(axis=0).tolist()
+        bend = before - 2 * here + after
+        if bend < 0 < here:
+            late = (top - reach + 0.5 * (before - after) / bend) / 2 - at
+            points.append((middle, min(max(late, -MOST_MOVED), MOST_MOVED), here))
+    if len(points) < GROUPS:
+        return line
+    middles, lates, weights = numpy.array(points).T
+    slope, start = numpy.polyfit(middles, lates, 1, w=numpy.sqrt(weights))
+    return Line(line.slope + float(slope), line.start + float(start))
+
+
 def confirm(front: Front, found: Found) -> Confirmation:
     """Returns what the chips near a place found show, in a wide look and in a long one."""
     parts = parts_beside(front, found, SHORT)
@@ -143,6 +167,8 @@ def confirm(front: Front, found: Found) -> Confirmation:
     # The noise's own spread beside the line: bursts have more than white noise, whose energies spread by 1.
     spread = max(float(long.rows[:, [0, 1, -2, -1]].std()), 1.0)
     sigma = energy / (spread * numpy.sqrt(len(long.rows)))
+    if sigma >= LEAST:
+        more = refined(long, more)
     return Confirmation(line.slope + more.slope, line.start + more.start, float(sigma))
 
 

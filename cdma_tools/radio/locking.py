@@ -6,13 +6,14 @@ from fractions import Fraction
 from typing import IO, Callable, NamedTuple
 
 from cdma_tools.errors import Refused
-from cdma_tools.radio.acquisition import ONE_IN, SPAN, TRIES, WIDE_PLACES, WIDE_SPAN
+from cdma_tools.radio.acquisition import ONE_IN
 from cdma_tools.radio.air import CHIP_RATE, PERIOD
 from cdma_tools.radio.confirmation import LEAST, MOST_CLOCK, Pilot, first_pilot
 from cdma_tools.radio.fitting import EQUALISED, Fit, equaliser_gain
 from cdma_tools.radio.front import Front
 from cdma_tools.radio.gaps import Gap, find_again, part_ways
 from cdma_tools.radio.paths import Way, mean_energies, peaks
+from cdma_tools.radio.search_policy import SearchPolicy
 from cdma_tools.radio.second_pass import ROOT_MEAN_SQUARE, Piece, Written, write_chips
 from cdma_tools.radio.tracking import EVERY, SEGMENT, Track, clock_error, track
 from cdma_tools.recordings import Recording
@@ -35,7 +36,7 @@ class Options(NamedTuple):
     rate: Fraction  # samples a second
     skip: int = 0  # samples
     shift: float = 0.0  # Hz round which the carrier is searched
-    search: float | None = None  # Hz to each side; else the nearer ones, and the further ones where no pilot is there
+    search: float | None = None  # Hz to each side; None for those of the policy
     conjugate: str = "try"  # yes, no, try
     equaliser: str = "try"
     fingers: int = 1
@@ -43,6 +44,11 @@ class Options(NamedTuple):
     scale: float | None = None
     version: int = 1
     flags: int = 0
+
+    @property
+    def policy(self) -> SearchPolicy:
+        """Where the pilot is searched."""
+        return SearchPolicy(self.search, self.conjugate)
 
 
 class Locked(NamedTuple):
@@ -102,28 +108,38 @@ def find(path: str, options: Options) -> Pilot:
     front = Front(recording)
     check_length(front, options)
     front.set_carrier(options.shift)
-    tries = TRIES[options.conjugate]
-    pilot = first_pilot(front, options.search or SPAN, tries)
-    if options.search is None and not pilot.confirmation.is_pilot:
-        wide = first_pilot(front, WIDE_SPAN, tries, WIDE_PLACES, SPAN)
-        pilot = max(pilot, wide, key=lambda one: (one.confirmation.is_pilot, one.found.excess))
-    check_pilot(pilot, options.search or WIDE_SPAN)
+    pilot = searched_pilot(front, options.policy)
+    check_pilot(pilot, options.policy, options.shift)
     return pilot
 
 
-def check_pilot(pilot: Pilot, span: float) -> None:
+def searched_pilot(front: Front, policy: SearchPolicy) -> Pilot:
+    """The first pilot that a step of the policy finds; if none does, the place that comes nearest to one."""
+    best: Pilot | None = None
+    for step in policy.steps():
+        pilot = first_pilot(front, step.span, step.spectra, step.places, step.beyond)
+        if pilot.confirmation.is_pilot:
+            return pilot
+        if best is None or pilot.found.excess > best.found.excess:
+            best = pilot
+    assert best is not None  # a policy has a step
+    return best
+
+
+def check_pilot(pilot: Pilot, policy: SearchPolicy, shift: float) -> None:
     """Refuses a place at which no pilot is, or one whose clock isn't followed."""
     sure, excess = pilot.confirmation, pilot.found.excess
+    where = policy.searched(shift)
     if excess <= 1:
         raise Refused(
-            f"no pilot stands out within {span:.0f} Hz: the best energy is {excess:.2f} of the threshold, which noise"
-            f" alone reaches in one recording of {ONE_IN:,.0f}"
+            f"no pilot stands out {where}: the best energy is {excess:.2f} of the threshold, which noise"
+            f" alone reaches in one recording of {ONE_IN:,.0f}{policy.advice}"
         )
     if not sure.is_pilot:
         raise Refused(
-            f"a pilot seemed to stand out within {span:.0f} Hz, and none is heard beside it: {sure.sigma:.1f} standard"
+            f"a pilot seemed to stand out {where}, and none is heard beside it: {sure.sigma:.1f} standard"
             f" deviations of noise, and a pilot has {LEAST:.0f}, unless its clock is much more than"
-            f" {1e6 * MOST_CLOCK:.0f} millionths off"
+            f" {1e6 * MOST_CLOCK:.0f} millionths off{policy.advice}"
         )
     if not sure.is_followed:
         raise Refused(f"the clock is more than {1e6 * MOST_CLOCK:.0f} millionths off, and such a clock isn't followed")

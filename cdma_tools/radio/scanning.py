@@ -4,19 +4,23 @@ from typing import Callable, NamedTuple
 
 import numpy
 
-from cdma_tools.radio.acquisition import Found
-from cdma_tools.radio.air import CHIP_RATE, decibels
-from cdma_tools.radio.confirmation import first_pilot
-from cdma_tools.radio.front import Front
-from cdma_tools.radio.tracking import SEGMENT, SUM, pilot_sums
+from cdma_tools.radio.air import CHIP_RATE
+from cdma_tools.radio.confirmation import Pilot, first_pilot, parts_beside
+from cdma_tools.radio.front import Front, turn
+from cdma_tools.radio.search_policy import Step
+from cdma_tools.radio.strength import NOTHING, PilotMeter, emptied
+from cdma_tools.radio.tracking import SUM
 
 # The usual raster of centre frequencies, in Hz.
 RASTER = 1_250_000.0
 # Of a channel, in Hz from its middle: what has to lie in the recording on a raster, and where all is tried. A half of a
 # channel shows its pilot by 3 dB less.
 WHOLE, HALF = 614_400.0, 300_000.0
-# Parts of the recording at which each centre is tried: two, since a scan is to be quick, and one may lie in a fade.
+# Parts of the recording at which each centre is tried: two, since a scan is to be quick, and one may lie in a fade. The
+# carriers further off are tried at the first.
 PARTS = (0.1, 0.6)
+# Segments of 13 ms over which Ec/Io is taken: half a second, in which a pilot of -20 dB is known to 0.1 dB.
+LEVEL_SEGMENTS = 40
 # Neighbouring searches share a tenth, so that no carrier falls between two; two carriers nearer than this are one.
 OVERLAP, SAME = 0.9, 1_000.0
 
@@ -49,21 +53,25 @@ def everywhere(rate: float, search: float) -> list[float]:
     return raster(rate + 2 * (WHOLE - HALF), 2 * search * OVERLAP)
 
 
-def level_of(front: Front, found: Found) -> float:
-    """The pilot's Ec/Io in dB after the place found, for 13 ms; the recording's end where that is nearer."""
-    begin = min(found.time, front.length - SEGMENT)
-    shift = round(begin - found.time)
-    rest = found.hertz - front.carrier
-    sums, power = pilot_sums(front, found.phase + shift, found.time + shift, 0.0, rest, 2)
-    energy = float(numpy.max(numpy.mean(numpy.abs(sums) ** 2, axis=1)))
-    return decibels((energy / (2 * SUM) / power - 1) / (SUM - 1)) if power else -99.0
+def level_of(pilot: Pilot) -> float:
+    """Ec/Io in dB of a pilot that was confirmed, over the half second beside the place, along the line found there."""
+    front, found, sure = pilot
+    meter, rest = PilotMeter(1 - emptied(front)), found.hertz - front.carrier
+    for part in parts_beside(front, found, LEVEL_SEGMENTS):
+        count = SUM * part.sums
+        begin = found.time + sure.late + part.shift * (1 + sure.slope)
+        chips = front.steady(begin, count, 1, sure.slope) * turn(-rest / CHIP_RATE * numpy.arange(count))
+        meter.add(found.phase + part.shift, chips)
+    return meter.ec_io
 
 
-def look(front: Front, centre: float, search: float, is_conjugate: tuple[bool, ...]) -> Seen:
-    """What one centre shows."""
+def look(front: Front, centre: float, step: Step) -> Seen:
+    """What one centre shows in a step of the search."""
     front.set_carrier(centre)
-    own, found, sure = first_pilot(front, search, is_conjugate, PARTS)
-    level = level_of(own, found) if sure.is_pilot else -99.0
+    parts = PARTS if step.is_near else PARTS[:1]
+    pilot = first_pilot(front, step.span, step.spectra, parts, step.beyond)
+    _, found, sure = pilot
+    level = level_of(pilot) if sure.is_pilot else NOTHING
     sign = -1 if found.is_conjugate else 1
     return Seen(
         centre, sign * found.hertz, found.excess, level, found.phase, found.time / CHIP_RATE, found.is_conjugate,
@@ -72,20 +80,32 @@ def look(front: Front, centre: float, search: float, is_conjugate: tuple[bool, .
 
 
 def scan(
-    front: Front,
-    centres: list[float],
-    search: float,
-    is_conjugate: tuple[bool, ...] = (False,),
-    tell: Callable[[int], None] = lambda count: None,
+    front: Front, centres: list[float], steps: list[Step], tell: Callable[[int], None] = lambda count: None
 ) -> list[Seen]:
-    """What each centre shows, in their order; a pilot that two neighbours see is kept where it stands out further."""
+    """What each centre shows in the first step of a search in which a pilot is found, in their order.
+
+    If none is found it is what comes nearest to a pilot at each centre. A pilot that two neighbours see is kept where
+    it stands out further.
+    """
+    best: list[Seen] = []
+    for step in steps:
+        seen = []
+        for centre in centres:
+            seen.append(look(front, centre, step))
+            tell(1)
+        if any(one.is_pilot for one in seen):
+            return without_twins(seen)
+        best = [max(pair, key=lambda one: one.excess) for pair in zip(best, seen)] if best else seen
+    return best
+
+
+def without_twins(seen: list[Seen]) -> list[Seen]:
+    """What centres show, but for a pilot that a neighbour sees too, by a greater excess."""
     out: list[Seen] = []
-    for centre in centres:
-        seen = look(front, centre, search, is_conjugate)
-        tell(1)
-        if out and seen.is_pilot and out[-1].is_pilot and abs(seen.carrier - out[-1].carrier) < SAME:
-            if seen.excess <= out[-1].excess:
+    for one in seen:
+        if out and one.is_pilot and out[-1].is_pilot and abs(one.carrier - out[-1].carrier) < SAME:
+            if one.excess <= out[-1].excess:
                 continue
             out.pop()
-        out.append(seen)
+        out.append(one)
     return out

@@ -5,10 +5,9 @@ from typing import IO, Callable, Iterator, NamedTuple
 import numpy
 from numpy.typing import NDArray
 
-from cdma_tools.radio.air import PERIOD, decibels, short_code
 from cdma_tools.radio.fitting import Fit
 from cdma_tools.radio.front import AT_ONCE, GUARD, Front, turn
-from cdma_tools.radio.tracking import SUM
+from cdma_tools.radio.strength import PilotMeter, emptied
 from cdma_tools.sample_file import FORM, GREATEST
 
 # The root mean square at which chips are written, by the file's version. A part is a Gaussian variable or nearly so;
@@ -61,28 +60,6 @@ def chips_of(front: Front, piece: Piece, delay: float = 0.0) -> Iterator[tuple[i
         yield start, chips.reshape(-1)[: piece.behind - start]
 
 
-class PilotMeter:
-    """The pilot's share of the power of chips: coherent over 512 chips, the noise's own energy taken away."""
-
-    def __init__(self) -> None:
-        self.pilot, self.power = 0.0, 0.0
-        self.code = numpy.concatenate([short_code(), short_code()]).conj()
-
-    def add(self, first: int, chips: NDArray[numpy.complex64]) -> None:
-        """Takes chips `first` and on."""
-        for begin in range(0, len(chips) // SUM * SUM, PERIOD):
-            part = chips[begin : begin + min(PERIOD, (len(chips) - begin) // SUM * SUM)]
-            sums = (part * self.code[(first + begin) % PERIOD :][: len(part)]).reshape(-1, SUM).sum(axis=1)
-            power = float(numpy.vdot(part, part).real)
-            self.power += power
-            self.pilot += (float(numpy.vdot(sums, sums).real) - 2 * power) / (2 * (SUM - 1))
-
-    @property
-    def ec_io(self) -> float:
-        """In dB."""
-        return decibels(self.pilot / self.power) if self.power else -99.0
-
-
 def whole_parts(chips: NDArray[numpy.complex64], scale: float, version: int) -> tuple[NDArray[numpy.int16], int]:
     """The parts, i and q in turn, as a sample file keeps them, and how many were cut at the ends of the range."""
     parts = numpy.rint(numpy.ascontiguousarray(chips).view(numpy.float32) * numpy.float32(scale))
@@ -104,7 +81,7 @@ def write_chips(
     tell: Callable[[float], None],
 ) -> Written:
     """Writes `count` chips of pieces, with zeros between them where chips were lost; `tell` gets the part that is done."""
-    meter, cut, lost = PilotMeter(), 0, 0
+    meter, cut, lost = PilotMeter(1 - emptied(front)), 0, 0
     begin = chip = pieces[0].first
     end = begin + count
     size = 2 * numpy.dtype(FORM[version]).itemsize

@@ -9,8 +9,9 @@ from plotly.subplots import make_subplots
 from cdma_tools.analysis.branches import Branches, branches_of
 from cdma_tools.analysis.code_domain import CodeDomain
 from cdma_tools.analysis.measuring import PAGING_ROWS, domain_of_file, kinds_of
-from cdma_tools.analysis.spectrum import Channel, Spectrum, channel_at, spectrum_of
+from cdma_tools.analysis.spectrum import Spectrum, spectrum_of
 from cdma_tools.errors import Refused
+from cdma_tools.frequencies import Channel, channel_at
 from cdma_tools.report.figures import BLUE, GREEN, HIDDEN_TEXT, ORANGE, RED, Plot, styled
 from cdma_tools.report.gathering import Gathered
 from cdma_tools.recordings import Recording
@@ -218,7 +219,7 @@ def rows_of(made: Waveform) -> list[tuple[str, str]]:
         error = (max(1 - domain.rho, 0.0) / domain.rho) ** 0.5 if domain.rho > 0 else float("inf")
         told += [
             ("rho", f"{domain.rho:.4f}, over the strongest path"),
-            ("rho of the pilot", f"{domain.rho_pilot:.4f}"),
+            ("Share of the pilot", f"{domain.pilot_share:.4f}"),
             ("Error vector", f"{100 * error:.1f} %"),
             ("Rows in use", str(len(domain.used))),
             ("Peak of a chip", f"{domain.peak_db:.1f} dB over the mean"),

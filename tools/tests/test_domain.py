@@ -1,11 +1,13 @@
 """tools/domain and cdma_tools.analysis: rows, powers, phases and times against formulas, and against what was sent."""
 
 import json
+import math
 import os
 import re
 import time
 import unittest
 from typing import Any
+from xml.etree import ElementTree
 
 from tools.tests.helping import NO_PROGRAM, PROGRAM, example, needs, run_program, run_tool
 
@@ -170,10 +172,47 @@ class Domains(unittest.TestCase):
             part = 1 / (1 + 10 ** (-level / 10))
             self.assertEqual({row.row for row in domain.used}, set(GAINS))
             self.assertAlmostEqual(domain.rho, part, delta=0.002)
-            self.assertAlmostEqual(domain.rho_pilot, part * GAINS[0] ** 2 / ALL, delta=0.001)
+            self.assertAlmostEqual(domain.pilot_share, part * GAINS[0] ** 2 / ALL, delta=0.001)
             for row in domain.used:
                 self.assertAlmostEqual(row.db, decibels(part * GAINS[row.row] ** 2 / ALL), delta=0.15)
                 self.assertAlmostEqual(row.degrees, 0, delta=1)
+
+    def test_totals_are_the_standards_code_domain_powers(self) -> None:
+        # C.S0010: of all that is received, the part that falls on a row, noise and all, summed over its symbols.
+        draws, count, phase = numpy.random.default_rng(6), 64 * 6_000, PHASE - PHASE % 64
+        sent = whole_cell(count, phase=phase)
+        noise = draws.standard_normal(count) + 1j * draws.standard_normal(count)
+        chips = sent + noise * numpy.sqrt(ALL / 4)
+        domain = self.domain(chips, phase)
+        blocks = (chips * code()[(phase + numpy.arange(count)) % PERIOD].conj()).reshape(-1, 64)
+        for row in (0, 1, 5, 32, 40):
+            signs = numpy.array([1 - 2 * (bin(row & place).count("1") % 2) for place in range(64)])
+            part = numpy.sum(numpy.abs(blocks @ signs) ** 2) / (64 * numpy.sum(numpy.abs(blocks) ** 2))
+            self.assertAlmostEqual(domain.rows[row].total_db, decibels(part), delta=0.05)
+        self.assertAlmostEqual(sum(10 ** (row.total_db / 10) for row in domain.rows), 1, delta=1e-4)
+        # Noise of a fifth of all power falls evenly into the 64 rows.
+        self.assertAlmostEqual(domain.floor_db, decibels(0.2 / 64), delta=0.05)
+        self.assertEqual(domain.unused[0].total_db, max(row.total_db for row in domain.rows if not row.is_used))
+        self.assertAlmostEqual(domain.unused[0].total_db, domain.floor_db, delta=0.3)
+
+    def test_rho_is_at_most_1_and_its_spread_is_that_of_many_runs(self) -> None:
+        found = []
+        for seed in range(14):
+            draws, sent = numpy.random.default_rng(seed), whole_cell(64 * 24 * 40, seed)
+            noise = draws.standard_normal(len(sent)) + 1j * draws.standard_normal(len(sent))
+            found.append(self.domain(sent + noise * numpy.sqrt(ALL / 2)))
+        spread = float(numpy.std([one.rho for one in found], ddof=1))
+        told = float(numpy.mean([one.rho_spread for one in found]))
+        self.assertTrue(0.5 < told / spread < 2, (told, spread))
+        self.assertLessEqual(self.domain(whole_cell(64 * 24 * 40)).rho, 1.0)
+
+    def test_a_pilot_alone_has_the_standards_rho(self) -> None:
+        draws, sent = numpy.random.default_rng(8), cell_chips(400_000, gains={0: 100})
+        noise = draws.standard_normal(len(sent)) + 1j * draws.standard_normal(len(sent))
+        domain = self.domain(sent + noise * 20)
+        # Power 2 * 100^2 of the pilot, and 2 * 20^2 of the noise.
+        self.assertAlmostEqual(domain.pilot_only_rho or 0.0, 100**2 / (100**2 + 20**2), delta=1e-3)
+        self.assertIsNone(self.domain(whole_cell(100_000)).pilot_only_rho)
 
     def test_a_row_that_is_turned(self) -> None:
         chips = cell_chips(400_000, gains={0: 100, 1: 80}) + cell_chips(400_000, gains={10: 70}) * numpy.exp(
@@ -237,7 +276,7 @@ class Recorded(Recordings):
             self.assertEqual((told["rho_by"], told["paths"]), ("moments", "0.00:0.0"))
             part = 1.0 if ec_io is None else 10 ** (ec_io / 10) * ALL / GAINS[0] ** 2
             self.assertAlmostEqual(told["rho"], part, delta=0.001)
-            self.assertAlmostEqual(told["rho_pilot"], part * GAINS[0] ** 2 / ALL, delta=0.002)
+            self.assertAlmostEqual(told["pilot_share"], part * GAINS[0] ** 2 / ALL, delta=0.002)
             self.assertAlmostEqual(
                 told["error_vector"], numpy.sqrt((1 - part) / part), delta=0.035 if ec_io is None else 0.02
             )
@@ -287,6 +326,19 @@ class Recorded(Recordings):
         self.assertAlmostEqual(rows[10]["chips"], 0.125, delta=0.02)
         self.assertAlmostEqual(rows[1]["chips"], 0, delta=0.01)
 
+    def test_a_weaker_cell(self) -> None:
+        other = {0: 100, 32: 30, 5: 60}
+        cells = [write_cell(self.at(f"{phase}.is95"), whole_cell(500_000, 3, phase, gains)) for phase, gains in
+                 ((PHASE, GAINS), (20_040, other))]  # fmt: skip
+        path = self.recorded("--ec-io", -7, cells=(cells[0], f"{cells[1]}:-3:12.3"))
+        told = self.measured(path, "--cell", 2)
+        rows = {row["row"]: row["db"] for row in told["rows"] if row["used"]}
+        self.assertEqual(set(rows), set(other))
+        for row, gain in other.items():
+            self.assertAlmostEqual(rows[row] - rows[0], decibels(gain**2 / other[0] ** 2), delta=0.2)
+        status, _, said = run_main("domain", path, "--cell", 3)
+        self.assertEqual((status, said), (1, "domain: 2 cells were heard, and no cell 3\n"))
+
     def test_the_radios_branches(self) -> None:
         path = self.recorded("--dc", 0.1, "--iq", "0.5:3", "--ec-io", -9, "--seconds", 0.5)
         told = self.measured(path)
@@ -294,6 +346,53 @@ class Recorded(Recordings):
             self.assertAlmostEqual(told[name], 0.1 / numpy.sqrt(1 + 2 * 0.1**2), delta=0.01)
         self.assertAlmostEqual(told["imbalance_db"], 0.5, delta=0.05)
         self.assertAlmostEqual(told["skew_degrees"], 3, delta=0.3)
+
+    def limits(self, *words: object) -> tuple[int, dict[str, dict[str, str]]]:
+        """The status of a run with --limits, and what each limit's line says."""
+        status, wrote, said = run_main("domain", *words, "--limits")
+        told = [line for line in wrote.splitlines() if line.startswith("limit=")]
+        lines = [dict(re.findall(r"(\w+)=(\w[-\w.]*|-\S+)", line)) for line in told]
+        self.assertEqual([line["limit"] for line in lines], ["rho", "unused", "time", "phase", "carrier"], said)
+        return status, {line["limit"]: line for line in lines}
+
+    def test_the_standards_limits(self) -> None:
+        clean = write_cell(self.at("clean.is95"), whole_cell(400_000))
+        status, found = self.limits(clean)
+        self.assertEqual((status, [line["verdict"] for line in found.values()]), (0, 4 * ["pass"] + ["skip"]))
+        # One row is turned by 4 degrees, 0.0698 rad, and noise of a fifth of all power leaves rho 0.8.
+        turned = cell_chips(400_000, gains={0: 100, 1: 80}) + cell_chips(400_000, gains={10: 70}) * numpy.exp(
+            1j * numpy.radians(4)
+        )
+        draws, power = numpy.random.default_rng(3), numpy.mean(numpy.abs(turned) ** 2)
+        noise = (draws.standard_normal(400_000) + 1j * draws.standard_normal(400_000)) * numpy.sqrt(power / 8)
+        status, found = self.limits(write_cell(self.at("turned.is95"), turned + noise))
+        self.assertEqual(
+            (status, [line["verdict"] for line in found.values()]), (1, ["fail", "fail", "pass", "fail", "skip"])
+        )
+        self.assertAlmostEqual(float(found["phase"]["value"]), math.radians(4), delta=0.004)
+        self.assertEqual(found["phase"]["row"], "10")
+        self.assertAlmostEqual(float(found["rho"]["value"]), 0.8, delta=0.003)
+
+    def test_limits_of_a_recording(self) -> None:
+        first = write_cell(self.at("first.is95"), cell_chips(self.CHIPS, gains={0: 100, 1: 80}))
+        other = write_cell(self.at("other.is95"), cell_chips(self.CHIPS, gains={10: 70}))
+        # A row 0.125 chips late, which is 101.7 ns; and a carrier 100 Hz above channel 283, by 0.11 millionths.
+        path = self.recorded("--carrier", 100, "--seconds", 0.5, cells=(first, f"{other}:0:0.125"))
+        status, found = self.limits(path, "--channel", 283)
+        self.assertEqual((status, found["time"]["verdict"], found["carrier"]["verdict"]), (1, "fail", "fail"))
+        self.assertAlmostEqual(float(found["time"]["value"]), 101.7, delta=15)
+        self.assertAlmostEqual(float(found["carrier"]["value"]), 100 / 878.49, delta=0.002)
+        self.assertEqual(self.limits(path)[1]["carrier"]["verdict"], "skip")
+        files = ("--junit", self.at("limits.xml"), "--json", self.at("limits.json"))
+        words = ("--limits", "--frequency", 878_489_900, *files)
+        status, wrote, _ = run_main("domain", path, *words, "--tap")
+        self.assertEqual(status, 1)
+        self.assertRegex(wrote, r"^TAP version 13\n1\.\.5\n(.*\n)*not ok 3 - time: .*\n(.*\n)*ok 5 - carrier: ")
+        cases = ElementTree.parse(self.at("limits.xml")).getroot()
+        self.assertEqual((cases.get("tests"), cases.get("failures")), ("5", str(wrote.count("not ok"))))
+        with open(self.at("limits.json"), encoding="utf-8") as file:
+            limits = json.load(file)["limits"]
+        self.assertEqual([limit["verdict"] for limit in limits].count("failed"), wrote.count("not ok"))
 
     def test_files_lines_and_pictures(self) -> None:
         status, wrote, _ = run_main("domain", self.cell, "--plot", self.at("rows.svg"), "--json", self.at("rows.json"))
@@ -334,6 +433,11 @@ class Recorded(Recordings):
             (2, "--type and --rate needed", (quiet, "--type", "cu8")),
             (2, "can't both go to standard output", (quiet, "--plot", "-", "--json", "-")),
             (2, "--skip goes with a recording", (quiet, "--skip", "9")),
+            (2, "--tap needs --limits", (quiet, "--tap")),
+            (2, "--json and --tap can't both go to standard output", (quiet, "--limits", "--tap", "--json", "-")),
+            (2, "--cell goes with a recording", (quiet, "--cell", "2")),
+            (2, "band 800 has no channel 900", (quiet, "--type", "cu8", "--rate", "2e6", "--channel", "900")),
+            (2, "--band needs --channel", (quiet, "--type", "cu8", "--rate", "2e6", "--band", "800")),
             (2, "it ends neither with .png nor with .svg", (quiet, "--plot", "x.pdf")),
             (2, "not above 0, at most 614,400", (quiet, "--type", "cu8", "--rate", "2e6", "--search", "1e6")),
             (1, "rows.json: No such file or directory", (few, "--json", self.at("none/rows.json"))),
@@ -361,7 +465,7 @@ class Recorded(Recordings):
         self.assertEqual(run_tool("domain", self.cell, "--plot", "-")[1][:4], b"\x89PNG")
         status, wrote, _ = run_tool("domain", self.cell)
         self.assertEqual(status, 0)
-        self.assertTrue(wrote.startswith(b"rho=1.0000 rho_by=moments rho_pilot="))
+        self.assertTrue(wrote.startswith(b"rho=1.0000 rho_spread="))
 
 
 if __name__ == "__main__":

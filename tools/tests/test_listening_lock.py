@@ -26,7 +26,7 @@ from cdma_tools.listening.streaming_front import StreamingFront
 from cdma_tools.listening.timeline import Node, Timeline
 from cdma_tools.radio.fitting import FINE_DELAYS, Fit
 from cdma_tools.radio.front import Front
-from cdma_tools.radio.second_pass import PilotMeter
+from cdma_tools.radio.strength import PilotMeter
 from cdma_tools.radio.tracking import REACH, SUM, SUMS, Point
 from cdma_tools.recordings import TYPES, Recording
 from cdma_tools.sample_file import SampleFile

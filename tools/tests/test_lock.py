@@ -32,7 +32,7 @@ class Found(Recordings):
         """That the figures are the recording's, within what half a second shows."""
         self.assertAlmostEqual(float(found["carrier_hz"]), carrier, delta=4)
         self.assertAlmostEqual(float(found["clock_ppm"]), clock, delta=0.1)
-        self.assertAlmostEqual(float(found["ec_io_db"]), ec_io, delta=0.2)
+        self.assertAlmostEqual(float(found["ec_io_db"]), ec_io, delta=0.1)
 
     def nearly_ideal(self, found: dict[str, str], most: float = 0.15) -> None:
         """That the chips are within so many dB of those of an ideal receiver."""
@@ -66,7 +66,7 @@ class Found(Recordings):
             self.assertAlmostEqual(float(found["clock_ppm"]), clock, delta=0.02)
             self.assertAlmostEqual(float(found["carrier_hz"]), carrier, delta=4)
             self.assertEqual(found["lost"], "0")
-            self.assertAlmostEqual(float(found["ec_io_db"]), level, delta=0.2)
+            self.assertAlmostEqual(float(found["ec_io_db"]), level, delta=0.1)
 
     def test_a_clock_beyond_that_is_refused(self) -> None:
         for clock in (125, -140):
@@ -113,7 +113,7 @@ class Found(Recordings):
     def test_a_weak_pilot(self) -> None:
         found = self.locked(self.recorded("--type", "cu8", "--carrier", -7_700, "--clock", 11, "--ec-io", -20))
         self.assertAlmostEqual(float(found["carrier_hz"]), -7_700, delta=20)
-        self.assertAlmostEqual(float(found["ec_io_db"]), -20, delta=0.5)
+        self.assertAlmostEqual(float(found["ec_io_db"]), -20, delta=0.2)
 
     def test_paths(self) -> None:
         found = self.locked(self.recorded("--ec-io", -8, "--paths", "0:0:0,2.5:-3:90,9:-6:0"))
@@ -174,7 +174,7 @@ class Written(Recordings):
 
     def test_a_known_carrier(self) -> None:
         path = self.recorded("--carrier", 200_300, "--ec-io", -9)
-        self.refused("no pilot stands out within 4000 Hz", path, "--search", 4_000)
+        self.refused("no pilot stands out within 4,000 Hz of the middle in both spectra", path, "--search", 4_000)
         found = self.locked(path, "--shift", 200_000, "--search", 1_000)
         self.assertAlmostEqual(float(found["carrier_hz"]), 200_300, delta=4)
 
@@ -266,12 +266,13 @@ class Refusals(Recordings):
             ("a minimum shift keying", numpy.exp(1j * phase) + 0.1 * self.noise()),
         ):
             with self.subTest(name):
-                why = r"no pilot stands out within 4000 Hz: the best energy is 0\.\d\d of the threshold"
+                why = r"no pilot stands out within 4,000 Hz of the middle in both spectra: the best energy is 0\.\d\d of"
                 self.refused(why, *self.raw(samples), "--search", 4_000)
 
     def test_a_signal_that_passes_the_threshold(self) -> None:
         words = (*self.raw(without_pilot(19, 1_200_000)), "--conjugate", "no")
-        why = r"a pilot seemed to stand out within 21000 Hz, and none is heard beside it: \d\.\d standard deviations"
+        where = "within 21,000 Hz of the middle in the spectrum as it is"
+        why = rf"a pilot seemed to stand out {where}, and none is heard beside it: \d\.\d standard deviations"
         self.refused(why, *words, "--search", 21_000)
 
     def test_zeros_and_direct_current(self) -> None:

@@ -13,7 +13,8 @@ from numpy.typing import NDArray  # noqa: E402
 
 from cdma_tools import recordings  # noqa: E402
 from cdma_tools.errors import Refused  # noqa: E402
-from cdma_tools.radio import acquisition, air, confirmation, fitting, front, paths, second_pass, tracking  # noqa: E402
+from cdma_tools.radio import acquisition, air, confirmation, fitting, front, paths, second_pass  # noqa: E402
+from cdma_tools.radio import strength, tracking  # noqa: E402
 from tools.tests.radio_helping import CHIP_RATE, PERIOD, cell_chips, code  # noqa: E402
 
 
@@ -309,10 +310,32 @@ class SecondPass(unittest.TestCase):
         count = 20 * PERIOD + 700
         chips = cell_chips(count, phase=99, gains={0: 1}) / numpy.sqrt(2)  # of power 1
         chips = chips + (draws.standard_normal(count) + 1j * draws.standard_normal(count)) * numpy.sqrt(9 / 2)
-        meter = second_pass.PilotMeter()
+        meter = strength.PilotMeter()
         meter.add(99, chips[:40_000].astype(numpy.complex64))
         meter.add(99 + 40_000, chips[40_000:].astype(numpy.complex64))
         self.assertAlmostEqual(meter.ec_io, -10.0, delta=0.1)
+
+    def test_what_is_sent_with_the_pulse_is_told_from_noise(self) -> None:
+        # By the taps of the standard's filter at four a chip (7.1.3.1.10): chips go through it twice, noise once.
+        draws = numpy.random.default_rng(2)
+        taps = numpy.array(air.HALF_PULSE + air.HALF_PULSE[::-1])
+        taps /= numpy.sqrt(numpy.sum(taps**2))
+        count = 200_000
+
+        def white(size: int) -> NDArray[numpy.complex128]:
+            return (draws.standard_normal(size) + 1j * draws.standard_normal(size)) / numpy.sqrt(2)
+
+        held = numpy.zeros(4 * count, dtype=complex)
+        held[::4] = white(count)
+        sent = numpy.convolve(held, numpy.correlate(taps, taps, "full"), "same")[::4]
+        noise = numpy.convolve(white(4 * count), taps, "same")[::4]
+        self.assertAlmostEqual(float(numpy.mean(numpy.abs(sent) ** 2)), 1.0227, delta=0.01)
+        for part in (0.0, 0.3, 0.9):
+            chips = numpy.sqrt(part) * sent + numpy.sqrt(1 - part) * noise
+            power = float(numpy.mean(numpy.abs(chips) ** 2))
+            products = [numpy.vdot(chips[:-lag], chips[lag:]).real / count for lag in range(1, strength.LAGS + 1)]
+            found = strength.sent_part(numpy.array(products) / power)
+            self.assertAlmostEqual(found, part / power, delta=0.04)
 
     def test_parts_are_rounded_and_cut(self) -> None:
         chips = numpy.array([1.4 - 2.6j, 400 + 5j], dtype=numpy.complex64)

@@ -14,6 +14,7 @@ needs("numpy", "scipy", "plotly")
 import numpy  # noqa: E402
 from numpy.typing import NDArray  # noqa: E402
 
+from cdma_tools import frequencies  # noqa: E402
 from cdma_tools.analysis import spectrum  # noqa: E402
 from cdma_tools.recordings import Recording  # noqa: E402
 from cdma_tools.report import waveform  # noqa: E402
@@ -64,12 +65,12 @@ class Spectra(unittest.TestCase):
             (1_931.25, 25),
             (1_930.0, 0),
         ):
-            found = spectrum.channel_at(megahertz * 1e6 + 3_000)
+            found = frequencies.channel_at(megahertz * 1e6 + 3_000)
             assert found is not None
             self.assertEqual(found.number, number)
             self.assertAlmostEqual(found.hertz, megahertz * 1e6, delta=1)
         for megahertz in (878.505, 869.0, 894.0, 1_990.0, 100.0):
-            self.assertIsNone(spectrum.channel_at(megahertz * 1e6))
+            self.assertIsNone(frequencies.channel_at(megahertz * 1e6))
 
 
 class Waveforms(Recordings):

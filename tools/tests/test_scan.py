@@ -13,7 +13,7 @@ import numpy  # noqa: E402
 from cdma_tools.commands import scan  # noqa: E402
 from cdma_tools.radio.bench import without_pilot  # noqa: E402
 from cdma_tools.radio import scanning  # noqa: E402
-from tools.tests.radio_helping import Recordings, run_main  # noqa: E402
+from tools.tests.radio_helping import Recordings, cell_chips, run_main, write_cell  # noqa: E402
 
 
 class Centres(unittest.TestCase):
@@ -42,7 +42,7 @@ class Scans(Recordings):
         status, lines, _ = self.scanned("--search", 4_000, path)
         self.assertEqual((status, len(lines)), (0, 1))
         self.assertAlmostEqual(float(lines[0]["carrier_hz"]), 1_250_300, delta=30)
-        self.assertAlmostEqual(float(lines[0]["ec_io_db"]), -10, delta=1)
+        self.assertAlmostEqual(float(lines[0]["ec_io_db"]), -10, delta=0.3)
         self.assertGreater(float(lines[0]["excess"]), 1)
         self.assertEqual(lines[0]["conjugate"], "no")
         self.assertGreater(float(lines[0]["sigma"]), 50)
@@ -50,6 +50,23 @@ class Scans(Recordings):
         # The carrier that it tells is one that the lock takes.
         found = self.locked(path, "--shift", lines[0]["carrier_hz"], "--search", 500)
         self.assertAlmostEqual(float(found["carrier_hz"]), 1_250_300, delta=10)
+
+    def test_ec_io_within_a_fifth_of_a_decibel_at_any_clock(self) -> None:
+        # The truth is what tools/channel was asked for: the pilot over all power that reaches the antenna.
+        cell = write_cell(self.at("long.is95"), cell_chips(900_000))
+        cases = [(-110, -20, 0.06), (110, -6, 0.44), (50, -12, 0.27)]
+        if os.environ.get("EVERY_LEVEL"):
+            cases = [(clock, level, 0.13 * step % 1) for step, (clock, level) in enumerate(
+                (clock, level) for clock in range(-110, 111, 20) for level in (-20, -17, -13, -9, -6)
+            )]  # fmt: skip
+        for clock, level, delay in cases:
+            with self.subTest(clock=clock, level=level):
+                words = ("--type", "ci8", "--carrier", 700 - 50 * clock, "--clock", clock, "--delay", delay)
+                path = self.recorded(*words, "--ec-io", level, cells=(cell,))
+                status, lines, said = self.scanned(path)
+                self.assertEqual((status, len(lines)), (0, 1), said)
+                self.assertAlmostEqual(float(lines[0]["ec_io_db"]), level, delta=0.2)
+                self.assertAlmostEqual(float(lines[0]["clock_ppm"]), clock, delta=0.5)
 
     def test_all_frequencies(self) -> None:
         path = self.recorded("--rate", 2_400_000, "--carrier", -310_700, "--ec-io", -8)
@@ -63,7 +80,8 @@ class Scans(Recordings):
         path = self.recorded("--rate", 2_400_000, "--carrier", 100_000, "--ec-io", -8)
         status, lines, said = self.scanned("--search", 4_000, path)
         self.assertEqual((status, lines), (1, []))
-        self.assertRegex(said, r"scan: no pilot stands out at 1 centres: the best energy is 0\.\d\d of the threshold")
+        self.assertRegex(said, "scan: no pilot stands out at 1 centres, within 4,000 Hz of each in both spectra: ")
+        self.assertRegex(said, r"the best energy is 0\.\d\d of the threshold")
         status, wrote, _ = run_main("scan", "--verbose", "--search", 4_000, path)
         self.assertRegex(wrote, r"^no pilot round 0 Hz, excess=0\.\d\d\n$")
 
@@ -75,14 +93,14 @@ class Scans(Recordings):
             numpy.stack([scaled.real, scaled.imag], axis=1).clip(-32_768, 32_767).astype("<i2").tofile(
                 self.at("none.raw")
             )
-            words = ("--type", "ci16_le", "--rate", 2_400_000, "--verbose", self.at("none.raw"))
+            near = ("--search", 21_000, "--conjugate", "no")
+            words = ("--type", "ci16_le", "--rate", 2_400_000, "--verbose", *near, self.at("none.raw"))
             status, wrote, said = run_main("scan", *words)
             self.assertEqual(status, 1, wrote)
             if number in (9, 18, 19):
                 self.assertRegex(wrote, r"^no pilot round 0 Hz, excess=\d+\.\d\d sigma=\d\.\d\n$")
-                self.assertRegex(
-                    said, r"^scan: no pilot at 1 centres: what stood out wasn't heard beside it, with \d\.\d"
-                )
+                self.assertRegex(said, "^scan: no pilot at 1 centres, within 21,000 Hz of each in the spectrum as it is")
+                self.assertRegex(said, r"what stood out wasn't heard beside it, with \d\.\d")
 
     def test_words(self) -> None:
         path = self.recorded()
