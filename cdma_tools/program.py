@@ -66,6 +66,17 @@ def find_program(given: str | None) -> str:
     return os.path.abspath(found)
 
 
+def program_or_hint(given: str | None, lines: list[str], without: str = "no message of a cell is heard") -> str | None:
+    """The program; if it isn't there and none is named, None, and `lines` get why and what is missing without it."""
+    try:
+        return find_program(given)
+    except Refused as why:
+        if given:
+            raise
+        lines.append(f"{why}; {without}")
+        return None
+
+
 def written_of(program: str, words: list[str], file: IO[bytes]) -> bytes:
     """Returns the output of a run of the program for a sample file; refuses a program that can't be run, or doesn't
     end."""

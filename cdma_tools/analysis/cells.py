@@ -22,6 +22,7 @@ from cdma_tools.radio.air import PERIOD, ROWS
 from cdma_tools.radio.locking import Held, Options, hold
 from cdma_tools.radio.paths import Way
 from cdma_tools.radio.second_pass import Piece, chips_of
+from cdma_tools.recordings import Recording
 
 # Paths of a cell that are heard and sent again, and rounds in which each cell is heard again with the others off.
 MOST_PATHS, ROUNDS = 4, 2
@@ -144,10 +145,18 @@ class Search:
     """The cells of a recording, one after the other, strongest first."""
 
     def __init__(
-        self, path: str, options: Options, folder: str, tell: Callable[[str], None] = lambda text: None
+        self,
+        path: str,
+        options: Options,
+        folder: str,
+        tell: Callable[[str], None] = lambda text: None,
+        first: Held | None = None,
     ) -> None:
-        """`folder` is for files of the size of the samples, of floating point: one, and one for each cell."""
-        self.path, self.options, self.folder, self.tell = path, options, folder, tell
+        """`folder` is for files of the size of the samples, of floating point: one, and one for each cell.
+
+        `first` is the lock to the strongest cell, if it was made already; its samples may be closed.
+        """
+        self.path, self.options, self.folder, self.tell, self.first = path, options, folder, tell, first
         self.cells: list[Cell] = []
         self.left: KeptSamples | None = None
 
@@ -172,7 +181,7 @@ class Search:
     def lock(self) -> Held:
         """Returns the lock to the strongest pilot in what is left; raises Refused if there is none."""
         if self.left is None:
-            return hold(self.path, self.options)
+            return hold(self.path, self.options) if self.first is None else self.opened(self.first)
         first = self.cells[0].held
         fit = first.pieces[0].fit
         options = self.options._replace(
@@ -180,6 +189,13 @@ class Search:
             shift=float(fit.hertz((fit.chip[0] + fit.chip[-1]) / 2)), search=NEXT_SEARCH,
         )  # fmt: skip
         return hold(self.left.path, options)
+
+    def opened(self, held: Held) -> Held:
+        """A lock that was made before, over the recording's samples."""
+        options = self.options
+        recording = Recording(self.path, options.kind, float(options.rate), options.skip, held.is_conjugate)
+        held.front.recording = recording
+        return held
 
     def next_cell(self) -> Cell | None:
         """Returns the next cell, decoded with all others subtracted; None if no further pilot is in what is left."""

@@ -191,7 +191,7 @@ def analysis_of_cell(
     with Search(path, options, folder, tell) as search:
         cell, _ = find(search, wanted)
         assert search.left is not None
-        held = cell.alone(search.left)
+        held = cell.alone(search.left)._replace(is_conjugate=search.cells[0].held.is_conjugate)
         with open(chips, "wb") as file:
             lost = write_held(held, options, file).lost
         with Recording(path, options.kind, float(options.rate), options.skip) as recorded:

@@ -58,10 +58,10 @@ from cdma_tools.analysis.measuring import Analysis, analysis_of_cell, analysis_o
 from cdma_tools.analysis.telling import draw, object_of, text_of
 from cdma_tools.arguments import Parser, count_of, hertz_of, rate_of
 from cdma_tools.cell_options import CELL_OPTIONS, add_cell_options
-from cdma_tools.errors import Refused, printable, said
+from cdma_tools.errors import printable, said
 from cdma_tools.frequencies import FREQUENCY_OPTIONS, add_frequency_options, frequency_fault, frequency_given
 from cdma_tools.overwriting import STANDARD, InputFile, OutputFile
-from cdma_tools.program import add_program_option, find_program
+from cdma_tools.program import add_program_option, find_program, program_or_hint
 from cdma_tools.plots import picture_of, plain, save
 from cdma_tools.progress import bar
 from cdma_tools.radio.locking import Options
@@ -143,17 +143,6 @@ def check_outputs(words: Parser, options: argparse.Namespace) -> None:
     check_place(options)
 
 
-def program_of(options: argparse.Namespace, lines: list[str]) -> str | None:
-    """The program that tells paging channels; where there is none, lines get what is to be said of that."""
-    try:
-        return find_program(options.program)
-    except Refused as why:
-        if options.program:
-            raise
-        lines.append(f"{why}; no row is told as a paging channel")
-        return None
-
-
 def wanted_of(options: argparse.Namespace) -> Wanted:
     """The cell that is asked for; PILOT_PN is told by the program, which has to be there then."""
     return Wanted(options.cell, options.pn, None if options.pn is None else find_program(options.program))
@@ -161,7 +150,7 @@ def wanted_of(options: argparse.Namespace) -> Wanted:
 
 def analysed(options: argparse.Namespace, lines: list[str]) -> Analysis:
     """The analysis that is asked for, with its steps on a bar; lines get what is to be said of it."""
-    program = program_of(options, lines)
+    program = program_or_hint(options.program, lines, "no row is told as a paging channel")
     with bar(total=100, text="domain", unit="%") as shown, tempfile.TemporaryDirectory(prefix="domain-") as folder:
         done = 0
 

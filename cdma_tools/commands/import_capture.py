@@ -25,7 +25,9 @@ it is where the bytes look like another type than the one that is given. --refla
 is there, in place.
 
 With --cell K or --pn P a weaker cell is written: the stronger ones are heard, sent again and taken off the samples, and
-a line tells each of them. That needs room for files of floating point in $TMPDIR: 8 bytes a sample, and as much again
+a line tells each of them. --cells K tells a table of up to K cells on standard error, or with --json on standard output:
+PILOT_PN, Ec/Io of all that was received, the delay and the carrier against the first cell, how many messages the program
+heard, SID, NID and BASE_ID. That needs room for files of floating point in $TMPDIR: 8 bytes a sample, and as much again
 for each cell.
 
 Without --lock the carrier and the clock are taken to be right. At the chip rate, 1,228,800 samples a second, the
@@ -45,6 +47,7 @@ their number is said.
     tools/import_capture --lock --type auto --rate 2400000 --checks auto radio.bin radio.is95
     tools/import_capture --reflag --complement-30 radio.is95
     tools/import_capture --lock --cell 2 radio.sigmf-meta second.is95
+    tools/import_capture --lock --cells 3 --json radio.sigmf-meta first.is95
     tools/import_capture --type cu8 --rate 2457600 --sum --shift -1200 radio.bin radio.is95
 
 Exit status: 0 written, 1 the recording can't be taken, has no pilot, or the file can't be written, 2 wrong arguments.
@@ -52,13 +55,14 @@ Exit status: 0 written, 1 the recording can't be taken, has no pilot, or the fil
 
 import argparse
 import contextlib
+import json
 import os
 import re
 import sys
 import tempfile
 from collections.abc import Sequence
 from fractions import Fraction
-from typing import IO, TYPE_CHECKING, Any, Iterable
+from typing import IO, TYPE_CHECKING, Any, Callable, Iterable
 
 import numpy
 
@@ -72,11 +76,11 @@ from cdma_tools.arguments import (
     scale_of,
     whole_within,
 )
-from cdma_tools.cell_options import CELL_OPTIONS, add_cell_options
+from cdma_tools.cell_options import CELL_OPTIONS, MOST_RANK, add_cell_options
 from cdma_tools.checks import FLAGS_BYTES, FLAGS_PLACE, reflag, tried
 from cdma_tools.errors import Refused, said
-from cdma_tools.overwriting import InputFile, OutputFile, UpdatedFile
-from cdma_tools.program import add_program_option, find_program
+from cdma_tools.overwriting import STANDARD, InputFile, OutputFile, UpdatedFile
+from cdma_tools.program import add_program_option, find_program, program_or_hint
 from cdma_tools.progress import bar
 from cdma_tools.radio.plain import TYPE_CHOICES, assumed, plain_chips, recording_told, with_hints
 from cdma_tools.radio.search_policy import TRIES, add_search_options
@@ -86,9 +90,9 @@ from cdma_tools.writing import write_out
 
 if TYPE_CHECKING:
     from cdma_tools.analysis.importing import Taken
-    from cdma_tools.radio.locking import Locked, Options
+    from cdma_tools.radio.locking import Held, Locked, Options
 
-LOCK_ONLY = ("fingers", "conjugate", "equaliser", "search", "meta", *CELL_OPTIONS)
+LOCK_ONLY = ("fingers", "conjugate", "equaliser", "search", "meta", "cells", *CELL_OPTIONS)
 # Those of the first that a lock takes as they are.
 LOCK_OPTIONS = ("fingers", "conjugate", "equaliser", "search")
 
@@ -123,6 +127,13 @@ def add_lock_words(words: argparse.ArgumentParser) -> None:
         "--equaliser", choices=TRIES, help="the base station's phase equaliser: whether it is there, else try"
     )
     add_cell_options(lock)
+    lock.add_argument(
+        "--cells",
+        type=whole_within(1, MOST_RANK),
+        metavar="K",
+        help="tell a table of up to K cells too: PILOT_PN, Ec/Io, delay, carrier, messages, SID, NID and BASE_ID",
+    )
+    lock.add_argument("--json", action="store_true", help="with --cells: write the table to standard output as JSON")
     note = "write the recording's .sigmf-meta with a note of what was found"
     lock.add_argument("--meta", type=UpdatedFile, metavar="FILE", help=note)
 
@@ -207,8 +218,12 @@ def check_checks(words: Parser, options: argparse.Namespace) -> None:
 def check_words(words: Parser, options: argparse.Namespace) -> None:
     """Ends with status 2 where options don't go together."""
     check_checks(words, options)
-    if options.program is not None and options.pn is None and not options.checks:
-        words.error("--program goes with --checks or --pn")
+    if options.program is not None and options.pn is None and not options.checks and not options.cells:
+        words.error("--program goes with --checks, --pn or --cells")
+    if options.json and not options.cells:
+        words.error("--json needs --cells")
+    if options.json and options.file == STANDARD:
+        words.error("FILE and the table of --json can't both go to standard output")
     if options.reflag:
         words.error(
             "--reflag goes with one sample file, --complement-30, --complement-16, --checks and --program alone"
@@ -319,8 +334,11 @@ def lock_options(options: argparse.Namespace, kind: str, rate: Fraction) -> "Opt
     )  # fmt: skip
 
 
-def take_by_lock(options: argparse.Namespace) -> "Locked":
-    """Writes the file of the strongest pilot in a recording, and answers what was found."""
+def take_by_lock(options: argparse.Namespace, look: "Callable[[Held, Locked], None]" = lambda held, locked: None) -> "Locked":
+    """Writes the file of the strongest pilot in a recording, and answers what was found.
+
+    `look` gets the lock while its samples are still open, unless a weaker cell is taken.
+    """
     from cdma_tools.radio.locking import lock  # scipy takes half a second to load, and is wanted here alone
 
     kind, rate, path = recording_told(options)
@@ -335,7 +353,7 @@ def take_by_lock(options: argparse.Namespace) -> "Locked":
             told += others
         else:
             with contextlib.closing(Shown()) as shown:
-                locked = lock(path, asked, file, shown)
+                locked = lock(path, asked, file, shown, look)
         told += try_checks(options, file)
     if options.meta:
         sigmf.note_lock(options.meta, options.recording, kind, rate, path, options.skip, locked)
@@ -344,9 +362,32 @@ def take_by_lock(options: argparse.Namespace) -> "Locked":
 
 def lock_and_tell(options: argparse.Namespace) -> None:
     """Writes the file of the strongest pilot in a recording, and says what was found."""
-    locked = take_by_lock(options)
+    held: "list[Held]" = []
+    locked = take_by_lock(options, lambda one, _: held.append(one))
     print(locked.line(), file=sys.stderr)
     say(locked.remarks())
+    if options.cells:
+        tell_cells(options, held[0] if held else None)
+
+
+def tell_cells(options: argparse.Namespace, first: "Held | None") -> None:
+    """Tells the table of a recording's cells; `first` is the lock to the strongest one, if it was made already."""
+    from cdma_tools.analysis.cell_table import table_of_cells
+    from cdma_tools.analysis.cells import Search
+
+    kind, rate, path = recording_told(options)
+    asked = lock_options(options, kind, rate)
+    lines: list[str] = []
+    program = program_or_hint(options.program, lines)
+    say(lines)
+    with tempfile.TemporaryDirectory(prefix="cells-") as folder, bar(total=options.cells, text="cells") as shown:
+        with Search(path, asked, folder, first=first) as search:
+            cells = table_of_cells(search, options.cells, program, shown.update)
+    if options.json:
+        print(json.dumps([cell.as_json() for cell in cells]))
+        return
+    for cell in cells:
+        print(f"cell {cell.line}", file=sys.stderr)
 
 
 def main(arguments: list[str] | None = None) -> int:

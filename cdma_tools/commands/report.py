@@ -34,9 +34,10 @@ import os
 import shlex
 import tempfile
 from fractions import Fraction
-from typing import Any, NoReturn
+from typing import Any, NamedTuple, NoReturn
 
 from cdma_tools import sigmf
+from cdma_tools.analysis.measuring import SeenLock, seen_lock
 from cdma_tools.arguments import Parser, rate_of, whole_within
 from cdma_tools.commands import FAILED, import_capture, listen
 from cdma_tools.errors import Refused, WrongArguments
@@ -44,6 +45,7 @@ from cdma_tools.overwriting import InputFile, OutputFile
 from cdma_tools.program import add_program_option, find_program
 from cdma_tools.radio.air import CHIP_RATE
 from cdma_tools.radio.guessing import type_of
+from cdma_tools.radio.locking import Held
 from cdma_tools.radio.plain import AUTO
 from cdma_tools.radio.search_policy import SEARCH_OPTIONS, add_search_options
 from cdma_tools.recordings import sample_count
@@ -148,18 +150,26 @@ class ImportParser(import_capture.CaptureParser):
         self.error("--version makes no page")
 
 
-def run_import(recording: str, file: str, words: list[str]) -> gathering.Imported:
+class Imported(NamedTuple):
+    """An import, and what its lock showed, unless it failed or took a weaker cell."""
+
+    told: gathering.Imported
+    seen: SeenLock | None = None
+
+
+def run_import(recording: str, file: str, words: list[str]) -> Imported:
     """Imports a recording into a sample file, and locks to its pilot."""
     whole = ["--lock", *words]
     parser = import_capture.parser(ImportParser)
     options = parser.parse_args([*whole, recording, file])
     import_capture.check_words(parser, options)
+    seen: list[SeenLock] = []
     try:
-        locked = import_capture.take_by_lock(options)
+        locked = import_capture.take_by_lock(options, lambda held, one: seen.append(seen_lock(held, one.lost)))
     except Refused as why:
-        return gathering.Imported(whole, FAILED, {}, [str(why)])
+        return Imported(gathering.Imported(whole, FAILED, {}, [str(why)]))
     found = dict(word.split("=", 1) for word in locked.line().split())
-    return gathering.Imported(whole, 0, found, locked.remarks())
+    return Imported(gathering.Imported(whole, 0, found, locked.remarks()), seen[0] if seen else None)
 
 
 def not_run(command: str) -> gathering.Ran:
@@ -171,31 +181,38 @@ def imported_page(options: argparse.Namespace, program: str, file: str) -> tuple
     """The page of a recording, which is imported into a file first, and the status to end with."""
     imported = run_import(options.recording, file, import_words(options))
     notes = notes_of(options.recording) if options.recording.endswith(".sigmf-meta") else {}
-    if imported.status == 0:
+    if imported.told.status == 0:
         return page_of(options, program, file, imported, notes)
     runs = [not_run(command) for command in ("find", "survey", "follow")]
-    gathered = gathering.Gathered(shown_name(options.recording), imported, *runs)
+    gathered = gathering.Gathered(shown_name(options.recording), imported.told, *runs)
     return document.page_of(gathered, measures.Measured(0, 0, 0, SPAN), notes), NOT_IMPORTED
 
 
 def page_of(
-    options: argparse.Namespace, program: str, file: str, imported: gathering.Imported | None, notes: dict[str, str]
+    options: argparse.Namespace, program: str, file: str, imported: Imported | None, notes: dict[str, str]
 ) -> tuple[str, int]:
     """The page of a sample file, and the status to end with; where it is imported, what is known of that."""
     words = {name: value for name in FOLLOW_WORDS if (value := getattr(options, name)) is not None}
-    gathered = gathering.Gathered(shown_name(options.recording), imported, *gathering.gather_runs(program, file, words))
+    told, seen = imported if imported is not None else (None, None)
+    gathered = gathering.Gathered(shown_name(options.recording), told, *gathering.gather_runs(program, file, words))
     phases = [read["phase"] for _, read in gathered.find.reads("pilot")]
     span = words.get("span", "")
     measured = measures.measured(file, phases[0] if phases else None, int(span) if span in SPANS else SPAN)
     made = waveform.waveform_of(
-        gathered, file, phases[0] if phases and measured.stands_out else None, raw_of(options, notes)
+        gathered, file, phases[0] if phases and measured.stands_out else None, raw_of(options, notes), seen
     )
-    more = cells_of(options, program, words, file) if options.cells > 1 else document.Addition()
+    held = seen.held if seen is not None else None
+    more = cells_of(options, program, words, file, held) if options.cells > 1 else document.Addition()
     return document.page_of(gathered, measured, notes, made, more), gathered.follow.status
 
 
-def cells_of(options: argparse.Namespace, program: str, words: dict[str, str], file: str) -> document.Addition:
-    """The sections of each cell of a recording, beside whose imported file is room for others."""
+def cells_of(
+    options: argparse.Namespace, program: str, words: dict[str, str], file: str, held: Held | None
+) -> document.Addition:
+    """The sections of each cell of a recording, beside whose imported file is room for others.
+
+    `held` is the lock to the strongest cell, if the import made it.
+    """
     raw = raw_of(options, {})
     folder = os.path.join(os.path.dirname(file), "cells")
     os.mkdir(folder)
@@ -204,7 +221,7 @@ def cells_of(options: argparse.Namespace, program: str, words: dict[str, str], f
         if raw is None:
             raise Refused("the recording's type or rate isn't known")
         asked = import_capture.lock_options(taken, raw.kind, Fraction(raw.rate).limit_denominator(1_000))
-        return cells.addition_of(cells.gather_cells(raw.path, asked, options.cells, program, words, folder))
+        return cells.addition_of(cells.gather_cells(raw.path, asked, options.cells, program, words, folder, held))
     except Refused as why:
         return cells.addition_why(why)
 

@@ -14,26 +14,40 @@ stands out where it was tracked, 12 or more, and clock_ppm by how many millionth
 Round each centre frequency the carrier is searched 21 kHz to each side, in the spectrum as it is and then inverted. If
 no centre has a pilot there, 88 kHz to each side are searched, which meets a clock that is 110 millionths off at 800
 MHz. --search and --conjugate replace that. At most 100,000 centre frequencies and 2,000,000 carriers, in steps of 300 Hz
-round each, are tried, which takes a processor some hours; what asks for more is refused. To lock to a pilot:
+round each, are tried, which takes a processor some hours; what asks for more is refused.
 
-    tools/import_capture --lock --shift 1249851 RECORDING FILE
+--json writes one list of objects. With --cells K each pilot is locked to, and a table of up to K cells on its carrier is
+told too: PILOT_PN, Ec/Io, delay, carrier, messages, SID, NID and BASE_ID, as import_capture --cells has it.
+
+    tools/scan radio.sigmf-meta
+    tools/scan --json --cells 3 radio.sigmf-meta
+    tools/import_capture --lock --shift 1249851 radio.sigmf-meta radio.is95
 
 Exit status: 0 a pilot was found, 1 none, or the recording can't be taken, 2 wrong arguments.
 """
 
 import argparse
+import json
 import sys
+import tempfile
 from dataclasses import replace
+from fractions import Fraction
+from typing import Any, NamedTuple
 
 from cdma_tools import sigmf
-from cdma_tools.arguments import MOST_HERTZ, Parser, count_of, number_within, rate_of, text_of
+from cdma_tools.analysis.cell_table import CellFacts, table_of_cells
+from cdma_tools.analysis.cells import Search
+from cdma_tools.arguments import MOST_HERTZ, Parser, count_of, number_within, rate_of, text_of, whole_within
+from cdma_tools.cell_options import MOST_RANK
 from cdma_tools.errors import Refused, said
 from cdma_tools.overwriting import InputFile
+from cdma_tools.program import add_program_option, program_or_hint
 from cdma_tools.progress import bar
 from cdma_tools.radio.acquisition import bins_within
 from cdma_tools.radio.air import CHIP_RATE
 from cdma_tools.radio.confirmation import LEAST
 from cdma_tools.radio.front import Front
+from cdma_tools.radio.locking import Options
 from cdma_tools.radio.plain import TYPE_CHOICES, assumed, recording_told, with_hints
 from cdma_tools.radio.scanning import RASTER, Seen, everywhere, raster, scan
 from cdma_tools.radio.search_policy import SPAN, SearchPolicy, add_search_options, policy_of
@@ -41,7 +55,16 @@ from cdma_tools.recordings import Recording
 from cdma_tools.starting import called
 
 MOST_CENTRES = 100_000
+LOCK_SEARCH = 1_000.0  # Hz to each side of a pilot that was found
 MOST_CARRIERS = 2_000_000  # that are tried round all centres; each takes some 7 ms
+
+
+class Told(NamedTuple):
+    """The type, the rate and the path of a recording's samples."""
+
+    kind: str
+    rate: Fraction
+    path: str
 
 
 def parser() -> argparse.ArgumentParser:
@@ -65,6 +88,14 @@ def parser() -> argparse.ArgumentParser:
     )
     where.add_argument("--all", action="store_true", help="every frequency in the width")
     add_search_options(words)
+    words.add_argument(
+        "--cells",
+        type=whole_within(1, MOST_RANK),
+        metavar="K",
+        help="lock to each pilot, and tell a table of up to K cells on its carrier, as import_capture --cells does",
+    )
+    words.add_argument("--json", action="store_true", help="write one list of objects in place of lines")
+    add_program_option(words)
     words.add_argument("--verbose", action="store_true", help="a line for the centres without a pilot too")
     return words
 
@@ -79,6 +110,39 @@ def text(seen: Seen, is_verbose: bool) -> str:
         )
     tracked = f" sigma={seen.sigma:.1f}" if seen.excess > 1 else ""
     return f"no pilot round {seen.centre:.0f} Hz, excess={seen.excess:.2f}{tracked}\n" if is_verbose else ""
+
+
+def object_of(seen: Seen, cells: list[CellFacts] | None) -> dict[str, Any]:
+    """The object of a centre in the JSON; with a pilot's cells, if they were asked for."""
+    told: dict[str, Any] = {"centre_hz": seen.centre, "is_pilot": seen.is_pilot, "excess": round(seen.excess, 3)}
+    if seen.is_pilot:
+        told |= {
+            "carrier_hz": round(seen.carrier, 1), "ec_io_db": round(seen.ec_io, 2), "phase": seen.phase,
+            "at_s": round(seen.seconds, 4), "conjugate": seen.is_conjugate, "sigma": round(seen.sigma, 1),
+            "clock_ppm": round(seen.clock, 2),
+        }  # fmt: skip
+    return told if cells is None else told | {"cells": [cell.as_json() for cell in cells]}
+
+
+def cells_at(seen: Seen, options: argparse.Namespace, told: Told, program: str | None) -> list[CellFacts]:
+    """The table of cells on the carrier of a pilot that was found."""
+    conjugate = "yes" if seen.is_conjugate else "no"
+    asked = Options(told.kind, told.rate, options.skip, seen.carrier, LOCK_SEARCH, conjugate)
+    with tempfile.TemporaryDirectory(prefix="cells-") as folder, bar(total=options.cells, text="cells") as shown:
+        with Search(told.path, asked, folder) as search:
+            return table_of_cells(search, options.cells, program, shown.update)
+
+
+def write_all(options: argparse.Namespace, found: list[Seen], told: Told, lines: list[str]) -> None:
+    """Writes what was found, with tables of cells if they are asked for."""
+    program = program_or_hint(options.program, lines) if options.cells else None
+    tables = [cells_at(seen, options, told, program) if options.cells and seen.is_pilot else None for seen in found]
+    if options.json:
+        rows = [object_of(seen, cells) for seen, cells in zip(found, tables) if seen.is_pilot or options.verbose]
+        sys.stdout.write(json.dumps(rows) + "\n")
+        return
+    for seen, cells in zip(found, tables):
+        sys.stdout.write(text(seen, options.verbose) + "".join(f"cell {cell.line}\n" for cell in cells or ()))
 
 
 def fault_of(found: list[Seen], policy: SearchPolicy) -> str:
@@ -143,7 +207,7 @@ def main(arguments: list[str] | None = None) -> int:
             total=len(centres) * len(steps), text="scan"
         ) as shown:
             found = scan(Front(recording), centres, steps, shown.update)
-        sys.stdout.write("".join(text(seen, options.verbose) for seen in found))
+        write_all(options, found, Told(kind, rate, path), lines)
         if fault := fault_of(found, policy):
             raise Refused(fault)
     for line in lines:

@@ -255,15 +255,22 @@ def hold(path: str, options: Options, tell: Callable[[float, str], None] = lambd
 
 
 def lock(
-    path: str, options: Options, file: IO[bytes], tell: Callable[[float, str], None] = lambda part, text: None
+    path: str,
+    options: Options,
+    file: IO[bytes],
+    tell: Callable[[float, str], None] = lambda part, text: None,
+    look: Callable[[Held, Locked], None] = lambda held, locked: None,
 ) -> Locked:
     """Writes a sample file of the strongest pilot of a recording, and answers what was found.
 
-    `tell` is told what part of the work is done, and its name. Refuses a recording without a pilot.
+    `tell` is told what part of the work is done, and its name; `look` gets the lock while its samples are still open.
+    Refuses a recording without a pilot.
     """
     held = hold(path, options, tell)
     with contextlib.closing(held.front.recording):
-        return write_held(held, options, file, lambda part: tell(STEPS[1] + (STEPS[2] - STEPS[1]) * part, "chips"))
+        locked = write_held(held, options, file, lambda part: tell(STEPS[1] + (STEPS[2] - STEPS[1]) * part, "chips"))
+        look(held, locked)
+    return locked
 
 
 def write_held(

@@ -7,11 +7,13 @@ from typing import NamedTuple
 from markupsafe import Markup
 from plotly import graph_objects
 
+from cdma_tools.analysis.cell_table import CellFacts, facts_of
 from cdma_tools.analysis.cells import Search
 from cdma_tools.errors import Refused
 from cdma_tools.heard_run import FOLLOWED
 from cdma_tools.progress import bar
-from cdma_tools.radio.locking import Locked, Options, write_held
+from cdma_tools.radio.locking import Held, Locked, Options, write_held
+from cdma_tools.recordings import Recording
 from cdma_tools.report.document import (
     Addition,
     Table,
@@ -32,18 +34,22 @@ SHARED_WORDS = ("span", "workers", "fingers", "paging")
 
 
 class HeardCell(NamedTuple):
-    """A cell: its rank, its lock with the others off, the rows that it sends, and what the program follows of it."""
+    """A cell: its lock with the others off, the rows that it sends, what the program follows of it, and its facts."""
 
-    rank: int
     locked: Locked
     rows: int
     follow: Ran
+    facts: CellFacts
+
+    @property
+    def rank(self) -> int:
+        """Its place by strength, from 1 on."""
+        return self.facts.rank
 
     @property
     def pn(self) -> int | None:
         """PILOT_PN as its sync messages tell it."""
-        found = last_of(self.follow, "sync", None)
-        return int(found[1]["pn"]) if found else None
+        return self.facts.pn
 
     @property
     def neighbors(self) -> list[int]:
@@ -58,15 +64,18 @@ class HeardCell(NamedTuple):
 
 
 def gather_cells(
-    path: str, options: Options, count: int, program: str, words: dict[str, str], folder: str
+    path: str, options: Options, count: int, program: str, words: dict[str, str], folder: str, first: Held | None
 ) -> list[HeardCell]:
-    """Up to so many cells of a recording, strongest first; `words` are the arguments of follow."""
+    """Up to so many cells of a recording, strongest first; `words` are the arguments of follow.
+
+    `first` is the lock to the strongest one, if it was made already.
+    """
     given = [f"--{name}={words[name]}" for name in SHARED_WORDS if name in words]
-    with Search(path, options, folder) as search, bar(total=count, text="cells", unit="cells") as shown:
+    with Search(path, options, folder, first=first) as search, bar(total=count, text="cells", unit="cells") as shown:
         while len(search.told) < count and search.next_cell():
             shown.update(1)
         assert search.left is not None
-        found = []
+        locks, runs = [], []
         for rank, cell in enumerate(search.told, 1):
             file = os.path.join(folder, "heard.is95")
             with open(file, "wb") as written:
@@ -75,8 +84,43 @@ def gather_cells(
                 total=(os.path.getsize(file) - HEADER.size) // 4, text=f"cell {rank}", unit="chips"
             ) as shown_chips:
                 follow = run_program(program, ["follow", *given], file, FOLLOWED, shown_chips)
-            found.append(HeardCell(rank, locked, len(cell.used), follow))
-        return found
+            locks.append(locked)
+            runs.append(follow)
+        heard = [[read for _, read in run.reads(*FOLLOWED)] for run in runs]
+        with Recording(path, options.kind, float(options.rate), options.skip) as recorded:
+            facts = facts_of(search.told, heard, recorded)
+        rows = [len(cell.used) for cell in search.told]
+        return [HeardCell(*told) for told in zip(locks, rows, runs, facts)]
+
+
+def number_text(value: float | int | None, form: str = "") -> str:
+    """A number of the table of cells; a word if no message told it."""
+    return "not heard" if value is None else format(value, form)
+
+
+def table_of_facts(cells: list[HeardCell]) -> Markup:
+    """The table of cells."""
+    heads = (
+        "Cell", "#PN", "#Ec/Io, dB", "#Delay, chips", "#µs", "#m", "#Carrier, Hz", "#Sync", "#Paging", "#SID", "#NID",
+        "#BASE_ID",
+    )  # fmt: skip
+    rows = []
+    for facts in (cell.facts for cell in cells):
+        numbers = ((facts.delay_chips, "+.2f"), (facts.delay_us, "+.2f"), (facts.delay_m, "+,.0f"))
+        told = (facts.sync_messages, facts.paging_messages, facts.sid, facts.nid, facts.base_id)
+        rows.append(
+            (
+                str(facts.rank), number_text(facts.pn), f"{facts.ec_io_db:.2f}",
+                *(number_text(value, form) for value, form in numbers), f"{facts.carrier_difference_hz:+.1f}",
+                *map(number_text, told),
+            )
+        )  # fmt: skip
+    seconds = max(cell.facts.seconds for cell in cells)
+    note = (
+        f"Ec/Io is of all that was received, the other cells with it, over {seconds:.3f} s; delays and carriers are against"
+        " the first cell's, delays on top of the offsets."
+    )
+    return joined([element("p", note, class_="note"), table_of(Table(heads, rows))])
 
 
 def cell_table(cell: HeardCell) -> Markup:
@@ -87,7 +131,7 @@ def cell_table(cell: HeardCell) -> Markup:
         ("PN offset", "no sync message was heard" if cell.pn is None else str(cell.pn)),
         ("Phase", f"{locked.phase:,} at the first chip"),
         ("Carrier", f"{locked.carrier_hz:.1f} Hz above the recording's middle"),
-        ("Pilot", f"{locked.ec_io_db:.2f} dB of all power, without the other cells"),
+        ("Ec/Io", f"{cell.facts.ec_io_db:.2f} dB over {cell.facts.seconds:.3f} s"),
         ("Rows in use", str(cell.rows)),
         ("Paths", paths),
         (
@@ -166,10 +210,12 @@ def map_plot(cells: list[HeardCell]) -> Plot | None:
 
 def addition_of(cells: list[HeardCell]) -> Addition:
     """What the page gets: a section for each cell, who names whom, and the map."""
+    table = section("Cells", table_of_facts(cells), name="cells")
     heading = section("Who names whom", neighbor_table(cells), name="named")
-    links = [("named", "Neighbors of all"), *((f"cell-{cell.rank}", f"Cell {cell.rank}") for cell in cells)]
-    plot = map_plot(cells)
-    return Addition(links, joined([heading, *map(cell_section, cells)]), [plot] if plot else [])
+    links = [("cells", "Cells"), ("named", "Neighbors of all")]
+    links += [(f"cell-{cell.rank}", f"Cell {cell.rank}") for cell in cells]
+    plot, facts = map_plot(cells), [cell.facts for cell in cells]
+    return Addition(links, joined([table, heading, *map(cell_section, cells)]), [plot] if plot else [], facts)
 
 
 def addition_why(why: Refused) -> Addition:

@@ -18,12 +18,14 @@ from typing import Any, Iterable, NamedTuple, Sequence
 from markupsafe import Markup
 from plotly.offline import get_plotlyjs
 
+from cdma_tools.analysis.cell_table import CellFacts
 from cdma_tools.heard_run import CHIP_RATE, LANES, Run
 from cdma_tools.lines import BY_WORDS, RATES, Shape
-from cdma_tools.report.figures import Plot, decibels, plots_of, strengths
+from cdma_tools.report.figures import Plot, decibels, pilots_of, plots_of, span_text
 from cdma_tools.report.gathering import Gathered, Ran
 from cdma_tools.report.meaning import CONFIGURATIONS, MEANINGS, degrees, megahertz, rows_of, times_of, utc_of
 from cdma_tools.report.measures import Measured
+from cdma_tools.report.surveyed import Surveyed
 from cdma_tools.report.waveform import Waveform
 from cdma_tools.report.waveform import plots_of as waveform_plots
 from cdma_tools.report.waveform import rows_of as waveform_rows
@@ -35,7 +37,6 @@ FOUND = {  # what an import tells by name, and its unit
     "carrier_hz": ("Carrier", "Hz above the recording's middle"),
     "drift": ("Carrier's drift", "Hz a second"),
     "clock_ppm": ("Clock", "ppm slower than the base station's"),
-    "ec_io_db": ("Pilot", "dB of all power"),
     "phase": ("Phase", "of the pilot's code at the first chip"),
     "paths": ("Paths", "chips later, and dB"),
     "equaliser": ("Phase equaliser", ""),
@@ -62,11 +63,12 @@ class PageMarkup(Markup):
 
 
 class Addition(NamedTuple):
-    """More that a page has: the names of its parts with what their links say, their markup, and plots."""
+    """More that a page has: the names of its parts with what their links say, their markup, plots, and its cells."""
 
     links: list[tuple[str, str]] = []
     markup: Markup = Markup("")
     plots: list[Plot] = []
+    cells: list[CellFacts] = []
 
 
 class Table(NamedTuple):
@@ -217,14 +219,25 @@ def level_told(measured: Measured) -> list[tuple[str, str]]:
     return [("Level", level), ("Greatest part", f"{top:,} of {greatest:,}")]
 
 
-def signal_card(gathered: Gathered, measured: Measured) -> Markup:
+def ec_io_told(gathered: Gathered, made: Waveform) -> list[tuple[str, str]]:
+    """The one Ec/Io of the page, with the span it is of: the lock's, or that of a sample file's code domain."""
+    found = gathered.imported.found if gathered.imported else {}
+    if "ec_io_db" in found and "chips" in found:
+        level, chips = float(found["ec_io_db"]), int(found["chips"])
+    elif made.domain is not None:
+        level, chips = made.domain.rows[0].db, made.domain.chips
+    else:
+        return []
+    return [("Ec/Io", f"{level:.2f} dB: the pilot's part of all power, over {chips / CHIP_RATE:.3f} s")]
+
+
+def signal_card(gathered: Gathered, measured: Measured, made: Waveform) -> Markup:
     """How strong the signal is, and what is left of carrier and clock."""
-    rows = level_told(measured)
+    rows = level_told(measured) + ec_io_told(gathered, made)
     if pilots := gathered.find.reads("pilot"):
         rows.append(("Best phase", f"{pilots[0][1]['phase']:,} of 32,768"))
-    if measured.ratio is not None:
-        noise = "" if measured.stands_out else ", no more than noise"
-        rows.append(("Pilot", f"{decibels(measured.ratio):.1f} dB of all power{noise}"))
+    if measured.ratio is not None and not measured.stands_out:
+        rows.append(("Pilot", f"no more than noise in the first {span_text(measured)}"))
     if measured.carrier is not None:
         rows.append(("Carrier left", f"{measured.carrier:+.2f} Hz"))
     if measured.drift is not None and measured.seconds:
@@ -240,6 +253,8 @@ def found_card(gathered: Gathered) -> Markup:
         return Markup("")
     rows = []
     for name, value in gathered.imported.found.items():
+        if name == "ec_io_db":
+            continue  # it stands in the card of the signal
         told, unit = FOUND.get(name, (name, ""))
         rows.append((told, f"{value} {unit}".strip()))
     rows += [("Said", line) for line in gathered.imported.said]
@@ -316,26 +331,34 @@ def last_section(gathered: Gathered, heading: str, name: str, word: str) -> Mark
     return fields_section(heading, name, shape, last, note)
 
 
-def neighbor_section(gathered: Gathered, measured: Measured) -> Markup:
-    """The neighbors of the last list, with what the survey found of them."""
+def neighbor_section(
+    gathered: Gathered, measured: Measured, surveyed: Sequence[Surveyed], cells: Sequence[CellFacts]
+) -> Markup:
+    """The neighbors of the last list, with what was heard of them, or what the survey found."""
     found = last_of(gathered.follow, "paging", "neighbors")
     if not found:
         return Markup("")
     _, last, all_of = found
-    surveyed = {}
-    if gathered.find.reads("pilot"):
-        powers = strengths(gathered, measured)
-        surveyed = {
-            read["pn"]: (power, read["delta"]) for (_, read), power in zip(gathered.survey.reads("survey"), powers)
-        }
+    pilots, heard = {pilot.pn: pilot for pilot in surveyed}, {cell.pn: cell for cell in cells}
     rows = []
     for config, pn in last["pilots"]:
-        power, delta = surveyed.get(pn, (0.0, 0))
-        told = f"{decibels(power):.1f} dB, {delta:+d} chips" if power >= measured.floor else "no more than noise"
-        rows.append((str(pn), str(config), CONFIGURATIONS.get(config, "reserved"), told if pn in surveyed else ""))
+        told = cell_told(heard[pn]) if pn in heard else pilot_told(pilots.get(pn), measured)
+        rows.append((str(pn), str(config), CONFIGURATIONS.get(config, "reserved"), told if surveyed or pn in heard else ""))
     note = f"The last of {len(all_of)}, known at {seconds_at(last)}; PILOT_INC is {last['inc']}."
-    table = table_of(Table(("NGHBR_PN", "#NGHBR_CONFIG", "Meaning", "In the survey"), rows or [("none", "", "", "")]))
+    table = table_of(Table(("NGHBR_PN", "#NGHBR_CONFIG", "Meaning", "In this recording"), rows or [("none", "", "", "")]))
     return section("Neighbors", element("p", note, class_="note"), table, name="neighbors")
+
+
+def cell_told(cell: CellFacts) -> str:
+    """A neighbor that was heard as a cell of its own."""
+    return f"heard as cell {cell.rank}: {cell.ec_io_db:.2f} dB, {cell.delay_chips or 0.0:+.1f} chips"
+
+
+def pilot_told(pilot: Surveyed | None, measured: Measured) -> str:
+    """A neighbor as the survey found it."""
+    if pilot is None or pilot.strength < measured.floor:
+        return f"no more than noise in the first {span_text(measured)}"
+    return f"stands out of noise in the first {span_text(measured)}, {pilot.delta:+d} chips"
 
 
 def channel_section(gathered: Gathered) -> Markup:
@@ -443,12 +466,18 @@ TABLE_NAMES = [
 ]
 
 
-def message_tables(gathered: Gathered, measured: Measured, notes: dict[str, str]) -> dict[str, Markup]:
+def message_tables(
+    gathered: Gathered,
+    measured: Measured,
+    notes: dict[str, str],
+    surveyed: Sequence[Surveyed] = (),
+    cells: Sequence[CellFacts] = (),
+) -> dict[str, Markup]:
     """The tables of messages that tell of the system, by their names in TABLE_NAMES; empty where none was heard."""
     return {
         "sync": sync_section(gathered),
         "system": last_section(gathered, "System Parameters", "system", "system"),
-        "neighbors": neighbor_section(gathered, measured),
+        "neighbors": neighbor_section(gathered, measured, surveyed, cells),
         "channels": channel_section(gathered),
         "notes": notes_section(notes),
     }
@@ -471,19 +500,25 @@ def heard_at(gathered: Gathered) -> str:
 
 
 def body_of(
-    gathered: Gathered, measured: Measured, notes: dict[str, str], plots: list[Plot], made: Waveform, more: Addition
+    gathered: Gathered,
+    measured: Measured,
+    notes: dict[str, str],
+    plots: list[Plot],
+    surveyed: Sequence[Surveyed],
+    made: Waveform,
+    more: Addition,
 ) -> Markup:
     """What the page shows."""
     run = Run(gathered.follow.reads("sync", "paging", "frame", "traffic", "sets"))
     cards = [
         recording_card(gathered, measured, notes),
-        signal_card(gathered, measured),
+        signal_card(gathered, measured, made),
         waveform_card(made),
         found_card(gathered),
         station_card(gathered),
         heard_card(run),
     ]
-    tables = message_tables(gathered, measured, notes)
+    tables = message_tables(gathered, measured, notes, surveyed, more.cells)
     under = f"{measured.seconds:.2f} seconds of the IS-95 forward link{heard_at(gathered)}"
     head = [element("h1", gathered.name), element("p", under, class_="under"), state_of(gathered, measured)]
     main = [
@@ -506,8 +541,9 @@ def page_of(
 ) -> str:
     """The whole page; `notes` are what a recording says of itself, by name, and `made` what was measured of it."""
     has_offset = bool(gathered.follow.reads("sync"))
-    plots = plots_of(gathered, measured, has_offset) + waveform_plots(made) + more.plots
-    return whole_page(gathered.name, body_of(gathered, measured, notes, plots, made, more), plots)
+    surveyed = pilots_of(gathered, measured, more.cells)
+    plots = plots_of(gathered, measured, surveyed, has_offset) + waveform_plots(made) + more.plots
+    return whole_page(gathered.name, body_of(gathered, measured, notes, plots, surveyed, made, more), plots)
 
 
 def whole_page(name: str, body: Markup, plots: list[Plot]) -> str:

@@ -4,16 +4,18 @@
 point's customdata has the line's place. The page's script fills in the lines' text, so the page contains it once.
 """
 
-from typing import Any, NamedTuple
+from typing import Any, NamedTuple, Sequence
 
 import numpy
 from plotly import graph_objects
 from plotly.subplots import make_subplots
 
+from cdma_tools.analysis.cell_table import CellFacts
 from cdma_tools.heard_run import CHIP_RATE, LANES, Run
 from cdma_tools.lines import RATES
 from cdma_tools.report.gathering import Gathered
 from cdma_tools.report.measures import WINDOW, Measured
+from cdma_tools.report.surveyed import Surveyed, explained_pilots, heard_of
 
 BLUE, GREEN, RED, ORANGE, GREY, INK = "#1f6fb2", "#2a8c4a", "#c0392b", "#d9822b", "#aab4bf", "#22303c"
 MESSAGE_COLORS = {"sync": "#6a4fb3", "paging": BLUE, "traffic": "#0f7f86"}
@@ -87,7 +89,10 @@ def correlation_plot(measured: Measured, phase: int) -> Plot | None:
     threshold(figure, measured.floor, "noise stays below")
     figure.update_xaxes(title="chips from the best phase", range=[-WINDOW - 0.5, WINDOW + 0.5])
     figure.update_yaxes(title="dB of all power", range=[bottom, max(0.0, float(levels.max())) + 1])
-    note = f"The first {measured.span:,} samples against the pilot's code, at phase {phase} and {WINDOW} chips on each side."
+    note = (
+        f"The first {span_text(measured)} against the pilot's code, at phase {phase} and {WINDOW} chips on each side: of"
+        " these samples alone, not the Ec/Io of the whole."
+    )
     return Plot("correlation", "Correlation round the best phase", note, styled(figure, 360))
 
 
@@ -123,43 +128,57 @@ def constellation_plot(measured: Measured) -> Plot | None:
     return Plot("constellation", "Constellation of the sync channel", note, styled(figure, 360))
 
 
-def survey_plot(gathered: Gathered, measured: Measured, has_offset: bool) -> Plot | None:
+def survey_plot(pilots: list[Surveyed], measured: Measured, has_offset: bool) -> Plot | None:
     """A bar for each pilot of the survey, by its offset."""
-    reads = gathered.survey.reads("survey")
-    if not reads or measured.level is None or not gathered.find.reads("pilot"):
+    if not pilots or measured.level is None:
         return None
-    powers = strengths(gathered, measured)
+    powers = [pilot.strength for pilot in pilots]
     levels = decibels(numpy.array(powers))
     bottom = float(min(levels.min(), decibels(measured.floor))) - 1
     colors = [BLUE if power >= measured.floor else GREY for power in powers]
     figure = graph_objects.Figure(
         graph_objects.Bar(
-            x=[read["pn"] for _, read in reads],
+            x=[pilot.pn for pilot in pilots],
             y=numpy.round(levels - bottom, 2).tolist(),
             base=bottom,
             width=1,
-            customdata=[at for at, _ in reads],
+            customdata=[pilot.number for pilot in pilots],
             meta={"lines": "survey"},
             marker={"color": colors, "line": {"color": colors, "width": 0.5}},
             hovertemplate="%{text}" + HIDDEN_TEXT,
         )
     )
-    for (_, read), power, level in list(zip(reads, powers, levels))[:12]:
-        if power >= measured.floor:
-            figure.add_annotation(x=read["pn"], y=float(level), text=f"PN {read['pn']}", showarrow=False, yanchor="bottom")
+    for pilot, level in list(zip(pilots, levels))[:12]:
+        if pilot.strength >= measured.floor:
+            figure.add_annotation(x=pilot.pn, y=float(level), text=f"PN {pilot.pn}", showarrow=False, yanchor="bottom")
     threshold(figure, measured.floor, "noise stays below")
     title = "PN offset" if has_offset else "offset above the best pilot's, which isn't known"
     figure.update_xaxes(title=title, range=[-2, 513])
     figure.update_yaxes(title="dB of all power", range=[bottom, max(0.0, float(levels.max())) + 2])
     count = sum(power >= measured.floor for power in powers)
-    note = f"Each of the {len(reads)} pilots at its own phase; {count} can't be noise. Drag to zoom, double-click to see all."
+    note = (
+        f"Each of the {len(pilots)} pilots at its own phase, in the first {span_text(measured)}; {count} can't be noise."
+        " Drag to zoom, double-click to see all."
+    )
     return Plot("survey", "Base stations by their PN offset", note, styled(figure, 340))
 
 
-def strengths(gathered: Gathered, measured: Measured) -> list[float]:
-    """The strength of each pilot of the survey: that of the best one times the ratio of their energies."""
-    best = gathered.find.reads("pilot")[0][1]["energy"]
-    return [(measured.ratio or 0.0) * read["energy"] / best if best else 0.0 for _, read in gathered.survey.reads("survey")]
+def span_text(measured: Measured) -> str:
+    """How long the samples of a search last."""
+    return f"{measured.span:,} samples ({1_000 * measured.span / CHIP_RATE:.1f} ms)"
+
+
+def pilots_of(gathered: Gathered, measured: Measured, cells: Sequence[CellFacts]) -> list[Surveyed]:
+    """The pilots of the survey: each strength is that of the best one times the ratio of their energies."""
+    found = gathered.find.reads("pilot")
+    best = found[0][1]["energy"] if found else 0
+    if not best:
+        return []
+    pilots = [
+        Surveyed(read["pn"], read["delta"], (measured.ratio or 0.0) * read["energy"] / best, number)
+        for number, read in gathered.survey.reads("survey")
+    ]
+    return explained_pilots(pilots, measured.floor, heard_of(gathered, cells))
 
 
 def marks(name: str, lane: str, at: list[int], numbers: list[int], marker: dict[str, Any]) -> graph_objects.Scatter:
@@ -277,9 +296,9 @@ def timeline_of(run: Run, power: list[graph_objects.Scatter]) -> Plot:
     return Plot("timeline", "Time line", note, figure)
 
 
-def plots_of(gathered: Gathered, measured: Measured, has_offset: bool) -> list[Plot]:
+def plots_of(gathered: Gathered, measured: Measured, surveyed: list[Surveyed], has_offset: bool) -> list[Plot]:
     """The plots that can be made of what there is."""
     pilots = gathered.find.reads("pilot")
     correlation = correlation_plot(measured, pilots[0][1]["phase"]) if pilots else None
-    found = (correlation, constellation_plot(measured), survey_plot(gathered, measured, has_offset), timeline_plot(gathered))
+    found = (correlation, constellation_plot(measured), survey_plot(surveyed, measured, has_offset), timeline_plot(gathered))
     return [plot for plot in found if plot]

@@ -8,7 +8,7 @@ from plotly.subplots import make_subplots
 
 from cdma_tools.analysis.branches import Branches, branches_of
 from cdma_tools.analysis.code_domain import CodeDomain
-from cdma_tools.analysis.measuring import PAGING_ROWS, domain_of_file, kinds_of
+from cdma_tools.analysis.measuring import PAGING_ROWS, Analysis, SeenLock, analysis_of_chips, domain_of_file, kinds_of
 from cdma_tools.analysis.spectrum import Spectrum, spectrum_of
 from cdma_tools.errors import Refused
 from cdma_tools.frequencies import Channel, channel_at
@@ -36,6 +36,7 @@ class Waveform(NamedTuple):
     """What was measured; parts that couldn't be are missing."""
 
     domain: CodeDomain | None = None
+    analysis: Analysis | None = None  # of a recording: the same as tools/domain makes
     kinds: dict[int, str] = {}
     spectrum: Spectrum | None = None
     branches: Branches | None = None
@@ -65,19 +66,26 @@ def carrier_of(gathered: Gathered) -> float | None:
     return -carrier if found.get("conjugate") == "yes" else carrier
 
 
-def waveform_of(gathered: Gathered, file: str, phase: int | None, raw: Raw | None) -> Waveform:
-    """What a sample file and, where it comes of one, a recording show; what can't be measured is left out."""
+def waveform_of(
+    gathered: Gathered, file: str, phase: int | None, raw: Raw | None, seen: SeenLock | None = None
+) -> Waveform:
+    """What a sample file and, where it comes of one, a recording show; what can't be measured is left out.
+
+    `seen` is what an import's lock showed.
+    """
     made = Waveform(middle=raw.middle if raw else None, carrier=carrier_of(gathered))
     try:
         if phase is not None:
-            domain = domain_of_file(file, phase)
+            analysis = None if seen is None else analysis_of_chips(file, seen, None)
+            domain = domain_of_file(file, phase) if analysis is None else analysis.domain
             kinds = kinds_of(domain.used, None, file)
             if (row := paging_row(gathered)) in kinds:
                 kinds[row] = "paging"
-            made = made._replace(domain=domain, kinds=kinds)
+            made = made._replace(domain=domain, analysis=analysis, kinds=kinds)
         if raw is not None:
             with Recording(raw.path, raw.kind, raw.rate) as recording:
-                made = made._replace(spectrum=spectrum_of(recording), branches=branches_of(recording))
+                branches = branches_of(recording) if seen is None or made.carrier is None else seen.branches
+                made = made._replace(spectrum=spectrum_of(recording), branches=branches)
     except (Refused, OSError):
         return made
     return made
@@ -93,12 +101,15 @@ def domain_plot(made: Waveform) -> Plot | None:
         rows = [row for row, own in zip(made.domain.rows, kinds) if own == kind]
         bars = graph_objects.Bar(
             x=[row.row for row in rows],
-            y=[round(max(row.db, LOWEST) - LOWEST, 2) for row in rows],
+            y=[round(max(row.total_db, LOWEST) - LOWEST, 2) for row in rows],
             base=LOWEST,
             name=kind,
             marker={"color": color},
-            customdata=[[round(row.db, 2), round(row.degrees, 2), round(row.chips, 4)] for row in rows],
-            hovertemplate="row %{x}: %{customdata[0]} dB, %{customdata[1]} degrees, %{customdata[2]} chips"
+            customdata=[
+                [round(row.total_db, 2), round(row.db, 2), round(row.degrees, 2), round(row.chips, 4)] for row in rows
+            ],
+            hovertemplate="row %{x}: %{customdata[0]} dB, %{customdata[1]} without noise, %{customdata[2]} degrees,"
+            + " %{customdata[3]} chips"
             + HIDDEN_TEXT,
         )
         if rows:
@@ -108,8 +119,9 @@ def domain_plot(made: Waveform) -> Plot | None:
     figure.update_yaxes(title="seconds", row=2, col=1)
     figure.update_xaxes(title="Walsh row", range=[-0.7, 63.7], row=2, col=1)
     note = (
-        f"The power of each Walsh row, without the noise's part: {len(made.domain.used)} are in use, of which rho is"
-        f" {made.domain.rho:.4f}. Below them each frame of 20 ms, or the mean of some."
+        f"The power of each Walsh row with the noise in it, the standard's code domain power: {len(made.domain.used)} are"
+        f" in use, and the noise floor is {made.domain.floor_db:.1f} dB. Below them each frame of 20 ms, or the mean of"
+        " some, without noise."
     )
     return Plot("domain", "Code domain", note, styled(figure, 560))
 
@@ -216,12 +228,14 @@ def rows_of(made: Waveform) -> list[tuple[str, str]]:
     told: list[tuple[str, str]] = []
     if made.domain is not None:
         domain = made.domain
-        error = (max(1 - domain.rho, 0.0) / domain.rho) ** 0.5 if domain.rho > 0 else float("inf")
+        analysis = made.analysis or Analysis(domain)
+        paths = "the strongest path" if analysis.over_paths is None else "all paths"
         told += [
-            ("rho", f"{domain.rho:.4f}, over the strongest path"),
+            ("rho", f"{analysis.rho:.4f}, spread {domain.rho_spread:.4f}, over {paths}"),
             ("Share of the pilot", f"{domain.pilot_share:.4f}"),
-            ("Error vector", f"{100 * error:.1f} %"),
+            ("Error vector", f"{100 * analysis.error_vector:.1f} %"),
             ("Rows in use", str(len(domain.used))),
+            ("Noise floor", f"{domain.floor_db:.1f} dB of all power in a row"),
             ("Peak of a chip", f"{domain.peak_db:.1f} dB over the mean"),
         ]
     if made.channel is not None:
