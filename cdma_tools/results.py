@@ -5,7 +5,7 @@ import dataclasses
 import enum
 import json
 import os
-from collections.abc import Mapping
+from collections.abc import Iterable, Mapping
 from typing import Any
 from xml.etree import ElementTree
 
@@ -64,6 +64,15 @@ class Results:
         self.is_text = not (options.tap or options.json)
         if options.tap:
             print(f"TAP version 13\n1..{count}", flush=True)
+
+    def take_all(self, found: Iterable[tuple[Result, str]], stops: bool) -> None:
+        """Takes results with their texts as they come; if it `stops`, up to the first that failed."""
+        for result, text in found:
+            self.take(result, text)
+            if stops and result.verdict() is Verdict.FAILED:
+                if self.options.tap:
+                    print("Bail out! --exitfirst: a case differs", flush=True)
+                return
 
     def count(self, verdict: Verdict) -> int:
         """Returns the number of cases with this verdict."""

@@ -14,6 +14,7 @@ has the form of a case.
     conformance/run --maker cdma_replay ./receiver
     conformance/run --junit results.xml --tap ./receiver
     conformance/run --jobs 4 ./receiver
+    conformance/run --only 'follow_*' --exitfirst ./receiver
     conformance/run --list
 
 Each case names its rules; --list and --rules say which of them are the standard's. --standard asks only for cases in
@@ -31,7 +32,7 @@ that isn't that of tools/explain. Soft values are compared by their signs, if th
 
     conformance/run --explain --only traffic_9600 --maker cdma_replay ./receiver
 
-A case fails if the receiver doesn't end within --minutes, is ended by a signal, writes without end (64 MiB more than
+What a receiver that differs writes on standard error is shown with the differences. A case fails if the receiver doesn't end within --minutes, is ended by a signal, writes without end (64 MiB more than
 expected) or writes bytes that aren't text. All processes that it began are ended, and the other cases continue.
 
 Exit status: 0 nothing differs, 1 something does, 2 wrong arguments or a case that can't be read.
@@ -122,12 +123,13 @@ def taken(options: argparse.Namespace, name: str) -> tuple[Result, str]:
 def run_all(names: Sequence[str], options: argparse.Namespace) -> int:
     """Runs the cases, writes the differences, and returns the number of cases that differ."""
     results = Results("conformance", options, len(names))
-    for result, text in mapped_in_turn(functools.partial(taken, options), names, options.jobs):
-        results.take(result, text)
+    results.take_all(mapped_in_turn(functools.partial(taken, options), names, options.jobs), options.exitfirst)
     left = results.count(Verdict.LEFT_OUT)
-    ran, differ = len(names) - left, results.count(Verdict.FAILED)
+    ran, differ = len(results.results) - left, results.count(Verdict.FAILED)
     what = "that the standard doesn't fix" if options.standard else "of make and trial"
-    return results.end(f"{ran} cases, {differ} differ" + (f"; {left} {what} are left out\n" if left else "\n"))
+    rest = len(names) - len(results.results)
+    more = (f"; {left} {what} are left out" if left else "") + (f"; {rest} were not asked\n" if rest else "\n")
+    return results.end(f"{ran} cases, {differ} differ{more}")
 
 
 def main(arguments: list[str] | None = None) -> int:

@@ -174,9 +174,10 @@ def result_of(options: argparse.Namespace, name: str) -> tuple[Result, str]:
 def run_all(names: list[str], options: argparse.Namespace) -> int:
     """Tries the cases, writes the differences, and returns the number of cases that differ."""
     results = Results("recordings", options, len(names))
-    for result, text in mapped_in_turn(functools.partial(result_of, options), names, options.jobs):
-        results.take(result, text)
-    return results.end(f"{len(names)} recordings, {results.count(Verdict.FAILED)} differ\n")
+    results.take_all(mapped_in_turn(functools.partial(result_of, options), names, options.jobs), options.exitfirst)
+    rest = len(names) - len(results.results)
+    more = f"; {rest} were not tried" if rest else ""
+    return results.end(f"{len(results.results)} recordings, {results.count(Verdict.FAILED)} differ{more}\n")
 
 
 def main(arguments: list[str] | None = None) -> int:

@@ -27,6 +27,8 @@ CASES = os.path.join(CONFORMANCE, "cases")
 MOST_STATUS = 8
 MOST_SHOWN = 2
 MOST_LETTERS = 300
+# Lines of a failing receiver's standard error that are shown.
+MOST_TOLD_LINES = 5
 # How many lines more than are wanted are compared.
 MOST_COMPARED = 10_000
 # More than any sample file has: 2^25 samples of 4 bytes, and a header.
@@ -439,6 +441,13 @@ def differences(case: Case, answer: Answer) -> list[str]:
     return said
 
 
+def told_lines(told: bytes) -> list[str]:
+    """Returns the last lines that a failing receiver wrote on standard error."""
+    lines = [line for line in told.decode(errors="replace").splitlines() if line.strip()]
+    left = f" (the last of {len(lines)} lines)" if len(lines) > MOST_TOLD_LINES else ""
+    return [f"standard error{left}: {line[:MOST_LETTERS]}" for line in lines[-MOST_TOLD_LINES:]]
+
+
 Compared = Callable[[Case, Answer, Sequence[str], bytes], list[str]]
 """What compares an answer with a case: it is told the run's words and input too, and tells what differs, in lines."""
 
@@ -464,6 +473,8 @@ def tried(
     for words in case.runs:
         answer = asked(case, program, words, data, minutes, is_group=True)
         said = [answer] if isinstance(answer, str) else compared(case, answer, words, data)
+        if said and not isinstance(answer, str) and case.error is None:
+            said = [*said, *told_lines(answer.told)]
         if said:
             found.append((words, said))
     return found

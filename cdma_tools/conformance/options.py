@@ -1,6 +1,8 @@
 """Parts of the command line that all commands which ask a receiver share."""
 
 import argparse
+import fnmatch
+import itertools
 import os
 
 from cdma_tools.arguments import Parser, add_minutes_option
@@ -23,7 +25,9 @@ def add_options(parser: Parser, made: str, kept: str) -> None:
     add_program_option(parser)
     maker = f"program that makes the {made} (default PROGRAM)"
     parser.add_argument("--maker", type=InputFile, metavar="MAKER", help=maker)
-    parser.add_argument("--only", metavar="NAME", action="append", help="only this case; may be repeated")
+    only = "only cases of this name or pattern, as 'follow_*'; may be repeated"
+    parser.add_argument("--only", metavar="NAME", action="append", help=only)
+    parser.add_argument("--exitfirst", action="store_true", help="stop after the first case that differs")
     parser.add_argument("--keep", type=OutputFolder, metavar="FOLDER", help=f"keep {kept} in this folder")
     add_minutes_option(parser)
     add_jobs_option(parser, "cases that are asked", 1)
@@ -33,11 +37,11 @@ def add_options(parser: Parser, made: str, kept: str) -> None:
 def checked(parser: Parser, arguments: list[str] | None, names: list[str]) -> tuple[argparse.Namespace, list[str]]:
     """Returns the options and the names of the requested cases; ends the program if an argument is wrong."""
     options = parser.parse_args(arguments)
-    unknown = [name for name in options.only or [] if name not in names]
-    if unknown:
-        parser.error(f"no case {unknown[0]}: --list has them all")
+    chosen = [fnmatch.filter(names, pattern) for pattern in options.only or []]
+    if [] in chosen:
+        parser.error(f"no case {options.only[chosen.index([])]}: --list has them all")
     if options.keep and not os.path.isdir(options.keep):
         parser.error(f"no folder {options.keep}")
     if not options.list and not getattr(options, "rules", False):
         options.program = options.receiver or find_program(options.program)
-    return options, options.only or names
+    return options, list(dict.fromkeys(itertools.chain(*chosen))) or names

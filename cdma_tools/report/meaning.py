@@ -26,6 +26,8 @@ REVISIONS = {  # of the air interface (7.7.1.3)
     7: "IS-2000-A",
     8: "IS-2000-B",
     9: "IS-2000-C",
+    10: "IS-2000-D",
+    11: "IS-2000-E",
 }
 PAGING_RATES = (9_600, 4_800)  # of PRAT (7.7.1.3)
 ZONE_MINUTES = (1, 2, 5, 10, 20, 30, 45, 60)  # of ZONE_TIMER (7.7.2.3.2.1)

@@ -276,9 +276,31 @@ class AsksOfSamples(Asks):
         self.assertEqual(self.asked(answers, "--only", "second")[0], 1)
         self.assertIn("3 cases, 3 differ\n", self.run_with([], f'cat {self.at("made.is95")}')[1])
 
+    def test_cases_by_a_pattern_and_the_first_that_differs(self) -> None:
+        words = ("words: find", "status: 0", "file:", "  0a", "text:", "  said")
+        for name in ("first", "first_of_two", "second"):
+            self.write(f"purpose: {name}", *words, name=name)
+        status, said = self.asked("exit 0", "--only", "first*")
+        self.assertEqual((status, said.splitlines()[-1]), (1, "2 cases, 2 differ"))
+        self.assertNotIn("second: ", said)
+        status, said = self.asked("exit 0", "--exitfirst")
+        self.assertEqual((status, said.splitlines()[-1]), (1, "1 cases, 1 differ; 2 were not asked"))
+        status, said = self.asked("exit 0", "--exitfirst", "--tap")
+        self.assertEqual((status, said.splitlines()[-1]), (1, "Bail out! --exitfirst: a case differs"))
+
+    def test_the_standard_error_of_a_receiver_that_differs_is_shown(self) -> None:
+        self.write("purpose: a first one", "words: find", "status: 0", "file:", "  0a", "text:", "  said")
+        _, said = self.asked("echo one >&2; echo two >&2; exit 1")
+        self.assertIn("    standard error: one\n    standard error: two\n", said)
+        _, said = self.asked("seq 9 >&2; exit 1")
+        self.assertIn("    standard error (the last of 9 lines): 5\n", said)
+        self.assertNotIn("): 4\n", said)
+        self.assertNotIn("standard error", self.asked("echo fine >&2; echo said")[1])
+
     def test_refusals(self) -> None:
         for words, why in (
             (["--only", "none"], "no case none"),
+            (["--only", "none_*"], "no case none_*"),
             (["--keep", self.at("none")], "no folder"),
             (["--minutes", "0"], "1 to 1,440"),
         ):
