@@ -9,11 +9,11 @@ from typing import Any, Callable
 from cdma_tools.analysis.cells import Cell, Search, later
 from cdma_tools.lines import NoLine, read_line
 from cdma_tools.program import written_of
-from cdma_tools.radio.air import CHIP_RATE, PERIOD
-from cdma_tools.radio.locking import write_held
+from cdma_tools.radio.air import CHIP_RATE, PERIOD, decibels
+from cdma_tools.radio.locking import Locked, write_held
 from cdma_tools.radio.second_pass import chips_of
 from cdma_tools.radio.strength import PilotMeter, emptied
-from cdma_tools.recordings import Recording
+from cdma_tools.recordings import Recording, Samples
 
 LIGHT = 299_792_458.0  # metres a second
 OFFSET_CHIPS = 64  # from the code of one pilot offset to the next (7.1.3.1.9)
@@ -68,19 +68,18 @@ def middle_hertz(cell: Cell) -> float:
     return float(fit.hertz((fit.chip[0] + fit.chip[-1]) / 2))
 
 
-def strength_in(cell: Cell, recorded: Recording) -> tuple[float, float]:
-    """A cell's Ec/Io in dB in all that was received, and the seconds over which it was taken."""
+def received(cell: Cell, recorded: Samples) -> PilotMeter:
+    """What a meter shows of a cell's chips in all that was received."""
     front, before = cell.held.front, cell.held.front.recording
     front.recording = recorded
     try:
-        meter, chips = PilotMeter(1 - emptied(front)), 0
+        meter = PilotMeter(1 - emptied(front))
         for piece in cell.held.pieces:
             for first, part in chips_of(front, piece):
                 meter.add(first, part)
-                chips += len(part)
     finally:
         front.recording = before
-    return meter.ec_io, chips / CHIP_RATE
+    return meter
 
 
 def last_read(reads: Reads, line: str, message: str | None = None) -> dict[str, Any] | None:
@@ -104,23 +103,37 @@ def delay_of(cell: Cell, first: Cell, pn: int | None, first_pn: int | None) -> f
     return float((chips + PERIOD / 2) % PERIOD - PERIOD / 2)
 
 
-def facts_of(cells: Sequence[Cell], heard: Sequence[Reads], recorded: Recording) -> list[CellFacts]:
-    """The table of cells, strongest first, with what the program heard of each."""
-    if not cells:
+@dataclass(frozen=True)
+class HeardAlone:
+    """A cell without the others: its lock, and what the program heard of it."""
+
+    cell: Cell
+    locked: Locked
+    reads: Reads
+
+
+def facts_of(heard: Sequence[HeardAlone], recorded: Recording) -> list[CellFacts]:
+    """The table of cells, strongest first.
+
+    The strongest one's Ec/Io is that of its lock. The others' pilots are measured without the stronger ones, whose
+    codes have a per cent in common with theirs, and stand against the power that was received.
+    """
+    if not heard:
         return []
-    made, first = [], cells[0]
-    turned = recorded.conjugate() if first.held.is_conjugate else recorded
-    for rank, (cell, reads) in enumerate(zip(cells, heard), 1):
-        level, seconds = strength_in(cell, turned)
+    made, first = [], heard[0].cell
+    whole = received(first, recorded.conjugate() if first.held.is_conjugate else recorded)
+    first_pn = pn_heard(heard[0].reads)
+    for rank, (cell, reads) in enumerate(((one.cell, one.reads) for one in heard), 1):
+        pilot = whole.pilot_power if cell is first else heard[rank - 1].locked.pilot_power
         pn, sync, system = pn_heard(reads), last_read(reads, "sync"), last_read(reads, "paging", "system")
         made.append(
             CellFacts(
                 rank=rank,
                 pn=pn,
-                ec_io_db=level,
-                seconds=seconds,
+                ec_io_db=decibels(pilot / whole.all_power),
+                seconds=whole.chips / CHIP_RATE,
                 phase=cell.held.pieces[0].first % PERIOD,
-                delay_chips=delay_of(cell, first, pn, pn_heard(heard[0])),
+                delay_chips=delay_of(cell, first, pn, first_pn),
                 carrier_hz=middle_hertz(cell),
                 carrier_difference_hz=middle_hertz(cell) - middle_hertz(first),
                 sync_messages=sum(read["line"] == "sync" for read in reads),
@@ -148,21 +161,22 @@ def table_of_cells(search: Search, count: int, program: str | None, tell: Callab
     """Up to so many cells of a recording; without a program no messages are heard. `tell` is told of each cell."""
     while len(search.told) < count and search.next_cell():
         tell(1)
-    heard = [[] if program is None else heard_alone(search, cell, program) for cell in search.told]
+    heard = [heard_alone(search, cell, program) for cell in search.told]
     options = search.options
     with Recording(search.path, options.kind, float(options.rate), options.skip) as recorded:
-        return facts_of(search.told, heard, recorded)
+        return facts_of(heard, recorded)
 
 
-def heard_alone(search: Search, cell: Cell, program: str) -> list[dict[str, Any]]:
-    """What the program hears of a cell without the others."""
+def heard_alone(search: Search, cell: Cell, program: str | None) -> HeardAlone:
+    """A cell without the others, with what the program hears of it, if there is one."""
     assert search.left is not None
     path = os.path.join(search.folder, "heard.is95")
     options = search.options._replace(version=1, scale=None, count=None)
     with open(path, "wb") as file:
-        write_held(cell.alone(search.left), options, file)
+        locked = write_held(cell.alone(search.left), options, file)
     try:
         with open(path, "rb") as file:
-            return reads_of(written_of(program, ["follow"], file))
+            text = b"" if program is None else written_of(program, ["follow"], file)
+        return HeardAlone(cell, locked, reads_of(text))
     finally:
         os.unlink(path)

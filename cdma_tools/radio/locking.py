@@ -72,6 +72,7 @@ class Locked(NamedTuple):
     seconds: float
     is_part: bool  # whether the pilot is lost before the beginning or after the end
     said: tuple[str, ...] = ()  # what else was taken or seen on the way
+    pilot_power: float = 0.0  # of a chip, as the samples have it
 
     def line(self) -> str:
         """The figures as name=value."""
@@ -311,4 +312,5 @@ def summary(held: Held, count: int, scale: float, written: Written) -> Locked:
         end=float(last.times(min(pieces[-1].behind, first + count))) / CHIP_RATE,
         seconds=front.length / CHIP_RATE,
         is_part=stretches.lost_before or stretches.lost_behind,
+        pilot_power=written.pilot_power,
     )

@@ -28,11 +28,15 @@ class Piece(NamedTuple):
 
 
 class Written(NamedTuple):
-    """What the second pass saw: parts that were cut at the ends of the range, chips that are zeros, the pilot's Ec/Io."""
+    """What the second pass saw: parts that were cut at the ends of the range, chips that are zeros, and the pilot.
+
+    Its Ec/Io is in dB, its power that of a chip before scaling.
+    """
 
     cut: int
     lost: int
     ec_io: float
+    pilot_power: float
 
 
 def ramps(turns: NDArray[numpy.float64], rates: NDArray[numpy.float64], count: int) -> NDArray[numpy.complex64]:
@@ -96,4 +100,4 @@ def write_chips(
             file.write(parts.tobytes())
             cut, chip = cut + more, first + len(chips)
             tell((chip - begin) / count)
-    return Written(cut, lost, meter.ec_io)
+    return Written(cut, lost, meter.ec_io, meter.pilot_power)

@@ -54,7 +54,7 @@ class PilotMeter:
     def __init__(self, kept: float = 1.0) -> None:
         """`kept` is the part of a pulse's power that the front left of it."""
         self.kept = kept
-        self.pilot, self.power = 0.0, 0.0
+        self.pilot, self.power, self.chips = 0.0, 0.0, 0
         self.correlations, self.correlated = numpy.zeros(LAGS), 0.0
         self.code = numpy.concatenate([short_code(), short_code()]).conj()
 
@@ -65,6 +65,7 @@ class PilotMeter:
             sums = (part * self.code[(first + begin) % PERIOD :][: len(part)]).reshape(-1, SUM).sum(axis=1)
             power = float(numpy.vdot(part, part).real)
             self.power += power
+            self.chips += len(part)
             self.pilot += (float(numpy.vdot(sums, sums).real) - 2 * power) / (2 * (SUM - 1))
         self.correlate(chips[:CORRELATED])
 
@@ -77,14 +78,19 @@ class PilotMeter:
             self.correlations += [float(numpy.vdot(here, chips[lag : lag + count]).real) for lag in range(1, LAGS + 1)]
 
     @property
-    def ratio(self) -> float:
-        """Ec/Io as a ratio; 0 where there is no power."""
-        if not self.power or not self.correlated:
+    def pilot_power(self) -> float:
+        """The pilot's power of a chip on the air."""
+        return self.pilot / max(self.chips, 1) / self.kept**2
+
+    @property
+    def all_power(self) -> float:
+        """All power of a chip on the air; 0 where there are no chips."""
+        if not self.correlated:
             return 0.0
         sent = sent_part(self.correlations / self.correlated)
-        return self.pilot / self.power / (self.kept - matched_pulse().sides * sent)
+        return self.power / max(self.chips, 1) * (self.kept - matched_pulse().sides * sent) / self.kept**2
 
     @property
     def ec_io(self) -> float:
         """Ec/Io in dB."""
-        return decibels(self.ratio) if self.power else NOTHING
+        return decibels(self.pilot_power / self.all_power) if self.power and self.all_power else NOTHING

@@ -7,7 +7,7 @@ from typing import NamedTuple
 from markupsafe import Markup
 from plotly import graph_objects
 
-from cdma_tools.analysis.cell_table import CellFacts, facts_of
+from cdma_tools.analysis.cell_table import CellFacts, HeardAlone, facts_of
 from cdma_tools.analysis.cells import Search
 from cdma_tools.errors import Refused
 from cdma_tools.heard_run import FOLLOWED
@@ -75,7 +75,7 @@ def gather_cells(
         while len(search.told) < count and search.next_cell():
             shown.update(1)
         assert search.left is not None
-        locks, runs = [], []
+        heard, runs = [], []
         for rank, cell in enumerate(search.told, 1):
             file = os.path.join(folder, "heard.is95")
             with open(file, "wb") as written:
@@ -84,13 +84,13 @@ def gather_cells(
                 total=(os.path.getsize(file) - HEADER.size) // 4, text=f"cell {rank}", unit="chips"
             ) as shown_chips:
                 follow = run_program(program, ["follow", *given], file, FOLLOWED, shown_chips)
-            locks.append(locked)
+            heard.append(HeardAlone(cell, locked, [read for _, read in follow.reads(*FOLLOWED)]))
             runs.append(follow)
-        heard = [[read for _, read in run.reads(*FOLLOWED)] for run in runs]
         with Recording(path, options.kind, float(options.rate), options.skip) as recorded:
-            facts = facts_of(search.told, heard, recorded)
-        rows = [len(cell.used) for cell in search.told]
-        return [HeardCell(*told) for told in zip(locks, rows, runs, facts)]
+            facts = facts_of(heard, recorded)
+        return [
+            HeardCell(one.locked, len(one.cell.used), run, told) for one, run, told in zip(heard, runs, facts)
+        ]
 
 
 def number_text(value: float | int | None, form: str = "") -> str:

@@ -175,7 +175,8 @@ def pilots_of(gathered: Gathered, measured: Measured, cells: Sequence[CellFacts]
     if not best:
         return []
     pilots = [
-        Surveyed(read["pn"], read["delta"], (measured.ratio or 0.0) * read["energy"] / best, number)
+        # A pilot that comes later has a smaller phase (docs/FORMATS.md).
+        Surveyed(read["pn"], -read["delta"], (measured.ratio or 0.0) * read["energy"] / best, number)
         for number, read in gathered.survey.reads("survey")
     ]
     return explained_pilots(pilots, measured.floor, heard_of(gathered, cells))

@@ -24,10 +24,10 @@ DEFAULT_WINDOW = 2 * 31
 
 
 class Surveyed(NamedTuple):
-    """A pilot of the survey: its offset, its delay in chips against that, its strength, and the number of its line."""
+    """A pilot of the survey: its offset, by how many chips it comes later, its strength, and the number of its line."""
 
     pn: int
-    delta: int
+    late: int
     strength: float
     number: int
 
@@ -68,16 +68,16 @@ def heard_of(gathered: Gathered, cells: Sequence[CellFacts]) -> Heard:
     )
 
 
-def rank_of(pn: int, delta: int, heard: Heard) -> int | None:
+def rank_of(pn: int, late: int, heard: Heard) -> int | None:
     """How likely a pilot is that of an offset, 0 for the most; None if it can't be."""
     if pn in heard.cells:
-        return 0 if abs(delta - heard.cells[pn]) <= SURE else None
+        return 0 if abs(late - heard.cells[pn]) <= SURE else None
     if pn == heard.serving:
-        return 1 if 2 * abs(delta) <= heard.active else None
+        return 1 if 2 * abs(late) <= heard.active else None
     if pn in heard.neighbors:
-        return 1 if 2 * abs(delta) <= heard.neighbor else None
+        return 1 if 2 * abs(late) <= heard.neighbor else None
     if pn % heard.increment == 0:
-        return 2 if 2 * abs(delta) <= heard.remaining else None
+        return 2 if 2 * abs(late) <= heard.remaining else None
     return None
 
 
@@ -85,13 +85,13 @@ def explained(pilot: Surveyed, heard: Heard) -> Surveyed:
     """The pilot at the offset that is most likely; as the survey has it if none is."""
     likely = []
     for steps in range(-MOST_STEPS, MOST_STEPS + 1):
-        pn, delta = (pilot.pn + steps) % OFFSETS, pilot.delta - STEP * steps
-        if (rank := rank_of(pn, delta, heard)) is not None:
-            likely.append((rank, abs(delta), pn, delta))
+        pn, late = (pilot.pn + steps) % OFFSETS, pilot.late - STEP * steps
+        if (rank := rank_of(pn, late, heard)) is not None:
+            likely.append((rank, abs(late), pn, late))
     if not likely:
         return pilot
-    _, _, pn, delta = min(likely)
-    return pilot._replace(pn=pn, delta=delta)
+    _, _, pn, late = min(likely)
+    return pilot._replace(pn=pn, late=late)
 
 
 def explained_pilots(pilots: list[Surveyed], floor: float, heard: Heard) -> list[Surveyed]:

@@ -58,6 +58,7 @@ CASES = {
     ("curve", "junit"): f"{CURVE} IN --junit OUT",
     ("curve", "out"): f"{CURVE} IN --out FOLDER",
     ("domain", "json"): f"domain {RAW} IN --json OUT",
+    ("domain", "junit"): f"domain {RAW} IN --limits --junit OUT",
     ("domain", "plot"): f"domain {RAW} IN --plot OUT",
     ("draw", "picture"): "draw survey OUT IN",
     ("explain", "picture"): "explain --sync IN --picture OUT",

@@ -137,14 +137,33 @@ class Cells(Recordings):
             "System Parameters of cell 1",
             "Who names whom",
             "<td>PN 300</td>",
+            'id="cells"',
         ):
             self.assertTrue(text in page, text)
         self.assertFalse('id="cell-3"' in page)
+        self.assert_cells(page)
         told = re.search(r'id="plots">(.*?)</script>', page, re.DOTALL)
         assert told
         plots = json.loads(told[1])
         self.assertEqual(list(plots)[-4:], ["domain", "spectrum", "waterfall", "map"])
         self.assertLess(len(page), 6_000_000)
+
+    def assert_cells(self, page: str) -> None:
+        """That the table of cells has what the recording was made with, and that nothing on the page contradicts it."""
+        table = re.search(r'<section id="cells">.*?</section>', page, re.DOTALL)
+        assert table
+        rows = [re.findall(r"<t[hd][^>]*>([^<]*)</t[hd]>", row) for row in re.findall(r"<tr>.*?</tr>", table[0])][1:]
+        (first, second) = rows
+        self.assertEqual((first[1], second[1]), ("300", "168"))
+        self.assertAlmostEqual(float(first[2]), -8, delta=0.15)
+        self.assertAlmostEqual(float(second[3]), 12.5, delta=0.1)
+        # 12.5 chips of 299,792,458 / 1,228,800 m.
+        self.assertAlmostEqual(float(second[5].replace(",", "")), 3_049.6, delta=25)
+        self.assertEqual(len(re.findall("<th>Ec/Io</th>", page)), 3)  # of the whole, and of each cell's section
+        self.assertEqual(len(re.findall("<th>rho</th>", page)), 1)
+        neighbors = re.search(r'<section id="neighbors">.*?</section>', page, re.DOTALL)
+        if neighbors and "<th>168</th>" in neighbors[0]:
+            self.assertIn("heard as cell 2", neighbors[0])
 
     def test_words(self) -> None:
         for why, words in (
