@@ -358,7 +358,7 @@ def pilot_told(pilot: Surveyed | None, measured: Measured) -> str:
     """A neighbor as the survey found it."""
     if pilot is None or pilot.strength < measured.floor:
         return f"no more than noise in the first {span_text(measured)}"
-    return f"stands out of noise in the first {span_text(measured)}, {pilot.late:+d} chips"
+    return f"{decibels(pilot.strength):.1f} dB in the first {span_text(measured)}, {pilot.late:+d} chips"
 
 
 def channel_section(gathered: Gathered) -> Markup:

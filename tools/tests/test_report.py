@@ -290,8 +290,8 @@ class Pages(Folder):
             "120,000</td>",
             "-122.419375°",
             "PILOT_INC is 4",
-            # 168 % 5 - 2 chips, and an energy of 1 / 8.388608 of a pilot that has 1 / 1.09 of all power.
-            f"{-10 * math.log10(1.09 * 8.388608):.1f} dB, +1 chips",
+            # 168 % 5 - 2 chips early, and an energy of 1 / 8.388608 of a pilot that has 1 / 1.09 of all power.
+            f"{-10 * math.log10(1.09 * 8.388608):.1f} dB in the first 2,048 samples (1.7 ms), -1 chips",
             "unknown",
             "no more than noise",
             "1931.25 MHz at 1.9 GHz",
@@ -427,7 +427,7 @@ class Recordings(Folder):
     def imports(self, remarks: list[str], data: bytes = b"", why: str = "") -> None:
         """What the import says besides what it found, and what it writes in place of the file; or why it refuses."""
 
-        def take(options: argparse.Namespace) -> Lock:
+        def take(options: argparse.Namespace, look: object) -> Lock:
             self.taken.append(options)
             if why:
                 raise Refused(why)
