@@ -175,8 +175,14 @@ def whole_within(least: int, most: int) -> Within:
     return Within(int, least, most)
 
 
+# What a letter after a number multiplies it by.
+MULTIPLES = {"k": 1_000, "M": 1_000_000, "G": 1_000_000_000}
+
+
 def rational(text: str) -> Fraction:
-    """A fraction, as 2400000, 1e6 or 9600000/7; the exponent isn't spelled out before it is known to be small."""
+    """A fraction, as 2400000, 2.4M, 1e6 or 9600000/7; the exponent isn't spelled out before it is known to be small."""
+    if text[-1:] in MULTIPLES:
+        return rational(text[:-1]) * MULTIPLES[text[-1]]
     if "/" not in text and not math.isfinite(float(text)):
         raise ValueError
     return Fraction(text)
@@ -191,7 +197,14 @@ MOST_NUMBER = 1e12
 
 rate_of = Within(rational, 1, MOST_RATE)
 """A rate in samples a second, as a fraction."""
-hertz_of = number_within(-MOST_HERTZ, MOST_HERTZ)
+
+
+def decimal(text: str) -> float:
+    """A number, which a letter may multiply, as 878.49M."""
+    return float(text[:-1]) * MULTIPLES[text[-1]] if text[-1:] in MULTIPLES else float(text)
+
+
+hertz_of = Within(decimal, -MOST_HERTZ, MOST_HERTZ)
 """A frequency in Hz."""
 number_of = number_within(-MOST_NUMBER, MOST_NUMBER)
 """A number that has no bounds of its own."""

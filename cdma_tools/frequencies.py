@@ -4,7 +4,7 @@ import argparse
 from dataclasses import dataclass
 from typing import NamedTuple
 
-from cdma_tools.arguments import number_within, whole_within
+from cdma_tools.arguments import Within, decimal, whole_within
 
 # Hz by which a carrier may lie beside a channel's middle: 5 millionths at 1.9 GHz.
 NEAR = 10_000.0
@@ -59,7 +59,7 @@ def channel_hertz(number: int, band: int) -> float | None:
 
 def add_frequency_options(words: argparse._ActionsContainer, what: str) -> None:
     """Adds --frequency, and --channel with --band in its place; `what` says what lies there."""
-    words.add_argument("--frequency", type=number_within(0, MOST_FREQUENCY), metavar="HZ", help=f"{what}, in Hz")
+    words.add_argument("--frequency", type=Within(decimal, 0, MOST_FREQUENCY), metavar="HZ", help=f"{what}, in Hz")
     words.add_argument(
         "--channel", type=whole_within(0, MOST_CHANNEL), metavar="N", help=f"{what}: channel N of the standard"
     )

@@ -23,6 +23,11 @@ class Kind(NamedTuple):
         """Bytes of a sample, both parts together."""
         return 2 * numpy.dtype(self.form).itemsize
 
+    @property
+    def is_floating(self) -> bool:
+        """Whether the parts are numbers of floating point."""
+        return numpy.dtype(self.form).kind == "f"
+
 
 # A converter of unsigned bytes has its middle between 127 and 128; where samples are to stay whole, 128 is 0.
 TYPES = {
@@ -31,16 +36,59 @@ TYPES = {
     "ci8": Kind("i1", 0, 0.0),
     "cu8": Kind("u1", 128, 127.5),
     "cf32_le": Kind("<f4", 0, 0.0),
+    "cf32_be": Kind(">f4", 0, 0.0),
+    "ci32_le": Kind("<i4", 0, 0.0),
+    "cf64_le": Kind("<f8", 0, 0.0),
 }
+# Short names of types, whose bytes are in the order of most machines.
+SHORT_NAMES = {name.removesuffix("_le"): name for name in TYPES if name.endswith("_le")}
 
 
-def sample_count(path: str, kind: str) -> int:
-    """Returns the number of complete samples in a file; refuses a file that ends within one, or is missing."""
-    size = TYPES[kind].size
+def type_named(text: str) -> str:
+    """The name of a type, also by its short name; any other text as it is."""
+    return SHORT_NAMES.get(text, text)
+
+
+class SamplePath(str):
+    """The path of a file in which the samples stand among other bytes: their first byte, and how many bytes they have."""
+
+    first: int
+    size: int
+
+    def __new__(cls, path: str, first: int, size: int) -> "SamplePath":
+        """The path, with the place of its samples."""
+        made = super().__new__(cls, path)
+        made.first, made.size = first, size
+        return made
+
+    def __reduce__(self) -> tuple[type["SamplePath"], tuple[str, int, int]]:
+        """How it is sent to another process."""
+        return SamplePath, (str(self), self.first, self.size)
+
+
+def first_byte(path: str) -> int:
+    """The byte of a file at which its samples begin."""
+    return path.first if isinstance(path, SamplePath) else 0
+
+
+def sample_bytes(path: str) -> int:
+    """How many bytes the samples of a file have; refuses a file that isn't there."""
     try:
         total = os.stat(path).st_size
     except OSError as why:
         raise Refused(f"{path}: {why.strerror}") from None
+    return min(path.size, max(0, total - path.first)) if isinstance(path, SamplePath) else total
+
+
+def absolute(path: str) -> str:
+    """The path from the root, with the place of its samples."""
+    whole = os.path.abspath(path)
+    return SamplePath(whole, path.first, path.size) if isinstance(path, SamplePath) else whole
+
+
+def sample_count(path: str, kind: str) -> int:
+    """How many whole samples a file holds; refuses a file that ends within one, or isn't there."""
+    size, total = TYPES[kind].size, sample_bytes(path)
     if total % size:
         raise Refused(f"{path}: {total} bytes are no whole number of samples of {size} bytes")
     return total // size
@@ -85,7 +133,7 @@ class Recording:
         total = sample_count(path, kind)
         if total <= skip:
             raise Refused(f"{path}: {total} samples, and none left" + (f" after --skip {skip}" if skip else ""))
-        self.path, self.kind, self.rate = path, TYPES[kind], float(rate)
+        self.path, self.kind, self.rate, self.first = path, TYPES[kind], float(rate), first_byte(path)
         self.skip, self.count = skip, total - skip
         self.is_conjugate = is_conjugate
         try:
@@ -116,7 +164,7 @@ class Recording:
     def inside(self, low: int, high: int) -> NDArray[numpy.complex64]:
         """Samples low to high - 1, which the recording has."""
         try:
-            self.file.seek((self.skip + low) * self.kind.size)
+            self.file.seek(self.first + (self.skip + low) * self.kind.size)
             parts = numpy.fromfile(self.file, dtype=self.kind.form, count=2 * (high - low))
         except OSError as why:
             raise Refused(f"{self.path}: {why.strerror}") from None
@@ -125,7 +173,7 @@ class Recording:
         taken = parts.astype(numpy.float32)
         if self.kind.middle:
             taken -= numpy.float32(self.kind.middle)
-        if self.kind.form == "<f4" and not numpy.isfinite(taken).all():
+        if self.kind.is_floating and not numpy.isfinite(taken).all():
             lost = self.skip + low + int(numpy.flatnonzero(~numpy.isfinite(taken))[0]) // 2
             raise Refused(f"{self.path}: sample {lost} isn't finite")
         samples = taken.view(numpy.complex64)

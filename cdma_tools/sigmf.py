@@ -10,7 +10,7 @@ from cdma_tools.arguments import MOST_RATE
 from cdma_tools.errors import Refused
 from cdma_tools.overwriting import DATA as DATA, META as META
 from cdma_tools.reading import MEGABYTE, read_within
-from cdma_tools.recordings import TYPES
+from cdma_tools.recordings import TYPES, SamplePath, first_byte, sample_bytes, type_named
 from cdma_tools.writing import write_beside
 
 VERSION = "1.0.0"
@@ -20,8 +20,13 @@ LONGEST_TOLD = 60  # characters of a value in a fault
 
 def read_json(path: str) -> dict[str, Any]:
     """The whole object of a .sigmf-meta; refuses one that has no 'global' or no list of captures."""
+    return object_of(path, read_within(path, MOST_META))
+
+
+def object_of(path: str, text: bytes) -> dict[str, Any]:
+    """The object that a text of SigMF holds; `path` names it in faults."""
     try:
-        meta = json.loads(read_within(path, MOST_META).decode("utf-8"))
+        meta = json.loads(text.decode("utf-8"))
     except ValueError as why:
         raise Refused(f"{path}: no JSON: {why}") from None
     except RecursionError:
@@ -48,27 +53,80 @@ def is_name(named: Any) -> bool:
     return isinstance(named, str) and named.isprintable() and os.path.basename(named) == named and named not in ("", ".", "..")
 
 
-def read_meta(path: str) -> tuple[dict[str, Any], str]:
-    """The global fields of a SigMF recording of one capture, and the path of its samples."""
-    meta = read_json(path)
-    fields, captures = meta["global"], meta.get("captures", [])
-    if len(captures) > 1:
-        raise Refused(f"{path}: {len(captures)} capture segments; only a recording of one can be taken")
-    if any(capture.get("core:header_bytes") for capture in captures) or fields.get("core:trailing_bytes"):
-        raise Refused(f"{path}: the samples stand among other bytes (core:header_bytes, core:trailing_bytes)")
-    if fields.get("core:metadata_only"):
-        raise Refused(f"{path}: a recording without samples (core:metadata_only)")
-    return fields, samples_of(path, fields)
-
-
 def samples_of(path: str, fields: dict[str, Any]) -> str:
-    """The path of the samples that the global fields of a .sigmf-meta name, or that its own name stands for."""
+    """The path of the samples of a .sigmf-meta with these global fields."""
     named = fields.get("core:dataset")
     if named is None:
         return path[: -len(META)] + DATA
     if not is_name(named):
         raise Refused(f"{path}: core:dataset is no file's name: {brief(named)}")
     return os.path.join(os.path.dirname(path), named)
+
+
+def fields_of(path: str, meta: dict[str, Any]) -> dict[str, Any]:
+    """The global fields of a recording of one channel that has samples."""
+    fields: dict[str, Any] = meta["global"]
+    if fields.get("core:metadata_only"):
+        raise Refused(f"{path}: a recording without samples (core:metadata_only)")
+    channels = fields.get("core:num_channels", 1)
+    if channels != 1:
+        raise Refused(f"{path}: {brief(channels)} channels (core:num_channels); only one can be taken")
+    return fields
+
+
+def type_told(path: str, fields: dict[str, Any]) -> str:
+    """The type of the samples that the fields tell."""
+    told = fields.get("core:datatype")
+    kind = type_named(told) if isinstance(told, str) else told
+    if not isinstance(kind, str) or kind not in TYPES:
+        raise Refused(f"{path}: core:datatype is {brief(told)}, and none of {', '.join(TYPES)}")
+    return kind
+
+
+def whole_of(path: str, capture: dict[str, Any], name: str) -> int:
+    """A whole number from 0 on of a capture, 0 if it has none."""
+    told = capture.get(name, 0)
+    if isinstance(told, bool) or not isinstance(told, int) or told < 0:
+        raise Refused(f"{path}: {name} is {brief(told)}, and no whole number from 0 on")
+    return told
+
+
+def captures_of(path: str, meta: dict[str, Any], number: int | None) -> tuple[int, int]:
+    """The first capture that is taken, and the one after the last: all, if they have one frequency, or the one asked for."""
+    captures = meta.get("captures", [])
+    if number is not None:
+        if number > len(captures):
+            raise Refused(f"{path}: no capture {number}: it has {len(captures)}")
+        return number - 1, number
+    if len({capture.get("core:frequency") for capture in captures if "core:frequency" in capture}) > 1:
+        raise Refused(f"{path}: {len(captures)} captures of several frequencies: give --capture N")
+    if any(capture.get("core:header_bytes") for capture in captures[1:]):
+        raise Refused(f"{path}: other bytes stand between its {len(captures)} captures: give --capture N")
+    return 0, len(captures)
+
+
+def extent_of(path: str, meta: dict[str, Any], samples: str, size: int, number: int | None) -> str:
+    """Where the samples of the captures that are taken stand in a file; each has `size` bytes."""
+    captures, (first, behind) = meta.get("captures", []), captures_of(path, meta, number)
+    starts = [whole_of(path, capture, "core:sample_start") for capture in captures]
+    heads = [whole_of(path, capture, "core:header_bytes") for capture in captures]
+    trailing = whole_of(path, meta["global"], "core:trailing_bytes")
+    if number is None and not trailing and not any(heads):
+        return samples
+    begin = size * starts[first] + sum(heads[: first + 1]) if captures else 0
+    end = sample_bytes(samples) - trailing
+    if behind < len(captures):
+        end = min(end, size * starts[behind] + sum(heads[:behind]))
+    if end <= begin:
+        raise Refused(f"{path}: no samples in what is taken of {samples}")
+    return SamplePath(samples, first_byte(samples) + begin, end - begin)
+
+
+def frequency_in(meta: dict[str, Any], number: int | None = None) -> float | None:
+    """The frequency in Hz of the middle of a capture, the first one unless another is asked for; None if it isn't told."""
+    captures = meta.get("captures", [])[(number or 1) - 1 :]
+    told = captures[0].get("core:frequency") if captures else None
+    return float(told) if isinstance(told, (int, float)) and not isinstance(told, bool) else None
 
 
 def rate_told(path: str, fields: dict[str, Any], given: Fraction | None) -> Fraction:
@@ -90,37 +148,17 @@ def check_sum(path: str, fields: dict[str, Any], samples: str) -> None:
     told = fields.get("core:sha512")
     if told is None:
         return
-    found = hashlib.sha512()
+    found, left = hashlib.sha512(), sample_bytes(samples)
     try:
         with open(samples, "rb") as file:
-            while piece := file.read(1 << 20):
+            file.seek(first_byte(samples))
+            while piece := file.read(min(1 << 20, left)):
                 found.update(piece)
+                left -= len(piece)
     except OSError as why:
         raise Refused(f"{samples}: {why.strerror}") from None
     if found.hexdigest() != str(told).lower():
         raise Refused(f"{samples}: its checksum isn't core:sha512 of {path}")
-
-
-def recording_of(path: str, given: Fraction | None) -> tuple[str, Fraction, str]:
-    """Returns the type, the rate and the path of the samples of a SigMF recording; `given` is the rate if it has none.
-    """
-    fields, samples = read_meta(path)
-    kind = fields.get("core:datatype")
-    if not isinstance(kind, str) or kind not in TYPES:
-        raise Refused(f"{path}: core:datatype is {brief(kind)}, and none of {', '.join(TYPES)}")
-    channels = fields.get("core:num_channels", 1)
-    if channels != 1:
-        raise Refused(f"{path}: {brief(channels)} channels (core:num_channels); only one can be taken")
-    rate = rate_told(path, fields, given)
-    check_sum(path, fields, samples)
-    return kind, rate, samples
-
-
-def frequency_of(path: str) -> float | None:
-    """The frequency in Hz of the middle of a SigMF recording, as its first capture tells it; None if it tells none."""
-    captures = read_json(path).get("captures", [])
-    told = captures[0].get("core:frequency") if captures else None
-    return float(told) if isinstance(told, (int, float)) and not isinstance(told, bool) else None
 
 
 def new_meta(kind: str, rate: Fraction, text: str) -> dict[str, Any]:

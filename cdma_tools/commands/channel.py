@@ -44,7 +44,7 @@ from cdma_tools.overwriting import InputFile, OutputFile, OutputRecording
 from cdma_tools.progress import bar
 from cdma_tools.radio.air import CHIP_RATE, decibels
 from cdma_tools.radio.channel import Cell, Link, Made, Path, Radio, record, write_ideal
-from cdma_tools.recordings import TYPES
+from cdma_tools.recordings import TYPES, type_named
 from cdma_tools.writing import write_out
 
 LEVEL = number_within(-200, 200)  # dB
@@ -168,7 +168,7 @@ def add_link_options(words: argparse.ArgumentParser) -> None:
         "--delay", type=DELAY, default=0.0, metavar="CHIPS", help="delay of the first sample, any fraction"
     )
     radio = words.add_argument_group("the radio")
-    radio.add_argument("--type", choices=TYPES, default="ci16_le", help="sample type (default ci16_le)")
+    radio.add_argument("--type", type=type_named, choices=TYPES, default="ci16_le", help="sample type (default ci16_le)")
     radio.add_argument(
         "--rate", type=rate_of, default=rate_of("2400000"), metavar="N", help="samples per second (default 2,400,000)"
     )

@@ -67,14 +67,15 @@ from cdma_tools.progress import bar
 from cdma_tools.radio.locking import Options
 from cdma_tools.radio.plain import TYPE_CHOICES, assumed, recording_told, with_hints
 from cdma_tools.radio.search_policy import TRIES, add_search_options
+from cdma_tools.recordings import type_named
 from cdma_tools.results import check_place, json_of, junit_of, tap_of
-from cdma_tools.sigmf import META, frequency_of
+from cdma_tools.sources import add_capture_option, is_described, stored_of
 from cdma_tools.starting import called
 from cdma_tools.writing import write_out
 
 # Options that go with a recording alone.
 LOCK_OPTIONS = ("skip", "shift", "search", "conjugate", "equaliser")
-RECORDING_ONLY = (*LOCK_OPTIONS, *CELL_OPTIONS, *FREQUENCY_OPTIONS)
+RECORDING_ONLY = (*LOCK_OPTIONS, "capture", *CELL_OPTIONS, *FREQUENCY_OPTIONS)
 
 
 def parser() -> Parser:
@@ -96,6 +97,7 @@ def parser() -> Parser:
     recording = words.add_argument_group("of a recording")
     recording.add_argument(
         "--type",
+        type=type_named,
         choices=TYPE_CHOICES,
         help="how the samples are kept, auto: as their bytes look; not with a .sigmf-meta",
     )
@@ -104,6 +106,7 @@ def parser() -> Parser:
     )
     recording.add_argument("--skip", type=count_of, metavar="N", help="leave out the first N samples, else 0")
     recording.add_argument("--shift", type=hertz_of, metavar="HZ", help="search round this carrier, else 0")
+    add_capture_option(recording)
     add_search_options(recording)
     add_cell_options(recording)
     add_frequency_options(recording, "the recording's middle, if no .sigmf-meta tells it")
@@ -114,14 +117,14 @@ def parser() -> Parser:
 
 def is_recording(options: argparse.Namespace) -> bool:
     """Whether the input is a recording: by its name, or since its type or its rate is given."""
-    return options.recording.endswith(META) or options.type is not None or options.rate is not None
+    return is_described(options.recording) or options.type is not None or options.rate is not None
 
 
 def check_arguments(words: Parser, options: argparse.Namespace) -> None:
     """Ends with status 2 where options don't go together."""
-    if options.recording.endswith(META):
+    if is_described(options.recording):
         if options.type:
-            words.error("--type can't be given with a .sigmf-meta, which tells it")
+            words.error("--type can't be given with a .sigmf-meta, a .sigmf or a .wav, which tells it")
     elif is_recording(options) and (options.type is None or options.rate is None):
         words.error("--type and --rate needed, unless it is a .sigmf-meta or a sample file")
     if not is_recording(options) and (given := [name for name in RECORDING_ONLY if getattr(options, name) is not None]):
@@ -177,7 +180,9 @@ def analysed(options: argparse.Namespace, lines: list[str]) -> Analysis:
 def middle_of(options: argparse.Namespace) -> float | None:
     """The frequency in Hz of a recording's middle: as the options name it, otherwise as its .sigmf-meta tells it."""
     given = frequency_given(options)
-    return frequency_of(options.recording) if given is None and options.recording.endswith(META) else given
+    if given is None and is_described(options.recording):
+        return stored_of(options.recording, options.rate, options.capture).frequency
+    return given
 
 
 def shown_name(path: str) -> str:

@@ -84,7 +84,9 @@ from cdma_tools.program import add_program_option, find_program, program_or_hint
 from cdma_tools.progress import bar
 from cdma_tools.radio.plain import TYPE_CHOICES, assumed, plain_chips, recording_told, with_hints
 from cdma_tools.radio.search_policy import TRIES, add_search_options
+from cdma_tools.recordings import type_named
 from cdma_tools.sample_file import GREATEST, header
+from cdma_tools.sources import ARCHIVE, WAVE, add_capture_option, is_described
 from cdma_tools.starting import called
 from cdma_tools.writing import write_out
 
@@ -161,12 +163,14 @@ def parser(form: type[CaptureParser] = CaptureParser) -> CaptureParser:
     words.add_argument("file", type=OutputFile, metavar="FILE", help=what)
     words.add_argument(
         "--type",
+        type=type_named,
         choices=TYPE_CHOICES,
         help="how the samples are kept, auto: as their bytes look; not with a .sigmf-meta",
     )
     words.add_argument(
         "--rate", type=rate_of, metavar="N", help="samples a second; with a .sigmf-meta only where it tells none"
     )
+    add_capture_option(words)
     words.add_argument(
         "--offset", type=count_of, metavar="N", help="at a multiple M of the chip rate: 0 to M - 1, else 0"
     )
@@ -236,9 +240,11 @@ def check_words(words: Parser, options: argparse.Namespace) -> None:
         words.error("--sum, --offset and --scale fit can't be given with --lock, which takes its own samples")
     if options.meta is not None and not options.meta.endswith(sigmf.META):
         words.error(f"--meta names a {sigmf.META}")
-    if options.recording.endswith(sigmf.META):
+    if options.meta is not None and options.recording.endswith((ARCHIVE, WAVE, STANDARD)):
+        words.error("--meta goes with a .sigmf-meta or a file of raw samples")
+    if is_described(options.recording):
         if options.type:
-            words.error("--type can't be given with a .sigmf-meta, which tells it")
+            words.error("--type can't be given with a .sigmf-meta, a .sigmf or a .wav, which tells it")
         return
     missing = [name for name, value in (("--type", options.type), ("--rate", options.rate)) if value is None]
     if missing:

@@ -1,8 +1,17 @@
 """Listens to a recording of any length, or to the air as it comes, and writes a line for each thing that is heard.
 
 SOURCE is a file of interleaved samples, in-phase part first, or - for standard input, whose --type and --rate are
-given; the .sigmf-meta of a SigMF recording, which tells both; or rtl_tcp://HOST:PORT, a server with the protocol of
-rtl_tcp, whose samples are cu8 and whose rate is set to --rate. The strongest pilot is found and its carrier and clock
+given; a recording that tells both: a .sigmf-meta, a SigMF archive (.sigmf) or a .wav of a radio program; or a live source:
+
+    rtl_tcp://HOST:PORT   a server with the protocol of rtl_tcp, of cu8, which is tuned by --rate, --frequency, --gain,
+                          --ppm, --bias-tee and --agc; if it goes away it is tried again every 5 seconds
+    tcp://HOST:PORT       a server that sends samples of --type and nothing else
+    udp://HOST:PORT       datagrams with samples of --type that come to this port of this machine
+    zmq://HOST:PORT       a PUB socket with cf32_le, as GNU Radio has it (needs python3-zmq)
+    soapy:driver=NAME     a radio that SoapySDR knows, which is tuned as above (needs python3-soapysdr)
+
+--channel N --band 800 is in place of --frequency. A live source that is silent for 10 seconds, or fails, ends the
+listening in one line and status 1; what was received stays. The strongest pilot is found and its carrier and clock
 are followed without end; a handset of cdma_replay follows it, and its lines come out half a second after their chips at
 most.
 
@@ -24,7 +33,9 @@ of a --scheduler of dask.distributed, which need the same file and program at th
 same, byte for byte, for any number of workers.
 
     rtl_sdr -f 878490000 -s 2400000 - | tools/listen --type cu8 --rate 2400000 -
-    tools/listen --rate 2400000 --frequency 878490000 --json rtl_tcp://radio:1234
+    tools/listen --rate 2.4M --frequency 878.49M --gain 30 --json rtl_tcp://radio:1234
+    tools/listen --rate 2M --channel 283 soapy:driver=hackrf
+    tools/listen --type ci16 --rate 2.5M tcp://radio:7000
     tools/listen day.sigmf-meta --esn 00c0ffee --row 12 --workers 4 --out day.jsonl
 
 Exit status: 0 a pilot was heard, 1 none was, or the samples can't be read or the lines written, 2 wrong arguments.
@@ -38,28 +49,31 @@ import stat
 import sys
 from fractions import Fraction
 
-from cdma_tools import sigmf
 from cdma_tools.arguments import Parser, Within, number_within, rational, whole_within, wrong
 from cdma_tools.errors import Refused, WrongArguments
+from cdma_tools.frequencies import FREQUENCY_OPTIONS, add_frequency_options, frequency_fault, frequency_given
 from cdma_tools.listening.follow_run import Handset
 from cdma_tools.listening.line_writer import LineWriter
 from cdma_tools.listening.live import Stream, hear_stream
 from cdma_tools.listening.output import Output, open_output
 from cdma_tools.listening.parts import PART, Recording
 from cdma_tools.listening.sharing import hear_recording
-from cdma_tools.listening.sources import SCHEME, server_of
+from cdma_tools.listening.live_sources import FIXED_TYPES, RTL_TCP, SENT_TYPES, SOAPY, TUNED, LiveSource, scheme_of
+from cdma_tools.listening.sources import Tuning
 from cdma_tools.listening.stream_lock import LockOptions
 from cdma_tools.overwriting import InputFile, OutputFile
 from cdma_tools.program import add_program_option, find_program
 from cdma_tools.radio.air import CHIP_RATE
 from cdma_tools.radio.search_policy import TRIES, add_search_options, policy_of
-from cdma_tools.recordings import TYPES, sample_count
+from cdma_tools.recordings import TYPES, absolute, sample_count, type_named
+from cdma_tools.sources import add_capture_option, is_described, stored_of
 
 MOST_RATE, MOST_SHIFT, MOST_WORKERS = 100_000_000, 50_000_000, 64
 LEAST_PART, MOST_PART = 10, 1_000_000
 JSON_LINES = ".jsonl"
 SERIAL = re.compile(r"[0-9a-f]{8}")
-SYNC_ROW, MOST_EVENTS, MOST_FREQUENCY = 32, 4_294_967_295, 4_294_967_295
+SYNC_ROW, MOST_EVENTS = 32, 4_294_967_295
+GAINS, MOST_PPM = (-10, 100), 1_000  # dB, and millionths
 
 
 def serial_of(text: str) -> str:
@@ -92,13 +106,26 @@ def add_handset(words: argparse.ArgumentParser) -> None:
         handset.add_argument(f"--complement-{bits}", action="store_true", help=what)
 
 
+def add_tuning(words: argparse.ArgumentParser) -> None:
+    """The arguments that tune a radio."""
+    radio = words.add_argument_group("a radio: rtl_tcp and soapy")
+    add_frequency_options(radio, "to what the radio is tuned, else left where it is")
+    radio.add_argument("--gain", type=number_within(*GAINS), metavar="DB", help="its gain, else left as it is")
+    radio.add_argument(
+        "--ppm", type=whole_within(-MOST_PPM, MOST_PPM), metavar="N", help="correct its crystal by N millionths, else 0"
+    )
+    radio.add_argument("--bias-tee", action="store_true", help="feed an amplifier at the antenna")
+    radio.add_argument("--agc", action="store_true", help="let the radio set its gain by itself")
+
+
 def parser() -> Parser:
     """The arguments of the command line."""
     words = Parser("listen", __doc__)
-    source = "a file of samples, a .sigmf-meta, -, or rtl_tcp://HOST:PORT"
+    source = "a file of samples, a .sigmf-meta, .sigmf or .wav, -, or the address of a live source"
     words.add_argument("source", type=InputFile, metavar="SOURCE", help=source)
-    words.add_argument("--type", choices=TYPES, help="how the samples are kept; not with a .sigmf-meta")
-    rates = "samples a second; with a .sigmf-meta only where it tells none"
+    kinds = "how the samples are kept; not with a .sigmf-meta, a .sigmf or a .wav"
+    words.add_argument("--type", type=type_named, choices=TYPES, metavar="TYPE", help=f"{kinds}: {', '.join(TYPES)}")
+    rates = "samples a second, as 2400000 or 2.4M; with a .sigmf-meta only where it tells none"
     words.add_argument("--rate", type=Within(rational, CHIP_RATE, MOST_RATE), metavar="N", help=rates)
     words.add_argument("--json", action="store_true", help="write objects, with their time in UTC")
     out = "add the lines to a file, and go on after those that stand there"
@@ -106,8 +133,8 @@ def parser() -> Parser:
     append = "with a stream: add to a file that has lines of another one, after a line that tells the new origin"
     words.add_argument("--append", action="store_true", help=append)
     add_program_option(words)
-    tuned = "Hz to which a server is tuned, else left where it is"
-    words.add_argument("--frequency", type=whole_within(0, MOST_FREQUENCY), metavar="HZ", help=tuned)
+    add_capture_option(words)
+    add_tuning(words)
     add_handset(words)
     lock = words.add_argument_group("the lock")
     middle = "search the first carrier round one that lies HZ above the middle, else 0"
@@ -125,30 +152,32 @@ def parser() -> Parser:
     return words
 
 
-def is_server(options: argparse.Namespace) -> bool:
-    """Whether the source is a server."""
-    return bool(options.source.startswith(f"{SCHEME}://"))
-
-
-def is_described(options: argparse.Namespace) -> bool:
-    """Whether the source is a SigMF recording."""
-    return bool(options.source.endswith(sigmf.META)) and not is_server(options)
+def check_live(words: argparse.ArgumentParser, options: argparse.Namespace, scheme: str) -> None:
+    """Ends with status 2 where arguments don't go with a live source."""
+    kind = SENT_TYPES.get(scheme)
+    if scheme in FIXED_TYPES and options.type not in (None, kind):
+        words.error(f"the samples of {scheme} are {kind}")
+    if options.rate is None or scheme == RTL_TCP and options.rate.denominator != 1:
+        words.error("--rate is needed with a live source" + (", and whole" if scheme == RTL_TCP else ""))
+    if options.type is None and kind is None:
+        words.error(f"--type is needed with {scheme}://")
 
 
 def check_source(words: argparse.ArgumentParser, options: argparse.Namespace) -> None:
     """Ends with status 2 where arguments don't go with the source."""
-    if is_described(options):
+    scheme = scheme_of(options.source)
+    if scheme is not None:
+        check_live(words, options, scheme)
+    elif is_described(options.source):
         if options.type:
-            words.error("--type can't be given with a .sigmf-meta, which tells it")
-    elif is_server(options):
-        if options.type not in (None, "cu8"):
-            words.error("a server's samples are cu8")
-        if options.rate is None or options.rate.denominator != 1:
-            words.error("--rate is needed with a server, and whole")
+            words.error("--type can't be given with a .sigmf-meta, a .sigmf or a .wav, which tells it")
     elif options.type is None or options.rate is None:
-        words.error("--type and --rate are needed, unless SOURCE is a .sigmf-meta or a server")
-    if options.frequency is not None and not is_server(options):
-        words.error("--frequency goes with a server")
+        words.error("--type and --rate are needed, unless SOURCE is a .sigmf-meta, a .sigmf or a .wav")
+    given = [name for name in (*FREQUENCY_OPTIONS, "gain", "ppm", "bias_tee", "agc") if getattr(options, name)]
+    if given and scheme not in TUNED:
+        words.error(f"--{given[0].replace('_', '-')} goes with a radio: {RTL_TCP}://HOST:PORT or {SOAPY}:driver=NAME")
+    if fault := frequency_fault(options):
+        words.error(fault)
 
 
 def check(words: argparse.ArgumentParser, options: argparse.Namespace) -> None:
@@ -197,23 +226,30 @@ def counts_of(options: argparse.Namespace) -> dict[str, int]:
     return {"raw": options.raw or 0, **{name: value for name, value in given.items() if value is not None}}
 
 
+def tuning_of(options: argparse.Namespace) -> Tuning:
+    """How a radio is to be tuned."""
+    return Tuning(frequency_given(options), options.gain, options.ppm, options.bias_tee, options.agc)
+
+
 def source_of(options: argparse.Namespace) -> Stream | Recording:
     """The stream or the recording that is listened to; refuses one that isn't there."""
-    if is_server(options):
-        size = TYPES["cu8"].size
-        return Stream("cu8", options.rate, server=server_of(options.source, int(options.rate), size, options.frequency))
+    if (scheme := scheme_of(options.source)) is not None:
+        kind = options.type or SENT_TYPES[scheme]
+        live = LiveSource(options.source, scheme, kind, options.rate, tuning_of(options))
+        return Stream(kind, options.rate, live=live)
     if options.source == "-":
         return Stream(options.type, options.rate, file=sys.stdin.buffer)
     kind, rate, path = options.type, options.rate, options.source
-    if is_described(options):
-        kind, rate, path = sigmf.recording_of(options.source, options.rate)
+    if is_described(options.source):
+        stored = stored_of(options.source, options.rate, options.capture)
+        kind, rate, path = stored.kind, stored.rate, stored.path
     try:
         if not stat.S_ISREG(os.stat(path).st_mode):
             return Stream(kind, rate, file=open(path, "rb", buffering=0))
     except OSError as why:
         raise Refused(f"{path}: {why.strerror}") from None
     # A worker may stand in another folder.
-    return Recording(os.path.abspath(path), sample_count(path, kind), lock_options(options, kind, rate))
+    return Recording(absolute(path), sample_count(path, kind), lock_options(options, kind, rate))
 
 
 def check_output(options: argparse.Namespace, is_recording: bool, output: Output) -> None:

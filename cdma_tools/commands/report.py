@@ -36,7 +36,6 @@ import tempfile
 from fractions import Fraction
 from typing import Any, NamedTuple, NoReturn
 
-from cdma_tools import sigmf
 from cdma_tools.analysis.measuring import SeenLock, seen_lock
 from cdma_tools.arguments import Parser, rate_of, whole_within
 from cdma_tools.commands import FAILED, import_capture, listen
@@ -53,6 +52,7 @@ from cdma_tools.report import cells, document, gathering, measures, waveform
 from cdma_tools.report.heard_lines import heard_lines, is_lines
 from cdma_tools.report.lines_page import page_of_lines
 from cdma_tools.sample_header import MOST_CHIPS
+from cdma_tools.sources import is_described, stored_of
 from cdma_tools.writing import write_out
 
 # Seconds of a recording that a sample file has room for; what is longer is listened to.
@@ -125,7 +125,7 @@ def notes_of(path: str) -> dict[str, str]:
 
 def is_recording(options: argparse.Namespace) -> bool:
     """Whether it has to be imported: by its name, or since its type or rate is told."""
-    return options.recording.endswith(".sigmf-meta") or options.type is not None or options.rate is not None
+    return is_described(options.recording) or options.type is not None or options.rate is not None
 
 
 def import_words(options: argparse.Namespace) -> list[str]:
@@ -231,17 +231,15 @@ def raw_of(options: argparse.Namespace, notes: dict[str, str]) -> waveform.Raw |
     if not is_recording(options):
         return None
     try:
-        if options.recording.endswith(sigmf.META):
-            kind, rate, path = sigmf.recording_of(options.recording, None if options.rate is None else Fraction(options.rate))
+        middle = None
+        if is_described(options.recording):
+            stored = stored_of(options.recording, None if options.rate is None else rate_of(options.rate))
+            kind, rate, path, middle = stored.kind, stored.rate, stored.path, stored.frequency
         else:
             kind, rate, path = options.type, Fraction(options.rate), options.recording
             kind = type_of(path) if kind == AUTO else kind
     except (Refused, ValueError, ArithmeticError, TypeError, AttributeError, RecursionError):
         return None
-    try:
-        middle = float(notes["core:frequency"])
-    except (KeyError, ValueError):
-        middle = None
     return waveform.Raw(path, kind, float(rate), middle)
 
 
@@ -249,8 +247,9 @@ def seconds_of(options: argparse.Namespace) -> float:
     """How long a recording is, as far as that can be told; its faults are the import's to tell."""
     try:
         kind, rate, path = options.type, options.rate, options.recording
-        if path.endswith(sigmf.META):
-            kind, rate, path = sigmf.recording_of(path, None if rate is None else rate_of(rate))
+        if is_described(path):
+            stored = stored_of(path, None if rate is None else rate_of(rate))
+            kind, rate, path = stored.kind, stored.rate, stored.path
         return sample_count(path, kind) / float(rate)
     except (Refused, KeyError, TypeError, ValueError, ArithmeticError, argparse.ArgumentTypeError):
         return 0.0

@@ -34,7 +34,6 @@ from dataclasses import replace
 from fractions import Fraction
 from typing import Any, NamedTuple
 
-from cdma_tools import sigmf
 from cdma_tools.analysis.cell_table import CellFacts, table_of_cells
 from cdma_tools.analysis.cells import Search
 from cdma_tools.arguments import MOST_HERTZ, Parser, count_of, number_within, rate_of, text_of, whole_within
@@ -51,7 +50,8 @@ from cdma_tools.radio.locking import Options
 from cdma_tools.radio.plain import TYPE_CHOICES, assumed, recording_told, with_hints
 from cdma_tools.radio.scanning import RASTER, Seen, everywhere, raster, scan
 from cdma_tools.radio.search_policy import SPAN, SearchPolicy, add_search_options, policy_of
-from cdma_tools.recordings import Recording
+from cdma_tools.recordings import Recording, type_named
+from cdma_tools.sources import add_capture_option, is_described
 from cdma_tools.starting import called
 
 MOST_CENTRES = 100_000
@@ -73,6 +73,7 @@ def parser() -> argparse.ArgumentParser:
     words.add_argument("recording", type=InputFile, metavar="RECORDING", help="interleaved samples, or a .sigmf-meta")
     words.add_argument(
         "--type",
+        type=type_named,
         choices=TYPE_CHOICES,
         help="how the samples are kept, auto: as their bytes look; not with a .sigmf-meta",
     )
@@ -87,6 +88,7 @@ def parser() -> argparse.ArgumentParser:
         "--step", type=number_within(1_000, MOST_HERTZ), metavar="HZ", help="between centre frequencies, else 1,250,000"
     )
     where.add_argument("--all", action="store_true", help="every frequency in the width")
+    add_capture_option(words)
     add_search_options(words)
     words.add_argument(
         "--cells",
@@ -161,9 +163,9 @@ def fault_of(found: list[Seen], policy: SearchPolicy) -> str:
 
 def check_words(words: argparse.ArgumentParser, options: argparse.Namespace) -> None:
     """Ends with status 2 where options don't go together."""
-    if options.recording.endswith(sigmf.META):
+    if is_described(options.recording):
         if options.type:
-            words.error("--type can't be given with a .sigmf-meta, which tells it")
+            words.error("--type can't be given with a .sigmf-meta, a .sigmf or a .wav, which tells it")
     elif options.type is None or options.rate is None:
         words.error("--type and --rate needed, unless RECORDING is a .sigmf-meta")
 

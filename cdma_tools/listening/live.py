@@ -8,13 +8,14 @@ from datetime import datetime, timezone
 from fractions import Fraction
 from typing import BinaryIO
 
-from cdma_tools.errors import said
+from cdma_tools.errors import Refused, said
 from cdma_tools.interrupts import each_hang_up, first_interrupt
 from cdma_tools.listening.follow_run import Handset
 from cdma_tools.listening.line_writer import LineWriter
 from cdma_tools.listening.listening import Listening
 from cdma_tools.listening.output import Output
-from cdma_tools.listening.sources import Backlog, Item, Server, ServerReader, Skipped, read_pipe
+from cdma_tools.listening.live_sources import LiveSource
+from cdma_tools.listening.sources import Backlog, Item, Skipped, read_pipe
 from cdma_tools.listening.stream_lock import LockOptions
 from cdma_tools.starting import called
 
@@ -26,14 +27,14 @@ class Stream:
     kind: str
     rate: Fraction
     file: BinaryIO | None = None
-    server: Server | None = None
+    live: LiveSource | None = None
 
     @contextlib.contextmanager
     def opened(self) -> Iterator[Backlog]:
         """Its backlog, which a thread fills."""
         backlog = Backlog()
-        if self.server is not None:
-            reader = threading.Thread(target=ServerReader(self.server, backlog).run, daemon=True)
+        if self.live is not None:
+            reader = threading.Thread(target=self.live.begin(backlog), daemon=True)
         else:
             reader = threading.Thread(target=read_pipe, args=(self.file, backlog), daemon=True)
         reader.start()
@@ -62,11 +63,24 @@ class LiveListening:
                     backlog.end()
 
                 with first_interrupt(stop):
-                    for item in backlog:
-                        self.take(item)
-                    self.listening.finish()
+                    self.take_all(backlog)
         finally:
             self.listening.kill()
+
+    def take_all(self, backlog: Backlog) -> None:
+        """Takes all that comes; if the source fails, what came before is finished first."""
+        fault: Refused | None = None
+        try:
+            for item in backlog:
+                self.take(item)
+        except Refused as why:
+            fault = why
+        listening = self.listening
+        if rest := len(listening.lock.ring.rest):
+            listening.say(listening.lock.seconds, f"the stream ended within a sample: {rest} bytes are left out")
+        listening.finish()
+        if fault is not None:
+            raise fault
 
     def take(self, item: Item) -> None:
         """Takes what comes."""

@@ -37,7 +37,7 @@ class Ring:
         used = self.make_room(len(block))
         taken = self.data[used : used + len(block)]
         taken[:] = block
-        if self.kind.form == "<f4" and not numpy.isfinite(block).all():
+        if self.kind.is_floating and not numpy.isfinite(block).all():
             self.damaged += int(numpy.count_nonzero(~numpy.isfinite(block)))
             numpy.nan_to_num(taken, copy=False, nan=0.0, posinf=0.0, neginf=0.0)
         self.count += len(block) // 2

@@ -13,9 +13,9 @@ from collections import deque
 from collections.abc import Iterator
 from dataclasses import dataclass
 from typing import BinaryIO
-from urllib.parse import urlsplit
 
 from cdma_tools.errors import Refused
+from cdma_tools.recordings import first_byte
 
 # Seconds of samples that are read of a file at once.
 BLOCK_SECONDS = 0.05
@@ -24,9 +24,11 @@ PIECE_BYTES, BACKLOG_BYTES = 1 << 16, 1 << 25
 # Seconds after which it is looked again whether a backlog is to end.
 LOOK_AGAIN = 0.2
 # The protocol of rtl_tcp: a header of its word, the tuner's type and the number of its gains; and commands of a byte
-# and a number, of which these set the middle of the band and the rate.
+# and a number, of which these set the middle of the band in Hz, the rate, who sets the gain (1: by hand), the gain in
+# tenths of dB, the correction in millionths, the automatic gain of the converter, and the bias tee.
 SERVER_HEADER, SERVER_WORD = struct.Struct(">4sII"), b"RTL0"
-COMMAND, SET_FREQUENCY, SET_RATE = struct.Struct(">BI"), 1, 2
+COMMAND, SET_FREQUENCY, SET_RATE, SET_GAIN_MODE, SET_GAIN, SET_PPM = struct.Struct(">BI"), 1, 2, 3, 4, 5
+SET_AGC, SET_BIAS_TEE, WORD = 8, 14, 0xFFFF_FFFF
 SCHEME, DEFAULT_PORT = "rtl_tcp", 1234
 # Seconds for which a server may be silent, and from one try to reach it to the next.
 SERVER_TIMEOUT, RETRY = 10.0, 5.0
@@ -51,6 +53,17 @@ Item = bytes | Skipped | Told
 
 
 @dataclass(frozen=True)
+class Tuning:
+    """How a radio is tuned; None leaves what it has."""
+
+    frequency: float | None = None  # Hz of its middle
+    gain: float | None = None  # dB; with has_agc the radio sets it by itself
+    ppm: int | None = None  # millionths by which its crystal is corrected
+    has_bias_tee: bool = False  # whether it feeds an amplifier at the antenna
+    has_agc: bool = False
+
+
+@dataclass(frozen=True)
 class Server:
     """A server of samples, and what is asked of it."""
 
@@ -58,7 +71,20 @@ class Server:
     port: int
     rate: int
     sample_bytes: int
-    frequency: int | None = None
+    tuning: Tuning = Tuning()
+
+    def commands(self) -> list[tuple[int, int]]:
+        """The commands that tune it, by their numbers."""
+        tuning, told = self.tuning, [(SET_RATE, self.rate)]
+        if tuning.frequency is not None:
+            told.append((SET_FREQUENCY, round(tuning.frequency)))
+        if tuning.ppm is not None:
+            told.append((SET_PPM, tuning.ppm & WORD))
+        if tuning.gain is not None or tuning.has_agc:
+            told += [(SET_GAIN_MODE, 0 if tuning.gain is None else 1), (SET_AGC, int(tuning.has_agc))]
+        if tuning.gain is not None:
+            told.append((SET_GAIN, round(10 * tuning.gain) & WORD))
+        return told + ([(SET_BIAS_TEE, 1)] if tuning.has_bias_tee else [])
 
     @property
     def name(self) -> str:
@@ -66,24 +92,11 @@ class Server:
         return f"{SCHEME}://{self.host}:{self.port}"
 
 
-def server_of(address: str, rate: int, sample_bytes: int, frequency: int | None) -> Server:
-    """The server at an address rtl_tcp://HOST[:PORT]; refuses what is none."""
-    try:
-        # An underscore is none of a scheme's letters, so the scheme is taken away before.
-        parts = urlsplit(address.removeprefix(f"{SCHEME}:"))
-        port = parts.port
-    except ValueError as why:
-        raise Refused(f"{address}: {why}") from None
-    if not parts.hostname or parts.path not in ("", "/") or parts.query or parts.fragment or parts.username:
-        raise Refused(f"{address}: no address {SCHEME}://HOST:PORT")
-    return Server(parts.hostname, DEFAULT_PORT if port is None else port, rate, sample_bytes, frequency)
-
-
 def blocks_of_file(path: str, first: int, count: int, block: int) -> Iterator[bytes]:
     """Bytes first to first + count - 1 of a file, some at a time; refuses where they can't be read."""
     try:
         with open(path, "rb", buffering=0) as file:
-            file.seek(first)
+            file.seek(first_byte(path) + first)
             left = count
             while left > 0:
                 data = file.read(min(block, left))
@@ -191,9 +204,7 @@ class ServerReader:
                 head += piece
             if SERVER_HEADER.unpack(head)[0] != SERVER_WORD:
                 raise OSError("it is no server of rtl_tcp")
-            connection.sendall(COMMAND.pack(SET_RATE, server.rate))
-            if server.frequency is not None:
-                connection.sendall(COMMAND.pack(SET_FREQUENCY, server.frequency))
+            connection.sendall(b"".join(COMMAND.pack(*command) for command in server.commands()))
         except OSError:
             connection.close()
             raise

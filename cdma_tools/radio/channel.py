@@ -29,7 +29,7 @@ SINUSOIDS, FADING_STEP = 32, 50e-6
 # Samples that are made at once.
 AT_ONCE = 1 << 18
 # The root mean square of the samples below full scale, in dB: the noise of 8 bits lies 40 dB below it.
-LEVELS = {"cu8": -12.5, "ci8": -12.5, "ci16_le": -20.0, "ci16_be": -20.0, "cf32_le": -20.0}
+LEVELS = {name: -12.5 if kind.size == 2 else -20.0 for name, kind in TYPES.items()}
 # The root mean square of the ideal receiver's chips.
 IDEAL_LEVEL = 2_000.0
 # By how much chips may come faster before some are missing at the end, where the clock isn't slower than that.
@@ -229,8 +229,8 @@ class Made(NamedTuple):
 
 def full_scale(kind: str) -> float:
     """The greatest part of a type."""
-    form = TYPES[kind].form
-    return 1.0 if form == "<f4" else float(numpy.iinfo(form).max) - TYPES[kind].middle
+    kept = TYPES[kind]
+    return 1.0 if kept.is_floating else float(numpy.iinfo(kept.form).max) - kept.middle
 
 
 def as_parts(samples: NDArray[numpy.complex64], radio: Radio, root: float) -> tuple[bytes, int]:
@@ -240,7 +240,7 @@ def as_parts(samples: NDArray[numpy.complex64], radio: Radio, root: float) -> tu
     lean, gain = numpy.radians(radio.skew), ratio_of(radio.imbalance) ** 0.5
     parts = numpy.stack([i, gain * (q * numpy.cos(lean) + i * numpy.sin(lean))], axis=1) + radio.direct * root
     form, _, middle = TYPES[radio.kind]
-    if form == "<f4":
+    if TYPES[radio.kind].is_floating:
         return parts.astype(form).tobytes(), 0
     low, high = numpy.iinfo(form).min, numpy.iinfo(form).max
     whole = numpy.rint(parts + middle)

@@ -5,12 +5,12 @@ point then nearly all have one exponent. In 16 bits the low bytes are nearly uni
 bits the bytes of both branches are alike, and near the middle: 127.5 if unsigned, 0 if signed.
 """
 
-import os
 
 import numpy
 from numpy.typing import NDArray
 
 from cdma_tools.errors import Refused
+from cdma_tools.recordings import first_byte, sample_bytes
 
 # Bytes of a piece that is looked at, and pieces, spread over the file.
 PIECE, PIECES = 1 << 14, 16
@@ -26,13 +26,13 @@ LEAST_RATIO = 1.25
 def bytes_of(path: str, skip: int) -> NDArray[numpy.uint8]:
     """Returns bytes of some pieces of a file, after the first `skip`; refuses one that has few."""
     try:
-        size = os.stat(path).st_size - skip
+        size, skip = sample_bytes(path) - skip, first_byte(path) + skip
         if size < LEAST_BYTES:
             raise Refused(f"{path}: {max(size, 0)} bytes are too few to tell the type: give --type")
         places = numpy.linspace(0, max(0, size - PIECE), PIECES).astype(int) // 8 * 8
         return numpy.concatenate(
             [
-                numpy.fromfile(path, numpy.uint8, PIECE // 8 * 8, offset=skip + place)[: size // 8 * 8]
+                numpy.fromfile(path, numpy.uint8, min(PIECE, size) // 8 * 8, offset=skip + place)
                 for place in places
             ]
         )

@@ -10,11 +10,12 @@ from numpy.typing import NDArray
 
 from cdma_tools.arguments import text_of
 from cdma_tools.errors import Refused
+from cdma_tools.overwriting import STANDARD
 from cdma_tools.radio.air import CHIP_RATE
 from cdma_tools.radio.guessing import type_of
-from cdma_tools.recordings import TYPES, sample_count
+from cdma_tools.recordings import TYPES, first_byte, sample_count
 from cdma_tools.sample_file import FORM, GREATEST, MOST_CHIPS
-from cdma_tools.sigmf import META, recording_of
+from cdma_tools.sources import is_described, kept_input, stored_of
 
 # The ratio up to which a rate is resampled at once: scipy's filter has some 20 taps for each unit of it.
 LARGEST_RATIO = 100_000
@@ -24,9 +25,12 @@ TYPE_CHOICES = (*TYPES, AUTO)
 
 
 def recording_told(options: argparse.Namespace) -> tuple[str, Fraction, str]:
-    """The type, the rate and the path of the samples that the arguments name."""
-    if options.recording.endswith(META):
-        return recording_of(options.recording, options.rate)
+    """The type, the rate and the path of the samples that the arguments name; standard input is kept in a file first."""
+    if is_described(options.recording):
+        stored = stored_of(options.recording, options.rate, options.capture)
+        return stored.kind, stored.rate, stored.path
+    if options.recording == STANDARD:
+        options.recording = kept_input(options.type, options.rate)
     kind = type_of(options.recording) if options.type == AUTO else options.type
     return kind, options.rate, options.recording
 
@@ -108,7 +112,7 @@ class Plan:
 
 def read_samples(path: str, kind: str, skip: int, most: int | None) -> NDArray[Any]:
     """The samples of a recording, a row of two parts each: whole numbers, or floating point of its own."""
-    form, zero, _ = TYPES[kind]
+    kept = TYPES[kind]
     total = sample_count(path, kind)
     if total <= skip:
         raise Refused(f"{path}: {total} samples, and none left" + (f" after --skip {skip}" if skip else ""))
@@ -116,13 +120,13 @@ def read_samples(path: str, kind: str, skip: int, most: int | None) -> NDArray[A
     if most is not None:
         count = min(count, most)
     try:
-        read = numpy.fromfile(path, dtype=form, count=2 * count, offset=TYPES[kind].size * skip)
+        read = numpy.fromfile(path, dtype=kept.form, count=2 * count, offset=first_byte(path) + kept.size * skip)
     except OSError as why:
         raise Refused(f"{path}: {why.strerror}") from None
     if len(read) != 2 * count:
         raise Refused(f"{path}: ended early")
-    parts = read.astype(numpy.float64 if form == "<f4" else numpy.int64).reshape(-1, 2) - zero
-    if form == "<f4":
+    parts = read.astype(numpy.float64 if kept.is_floating else numpy.int64).reshape(-1, 2) - kept.zero
+    if kept.is_floating:
         lost = numpy.flatnonzero(~numpy.isfinite(parts).all(axis=1))
         if len(lost):
             raise Refused(f"{path}: sample {skip + lost[0]} isn't finite")

@@ -40,7 +40,8 @@ from cdma_tools.listening.listening import Anchor, Listening
 from cdma_tools.listening.parts import Joiner, Part, PartHeard, Recording, part_at, parts_of
 from cdma_tools.listening.pieces import Unheard
 from cdma_tools.listening.sharing import joined_parts
-from cdma_tools.listening.sources import Backlog, ServerReader, Skipped, server_of
+from cdma_tools.listening.sources import Backlog, ServerReader, Skipped
+from cdma_tools.listening.sources import Server as RadioServer
 from cdma_tools.listening.stream_lock import LockOptions
 
 SECONDS = float(os.environ.get("CDMA_LISTEN_SECONDS", "20"))
@@ -447,7 +448,7 @@ class RefusedTest(unittest.TestCase):
             (["--type", "cu8", "--rate", "2e9", "-"], "not 1,228,800 to 100,000,000"),
             (["--type", "cu9", "--rate", "2400000", "-"], "invalid choice"),
             (["--type", "cu8", "x.sigmf-meta"], "which tells it"),
-            (["--type", "ci8", "--rate", "2400000", "rtl_tcp://here"], "a server's samples are cu8"),
+            (["--type", "ci8", "--rate", "2400000", "rtl_tcp://here"], "the samples of rtl_tcp are cu8"),
             (["--rate", "2400000.5", "rtl_tcp://here"], "and whole"),
             ([*STREAM, "-", "--esn", "8badf00d"], "need each other"),
             ([*STREAM, "-", "--esn", "8BADF00D", "--row", "3"], "not eight lower-case hex digits"),
@@ -456,7 +457,7 @@ class RefusedTest(unittest.TestCase):
             ([*STREAM, "-", "--row", "64", "--esn", "8badf00d"], "not 1 to 63"),
             ([*STREAM, "-", "--part", "9"], "not 10 to 1,000,000"),
             ([*STREAM, "-", "--workers", "0"], "not 1 to 64"),
-            ([*STREAM, "-", "--frequency", "5"], "goes with a server"),
+            ([*STREAM, "-", "--frequency", "5"], "goes with a radio"),
             ([*STREAM, "-", "--out", "/"], "is a folder"),
         )
         for words, why in wrong:
@@ -629,7 +630,7 @@ class BacklogTest(unittest.TestCase):
         """Samples that tell their own numbers: those that come and those that are told to be missing are all."""
         backlog, draws = Backlog(1 << 14), random.Random(1)
         server = Server([b""])
-        reader = ServerReader(server_of(server.address, RATE, 2, None), backlog)
+        reader = ServerReader(RadioServer("127.0.0.1", int(server.address.rpartition(":")[2]), RATE, 2), backlog)
         self.addCleanup(reader.connection.close)
         data = (numpy.arange(400_000) % 65_536).astype("<u2").tobytes()
         came = lost = begin = 0
