@@ -1,0 +1,343 @@
+"""Recordings by their names, and live sources: cdma_tools.sources and cdma_tools.listening.live."""
+
+import importlib.util
+import io
+import json
+import os
+import socket
+import struct
+import sys
+import tarfile
+import threading
+import types
+import unittest
+from fractions import Fraction
+from typing import Any
+from unittest import mock
+
+from tools.tests.helping import needs, temporary_folder
+
+needs("numpy", "scipy")
+
+import numpy  # noqa: E402
+from numpy.typing import NDArray  # noqa: E402
+
+from cdma_tools import sources  # noqa: E402
+from cdma_tools.arguments import hertz_of, rate_of  # noqa: E402
+from cdma_tools.errors import Refused  # noqa: E402
+from cdma_tools.frequencies import channel_at, channel_hertz  # noqa: E402
+from cdma_tools.listening import live  # noqa: E402
+from cdma_tools.listening.sources import Backlog, Server, Told, Tuning  # noqa: E402
+from cdma_tools.recordings import Recording, type_named  # noqa: E402
+from tools.tests.radio_helping import Recordings  # noqa: E402
+
+RATE = 2_400_000
+PARTS = numpy.random.default_rng(1).integers(-3_000, 3_000, 2_000)
+
+
+def wave(fields: bytes, data: bytes, more: bytes = b"", size: int | None = None, head: bytes = b"RIFF") -> bytes:
+    """A WAV file of a 'fmt ' chunk, of more chunks and of samples."""
+    body = b"fmt " + struct.pack("<I", len(fields)) + fields + more
+    body += b"data" + struct.pack("<I", len(data) if size is None else size) + data
+    return head + struct.pack("<I", 4 + len(body)) + b"WAVE" + body
+
+
+def fields_of(form: int, bits: int, channels: int = 2) -> bytes:
+    """A 'fmt ' chunk of 16 bytes."""
+    block = channels * bits // 8
+    return struct.pack("<HHIIHH", form, channels, RATE, RATE * block, block, bits)
+
+
+class Stored(unittest.TestCase):
+    def setUp(self) -> None:
+        self.folder = temporary_folder(self.addCleanup)
+
+    def kept(self, name: str, data: bytes) -> str:
+        """The path of a file with these bytes."""
+        path = os.path.join(self.folder, name)
+        with open(path, "wb") as file:
+            file.write(data)
+        return path
+
+    def parts(self, stored: sources.Stored) -> NDArray[Any]:
+        """All parts of a recording."""
+        with Recording(stored.path, stored.kind, float(stored.rate)) as recording:
+            return recording.read(0, recording.count).view(numpy.float32)
+
+    def test_names_of_types_and_numbers(self) -> None:
+        named = {"ci16": "ci16_le", "cf32": "cf32_le", "cu8": "cu8", "cf64": "cf64_le", "ci16_be": "ci16_be", "x": "x"}
+        self.assertEqual({name: type_named(name) for name in named}, named)
+        self.assertEqual((rate_of("2.4M"), rate_of("2400k"), hertz_of("878.49M")), (RATE, RATE, 878_490_000))
+        for wrong in ("M", "2.4m", "1e999M", ""):
+            with self.assertRaises(Exception):
+                rate_of(wrong)
+
+    def test_further_types(self) -> None:
+        for kind, form in (("cf32_be", ">f4"), ("ci32_le", "<i4"), ("cf64_le", "<f8")):
+            path = self.kept(kind, PARTS.astype(form).tobytes())
+            self.assertTrue(numpy.array_equal(self.parts(sources.Stored(kind, Fraction(RATE), path)), PARTS), kind)
+
+    def test_wave_files(self) -> None:
+        auxi = b"auxi" + struct.pack("<I", 64) + bytes(32) + struct.pack("<I", 878_490_000) + bytes(28)
+        for form, bits, kind, stored in (
+            (1, 16, "ci16_le", "<i2"), (1, 32, "ci32_le", "<i4"), (3, 32, "cf32_le", "<f4"), (3, 64, "cf64_le", "<f8")
+        ):  # fmt: skip
+            data = PARTS.astype(stored).tobytes()
+            found = sources.stored_of(self.kept("x.wav", wave(fields_of(form, bits), data, auxi) + b"LIST\4\0\0\0abcd"), None)
+            self.assertEqual((found.kind, found.rate, found.frequency), (kind, RATE, 878_490_000))
+            self.assertTrue(numpy.array_equal(self.parts(found), PARTS))
+        data = PARTS.astype("<i2").tobytes()
+        # A program that was broken off leaves a size of 0 or of all ones, or fewer bytes than it says.
+        for size in (0, 0xFFFF_FFFF, len(data) + 9_999):
+            found = sources.stored_of(self.kept("y.wav", wave(fields_of(1, 16), data + b"\1", size=size)), None)
+            self.assertTrue(numpy.array_equal(self.parts(found), PARTS))
+            self.assertIsNone(found.frequency)
+        long = b"ds64" + struct.pack("<IQQQI", 28, 0, len(data), 0, 0)
+        found = sources.stored_of(self.kept("z.wav", wave(fields_of(1, 16), data, long, 0xFFFF_FFFF, b"RF64") + b"tail"), None)
+        self.assertTrue(numpy.array_equal(self.parts(found), PARTS))
+
+    def test_wave_files_that_are_refused(self) -> None:
+        data = PARTS.astype("<i2").tobytes()
+        for content, why in (
+            (b"RIFF", "no WAV file"),
+            (wave(fields_of(1, 16, 1), data), "1 channels"),
+            (wave(fields_of(1, 24), data), "format 1 of 24 bits"),
+            (wave(b"", data), "'fmt ' chunk before"),
+            (b"RIFF\4\0\0\0WAVE", "without samples"),
+        ):
+            with self.assertRaisesRegex(Refused, why):
+                sources.stored_of(self.kept("x.wav", content), None)
+        with self.assertRaisesRegex(Refused, "--rate can't be given"):
+            sources.stored_of(self.kept("x.wav", wave(fields_of(1, 16), data)), Fraction(RATE))
+
+    def meta(self, captures: list[dict[str, Any]], **more: Any) -> dict[str, Any]:
+        """The object of a recording of 16 bits."""
+        return {"global": {"core:datatype": "ci16_le", "core:sample_rate": RATE, **more}, "captures": captures}
+
+    def archive(self, names: dict[str, bytes]) -> str:
+        """The path of an archive of these files."""
+        path = os.path.join(self.folder, "x.sigmf")
+        with tarfile.open(path, "w") as file:
+            for name, data in names.items():
+                told = tarfile.TarInfo(name)
+                told.size = len(data)
+                file.addfile(told, io.BytesIO(data))
+        return path
+
+    def test_archives(self) -> None:
+        data = PARTS.astype("<i2").tobytes()
+        text = json.dumps(self.meta([{"core:sample_start": 0, "core:frequency": 878_490_000}])).encode()
+        found = sources.stored_of(self.archive({"a/x.sigmf-meta": text, "a/x.sigmf-data": data}), None)
+        self.assertEqual((found.kind, found.rate, found.frequency), ("ci16_le", RATE, 878_490_000))
+        self.assertTrue(numpy.array_equal(self.parts(found), PARTS))
+        for names, why in (
+            ({"x.sigmf-data": data}, "0 recordings in the archive"),
+            ({"x.sigmf-meta": text}, "no x.sigmf-data in the archive"),
+            ({"x.sigmf-meta": text, "y.sigmf-meta": text, "x.sigmf-data": data}, "2 recordings"),
+            ({"x.sigmf-meta": b"{", "x.sigmf-data": data}, "no JSON"),
+        ):
+            with self.assertRaisesRegex(Refused, why):
+                sources.stored_of(self.archive(names), None)
+        with self.assertRaisesRegex(Refused, "no SigMF archive"):
+            sources.stored_of(self.kept("y.sigmf", b"x" * 2_000), None)
+
+    def test_captures(self) -> None:
+        data, path = PARTS.astype("<i2").tobytes(), os.path.join(self.folder, "x.sigmf-meta")
+        self.kept("x.sigmf-data", b"HEAD" + data[:800] + b"HEADHEAD" + data[800:] + b"END")
+        captures = [
+            {"core:sample_start": 0, "core:frequency": 1e9, "core:header_bytes": 4},
+            {"core:sample_start": 200, "core:frequency": 2e9, "core:header_bytes": 8},
+        ]
+        self.kept("x.sigmf-meta", json.dumps(self.meta(captures, **{"core:trailing_bytes": 3})).encode())
+        for number, wanted, frequency in ((1, PARTS[:400], 1e9), (2, PARTS[400:], 2e9)):
+            found = sources.stored_of(path, None, number)
+            self.assertTrue(numpy.array_equal(self.parts(found), wanted))
+            self.assertEqual(found.frequency, frequency)
+        for number, why in ((None, "of several frequencies: give --capture N"), (3, "no capture 3: it has 2")):
+            with self.assertRaisesRegex(Refused, why):
+                sources.stored_of(path, None, number)
+        # Captures of one frequency that follow each other are one recording.
+        self.kept("x.sigmf-data", data)
+        self.kept("x.sigmf-meta", json.dumps(self.meta([{"core:sample_start": 0}, {"core:sample_start": 200}])).encode())
+        self.assertTrue(numpy.array_equal(self.parts(sources.stored_of(path, None)), PARTS))
+        self.assertTrue(numpy.array_equal(self.parts(sources.stored_of(path, None, 2)), PARTS[400:]))
+
+    def test_channels(self) -> None:
+        # 7.1.1.1: 870 + 0.03 N MHz, and 1930 + 0.05 N MHz.
+        self.assertEqual((channel_hertz(384, 800), channel_hertz(25, 1900), channel_hertz(900, 800)), (881.52e6, 1931.25e6, None))
+        found = channel_at(881.52e6 + 900)
+        self.assertEqual(found and found.number, 384)
+
+
+class Tools(Recordings):
+    CHIPS = 300_000
+
+    def test_each_form_is_locked_to_as_its_raw_samples(self) -> None:
+        raw = self.recorded("--carrier", 700, "--ec-io", -8, name="in.raw")
+        told = ("--type", "ci16", "--rate", "2.4M")
+        self.locked(raw, *told, "--search", 2_000, "--conjugate", "no")
+        with open(self.at("out.is95"), "rb") as file:
+            wanted = file.read()
+        with open(raw, "rb") as file:
+            data = file.read()
+        with open(self.at("in.wav"), "wb") as file:
+            file.write(wave(fields_of(1, 16), data))
+        self.locked(self.at("in.wav"), "--search", 2_000, "--conjugate", "no")
+        with open(self.at("out.is95"), "rb") as file:
+            self.assertTrue(file.read() == wanted)
+        words = ("import_capture", "--lock", *told, "--search", 2_000, "--conjugate", "no", "-", "-")
+        status, wrote, said = self.run_tool(*words, data=data + b"\1")  # it ends within a sample
+        self.assertEqual((status, wrote == wanted), (0, True), said)
+        status, wrote, said = self.run_tool(*words, data=b"\1")
+        self.assertEqual((status, wrote, said), (1, b"", "import_capture: standard input: no samples came\n"))
+
+
+class Live(unittest.TestCase):
+    def source(self, address: str, kind: str = "ci16_le", tuning: Tuning = Tuning()) -> live.LiveSource:
+        """The live source of an address."""
+        scheme = live.scheme_of(address)
+        assert scheme is not None
+        return live.LiveSource(address, scheme, kind, Fraction(RATE), tuning)
+
+    def items(self, source: live.LiveSource) -> list[Any]:
+        """All that a source puts into a backlog, up to its end, and why it was refused."""
+        backlog, made = Backlog(), []
+        reader = threading.Thread(target=source.begin(backlog), daemon=True)
+        reader.start()
+        try:
+            for item in backlog:
+                made.append(item)
+        except Refused as why:
+            made.append(str(why))
+        reader.join(timeout=10)
+        self.assertFalse(reader.is_alive())
+        return made
+
+    def server(self, data: bytes, waits: float = 0.0) -> str:
+        """The address of a server that sends bytes once, waits, and ends."""
+        listener = socket.create_server(("127.0.0.1", 0))
+        self.addCleanup(listener.close)
+
+        def serve() -> None:
+            connection, _ = listener.accept()
+            with connection:
+                connection.sendall(data)
+                threading.Event().wait(waits)
+
+        threading.Thread(target=serve, daemon=True).start()
+        return f"tcp://127.0.0.1:{listener.getsockname()[1]}"
+
+    def test_schemes(self) -> None:
+        for address, scheme in (
+            ("rtl_tcp://a", "rtl_tcp"), ("tcp://a:1", "tcp"), ("udp://a:1", "udp"), ("zmq://a:1", "zmq"),
+            ("soapy:driver=hackrf", "soapy"), ("a.wav", None), ("-", None), ("file://a", None),
+        ):  # fmt: skip
+            self.assertEqual(live.scheme_of(address), scheme)
+        for wrong in ("tcp://a", "tcp://:5", "udp://a:99999", "zmq://a:1/x"):
+            with self.assertRaises(Refused):
+                self.source(wrong).place
+        self.assertEqual(self.source("rtl_tcp://a").place, ("a", 1_234))
+
+    def test_the_commands_of_rtl_tcp(self) -> None:
+        # rtl_tcp.c: 1 frequency, 2 rate, 3 gain by hand, 4 gain in tenths of dB, 5 millionths, 8 AGC, 14 bias tee.
+        tuning = Tuning(878_490_000, 29.7, -57, True, False)
+        wanted = [(2, RATE), (1, 878_490_000), (5, 2**32 - 57), (3, 1), (8, 0), (4, 297), (14, 1)]
+        self.assertEqual(Server("a", 1, RATE, 2, tuning).commands(), wanted)
+        self.assertEqual(Server("a", 1, RATE, 2).commands(), [(2, RATE)])
+        self.assertEqual(Server("a", 1, RATE, 2, Tuning(has_agc=True)).commands(), [(2, RATE), (3, 0), (8, 1)])
+
+    def test_a_server_of_samples(self) -> None:
+        data = PARTS.astype("<i2").tobytes()
+        found = self.items(self.source(self.server(data)))
+        self.assertEqual(b"".join(found), data)
+        with mock.patch.object(live, "SERVER_TIMEOUT", 0.2):
+            address = self.server(data, waits=1.0)
+            *found, why = self.items(self.source(address))
+        self.assertEqual(b"".join(found), data)
+        self.assertEqual(why, f"{address}: no samples for 0 s")
+        with socket.create_server(("127.0.0.1", 0)) as free:
+            port = free.getsockname()[1]
+        with self.assertRaisesRegex(Refused, "Connection refused"):
+            self.source(f"tcp://127.0.0.1:{port}").begin(Backlog())
+
+    def test_datagrams(self) -> None:
+        data = PARTS.astype("<i2").tobytes()
+        with socket.socket(socket.AF_INET, socket.SOCK_DGRAM) as free:
+            free.bind(("127.0.0.1", 0))
+            port = free.getsockname()[1]
+        backlog = Backlog()
+        run = self.source(f"udp://127.0.0.1:{port}").begin(backlog)
+        with socket.socket(socket.AF_INET, socket.SOCK_DGRAM) as sender:
+            for begin in range(0, len(data), 1_000):
+                sender.sendto(data[begin : begin + 1_000], ("127.0.0.1", port))
+            sender.sendto(b"", ("127.0.0.1", port))
+        run()
+        self.assertEqual(b"".join(item for item in backlog if isinstance(item, bytes)), data)
+
+    @unittest.skipUnless(importlib.util.find_spec("zmq"), "no zmq: install the package python3-zmq")
+    def test_a_pub_socket_of_gnu_radio(self) -> None:
+        import zmq
+
+        data = PARTS.astype("<f4").tobytes()
+        with zmq.Context() as context, context.socket(zmq.PUB) as publisher:
+            port = publisher.bind_to_random_port("tcp://127.0.0.1")
+            backlog, stops = Backlog(), threading.Event()
+
+            def send() -> None:
+                while not stops.wait(0.05):
+                    publisher.send(data)
+
+            sender = threading.Thread(target=send, daemon=True)
+            sender.start()
+            reader = threading.Thread(target=self.source(f"zmq://127.0.0.1:{port}", "cf32_le").begin(backlog), daemon=True)
+            reader.start()
+            self.assertEqual(backlog.get(), data)
+            backlog.stop()
+            reader.join(timeout=10)
+            stops.set()
+            sender.join(timeout=10)
+        self.assertFalse(reader.is_alive())
+
+    def soapy(self, reads: list[int]) -> tuple[types.ModuleType, list[tuple[Any, ...]]]:
+        """A stand-in for SoapySDR whose radio answers reads by these numbers, and the calls that it gets."""
+        calls: list[tuple[Any, ...]] = []
+
+        class Device:
+            """A radio."""
+
+            def __init__(self, words: str) -> None:
+                calls.append(("Device", words))
+
+            def __getattr__(self, name: str) -> Any:
+                return lambda *words: calls.append((name, *words))
+
+            def readStream(self, stream: Any, blocks: list[NDArray[Any]], count: int, timeoutUs: int) -> Any:
+                """Samples of 1, or what is wrong."""
+                number = reads.pop(0)
+                blocks[0][: max(0, number)] = 1
+                return types.SimpleNamespace(ret=number)
+
+        module = types.ModuleType("SoapySDR")
+        module.__dict__.update(Device=Device, SOAPY_SDR_RX=1, SOAPY_SDR_CF32="CF32")
+        return module, calls
+
+    def test_a_radio_of_soapy(self) -> None:
+        tuning = Tuning(878_490_000, 30.0, 12, True, False)
+        module, calls = self.soapy([5, -4, 3, -1])
+        with mock.patch.dict(sys.modules, {"SoapySDR": module}):
+            first, lost, second, why = self.items(self.source("soapy:driver=x,serial=7", "cf32_le", tuning))
+        self.assertEqual((len(first), len(second)), (40, 24))
+        self.assertIsInstance(lost, Told)
+        self.assertEqual(why, "soapy:driver=x,serial=7: no samples for 10 s")
+        self.assertEqual(calls[:7], [
+            ("Device", "driver=x,serial=7"), ("setSampleRate", 1, 0, 2.4e6), ("setFrequency", 1, 0, 878.49e6),
+            ("setFrequencyCorrection", 1, 0, 12.0), ("setGainMode", 1, 0, False), ("setGain", 1, 0, 30.0),
+            ("writeSetting", "biastee", "true"),
+        ])  # fmt: skip
+        self.assertEqual([call[0] for call in calls[-2:]], ["deactivateStream", "closeStream"])
+        with mock.patch.dict(sys.modules, {"SoapySDR": None}), self.assertRaisesRegex(Refused, "python3-soapysdr"):
+            self.source("soapy:driver=x", "cf32_le").begin(Backlog())
+
+
+if __name__ == "__main__":
+    unittest.main()
