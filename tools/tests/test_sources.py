@@ -1,4 +1,4 @@
-"""Recordings by their names, and live sources: cdma_tools.sources and cdma_tools.listening.live."""
+"""Recordings by their names, and live sources: cdma_tools.sources and cdma_tools.listening.live_sources."""
 
 import importlib.util
 import io
@@ -26,7 +26,7 @@ from cdma_tools import sources  # noqa: E402
 from cdma_tools.arguments import hertz_of, rate_of  # noqa: E402
 from cdma_tools.errors import Refused  # noqa: E402
 from cdma_tools.frequencies import channel_at, channel_hertz  # noqa: E402
-from cdma_tools.listening import live  # noqa: E402
+from cdma_tools.listening import live_sources as live  # noqa: E402
 from cdma_tools.listening.sources import Backlog, Server, Told, Tuning  # noqa: E402
 from cdma_tools.recordings import Recording, type_named  # noqa: E402
 from tools.tests.radio_helping import Recordings  # noqa: E402
@@ -149,8 +149,8 @@ class Stored(unittest.TestCase):
             {"core:sample_start": 200, "core:frequency": 2e9, "core:header_bytes": 8},
         ]
         self.kept("x.sigmf-meta", json.dumps(self.meta(captures, **{"core:trailing_bytes": 3})).encode())
-        for number, wanted, frequency in ((1, PARTS[:400], 1e9), (2, PARTS[400:], 2e9)):
-            found = sources.stored_of(path, None, number)
+        for capture, wanted, frequency in ((1, PARTS[:400], 1e9), (2, PARTS[400:], 2e9)):
+            found = sources.stored_of(path, None, capture)
             self.assertTrue(numpy.array_equal(self.parts(found), wanted))
             self.assertEqual(found.frequency, frequency)
         for number, why in ((None, "of several frequencies: give --capture N"), (3, "no capture 3: it has 2")):
@@ -201,7 +201,8 @@ class Live(unittest.TestCase):
 
     def items(self, source: live.LiveSource) -> list[Any]:
         """All that a source puts into a backlog, up to its end, and why it was refused."""
-        backlog, made = Backlog(), []
+        backlog = Backlog()
+        made: list[Any] = []
         reader = threading.Thread(target=source.begin(backlog), daemon=True)
         reader.start()
         try:

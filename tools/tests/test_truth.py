@@ -1,0 +1,150 @@
+"""The figures of every tool against the truth, over recordings of cells that are drawn with a seed.
+
+The cells' offsets, identities and gains are drawn, and so are types, rates, carriers, clocks, delays, levels and paths; the
+truth stands in each .sigmf-meta, as tools/channel writes it. Three recordings are tried; with EVERY_TRUTH=1 ten, and the
+table of all figures is printed.
+"""
+
+import json
+import math
+import os
+import random
+import unittest
+from dataclasses import dataclass
+from typing import Any
+
+from tools.tests.helping import NO_PROGRAM, PROGRAM, needs, temporary_folder
+
+needs("numpy", "scipy")
+
+from tools.tests.drawn_cells import DrawnCell, drawn_cell  # noqa: E402
+from tools.tests.radio_helping import figures, run_main  # noqa: E402
+
+SEED, FEW, MANY = 89, 3, 10
+CHIPS = 900_000
+# What may lie between a figure and the truth: Hz, millionths, dB, chips.
+MOST = {"carrier": 3.0, "clock": 0.1, "ec_io": 0.1, "scan ec_io": 0.2, "scan carrier": 30.0, "level": 0.15, "delay": 0.1}
+
+
+@dataclass(frozen=True)
+class Truth:
+    """What a recording was made with."""
+
+    path: str
+    cells: tuple[DrawnCell, ...]
+    carrier: float
+    clock: float
+    ec_io: float  # of the first cell
+    levels: tuple[float, ...]  # of the cells, in dB against the first one
+    delays: tuple[float, ...]  # chips
+    is_conjugate: bool
+
+
+def recorded(folder: str, number: int) -> Truth:
+    """The recording of a number, with its truth as its .sigmf-meta tells it."""
+    draws = random.Random(f"{SEED} {number}")
+    offsets = draws.sample(range(512), 2 if number % 3 == 1 else 1)
+    cells = tuple(drawn_cell(draws, pn, tuple(other for other in offsets if other != pn)) for pn in offsets)
+    levels, delays = (0.0, -draws.uniform(3, 8))[: len(cells)], (0.0, draws.uniform(-60, 60))[: len(cells)]
+    files = [cell.write(os.path.join(folder, f"{cell.pn}.is95"), CHIPS) for cell in cells]
+    share = cells[0].pilot ** 2 / sum(cell.power * 10 ** (level / 10) for cell, level in zip(cells, levels))
+    words = [
+        "--type", draws.choice(("cu8", "ci8", "ci16_le", "cf32_be", "ci32_le")),
+        "--rate", draws.choice(("2.4M", "2M", "2457600", "2.5M")), "--seed", number + 1,
+        "--carrier", round(draws.uniform(-9e3, 9e3)), "--clock", round(draws.uniform(-30, 30), 2),
+        "--delay", round(draws.uniform(0, 1), 3), "--ec-io", round(draws.uniform(-9, -6) + min(0.0, decibels(share)), 2),
+        *(["--conjugate"] if number % 4 == 2 else []),
+    ]  # fmt: skip
+    named = [files[0], *(f"{file}:{level}:{delay}" for file, level, delay in list(zip(files, levels, delays))[1:])]
+    path = os.path.join(folder, f"{number}.sigmf-meta")
+    status, _, said = run_main("channel", *words, *named, path)
+    assert status == 0, said
+    with open(path, encoding="utf-8") as file:
+        note = json.load(file)["annotations"][0]
+    told = dict(word.split("=", 1) for word in note["core:comment"].split())
+    return Truth(
+        path, cells, float(told["carrier_hz"]), float(told["clock_ppm"]), float(told["ec_io_db"]),
+        tuple(cell["level_db"] for cell in note["cdma_tools:cells"]),
+        tuple(cell["delay_chips"] for cell in note["cdma_tools:cells"]), told["conjugate"] == "yes",
+    )  # fmt: skip
+
+
+def decibels(ratio: float) -> float:
+    """A ratio of powers in dB."""
+    return 10 * math.log10(ratio)
+
+
+@unittest.skipUnless(PROGRAM, NO_PROGRAM)
+class Truths(unittest.TestCase):
+    seconds = 40
+
+    def setUp(self) -> None:
+        self.folder = temporary_folder(self.addCleanup)
+        self.table: list[str] = []
+
+    def near(self, tool: str, name: str, found: float, wanted: float, most: str) -> None:
+        """Adds a figure to the table, and says if it lies too far from the truth."""
+        self.table.append(f"{tool:<16}{name:<22}{found:>14.3f}{wanted:>14.3f}{found - wanted:>+10.3f}")
+        self.assertAlmostEqual(found, wanted, delta=MOST[most], msg=f"{tool}: {name}")
+
+    def import_holds(self, truth: Truth) -> None:
+        """The line of a lock, and the table of cells."""
+        status, wrote, said = run_main(
+            "import_capture", "--lock", "--cells", len(truth.cells), "--json", "--program", PROGRAM, truth.path,
+            os.path.join(self.folder, "out.is95"),
+        )  # fmt: skip
+        self.assertEqual(status, 0, said)
+        found = figures(said)
+        self.near("import_capture", "carrier_hz", float(found["carrier_hz"]), truth.carrier, "carrier")
+        self.near("import_capture", "clock_ppm", float(found["clock_ppm"]), truth.clock, "clock")
+        self.near("import_capture", "ec_io_db", float(found["ec_io_db"]), truth.ec_io, "ec_io")
+        self.assertEqual(found["conjugate"], "yes" if truth.is_conjugate else "no")
+        table = json.loads(wrote)
+        self.assertEqual(len(table), len(truth.cells))
+        for row, cell, level, delay in zip(table, truth.cells, truth.levels, truth.delays):
+            self.assertEqual((row["pn"], row["sid"], row["nid"]), (cell.pn, cell.sid, cell.nid))
+            if row["paging_messages"]:
+                self.assertEqual(row["base_id"], cell.base)
+            self.near("--cells", f"PN {cell.pn} ec_io_db", row["ec_io_db"], truth.ec_io + level, "level")
+            self.near("--cells", f"PN {cell.pn} delay_chips", row["delay_chips"], delay, "delay")
+            self.near("--cells", f"PN {cell.pn} carrier", row["carrier_difference_hz"], 0.0, "carrier")
+
+    def scan_holds(self, truth: Truth) -> None:
+        """What a scan sees."""
+        status, wrote, said = run_main("scan", "--json", truth.path)
+        self.assertEqual(status, 0, said)
+        (seen,) = json.loads(wrote)
+        sign = -1 if truth.is_conjugate else 1
+        self.near("scan", "carrier_hz", seen["carrier_hz"], sign * truth.carrier, "scan carrier")
+        self.near("scan", "ec_io_db", seen["ec_io_db"], truth.ec_io, "scan ec_io")
+        self.assertEqual(seen["conjugate"], truth.is_conjugate)
+
+    def domain_holds(self, truth: Truth) -> None:
+        """The rows of the strongest cell against its pilot, and the pilot against all power."""
+        out = os.path.join(self.folder, "domain.json")
+        status, _, said = run_main("domain", truth.path, "--program", PROGRAM, "--json", out)
+        self.assertEqual(status, 0, said)
+        with open(out, encoding="utf-8") as file:
+            told: dict[str, Any] = json.load(file)
+        self.near("domain", "carrier_hz", told["carrier_hz"], truth.carrier, "carrier")
+        self.near("domain", "clock_ppm", told["clock_ppm"], truth.clock, "clock")
+        rows, cell = {row["row"]: row["db"] for row in told["rows"] if row["used"]}, truth.cells[0]
+        self.near("domain", "row 0 db", rows[0], truth.ec_io, "level")
+        for row, gain in ((32, cell.sync), (1, cell.paging), (20, cell.traffic)):
+            self.near("domain", f"row {row} against row 0", rows[row] - rows[0], 2 * decibels(gain / cell.pilot), "level")
+        self.assertAlmostEqual(sum(10 ** (row["total_db"] / 10) for row in told["rows"]), 1, delta=0.002)
+
+    def test_each_tool_tells_the_truth(self) -> None:
+        count = MANY if os.environ.get("EVERY_TRUTH") else FEW
+        for number in range(count):
+            truth = recorded(self.folder, number)
+            self.table.append(f"recording {number}: PN {', '.join(str(cell.pn) for cell in truth.cells)}")
+            with self.subTest(number):
+                for holds in (self.import_holds, self.scan_holds, self.domain_holds):
+                    holds(truth)
+        if count == MANY:
+            print("\n" + "\n".join(self.table))
+
+
+if __name__ == "__main__":
+    unittest.main()
