@@ -35,6 +35,7 @@ from cdma_tools.listening.events import Collected, Event
 from cdma_tools.listening.follow_run import FollowRun, Handset, Sets
 from cdma_tools.listening.line_writer import LineWriter
 from cdma_tools.listening.listening import Listening
+from cdma_tools.listening.live_sources import scheme_of
 from cdma_tools.listening.output import GrowingFile
 from cdma_tools.listening.pieces import Chips
 from cdma_tools.listening.relay import MOST_KILLED, Relay
@@ -519,7 +520,7 @@ class UnitTest(unittest.TestCase):
         parser = listen_command.parser()
         options = parser.parse_args(words)
         listen_command.check(parser, options)
-        self.assertTrue(options.append and options.out and listen_command.is_server(options))
+        self.assertTrue(options.append and options.out and scheme_of(options.source))
         self.assertEqual(unit["Service"]["KillMode"], "mixed")
         for name in ("NoNewPrivileges", "PrivateTmp", "PrivateDevices", "ProtectHome", "DynamicUser", "RestrictNamespaces"):
             self.assertEqual(unit["Service"][name], "yes", name)
