@@ -396,7 +396,7 @@ class ServerTest(unittest.TestCase):
                 break
         run.send_signal(signal.SIGINT)
         run.communicate(timeout=60)
-        self.assertEqual(run.returncode, 130)
+        self.assertEqual(run.returncode, 0)
         rate, frequency = RATE.to_bytes(4, "big"), (878_490_000).to_bytes(4, "big")
         self.assertEqual(server.commands, 3 * [b"\x02" + rate + b"\x01" + frequency])
         away = [line for line in said if "samples are missing" in line]
@@ -471,7 +471,7 @@ class RefusedTest(unittest.TestCase):
         with open(odd, "wb") as file:
             file.write(bytes(1_001))
         with open(lines, "wb") as file:
-            file.write(b"frame at=5 rate=9600 good=1 bits=172:00 commands=0\nno line\n")
+            file.write(b"frame at=5 rate=1200 good=1 bits=0: commands=0000000000000011\nno line\n")
         for words, why in (
             ([os.path.join(folder, "none.cu8")], "No such file"),
             ([odd], "no whole number of samples"),
