@@ -13,7 +13,7 @@ from typing import Any, Generic, TypeVar
 
 from cdma_tools.errors import Refused
 from cdma_tools.heard_run import CHIP_RATE, LANES
-from cdma_tools.lines import RATES, NoLine, read_line, spell_line
+from cdma_tools.lines import ORIGIN, RATES, NoLine, read_line, spell_line
 from cdma_tools.report.gathering import Line
 
 # How a file of lines may begin.
@@ -61,11 +61,12 @@ class Count:
 
 @dataclass
 class HeardLines:
-    """The lines of a recording."""
+    """The lines of a recording, or of streams one after the other, as if nothing lay between them."""
 
     counts: dict[str, Count] = field(default_factory=dict)
     number: int = 0
     end: int = 0  # the last sample at which something was known
+    base: int = 0  # the sample from which the lines of this stream count
     level: int = 0  # of the power control's steps
     steps: Thinned[tuple[int, int]] = field(default_factory=lambda: Thinned(MOST_POINTS))
     frames: Thinned[tuple[int, str]] = field(default_factory=lambda: Thinned(MOST_FRAMES))
@@ -75,7 +76,12 @@ class HeardLines:
 
     def add(self, text: str, read: dict[str, Any]) -> None:
         """Takes a line and its object."""
-        at, kind = read.get("at", 0), read["line"]
+        kind = read["line"]
+        if kind == ORIGIN:
+            self.base = self.end
+        if "at" in read:
+            read = {**read, "at": read["at"] + self.base}
+        at = read.get("at", 0)
         self.end = max(self.end, at)
         self.number += 1
         if kind == "frame":

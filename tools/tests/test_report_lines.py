@@ -113,6 +113,17 @@ class ReportLinesTest(unittest.TestCase):
             self.assertLessEqual(len(thinned.kept), 10)
             self.assertTrue(thinned.step == 1 or len(range(0, count, thinned.step // 2)) > 10)
 
+    def test_streams_follow_each_other(self) -> None:
+        """After a line that tells another origin lines count from there on."""
+        frames = [f"frame at={at} rate=1200 good=1 bits=0: commands=0000000000000011" for at in (24_576, 49_152)]
+        path = os.path.join(temporary_folder(self.addCleanup), "streams.txt")
+        with open(path, "w", encoding="ascii") as file:
+            file.write("\n".join([*frames, "origin utc=2026-11-30T21:30:00.000000Z", *frames]) + "\n")
+        heard = heard_lines(path)
+        count = heard.counts["frames 1200"]
+        self.assertEqual((heard.number, heard.end, count.number, count.last), (5, 98_304, 4, 98_304))
+        self.assertEqual([at for at, _ in heard.steps.kept], [24_576, 49_152, 73_728, 98_304])
+
     def test_an_empty_listening(self) -> None:
         heard = heard_lines(self.keep("empty", []))
         self.assertEqual((heard.number, heard.lines(), heard.left_out()), (0, [], ""))
