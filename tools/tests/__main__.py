@@ -57,7 +57,7 @@ def run_all(jobs: int) -> list[Outcome]:
 
 
 def main(given: list[str] | None = None) -> int:
-    """Runs the tests, and answers 0 where some ran and none failed, else 1."""
+    """Runs the tests, and returns 0 if some ran and none failed, otherwise 1."""
     arguments = argparse.ArgumentParser(
         prog="python3 -m tools.tests", description=__doc__, formatter_class=argparse.RawDescriptionHelpFormatter
     )

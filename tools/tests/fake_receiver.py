@@ -1,5 +1,5 @@
 """A stand-in for the program, for the tests of `tools/curve`: it makes samples of one number, and "hears" the frames of
-a script by the noise on them, so that the noise alone decides what is lost.
+a script by the noise on them, so that only the noise decides what is lost.
 
 `make` writes the script's samples, all (LEVEL, LEVEL). `follow` writes a sync line, and a frame line for each frame
 of the script named by FAKE_SCRIPT that ends in the file; the sum of the frame's samples, less LEVEL, says how it is

@@ -1,8 +1,10 @@
-"""A cell of any length, made by pieces from a script, and every line that a handset owes of it, from the script alone.
+"""A cell of any length, made by pieces from a script, and every line that a handset must write of it.
+
+Both are computed only from the script.
 
 The cell sends the longest sync capsule (148 octets in 13 superframes), pages of 148 octets, and a run of pages that
-follow each other; a signalling message of 148 octets is spread over a second of its traffic channel's frames. What is
-owed follows docs/FORMATS.md and docs/LINK.md; the long code's states are those of the model.
+follow each other; a signalling message of 148 octets is spread over a second of its traffic channel's frames. The
+expected lines follow docs/FORMATS.md and docs/LINK.md; the long code's states are those of the model.
 """
 
 import random
@@ -43,7 +45,7 @@ def bits_of(text: str) -> str:
 
 
 def drawn(draws: random.Random, count: int, head: str = "") -> str:
-    """So many random bits, the first ones given."""
+    """Returns `count` random bits, the first ones given."""
     return head + "".join(draws.choice("01") for _ in range(count - len(head)))
 
 
@@ -200,7 +202,7 @@ def message_text(capsule: str) -> str:
 
 @dataclass(frozen=True)
 class Compared:
-    """What was heard against what is owed: by the cell's chip and the line without its `at`."""
+    """Received and expected lines: by the cell's chip and the line without its `at`."""
 
     shift: int  # the cell's chips less those of the lines
     owed: Counter[tuple[int, str]]
@@ -210,7 +212,7 @@ class Compared:
 
 
 def compared(sent: Sent, lines: list[str], count: int) -> Compared:
-    """Compares lines with what a cell of so many chips sends from the first sync message that was heard on.
+    """Compares lines with what a cell of `chips` chips sends from the first sync message received on.
 
     The chips of the two differ by one constant, which the first sync message tells; what is owed ends with the last
     line.

@@ -1,4 +1,4 @@
-"""A listening of minutes or hours, run by hand: what is heard against what the script owes, memory and speed.
+"""A listening of minutes or hours, run by hand: received lines against those of the script, memory and speed.
 
     CDMA_REPLAY=PROGRAM python3 -B -m tools.tests.long_listening --seconds 3495
 
@@ -67,7 +67,7 @@ def is_faded(chip: int) -> bool:
 
 
 def is_lost(first: int, count: int) -> bool:
-    """Whether a loss begins within so many chips, from chip `first` on."""
+    """Whether a loss begins within `count` chips, from chip `first` on."""
     since = (first / CHIP_RATE - LOSS) % EVERY
     return since == 0 or since + count / CHIP_RATE > EVERY
 

@@ -37,7 +37,7 @@ FOLLOWED = (
 
 
 def sent_symbols(count: int) -> NDArray[Any]:
-    """The signs of so many symbols of a sync channel, by a rule that repeats late."""
+    """The signs of `count` symbols of a sync channel, by a rule that repeats late."""
     return 1 - 2 * (numpy.arange(count) ** 2 // 7 % 2)
 
 

@@ -35,7 +35,7 @@ def each_test(tests: Iterable[unittest.TestCase | unittest.TestSuite]) -> Iterat
 
 @dataclass
 class Parted:
-    """The names of classes and tests, those that run alone for themselves, and what stands for unloaded modules."""
+    """The names of classes and tests, those that run by themselves, and what stands for unloaded modules."""
 
     together: list[str]
     alone: list[str]
@@ -76,7 +76,7 @@ def outcome_of_name(name: str) -> Outcome:
 
 
 def outcomes_of(names: list[str], jobs: int) -> Iterator[Outcome]:
-    """What the classes and tests of these names come to, as they end, by so many processes; one that is ended is a fault."""
+    """Yields the outcomes of classes and tests, as they end, by `jobs` processes; one that is killed is a fault."""
     executor = ProcessPoolExecutor(jobs)
     try:
         under_way = {executor.submit(outcome_of_name, name): name for name in names}
@@ -90,7 +90,7 @@ def outcomes_of(names: list[str], jobs: int) -> Iterator[Outcome]:
 
 
 def outcomes(suite: unittest.TestSuite, jobs: int) -> Iterator[Outcome]:
-    """What each class of a suite, or test of one that is parted, comes to, as they end, so many at once."""
+    """Yields the outcome of each class of a suite, or test of one that is parted, as they end, `jobs` at once."""
     found = parted(suite)
     yield outcome(found.unloaded)
     yield from outcomes_of(found.together, jobs)

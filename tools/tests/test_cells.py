@@ -90,7 +90,7 @@ class Cells(Recordings):
         return signal_to_noise(got[begin:end], sent[begin:end])
 
     def alone(self, phase: int, level: float, *words: object) -> float:
-        """The same of a recording of that cell alone, with a signal of `level` dB over noise."""
+        """The same of a recording of only that cell, with a signal of `level` dB over noise."""
         pilot = 10 * numpy.log10(BUSY[0] ** 2 / sum(gain**2 for gain in BUSY.values()))
         share = pilot - 10 * numpy.log10(1 + 10 ** (-level / 10))
         path = self.recorded(*words, "--ec-io", share, cells=(self.at(f"{phase}.is95"),), name="alone.sigmf-meta")

@@ -78,7 +78,7 @@ class Clusters(unittest.TestCase):
         child.communicate()
 
     def ready(self, count: int) -> subprocess.Popen[bytes]:
-        """A cluster of so many workers that is there."""
+        """An existing cluster of `workers` workers."""
         child = self.start(self.script, str(count))
         assert child.stdout is not None
         self.assertEqual(child.stdout.readline(), b"ready\n")

@@ -68,7 +68,7 @@ class TheCases(unittest.TestCase):
             self.assertEqual((case.text, case.written), ([], None))
 
     def check_words(self, words: list[str]) -> None:
-        """That a command has options of its own alone, each with a value."""
+        """Whether a command has only options of its own, each with a value."""
         options = [part for word in words[1:] for part in word.split("=", 1)]
         self.assertLessEqual({option[2:] for option in options[::2]}, WORDS[words[0]])
         self.assertEqual(len(options) % 2, 0)
@@ -96,7 +96,7 @@ class TheCases(unittest.TestCase):
         self.assertGreater(max(int(n) for n in re.findall(r"samples=(\d+)", made)), 3_000_000)
 
     def test_each_end_is_asked_for(self) -> None:
-        """Each status but want of memory, each fault of a file and of a script, a closed and a full output."""
+        """Each status but out of memory, each fault of a file and of a script, a closed and a full output."""
         whole = [cases.Case(name) for name in cases.names_of_cases()]
         errors = {case.error for case in whole}
         self.assertEqual({case.status for case in whole}, {0, 1, 2, 3, 4, 5, 8})

@@ -1,6 +1,6 @@
 """`tools/curve` as a program: counts that don't depend on workers, broken runs, each fault; and curves of the program.
 
-Most of it runs over a stand-in for the program, `fake_receiver.py`, which lets the noise alone decide what is heard.
+Most of it runs over a stand-in for the program, `fake_receiver.py`, in which only the noise decides what is received.
 """
 
 import csv

@@ -1,4 +1,4 @@
-"""`tools/curve --channel`: where a script's samples lie behind a lock, what is its loss, and the formulas in fading."""
+"""`tools/curve --channel`: where a script's samples lie after a lock, which losses are its own, and the formulas in fading."""
 
 import math
 import os
@@ -68,7 +68,7 @@ class Locks(unittest.TestCase):
         return got
 
     def agreement(self, got: antenna.Caught, begin: int, late: int) -> float:
-        """How well 2,000 chips of what a lock wrote are those that were sent so many later."""
+        """How well 2,000 chips of what a lock wrote match those sent some chips later."""
         path = os.path.join(self.folder, "got.is95")
         with open(path, "wb") as file:
             file.write(got.data)
@@ -257,7 +257,7 @@ class Runs(unittest.TestCase):
         return {(row["point_db"], row["receiver"]): row for row in rows}
 
     def short_script(self, samples: int) -> str:
-        """An example with so many samples."""
+        """An example with `samples` samples."""
         with open(os.path.join(EXAMPLES, "frames_9600.script"), encoding="ascii") as file:
             text = re.sub(r"samples=\d+", f"samples={samples}", file.read())
         with open(self.at("it.script"), "w", encoding="ascii") as file:

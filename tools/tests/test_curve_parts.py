@@ -162,7 +162,7 @@ def encoded(words: NDArray[numpy.int64], repeats: int) -> NDArray[numpy.int64]:
 
 
 def all_words(bits: int) -> NDArray[numpy.int64]:
-    """All words of so many bits but that of zeros, with eight zeros after each."""
+    """All words of `bits` bits but that of zeros, with eight zeros after each."""
     numbers = numpy.arange(1, 1 << bits)
     words = numbers[:, None] >> numpy.arange(bits) & 1
     return numpy.hstack([words, numpy.zeros((len(words), 8), dtype=int)])

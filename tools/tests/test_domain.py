@@ -123,7 +123,7 @@ class Correlations(unittest.TestCase):
                 self.assertLess(abs(found[row, late] - wanted), 1e-6, (row, late))
 
     def test_the_power_of_chips_over_two_paths(self) -> None:
-        """Without noise nothing is left, though by the paths' powers alone a thousandth and more would be."""
+        """Without noise nothing is left, though by only the paths' powers a thousandth and more would be."""
         delays, errors = 2 * numpy.arange(-16, 17), []
         for seed, late, gain in ((3, 2, 0.5j), (3, 2, -0.5j), (2, 3, -0.5)):
             sent = whole_cell(700_000, seed)

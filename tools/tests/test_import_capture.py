@@ -103,7 +103,7 @@ class WholeSamples(Imports):
                 self.assertEqual(self.taken(recorded(EIGHT, kind), kind, "--format", version), (version, 0, EIGHT))
 
     def test_the_old_word_for_the_format(self) -> None:
-        """Earlier versions called it --version, which alone is the version of the tool."""
+        """Earlier versions called it --version, which without a number is the version of the tool."""
         for words in (("--version", 2), ("--version=2",)):
             with self.subTest(words):
                 self.assertEqual(self.taken(recorded(EIGHT, "ci8"), "ci8", *words), (2, 0, EIGHT))

@@ -34,7 +34,7 @@ def noise(seed: int, count: int) -> NDArray[Any]:
 
 
 def bounds_and_energies(samples: NDArray[Any]) -> tuple[NDArray[Any], NDArray[Any]]:
-    """Of each phase the least bound before any chunk of 64 samples, and the energy: whole numbers below 2^53."""
+    """The least bound of each phase before any chunk of 64 samples, and its energy: whole numbers below 2^53."""
     starts = np.arange(0, len(samples), CHUNK)
     tails = np.array([np.sum(np.abs(samples[at:].real) + np.abs(samples[at:].imag)) for at in starts])
     code = np.concatenate([POINTS, POINTS]).conj()

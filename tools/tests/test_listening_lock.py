@@ -44,7 +44,7 @@ def narrow(kind: str = "cu8", rate: float = RATE) -> StreamLock:
 
 
 def noise_of(count: int, seed: int) -> bytes:
-    """So many samples of noise, of 8 bits each part."""
+    """`count` samples of noise, of 8 bits each part."""
     return numpy.random.default_rng(seed).integers(60, 196, 2 * count, dtype=numpy.uint8).tobytes()
 
 
@@ -317,7 +317,7 @@ class FadingTest(unittest.TestCase):
         return meter.ec_io
 
     def test_instants_come_to_those_of_a_file(self) -> None:
-        """By the first second alone the pilot's share is another one, by 0.7 dB over these fades."""
+        """By only the first second the pilot's share is another one, by 0.7 dB over these fades."""
         pieces = taken(self.lock(), self.data, BLOCK)
         meter, since = PilotMeter(), self.SETTLED * CHIP_RATE
         first = next(piece.first for piece in pieces if isinstance(piece, Chips))

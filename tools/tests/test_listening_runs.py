@@ -72,7 +72,7 @@ class SeamTest(unittest.TestCase):
     SECONDS = 5.5 + 0.75 * SEAMS
 
     def check(self, prat: int) -> None:
-        """Compares what is heard over seams with what the script owes."""
+        """Compares what is received over seams with what the script sends."""
         draws = random.Random(prat)
         seams = [4.5 + 0.75 * number + 0.5 * draws.random() for number in range(SEAMS)]
         relay, heard = relayed(made_cell(PROGRAM or "", self.SECONDS, prat), PN, seams)
@@ -212,7 +212,7 @@ class LossTest(unittest.TestCase):
 
 
 def noise_of(count: int, level: float) -> NDArray[numpy.int16]:
-    """Parts of so many chips of noise, with a root of their mean square."""
+    """Parts of `count` chips of noise, with a root of their mean square."""
     return numpy.random.default_rng(count).normal(0, level, 2 * count).round().astype(numpy.int16)
 
 
@@ -279,7 +279,7 @@ class FadeTest(unittest.TestCase):
         return [remark.text for remark in self.heard.remarks]
 
     def late(self, seconds: float) -> str:
-        """The remark that a run begins so many seconds late."""
+        """The remark that a run begins some seconds late."""
         return f"the pilot is faded where a run was to begin: it begins {seconds:.1f} s later"
 
     def test_no_run_begins_within_a_fade(self) -> None:

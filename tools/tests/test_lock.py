@@ -35,7 +35,7 @@ class Found(Recordings):
         self.assertAlmostEqual(float(found["ec_io_db"]), ec_io, delta=0.1)
 
     def nearly_ideal(self, found: dict[str, str], most: float = 0.15) -> None:
-        """That the chips are within so many dB of those of an ideal receiver."""
+        """Asserts that the chips are within some dB of those of an ideal receiver."""
         got = signal_to_noise(*self.aligned(self.at("out.is95"), found))
         ideal = signal_to_noise(read_chips(self.at("ideal.is95")), self.sent)
         self.assertGreater(got, ideal - most)

@@ -608,7 +608,7 @@ class Interrupts(Folder):
                 self.broken_off(way, *(program if word == "PROGRAM" else word for word in words), marker=marker)
 
     def test_sigterm(self) -> None:
-        """Of a tool that writes a page, and of one whose work is shared by processes."""
+        """For a tool that writes a page, and one whose work is shared by processes."""
         for number, (way, *words) in enumerate((
             ("tools/report", self.cell, "--out", self.at("page.html"), "--program", "PROGRAM"),
             ("tools/agree", "--seed", "1", "--count", "8", "--jobs", "2", "PROGRAM"),

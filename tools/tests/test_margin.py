@@ -52,7 +52,7 @@ def script_of(re: int, im: int, gains: dict[int, int]) -> Script:
 
 
 class Worked(unittest.TestCase):
-    """Margins by hand: over a link along one axis what is less than the channel's own amplitude, and else by products."""
+    """Margins by hand: over a link along one axis what is less than the channel's own amplitude, and otherwise by products."""
 
     # re, im, the pilot's gain, the channel's, and the margin. With -2 + j, 200 and 60 noise of 131 takes the pilot's level
     # from -400 + 200 j to -400 + 69 j and the channel's from -120 + 60 j to 11 + 60 j, whose product has the real part
@@ -284,7 +284,7 @@ class File(unittest.TestCase):
         return [[row[name] for name in ("name", "first", "frames", "covered", "least")] for row in found]
 
     def expect(self, total: NDArray[Any], sync: tuple[int, float], paging: tuple[int, float]) -> None:
-        """Of the channels so many frames are covered, and these are their least soft values."""
+        """These numbers of frames of the channels are covered, with these least soft values."""
         self.assertEqual(self.rows(total), [
             ["sync", 32_704, self.SYNC, *sync], ["paging 1", self.MARK, self.PAGING, *paging],
         ])  # fmt: skip

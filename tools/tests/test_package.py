@@ -279,7 +279,7 @@ class Parts(Installed):
         self.assertEqual(data_folder("examples", package), beside)
 
     def test_pip(self) -> None:
-        """pip installs the tools from a checkout without a network, by Debian's packages alone."""
+        """pip installs the tools from a checkout without a network, by only Debian's packages."""
         for module, package in (
             ("pip", "python3-pip"),
             ("setuptools", "python3-setuptools"),

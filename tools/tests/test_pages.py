@@ -1,9 +1,9 @@
 """The commands of the pages are run as a reader would, in an empty folder, and what the pages show of it is compared.
 
 A command stands as `    $ COMMAND` in a page, with what it writes below; a line of `.. and so on` there stands for lines
-that are left out. The folder has links to what a checkout has, and is else empty, so that each command finds just what
-earlier ones of its page made. An HTML comment before a block marks it: `not run: WHY` is never run here, `by hand: WHY` is
-run where ROLVENST_PAGES=all, and `status: N` says with which status the block's last command ends. docs/LESSON.md, whose
+that are left out. The folder has links to what a checkout has, and is otherwise empty, so that each command finds only
+what earlier ones of its page made. An HTML comment before a block marks it: `not run: WHY` is never run here, `by hand: WHY` is
+run where ROLVENST_PAGES=all, and `status: N` is the status with which the block's last command ends. docs/LESSON.md, whose
 commands are all shown with all that they write, has a test of its own.
 """
 
@@ -38,7 +38,7 @@ class Command:
     status: int = 0
 
     def take(self, line: str) -> None:
-        """A line below the command: an open quotation mark goes on with it, else it is shown."""
+        """A line below the command: it continues an open quotation mark, and is otherwise shown."""
         if self.text.count('"') % 2:
             self.text += "\n" + line
         else:

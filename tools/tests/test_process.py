@@ -61,7 +61,7 @@ class Live:
         self.input.flush()
 
     def read(self, count: int) -> bytes:
-        """The next bytes of the output, or fewer where so many don't come in time."""
+        """The next bytes of the output, fewer if they don't come in time."""
         text, until = b"", time.monotonic() + LINE_SECONDS
         while len(text) < count and time.monotonic() < until:
             if self.selector.select(until - time.monotonic()):

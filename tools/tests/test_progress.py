@@ -48,7 +48,7 @@ class Bars(unittest.TestCase):
 
 @contextlib.contextmanager
 def interrupted_at(count: int) -> Iterator[list[int]]:
-    """Interrupts this process when so many lines of tqdm have begun; what is held has one thing for each of them."""
+    """Interrupts this process when `count` lines of tqdm have begun; what is held has one thing for each of them."""
     lines: list[int] = []
 
     def trace(frame: Any, event: str, _: object) -> Any:

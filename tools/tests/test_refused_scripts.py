@@ -612,7 +612,7 @@ def script_of(names: str, instead: dict[str, str] | None = None) -> str:
 
 
 def zero_page(octets: int) -> str:
-    """A page of so many octets whose type and bits are 0."""
+    """A page of `octets` octets whose type and bits are 0."""
     bits = 8 * octets - 38
     return f"page half {bits}:" + -(-bits // 8) * "00"
 

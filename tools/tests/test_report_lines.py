@@ -22,7 +22,7 @@ SYNC = (
 
 
 def lines_of(seconds: int) -> list[str]:
-    """Lines of a listening of so many seconds: frames, long pages, and a sync message a second."""
+    """Lines of a listening of `seconds` seconds: frames, long pages, and a sync message a second."""
     draws = random.Random(5)
     lines = ["pilot phase=5 energy=6"]
     for number in range(seconds * CHIP_RATE // FRAME):

@@ -113,7 +113,7 @@ class WorkedCells(unittest.TestCase):
         return taken_apart(made)[2]
 
     def symbols(self, samples: list[tuple[int, int]], chips: int, loud: set[int]) -> str:
-        """The symbols that last so many chips each, as hex digits: 0 where the first chip has the sum of the gains."""
+        """The symbols that last `chips` chips each, as hex digits: 0 if the first chip has the sum of the gains."""
         bits = "".join(str(int(abs(i) not in loud)) for i, _ in samples[::chips])
         return f"{int(bits, 2):0{len(bits) // 4}x}"
 
